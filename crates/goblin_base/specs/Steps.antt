@@ -1,0 +1,24 @@
+-- Steps one after another, of which the first refusal is the answer.
+use Rattle.std.specs.Prelude.{Bool, true, false, Result, Ok, Err}
+use Rattle.std.specs.Prelude.{Option, Some, None}
+
+-- what comes after a value, or the refusal
+infixl 10 ◌>>=◌
+abbrev pub ◌>>=◌ : {A B E : Type 0} → Result A E → (A → Result B E) → Result B E
+(Ok x) >>= next = next x
+(Err e) >>= next = Err e
+
+-- a refusal where a test holds
+abbrev pub refuse_if : {E : Type 0} → Bool → E → Result (Unit {0}) E
+refuse_if true e = Err e
+refuse_if false e = Ok tt
+
+-- the value that there is, or a refusal
+abbrev pub or_refuse : {A E : Type 0} → Option A → E → Result A E
+or_refuse (Some x) e = Ok x
+or_refuse None e = Err e
+
+-- the same answer, with its refusal inside another
+abbrev pub refuse_as : {A E F : Type 0} → (E → F) → Result A E → Result A F
+refuse_as within (Ok x) = Ok x
+refuse_as within (Err e) = Err (within e)

@@ -1,0 +1,49 @@
+//! Reading values at the start of some bytes: its errors, and the traits of what can be read.
+ghost use Rattle.std.specs.Prelude.{◌≡◌, ℕ, List, Result};
+ghost use Rattle.goblin_base.specs.declared.error.Error.{Error as Refusing};
+
+pub use crate::container::{BE, Endian, LE};
+
+/// What is wrong with a place of a slice. All numbers count bytes.
+#[derive(Debug, Drop, thiserror::Error)]
+pub enum Error {
+    /// More bytes are asked for than there are.
+    #[error("type is too big ({size}) for {len}")]
+    TooBig {
+        /// How many are asked for.
+        size: usize,
+        /// How many there are from the place on.
+        len: usize,
+    },
+    /// The place is past the end, or at it where bytes are asked for.
+    #[error("bad offset {0}")]
+    BadOffset(usize),
+    /// The bytes are no value of the type.
+    #[error("bad input {msg} ({size})")]
+    BadInput {
+        /// How many there are from the place on.
+        size: usize,
+        /// What is wrong with them.
+        msg: &'static str,
+    },
+}
+
+/// A type whose values take as many bytes as the context says.
+pub trait SizeWith<C> {
+    // How many bytes a value takes.
+    ghost size_of: { C → ℕ };
+
+    /// How many bytes a value takes in this context.
+    fn size_with(ctx: &C) -> usize
+        ensures { result ≡ size_of ctx.now };
+}
+
+/// A type whose values are read from the start of some bytes.
+pub trait TryFromCtx<'a, C>: Sized {
+    // What reading these bytes in this context answers.
+    ghost try_from_gives: { List ℕ → C → Result (Self × ℕ) Refusing → Type 0 };
+
+    /// The value at the start of the bytes, and how many of them it took.
+    fn try_from_ctx(bytes: &'a [u8], ctx: C) -> crate::error::Result<(Self, usize)>
+        ensures { try_from_gives bytes.now ctx result };
+}
