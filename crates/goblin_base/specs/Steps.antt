@@ -1,6 +1,5 @@
 -- Steps one after another, of which the first refusal is the answer.
-use Rattle.std.specs.Prelude.{Bool, true, false, Result, Ok, Err}
-use Rattle.std.specs.Prelude.{Option, Some, None}
+use Rattle.std.specs.Prelude.{ℕ, Bool, true, false, Option, Some, None, Result, Ok, Err}
 
 -- what comes after a value, or the refusal
 infixl 10 ◌>>=◌
@@ -22,3 +21,8 @@ or_refuse None e = Err e
 abbrev pub refuse_as : {A E F : Type 0} → (E → F) → Result A E → Result A F
 refuse_as within (Ok x) = Ok x
 refuse_as within (Err e) = Err (within e)
+
+-- the same answer, with how many bytes its value takes
+abbrev pub with_size : {A E : Type 0} → ℕ → Result A E → Result (A × ℕ) E
+with_size size (Ok x) = Ok (x, size)
+with_size size (Err e) = Err e

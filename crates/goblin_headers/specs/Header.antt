@@ -1,0 +1,122 @@
+-- The header of a file of either class (System V gABI, "ELF Header" and "ELF Identification").
+use Rattle.std.specs.Prelude.{ℕ, ◌==◌, if◌then◌else◌, List, [], ◌∷◌, ◌++◌, replicate, slice_index, Option, Some, None, Result}
+use Rattle.goblin_base.specs.declared.container.Container.{Container}
+use Rattle.goblin_base.specs.declared.container.Container.TheVariants as class
+use Rattle.goblin_base.specs.declared.container.Endian.{Endian}
+use Rattle.goblin_base.specs.declared.container.Endian.TheVariants as endian
+use Rattle.goblin_base.specs.declared.container.Ctx.{Ctx}
+use Rattle.goblin_base.specs.declared.error.Error.{Error}
+use Rattle.goblin_base.specs.declared.error.Error.TheVariants.{Malformed}
+use Rattle.goblin_base.specs.declared.error.Fault.{Fault}
+use Rattle.goblin_base.specs.Steps.{or_refuse}
+use Rattle.goblin_headers.specs.declared.header.Header.{Header}
+use Rattle.goblin_headers.specs.declared.header32.Header.{Header as Raw32}
+use Rattle.goblin_headers.specs.declared.header64.Header.{Header as Raw64}
+use Rattle.goblin_headers.specs.Header32.{header32_of}
+use Rattle.goblin_headers.specs.Header64.{header64_of}
+
+-- how many bytes a header has
+abbrev pub header_size : Container → ℕ
+header_size class.Little = 52
+header_size class.Big = 64
+
+-- how many bytes a program header has (gABI, "Program Header")
+abbrev pub program_header_size : Container → ℕ
+program_header_size class.Little = 32
+program_header_size class.Big = 56
+
+-- how many bytes a section header has (gABI, "Section Header")
+abbrev pub section_header_size : Container → ℕ
+section_header_size class.Little = 40
+section_header_size class.Big = 64
+
+-- the four bytes that every ELF file begins with
+abbrev pub magic : List ℕ
+magic = 0x7f ∷ 0x45 ∷ 0x4c ∷ 0x46 ∷ []
+
+-- the class that a class byte names
+abbrev pub class_named : ℕ → Option Container
+class_named byte = if byte == 1 then Some class.Little else if byte == 2 then Some class.Big else None
+
+-- the byte order that a data byte names
+abbrev pub order_named : ℕ → Option Endian
+order_named byte = if byte == 1 then Some endian.Little else if byte == 2 then Some endian.Big else None
+
+-- the class byte of a class, and the data byte of a byte order
+abbrev pub class_byte : Container → ℕ
+class_byte class.Little = 1
+class_byte class.Big = 2
+
+abbrev pub data_byte : Endian → ℕ
+data_byte endian.Little = 1
+data_byte endian.Big = 2
+
+-- the class that the class byte of an identification names, or this fault of that byte
+abbrev pub class_of : (ℕ → Fault) → List ℕ → Result Container Error
+class_of fault ident = or_refuse (class_named (slice_index ident 4)) (Malformed (fault (slice_index ident 4)))
+
+-- the byte order that the data byte of an identification names, or this fault of that byte
+abbrev pub order_of_header : (ℕ → Fault) → List ℕ → Result Endian Error
+order_of_header fault ident = or_refuse (order_named (slice_index ident 5)) (Malformed (fault (slice_index ident 5)))
+
+-- the header of either class with the fields of a 32-bit one
+abbrev pub unified32 : Raw32 → Header
+unified32 h = record {
+  e_ident = h.e_ident;
+  e_type = h.e_type;
+  e_machine = h.e_machine;
+  e_version = h.e_version;
+  e_entry = h.e_entry;
+  e_phoff = h.e_phoff;
+  e_shoff = h.e_shoff;
+  e_flags = h.e_flags;
+  e_ehsize = h.e_ehsize;
+  e_phentsize = h.e_phentsize;
+  e_phnum = h.e_phnum;
+  e_shentsize = h.e_shentsize;
+  e_shnum = h.e_shnum;
+  e_shstrndx = h.e_shstrndx;
+}
+
+-- the header of either class with the fields of a 64-bit one
+abbrev pub unified64 : Raw64 → Header
+unified64 h = record {
+  e_ident = h.e_ident;
+  e_type = h.e_type;
+  e_machine = h.e_machine;
+  e_version = h.e_version;
+  e_entry = h.e_entry;
+  e_phoff = h.e_phoff;
+  e_shoff = h.e_shoff;
+  e_flags = h.e_flags;
+  e_ehsize = h.e_ehsize;
+  e_phentsize = h.e_phentsize;
+  e_phnum = h.e_phnum;
+  e_shentsize = h.e_shentsize;
+  e_shnum = h.e_shnum;
+  e_shstrndx = h.e_shstrndx;
+}
+
+-- the header that bytes stand for in a class and a byte order
+abbrev pub header_of : Container → Endian → List ℕ → Header
+header_of class.Little order bytes = unified32 (header32_of order bytes)
+header_of class.Big order bytes = unified64 (header64_of order bytes)
+
+-- the header of a shared object file in a context, version 1, with the sizes of its class and all else 0
+abbrev pub new_header : Ctx → Header
+new_header ctx = record {
+  e_ident = magic ++ class_byte ctx.container ∷ data_byte ctx.le ∷ 1 ∷ replicate 9 0;
+  e_type = 3;
+  e_machine = 0;
+  e_version = 1;
+  e_entry = 0;
+  e_phoff = 0;
+  e_shoff = 0;
+  e_flags = 0;
+  e_ehsize = header_size ctx.container;
+  e_phentsize = program_header_size ctx.container;
+  e_phnum = 0;
+  e_shentsize = section_header_size ctx.container;
+  e_shnum = 0;
+  e_shstrndx = 0;
+}

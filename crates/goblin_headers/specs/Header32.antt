@@ -1,0 +1,24 @@
+-- The header of a 32-bit file (System V gABI, "ELF Header", Elf32_Ehdr).
+use Rattle.std.specs.Prelude.{ℕ, List, take}
+use Rattle.goblin_base.specs.declared.container.Endian.{Endian}
+use Rattle.goblin_base.specs.Number.{number_at}
+use Rattle.goblin_headers.specs.declared.header32.Header.{Header}
+
+-- the header that bytes stand for: its first 16 bytes as they are, and each other field the number at its place
+abbrev pub header32_of : Endian → List ℕ → Header
+header32_of order bytes = record {
+  e_ident = take 16 bytes;
+  e_type = number_at order bytes 16 2;
+  e_machine = number_at order bytes 18 2;
+  e_version = number_at order bytes 20 4;
+  e_entry = number_at order bytes 24 4;
+  e_phoff = number_at order bytes 28 4;
+  e_shoff = number_at order bytes 32 4;
+  e_flags = number_at order bytes 36 4;
+  e_ehsize = number_at order bytes 40 2;
+  e_phentsize = number_at order bytes 42 2;
+  e_phnum = number_at order bytes 44 2;
+  e_shentsize = number_at order bytes 46 2;
+  e_shnum = number_at order bytes 48 2;
+  e_shstrndx = number_at order bytes 50 2;
+}

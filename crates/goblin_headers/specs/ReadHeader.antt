@@ -1,0 +1,47 @@
+-- Reading a header: the first of these refusals that applies, or the header that the bytes stand for.
+use Rattle.std.specs.Prelude.{ℕ, nat_lt, nat_eq, not, List, length, Result, Ok, Err}
+use Rattle.std.specs.List.{starts_with}
+use Rattle.goblin_base.specs.declared.container.Endian.TheVariants as endian
+use Rattle.goblin_base.specs.declared.error.Error.{Error}
+use Rattle.goblin_base.specs.declared.error.Error.TheVariants.{Malformed, BadMagic, Scroll}
+use Rattle.goblin_base.specs.declared.error.Fault.{Fault}
+use Rattle.goblin_base.specs.declared.error.Fault.TheVariants.{TooSmall, ElfClass, DataType}
+use Rattle.goblin_base.specs.Number.{number_at}
+use Rattle.goblin_base.specs.Room.{room_of}
+use Rattle.goblin_base.specs.Steps.{◌>>=◌, refuse_if, refuse_as}
+use Rattle.goblin_headers.specs.declared.header.Header.{Header}
+use Rattle.goblin_headers.specs.declared.header32.Header.{Header as Raw32}
+use Rattle.goblin_headers.specs.declared.header64.Header.{Header as Raw64}
+use Rattle.goblin_headers.specs.Header.{header_size, magic, class_of, order_of_header, header_of}
+use Rattle.goblin_headers.specs.Header32.{header32_of}
+use Rattle.goblin_headers.specs.Header64.{header64_of}
+
+-- the bytes have room for this many at their start
+abbrev pub needs : ℕ → List ℕ → Result (Unit {0}) Error
+needs size bytes = refuse_as Scroll (room_of (length bytes) 0 size)
+
+-- a header of either class, and how many bytes it takes
+unfoldable pub read_header : List ℕ → Result (Header × ℕ) Error
+read_header bytes = do
+  _ ← refuse_if (nat_lt (length bytes) 16) (Malformed TooSmall)
+  _ ← refuse_if (not (starts_with nat_eq bytes magic)) (BadMagic (number_at endian.Little bytes 0 8))
+  class ← class_of ElfClass bytes
+  order ← order_of_header DataType bytes
+  _ ← needs (header_size class) bytes
+  Ok (header_of class order bytes, header_size class)
+
+-- a 32-bit header, where a wrong data byte is this fault
+unfoldable pub read_header32 : (ℕ → Fault) → List ℕ → Result Raw32 Error
+read_header32 fault bytes = do
+  _ ← needs 16 bytes
+  order ← order_of_header fault bytes
+  _ ← needs 52 bytes
+  Ok (header32_of order bytes)
+
+-- a 64-bit header, where a wrong data byte is this fault
+unfoldable pub read_header64 : (ℕ → Fault) → List ℕ → Result Raw64 Error
+read_header64 fault bytes = do
+  _ ← needs 16 bytes
+  order ← order_of_header fault bytes
+  _ ← needs 64 bytes
+  Ok (header64_of order bytes)

@@ -1,0 +1,7 @@
+//! The headers of ELF files: System V gABI, "ELF Header".
+#![tactic(auto)]
+
+mod constants_header;
+pub mod header;
+pub mod header32;
+pub mod header64;
