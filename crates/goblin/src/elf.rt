@@ -1,0 +1,3 @@
+//! The records of ELF files of either class. The 32-bit and 64-bit forms lie in modules below the
+//! module of each record, as `header::header32`.
+pub use goblin_headers::header;

@@ -1,0 +1,5 @@
+pub mod Counted
+pub mod Marks
+pub mod Options
+pub mod Ran
+pub mod Shown

@@ -1,0 +1,70 @@
+-- What a run read and wrote.
+use Rattle.std.specs.Prelude.{◌≡◌, ◌≢◌, ℕ, ◌+◌, ◌<◌, ◌≤◌, ◌⊎◌, IsTrue, List, length, codes, Option, Result, Ok, Err, vec_items}
+use Rattle.std.specs.Io.KnownBytes.{Appends, Consumes, IsAtEnd}
+use Rattle.goblin.specs.Refusal.{Refusal, out_of_memory, refusal_of}
+use Rattle.goblin.specs.Texts.{◌&◌, refusal_text}
+use Rattle.goblin.specs.declared.error.Error.{Error}
+use Rattle.goblin_show.specs.Marks.{Marks}
+use Rattle.goblin_show.specs.Shown.{shown, newline}
+use Rattle.goblin_show.specs.declared.run.Input.{Input}
+use Rattle.goblin_show.specs.declared.run.Input.TheVariants as inputs
+use Rattle.goblin_show.specs.declared.run.Outcome.{Outcome}
+use Rattle.goblin_show.specs.declared.run.Outcome.TheVariants as outcomes
+
+-- how many bytes of input the program takes
+abbrev pub input_limit : ℕ
+input_limit = 16777216
+
+-- how many times the reader is asked
+abbrev pub read_limit : ℕ
+read_limit = 33554432
+
+-- The reader gave these bytes, which are no more than the program takes, and told its end: none is left.
+pub record ReadsAll (old new : Option (List ℕ)) (marks : Marks) (bytes : List ℕ) : Type 0 where
+  pub taken : Consumes old new bytes
+  pub all : IsAtEnd new
+  pub short : length bytes ≤ input_limit
+  pub end : IsTrue marks.told_end
+
+-- The reader gave these bytes, which are more than the program takes.
+pub record ReadsTooMuch (old new : Option (List ℕ)) (bytes : List ℕ) : Type 0 where
+  pub taken : Consumes old new bytes
+  pub long : input_limit < length bytes
+
+-- the reader gave no more than one byte past those that the program takes
+abbrev pub ReadsAtMostOneMore : Option (List ℕ) → Option (List ℕ) → Type 0
+ReadsAtMostOneMore old new = (bytes : List ℕ) × Consumes old new bytes × (length bytes ≤ input_limit + 1)
+
+-- what was read
+abbrev pub IsInput : Input → Option (List ℕ) → Option (List ℕ) → Marks → Type 0
+IsInput (inputs.Whole v) old new marks = ReadsAll old new marks (vec_items v)
+IsInput inputs.TooLong old new marks = (bytes : List ℕ) × ReadsTooMuch old new bytes
+IsInput inputs.OutOfMemory old new marks = Unit {0}
+IsInput inputs.Failed old new marks = IsTrue marks.told_error
+
+-- the writer holds the text of all bytes more, and no other
+abbrev pub IsShown : (old new : Option (List ℕ)) → Marks → (held holds : Option (List ℕ)) → Type 0
+IsShown old new marks held holds =
+    (bytes : List ℕ) × ReadsAll old new marks bytes × (text : List ℕ) × (shown bytes ≡ Ok text) × Appends held holds text
+
+-- the writer holds `refused: `, this line and a newline more, and no other
+abbrev pub WritesRefusal : Option (List ℕ) → Option (List ℕ) → List ℕ → Type 0
+WritesRefusal held holds line = Appends held holds (codes "refused: " & line & newline)
+
+-- a line for an error: its text, unless memory ran out
+abbrev pub TellsError : Error → List ℕ → Type 0
+TellsError e line =
+    ((refusal_of e ≢ out_of_memory) × (line ≡ refusal_text (refusal_of e))) ⊎ (line ≡ codes "Out of memory")
+
+-- why a line is written in place of a text: all bytes were read and are refused, or they are too many, or memory ran out
+abbrev pub IsReason : (old new : Option (List ℕ)) → Marks → List ℕ → Type 0
+IsReason old new marks line =
+    ((bytes : List ℕ) × ReadsAll old new marks bytes × (r : Refusal) × (shown bytes ≡ Err r) × (line ≡ refusal_text r))
+    ⊎ (((bytes : List ℕ) × ReadsTooMuch old new bytes × (line ≡ codes "input is longer than 16777216 bytes"))
+    ⊎ (line ≡ codes "Out of memory"))
+
+-- the exit status of a run
+abbrev pub status_of : Outcome → ℕ
+status_of outcomes.Shown = 0
+status_of outcomes.Refused = 1
+status_of outcomes.Failed = 2

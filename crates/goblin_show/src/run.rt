@@ -1,0 +1,189 @@
+//! A run: from the bytes that a reader gives to the text that a writer holds.
+ghost use Rattle.std.specs.Prelude.{◌≡◌, ◌≢◌, ℕ, ◌+◌, ◌≤◌, ◌⊎◌, List, IsTrue, OnOk, OnErr};
+ghost use Rattle.std.specs.Io.KnownBytes.{Appends};
+ghost use Rattle.goblin_show.specs.Options.{IsStrict};
+ghost use Rattle.goblin_show.specs.Ran.{IsInput, IsReason, IsShown, ReadsAtMostOneMore, TellsError, WritesRefusal, read_limit, status_of};
+
+use crate::streams::{Sink, Source};
+use crate::text::text_of;
+use goblin::error::Error;
+use goblin::options::ParseOptions;
+use std::alloc::Global;
+use std::io;
+use std::io::ErrorKind;
+
+// How many bytes of input the program takes.
+const INPUT_LIMIT: usize = 16_777_216;
+
+// How many times the reader is asked.
+const READ_LIMIT: u64 = 33_554_432;
+
+// How many bytes are asked for at once.
+const CHUNK: usize = 65_536;
+
+/// What was read.
+#[derive(Drop)]
+pub enum Input {
+    /// All bytes, up to the end.
+    Whole(Vec<u8>),
+    /// More bytes than the program takes.
+    TooLong,
+    /// Bytes that found no memory.
+    OutOfMemory,
+    /// Bytes up to an error, or up to the last call that was to be made.
+    Failed,
+}
+
+// Reads up to the end. An interrupted read is tried again.
+fn input_of<R: Source>(alloc: Global, reader: &mut R) -> Input
+    ensures input { IsInput result (R.remaining reader.old) (R.remaining reader.new)
+        (R.marks reader.new) }
+    ensures most { ReadsAtMostOneMore (R.remaining reader.old) (R.remaining reader.new) }
+    ensures calls { (R.marks reader.new).read_calls ≤ (R.marks reader.old).read_calls + read_limit }
+{
+    let mut bytes = Vec::new(alloc);
+    let mut chunk = [0u8; CHUNK];
+    for _ in 0..READ_LIMIT {
+        let room = CHUNK.min(INPUT_LIMIT + 1 - bytes.len());
+        match reader.read(&mut chunk[..room]) {
+            Ok(0) => return Input::Whole(bytes),
+            Ok(count) => {
+                if bytes.extend_from_slice(&chunk[..count]).is_err() {
+                    return Input::OutOfMemory;
+                }
+                if bytes.len() > INPUT_LIMIT {
+                    return Input::TooLong;
+                }
+            }
+            Err(e) => {
+                if e.kind() != ErrorKind::Interrupted {
+                    return Input::Failed;
+                }
+            }
+        }
+    }
+    Input::Failed
+}
+
+/// How a run ended.
+#[derive(Clone, Copy, Debug, PartialEq)]
+pub enum Outcome {
+    /// The text was written.
+    Shown,
+    /// A line was written that says why there is no text.
+    Refused,
+    /// Reading or writing failed.
+    Failed,
+}
+
+impl Outcome {
+    /// The exit status of a run that ended so: 0, 1 or 2.
+    pub fn status(self) -> u8
+        ensures { result ≡ status_of self }
+    {
+        match self {
+            Outcome::Shown => 0,
+            Outcome::Refused => 1,
+            Outcome::Failed => 2,
+        }
+    }
+}
+
+const OUT_OF_MEMORY: &str = "Out of memory";
+
+const TOO_LONG: &str = "input is longer than 16777216 bytes";
+
+fn write_text<W: Sink>(writer: &mut W, text: &str) -> io::Result<()>
+    ensures ok { OnOk result (Appends (W.contents writer.old) (W.contents writer.new) text.now) }
+    ensures err { OnErr result (IsTrue (W.marks writer.new).told_error) }
+{
+    writer.write_all(text.as_bytes())?;
+    writer.flush()
+}
+
+fn write_refusal<W: Sink>(writer: &mut W, line: &str) -> io::Result<()>
+    ensures ok { OnOk result
+        (WritesRefusal (W.contents writer.old) (W.contents writer.new) line.now) }
+    ensures err { OnErr result (IsTrue (W.marks writer.new).told_error) }
+{
+    writer.write_all(b"refused: ")?;
+    writer.write_all(line.as_bytes())?;
+    writer.write_all(b"\n")?;
+    writer.flush()
+}
+
+// Writes `refused: ` and a line.
+fn refuse<W: Sink>(writer: &mut W, line: &str) -> Outcome
+    ensures shown { result ≢ Outcome.Shown }
+    ensures refused { result ≡ Outcome.Refused →
+        WritesRefusal (W.contents writer.old) (W.contents writer.new) line.now }
+    ensures failed { result ≡ Outcome.Failed → IsTrue (W.marks writer.new).told_error }
+{
+    match write_refusal(writer, line) {
+        Ok(()) => Outcome::Refused,
+        Err(_) => Outcome::Failed,
+    }
+}
+
+// Writes why the bytes are refused, or that memory ran out.
+fn refuse_for<W: Sink>(alloc: Global, writer: &mut W, e: &Error) -> Outcome
+    ensures shown { result ≢ Outcome.Shown }
+    ensures refused { result ≡ Outcome.Refused → (line : List ℕ) × TellsError e.now line
+        × WritesRefusal (W.contents writer.old) (W.contents writer.new) line }
+    ensures failed { result ≡ Outcome.Failed → IsTrue (W.marks writer.new).told_error }
+{
+    if let Error::Memory(_) = e {
+        return refuse(writer, OUT_OF_MEMORY);
+    }
+    match e.line(alloc) {
+        Ok(line) => refuse(writer, line.as_str()),
+        Err(_) => refuse(writer, OUT_OF_MEMORY),
+    }
+}
+
+/// Reads up to the end, and writes the text of what was read, or one line that says why there is
+/// none: that the bytes are refused, or are too many, or found no memory.
+///
+/// An interrupted read is tried again. Any other error of the reader or the writer, or
+/// 33,554,432 read calls without an end, is `Failed`: after an error of the reader nothing was
+/// written, and after one of the writer it is open how much was.
+pub fn run<R: Source, W: Sink>(
+    alloc: Global,
+    reader: &mut R,
+    writer: &mut W,
+    opts: &ParseOptions,
+) -> Outcome
+    requires { IsStrict opts.now }
+
+    // The reader told its end, and the text of all its bytes was written.
+    ensures shown { result ≡ Outcome.Shown →
+        IsShown (R.remaining reader.old) (R.remaining reader.new) (R.marks reader.new)
+        (W.contents writer.old) (W.contents writer.new) }
+
+    // One line with the reason was written.
+    ensures refused { result ≡ Outcome.Refused → (line : List ℕ)
+        × IsReason (R.remaining reader.old) (R.remaining reader.new) (R.marks reader.new) line
+        × WritesRefusal (W.contents writer.old) (W.contents writer.new) line }
+
+    // The reader or the writer told an error.
+    ensures failed { result ≡ Outcome.Failed →
+        IsTrue (R.marks reader.new).told_error ⊎ IsTrue (W.marks writer.new).told_error }
+
+    // However it ended, the reader was not asked for more.
+    ensures most { ReadsAtMostOneMore (R.remaining reader.old) (R.remaining reader.new) }
+    ensures calls { (R.marks reader.new).read_calls ≤ (R.marks reader.old).read_calls + read_limit }
+{
+    let bytes = match input_of(alloc, reader) {
+        Input::Whole(bytes) => bytes,
+        Input::TooLong => return refuse(writer, TOO_LONG),
+        Input::OutOfMemory => return refuse(writer, OUT_OF_MEMORY),
+        Input::Failed => return Outcome::Failed,
+    };
+    match text_of(alloc, bytes.as_slice(), opts) {
+        Ok(text) => match write_text(writer, text.as_str()) {
+            Ok(()) => Outcome::Shown,
+            Err(_) => Outcome::Failed,
+        },
+        Err(e) => refuse_for(alloc, writer, &e),
+    }
+}
