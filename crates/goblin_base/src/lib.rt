@@ -8,3 +8,5 @@ pub mod names;
 pub mod number;
 pub mod options;
 pub mod scroll;
+#[cfg(test)]
+mod tests;

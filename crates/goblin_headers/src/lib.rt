@@ -5,3 +5,5 @@ mod constants_header;
 pub mod header;
 pub mod header32;
 pub mod header64;
+#[cfg(test)]
+mod tests;

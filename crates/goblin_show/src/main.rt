@@ -6,6 +6,8 @@ mod counted;
 mod options;
 mod run;
 mod streams;
+#[cfg(test)]
+mod tests;
 mod text;
 
 ghost use Rattle.goblin_show.specs.Options.{IsStrict};
