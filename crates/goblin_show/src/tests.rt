@@ -194,6 +194,37 @@ fn tries_an_interrupted_read_again(rt: HostRuntime) {
     );
 }
 
+// A reader that is interrupted so many times before it tells its end.
+#[derive(Drop)]
+struct Interrupted {
+    left: u32,
+}
+
+impl Read for Interrupted {
+    fn read(&mut self, _buf: &mut [u8]) -> io::Result<usize> {
+        if self.left == 0 {
+            return Ok(0);
+        }
+        self.left -= 1;
+        Err(io::Error::from(ErrorKind::Interrupted))
+    }
+}
+
+#[test]
+fn asks_as_many_times_as_the_limit(rt: HostRuntime) {
+    // The end is told by the last call that is made.
+    let (outcome, written) = run_over(rt.alloc(), Interrupted { left: 33_554_431 });
+    assert_eq!(rt; outcome, Outcome::Refused);
+    assert_eq!(rt;
+        written.as_slice(),
+        b"refused: Malformed entity: Too small\n".as_slice()
+    );
+
+    let (outcome, written) = run_over(rt.alloc(), Interrupted { left: 33_554_432 });
+    assert_eq!(rt; outcome, Outcome::Failed);
+    assert_eq!(rt; written.len(), 0);
+}
+
 // A writer that takes few bytes at once, and fails at one call.
 #[derive(Drop)]
 struct Slow {
