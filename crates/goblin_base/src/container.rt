@@ -95,7 +95,8 @@ impl Ctx {
 impl From<Container> for Ctx {
     ghost use Rattle.goblin_base.specs.declared.container.Endian.TheVariants as endian;
 
-    ghost from_gives = { λ container ctx. ctx ≡ record { container = container; le = endian.Little } };
+    ghost from_gives = { λ container ctx.
+        ctx ≡ record { container = container; le = endian.Little } };
 
     fn from(container: Container) -> Self {
         Ctx {
@@ -109,7 +110,8 @@ impl From<Container> for Ctx {
 impl From<Endian> for Ctx {
     ghost use Rattle.goblin_base.specs.declared.container.Container.TheVariants as class;
 
-    ghost from_gives = { λ le ctx. ctx ≡ record { container = class.Big; le = le } };
+    ghost from_gives = { λ le ctx.
+        ctx ≡ record { container = class.Big; le = le } };
 
     fn from(le: Endian) -> Self {
         Ctx {

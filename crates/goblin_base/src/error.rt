@@ -11,8 +11,8 @@ use thiserror::Error;
 
 /// What is wrong with a file, or with a record that is to be written.
 ///
-/// Offsets, lengths and sizes count bytes; `len` is the length of all bytes that were handed in, and
-/// `overflow` says whether a sum passed the type of its numbers.
+/// Offsets, lengths and sizes count bytes; `len` is the length of all bytes that were handed in,
+/// and `overflow` says whether a sum passed the type of its numbers.
 #[derive(Debug, Drop, Error)]
 pub enum Fault {
     /// The class byte of a header is neither 1 nor 2, where a header is asked or written.

@@ -399,7 +399,7 @@ pub struct Header {
     pub e_shstrndx: u16,
 }
 
-// How many bytes a program header and a section header have, in the 32-bit class and in the 64-bit one.
+// How many bytes a program header and a section header have, in each class.
 const SIZEOF_PHDR32: u16 = 32;
 
 const SIZEOF_SHDR32: u16 = 40;
@@ -513,10 +513,10 @@ impl SizeWith<Ctx> for Header {
 
 /// Reads a header of either class. The context is ignored: the data byte decides the byte order.
 ///
-/// The errors, of which the first that applies is the answer: fewer than 16 bytes are `TooSmall`; a
-/// wrong magic number is `BadMagic` of the first eight bytes, read in little order; a class byte other
-/// than 1 and 2 is `ElfClass`; a data byte other than 1 and 2 is `DataType`; last, the bytes have no
-/// room for a header of the class.
+/// The errors, of which the first that applies is the answer: fewer than 16 bytes are `TooSmall`;
+/// a wrong magic number is `BadMagic` of the first eight bytes, read in little order; a class byte
+/// other than 1 and 2 is `ElfClass`; a data byte other than 1 and 2 is `DataType`; last, the bytes
+/// have no room for a header of the class.
 impl<'a> TryFromCtx<'a, Endian> for Header {
     ghost use Rattle.goblin_headers.specs.ReadHeader.{read_header};
 

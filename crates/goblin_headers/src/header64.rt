@@ -357,13 +357,14 @@ impl From<Header> for ElfHeader {
     }
 }
 
-/// Reads a header as [`Header::parse`] does, but for its error of the data byte, which is `DataType`.
-/// The context is ignored: the data byte decides the byte order.
+/// Reads a header as [`Header::parse`] does, but for its error of the data byte, which is
+/// `DataType`. The context is ignored: the data byte decides the byte order.
 impl<'a> TryFromCtx<'a, Endian> for Header {
     ghost use Rattle.goblin_base.specs.declared.error.Fault.TheVariants as faults;
     ghost use Rattle.goblin_base.specs.Steps.{with_size};
 
-    ghost try_from_gives = { λ bytes _ answer. answer ≡ with_size 64 (read_header64 faults.DataType bytes) };
+    ghost try_from_gives = { λ bytes _ answer.
+        answer ≡ with_size 64 (read_header64 faults.DataType bytes) };
 
     #[tactic(auto, unfolding(crate::specs::ReadHeader::read_header64))]
     fn try_from_ctx(bytes: &'a [u8], _ctx: Endian) -> Result<(Self, usize)> {
