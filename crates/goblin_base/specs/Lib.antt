@@ -1,8 +1,14 @@
 pub mod Container
+pub mod FieldLaws
+pub mod Fields
 pub mod Names
 pub mod Number
 pub mod NumberLaws
+pub mod Place
+pub mod Record
+pub mod RecordLaws
 pub mod Refusal
 pub mod Room
 pub mod Steps
+pub mod Table
 pub mod Texts

@@ -1,7 +1,11 @@
 -- The numbers that bytes stand for (System V gABI, "Data Encoding"). A byte is a number below 256.
-use Rattle.std.specs.Prelude.{◌+◌, ◌*◌, ◌^◌, ℕ, List, [], ◌∷◌, reverse, take, drop}
+use Rattle.std.specs.Prelude.{◌≡◌, ◌<◌, ◌+◌, ◌*◌, ◌/◌, ◌%◌, ◌^◌, ℕ, zero, suc, List, [], ◌∷◌, length, reverse, slice_index, take, drop}
 use Rattle.goblin_base.specs.declared.container.Endian.{Endian}
 use Rattle.goblin_base.specs.declared.container.Endian.TheVariants.{Little, Big}
+
+-- each number of the list is a byte
+abbrev pub IsBytes : List ℕ → Type 0
+IsBytes bytes = (i : ℕ) → slice_index bytes i < 256
 
 -- each byte times 256 to its rank, added up; the first byte has this rank, and each next byte the next one
 abbrev pub weighted_sum : ℕ → List ℕ → ℕ
@@ -16,3 +20,25 @@ number Big bytes = weighted_sum 0 (reverse bytes)
 -- the number that `width` bytes at a place stand for
 abbrev pub number_at : Endian → List ℕ → ℕ → ℕ → ℕ
 number_at order bytes place width = number order (take width (drop place bytes))
+
+-- the lowest `width` digits of a number to the base 256, the lowest first
+abbrev pub digits : ℕ → ℕ → List ℕ
+digits zero x = []
+digits (suc width) x = x % 256 ∷ digits width (x / 256)
+
+-- the bytes of a width that stand for a number, or for its low digits where it does not fit
+unfoldable pub spelled : Endian → ℕ → ℕ → List ℕ
+spelled Little width x = digits width x
+spelled Big width x = reverse (digits width x)
+
+-- a number that fits a width is what its bytes stand for
+abbrev pub ReadsBack : Type 0
+ReadsBack = (order : Endian) (width x : ℕ) → x < 256 ^ width → number order (spelled order width x) ≡ x
+
+-- bytes are the only ones of their width that stand for their number
+abbrev pub SpellsBack : Type 0
+SpellsBack = (order : Endian) (bytes : List ℕ) → IsBytes bytes → spelled order (length bytes) (number order bytes) ≡ bytes
+
+-- any number is spelled by so many bytes
+abbrev pub SpellsWidth : Type 0
+SpellsWidth = (order : Endian) (width x : ℕ) → length (spelled order width x) ≡ width

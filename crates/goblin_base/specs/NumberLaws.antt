@@ -1,7 +1,12 @@
--- Laws of the numbers that bytes stand for.
-use Rattle.std.proofs.Common.{◌≡◌, ◌+◌, ◌*◌, ◌^◌, ℕ, suc, List, [], ◌∷◌, ◌++◌, length, refl, ap, ◌∙◌, add-one, arith}
-use Rattle.std.proofs.Math.Nat.{pow-suc}
-use Rattle.goblin_base.specs.Number.{weighted_sum}
+-- Laws of the numbers that bytes stand for: each number of a width has one spelling.
+use Rattle.std.proofs.Common.{◌≡◌, ◌<◌, ◌≤◌, ◌+◌, ◌-◌, ◌*◌, ◌/◌, ◌%◌, ◌^◌, ℕ, zero, suc, List, [], ◌∷◌, ◌++◌, length, reverse, inl, inr, refl, sym, ap, ◌∙◌, add-one, arith}
+use Rattle.std.proofs.Math.Nat.{mod-lt, pow-suc, one-le-pow}
+use Rattle.std.proofs.lemmas.Bool.{cases_lt}
+use Rattle.std.proofs.lemmas.List.{length-reverse, reverse-reverse, get_or-reverse, get_or_past}
+use lib.Arith.{mod-mul}
+use Rattle.goblin_base.specs.declared.container.Endian.{Endian}
+use Rattle.goblin_base.specs.declared.container.Endian.TheVariants.{Little, Big}
+use Rattle.goblin_base.specs.Number.{IsBytes, weighted_sum, number, digits, spelled}
 
 -- one rank more is 256 times as much
 pub weighted_sum-next : (rank : ℕ) (bytes : List ℕ) → weighted_sum (rank + 1) bytes ≡ 256 * weighted_sum rank bytes
@@ -22,3 +27,122 @@ weighted_sum-last (first ∷ bytes) byte =
     let rest = weighted_sum-last bytes byte in
     let power = pow-suc 256 (length bytes) in
     rw (weighted_sum-cons first (bytes ++ byte ∷ []), weighted_sum-cons first bytes, rest, power) (omega arith)
+
+-- as many digits as were asked for
+pub length-digits : (n x : ℕ) → length (digits n x) ≡ n
+length-digits zero x = refl
+length-digits (suc n) x = let e = length-digits n (x / 256) in omega (arith, e)
+
+-- n bytes spell a number below 256 ^ n
+pub weighted_sum-lt : (bytes : List ℕ) → IsBytes bytes → weighted_sum 0 bytes < 256 ^ length bytes
+weighted_sum-lt [] h = omega arith
+weighted_sum-lt (b ∷ bytes) h =
+    let byte : b < 256 = h 0 in
+    let rest = weighted_sum-lt bytes (λ i. h (suc i)) in
+    rw (weighted_sum-cons b bytes, pow-suc 256 (length bytes)) (omega arith)
+
+-- the digits of a number that fits spell it
+pub weighted_sum-digits : (n x : ℕ) → x < 256 ^ n → weighted_sum 0 (digits n x) ≡ x
+weighted_sum-digits zero x h = omega arith
+weighted_sum-digits (suc n) x h =
+    let e = pow-suc 256 n in
+    let small : x / 256 < 256 ^ n = omega arith in
+    let rest = weighted_sum-digits n (x / 256) small in
+    rw weighted_sum-cons (omega (arith, rest))
+
+-- bytes are the digits of the number that they spell
+pub digits-weighted_sum : (bytes : List ℕ) → IsBytes bytes → digits (length bytes) (weighted_sum 0 bytes) ≡ bytes
+digits-weighted_sum [] h = refl
+digits-weighted_sum (b ∷ bytes) h =
+    let byte : b < 256 = h 0 in
+    let low : (b + 256 * weighted_sum 0 bytes) % 256 ≡ b = omega arith in
+    let high : (b + 256 * weighted_sum 0 bytes) / 256 ≡ weighted_sum 0 bytes = omega arith in
+    let rest = digits-weighted_sum bytes (λ i. h (suc i)) in
+    rw (weighted_sum-cons b bytes, low, high, rest) refl
+
+-- bytes in the other order are bytes
+IsBytes-reverse : (bytes : List ℕ) → IsBytes bytes → IsBytes (reverse bytes)
+IsBytes-reverse bytes h i =
+    elim (cases_lt i (length bytes)) [
+      | inl p ↦ rw (get_or-reverse bytes i 0) (h (length bytes - 1 - i))
+      | inr p ↦ let q : length (reverse bytes) ≤ i = omega (arith, length-reverse bytes) in rw (get_or_past (reverse bytes) i 0) (omega arith)
+    ]
+
+-- the digits of a number are bytes
+IsBytes-digits : (n x : ℕ) → IsBytes (digits n x)
+IsBytes-digits zero x i = omega arith
+IsBytes-digits (suc n) x zero = omega arith
+IsBytes-digits (suc n) x (suc i) = IsBytes-digits n (x / 256) i
+
+-- what spells a number is bytes
+pub IsBytes-spelled : (order : Endian) (n x : ℕ) → IsBytes (spelled order n x)
+unfolding spelled
+IsBytes-spelled Little n x = IsBytes-digits n x
+IsBytes-spelled Big n x = IsBytes-reverse (digits n x) (IsBytes-digits n x)
+
+-- bytes before bytes are bytes
+pub IsBytes-append : (front back : List ℕ) → IsBytes front → IsBytes back → IsBytes (front ++ back)
+IsBytes-append [] back f b i = b i
+IsBytes-append (x ∷ front) back f b zero = f 0
+IsBytes-append (x ∷ front) back f b (suc i) = IsBytes-append front back (λ j. f (suc j)) b i
+
+-- any number is spelled by so many bytes
+pub length-spelled : (order : Endian) (n x : ℕ) → length (spelled order n x) ≡ n
+unfolding spelled
+length-spelled Little n x = length-digits n x
+length-spelled Big n x = length-reverse (digits n x) ∙ length-digits n x
+
+-- n bytes spell a number below 256 ^ n
+pub number-lt : (order : Endian) (bytes : List ℕ) → IsBytes bytes → number order bytes < 256 ^ length bytes
+unfolding number
+number-lt Little bytes h = weighted_sum-lt bytes h
+number-lt Big bytes h = rw (← length-reverse bytes) (weighted_sum-lt (reverse bytes) (IsBytes-reverse bytes h))
+
+-- what is spelled is read back
+pub number-spelled : (order : Endian) (n x : ℕ) → x < 256 ^ n → number order (spelled order n x) ≡ x
+unfolding number spelled
+number-spelled Little n x h = weighted_sum-digits n x h
+number-spelled Big n x h = ap (weighted_sum 0) (reverse-reverse (digits n x)) ∙ weighted_sum-digits n x h
+
+-- what is read is spelled by the bytes that were read
+pub spelled-number : (order : Endian) (bytes : List ℕ) → IsBytes bytes → spelled order (length bytes) (number order bytes) ≡ bytes
+unfolding number spelled
+spelled-number Little bytes h = digits-weighted_sum bytes h
+spelled-number Big bytes h =
+    let e = digits-weighted_sum (reverse bytes) (IsBytes-reverse bytes h) in
+    rw length-reverse at (ap reverse e) ∙ reverse-reverse bytes
+
+-- only the lowest digits count
+digits-mod : (n x : ℕ) → digits n (x % 256 ^ n) ≡ digits n x
+digits-mod zero x = refl
+digits-mod (suc n) x =
+    let positive : 0 < 256 ^ n = omega (arith, one-le-pow n 256 (omega arith)) in
+    let power : 256 ^ suc n ≡ 256 ^ n * 256 = omega (arith, pow-suc 256 n) in
+    let split : x % 256 ^ suc n ≡ (x / 256 % 256 ^ n) * 256 + x % 256 = ap (λ (m : ℕ). x % m) power ∙ mod-mul x positive (omega arith) in
+    let low : x % 256 ^ suc n % 256 ≡ x % 256 = omega (arith, split) in
+    let high : x % 256 ^ suc n / 256 ≡ x / 256 % 256 ^ n = omega (arith, split) in
+    rw (low, high, digits-mod n (x / 256)) refl
+
+-- only the lowest digits are spelled
+pub spelled-mod : (order : Endian) (n x : ℕ) → spelled order n (x % 256 ^ n) ≡ spelled order n x
+unfolding spelled
+spelled-mod Little n x = digits-mod n x
+spelled-mod Big n x = ap reverse (digits-mod n x)
+
+-- one byte is its number
+pub number-one : (order : Endian) (b : ℕ) → number order (b ∷ []) ≡ b
+unfolding number
+number-one Little b = omega arith
+number-one Big b = omega arith
+
+-- a byte spells itself
+pub spelled-one : (order : Endian) (b : ℕ) → b < 256 → spelled order 1 b ≡ b ∷ []
+unfolding spelled
+spelled-one Little b h = let e : b % 256 ≡ b = omega arith in ap (λ (d : ℕ). d ∷ []) e
+spelled-one Big b h = let e : b % 256 ≡ b = omega arith in ap (λ (d : ℕ). d ∷ []) e
+
+-- the low digits of any number are read back
+pub number-spelled_low : (order : Endian) (n x : ℕ) → number order (spelled order n x) ≡ x % 256 ^ n
+number-spelled_low order n x =
+    let positive : 0 < 256 ^ n = omega (arith, one-le-pow n 256 (omega arith)) in
+    ap (number order) (sym (spelled-mod order n x)) ∙ number-spelled order n (x % 256 ^ n) (mod-lt x positive)

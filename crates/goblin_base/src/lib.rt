@@ -1,5 +1,5 @@
-//! What the layers of the ELF port share: the context of a file, its errors, options, and the
-//! numbers that bytes stand for.
+//! What the layers of the ELF port share: the context of a file, its errors, options, the numbers
+//! that bytes stand for, and records and tables of them.
 #![tactic(auto)]
 
 pub mod container;
@@ -7,6 +7,8 @@ pub mod error;
 pub mod names;
 pub mod number;
 pub mod options;
+pub mod record;
 pub mod scroll;
+pub mod table;
 #[cfg(test)]
 mod tests;

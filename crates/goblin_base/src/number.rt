@@ -1,7 +1,8 @@
 //! Whether a place has room, and the numbers that bytes there stand for: System V gABI, "Data
 //! Representation" and "Data Encoding".
 ghost use Rattle.std.specs.Prelude.{◌≡◌, ◌≤◌, ◌+◌, ◌↔◌, length, IsOk};
-ghost use Rattle.goblin_base.specs.Number.{number_at};
+ghost use Rattle.goblin_base.specs.Number.{number_at, ReadsBack, SpellsBack, SpellsWidth};
+ghost use Rattle.goblin_base.specs.Place.{with_number, ReadsWhatWasPut};
 ghost use Rattle.goblin_base.specs.Room.{room_of};
 
 use crate::container::Endian;
@@ -25,6 +26,15 @@ pub fn room(len: usize, offset: usize, size: usize) -> Result<(), scroll::Error>
         return Err(scroll::Error::TooBig { size, len: rest });
     }
     Ok(())
+}
+
+/// The number that the byte at a place stands for, which is the same in both orders.
+pub fn get_u8(bytes: &[u8], place: usize, order: Endian) -> u8
+    requires { place + 1 ≤ length bytes.now }
+    ensures { result ≡ number_at order bytes.now place 1 }
+{
+    let _ = order;
+    bytes[place]
 }
 
 /// The number that the two bytes at a place stand for.
@@ -62,3 +72,56 @@ pub fn get_u64(bytes: &[u8], place: usize, order: Endian) -> u64
         Endian::Big => BigEndian::read_u64(field),
     }
 }
+
+/// Puts a number into the byte at a place, the same in both orders.
+pub fn put_u8(bytes: &mut [u8], place: usize, value: u8, order: Endian)
+    requires { place + 1 ≤ length bytes.old }
+    ensures { bytes.new ≡ with_number order bytes.old place 1 value }
+{
+    let _ = order;
+    bytes[place] = value;
+}
+
+/// Puts a number into the two bytes at a place. All other bytes stay.
+pub fn put_u16(bytes: &mut [u8], place: usize, value: u16, order: Endian)
+    requires { place + 2 ≤ length bytes.old }
+    ensures { bytes.new ≡ with_number order bytes.old place 2 value }
+{
+    let field = &mut bytes[place..place + 2];
+    match order {
+        Endian::Little => LittleEndian::write_u16(field, value),
+        Endian::Big => BigEndian::write_u16(field, value),
+    }
+}
+
+/// Puts a number into the four bytes at a place. All other bytes stay.
+pub fn put_u32(bytes: &mut [u8], place: usize, value: u32, order: Endian)
+    requires { place + 4 ≤ length bytes.old }
+    ensures { bytes.new ≡ with_number order bytes.old place 4 value }
+{
+    let field = &mut bytes[place..place + 4];
+    match order {
+        Endian::Little => LittleEndian::write_u32(field, value),
+        Endian::Big => BigEndian::write_u32(field, value),
+    }
+}
+
+/// Puts a number into the eight bytes at a place. All other bytes stay.
+pub fn put_u64(bytes: &mut [u8], place: usize, value: u64, order: Endian)
+    requires { place + 8 ≤ length bytes.old }
+    ensures { bytes.new ≡ with_number order bytes.old place 8 value }
+{
+    let field = &mut bytes[place..place + 8];
+    match order {
+        Endian::Little => LittleEndian::write_u64(field, value),
+        Endian::Big => BigEndian::write_u64(field, value),
+    }
+}
+
+/// Laws: a number of one width has one spelling, and is read where it was put. A call does nothing.
+pub fn spellings()
+    ensures width { SpellsWidth }
+    ensures reads_back { ReadsBack }
+    ensures spells_back { SpellsBack }
+    ensures there { ReadsWhatWasPut }
+{}

@@ -1,0 +1,104 @@
+-- Laws of the records of a table.
+use Rattle.std.proofs.Common.{◌≡◌, ◌<◌, ◌≤◌, ◌+◌, ◌*◌, ◌-◌, ℕ, zero, suc, List, [], ◌∷◌, ◌++◌, map, length, take, drop, Option, Some, None, Result, Ok, refl, sym, ap, ◌∙◌, arith}
+use Rattle.std.specs.List.{All, slice_get, slice_range, range_with_len, flat_map}
+use Rattle.std.proofs.lemmas.List.FromFn.{length-map-range_with_len}
+use Rattle.std.specs.Result.{result_ok}
+use Rattle.std.proofs.lemmas.Grind.{common_steps}
+use Rattle.std.proofs.lemmas.Nat.{rows}
+use Rattle.std.proofs.lemmas.Option.{slice_get_past}
+use Rattle.std.proofs.lemmas.List.{take_rest, take_at, drop_at, drop-drop, length-take-le, length-drop}
+use Rattle.goblin_base.specs.declared.error.Error.{Error}
+use Rattle.goblin_base.specs.Record.{read_within}
+use Rattle.goblin_base.specs.RecordLaws.{room_of_fits, read_within-ok}
+use Rattle.goblin_base.specs.Table.{records}
+
+-- the piece of the bytes with an index
+piece : ℕ → List ℕ → ℕ → List ℕ
+piece size bytes i = slice_range bytes (i * size) ((i + 1) * size)
+
+piece-is : (size : ℕ) (bytes : List ℕ) (i : ℕ) → piece size bytes i ≡ take size (drop (i * size) bytes)
+unfolding piece
+piece-is size bytes i = let e : (i + 1) * size - i * size ≡ size = omega arith in rw e refl
+
+-- the pieces after the first one are those of the bytes behind it
+piece-next : (size : ℕ) (bytes : List ℕ) (i : ℕ) → piece size bytes (i + 1) ≡ piece size (drop size bytes) i
+piece-next size bytes i =
+    let e : size + i * size ≡ (i + 1) * size = omega arith in
+    piece-is size bytes (i + 1) ∙ ap (λ k. take size (drop k bytes)) (sym e) ∙ ap (take size) (sym (drop-drop (i * size) size bytes)) ∙ sym (piece-is size (drop size bytes) i)
+
+pieces-next : {R : Type 0} (size : ℕ) (read : List ℕ → R) (bytes : List ℕ) (i n : ℕ) → map (λ i. read (piece size bytes i)) (range_with_len (i + 1) n) ≡ map (λ i. read (piece size (drop size bytes) i)) (range_with_len i n)
+pieces-next size read bytes i zero = refl
+pieces-next size read bytes i (suc n) = rw (piece-next size bytes i, pieces-next size read bytes (i + 1) n) refl
+
+pub length_records : {R : Type 0} (size : ℕ) (read : List ℕ → R) (n : ℕ) (bytes : List ℕ) → length (records size read n bytes) ≡ n
+unfolding records
+length_records size read n bytes = length-map-range_with_len (λ i. read (slice_range bytes (i * size) ((i + 1) * size))) 0 n
+
+get_mapped : {R : Type 0} (f : ℕ → R) (a n i : ℕ) → i < n → slice_get (map f (range_with_len a n)) i ≡ Some (f (a + i))
+get_mapped f a zero i h = absurd (omega arith)
+get_mapped f a (suc n) zero h = ap (λ (k : ℕ). Some (f k)) (omega arith)
+get_mapped f a (suc n) (suc i) h = get_mapped f (a + 1) n i (omega arith) ∙ ap (λ (k : ℕ). Some (f k)) (omega arith)
+
+-- the records of a table, by index
+pub get_records : {R : Type 0} (size : ℕ) (read : List ℕ → R) (n : ℕ) (bytes : List ℕ) (i : ℕ) → i < n → slice_get (records size read n bytes) i ≡ Some (read (take size (drop (i * size) bytes)))
+unfolding records piece
+get_records size read n bytes i h =
+    get_mapped (λ i. read (piece size bytes i)) 0 n i h ∙ ap (λ (k : ℕ). Some (read (piece size bytes k))) (omega arith) ∙ ap (λ part. Some (read part)) (piece-is size bytes i)
+
+pub read_within_fits : {R : Type 0} (size : ℕ) (read : List ℕ → R) (bytes : List ℕ) → size ≤ length bytes → read_within size read bytes ≡ Ok (read bytes)
+read_within_fits size read bytes h =
+    sym (read_within-ok size size read bytes tt (read bytes) refl (sym (room_of_fits (length bytes) 0 size (omega arith))) refl)
+
+-- a record that is read from just its own bytes
+pub read_field : {R : Type 0} (size : ℕ) (read : List ℕ → R) (bytes : List ℕ) (start : ℕ) → start + size ≤ length bytes → read_within size read (take (start + size - start) (drop start bytes)) ≡ Ok (read (take size (drop start bytes)))
+read_field size read bytes start h =
+    let width : start + size - start ≡ size = omega arith in
+    let whole : length (take size (drop start bytes)) ≡ size = length-take-le size (drop start bytes) (omega (arith, length-drop start bytes)) in
+    rw width (read_within_fits size read (take size (drop start bytes)) (omega arith))
+
+pub read_first : {R : Type 0} (size : ℕ) (read : List ℕ → R) (bytes : List ℕ) → size ≤ length bytes → read_within size read (take size bytes) ≡ Ok (read (take size bytes))
+read_first size read bytes h = read_within_fits size read (take size bytes) (omega (arith, length-take-le size bytes h))
+
+pub past_records : {R : Type 0} (size : ℕ) (read : List ℕ → R) (n : ℕ) (bytes : List ℕ) (i : ℕ) → n ≤ i → slice_get (records size read n bytes) i ≡ None
+past_records size read n bytes i h = slice_get_past (records size read n bytes) i (omega (arith, length_records size read n bytes))
+
+pub no_records : {R : Type 0} (size : ℕ) (read : List ℕ → R) (n : ℕ) (bytes : List ℕ) → n ≡ 0 → records size read n bytes ≡ []
+unfolding records
+no_records size read n bytes e = rw e refl
+
+pub first_record : {R : Type 0} (size : ℕ) (read : List ℕ → R) (n : ℕ) (bytes : List ℕ) → 0 < n → records size read n bytes ≡ read (take size bytes) ∷ records size read (n - 1) (drop size bytes)
+unfolding records piece
+first_record size read zero bytes h = absurd (omega arith)
+first_record size read (suc n) bytes h =
+    let e : suc n - 1 ≡ n = omega arith in
+    let none : 0 * size ≡ 0 = omega arith in
+    let front : piece size bytes 0 ≡ take size bytes = piece-is size bytes 0 ∙ ap (λ (k : ℕ). take size (drop k bytes)) none in
+    rw (e, front) (ap (λ rest. read (take size bytes) ∷ rest) (pieces-next size read bytes 0 n))
+
+-- what a table answers at an index below its length: `items` is its list, and `found` what reading its bytes there gave
+pub get_is : {R : Type 0} (size : ℕ) (read : List ℕ → R) (n : ℕ) (bytes : List ℕ) (i s : ℕ) (items : List R) (found : Result R Error) (answer : Option R) → s ≡ size → records size read n bytes ≡ items → n * size ≤ length bytes → i < n → found ≡ read_within size read (take (i * s + s - i * s) (drop (i * s) bytes)) → answer ≡ result_ok found → answer ≡ slice_get items i
+get_is size read n bytes i s items found answer same is fits below read_is ok_is =
+    let room : i * size + size ≤ length bytes = grind (arith, common_steps, rows) in
+    rw same at (ok_is ∙ ap result_ok read_is) ∙ ap result_ok (read_field size read bytes (i * size) room)
+    ∙ sym (ap (λ l. slice_get l i) (sym is) ∙ get_records size read n bytes i below)
+
+-- what an iterator answers where records are left
+pub next_is : {R : Type 0} (size : ℕ) (read : List ℕ → R) (n : ℕ) (bytes : List ℕ) (s : ℕ) (items : List R) (found : Result R Error) (answer : Option R) → s ≡ size → records size read n bytes ≡ items → n * size ≤ length bytes → 0 < n → found ≡ read_within size read (take s bytes) → answer ≡ result_ok found → (answer ≡ Some (read (take size bytes))) × (items ≡ read (take size bytes) ∷ records size read (n - 1) (take (length bytes - s) (drop s bytes)))
+next_is size read n bytes s items found answer same is fits below read_is ok_is =
+    let room : size ≤ length bytes = grind (arith, common_steps, rows) in (
+      rw same at (ok_is ∙ ap result_ok read_is) ∙ ap result_ok (read_first size read bytes room),
+      sym is ∙ first_record size read n bytes below ∙ ap (λ (left : List ℕ). read (take size bytes) ∷ records size read (n - 1) left) (sym (rw same (take_rest bytes size))),
+    )
+
+-- records that are written one after another are read back as the same list
+pub records-flat_map : {R : Type 0} (size : ℕ) (read : List ℕ → R) (image : R → List ℕ) (Right : R → Type 0) → ((x : R) → length (image x) ≡ size) → ((x : R) → Right x → read (image x) ≡ x) → (all : List R) → All Right all → records size read (length all) (flat_map image all) ≡ all
+unfolding records
+records-flat_map size read image Right long back [] right = refl
+records-flat_map size read image Right long back (x ∷ all) right =
+    let rest = records-flat_map size read image Right long back all (λ k d below. right (suc k) d (omega arith)) in
+    let less : suc (length all) - 1 ≡ length all = omega arith in
+    let is = back x (right 0 x (omega arith)) in
+    first_record size read (suc (length all)) (image x ++ flat_map image all) (omega arith)
+    ∙ rw (less, take_at (image x) (flat_map image all) size (long x), drop_at (image x) (flat_map image all) size (long x), is, rest) refl
+
+pub ruleset record_steps = (length_records, get_records, past_records, read_field, read_first, no_records, first_record)

@@ -1,0 +1,30 @@
+-- Reading and writing records at the start of some bytes.
+use Rattle.std.specs.Prelude.{◌≡◌, ℕ, List, ◌++◌, length, drop, Result, Ok, Err}
+use Rattle.goblin_base.specs.declared.error.Error.{Error}
+use Rattle.goblin_base.specs.declared.error.Error.TheVariants.{Scroll}
+use Rattle.goblin_base.specs.declared.scroll.Error.{Error as Fault}
+use Rattle.goblin_base.specs.Room.{room_of}
+
+-- a value where there is room, and else the fault
+abbrev pub unless_fault : {X : Type 0} → Result (Unit {0}) Fault → X → Result X Error
+unless_fault (Ok _) x = Ok x
+unless_fault (Err e) x = Err (Scroll e)
+
+-- what reading a record of a size at the start of some bytes answers
+unfoldable pub read_within : {X : Type 0} → ℕ → (List ℕ → X) → List ℕ → Result X Error
+read_within size read bytes = unless_fault (room_of (length bytes) 0 size) (read bytes)
+
+-- a value and how many bytes it took, where there is one
+abbrev pub and_size : {X : Type 0} → ℕ → Result X Error → Result (X × ℕ) Error
+and_size size (Ok x) = Ok (x, size)
+and_size size (Err e) = Err e
+
+-- where there is room, the image stands in front, the other bytes are as they were, and the answer is the size;
+-- else nothing has changed, and the answer is the fault
+abbrev pub WritesUnless : Result (Unit {0}) Fault → ℕ → List ℕ → List ℕ → Result ℕ Error → List ℕ → Type 0
+WritesUnless (Ok _) size image old answer new = (answer ≡ Ok size) × (new ≡ image ++ drop size old)
+WritesUnless (Err e) size image old answer new = (answer ≡ Err (Scroll e)) × (new ≡ old)
+
+-- what writing the image of a record of a size over old bytes answers, and which bytes it leaves
+unfoldable pub Writes : ℕ → List ℕ → List ℕ → Result ℕ Error → List ℕ → Type 0
+Writes size image old answer new = WritesUnless (room_of (length old) 0 size) size image old answer new

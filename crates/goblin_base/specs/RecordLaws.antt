@@ -1,0 +1,76 @@
+-- Laws of reading and writing a record at the start of some bytes.
+use Rattle.std.proofs.Common.{IfOk, ◌≡◌, ◌≤◌, ◌+◌, ℕ, List, ◌++◌, length, take, drop, Result, Ok, Err, refl, ap, ◌∙◌, arith}
+use Rattle.std.proofs.lemmas.Bool.Decides.{nat_tests}
+use Rattle.std.proofs.lemmas.List.{take-append-drop}
+use Rattle.goblin_base.specs.declared.error.Error.{Error}
+use Rattle.goblin_base.specs.declared.error.Error.TheVariants.{Scroll}
+use Rattle.goblin_base.specs.declared.scroll.Error.{Error as Fault}
+use Rattle.goblin_base.specs.Room.{room_of}
+use Rattle.goblin_base.specs.Record.{unless_fault, read_within, WritesUnless, Writes}
+
+-- where there is room, the room rule says so
+pub room_of_fits : (len offset size : ℕ) → offset + size ≤ len → room_of len offset size ≡ Ok tt
+unfolding room_of
+room_of_fits len offset size h = grind (arith, nat_tests)
+
+-- where the room rule says so, there is room
+pub fits-room_of : (len offset size : ℕ) (u : Unit {0}) → room_of len offset size ≡ Ok u → offset + size ≤ len
+unfolding room_of
+fits-room_of len offset size u e = grind (arith, nat_tests)
+
+-- where there is room, reading gives the record
+pub read_within-ok : {X : Type 0} (size s : ℕ) (read : List ℕ → X) (bytes : List ℕ) (u : Unit {0}) (x : X) → s ≡ size → Ok u ≡ room_of (length bytes) 0 s → x ≡ read bytes → Ok x ≡ read_within size read bytes
+unfolding read_within
+read_within-ok size s read bytes u x same e is = rw (← same, ← e) (ap Ok is)
+
+-- where there is none, reading gives the fault
+pub read_within-err : {X : Type 0} (size s : ℕ) (read : List ℕ → X) (bytes : List ℕ) (e : Fault) → s ≡ size → Err e ≡ room_of (length bytes) 0 s → Err (Scroll e) ≡ read_within size read bytes
+unfolding read_within
+read_within-err size s read bytes e same is = rw (← same, ← is) refl
+
+-- what was read is the record, and there was room for it
+unless_fault-is : {X : Type 0} (room : Result (Unit {0}) Fault) (x y : X) → Ok x ≡ unless_fault room y → (room ≡ Ok tt) × (x ≡ y)
+unless_fault-is (Ok _) x y e = (refl, cc)
+unless_fault-is (Err d) x y e = absurd (cc)
+
+-- the same of a reading
+pub read_within-is : {X : Type 0} (size : ℕ) (read : List ℕ → X) (bytes : List ℕ) (x : X) → Ok x ≡ read_within size read bytes → (size ≤ length bytes) × (x ≡ read bytes)
+unfolding read_within
+read_within-is size read bytes x e =
+    let is = unless_fault-is (room_of (length bytes) 0 size) x (read bytes) e in
+    let fits = fits-room_of (length bytes) 0 size tt is.0 in
+    (omega arith, is.1)
+
+-- what holds of the record holds of what was read
+if_ok : {X : Type 0} (room : Result (Unit {0}) Fault) (x : X) (P : X → Type 0) → (room ≡ Ok tt → P x) → IfOk (unless_fault room x) P
+if_ok (Ok _) x P h = h refl
+if_ok (Err d) x P h = tt
+
+-- the same of a reading
+pub IfOk-read_within : {X : Type 0} (size : ℕ) (read : List ℕ → X) (bytes : List ℕ) (P : X → Type 0) → (size ≤ length bytes → P (read bytes)) → IfOk (read_within size read bytes) P
+unfolding read_within
+IfOk-read_within size read bytes P h =
+    if_ok (room_of (length bytes) 0 size) (read bytes) P (λ is. let fits = fits-room_of (length bytes) 0 size tt is in h (omega arith))
+
+-- where there is room, the image stands in front
+pub Writes-ok : (size s : ℕ) (image old new : List ℕ) (u : Unit {0}) → s ≡ size → Ok u ≡ room_of (length old) 0 s → new ≡ image ++ drop size old → Writes size image old (Ok s) new
+unfolding Writes
+Writes-ok size s image old new u same e h = rw (← same, ← e) (refl, rw same h)
+
+-- where there is none, nothing has changed
+pub Writes-err : (size s : ℕ) (image old : List ℕ) (e : Fault) → s ≡ size → Err e ≡ room_of (length old) 0 s → Writes size image old (Err (Scroll e)) old
+unfolding Writes
+Writes-err size s image old e same is = rw (← same, ← is) (refl, refl)
+
+-- bytes that are written over themselves stay as they were
+unchanged : (room : Result (Unit {0}) Fault) (size : ℕ) (image old new : List ℕ) (answer : Result ℕ Error) → image ≡ take size old → WritesUnless room size image old answer new → new ≡ old
+unchanged (Ok _) size image old new answer e h = h.1 ∙ ap (λ (front : List ℕ). front ++ drop size old) e ∙ take-append-drop size old
+unchanged (Err d) size image old new answer e h = h.1
+
+-- the same of a writing
+pub Writes-unchanged : (size : ℕ) (image old new : List ℕ) (answer : Result ℕ Error) → image ≡ take size old → Writes size image old answer new → new ≡ old
+unfolding Writes
+Writes-unchanged size image old new answer e h = unchanged (room_of (length old) 0 size) size image old new answer e h
+
+-- what reading and writing answer, for the goals of the functions that do it
+pub ruleset record_answers = (read_within-ok, read_within-err, Writes-ok, Writes-err)

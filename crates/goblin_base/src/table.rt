@@ -1,0 +1,165 @@
+//! Tables of records that are read from borrowed bytes as they are asked for.
+ghost use Rattle.std.specs.Prelude.{◌≡◌, ◌≤◌, ◌*◌, ◌↔◌, IsTrue, IfOk, IfSome, IfErr, alloc_error};
+ghost use Rattle.std.specs.Prelude.{[], List, length, slice_get, All, flat_map};
+ghost use Rattle.std.specs.Iterator.{UpTo, YieldsFirst, item_count};
+ghost use Rattle.std.specs.Iterator.SizeHint.{IsWithinCount};
+ghost use Rattle.goblin_base.specs.Table.{records};
+
+use crate::error::{Error, Result};
+use crate::record::Record;
+use crate::scroll::SizeWith;
+use std::alloc::Global;
+use std::marker::{Model, PhantomData};
+
+/// Records that lie one after another from the start of borrowed bytes.
+///
+/// It takes no memory, and what it gives outlives it. Reading a record of it can't fail.
+#[derive(Debug, Drop)]
+pub struct Table<'a, R: Record<C>, C: Copy> {
+    bytes: &'a [u8],
+    count: usize,
+    ctx: C,
+    of: PhantomData<R>,
+}
+
+// A table is seen as the list of its records.
+impl<'a, R: Record<C>, C: Copy> Model for Table<'a, R, C> {
+    ghost use Rattle.std.specs.Prelude.{◌≤◌, ◌*◌, List, length};
+    ghost use Rattle.goblin_base.specs.Table.{records};
+
+    ghost Value = { List R };
+
+    ghost view = { λ t. records (R.size_of t.ctx) (R.read t.ctx) t.count t.bytes.now };
+
+    ghost invariant = { λ t. t.count * R.size_of t.ctx ≤ length t.bytes.now };
+}
+
+impl<'a, R: Record<C>, C: Copy> Table<'a, R, C> {
+    /// The table of the first `count` records of the bytes, which must hold so many.
+    pub fn of(bytes: &'a [u8], count: usize, ctx: C) -> Self
+        requires { count * R.size_of ctx ≤ length bytes.now }
+        ensures { result ≡ records (R.size_of ctx) (R.read ctx) count bytes.now }
+    {
+        Table {
+            bytes,
+            count,
+            ctx,
+            of: PhantomData,
+        }
+    }
+
+    /// How many records there are.
+    #[tactic(auto, using(crate::proofs::Records::record_steps))]
+    pub fn len(&self) -> usize
+        ensures { result ≡ length self.now }
+    {
+        self.count
+    }
+
+    /// Whether there are none.
+    #[tactic(auto, using(crate::proofs::Records::record_steps))]
+    pub fn is_empty(&self) -> bool
+        ensures { IsTrue result ↔ (self.now ≡ []) }
+    {
+        self.count == 0
+    }
+
+    /// The record at an index, or `None` from `len()` on.
+    #[tactic(auto, using(crate::proofs::Records::record_steps))]
+    pub fn get(&self, index: usize) -> Option<R>
+        ensures { result ≡ slice_get self.now index }
+    {
+        if index >= self.count {
+            return None;
+        }
+        let size = R::size_with(&self.ctx);
+        let start = index * size;
+        R::read_record(&self.bytes[start..start + size], self.ctx).ok()
+    }
+
+    /// An iterator over the records, from the first one on.
+    pub fn iter(&self) -> TableIter<'a, R, C>
+        ensures { result ≡ self.now }
+    {
+        TableIter {
+            bytes: self.bytes,
+            count: self.count,
+            ctx: self.ctx,
+            of: PhantomData,
+        }
+    }
+
+    /// The records as a vector. Only want of memory is an error.
+    pub fn to_vec(&self, alloc: Global) -> Result<Vec<R>>
+        ensures ok { IfOk result (λ v. v.items ≡ self.now) }
+        ensures err { IfErr result (λ e. e ≡ Error.Memory alloc_error) }
+    {
+        Ok(self.iter().collect(alloc)?)
+    }
+}
+
+/// An iterator over the records of a table: from the first to the last, and `None` from then on.
+#[derive(Debug, Drop)]
+pub struct TableIter<'a, R: Record<C>, C: Copy> {
+    bytes: &'a [u8],
+    count: usize,
+    ctx: C,
+    of: PhantomData<R>,
+}
+
+// An iterator is seen as the list of the records that are left.
+impl<'a, R: Record<C>, C: Copy> Model for TableIter<'a, R, C> {
+    ghost use Rattle.std.specs.Prelude.{◌≤◌, ◌*◌, List, length};
+    ghost use Rattle.goblin_base.specs.Table.{records};
+
+    ghost Value = { List R };
+
+    ghost view = { λ t. records (R.size_of t.ctx) (R.read t.ctx) t.count t.bytes.now };
+
+    ghost invariant = { λ t. t.count * R.size_of t.ctx ≤ length t.bytes.now };
+}
+
+impl<'a, R: Record<C>, C: Copy> Iterator for TableIter<'a, R, C> {
+    type Item = R;
+
+    ghost next_gives = { YieldsFirst (λ left. left) };
+
+    ghost remaining = { item_count (λ left. left) };
+
+    #[tactic(auto, using(crate::proofs::Records::record_steps))]
+    fn next(&mut self) -> Option<R> {
+        if self.count == 0 {
+            return None;
+        }
+        let size = R::size_with(&self.ctx);
+        let bytes = self.bytes;
+        self.bytes = &bytes[size..];
+        self.count -= 1;
+        R::read_record(&bytes[..size], self.ctx).ok()
+    }
+
+    fn size_hint(&self) -> (usize, Option<usize>)
+        ensures lower { IsWithinCount result.0 (item_count (λ left. left) self.now) }
+        ensures upper { IfSome result.1 (UpTo (item_count (λ left. left) self.now)) }
+        // Both bounds are the number of records that are left.
+        ensures exact { result ≡ (length self.now, Some (length self.now)) }
+    {
+        let len = self.len();
+        (len, Some(len))
+    }
+}
+
+impl<'a, R: Record<C>, C: Copy> ExactSizeIterator for TableIter<'a, R, C> {
+    #[tactic(auto, using(crate::proofs::Records::record_steps))]
+    fn len(&self) -> usize {
+        self.count
+    }
+}
+
+/// A law: a list of records that fit, written one after another, is read as the same list. A call
+/// does nothing.
+pub fn read_back<R: Record<C>, C: Copy>()
+    ensures { (ctx : C) (all : List R)
+        → All (R.fits ctx) all
+        → records (R.size_of ctx) (R.read ctx) (length all) (flat_map (R.image ctx) all) ≡ all }
+{}
