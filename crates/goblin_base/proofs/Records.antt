@@ -1,7 +1,7 @@
 -- Laws of the records of a table.
 use Rattle.std.proofs.Common.{◌≡◌, ◌<◌, ◌≤◌, ◌+◌, ◌*◌, ◌-◌, ℕ, zero, suc, List, [], ◌∷◌, ◌++◌, map, length, take, drop, Option, Some, None, Result, Ok, refl, sym, ap, ◌∙◌, arith}
 use Rattle.std.specs.List.{All, slice_get, slice_range, range_with_len, flat_map}
-use Rattle.std.proofs.lemmas.List.FromFn.{length-map-range_with_len}
+use Rattle.std.proofs.lemmas.List.FromFn.{length-map-range_with_len, map-range_with_len_more}
 use Rattle.std.specs.Result.{result_ok}
 use Rattle.std.proofs.lemmas.Grind.{common_steps}
 use Rattle.std.proofs.lemmas.Nat.{rows}
@@ -74,6 +74,11 @@ first_record size read (suc n) bytes h =
     let none : 0 * size ≡ 0 = omega arith in
     let front : piece size bytes 0 ≡ take size bytes = piece-is size bytes 0 ∙ ap (λ (k : ℕ). take size (drop k bytes)) none in
     rw (e, front) (ap (λ rest. read (take size bytes) ∷ rest) (pieces-next size read bytes 0 n))
+
+pub last_record : {R : Type 0} (size : ℕ) (read : List ℕ → R) (n : ℕ) (bytes : List ℕ) → records size read (n + 1) bytes ≡ records size read n bytes ++ read (take size (drop (n * size) bytes)) ∷ []
+unfolding records piece
+last_record size read n bytes =
+    map-range_with_len_more (λ i. read (piece size bytes i)) 0 n n (omega arith) ∙ ap (λ part. map (λ i. read (piece size bytes i)) (range_with_len 0 n) ++ read part ∷ []) (piece-is size bytes n)
 
 -- what a table answers at an index below its length: `items` is its list, and `found` what reading its bytes there gave
 pub get_is : {R : Type 0} (size : ℕ) (read : List ℕ → R) (n : ℕ) (bytes : List ℕ) (i s : ℕ) (items : List R) (found : Result R Error) (answer : Option R) → s ≡ size → records size read n bytes ≡ items → n * size ≤ length bytes → i < n → found ≡ read_within size read (take (i * s + s - i * s) (drop (i * s) bytes)) → answer ≡ result_ok found → answer ≡ slice_get items i

@@ -1,4 +1,5 @@
 pub mod Container
+pub mod Eager
 pub mod FieldLaws
 pub mod Fields
 pub mod Names

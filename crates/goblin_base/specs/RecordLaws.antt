@@ -29,9 +29,14 @@ unfolding read_within
 read_within-err size s read bytes e same is = rw (← same, ← is) refl
 
 -- what was read is the record, and there was room for it
-unless_fault-is : {X : Type 0} (room : Result (Unit {0}) Fault) (x y : X) → Ok x ≡ unless_fault room y → (room ≡ Ok tt) × (x ≡ y)
+pub unless_fault-is : {X : Type 0} (room : Result (Unit {0}) Fault) (x y : X) → Ok x ≡ unless_fault room y → (room ≡ Ok tt) × (x ≡ y)
 unless_fault-is (Ok _) x y e = (refl, cc)
 unless_fault-is (Err d) x y e = absurd (cc)
+
+-- what was refused is the fault of room
+pub unless_fault-err : {X : Type 0} (room : Result (Unit {0}) Fault) (e : Error) (y : X) → Err e ≡ unless_fault room y → (d : Fault) × (room ≡ Err d) × (e ≡ Scroll d)
+unless_fault-err (Ok _) e y is = absurd (cc)
+unless_fault-err (Err d) e y is = (d, refl, cc)
 
 -- the same of a reading
 pub read_within-is : {X : Type 0} (size : ℕ) (read : List ℕ → X) (bytes : List ℕ) (x : X) → Ok x ≡ read_within size read bytes → (size ≤ length bytes) × (x ≡ read bytes)

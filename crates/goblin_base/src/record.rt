@@ -20,7 +20,7 @@ pub trait Record<C: Copy>: SizeWith<C> + TryIntoCtx<C> + Drop {
     // Each field of the record is in the range of its width.
     ghost fits: { C → Self → Type 0 };
 
-    /// The record at the start of the bytes, or the fault of room where they are fewer than it takes.
+    /// The record at the start of the bytes, or the fault of room where they are too few.
     fn read_record(bytes: &[u8], ctx: C) -> Result<Self>
         ensures { result ≡ read_within (Self.size_of ctx) (read ctx) bytes.now };
 
@@ -30,7 +30,8 @@ pub trait Record<C: Copy>: SizeWith<C> + TryIntoCtx<C> + Drop {
     // The image has the size of a record.
     ghost length_image: { (ctx : C) (x : Self) → length (image ctx x) ≡ Self.size_of ctx };
 
-    // Writing leaves the image in front and the other bytes as they were, or refuses and changes nothing.
+    // Writing leaves the image in front and the other bytes as they were, or it refuses and changes
+    // nothing.
     ghost writes_image: { (ctx : C) (x : Self) (old new : List ℕ) (answer : Result ℕ Refusing)
         → Self.try_into_gives x ctx old answer new
         → Writes (Self.size_of ctx) (image ctx x) old answer new };

@@ -1,11 +1,16 @@
 //! Tables of records that are read from borrowed bytes as they are asked for.
 ghost use Rattle.std.specs.Prelude.{◌≡◌, ◌≤◌, ◌*◌, ◌↔◌, IsTrue, IfOk, IfSome, IfErr, alloc_error};
-ghost use Rattle.std.specs.Prelude.{[], List, length, slice_get, All, flat_map};
+ghost use Rattle.std.specs.Prelude.{◌+◌, OnOk, take, drop, [], List, length, slice_get, All, flat_map};
 ghost use Rattle.std.specs.Iterator.{UpTo, YieldsFirst, item_count};
 ghost use Rattle.std.specs.Iterator.SizeHint.{IsWithinCount};
+ghost use Rattle.goblin_base.specs.Eager.{records_from};
+ghost use Rattle.goblin_base.specs.Record.{unless_fault};
+ghost use Rattle.goblin_base.specs.Refusal.{Gives};
+ghost use Rattle.goblin_base.specs.Room.{room_of};
 ghost use Rattle.goblin_base.specs.Table.{records};
 
 use crate::error::{Error, Result};
+use crate::number::room;
 use crate::record::Record;
 use crate::scroll::SizeWith;
 use std::alloc::Global;
@@ -154,6 +159,48 @@ impl<'a, R: Record<C>, C: Copy> ExactSizeIterator for TableIter<'a, R, C> {
     fn len(&self) -> usize {
         self.count
     }
+}
+
+// The record that the piece at a place stands for, or the fault of room there.
+fn read_at<R: Record<C>, C: Copy>(bytes: &[u8], place: usize, ctx: C) -> Result<R>
+    ensures exact { let size = R.size_of ctx in
+        let piece = take size (drop place bytes.now) in
+        result ≡ unless_fault (room_of (length bytes.now) place size) (R.read ctx piece) }
+    ensures fits { OnOk result (place + R.size_of ctx ≤ length bytes.now) }
+{
+    let size = R::size_with(&ctx);
+    room(bytes.len(), place, size)?;
+    R::read_record(&bytes[place..place + size], ctx)
+}
+
+/// The `count` records that lie one after another from an offset on, as a vector.
+///
+/// More records than the bytes could hold anywhere are a `BufferTooShort` of these items. Else memory
+/// is taken for all of them at once, and the first record without room gives its fault. Where `count`
+/// is 0 the list is empty, whatever the offset.
+pub fn read_all<R: Record<C>, C: Copy>(
+    alloc: Global,
+    bytes: &[u8],
+    offset: usize,
+    count: usize,
+    ctx: C,
+    items: &'static str,
+) -> Result<Vec<R>>
+    ensures { let right =
+        records_from (R.size_of ctx) (R.read ctx) bytes.now offset count items.now in
+        Gives (λ v. v.items) result right }
+{
+    let size = R::size_with(&ctx);
+    if count > bytes.len() / size {
+        return Err(Error::BufferTooShort(count, items));
+    }
+    let mut all = Vec::with_capacity(alloc, count)?;
+    let mut place = offset;
+    'each: for _ in 0..count {
+        all.push(read_at(bytes, place, ctx)?)?;
+        place += size;
+    }
+    Ok(all)
 }
 
 /// A law: a list of records that fit, written one after another, is read as the same list. A call

@@ -1,0 +1,81 @@
+-- Laws of lists of records that are read at once.
+use Rattle.std.proofs.Common.{◌≡◌, ◌<◌, ◌≤◌, ◌+◌, ◌*◌, ◌/◌, ◌-◌, ℕ, suc, List, [], ◌∷◌, ◌++◌, length, take, drop, false, nat_lt, Result, Ok, Err, refl, sym, ap, ◌∙◌, arith}
+use Rattle.std.proofs.lemmas.Bool.Decides.{nat_tests}
+use Rattle.std.proofs.lemmas.List.{drop-drop}
+use Rattle.goblin_base.specs.declared.error.Error.{Error}
+use Rattle.goblin_base.specs.declared.scroll.Error.{Error as Fault}
+use Rattle.goblin_base.specs.Eager.{room_of_each, records_from}
+use Rattle.goblin_base.specs.Record.{read_within, unless_fault}
+use Rattle.goblin_base.specs.RecordLaws.{fits-room_of, unless_fault-is, unless_fault-err}
+use Rattle.goblin_base.specs.Refusal.{buffer_too_short, misplaced, refusal_of}
+use Rattle.goblin_base.specs.Room.{room_of}
+use Rattle.goblin_base.specs.Table.{records}
+use Rattle.goblin_base.proofs.Records.{read_field, no_records, last_record}
+
+-- a record that is read from just its own bytes, where there is room for them
+pub read_piece : {R : Type 0} (size s : ℕ) (read : List ℕ → R) (bytes : List ℕ) (place : ℕ) (u : Unit {0}) (found : Result R Error) → s ≡ size → Ok u ≡ room_of (length bytes) place s → found ≡ read_within size read (take (place + s - place) (drop place bytes)) → found ≡ unless_fault (room_of (length bytes) place size) (read (take size (drop place bytes)))
+read_piece size s read bytes place u found same room is =
+    let fits = fits-room_of (length bytes) place s u (sym room) in
+    rw (← same, ← room) (is ∙ rw (← same) (read_field s read bytes place fits))
+
+-- more records than the bytes could hold anywhere
+pub too_many : {R : Type 0} (size s : ℕ) (read : List ℕ → R) (bytes : List ℕ) (offset count : ℕ) (items : List ℕ) → s ≡ size → length bytes / s < count → records_from size read bytes offset count items ≡ Err (buffer_too_short count items)
+unfolding records_from
+too_many size s read bytes offset count items same h = rw (← same) (grind (arith, nat_tests))
+
+-- how far reading has come: i records were read, and the others stand from a place on
+pub record ReadSoFar {R : Type 0} (size : ℕ) (read : List ℕ → R) (bytes : List ℕ) (offset count i place : ℕ) (found : List R) : Type 0 where
+  pub there : place ≡ offset + i * size
+  pub left : room_of_each (length bytes) place size (count - i) ≡ room_of_each (length bytes) offset size count
+  pub gave : found ≡ records size read i (drop offset bytes)
+
+pub none_read : {R : Type 0} (size : ℕ) (read : List ℕ → R) (bytes : List ℕ) (offset count : ℕ) → ReadSoFar size read bytes offset count 0 offset []
+none_read size read bytes offset count = record {
+  there = omega arith;
+  left = ap (room_of_each (length bytes) offset size) (omega arith);
+  gave = sym (no_records size read 0 (drop offset bytes) refl);
+}
+
+-- one record less is left
+one_less : (len place size count i : ℕ) (u : Unit {0}) → i < count → room_of len place size ≡ Ok u → room_of_each len place size (count - i) ≡ room_of_each len (place + size) size (count - (i + 1))
+one_less len place size count i u h room =
+    let e : count - i ≡ suc (count - (i + 1)) = omega arith in
+    rw (e, room) refl
+
+-- and one more was read
+one_more : {R : Type 0} (size : ℕ) (read : List ℕ → R) (bytes : List ℕ) (offset i place : ℕ) → place ≡ offset + i * size → records size read (i + 1) (drop offset bytes) ≡ records size read i (drop offset bytes) ++ read (take size (drop place bytes)) ∷ []
+one_more size read bytes offset i place at =
+    let there : drop (i * size) (drop offset bytes) ≡ drop place bytes = drop-drop (i * size) offset bytes ∙ ap (λ (k : ℕ). drop k bytes) (sym at) in
+    last_record size read i (drop offset bytes) ∙ ap (λ (part : List ℕ). records size read i (drop offset bytes) ++ read (take size part) ∷ []) there
+
+pub next_read : {R : Type 0} (size s : ℕ) (read : List ℕ → R) (bytes : List ℕ) (offset count i place : ℕ) (found : List R) (x : R) → ReadSoFar size read bytes offset count i place found → s ≡ size → i < count → Ok x ≡ unless_fault (room_of (length bytes) place size) (read (take size (drop place bytes))) → ReadSoFar size read bytes offset count (i + 1) (place + s) (found ++ x ∷ [])
+next_read size s read bytes offset count i place found x before same h e =
+    let is = unless_fault-is (room_of (length bytes) place size) x (read (take size (drop place bytes))) e in
+    record {
+      there = let at = before.there in omega arith;
+      left = rw same (sym (one_less (length bytes) place size count i tt h is.0) ∙ before.left);
+      gave = rw (before.gave, is.1) (sym (one_more size read bytes offset i place before.there));
+    }
+
+-- all were read
+pub all_read : {R : Type 0} (size s : ℕ) (read : List ℕ → R) (bytes : List ℕ) (offset count i place : ℕ) (items : List ℕ) (found : List R) → ReadSoFar size read bytes offset count i place found → s ≡ size → i ≡ count → count ≤ length bytes / s → records_from size read bytes offset count items ≡ Ok found
+unfolding records_from
+all_read size s read bytes offset count i place items found before same all enough =
+    let none : count - i ≡ 0 = omega arith in
+    let each : room_of_each (length bytes) offset size count ≡ Ok tt = sym before.left ∙ ap (room_of_each (length bytes) place size) none in
+    let few : nat_lt (length bytes / size) count ≡ false = rw (← same) (grind (arith, nat_tests)) in
+    rw (few, each, before.gave, all) refl
+
+-- the next one has no room
+refused : {R : Type 0} (size s : ℕ) (read : List ℕ → R) (bytes : List ℕ) (offset count i place : ℕ) (items : List ℕ) (found : List R) (e : Fault) → ReadSoFar size read bytes offset count i place found → s ≡ size → i < count → count ≤ length bytes / s → room_of (length bytes) place size ≡ Err e → records_from size read bytes offset count items ≡ Err (misplaced e)
+unfolding records_from
+refused size s read bytes offset count i place items found e before same h enough fault =
+    let some : count - i ≡ suc (count - (i + 1)) = omega arith in
+    let each : room_of_each (length bytes) offset size count ≡ Err e = sym before.left ∙ rw (some, fault) refl in
+    let few : nat_lt (length bytes / size) count ≡ false = rw (← same) (grind (arith, nat_tests)) in
+    rw (few, each) refl
+
+pub no_room : {R : Type 0} (size s : ℕ) (read : List ℕ → R) (bytes : List ℕ) (offset count i place : ℕ) (items : List ℕ) (found : List R) (e : Error) → ReadSoFar size read bytes offset count i place found → s ≡ size → i < count → count ≤ length bytes / s → Err e ≡ unless_fault (room_of (length bytes) place size) (read (take size (drop place bytes))) → records_from size read bytes offset count items ≡ Err (refusal_of e)
+no_room size s read bytes offset count i place items found e before same h enough is =
+    let fault = unless_fault-err (room_of (length bytes) place size) e (read (take size (drop place bytes))) is in
+    refused size s read bytes offset count i place items found fault.0 before same h enough fault.1 ∙ ap (λ f. Err (refusal_of f)) (sym fault.2)

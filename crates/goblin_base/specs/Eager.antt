@@ -1,0 +1,23 @@
+-- Lists of records that are read at once.
+use Rattle.std.specs.Prelude.{◌+◌, ◌/◌, ℕ, zero, suc, nat_lt, List, length, drop, Result, Ok}
+use Rattle.goblin_base.specs.declared.scroll.Error.{Error}
+use Rattle.goblin_base.specs.Refusal.{Refusal, buffer_too_short, misplaced}
+use Rattle.goblin_base.specs.Room.{room_of}
+use Rattle.goblin_base.specs.Steps.{◌>>=◌, refuse_if, refuse_as}
+use Rattle.goblin_base.specs.Table.{records}
+
+-- whether there is room for so many records of a size, one after another from an offset on; the first without
+-- room gives its fault
+abbrev pub room_of_each : ℕ → ℕ → ℕ → ℕ → Result (Unit {0}) Error
+room_of_each len offset size zero = Ok tt
+room_of_each len offset size (suc count) = do
+  _ ← room_of len offset size
+  room_of_each len (offset + size) size count
+
+-- so many records from an offset on: more than the bytes could hold anywhere are refused as too many of these
+-- items, and else the first without room is refused
+unfoldable pub records_from : {R : Type 0} → ℕ → (List ℕ → R) → List ℕ → ℕ → ℕ → List ℕ → Result (List R) Refusal
+records_from size read bytes offset count items = do
+  _ ← refuse_if (nat_lt (length bytes / size) count) (buffer_too_short count items)
+  _ ← refuse_as misplaced (room_of_each (length bytes) offset size count)
+  Ok (records size read count (drop offset bytes))
