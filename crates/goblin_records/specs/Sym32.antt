@@ -1,0 +1,44 @@
+-- Symbols of the 32-bit class (System V gABI, "Symbol Table", Elf32_Sym).
+use Rattle.std.specs.Prelude.{◌≡◌, ◌↔◌, ◌%◌, ◌^◌, ℕ, List, [], ◌∷◌, length}
+use Rattle.goblin_base.specs.declared.container.Endian.{Endian}
+use Rattle.goblin_base.specs.Fields.{Field, field, image_of_fields}
+use Rattle.goblin_base.specs.Number.{IsBytes, number_at}
+use Rattle.goblin_records.specs.declared.sym32.Sym.{Sym}
+
+-- the symbol that bytes stand for: each field is the number at its place, of so many bytes
+abbrev pub sym32_of : Endian → List ℕ → Sym
+sym32_of order bytes = record {
+  st_name = number_at order bytes 0 4;
+  st_value = number_at order bytes 4 4;
+  st_size = number_at order bytes 8 4;
+  st_info = number_at order bytes 12 1;
+  st_other = number_at order bytes 13 1;
+  st_shndx = number_at order bytes 14 2;
+}
+
+-- the fields of a symbol in the order in which they lie, each with its width
+abbrev pub sym32_fields : Sym → List Field
+sym32_fields s =
+    field 4 s.st_name ∷ field 4 s.st_value ∷ field 4 s.st_size ∷ field 1 s.st_info ∷ field 1 s.st_other ∷ field 2 s.st_shndx ∷ []
+
+-- the bytes that a symbol is written as
+abbrev pub sym32_image : Endian → Sym → List ℕ
+sym32_image order s = image_of_fields order (sym32_fields s)
+
+-- the symbol with the low bits of each field, as many as its width holds
+abbrev pub sym32_low : Sym → Sym
+sym32_low s = record {
+  st_name = s.st_name % 256 ^ 4;
+  st_value = s.st_value % 256 ^ 4;
+  st_size = s.st_size % 256 ^ 4;
+  st_info = s.st_info % 256 ^ 1;
+  st_other = s.st_other % 256 ^ 1;
+  st_shndx = s.st_shndx % 256 ^ 2;
+}
+
+-- the image of a symbol is the one list of 16 bytes whose slice at each field's place stands for the low bits of
+-- that field
+abbrev pub OneImage : Type 0
+OneImage =
+    (order : Endian) (s : Sym) (bytes : List ℕ)
+    → (bytes ≡ sym32_image order s) ↔ (IsBytes bytes × (length bytes ≡ 16) × (sym32_of order bytes ≡ sym32_low s))

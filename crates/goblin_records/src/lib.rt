@@ -1,0 +1,6 @@
+//! The records of ELF tables: symbols of either class.
+#![tactic(auto)]
+
+pub mod sym;
+pub mod sym32;
+pub mod sym64;

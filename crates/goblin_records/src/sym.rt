@@ -1,0 +1,381 @@
+//! Symbols of either class: System V gABI, "Symbol Table".
+ghost use Rattle.std.specs.Prelude.{◌≡◌, ◌≤◌, ◌↔◌, ◌++◌, [], ◌∷◌, IsTrue, length, drop};
+ghost use Rattle.goblin_base.specs.Record.{and_size, read_within, Writes};
+ghost use Rattle.goblin_base.specs.Refusal.{Gives};
+ghost use Rattle.goblin_records.specs.Sym.{sym_size, sym_of, sym_image, symbols_from};
+ghost use Rattle.goblin_records.specs.Sym.{OneImage, SameInEachClass};
+ghost use Rattle.goblin_records.specs.SymParts.{bind_of, type_of, visibility_of};
+ghost use Rattle.goblin_records.specs.SymParts.{IsGlobalImport, IsImport};
+ghost use Rattle.goblin_records.specs.SymParts.{bind_name, type_name, visibility_name};
+
+pub use crate::{sym32, sym64};
+use goblin_base::container::{Container, Ctx};
+use goblin_base::error::Result;
+use goblin_base::names::name_of;
+use goblin_base::number::room;
+use goblin_base::record::Record;
+use goblin_base::scroll::{IntoCtx, SizeWith, TryFromCtx, TryIntoCtx};
+use goblin_base::table::read_all;
+use std::alloc::Global;
+
+// Bindings.
+
+/// A symbol that other files do not see.
+pub const STB_LOCAL: u8 = 0;
+/// A symbol that all files see.
+pub const STB_GLOBAL: u8 = 1;
+/// A global symbol that gives way to another definition.
+pub const STB_WEAK: u8 = 2;
+/// How many bindings the standard defines.
+pub const STB_NUM: u8 = 3;
+/// The first binding of operating systems.
+pub const STB_LOOS: u8 = 10;
+/// A symbol of which a process has one (GNU).
+pub const STB_GNU_UNIQUE: u8 = 10;
+/// The last binding of operating systems.
+pub const STB_HIOS: u8 = 12;
+/// The first binding of processors.
+pub const STB_LOPROC: u8 = 13;
+/// The last binding of processors.
+pub const STB_HIPROC: u8 = 15;
+
+// Types.
+
+/// No type is given.
+pub const STT_NOTYPE: u8 = 0;
+/// Data.
+pub const STT_OBJECT: u8 = 1;
+/// Code.
+pub const STT_FUNC: u8 = 2;
+/// A section.
+pub const STT_SECTION: u8 = 3;
+/// The name of a source file.
+pub const STT_FILE: u8 = 4;
+/// A block of data that is still to be placed.
+pub const STT_COMMON: u8 = 5;
+/// Data of which each thread has its own.
+pub const STT_TLS: u8 = 6;
+/// How many types the standard defines.
+pub const STT_NUM: u8 = 7;
+/// The first type of operating systems.
+pub const STT_LOOS: u8 = 10;
+/// Code that finds the function to call (GNU).
+pub const STT_GNU_IFUNC: u8 = 10;
+/// The last type of operating systems.
+pub const STT_HIOS: u8 = 12;
+/// The first type of processors.
+pub const STT_LOPROC: u8 = 13;
+/// The last type of processors.
+pub const STT_HIPROC: u8 = 15;
+
+// Visibilities.
+
+/// As the binding says.
+pub const STV_DEFAULT: u8 = 0;
+/// Hidden, with a meaning that processors may add.
+pub const STV_INTERNAL: u8 = 1;
+/// Not seen by other components.
+pub const STV_HIDDEN: u8 = 2;
+/// Seen by other components, which cannot replace it.
+pub const STV_PROTECTED: u8 = 3;
+/// Stays global whatever else is asked for.
+pub const STV_EXPORTED: u8 = 4;
+/// Stays global, and a process has one of it.
+pub const STV_SINGLETON: u8 = 5;
+/// Hidden, and written to no symbol table.
+pub const STV_ELIMINATE: u8 = 6;
+
+/// The binding: the high four bits of `st_info`.
+pub fn st_bind(info: u8) -> u8
+    ensures { result ≡ bind_of info }
+{
+    info >> 4
+}
+
+/// The type: the low four bits of `st_info`.
+pub fn st_type(info: u8) -> u8
+    ensures { result ≡ type_of info }
+{
+    info & 0xf
+}
+
+/// The visibility: the low three bits of `st_other`.
+pub fn st_visibility(other: u8) -> u8
+    ensures { result ≡ visibility_of other }
+{
+    other & 0x7
+}
+
+/// Whether a symbol with this `st_info` and value is global and has no value. Weak symbols are not
+/// counted here, but by the methods of the same name.
+pub fn is_import(info: u8, value: u64) -> bool
+    ensures { IsTrue result ↔ IsGlobalImport info value }
+{
+    st_bind(info) == STB_GLOBAL && value == 0
+}
+
+/// The name of the type in an `st_info`, as by `type_to_str`.
+pub fn get_type(info: u8) -> &'static str
+    ensures { result.now ≡ type_name (type_of info) }
+{
+    type_to_str(st_type(info))
+}
+
+// The names of bindings.
+static BINDS: [(u32, &str); 5] = [
+    (STB_LOCAL as u32, "LOCAL"),
+    (STB_GLOBAL as u32, "GLOBAL"),
+    (STB_WEAK as u32, "WEAK"),
+    (STB_NUM as u32, "NUM"),
+    (STB_GNU_UNIQUE as u32, "GNU_UNIQUE"),
+];
+
+/// The name of a binding without its prefix, or `UNKNOWN_STB`.
+#[tactic(auto, unfolding(crate::specs::SymParts::bind_name))]
+pub fn bind_to_str(typ: u8) -> &'static str
+    ensures { result.now ≡ bind_name typ }
+{
+    name_of(&BINDS, typ as u32, "UNKNOWN_STB")
+}
+
+// The names of types.
+static TYPES: [(u32, &str); 9] = [
+    (STT_NOTYPE as u32, "NOTYPE"),
+    (STT_OBJECT as u32, "OBJECT"),
+    (STT_FUNC as u32, "FUNC"),
+    (STT_SECTION as u32, "SECTION"),
+    (STT_FILE as u32, "FILE"),
+    (STT_COMMON as u32, "COMMON"),
+    (STT_TLS as u32, "TLS"),
+    (STT_NUM as u32, "NUM"),
+    (STT_GNU_IFUNC as u32, "GNU_IFUNC"),
+];
+
+/// The name of a type without its prefix, or `UNKNOWN_STT`.
+#[tactic(auto, unfolding(crate::specs::SymParts::type_name))]
+pub fn type_to_str(typ: u8) -> &'static str
+    ensures { result.now ≡ type_name typ }
+{
+    name_of(&TYPES, typ as u32, "UNKNOWN_STT")
+}
+
+// The names of visibilities.
+static VISIBILITIES: [(u32, &str); 7] = [
+    (STV_DEFAULT as u32, "DEFAULT"),
+    (STV_INTERNAL as u32, "INTERNAL"),
+    (STV_HIDDEN as u32, "HIDDEN"),
+    (STV_PROTECTED as u32, "PROTECTED"),
+    (STV_EXPORTED as u32, "EXPORTED"),
+    (STV_SINGLETON as u32, "SINGLETON"),
+    (STV_ELIMINATE as u32, "ELIMINATE"),
+];
+
+/// The name of a visibility without its prefix, or `UNKNOWN_STV`.
+#[tactic(auto, unfolding(crate::specs::SymParts::visibility_name))]
+pub fn visibility_to_str(typ: u8) -> &'static str
+    ensures { result.now ≡ visibility_name typ }
+{
+    name_of(&VISIBILITIES, typ as u32, "UNKNOWN_STV")
+}
+
+/// A symbol of either class.
+#[derive(Clone, Copy, Debug, Default, PartialEq)]
+pub struct Sym {
+    /// Where the name lies in the string table, in bytes; 0 for none.
+    pub st_name: usize,
+    /// The binding in the high four bits, and the type in the low four.
+    pub st_info: u8,
+    /// The visibility in the low three bits.
+    pub st_other: u8,
+    /// The index of the section that the symbol belongs to, or a special index.
+    pub st_shndx: usize,
+    /// The value, which is an address for most symbols.
+    pub st_value: u64,
+    /// How many bytes the symbol stands for; 0 for none or an unknown number.
+    pub st_size: u64,
+}
+
+impl Sym {
+    /// How many bytes a symbol of a class takes: 16 or 24.
+    pub fn size(container: Container) -> usize
+        ensures { result ≡ sym_size container }
+    {
+        match container {
+            Container::Little => sym32::SIZEOF_SYM,
+            Container::Big => sym64::SIZEOF_SYM,
+        }
+    }
+
+    /// Whether the symbol is imported: its binding is `STB_GLOBAL` or `STB_WEAK`, and its value 0.
+    pub fn is_import(&self) -> bool
+        ensures { IsTrue result ↔ IsImport self.now.st_info self.now.st_value }
+    {
+        let bind = self.st_bind();
+        (bind == STB_GLOBAL || bind == STB_WEAK) && self.st_value == 0
+    }
+
+    /// Whether the symbol is a function: its type is `STT_FUNC`.
+    pub fn is_function(&self) -> bool
+        ensures { IsTrue result ↔ (type_of self.now.st_info ≡ STT_FUNC) }
+    {
+        st_type(self.st_info) == STT_FUNC
+    }
+
+    /// The binding: the high four bits of `st_info`.
+    pub fn st_bind(&self) -> u8
+        ensures { result ≡ bind_of self.now.st_info }
+    {
+        st_bind(self.st_info)
+    }
+
+    /// The type: the low four bits of `st_info`.
+    pub fn st_type(&self) -> u8
+        ensures { result ≡ type_of self.now.st_info }
+    {
+        st_type(self.st_info)
+    }
+
+    /// The visibility: the low three bits of `st_other`.
+    pub fn st_visibility(&self) -> u8
+        ensures { result ≡ visibility_of self.now.st_other }
+    {
+        st_visibility(self.st_other)
+    }
+
+    /// The `count` symbols that lie one after another from an offset on, as a vector.
+    ///
+    /// More symbols than the bytes could hold anywhere are a `BufferTooShort`. Else memory is taken for
+    /// all of them at once, and the first symbol without room gives its fault. Where `count` is 0 the
+    /// list is empty, whatever the offset.
+    pub fn parse(
+        alloc: Global,
+        bytes: &[u8],
+        offset: usize,
+        count: usize,
+        ctx: Ctx,
+    ) -> Result<Vec<Sym>>
+        ensures { Gives (λ v. v.items) result (symbols_from bytes.now offset count ctx) }
+    {
+        read_all(alloc, bytes, offset, count, ctx, "symbols")
+    }
+
+    // The symbol at the start of the bytes.
+    fn at(bytes: &[u8], ctx: Ctx) -> Sym
+        requires { sym_size ctx.container ≤ length bytes.now }
+        ensures { result ≡ sym_of ctx.container ctx.le bytes.now }
+    {
+        match ctx.container {
+            Container::Little => sym32::Sym::at(bytes, ctx.le).into(),
+            Container::Big => sym64::Sym::at(bytes, ctx.le).into(),
+        }
+    }
+
+    // Puts the symbol at the start of the bytes.
+    fn put(self, bytes: &mut [u8], ctx: Ctx)
+        requires { sym_size ctx.container ≤ length bytes.old }
+        ensures { let image = sym_image ctx.container ctx.le self in
+            bytes.new ≡ image ++ drop (sym_size ctx.container) bytes.old }
+    {
+        match ctx.container {
+            Container::Little => sym32::Sym::from(self).put(bytes, ctx.le),
+            Container::Big => sym64::Sym::from(self).put(bytes, ctx.le),
+        }
+    }
+}
+
+impl SizeWith<Ctx> for Sym {
+    ghost size_of = { λ ctx. sym_size ctx.container };
+
+    fn size_with(ctx: &Ctx) -> usize {
+        Sym::size(ctx.container)
+    }
+}
+
+/// Refused is only what has no room.
+impl<'a> TryFromCtx<'a, Ctx> for Sym {
+    ghost try_from_gives = { λ bytes ctx answer.
+        let size = sym_size ctx.container in
+        answer ≡ and_size size (read_within size (sym_of ctx.container ctx.le) bytes) };
+
+    fn try_from_ctx(bytes: &'a [u8], ctx: Ctx) -> Result<(Self, usize)> {
+        let sym = Sym::read_record(bytes, ctx)?;
+        Ok((sym, Sym::size(ctx.container)))
+    }
+}
+
+/// Refused is only what has no room, and then no byte is written.
+impl TryIntoCtx<Ctx> for Sym {
+    ghost try_into_gives = { λ sym ctx old answer new.
+        Writes (sym_size ctx.container) (sym_image ctx.container ctx.le sym) old answer new };
+
+    #[tactic(auto, using(goblin_base::specs::RecordLaws::record_answers))]
+    fn try_into_ctx(self, bytes: &mut [u8], ctx: Ctx) -> Result<usize> {
+        let size = Sym::size(ctx.container);
+        room(bytes.len(), 0, size)?;
+        self.put(bytes, ctx);
+        Ok(size)
+    }
+}
+
+/// The buffer must have room for a symbol.
+impl IntoCtx<Ctx> for Sym {
+    ghost can_into = { λ _ ctx old. sym_size ctx.container ≤ length old };
+
+    ghost into_gives = { λ sym ctx old new.
+        new ≡ sym_image ctx.container ctx.le sym ++ drop (sym_size ctx.container) old };
+
+    fn into_ctx(self, bytes: &mut [u8], ctx: Ctx) {
+        self.put(bytes, ctx);
+    }
+}
+
+impl Record<Ctx> for Sym {
+    ghost use Rattle.goblin_records.specs.Sym.{SymFits};
+    ghost use Rattle.goblin_records.specs.SymLaws.{sym_size-positive, length-sym_image};
+    ghost use Rattle.goblin_records.specs.SymLaws.{sym_of-append, sym_of-image, image-sym_of};
+
+    ghost read = { λ ctx. sym_of ctx.container ctx.le };
+
+    ghost image = { λ ctx. sym_image ctx.container ctx.le };
+
+    ghost fits = { λ ctx. SymFits ctx.container };
+
+    #[tactic(auto, using(goblin_base::specs::RecordLaws::record_answers))]
+    fn read_record(bytes: &[u8], ctx: Ctx) -> Result<Self> {
+        room(bytes.len(), 0, Sym::size(ctx.container))?;
+        Ok(Sym::at(bytes, ctx))
+    }
+
+    ghost size_positive = { λ ctx. sym_size-positive ctx.container };
+
+    ghost length_image = { λ ctx. length-sym_image ctx.container ctx.le };
+
+    ghost writes_image = { λ ctx sym old new answer h. h };
+
+    ghost reads_front = { λ ctx. sym_of-append ctx.container ctx.le };
+
+    ghost reads_back = { λ ctx. sym_of-image ctx.container ctx.le };
+
+    ghost writes_back = { λ ctx. image-sym_of ctx.container ctx.le };
+}
+
+/// Laws: what the constants of this module stand for. A call does nothing.
+pub fn constants()
+    ensures bindings { STB_LOCAL ∷ STB_GLOBAL ∷ STB_WEAK ∷ STB_NUM ∷ STB_LOOS ∷ STB_GNU_UNIQUE ∷
+        STB_HIOS ∷ STB_LOPROC ∷ STB_HIPROC ∷ []
+        ≡ 0 ∷ 1 ∷ 2 ∷ 3 ∷ 10 ∷ 10 ∷ 12 ∷ 13 ∷ 15 ∷ [] }
+    ensures types { STT_NOTYPE ∷ STT_OBJECT ∷ STT_FUNC ∷ STT_SECTION ∷ STT_FILE ∷ STT_COMMON ∷
+        STT_TLS ∷ STT_NUM ∷ STT_LOOS ∷ STT_GNU_IFUNC ∷ STT_HIOS ∷ STT_LOPROC ∷ STT_HIPROC ∷
+        []
+        ≡ 0 ∷ 1 ∷ 2 ∷ 3 ∷ 4 ∷ 5 ∷ 6 ∷ 7 ∷ 10 ∷ 10 ∷ 12 ∷ 13 ∷ 15 ∷ [] }
+    ensures visibilities { STV_DEFAULT ∷ STV_INTERNAL ∷ STV_HIDDEN ∷ STV_PROTECTED ∷ STV_EXPORTED ∷
+        STV_SINGLETON ∷ STV_ELIMINATE ∷ []
+        ≡ 0 ∷ 1 ∷ 2 ∷ 3 ∷ 4 ∷ 5 ∷ 6 ∷ [] }
+{}
+
+/// Laws: which bytes a symbol is written as, and that classes and byte orders keep lists of symbols
+/// the same. A call does nothing.
+pub fn laws()
+    ensures image { OneImage }
+    ensures same { SameInEachClass }
+{}

@@ -1,0 +1,189 @@
+//! Symbols of the 32-bit class: System V gABI, "Symbol Table" (`Elf32_Sym`).
+ghost use Rattle.std.specs.Prelude.{◌≡◌, ◌≤◌, ◌↔◌, ◌++◌, IsTrue, length, drop};
+ghost use Rattle.goblin_base.specs.Record.{and_size, read_within, Writes};
+ghost use Rattle.goblin_records.specs.Sym32.{sym32_of, sym32_image, OneImage};
+ghost use Rattle.goblin_records.specs.SymParts.{type_of, IsImport};
+
+use crate::sym::Sym as ElfSym;
+pub use crate::sym::{
+    STB_GLOBAL, STB_GNU_UNIQUE, STB_HIOS, STB_HIPROC, STB_LOCAL, STB_LOOS, STB_LOPROC, STB_NUM,
+    STB_WEAK, STT_COMMON, STT_FILE, STT_FUNC, STT_GNU_IFUNC, STT_HIOS, STT_HIPROC, STT_LOOS,
+    STT_LOPROC, STT_NOTYPE, STT_NUM, STT_OBJECT, STT_SECTION, STT_TLS, STV_DEFAULT, STV_ELIMINATE,
+    STV_EXPORTED, STV_HIDDEN, STV_INTERNAL, STV_PROTECTED, STV_SINGLETON, bind_to_str, get_type,
+    is_import, st_bind, st_type, st_visibility, type_to_str, visibility_to_str,
+};
+use goblin_base::container::Endian;
+use goblin_base::error::Result;
+use goblin_base::number::{get_u8, get_u16, get_u32, put_u8, put_u16, put_u32, room};
+use goblin_base::record::Record;
+use goblin_base::scroll::{SizeWith, TryFromCtx, TryIntoCtx};
+
+/// A symbol of the 32-bit class.
+#[derive(Clone, Copy, Debug, Default, PartialEq)]
+pub struct Sym {
+    /// Where the name lies in the string table, in bytes; 0 for none.
+    pub st_name: u32,
+    /// The value, which is an address for most symbols.
+    pub st_value: u32,
+    /// How many bytes the symbol stands for; 0 for none or an unknown number.
+    pub st_size: u32,
+    /// The binding in the high four bits, and the type in the low four.
+    pub st_info: u8,
+    /// The visibility in the low three bits.
+    pub st_other: u8,
+    /// The index of the section that the symbol belongs to, or a special index.
+    pub st_shndx: u16,
+}
+
+/// How many bytes a symbol takes.
+pub const SIZEOF_SYM: usize = 4 + 4 + 4 + 1 + 1 + 2;
+
+impl Sym {
+    /// Whether the symbol is imported: its binding is `STB_GLOBAL` or `STB_WEAK`, and its value 0.
+    pub fn is_import(&self) -> bool
+        ensures { IsTrue result ↔ IsImport self.now.st_info self.now.st_value }
+    {
+        let bind = st_bind(self.st_info);
+        (bind == STB_GLOBAL || bind == STB_WEAK) && self.st_value == 0
+    }
+
+    /// Whether the symbol is a function: its type is `STT_FUNC`.
+    pub fn is_function(&self) -> bool
+        ensures { IsTrue result ↔ (type_of self.now.st_info ≡ STT_FUNC) }
+    {
+        st_type(self.st_info) == STT_FUNC
+    }
+
+    // The symbol at the start of the bytes.
+    pub(crate) fn at(bytes: &[u8], order: Endian) -> Sym
+        requires { SIZEOF_SYM ≤ length bytes.now }
+        ensures { result ≡ sym32_of order bytes.now }
+    {
+        Sym {
+            st_name: get_u32(bytes, 0, order),
+            st_value: get_u32(bytes, 4, order),
+            st_size: get_u32(bytes, 8, order),
+            st_info: get_u8(bytes, 12, order),
+            st_other: get_u8(bytes, 13, order),
+            st_shndx: get_u16(bytes, 14, order),
+        }
+    }
+
+    // Puts the symbol at the start of the bytes.
+    pub(crate) fn put(&self, bytes: &mut [u8], order: Endian)
+        requires { SIZEOF_SYM ≤ length bytes.old }
+        ensures { bytes.new ≡ sym32_image order self.now ++ drop SIZEOF_SYM bytes.old }
+    {
+        put_u32(bytes, 0, self.st_name, order);
+        put_u32(bytes, 4, self.st_value, order);
+        put_u32(bytes, 8, self.st_size, order);
+        put_u8(bytes, 12, self.st_info, order);
+        put_u8(bytes, 13, self.st_other, order);
+        put_u16(bytes, 14, self.st_shndx, order);
+    }
+}
+
+impl From<Sym> for ElfSym {
+    ghost use Rattle.goblin_records.specs.Sym.{widened32};
+
+    ghost from_gives = { λ raw sym. sym ≡ widened32 raw };
+
+    fn from(sym: Sym) -> Self {
+        ElfSym {
+            st_name: sym.st_name as usize,
+            st_info: sym.st_info,
+            st_other: sym.st_other,
+            st_shndx: sym.st_shndx as usize,
+            st_value: u64::from(sym.st_value),
+            st_size: u64::from(sym.st_size),
+        }
+    }
+}
+
+/// Of each field the low bits are kept, as many as it has room for.
+impl From<ElfSym> for Sym {
+    ghost use Rattle.goblin_records.specs.Sym.{as32};
+    ghost use Rattle.goblin_records.specs.Sym32.{sym32_low};
+
+    ghost from_gives = { λ sym raw. raw ≡ sym32_low (as32 sym) };
+
+    fn from(sym: ElfSym) -> Self {
+        Sym {
+            st_name: (sym.st_name % 0x1_0000_0000) as u32,
+            st_value: (sym.st_value % 0x1_0000_0000) as u32,
+            st_size: (sym.st_size % 0x1_0000_0000) as u32,
+            st_info: sym.st_info,
+            st_other: sym.st_other,
+            st_shndx: (sym.st_shndx % 0x1_0000) as u16,
+        }
+    }
+}
+
+impl SizeWith<Endian> for Sym {
+    ghost size_of = { λ _. 16 };
+
+    fn size_with(_order: &Endian) -> usize {
+        SIZEOF_SYM
+    }
+}
+
+/// Refused is only what has no room.
+impl<'a> TryFromCtx<'a, Endian> for Sym {
+    ghost try_from_gives = { λ bytes order answer.
+        answer ≡ and_size 16 (read_within 16 (sym32_of order) bytes) };
+
+    fn try_from_ctx(bytes: &'a [u8], order: Endian) -> Result<(Self, usize)> {
+        let sym = Sym::read_record(bytes, order)?;
+        Ok((sym, SIZEOF_SYM))
+    }
+}
+
+/// Refused is only what has no room, and then no byte is written.
+impl TryIntoCtx<Endian> for Sym {
+    ghost try_into_gives = { λ sym order old answer new.
+        Writes 16 (sym32_image order sym) old answer new };
+
+    #[tactic(auto, using(goblin_base::specs::RecordLaws::record_answers))]
+    fn try_into_ctx(self, bytes: &mut [u8], order: Endian) -> Result<usize> {
+        room(bytes.len(), 0, SIZEOF_SYM)?;
+        self.put(bytes, order);
+        Ok(SIZEOF_SYM)
+    }
+}
+
+impl Record<Endian> for Sym {
+    ghost use Rattle.goblin_base.specs.Fields.{FieldsFit};
+    ghost use Rattle.goblin_records.specs.Sym32.{sym32_fields};
+    ghost use Rattle.goblin_records.specs.Sym32Laws.{positive, length-image, sym32_of-append};
+    ghost use Rattle.goblin_records.specs.Sym32Laws.{sym32_of-image, image-sym32_of};
+
+    ghost read = { sym32_of };
+
+    ghost image = { sym32_image };
+
+    ghost fits = { λ _ sym. FieldsFit (sym32_fields sym) };
+
+    #[tactic(auto, using(goblin_base::specs::RecordLaws::record_answers))]
+    fn read_record(bytes: &[u8], order: Endian) -> Result<Self> {
+        room(bytes.len(), 0, SIZEOF_SYM)?;
+        Ok(Sym::at(bytes, order))
+    }
+
+    ghost size_positive = { λ _. positive };
+
+    ghost length_image = { length-image };
+
+    ghost writes_image = { λ order sym old new answer h. h };
+
+    ghost reads_front = { sym32_of-append };
+
+    ghost reads_back = { sym32_of-image };
+
+    ghost writes_back = { image-sym32_of };
+}
+
+/// Laws: how many bytes a symbol takes, and which they are. A call does nothing.
+pub fn laws()
+    ensures size { SIZEOF_SYM ≡ 16 }
+    ensures image { OneImage }
+{}
