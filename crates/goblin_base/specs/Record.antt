@@ -14,11 +14,6 @@ unless_fault (Err e) x = Err (Scroll e)
 unfoldable pub read_within : {X : Type 0} → ℕ → (List ℕ → X) → List ℕ → Result X Error
 read_within size read bytes = unless_fault (room_of (length bytes) 0 size) (read bytes)
 
--- a value and how many bytes it took, where there is one
-abbrev pub and_size : {X : Type 0} → ℕ → Result X Error → Result (X × ℕ) Error
-and_size size (Ok x) = Ok (x, size)
-and_size size (Err e) = Err e
-
 -- where there is room, the image stands in front, the other bytes are as they were, and the answer is the size;
 -- else nothing has changed, and the answer is the fault
 abbrev pub WritesUnless : Result (Unit {0}) Fault → ℕ → List ℕ → List ℕ → Result ℕ Error → List ℕ → Type 0

@@ -22,19 +22,47 @@ sym_size Big = 24
 
 -- the symbol with the fields of one of the 32-bit class
 abbrev pub widened32 : Sym32 → Sym
-widened32 s = record { st_name = s.st_name; st_info = s.st_info; st_other = s.st_other; st_shndx = s.st_shndx; st_value = s.st_value; st_size = s.st_size }
+widened32 s = record {
+  st_name = s.st_name;
+  st_info = s.st_info;
+  st_other = s.st_other;
+  st_shndx = s.st_shndx;
+  st_value = s.st_value;
+  st_size = s.st_size;
+}
 
 -- the symbol with the fields of one of the 64-bit class
 abbrev pub widened64 : Sym64 → Sym
-widened64 s = record { st_name = s.st_name; st_info = s.st_info; st_other = s.st_other; st_shndx = s.st_shndx; st_value = s.st_value; st_size = s.st_size }
+widened64 s = record {
+  st_name = s.st_name;
+  st_info = s.st_info;
+  st_other = s.st_other;
+  st_shndx = s.st_shndx;
+  st_value = s.st_value;
+  st_size = s.st_size;
+}
 
 -- the symbol of the 32-bit class with the same fields, whether they fit it or not
 abbrev pub as32 : Sym → Sym32
-as32 s = record { st_name = s.st_name; st_value = s.st_value; st_size = s.st_size; st_info = s.st_info; st_other = s.st_other; st_shndx = s.st_shndx }
+as32 s = record {
+  st_name = s.st_name;
+  st_value = s.st_value;
+  st_size = s.st_size;
+  st_info = s.st_info;
+  st_other = s.st_other;
+  st_shndx = s.st_shndx;
+}
 
 -- the symbol of the 64-bit class with the same fields, whether they fit it or not
 abbrev pub as64 : Sym → Sym64
-as64 s = record { st_name = s.st_name; st_info = s.st_info; st_other = s.st_other; st_shndx = s.st_shndx; st_value = s.st_value; st_size = s.st_size }
+as64 s = record {
+  st_name = s.st_name;
+  st_info = s.st_info;
+  st_other = s.st_other;
+  st_shndx = s.st_shndx;
+  st_value = s.st_value;
+  st_size = s.st_size;
+}
 
 -- the symbol that bytes stand for in a class
 abbrev pub sym_of : Container → Endian → List ℕ → Sym
@@ -70,7 +98,8 @@ symbols_from bytes offset count ctx =
 abbrev pub OneImage : Type 0
 OneImage =
     (class : Container) (order : Endian) (s : Sym) (bytes : List ℕ)
-    → (bytes ≡ sym_image class order s) ↔ (IsBytes bytes × (length bytes ≡ sym_size class) × (sym_of class order bytes ≡ sym_low class s))
+    → (bytes ≡ sym_image class order s)
+    ↔ (IsBytes bytes × (length bytes ≡ sym_size class) × (sym_of class order bytes ≡ sym_low class s))
 
 -- symbols that fit both classes, written one after another in either class and order, are read in that class and
 -- order as the same symbols

@@ -19,7 +19,8 @@ sym32_of order bytes = record {
 -- the fields of a symbol in the order in which they lie, each with its width
 abbrev pub sym32_fields : Sym → List Field
 sym32_fields s =
-    field 4 s.st_name ∷ field 4 s.st_value ∷ field 4 s.st_size ∷ field 1 s.st_info ∷ field 1 s.st_other ∷ field 2 s.st_shndx ∷ []
+    field 4 s.st_name ∷ field 4 s.st_value ∷ field 4 s.st_size ∷ field 1 s.st_info
+    ∷ field 1 s.st_other ∷ field 2 s.st_shndx ∷ []
 
 -- the bytes that a symbol is written as
 abbrev pub sym32_image : Endian → Sym → List ℕ
@@ -41,4 +42,5 @@ sym32_low s = record {
 abbrev pub OneImage : Type 0
 OneImage =
     (order : Endian) (s : Sym) (bytes : List ℕ)
-    → (bytes ≡ sym32_image order s) ↔ (IsBytes bytes × (length bytes ≡ 16) × (sym32_of order bytes ≡ sym32_low s))
+    → (bytes ≡ sym32_image order s)
+    ↔ (IsBytes bytes × (length bytes ≡ 16) × (sym32_of order bytes ≡ sym32_low s))

@@ -19,7 +19,8 @@ sym64_of order bytes = record {
 -- the fields of a symbol in the order in which they lie, each with its width
 abbrev pub sym64_fields : Sym → List Field
 sym64_fields s =
-    field 4 s.st_name ∷ field 1 s.st_info ∷ field 1 s.st_other ∷ field 2 s.st_shndx ∷ field 8 s.st_value ∷ field 8 s.st_size ∷ []
+    field 4 s.st_name ∷ field 1 s.st_info ∷ field 1 s.st_other ∷ field 2 s.st_shndx
+    ∷ field 8 s.st_value ∷ field 8 s.st_size ∷ []
 
 -- the bytes that a symbol is written as
 abbrev pub sym64_image : Endian → Sym → List ℕ
@@ -41,4 +42,5 @@ sym64_low s = record {
 abbrev pub OneImage : Type 0
 OneImage =
     (order : Endian) (s : Sym) (bytes : List ℕ)
-    → (bytes ≡ sym64_image order s) ↔ (IsBytes bytes × (length bytes ≡ 24) × (sym64_of order bytes ≡ sym64_low s))
+    → (bytes ≡ sym64_image order s)
+    ↔ (IsBytes bytes × (length bytes ≡ 24) × (sym64_of order bytes ≡ sym64_low s))

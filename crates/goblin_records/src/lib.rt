@@ -4,3 +4,5 @@
 pub mod sym;
 pub mod sym32;
 pub mod sym64;
+#[cfg(test)]
+mod tests;

@@ -1,6 +1,7 @@
 //! Symbols of either class: System V gABI, "Symbol Table".
 ghost use Rattle.std.specs.Prelude.{◌≡◌, ◌≤◌, ◌↔◌, ◌++◌, [], ◌∷◌, IsTrue, length, drop};
-ghost use Rattle.goblin_base.specs.Record.{and_size, read_within, Writes};
+ghost use Rattle.goblin_base.specs.Record.{read_within, Writes};
+ghost use Rattle.goblin_base.specs.Steps.{with_size};
 ghost use Rattle.goblin_base.specs.Refusal.{Gives};
 ghost use Rattle.goblin_records.specs.Sym.{sym_size, sym_of, sym_image, symbols_from};
 ghost use Rattle.goblin_records.specs.Sym.{OneImage, SameInEachClass};
@@ -295,7 +296,7 @@ impl SizeWith<Ctx> for Sym {
 impl<'a> TryFromCtx<'a, Ctx> for Sym {
     ghost try_from_gives = { λ bytes ctx answer.
         let size = sym_size ctx.container in
-        answer ≡ and_size size (read_within size (sym_of ctx.container ctx.le) bytes) };
+        answer ≡ with_size size (read_within size (sym_of ctx.container ctx.le) bytes) };
 
     fn try_from_ctx(bytes: &'a [u8], ctx: Ctx) -> Result<(Self, usize)> {
         let sym = Sym::read_record(bytes, ctx)?;

@@ -1,6 +1,7 @@
 //! Symbols of the 64-bit class: System V gABI, "Symbol Table" (`Elf64_Sym`).
 ghost use Rattle.std.specs.Prelude.{◌≡◌, ◌≤◌, ◌↔◌, ◌++◌, IsTrue, length, drop};
-ghost use Rattle.goblin_base.specs.Record.{and_size, read_within, Writes};
+ghost use Rattle.goblin_base.specs.Record.{read_within, Writes};
+ghost use Rattle.goblin_base.specs.Steps.{with_size};
 ghost use Rattle.goblin_records.specs.Sym64.{sym64_of, sym64_image, OneImage};
 ghost use Rattle.goblin_records.specs.SymParts.{type_of, IsImport};
 
@@ -132,7 +133,7 @@ impl SizeWith<Endian> for Sym {
 /// Refused is only what has no room.
 impl<'a> TryFromCtx<'a, Endian> for Sym {
     ghost try_from_gives = { λ bytes order answer.
-        answer ≡ and_size 24 (read_within 24 (sym64_of order) bytes) };
+        answer ≡ with_size 24 (read_within 24 (sym64_of order) bytes) };
 
     fn try_from_ctx(bytes: &'a [u8], order: Endian) -> Result<(Self, usize)> {
         let sym = Sym::read_record(bytes, order)?;
