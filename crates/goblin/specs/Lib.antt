@@ -4,3 +4,6 @@ pub use Rattle.goblin_base.specs.Texts
 pub use Rattle.goblin_headers.specs.Machines
 pub use Rattle.goblin_headers.specs.Names
 pub use Rattle.goblin_headers.specs.ReadHeader
+pub use Rattle.goblin_records.specs.Sym
+pub use Rattle.goblin_records.specs.SymParts
+pub mod Symtab

@@ -1,2 +1,3 @@
 //! The records of 32-bit ELF files, under the same names as in `elf64`.
 pub use goblin_headers::header32 as header;
+pub use goblin_records::sym32 as sym;

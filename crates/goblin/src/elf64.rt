@@ -1,2 +1,3 @@
 //! The records of 64-bit ELF files, under the same names as in `elf32`.
 pub use goblin_headers::header64 as header;
+pub use goblin_records::sym64 as sym;

@@ -1,0 +1,200 @@
+//! Symbols and symbol tables: System V gABI, "Symbol Table".
+ghost use Rattle.std.specs.Prelude.{◌≡◌, ◌↔◌, [], length, slice_get, IsTrue, IfOk, IfErr};
+ghost use Rattle.std.specs.Prelude.{IfSome, alloc_error};
+ghost use Rattle.std.specs.Iterator.{UpTo, YieldsFirst, item_count};
+ghost use Rattle.std.specs.Iterator.SizeHint.{IsWithinCount};
+ghost use Rattle.goblin.specs.Symtab.{symtab_of};
+
+use goblin_base::container::Ctx;
+use goblin_base::error::{Error, Fault, Result};
+use goblin_base::table::{Table, TableIter};
+pub use goblin_records::sym::{
+    STB_GLOBAL, STB_GNU_UNIQUE, STB_HIOS, STB_HIPROC, STB_LOCAL, STB_LOOS, STB_LOPROC, STB_NUM,
+    STB_WEAK, STT_COMMON, STT_FILE, STT_FUNC, STT_GNU_IFUNC, STT_HIOS, STT_HIPROC, STT_LOOS,
+    STT_LOPROC, STT_NOTYPE, STT_NUM, STT_OBJECT, STT_SECTION, STT_TLS, STV_DEFAULT, STV_ELIMINATE,
+    STV_EXPORTED, STV_HIDDEN, STV_INTERNAL, STV_PROTECTED, STV_SINGLETON, Sym, bind_to_str,
+    get_type, is_import, st_bind, st_type, st_visibility, sym32, sym64, type_to_str,
+    visibility_to_str,
+};
+use std::alloc::Global;
+use std::marker::Model;
+
+/// A symbol table, whose symbols are read from the file's bytes as they are asked for.
+///
+/// It takes no memory, and what it gives outlives it.
+#[derive(Debug, Drop)]
+pub struct Symtab<'a> {
+    table: Table<'a, Sym, Ctx>,
+    offset: usize,
+    ctx: Ctx,
+}
+
+// A symbol table is seen as its symbols, with the offset and the context that it was parsed with.
+impl<'a> Model for Symtab<'a> {
+    ghost use Rattle.goblin.specs.Symtab.{Symbols};
+
+    ghost Value = { Symbols };
+
+    ghost view = { λ t. record { symbols = t.table; offset = t.offset; ctx = t.ctx } };
+}
+
+impl<'a> Symtab<'a> {
+    /// The table of `count` symbols that lie one after another from an offset on.
+    ///
+    /// An offset at the file's end or past it is a `SymtabOffset`, even where `count` is 0. Else a size
+    /// of all symbols that passes `usize` is `TooManySymbols`. Else more bytes than there are from the
+    /// offset on are `SymtabPast`.
+    pub fn parse(bytes: &'a [u8], offset: usize, count: usize, ctx: Ctx) -> Result<Symtab<'a>>
+        ensures { result ≡ symtab_of bytes.now offset count ctx }
+    {
+        if offset >= bytes.len() {
+            return Err(Error::Malformed(Fault::SymtabOffset {
+                offset,
+                len: bytes.len(),
+            }));
+        }
+        let Some(requested) = count.checked_mul(Sym::size(ctx.container)) else {
+            return Err(Error::Malformed(Fault::TooManySymbols { offset, count }));
+        };
+        let available = bytes.len() - offset;
+        if requested > available {
+            return Err(Error::Malformed(Fault::SymtabPast {
+                requested,
+                available,
+            }));
+        }
+        Ok(Symtab {
+            table: Table::of(&bytes[offset..], count, ctx),
+            offset,
+            ctx,
+        })
+    }
+
+    /// The symbol at an index, or `None` from `len()` on.
+    pub fn get(&self, index: usize) -> Option<Sym>
+        ensures { result ≡ slice_get self.now.symbols index }
+    {
+        self.table.get(index)
+    }
+
+    /// How many symbols there are.
+    pub fn len(&self) -> usize
+        ensures { result ≡ length self.now.symbols }
+    {
+        self.table.len()
+    }
+
+    /// Where the table starts, in bytes from the file's start.
+    pub fn offset(&self) -> usize
+        ensures { result ≡ self.now.offset }
+    {
+        self.offset
+    }
+
+    /// The class and the byte order of the symbols.
+    pub fn ctx(&self) -> &Ctx
+        ensures { result.now ≡ self.now.ctx }
+    {
+        &self.ctx
+    }
+
+    /// Whether there are no symbols.
+    pub fn is_empty(&self) -> bool
+        ensures { IsTrue result ↔ (self.now.symbols ≡ []) }
+    {
+        self.table.is_empty()
+    }
+
+    /// An iterator over the symbols, from the first one on.
+    pub fn iter(&self) -> SymIterator<'a>
+        ensures { result ≡ self.now.symbols }
+    {
+        SymIterator {
+            inner: self.table.iter(),
+        }
+    }
+
+    /// The symbols as a vector. Only want of memory is an error.
+    pub fn to_vec(&self, alloc: Global) -> Result<Vec<Sym>>
+        ensures ok { IfOk result (λ v. v.items ≡ self.now.symbols) }
+        ensures err { IfErr result (λ e. e ≡ Error.Memory alloc_error) }
+    {
+        self.table.to_vec(alloc)
+    }
+}
+
+/// The table of no symbols at offset 0, in the default context.
+impl Default for Symtab<'_> {
+    ghost use Rattle.goblin_base.specs.declared.container.Container.TheVariants as class;
+    ghost use Rattle.goblin_base.specs.declared.container.Endian.TheVariants as order;
+
+    ghost is_default = { λ t. t ≡ record {
+      symbols = [];
+      offset = 0;
+      ctx = record { container = class.Big; le = order.Little };
+    } };
+
+    #[tactic(auto, unfolding(goblin_base::specs::Table::records))]
+    fn default() -> Self {
+        Symtab {
+            table: Table::of(&[], 0, Ctx::default()),
+            offset: 0,
+            ctx: Ctx::default(),
+        }
+    }
+}
+
+impl<'a, 'b> IntoIterator for &'b Symtab<'a> {
+    type Item = Sym;
+
+    type IntoIter = SymIterator<'a>;
+
+    ghost into_iter_gives = { λ t symbols. symbols ≡ t.now.symbols };
+
+    fn into_iter(self) -> Self::IntoIter {
+        self.iter()
+    }
+}
+
+/// An iterator over the symbols of a table: from the first to the last, and `None` from then on.
+#[derive(Debug, Drop)]
+pub struct SymIterator<'a> {
+    inner: TableIter<'a, Sym, Ctx>,
+}
+
+// An iterator is seen as the list of the symbols that are left.
+impl<'a> Model for SymIterator<'a> {
+    ghost use Rattle.std.specs.Prelude.{List};
+    ghost use Rattle.goblin_records.specs.declared.sym.Sym.{Sym};
+
+    ghost Value = { List Sym };
+
+    ghost view = { λ it. it.inner };
+}
+
+impl<'a> Iterator for SymIterator<'a> {
+    type Item = Sym;
+
+    ghost next_gives = { YieldsFirst (λ left. left) };
+
+    ghost remaining = { item_count (λ left. left) };
+
+    fn next(&mut self) -> Option<Self::Item> {
+        self.inner.next()
+    }
+
+    fn size_hint(&self) -> (usize, Option<usize>)
+        ensures lower { IsWithinCount result.0 (item_count (λ left. left) self.now) }
+        ensures upper { IfSome result.1 (UpTo (item_count (λ left. left) self.now)) }
+        // Both bounds are the number of symbols that are left.
+        ensures exact { result ≡ (length self.now, Some (length self.now)) }
+    {
+        self.inner.size_hint()
+    }
+}
+
+impl<'a> ExactSizeIterator for SymIterator<'a> {
+    fn len(&self) -> usize {
+        self.inner.len()
+    }
+}
