@@ -79,7 +79,8 @@ pub fn put_u8(bytes: &mut [u8], place: usize, value: u8, order: Endian)
     ensures { bytes.new ≡ with_number order bytes.old place 1 value }
 {
     let _ = order;
-    bytes[place] = value;
+    let byte = &mut bytes[place];
+    *byte = value;
 }
 
 /// Puts a number into the two bytes at a place. All other bytes stay.

@@ -2,7 +2,9 @@
 use crate::container::{BE, CONTAINER, Container, Ctx, Endian, LE, constants};
 use crate::error::{Error, Fault};
 use crate::names::name_of;
-use crate::number::{get_u16, get_u32, get_u64, room};
+use crate::number::{
+    get_u8, get_u16, get_u32, get_u64, put_u8, put_u16, put_u32, put_u64, room, spellings,
+};
 use crate::options::{ParseMode, ParseOptions};
 use crate::scroll;
 use std::alloc::{AllocError, AllocFailed};
@@ -180,6 +182,30 @@ fn reads_numbers(rt: HostRuntime) {
     assert_eq!(rt; get_u32(&bytes, 1, BE), 0x01020304);
     assert_eq!(rt; get_u64(&bytes, 1, LE), 0x0807060504030201);
     assert_eq!(rt; get_u64(&bytes, 1, BE), 0x0102030405060708);
+}
+
+#[test]
+fn puts_numbers(rt: HostRuntime) {
+    spellings();
+    let mut little = [0xff; 10];
+    put_u64(&mut little, 1, 0x0102030405060708, LE);
+    assert_eq!(rt; little, [0xff, 8, 7, 6, 5, 4, 3, 2, 1, 0xff]);
+    put_u32(&mut little, 1, 0x11121314, LE);
+    assert_eq!(rt; little, [0xff, 0x14, 0x13, 0x12, 0x11, 4, 3, 2, 1, 0xff]);
+    put_u16(&mut little, 1, 0x2122, LE);
+    put_u8(&mut little, 9, 0x31, LE);
+    assert_eq!(rt; little, [0xff, 0x22, 0x21, 0x12, 0x11, 4, 3, 2, 1, 0x31]);
+    assert_eq!(rt; get_u8(&little, 9, LE), 0x31);
+
+    let mut big = [0xff; 10];
+    put_u64(&mut big, 1, 0x0102030405060708, BE);
+    assert_eq!(rt; big, [0xff, 1, 2, 3, 4, 5, 6, 7, 8, 0xff]);
+    put_u32(&mut big, 1, 0x11121314, BE);
+    assert_eq!(rt; big, [0xff, 0x11, 0x12, 0x13, 0x14, 5, 6, 7, 8, 0xff]);
+    put_u16(&mut big, 1, 0x2122, BE);
+    put_u8(&mut big, 9, 0x31, BE);
+    assert_eq!(rt; big, [0xff, 0x21, 0x22, 0x13, 0x14, 5, 6, 7, 8, 0x31]);
+    assert_eq!(rt; get_u8(&big, 9, BE), 0x31);
 }
 
 #[test]

@@ -5,9 +5,8 @@ use crate::sym::{
     st_visibility, type_to_str, visibility_to_str,
 };
 use crate::{sym, sym32, sym64};
-use goblin_base::container::{BE, Container, Ctx, Endian, LE};
+use goblin_base::container::{BE, Container, Ctx, LE};
 use goblin_base::error::Result as Answer;
-use goblin_base::record::Record;
 use goblin_base::scroll::{IntoCtx, SizeWith, TryFromCtx, TryIntoCtx};
 use goblin_base::table::Table;
 use std::alloc::{AllocError, Global};
@@ -81,30 +80,41 @@ fn functions() -> [(Ctx, &'static str); 4] {
 }
 
 #[test]
-fn reads_and_writes_a_symbol(rt: HostRuntime) -> Result<(), Fail> {
+fn reads_a_symbol(rt: HostRuntime) -> Result<(), Fail> {
     for (ctx, text) in functions() {
         let bytes = bytes_of(rt.alloc(), text)?;
-        let size = Sym::size(ctx.container);
-        assert_eq!(rt; bytes.len(), size, "{text}");
-        assert_eq!(rt; Sym::size_with(&ctx), size, "{text}");
-
-        let (symbol, read) = Sym::try_from_ctx(bytes.as_slice(), ctx)?;
+        let (symbol, size) = Sym::try_from_ctx(bytes.as_slice(), ctx)?;
         assert_eq!(rt; symbol, function(), "{text}");
-        assert_eq!(rt; read, size, "{text}");
-        assert_eq!(rt; Sym::read_record(bytes.as_slice(), ctx)?, symbol, "{text}");
+        assert_eq!(rt; size, bytes.len(), "{text}");
+        assert_eq!(rt; Sym::size_with(&ctx), size, "{text}");
+    }
+    Ok(())
+}
 
+#[test]
+fn writes_a_symbol(rt: HostRuntime) -> Result<(), Fail> {
+    for (ctx, text) in functions() {
+        let bytes = bytes_of(rt.alloc(), text)?;
         let mut written = [0xaa; 25];
-        assert_eq!(rt; symbol.try_into_ctx(&mut written, ctx)?, size, "{text}");
-        assert_eq!(rt; &written[..size], bytes.as_slice(), "{text}");
-        assert_eq!(rt; written[size], 0xaa, "{text}");
-
-        let mut again = [0xaa; 25];
-        symbol.into_ctx(&mut again, ctx);
-        assert_eq!(rt; again, written, "{text}");
-
-        let all = Sym::parse(rt.alloc(), &written[..size], 0, 1, ctx)?;
+        let size = function().try_into_ctx(&mut written, ctx)?;
+        assert_eq!(rt; size, Sym::size(ctx.container), "{text}");
+        assert!(rt; written.starts_with(bytes.as_slice()), "{text}");
+        assert_eq!(rt; written[24], 0xaa, "{text}");
+        let all = Sym::parse(rt.alloc(), &written, 0, 1, ctx)?;
         assert_eq!(rt; all.as_slice(), [function()].as_slice(), "{text}");
     }
+    Ok(())
+}
+
+#[test]
+fn writes_where_there_is_room(rt: HostRuntime) -> Result<(), Fail> {
+    let mut bytes = [0xaa; 25];
+    function().into_ctx(&mut bytes, Ctx::new(Container::Big, BE));
+    let want = bytes_of(
+        rt.alloc(),
+        "00000001 12 00 0005 0000000000001000 0000000000000020 AA",
+    )?;
+    assert_eq!(rt; bytes.as_slice(), want.as_slice());
     Ok(())
 }
 
@@ -185,31 +195,20 @@ fn writes_the_low_bits(rt: HostRuntime) -> Result<(), Fail> {
 
 #[test]
 fn refuses_and_changes_nothing(rt: HostRuntime) -> Result<(), Fail> {
-    for (ctx, text) in functions() {
-        let size = Sym::size(ctx.container);
-        let mut short = [0xaa; 25];
-        let want = format!(in rt.alloc(); "type is too big ({size}) for {}", size - 1)?;
-        let answer = function().try_into_ctx(&mut short[..size - 1], ctx);
-        assert_eq!(rt; told(rt.alloc(), answer)?.as_str(), want.as_str(), "{text}");
-        assert_eq!(rt; short, [0xaa; 25], "{text}");
-        let answer = Sym::try_from_ctx(&short[..size - 1], ctx);
-        assert_eq!(rt; told(rt.alloc(), answer)?.as_str(), want.as_str(), "{text}");
-        let answer = Sym::try_from_ctx(&[], ctx);
-        assert_eq!(rt;
-            told(rt.alloc(), answer)?.as_str(),
-            "bad offset 0",
-            "{text}"
-        );
+    let table = [
+        (Container::Little, 15, "type is too big (16) for 15"),
+        (Container::Big, 23, "type is too big (24) for 23"),
+        (Container::Big, 0, "bad offset 0"),
+    ];
+    for (class, len, want) in table {
+        let ctx = Ctx::new(class, BE);
+        let mut bytes = [0xaa; 24];
+        let refused = told(rt.alloc(), function().try_into_ctx(&mut bytes[..len], ctx))?;
+        assert_eq!(rt; refused.as_str(), want, "writing {len} bytes");
+        assert_eq!(rt; bytes, [0xaa; 24], "writing {len} bytes");
+        let refused = told(rt.alloc(), Sym::try_from_ctx(&bytes[..len], ctx))?;
+        assert_eq!(rt; refused.as_str(), want, "reading {len} bytes");
     }
-    let mut short = [0xaa; 23];
-    let answer = sym64::Sym::from(function()).try_into_ctx(&mut short, BE);
-    assert_eq!(rt;
-        told(rt.alloc(), answer)?.as_str(),
-        "type is too big (24) for 23"
-    );
-    assert_eq!(rt; short, [0xaa; 23]);
-    let answer = sym32::Sym::try_from_ctx(&[], LE);
-    assert_eq!(rt; told(rt.alloc(), answer)?.as_str(), "bad offset 0");
     Ok(())
 }
 
@@ -251,58 +250,75 @@ fn parses_or_tells_the_fault(rt: HostRuntime) -> Result<(), Fail> {
     Ok(())
 }
 
+// Three symbols that fit both classes.
+fn symbols() -> [Sym; 3] {
+    let far = Sym {
+        st_name: 0xffff_ffff,
+        st_info: 0x21,
+        st_other: 3,
+        st_shndx: 0xfff1,
+        st_value: 0xffff_fffe,
+        st_size: 0xffff_fffd,
+    };
+    [Sym::default(), function(), far]
+}
+
+// Those symbols one after another.
+fn put_symbols(bytes: &mut [u8; 73], ctx: Ctx) -> Answer<()> {
+    let size = Sym::size(ctx.container);
+    let [first, second, third] = symbols();
+    let _ = first.try_into_ctx(bytes, ctx)?;
+    let _ = second.try_into_ctx(&mut bytes[size..], ctx)?;
+    let _ = third.try_into_ctx(&mut bytes[2 * size..], ctx)?;
+    Ok(())
+}
+
 #[test]
-fn gives_one_list_in_three_ways(rt: HostRuntime) -> Result<(), Fail> {
-    let all = [
-        Sym::default(),
-        function(),
-        Sym {
-            st_name: 0xffff_ffff,
-            st_info: 0x21,
-            st_other: 3,
-            st_shndx: 0xfff1,
-            st_value: 0xffff_fffe,
-            st_size: 0xffff_fffd,
-        },
-    ];
+fn gives_symbols_by_index_and_as_a_vector(rt: HostRuntime) -> Result<(), Fail> {
+    let [first, second, third] = symbols();
     for (ctx, text) in functions() {
-        let size = Sym::size(ctx.container);
-        let mut bytes = [0u8; 73];
-        for (i, symbol) in all.iter().enumerate() {
-            let _ = symbol.try_into_ctx(&mut bytes[i % 3 * size..], ctx)?;
-        }
+        let mut bytes = [0; 73];
+        put_symbols(&mut bytes, ctx)?;
         let table: Table<Sym, Ctx> = Table::of(&bytes, 3, ctx);
-        assert_eq!(rt; table.len(), 3, "{text}");
-        assert!(rt; !table.is_empty(), "{text}");
-        let mut left = table.iter();
-        for (i, symbol) in all.iter().enumerate() {
-            assert_eq!(rt; left.len(), 3 - i % 3, "{text}");
-            assert_eq!(rt; left.size_hint(), (3 - i % 3, Some(3 - i % 3)), "{text}");
-            assert_eq!(rt; left.next(), Some(*symbol), "{text}");
-            assert_eq!(rt; table.get(i), Some(*symbol), "{text}");
-        }
-        assert_eq!(rt; left.next(), None, "{text}");
-        assert_eq!(rt; left.next(), None, "{text}");
-        assert_eq!(rt; left.len(), 0, "{text}");
+        assert_eq!(rt; table.get(0), Some(first), "{text}");
+        assert_eq!(rt; table.get(1), Some(second), "{text}");
+        assert_eq!(rt; table.get(2), Some(third), "{text}");
         assert_eq!(rt; table.get(3), None, "{text}");
-        assert_eq!(rt; table.get(usize::MAX), None, "{text}");
-        assert_eq!(rt;
-            table.to_vec(rt.alloc())?.as_slice(),
-            all.as_slice(),
-            "{text}"
-        );
-        assert_eq!(rt;
-            Sym::parse(rt.alloc(), &bytes, 0, 3, ctx)?.as_slice(),
-            all.as_slice(),
-            "{text}"
-        );
-        let none: Table<Sym, Ctx> = Table::of(&[], 0, ctx);
-        assert!(rt;
-            none.is_empty() && none.get(0) == None && none.iter().next() == None,
-            "{text}"
-        );
+        let all = table.to_vec(rt.alloc())?;
+        assert_eq!(rt; all.as_slice(), symbols().as_slice(), "{text}");
     }
     Ok(())
+}
+
+#[test]
+fn gives_symbols_one_after_another(rt: HostRuntime) -> Result<(), Fail> {
+    for (ctx, text) in functions() {
+        let mut bytes = [0; 73];
+        put_symbols(&mut bytes, ctx)?;
+        let table: Table<Sym, Ctx> = Table::of(&bytes, 3, ctx);
+        let mut left = table.iter();
+        for symbol in symbols() {
+            assert_eq!(rt; left.next(), Some(symbol), "{text}");
+        }
+        assert_eq!(rt; left.next(), None, "{text}");
+        assert_eq!(rt; left.next(), None, "{text}");
+    }
+    Ok(())
+}
+
+#[test]
+fn tells_how_many_symbols_there_are(rt: HostRuntime) {
+    let bytes = [0; 48];
+    let ctx = Ctx::new(Container::Big, LE);
+    let table: Table<Sym, Ctx> = Table::of(&bytes, 2, ctx);
+    assert!(rt; table.len() == 2 && !table.is_empty() && table.get(2) == None);
+    let mut left = table.iter();
+    assert_eq!(rt; left.next(), Some(Sym::default()));
+    assert_eq!(rt; left.len(), 1);
+    assert_eq!(rt; left.size_hint(), (1, Some(1)));
+    let none: Table<Sym, Ctx> = Table::of(&bytes, 0, ctx);
+    assert!(rt; none.len() == 0 && none.is_empty() && none.get(0) == None);
+    assert_eq!(rt; none.iter().next(), None);
 }
 
 #[test]
