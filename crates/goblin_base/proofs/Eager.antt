@@ -1,13 +1,14 @@
 -- Laws of lists of records that are read at once.
-use Rattle.std.proofs.Common.{◌≡◌, ◌<◌, ◌≤◌, ◌+◌, ◌*◌, ◌/◌, ◌-◌, ℕ, suc, List, [], ◌∷◌, ◌++◌, length, take, drop, false, nat_lt, Result, Ok, Err, refl, sym, ap, ◌∙◌, arith}
+use Rattle.std.proofs.Common.{◌≡◌, ◌<◌, ◌≤◌, ◌+◌, ◌*◌, ◌/◌, ◌-◌, ℕ, suc, List, [], ◌∷◌, ◌++◌, length, take, drop, false, nat_lt, Result, Ok, Err, IfOk, IfErr, alloc_error, refl, sym, ap, ◌∙◌, arith}
 use Rattle.std.proofs.lemmas.Bool.Decides.{nat_tests}
-use Rattle.std.proofs.lemmas.List.{drop-drop}
+use Rattle.std.proofs.lemmas.List.{drop-drop, take_rest}
 use Rattle.goblin_base.specs.declared.error.Error.{Error}
 use Rattle.goblin_base.specs.declared.scroll.Error.{Error as Fault}
-use Rattle.goblin_base.specs.Eager.{room_of_each, records_from}
+use Rattle.goblin_base.specs.declared.error.Error.TheVariants.{Memory}
+use Rattle.goblin_base.specs.Eager.{room_of_each, records_from, records_in}
 use Rattle.goblin_base.specs.Record.{read_within, unless_fault}
 use Rattle.goblin_base.specs.RecordLaws.{fits-room_of, unless_fault-is, unless_fault-err}
-use Rattle.goblin_base.specs.Refusal.{buffer_too_short, misplaced, refusal_of}
+use Rattle.goblin_base.specs.Refusal.{Refusal, buffer_too_short, misplaced, refusal_of, Gives}
 use Rattle.goblin_base.specs.Room.{room_of}
 use Rattle.goblin_base.specs.Table.{records}
 use Rattle.goblin_base.proofs.Records.{read_field, no_records, last_record}
@@ -79,3 +80,35 @@ pub no_room : {R : Type 0} (size s : ℕ) (read : List ℕ → R) (bytes : List 
 no_room size s read bytes offset count i place items found e before same h enough is =
     let fault = unless_fault-err (room_of (length bytes) place size) e (read (take size (drop place bytes))) is in
     refused size s read bytes offset count i place items found fault.0 before same h enough fault.1 ∙ ap (λ f. Err (refusal_of f)) (sym fault.2)
+
+-- how far the test for room has come: i records have room, and the others stand from a place on
+pub record RoomSoFar (len offset size count i place : ℕ) : Type 0 where
+  pub there : place ≡ offset + i * size
+  pub left : room_of_each len place size (count - i) ≡ room_of_each len offset size count
+  pub within : 0 < i → place ≤ len
+
+-- the first without room
+pub in_range_refused : {R : Type 0} (size s : ℕ) (read : List ℕ → R) (bytes : List ℕ) (offset count : ℕ) (e : Fault) → s ≡ size → Err e ≡ room_of_each (length bytes) offset s count → records_in size read bytes offset count ≡ Err (misplaced e)
+unfolding records_in
+in_range_refused size s read bytes offset count e same fault = rw (← same, ← fault) refl
+
+-- none are asked for
+pub in_range_none : {R : Type 0} (size : ℕ) (read : List ℕ → R) (bytes : List ℕ) (offset count : ℕ) → count ≡ 0 → records_in size read bytes offset count ≡ Ok []
+unfolding records_in
+in_range_none size read bytes offset count none = rw (none, no_records size read 0 (drop offset bytes) refl) refl
+
+-- each has room
+in_range_all : {R : Type 0} (size s : ℕ) (read : List ℕ → R) (bytes : List ℕ) (offset count : ℕ) (u : Unit {0}) → s ≡ size → Ok u ≡ room_of_each (length bytes) offset s count → records_in size read bytes offset count ≡ Ok (records size read count (drop offset bytes))
+unfolding records_in
+in_range_all size s read bytes offset count u same each = rw (← same, ← each) refl
+
+-- what is right, or want of memory
+given : {X Y : Type 0} (view : X → Y) (answer : Result X Error) (y : Y) (right : Result Y Refusal) → IfOk answer (λ x. view x ≡ y) → IfErr answer (λ e. e ≡ Memory alloc_error) → right ≡ Ok y → Gives view answer right
+given view (Ok x) y right ok err is = is ∙ ap Ok (sym ok)
+given view (Err e) y right ok err is = λ other. absurd (other (ap refusal_of err))
+
+-- a list where each has room
+pub in_range_given : {R X : Type 0} (size s : ℕ) (read : List ℕ → R) (bytes : List ℕ) (offset count : ℕ) (u : Unit {0}) (view : X → List R) (answer : Result X Error) (items : List R) → s ≡ size → Ok u ≡ room_of_each (length bytes) offset s count → items ≡ records size read count (take (length bytes - offset) (drop offset bytes)) → IfOk answer (λ x. view x ≡ items) → IfErr answer (λ e. e ≡ Memory alloc_error) → Gives view answer (records_in size read bytes offset count)
+in_range_given size s read bytes offset count u view answer items same each is ok err =
+    let all = rw (take_rest bytes offset) at is in
+    given view answer items (records_in size read bytes offset count) ok err (in_range_all size s read bytes offset count u same each ∙ ap Ok (sym all))

@@ -21,3 +21,9 @@ records_from size read bytes offset count items = do
   _ ← refuse_if (nat_lt (length bytes / size) count) (buffer_too_short count items)
   _ ← refuse_as misplaced (room_of_each (length bytes) offset size count)
   Ok (records size read count (drop offset bytes))
+
+-- so many records from an offset on, of which the first without room is refused
+unfoldable pub records_in : {R : Type 0} → ℕ → (List ℕ → R) → List ℕ → ℕ → ℕ → Result (List R) Refusal
+records_in size read bytes offset count = do
+  _ ← refuse_as misplaced (room_of_each (length bytes) offset size count)
+  Ok (records size read count (drop offset bytes))

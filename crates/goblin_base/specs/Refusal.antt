@@ -34,3 +34,8 @@ refusal_of (Memory e) = out_of_memory
 abbrev pub Gives : {X Y : Type 0} → (X → Y) → Result X Error → Result Y Refusal → Type 0
 Gives view (Ok x) right = right ≡ Ok (view x)
 Gives view (Err e) right = refusal_of e ≢ out_of_memory → right ≡ Err (refusal_of e)
+
+-- the answer is an error that tells this refusal
+abbrev pub Refuses : {X : Type 0} → Result X Error → Refusal → Type 0
+Refuses (Ok x) refusal = ⊥
+Refuses (Err e) refusal = refusal_of e ≡ refusal

@@ -1,20 +1,23 @@
 //! Tables of records that are read from borrowed bytes as they are asked for.
 ghost use Rattle.std.specs.Prelude.{◌≡◌, ◌≤◌, ◌*◌, ◌↔◌, IsTrue, IfOk, IfSome, IfErr, alloc_error};
-ghost use Rattle.std.specs.Prelude.{◌+◌, OnOk, take, drop, [], List, length, slice_get, All, flat_map};
+ghost use Rattle.std.specs.Prelude.{◌+◌, ◌/◌, ◌<◌, OnOk, take, drop, [], List, length, slice_get};
+ghost use Rattle.std.specs.Prelude.{All, flat_map};
 ghost use Rattle.std.specs.Iterator.{UpTo, YieldsFirst, item_count};
 ghost use Rattle.std.specs.Iterator.SizeHint.{IsWithinCount};
-ghost use Rattle.goblin_base.specs.Eager.{records_from};
+ghost use Rattle.goblin_base.specs.Eager.{records_from, records_in, room_of_each};
 ghost use Rattle.goblin_base.specs.Record.{unless_fault};
-ghost use Rattle.goblin_base.specs.Refusal.{Gives};
+ghost use Rattle.goblin_base.specs.Refusal.{buffer_too_short, Gives, Refuses};
 ghost use Rattle.goblin_base.specs.Room.{room_of};
 ghost use Rattle.goblin_base.specs.Table.{records};
 
 use crate::error::{Error, Result};
 use crate::number::room;
 use crate::record::Record;
+use crate::scroll;
 use crate::scroll::SizeWith;
 use std::alloc::Global;
 use std::marker::{Model, PhantomData};
+use std::result;
 
 /// Records that lie one after another from the start of borrowed bytes.
 ///
@@ -161,8 +164,8 @@ impl<'a, R: Record<C>, C: Copy> ExactSizeIterator for TableIter<'a, R, C> {
     }
 }
 
-// The record that the piece at a place stands for, or the fault of room there.
-fn read_at<R: Record<C>, C: Copy>(bytes: &[u8], place: usize, ctx: C) -> Result<R>
+/// The record that the piece at a place stands for, or the fault of room there.
+pub fn read_at<R: Record<C>, C: Copy>(bytes: &[u8], place: usize, ctx: C) -> Result<R>
     ensures exact { let size = R.size_of ctx in
         let piece = take size (drop place bytes.now) in
         result ≡ unless_fault (room_of (length bytes.now) place size) (R.read ctx piece) }
@@ -177,7 +180,8 @@ fn read_at<R: Record<C>, C: Copy>(bytes: &[u8], place: usize, ctx: C) -> Result<
 ///
 /// More records than the bytes could hold anywhere are a `BufferTooShort` of these items. Else memory
 /// is taken for all of them at once, and the first record without room gives its fault. Where `count`
-/// is 0 the list is empty, whatever the offset.
+/// is 0 the list is empty, whatever the offset. So want of memory can stand in place of a record's
+/// fault, but never of a `BufferTooShort`.
 pub fn read_all<R: Record<C>, C: Copy>(
     alloc: Global,
     bytes: &[u8],
@@ -186,9 +190,11 @@ pub fn read_all<R: Record<C>, C: Copy>(
     ctx: C,
     items: &'static str,
 ) -> Result<Vec<R>>
-    ensures { let right =
+    ensures given { let right =
         records_from (R.size_of ctx) (R.read ctx) bytes.now offset count items.now in
         Gives (λ v. v.items) result right }
+    ensures counted { length bytes.now / R.size_of ctx < count →
+        Refuses result (buffer_too_short count items.now) }
 {
     let size = R::size_with(&ctx);
     if count > bytes.len() / size {
@@ -201,6 +207,49 @@ pub fn read_all<R: Record<C>, C: Copy>(
         place += size;
     }
     Ok(all)
+}
+
+// Whether there is room for each of `count` records of a size from an offset on, or the fault of the
+// first without.
+fn room_for_each(
+    len: usize,
+    offset: usize,
+    size: usize,
+    count: usize,
+) -> result::Result<(), scroll::Error>
+    ensures exact { result ≡ room_of_each len offset size count }
+    ensures fits { OnOk result (0 < count → offset + count * size ≤ len) }
+{
+    let mut place = offset;
+    'each: for _ in 0..count {
+        room(len, place, size)?;
+        place += size;
+    }
+    Ok(())
+}
+
+/// The `count` records that lie one after another from an offset on, as a vector.
+///
+/// The first record without room gives its fault, before any memory is taken, so that want of memory
+/// stands in place of no fault. Where `count` is 0 the list is empty, whatever the offset.
+pub fn read_in_range<R: Record<C>, C: Copy>(
+    alloc: Global,
+    bytes: &[u8],
+    offset: usize,
+    count: usize,
+    ctx: C,
+) -> Result<Vec<R>>
+    ensures given { let right =
+        records_in (R.size_of ctx) (R.read ctx) bytes.now offset count in
+        Gives (λ v. v.items) result right }
+    ensures range { IfErr (room_of_each (length bytes.now) offset (R.size_of ctx) count)
+        (λ e. result ≡ Err (Error.Scroll e)) }
+{
+    room_for_each(bytes.len(), offset, R::size_with(&ctx), count)?;
+    if count == 0 {
+        return Ok(Vec::new(alloc));
+    }
+    Table::of(&bytes[offset..], count, ctx).to_vec(alloc)
 }
 
 /// A law: a list of records that fit, written one after another, is read as the same list. A call

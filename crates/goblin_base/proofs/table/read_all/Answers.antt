@@ -2,8 +2,8 @@ use Rattle.std.proofs.Common.{rules, arith}
 use Rattle.goblin_base.proofs.Eager.{too_many, none_read, next_read, all_read, no_room}
 use Rattle.goblin_base.proofs.table.read_all.Goals as goal
 
-pub returns-then-count-bytes : goal.returns-then-count-bytes
-returns-then-count-bytes g c _ =
+pub returns-then-count-bytes-clause-given : goal.returns-then-count-bytes-clause-given
+returns-then-count-bytes-clause-given g c _ =
     too_many (g.R.SizeWith.size_of c.args.ctx) c.size_with-size.result (g.R.Record.read c.args.ctx) c.args.bytes.now c.args.offset c.args.count c.args.items.now c.size_with-size.ensures c.if-count-bytes.true
 
 pub each-init : goal.each-init
@@ -14,11 +14,11 @@ pub each-preserved : goal.each-preserved
 each-preserved g c =
     rw c.in_ok-push.ensures.items (next_read (g.R.SizeWith.size_of c.args.ctx) c.size_with-size.result (g.R.Record.read c.args.ctx) c.args.bytes.now c.args.offset c.args.count c.each.counter c.each.place c.each.all.items c.in_ok-read_at.field-0 c.each.invariant c.size_with-size.ensures c.each-test.true c.in_ok-read_at.ensures.exact)
 
-pub returns-in_err-read_at : goal.returns-in_err-read_at
-returns-in_err-read_at g c =
+pub returns-in_err-read_at-clause-given : goal.returns-in_err-read_at-clause-given
+returns-in_err-read_at-clause-given g c =
     let is = no_room (g.R.SizeWith.size_of c.args.ctx) c.size_with-size.result (g.R.Record.read c.args.ctx) c.args.bytes.now c.args.offset c.args.count c.each.counter c.each.place c.args.items.now c.each.all.items c.in_err-read_at.field-0.0 c.each.invariant c.size_with-size.ensures c.each-test.true c.if-count-bytes.false c.in_err-read_at.ensures.exact in
     search (rules, is)
 
-pub returns : goal.returns
-returns g c =
+pub returns-clause-given : goal.returns-clause-given
+returns-clause-given g c =
     all_read (g.R.SizeWith.size_of c.args.ctx) c.size_with-size.result (g.R.Record.read c.args.ctx) c.args.bytes.now c.args.offset c.args.count c.each.counter c.each.place c.args.items.now c.each.all.items c.each.invariant c.size_with-size.ensures (omega arith) c.if-count-bytes.false
