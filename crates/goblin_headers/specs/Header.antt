@@ -14,16 +14,12 @@ use Rattle.goblin_headers.specs.declared.header32.Header.{Header as Raw32}
 use Rattle.goblin_headers.specs.declared.header64.Header.{Header as Raw64}
 use Rattle.goblin_headers.specs.Header32.{header32_of}
 use Rattle.goblin_headers.specs.Header64.{header64_of}
+use Rattle.goblin_headers.specs.ProgramHeader.{program_header_size}
 
 -- how many bytes a header has
 abbrev pub header_size : Container → ℕ
 header_size class.Little = 52
 header_size class.Big = 64
-
--- how many bytes a program header has (gABI, "Program Header")
-abbrev pub program_header_size : Container → ℕ
-program_header_size class.Little = 32
-program_header_size class.Big = 56
 
 -- how many bytes a section header has (gABI, "Section Header")
 abbrev pub section_header_size : Container → ℕ

@@ -3,4 +3,13 @@ pub mod Header32
 pub mod Header64
 pub mod Machines
 pub mod Names
+pub mod ProgramHeader
+pub mod ProgramHeader32
+pub mod ProgramHeader32Laws
+pub mod ProgramHeader64
+pub mod ProgramHeader64Laws
+pub mod ProgramHeaderLaws
+pub mod ProgramHeaders
+pub mod Ranges
 pub mod ReadHeader
+pub mod SegmentNames

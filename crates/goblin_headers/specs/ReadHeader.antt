@@ -1,5 +1,5 @@
 -- Reading a header: the first of these refusals that applies, or the header that the bytes stand for.
-use Rattle.std.specs.Prelude.{ℕ, nat_lt, nat_eq, not, List, length, Result, Ok, Err}
+use Rattle.std.specs.Prelude.{ℕ, nat_lt, nat_eq, not, List, length, Result, Ok}
 use Rattle.std.specs.List.{starts_with}
 use Rattle.goblin_base.specs.declared.container.Endian.TheVariants as endian
 use Rattle.goblin_base.specs.declared.error.Error.{Error}

@@ -188,6 +188,8 @@ pub use crate::constants_header::EM_ZSP;
 pub use crate::constants_header::machine_to_str;
 pub use crate::header32;
 pub use crate::header64;
+use crate::program_header32;
+use crate::program_header64;
 use goblin_base::container::Container;
 use goblin_base::container::Ctx;
 use goblin_base::container::Endian;
@@ -399,12 +401,8 @@ pub struct Header {
     pub e_shstrndx: u16,
 }
 
-// How many bytes a program header and a section header have, in each class.
-const SIZEOF_PHDR32: u16 = 32;
-
+// How many bytes a section header has, in the 32-bit class and in the 64-bit one.
 const SIZEOF_SHDR32: u16 = 40;
-
-const SIZEOF_PHDR64: u16 = 56;
 
 const SIZEOF_SHDR64: u16 = 64;
 
@@ -449,13 +447,13 @@ impl Header {
             Container::Little => (
                 ELFCLASS32,
                 header32::SIZEOF_EHDR as u16,
-                SIZEOF_PHDR32,
+                program_header32::SIZEOF_PHDR as u16,
                 SIZEOF_SHDR32,
             ),
             Container::Big => (
                 ELFCLASS64,
                 header64::SIZEOF_EHDR as u16,
-                SIZEOF_PHDR64,
+                program_header64::SIZEOF_PHDR as u16,
                 SIZEOF_SHDR64,
             ),
         };

@@ -5,5 +5,8 @@ mod constants_header;
 pub mod header;
 pub mod header32;
 pub mod header64;
+pub mod program_header;
+pub mod program_header32;
+pub mod program_header64;
 #[cfg(test)]
 mod tests;

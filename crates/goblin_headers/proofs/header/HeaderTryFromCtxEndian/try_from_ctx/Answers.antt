@@ -1,4 +1,4 @@
-use Rattle.std.proofs.Common.{sym, ◌∙◌, ap}
+use Rattle.std.proofs.Common.{sym, ◌∙◌}
 use Rattle.goblin_headers.proofs.ReadHeaderLemmas.{read_header-32, read_header-64}
 use Rattle.goblin_headers.proofs.header.HeaderTryFromCtxEndian.try_from_ctx.Goals as goal
 

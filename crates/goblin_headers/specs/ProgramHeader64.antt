@@ -1,0 +1,49 @@
+-- Program headers of the 64-bit class (System V gABI, "Program Header", Elf64_Phdr).
+use Rattle.std.specs.Prelude.{◌≡◌, ◌↔◌, ◌%◌, ◌^◌, ℕ, List, [], ◌∷◌, length}
+use Rattle.goblin_base.specs.declared.container.Endian.{Endian}
+use Rattle.goblin_base.specs.Fields.{Field, field, image_of_fields}
+use Rattle.goblin_base.specs.Number.{IsBytes, number_at}
+use Rattle.goblin_headers.specs.declared.program_header64.ProgramHeader.{ProgramHeader}
+
+-- the program header that bytes stand for: each field is the number at its place, of so many bytes
+abbrev pub program_header64_of : Endian → List ℕ → ProgramHeader
+program_header64_of order bytes = record {
+  p_type = number_at order bytes 0 4;
+  p_flags = number_at order bytes 4 4;
+  p_offset = number_at order bytes 8 8;
+  p_vaddr = number_at order bytes 16 8;
+  p_paddr = number_at order bytes 24 8;
+  p_filesz = number_at order bytes 32 8;
+  p_memsz = number_at order bytes 40 8;
+  p_align = number_at order bytes 48 8;
+}
+
+-- the fields of a program header in the order in which they lie, each with its width
+abbrev pub program_header64_fields : ProgramHeader → List Field
+program_header64_fields h =
+    field 4 h.p_type ∷ field 4 h.p_flags ∷ field 8 h.p_offset ∷ field 8 h.p_vaddr
+    ∷ field 8 h.p_paddr ∷ field 8 h.p_filesz ∷ field 8 h.p_memsz ∷ field 8 h.p_align ∷ []
+
+-- the bytes that a program header is written as
+abbrev pub program_header64_image : Endian → ProgramHeader → List ℕ
+program_header64_image order h = image_of_fields order (program_header64_fields h)
+
+-- the program header with the low bits of each field, as many as its width holds
+abbrev pub program_header64_low : ProgramHeader → ProgramHeader
+program_header64_low h = record {
+  p_type = h.p_type % 256 ^ 4;
+  p_flags = h.p_flags % 256 ^ 4;
+  p_offset = h.p_offset % 256 ^ 8;
+  p_vaddr = h.p_vaddr % 256 ^ 8;
+  p_paddr = h.p_paddr % 256 ^ 8;
+  p_filesz = h.p_filesz % 256 ^ 8;
+  p_memsz = h.p_memsz % 256 ^ 8;
+  p_align = h.p_align % 256 ^ 8;
+}
+
+-- the image of a program header is the one list of 56 bytes whose slice at each field's place stands for the low bits
+-- of that field
+abbrev pub OneImage : Type 0
+OneImage =
+    (order : Endian) (h : ProgramHeader) (bytes : List ℕ)
+    → (bytes ≡ program_header64_image order h) ↔ (IsBytes bytes × (length bytes ≡ 56) × (program_header64_of order bytes ≡ program_header64_low h))

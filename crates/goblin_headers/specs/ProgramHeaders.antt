@@ -1,0 +1,26 @@
+-- New program headers, and lists of them that are read at once (System V gABI, "Program Header").
+use Rattle.std.specs.Prelude.{ℕ, List, codes, Result}
+use Rattle.goblin_base.specs.declared.container.Ctx.{Ctx}
+use Rattle.goblin_base.specs.Eager.{records_from}
+use Rattle.goblin_base.specs.Refusal.{Refusal}
+use Rattle.goblin_headers.specs.declared.program_header.ProgramHeader.{ProgramHeader}
+use Rattle.goblin_headers.specs.ProgramHeader.{program_header_size, program_header_of}
+
+-- a header of a segment that is loaded (1), aligned to two megabytes, with all else 0
+abbrev pub new_program_header : ProgramHeader
+new_program_header = record {
+  p_type = 1;
+  p_flags = 0;
+  p_offset = 0;
+  p_vaddr = 0;
+  p_paddr = 0;
+  p_filesz = 0;
+  p_memsz = 0;
+  p_align = 2097152;
+}
+
+-- so many program headers from an offset on: more than the bytes could hold anywhere are refused as too many, and
+-- else the first without room is refused
+abbrev pub program_headers_from : List ℕ → ℕ → ℕ → Ctx → Result (List ProgramHeader) Refusal
+program_headers_from bytes offset count ctx =
+    records_from (program_header_size ctx.container) (program_header_of ctx.container ctx.le) bytes offset count (codes "program headers")

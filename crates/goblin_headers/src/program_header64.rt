@@ -1,0 +1,223 @@
+//! Program headers of the 64-bit class: System V gABI, "Program Header" (`Elf64_Phdr`).
+ghost use Rattle.std.specs.Prelude.{◌≡◌, ◌≤◌, ◌*◌, ◌++◌, length, drop, IfErr, IfOk, alloc_error};
+ghost use Rattle.goblin_base.specs.Eager.{records_in, room_of_each};
+ghost use Rattle.goblin_base.specs.Record.{and_size, read_within, Writes};
+ghost use Rattle.goblin_base.specs.Refusal.{Gives};
+ghost use Rattle.goblin_base.specs.Table.{records};
+ghost use Rattle.goblin_headers.specs.ProgramHeader64.{program_header64_of, program_header64_image};
+ghost use Rattle.goblin_headers.specs.ProgramHeader64.{OneImage};
+
+use crate::program_header::ProgramHeader as ElfProgramHeader;
+pub use crate::program_header::{
+    PF_MASKOS, PF_MASKPROC, PF_R, PF_W, PF_X, PT_ARM_EXIDX, PT_DYNAMIC, PT_GNU_EH_FRAME,
+    PT_GNU_PROPERTY, PT_GNU_RELRO, PT_GNU_STACK, PT_HIOS, PT_HIPROC, PT_HISUNW, PT_INTERP, PT_LOAD,
+    PT_LOOS, PT_LOPROC, PT_LOSUNW, PT_NOTE, PT_NULL, PT_NUM, PT_PHDR, PT_SHLIB, PT_SUNWBSS,
+    PT_SUNWSTACK, PT_TLS, pt_to_str,
+};
+use goblin_base::container::Endian;
+use goblin_base::error::{Error, Result};
+use goblin_base::number::{get_u32, get_u64, put_u32, put_u64, room};
+use goblin_base::record::Record;
+use goblin_base::scroll::{LE, SizeWith, TryFromCtx, TryIntoCtx};
+use goblin_base::table::{Table, read_in_range};
+use std::alloc::Global;
+
+/// A program header of the 64-bit class.
+#[derive(Clone, Copy, Debug, Default, PartialEq)]
+pub struct ProgramHeader {
+    /// What the segment is, one of the `PT_` constants.
+    pub p_type: u32,
+    /// What may be done with the segment: the `PF_` flags.
+    pub p_flags: u32,
+    /// Where the segment starts: an offset in bytes from the file's start.
+    pub p_offset: u64,
+    /// The address of the segment in memory.
+    pub p_vaddr: u64,
+    /// The physical address of the segment, where there is one.
+    pub p_paddr: u64,
+    /// How many bytes the segment has in the file.
+    pub p_filesz: u64,
+    /// How many bytes the segment has in memory.
+    pub p_memsz: u64,
+    /// What address and offset are aligned to, in bytes; 0 and 1 for nothing.
+    pub p_align: u64,
+}
+
+/// How many bytes a program header has.
+pub const SIZEOF_PHDR: usize = 56;
+
+impl ProgramHeader {
+    ghost use Rattle.goblin_base.specs.declared.container.Endian.TheVariants as endian;
+
+    /// The `count` program headers that lie one after another from an offset on, as a vector.
+    ///
+    /// Where `count` is 0 the list is empty, whatever the offset. Else the first header without
+    /// room gives its fault, before any memory is taken, so that want of memory hides no fault.
+    pub fn parse(
+        alloc: Global,
+        bytes: &[u8],
+        offset: usize,
+        count: usize,
+        order: Endian,
+    ) -> Result<Vec<ProgramHeader>>
+        ensures given { let right =
+            records_in SIZEOF_PHDR (program_header64_of order) bytes.now offset count in
+            Gives (λ v. v.items) result right }
+        ensures range { IfErr (room_of_each (length bytes.now) offset SIZEOF_PHDR count)
+            (λ e. result ≡ Err (Error.Scroll e)) }
+    {
+        read_in_range(alloc, bytes, offset, count, order)
+    }
+
+    /// The first `n` program headers of the bytes, read in little byte order. The bytes must hold so
+    /// many. Only want of memory is an error.
+    pub fn from_bytes(alloc: Global, bytes: &[u8], n: usize) -> Result<Vec<ProgramHeader>>
+        requires { n * SIZEOF_PHDR ≤ length bytes.now }
+        ensures ok { IfOk result (λ v.
+            v.items ≡ records SIZEOF_PHDR (program_header64_of endian.Little) n bytes.now) }
+        ensures err { IfErr result (λ e. e ≡ Error.Memory alloc_error) }
+    {
+        Table::<ProgramHeader, Endian>::of(bytes, n, LE).to_vec(alloc)
+    }
+
+    // The program header at the start of the bytes.
+    pub(crate) fn at(bytes: &[u8], order: Endian) -> ProgramHeader
+        requires { SIZEOF_PHDR ≤ length bytes.now }
+        ensures { result ≡ program_header64_of order bytes.now }
+    {
+        ProgramHeader {
+            p_type: get_u32(bytes, 0, order),
+            p_flags: get_u32(bytes, 4, order),
+            p_offset: get_u64(bytes, 8, order),
+            p_vaddr: get_u64(bytes, 16, order),
+            p_paddr: get_u64(bytes, 24, order),
+            p_filesz: get_u64(bytes, 32, order),
+            p_memsz: get_u64(bytes, 40, order),
+            p_align: get_u64(bytes, 48, order),
+        }
+    }
+
+    // Puts the program header at the start of the bytes.
+    pub(crate) fn put(&self, bytes: &mut [u8], order: Endian)
+        requires { SIZEOF_PHDR ≤ length bytes.old }
+        ensures { bytes.new ≡ program_header64_image order self.now ++ drop SIZEOF_PHDR bytes.old }
+    {
+        put_u32(bytes, 0, self.p_type, order);
+        put_u32(bytes, 4, self.p_flags, order);
+        put_u64(bytes, 8, self.p_offset, order);
+        put_u64(bytes, 16, self.p_vaddr, order);
+        put_u64(bytes, 24, self.p_paddr, order);
+        put_u64(bytes, 32, self.p_filesz, order);
+        put_u64(bytes, 40, self.p_memsz, order);
+        put_u64(bytes, 48, self.p_align, order);
+    }
+}
+
+impl From<ProgramHeader> for ElfProgramHeader {
+    ghost use Rattle.goblin_headers.specs.ProgramHeader.{widened64};
+
+    ghost from_gives = { λ raw header. header ≡ widened64 raw };
+
+    fn from(header: ProgramHeader) -> Self {
+        ElfProgramHeader {
+            p_type: header.p_type,
+            p_flags: header.p_flags,
+            p_offset: header.p_offset,
+            p_vaddr: header.p_vaddr,
+            p_paddr: header.p_paddr,
+            p_filesz: header.p_filesz,
+            p_memsz: header.p_memsz,
+            p_align: header.p_align,
+        }
+    }
+}
+
+impl From<ElfProgramHeader> for ProgramHeader {
+    ghost use Rattle.goblin_headers.specs.ProgramHeader.{as64};
+
+    ghost from_gives = { λ header raw. raw ≡ as64 header };
+
+    fn from(header: ElfProgramHeader) -> Self {
+        ProgramHeader {
+            p_type: header.p_type,
+            p_flags: header.p_flags,
+            p_offset: header.p_offset,
+            p_vaddr: header.p_vaddr,
+            p_paddr: header.p_paddr,
+            p_filesz: header.p_filesz,
+            p_memsz: header.p_memsz,
+            p_align: header.p_align,
+        }
+    }
+}
+
+impl SizeWith<Endian> for ProgramHeader {
+    ghost size_of = { λ _. 56 };
+
+    fn size_with(_order: &Endian) -> usize {
+        SIZEOF_PHDR
+    }
+}
+
+/// Refused is only what has no room.
+impl<'a> TryFromCtx<'a, Endian> for ProgramHeader {
+    ghost try_from_gives = { λ bytes order answer.
+        answer ≡ and_size 56 (read_within 56 (program_header64_of order) bytes) };
+
+    fn try_from_ctx(bytes: &'a [u8], order: Endian) -> Result<(Self, usize)> {
+        let header = ProgramHeader::read_record(bytes, order)?;
+        Ok((header, SIZEOF_PHDR))
+    }
+}
+
+/// Refused is only what has no room, and then no byte is written.
+impl TryIntoCtx<Endian> for ProgramHeader {
+    ghost try_into_gives = { λ header order old answer new.
+        Writes 56 (program_header64_image order header) old answer new };
+
+    #[tactic(auto, using(goblin_base::specs::RecordLaws::record_answers))]
+    fn try_into_ctx(self, bytes: &mut [u8], order: Endian) -> Result<usize> {
+        room(bytes.len(), 0, SIZEOF_PHDR)?;
+        self.put(bytes, order);
+        Ok(SIZEOF_PHDR)
+    }
+}
+
+impl Record<Endian> for ProgramHeader {
+    ghost use Rattle.goblin_base.specs.Fields.{FieldsFit};
+    ghost use Rattle.goblin_headers.specs.ProgramHeader64.{program_header64_fields};
+    ghost use Rattle.goblin_headers.specs.ProgramHeader64Laws.{positive, length-image};
+    ghost use Rattle.goblin_headers.specs.ProgramHeader64Laws.{program_header64_of-append};
+    ghost use Rattle.goblin_headers.specs.ProgramHeader64Laws.{program_header64_of-image};
+    ghost use Rattle.goblin_headers.specs.ProgramHeader64Laws.{image-program_header64_of};
+
+    ghost read = { program_header64_of };
+
+    ghost image = { program_header64_image };
+
+    ghost fits = { λ _ header. FieldsFit (program_header64_fields header) };
+
+    #[tactic(auto, using(goblin_base::specs::RecordLaws::record_answers))]
+    fn read_record(bytes: &[u8], order: Endian) -> Result<Self> {
+        room(bytes.len(), 0, SIZEOF_PHDR)?;
+        Ok(ProgramHeader::at(bytes, order))
+    }
+
+    ghost size_positive = { λ _. positive };
+
+    ghost length_image = { length-image };
+
+    ghost writes_image = { λ order header old new answer so. so };
+
+    ghost reads_front = { program_header64_of-append };
+
+    ghost reads_back = { program_header64_of-image };
+
+    ghost writes_back = { image-program_header64_of };
+}
+
+/// Laws: how many bytes a program header has, and which they are. A call does nothing.
+pub fn laws()
+    ensures size { SIZEOF_PHDR ≡ 56 }
+    ensures image { OneImage }
+{}
