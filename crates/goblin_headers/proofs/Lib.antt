@@ -1,1 +1,2 @@
 pub mod ReadHeaderLemmas
+pub mod ReadSections

@@ -15,16 +15,12 @@ use Rattle.goblin_headers.specs.declared.header64.Header.{Header as Raw64}
 use Rattle.goblin_headers.specs.Header32.{header32_of}
 use Rattle.goblin_headers.specs.Header64.{header64_of}
 use Rattle.goblin_headers.specs.ProgramHeader.{program_header_size}
+use Rattle.goblin_headers.specs.SectionHeader.{section_header_size}
 
 -- how many bytes a header has
 abbrev pub header_size : Container → ℕ
 header_size class.Little = 52
 header_size class.Big = 64
-
--- how many bytes a section header has (gABI, "Section Header")
-abbrev pub section_header_size : Container → ℕ
-section_header_size class.Little = 40
-section_header_size class.Big = 64
 
 -- the four bytes that every ELF file begins with
 abbrev pub magic : List ℕ

@@ -12,4 +12,12 @@ pub mod ProgramHeaderLaws
 pub mod ProgramHeaders
 pub mod Ranges
 pub mod ReadHeader
+pub mod SectionHeader
+pub mod SectionHeader32
+pub mod SectionHeader32Laws
+pub mod SectionHeader64
+pub mod SectionHeader64Laws
+pub mod SectionHeaderLaws
+pub mod SectionHeaders
+pub mod SectionNames
 pub mod SegmentNames

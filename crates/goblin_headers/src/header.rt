@@ -190,6 +190,8 @@ pub use crate::header32;
 pub use crate::header64;
 use crate::program_header32;
 use crate::program_header64;
+use crate::section_header32;
+use crate::section_header64;
 use goblin_base::container::Container;
 use goblin_base::container::Ctx;
 use goblin_base::container::Endian;
@@ -401,11 +403,6 @@ pub struct Header {
     pub e_shstrndx: u16,
 }
 
-// How many bytes a section header has, in the 32-bit class and in the 64-bit one.
-const SIZEOF_SHDR32: u16 = 40;
-
-const SIZEOF_SHDR64: u16 = 64;
-
 impl Header {
     ghost use Rattle.goblin_base.specs.declared.error.Fault.TheVariants as faults;
     ghost use Rattle.goblin_headers.specs.Header.{class_of, new_header, order_of_header};
@@ -448,13 +445,13 @@ impl Header {
                 ELFCLASS32,
                 header32::SIZEOF_EHDR as u16,
                 program_header32::SIZEOF_PHDR as u16,
-                SIZEOF_SHDR32,
+                section_header32::SIZEOF_SHDR as u16,
             ),
             Container::Big => (
                 ELFCLASS64,
                 header64::SIZEOF_EHDR as u16,
                 program_header64::SIZEOF_PHDR as u16,
-                SIZEOF_SHDR64,
+                section_header64::SIZEOF_SHDR as u16,
             ),
         };
         let order = match ctx.le {

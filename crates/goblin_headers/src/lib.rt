@@ -8,5 +8,8 @@ pub mod header64;
 pub mod program_header;
 pub mod program_header32;
 pub mod program_header64;
+pub mod section_header;
+pub mod section_header32;
+pub mod section_header64;
 #[cfg(test)]
 mod tests;

@@ -1,0 +1,64 @@
+-- New section headers, lists of them that are read at once, and whether a section lies in its file (System V gABI,
+-- "Section Header").
+use Rattle.std.specs.Prelude.{◌+◌, ◌/◌, ◌^◌, ◌||◌, ◌==◌, ℕ, nat_lt, nat_le, if◌then◌else◌, List, [], codes, drop, length, max, true, Result, Ok}
+use Rattle.goblin_base.specs.declared.container.Ctx.{Ctx}
+use Rattle.goblin_base.specs.declared.error.Error.{Error}
+use Rattle.goblin_base.specs.declared.error.Error.TheVariants.{Malformed}
+use Rattle.goblin_base.specs.declared.error.Fault.TheVariants.{SectionOffset, SectionAddr}
+use Rattle.goblin_base.specs.Eager.{records_from}
+use Rattle.goblin_base.specs.Refusal.{Refusal, buffer_too_short, misplaced}
+use Rattle.goblin_base.specs.Room.{room_of}
+use Rattle.goblin_base.specs.Steps.{◌>>=◌, refuse_if, refuse_as}
+use Rattle.goblin_headers.specs.declared.section_header.SectionHeader.{SectionHeader}
+use Rattle.goblin_headers.specs.SectionHeader.{section_header_size, section_header_of}
+
+-- a header of what a program defines (1), in memory while it runs (flag 2), aligned to 512 bytes, with all else 0
+abbrev pub new_section_header : SectionHeader
+new_section_header = record {
+  sh_name = 0;
+  sh_type = 1;
+  sh_flags = 2;
+  sh_addr = 0;
+  sh_offset = 0;
+  sh_size = 0;
+  sh_link = 0;
+  sh_info = 0;
+  sh_addralign = 512;
+  sh_entsize = 0;
+}
+
+-- how many headers are asked for: the count, or where it is 0 the size that the first header tells
+abbrev pub count_told : SectionHeader → ℕ → ℕ
+count_told first count = if count == 0 then first.sh_size else count
+
+-- the same where the first header stands at an offset
+abbrev pub count_asked : List ℕ → ℕ → ℕ → Ctx → ℕ
+count_asked bytes offset count ctx = count_told (section_header_of ctx.container ctx.le (drop offset bytes)) count
+
+-- the tests before memory is taken: the first header has room, and there are not more than the bytes could hold
+-- anywhere
+unfoldable pub section_headers_tested : List ℕ → ℕ → ℕ → Ctx → Result (Unit {0}) Refusal
+section_headers_tested bytes offset count ctx = do
+  _ ← refuse_as misplaced (room_of (length bytes) offset (section_header_size ctx.container))
+  let asked = count_asked bytes offset count ctx in
+      refuse_if (nat_lt (length bytes / section_header_size ctx.container) asked) (buffer_too_short asked (codes "section headers"))
+
+-- the section headers from an offset on: after those tests the first without room is refused; there is one at least
+unfoldable pub section_headers_from : List ℕ → ℕ → ℕ → Ctx → Result (List SectionHeader) Refusal
+section_headers_from bytes offset count ctx = do
+  _ ← section_headers_tested bytes offset count ctx
+  records_from (section_header_size ctx.container) (section_header_of ctx.container ctx.le) bytes offset (max 1 (count_asked bytes offset count ctx)) (codes "section headers")
+
+-- the section headers of a file: none where they are said to start at its start
+abbrev pub section_headers_of : List ℕ → ℕ → ℕ → Ctx → Result (List SectionHeader) Refusal
+section_headers_of bytes offset count ctx =
+    if offset == 0 then Ok [] else section_headers_from bytes offset count ctx
+
+-- whether a section with bytes in the file (not of type 8) lies in a file of so many bytes, and its addresses below
+-- 2 ^ 64
+abbrev pub size_checked : ℕ → SectionHeader → Result (Unit {0}) Error
+size_checked len s =
+    if s.sh_type == 8 || s.sh_size == 0 then Ok tt
+    else do
+      _ ← refuse_if (nat_lt len (s.sh_offset + s.sh_size)) (Malformed (SectionOffset s.sh_name s.sh_size s.sh_offset (nat_le (2 ^ 64) (s.sh_offset + s.sh_size))))
+      refuse_if (nat_le (2 ^ 64) (s.sh_addr + s.sh_size)) (Malformed (SectionAddr s.sh_name s.sh_size s.sh_addr true))

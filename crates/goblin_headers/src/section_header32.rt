@@ -1,0 +1,222 @@
+//! Section headers of the 32-bit class: System V gABI, "Section Header" (`Elf32_Shdr`).
+ghost use Rattle.std.specs.Prelude.{◌≡◌, ◌≤◌, ◌*◌, ◌++◌, length, drop, IfErr, IfOk, alloc_error};
+ghost use Rattle.goblin_base.specs.Record.{and_size, read_within, Writes};
+ghost use Rattle.goblin_base.specs.Table.{records};
+ghost use Rattle.goblin_headers.specs.SectionHeader32.{section_header32_of, section_header32_image};
+ghost use Rattle.goblin_headers.specs.SectionHeader32.{OneImage};
+
+use crate::section_header::SectionHeader as ElfSectionHeader;
+pub use crate::section_header::{
+    SHF_ALLOC, SHF_COMPRESSED, SHF_EXCLUDE, SHF_EXECINSTR, SHF_FLAGS, SHF_GROUP, SHF_INFO_LINK,
+    SHF_LINK_ORDER, SHF_MASKOS, SHF_MASKPROC, SHF_MERGE, SHF_NUM_REGULAR_FLAGS, SHF_ORDERED,
+    SHF_OS_NONCONFORMING, SHF_STRINGS, SHF_TLS, SHF_WRITE, SHN_ABS, SHN_AFTER, SHN_BEFORE,
+    SHN_COMMON, SHN_HIOS, SHN_HIPROC, SHN_HIRESERVE, SHN_LOOS, SHN_LOPROC, SHN_LORESERVE,
+    SHN_UNDEF, SHN_XINDEX, SHT_CHECKSUM, SHT_DYNAMIC, SHT_DYNSYM, SHT_FINI_ARRAY,
+    SHT_GNU_ATTRIBUTES, SHT_GNU_HASH, SHT_GNU_LIBLIST, SHT_GNU_VERDEF, SHT_GNU_VERNEED,
+    SHT_GNU_VERSYM, SHT_GROUP, SHT_HASH, SHT_HIOS, SHT_HIPROC, SHT_HISUNW, SHT_HIUSER,
+    SHT_INIT_ARRAY, SHT_LOOS, SHT_LOPROC, SHT_LOSUNW, SHT_LOUSER, SHT_NOBITS, SHT_NOTE, SHT_NULL,
+    SHT_NUM, SHT_PREINIT_ARRAY, SHT_PROGBITS, SHT_REL, SHT_RELA, SHT_SHLIB, SHT_STRTAB,
+    SHT_SUNW_COMDAT, SHT_SUNW_MOVE, SHT_SUNW_SYMINFO, SHT_SYMTAB, SHT_SYMTAB_SHNDX,
+    SHT_X86_64_UNWIND, shf_to_str, sht_to_str,
+};
+use goblin_base::container::Endian;
+use goblin_base::error::{Error, Result};
+use goblin_base::number::{get_u32, put_u32, room};
+use goblin_base::record::Record;
+use goblin_base::scroll::{LE, SizeWith, TryFromCtx, TryIntoCtx};
+use goblin_base::table::Table;
+use std::alloc::Global;
+
+/// A section header of the 32-bit class.
+#[derive(Clone, Copy, Debug, Default, Eq, PartialEq)]
+pub struct SectionHeader {
+    /// Where the name lies in the table of section names, in bytes.
+    pub sh_name: u32,
+    /// What the section holds, one of the `SHT_` constants.
+    pub sh_type: u32,
+    /// What may be done with the section: the `SHF_` flags.
+    pub sh_flags: u32,
+    /// The address of the section in memory, or 0.
+    pub sh_addr: u32,
+    /// Where the section starts: an offset in bytes from the file's start.
+    pub sh_offset: u32,
+    /// How many bytes the section has.
+    pub sh_size: u32,
+    /// The index of a section that belongs to this one.
+    pub sh_link: u32,
+    /// More about the section, as its type says.
+    pub sh_info: u32,
+    /// What the address is aligned to, in bytes; 0 and 1 for nothing.
+    pub sh_addralign: u32,
+    /// How many bytes an entry has, where the section is a table of them.
+    pub sh_entsize: u32,
+}
+
+/// How many bytes a section header has.
+pub const SIZEOF_SHDR: usize = 40;
+
+impl SectionHeader {
+    ghost use Rattle.goblin_base.specs.declared.container.Endian.TheVariants as endian;
+
+    /// The first `n` section headers of the bytes, read in little byte order. The bytes must hold so
+    /// many. Only want of memory is an error.
+    pub fn from_bytes(alloc: Global, bytes: &[u8], n: usize) -> Result<Vec<SectionHeader>>
+        requires { n * SIZEOF_SHDR ≤ length bytes.now }
+        ensures ok { IfOk result (λ v.
+            v.items ≡ records SIZEOF_SHDR (section_header32_of endian.Little) n bytes.now) }
+        ensures err { IfErr result (λ e. e ≡ Error.Memory alloc_error) }
+    {
+        Table::<SectionHeader, Endian>::of(bytes, n, LE).to_vec(alloc)
+    }
+
+    // The section header at the start of the bytes.
+    pub(crate) fn at(bytes: &[u8], order: Endian) -> SectionHeader
+        requires { SIZEOF_SHDR ≤ length bytes.now }
+        ensures { result ≡ section_header32_of order bytes.now }
+    {
+        SectionHeader {
+            sh_name: get_u32(bytes, 0, order),
+            sh_type: get_u32(bytes, 4, order),
+            sh_flags: get_u32(bytes, 8, order),
+            sh_addr: get_u32(bytes, 12, order),
+            sh_offset: get_u32(bytes, 16, order),
+            sh_size: get_u32(bytes, 20, order),
+            sh_link: get_u32(bytes, 24, order),
+            sh_info: get_u32(bytes, 28, order),
+            sh_addralign: get_u32(bytes, 32, order),
+            sh_entsize: get_u32(bytes, 36, order),
+        }
+    }
+
+    // Puts the section header at the start of the bytes.
+    pub(crate) fn put(&self, bytes: &mut [u8], order: Endian)
+        requires { SIZEOF_SHDR ≤ length bytes.old }
+        ensures { bytes.new ≡ section_header32_image order self.now ++ drop SIZEOF_SHDR bytes.old }
+    {
+        put_u32(bytes, 0, self.sh_name, order);
+        put_u32(bytes, 4, self.sh_type, order);
+        put_u32(bytes, 8, self.sh_flags, order);
+        put_u32(bytes, 12, self.sh_addr, order);
+        put_u32(bytes, 16, self.sh_offset, order);
+        put_u32(bytes, 20, self.sh_size, order);
+        put_u32(bytes, 24, self.sh_link, order);
+        put_u32(bytes, 28, self.sh_info, order);
+        put_u32(bytes, 32, self.sh_addralign, order);
+        put_u32(bytes, 36, self.sh_entsize, order);
+    }
+}
+
+impl From<SectionHeader> for ElfSectionHeader {
+    ghost use Rattle.goblin_headers.specs.SectionHeader.{widened32};
+
+    ghost from_gives = { λ raw header. header ≡ widened32 raw };
+
+    fn from(header: SectionHeader) -> Self {
+        ElfSectionHeader {
+            sh_name: header.sh_name as usize,
+            sh_type: header.sh_type,
+            sh_flags: u64::from(header.sh_flags),
+            sh_addr: u64::from(header.sh_addr),
+            sh_offset: u64::from(header.sh_offset),
+            sh_size: u64::from(header.sh_size),
+            sh_link: header.sh_link,
+            sh_info: header.sh_info,
+            sh_addralign: u64::from(header.sh_addralign),
+            sh_entsize: u64::from(header.sh_entsize),
+        }
+    }
+}
+
+/// Of each field the low bits are kept, as many as it has room for.
+impl From<ElfSectionHeader> for SectionHeader {
+    ghost use Rattle.goblin_headers.specs.SectionHeader.{as32};
+    ghost use Rattle.goblin_headers.specs.SectionHeader32.{section_header32_low};
+
+    ghost from_gives = { λ header raw. raw ≡ section_header32_low (as32 header) };
+
+    fn from(header: ElfSectionHeader) -> Self {
+        SectionHeader {
+            sh_name: (header.sh_name % 0x1_0000_0000) as u32,
+            sh_type: header.sh_type,
+            sh_flags: (header.sh_flags % 0x1_0000_0000) as u32,
+            sh_addr: (header.sh_addr % 0x1_0000_0000) as u32,
+            sh_offset: (header.sh_offset % 0x1_0000_0000) as u32,
+            sh_size: (header.sh_size % 0x1_0000_0000) as u32,
+            sh_link: header.sh_link,
+            sh_info: header.sh_info,
+            sh_addralign: (header.sh_addralign % 0x1_0000_0000) as u32,
+            sh_entsize: (header.sh_entsize % 0x1_0000_0000) as u32,
+        }
+    }
+}
+
+impl SizeWith<Endian> for SectionHeader {
+    ghost size_of = { λ _. 40 };
+
+    fn size_with(_order: &Endian) -> usize {
+        SIZEOF_SHDR
+    }
+}
+
+/// Refused is only what has no room.
+impl<'a> TryFromCtx<'a, Endian> for SectionHeader {
+    ghost try_from_gives = { λ bytes order answer.
+        answer ≡ and_size 40 (read_within 40 (section_header32_of order) bytes) };
+
+    fn try_from_ctx(bytes: &'a [u8], order: Endian) -> Result<(Self, usize)> {
+        let header = SectionHeader::read_record(bytes, order)?;
+        Ok((header, SIZEOF_SHDR))
+    }
+}
+
+/// Refused is only what has no room, and then no byte is written.
+impl TryIntoCtx<Endian> for SectionHeader {
+    ghost try_into_gives = { λ header order old answer new.
+        Writes 40 (section_header32_image order header) old answer new };
+
+    #[tactic(auto, using(goblin_base::specs::RecordLaws::record_answers))]
+    fn try_into_ctx(self, bytes: &mut [u8], order: Endian) -> Result<usize> {
+        room(bytes.len(), 0, SIZEOF_SHDR)?;
+        self.put(bytes, order);
+        Ok(SIZEOF_SHDR)
+    }
+}
+
+impl Record<Endian> for SectionHeader {
+    ghost use Rattle.goblin_base.specs.Fields.{FieldsFit};
+    ghost use Rattle.goblin_headers.specs.SectionHeader32.{section_header32_fields};
+    ghost use Rattle.goblin_headers.specs.SectionHeader32Laws.{positive, length-image};
+    ghost use Rattle.goblin_headers.specs.SectionHeader32Laws.{section_header32_of-append};
+    ghost use Rattle.goblin_headers.specs.SectionHeader32Laws.{section_header32_of-image};
+    ghost use Rattle.goblin_headers.specs.SectionHeader32Laws.{image-section_header32_of};
+
+    ghost read = { section_header32_of };
+
+    ghost image = { section_header32_image };
+
+    ghost fits = { λ _ header. FieldsFit (section_header32_fields header) };
+
+    #[tactic(auto, using(goblin_base::specs::RecordLaws::record_answers))]
+    fn read_record(bytes: &[u8], order: Endian) -> Result<Self> {
+        room(bytes.len(), 0, SIZEOF_SHDR)?;
+        Ok(SectionHeader::at(bytes, order))
+    }
+
+    ghost size_positive = { λ _. positive };
+
+    ghost length_image = { length-image };
+
+    ghost writes_image = { λ order header old new answer so. so };
+
+    ghost reads_front = { section_header32_of-append };
+
+    ghost reads_back = { section_header32_of-image };
+
+    ghost writes_back = { image-section_header32_of };
+}
+
+/// Laws: how many bytes a section header has, and which they are. A call does nothing.
+pub fn laws()
+    ensures size { SIZEOF_SHDR ≡ 40 }
+    ensures image { OneImage }
+{}
