@@ -86,7 +86,7 @@ lows_of [] = []
 lows_of (f ∷ fields) = f.value % 256 ^ f.width ∷ lows_of fields
 
 -- what fits is its own low bits
-lows_of-fits : (fields : List Field) → FieldsFit fields → lows_of fields ≡ values_of fields
+pub lows_of-fits : (fields : List Field) → FieldsFit fields → lows_of fields ≡ values_of fields
 lows_of-fits [] fits = refl
 lows_of-fits (f ∷ fields) fits = rw (mod-eq_of_lt fits.0, lows_of-fits fields fits.1) refl
 

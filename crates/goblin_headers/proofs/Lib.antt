@@ -1,2 +1,3 @@
 pub mod ReadHeaderLemmas
 pub mod ReadSections
+pub mod WriteHeaderLemmas

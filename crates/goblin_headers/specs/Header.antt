@@ -1,5 +1,5 @@
 -- The header of a file of either class (System V gABI, "ELF Header" and "ELF Identification").
-use Rattle.std.specs.Prelude.{ℕ, ◌==◌, if◌then◌else◌, List, [], ◌∷◌, ◌++◌, replicate, slice_index, Option, Some, None, Result}
+use Rattle.std.specs.Prelude.{ℕ, ◌%◌, ◌^◌, ◌==◌, if◌then◌else◌, List, [], ◌∷◌, ◌++◌, replicate, slice_index, Option, Some, None, Result}
 use Rattle.goblin_base.specs.declared.container.Container.{Container}
 use Rattle.goblin_base.specs.declared.container.Container.TheVariants as class
 use Rattle.goblin_base.specs.declared.container.Endian.{Endian}
@@ -8,12 +8,13 @@ use Rattle.goblin_base.specs.declared.container.Ctx.{Ctx}
 use Rattle.goblin_base.specs.declared.error.Error.{Error}
 use Rattle.goblin_base.specs.declared.error.Error.TheVariants.{Malformed}
 use Rattle.goblin_base.specs.declared.error.Fault.{Fault}
+use Rattle.goblin_base.specs.Fields.{FieldsFit}
 use Rattle.goblin_base.specs.Steps.{or_refuse}
 use Rattle.goblin_headers.specs.declared.header.Header.{Header}
 use Rattle.goblin_headers.specs.declared.header32.Header.{Header as Raw32}
 use Rattle.goblin_headers.specs.declared.header64.Header.{Header as Raw64}
-use Rattle.goblin_headers.specs.Header32.{header32_of}
-use Rattle.goblin_headers.specs.Header64.{header64_of}
+use Rattle.goblin_headers.specs.Header32.{header32_of, header32_fields, header32_image}
+use Rattle.goblin_headers.specs.Header64.{header64_of, header64_fields, header64_image}
 use Rattle.goblin_headers.specs.ProgramHeader.{program_header_size}
 use Rattle.goblin_headers.specs.SectionHeader.{section_header_size}
 
@@ -89,10 +90,77 @@ unified64 h = record {
   e_shstrndx = h.e_shstrndx;
 }
 
+-- the 32-bit header with the same fields, whether they fit it or not
+abbrev pub as32 : Header → Raw32
+as32 h = record {
+  e_ident = h.e_ident;
+  e_type = h.e_type;
+  e_machine = h.e_machine;
+  e_version = h.e_version;
+  e_entry = h.e_entry;
+  e_phoff = h.e_phoff;
+  e_shoff = h.e_shoff;
+  e_flags = h.e_flags;
+  e_ehsize = h.e_ehsize;
+  e_phentsize = h.e_phentsize;
+  e_phnum = h.e_phnum;
+  e_shentsize = h.e_shentsize;
+  e_shnum = h.e_shnum;
+  e_shstrndx = h.e_shstrndx;
+}
+
+-- the 64-bit header with the same fields
+abbrev pub as64 : Header → Raw64
+as64 h = record {
+  e_ident = h.e_ident;
+  e_type = h.e_type;
+  e_machine = h.e_machine;
+  e_version = h.e_version;
+  e_entry = h.e_entry;
+  e_phoff = h.e_phoff;
+  e_shoff = h.e_shoff;
+  e_flags = h.e_flags;
+  e_ehsize = h.e_ehsize;
+  e_phentsize = h.e_phentsize;
+  e_phnum = h.e_phnum;
+  e_shentsize = h.e_shentsize;
+  e_shnum = h.e_shnum;
+  e_shstrndx = h.e_shstrndx;
+}
+
+-- the 32-bit header with the low bits of the entry and of the two offsets, and the other fields the same
+abbrev pub narrowed32 : Header → Raw32
+narrowed32 h = record {
+  e_ident = h.e_ident;
+  e_type = h.e_type;
+  e_machine = h.e_machine;
+  e_version = h.e_version;
+  e_entry = h.e_entry % 256 ^ 4;
+  e_phoff = h.e_phoff % 256 ^ 4;
+  e_shoff = h.e_shoff % 256 ^ 4;
+  e_flags = h.e_flags;
+  e_ehsize = h.e_ehsize;
+  e_phentsize = h.e_phentsize;
+  e_phnum = h.e_phnum;
+  e_shentsize = h.e_shentsize;
+  e_shnum = h.e_shnum;
+  e_shstrndx = h.e_shstrndx;
+}
+
 -- the header that bytes stand for in a class and a byte order
 abbrev pub header_of : Container → Endian → List ℕ → Header
 header_of class.Little order bytes = unified32 (header32_of order bytes)
 header_of class.Big order bytes = unified64 (header64_of order bytes)
+
+-- the bytes that a header is written as in a class and a byte order
+abbrev pub header_image : Container → Endian → Header → List ℕ
+header_image class.Little order h = header32_image order (as32 h)
+header_image class.Big order h = header64_image order (as64 h)
+
+-- each field of a header is in the range of its width in a class
+abbrev pub HeaderFits : Container → Header → Type 0
+HeaderFits class.Little h = FieldsFit (header32_fields (as32 h))
+HeaderFits class.Big h = FieldsFit (header64_fields (as64 h))
 
 -- the header of a shared object file in a context, version 1, with the sizes of its class and all else 0
 abbrev pub new_header : Ctx → Header

@@ -1,6 +1,7 @@
 -- The header of a 32-bit file (System V gABI, "ELF Header", Elf32_Ehdr).
-use Rattle.std.specs.Prelude.{ℕ, List, take}
+use Rattle.std.specs.Prelude.{ℕ, List, [], ◌∷◌, ◌++◌, take}
 use Rattle.goblin_base.specs.declared.container.Endian.{Endian}
+use Rattle.goblin_base.specs.Fields.{Field, field, image_of_fields}
 use Rattle.goblin_base.specs.Number.{number_at}
 use Rattle.goblin_headers.specs.declared.header32.Header.{Header}
 
@@ -22,3 +23,14 @@ header32_of order bytes = record {
   e_shnum = number_at order bytes 48 2;
   e_shstrndx = number_at order bytes 50 2;
 }
+
+-- the fields of a header behind its identification, in the order in which they lie, each with its width
+abbrev pub header32_fields : Header → List Field
+header32_fields h =
+    field 2 h.e_type ∷ field 2 h.e_machine ∷ field 4 h.e_version ∷ field 4 h.e_entry ∷ field 4 h.e_phoff ∷ field 4 h.e_shoff
+    ∷ field 4 h.e_flags ∷ field 2 h.e_ehsize ∷ field 2 h.e_phentsize ∷ field 2 h.e_phnum ∷ field 2 h.e_shentsize
+    ∷ field 2 h.e_shnum ∷ field 2 h.e_shstrndx ∷ []
+
+-- the bytes that a header is written as: its identification as it is, and then the other fields
+abbrev pub header32_image : Endian → Header → List ℕ
+header32_image order h = h.e_ident ++ image_of_fields order (header32_fields h)

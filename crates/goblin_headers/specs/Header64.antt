@@ -1,6 +1,7 @@
 -- The header of a 64-bit file (System V gABI, "ELF Header", Elf64_Ehdr).
-use Rattle.std.specs.Prelude.{ℕ, List, take}
+use Rattle.std.specs.Prelude.{ℕ, List, [], ◌∷◌, ◌++◌, take}
 use Rattle.goblin_base.specs.declared.container.Endian.{Endian}
+use Rattle.goblin_base.specs.Fields.{Field, field, image_of_fields}
 use Rattle.goblin_base.specs.Number.{number_at}
 use Rattle.goblin_headers.specs.declared.header64.Header.{Header}
 
@@ -22,3 +23,14 @@ header64_of order bytes = record {
   e_shnum = number_at order bytes 60 2;
   e_shstrndx = number_at order bytes 62 2;
 }
+
+-- the fields of a header behind its identification, in the order in which they lie, each with its width
+abbrev pub header64_fields : Header → List Field
+header64_fields h =
+    field 2 h.e_type ∷ field 2 h.e_machine ∷ field 4 h.e_version ∷ field 8 h.e_entry ∷ field 8 h.e_phoff ∷ field 8 h.e_shoff
+    ∷ field 4 h.e_flags ∷ field 2 h.e_ehsize ∷ field 2 h.e_phentsize ∷ field 2 h.e_phnum ∷ field 2 h.e_shentsize
+    ∷ field 2 h.e_shnum ∷ field 2 h.e_shstrndx ∷ []
+
+-- the bytes that a header is written as: its identification as it is, and then the other fields
+abbrev pub header64_image : Endian → Header → List ℕ
+header64_image order h = h.e_ident ++ image_of_fields order (header64_fields h)

@@ -1,6 +1,8 @@
 pub mod Header
 pub mod Header32
+pub mod Header32Laws
 pub mod Header64
+pub mod Header64Laws
 pub mod Machines
 pub mod Names
 pub mod ProgramHeader
@@ -21,3 +23,5 @@ pub mod SectionHeaderLaws
 pub mod SectionHeaders
 pub mod SectionNames
 pub mod SegmentNames
+pub mod WriteHeader
+pub mod WriteHeaderLaws

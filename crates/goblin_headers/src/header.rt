@@ -1,5 +1,5 @@
 //! The header of an ELF file: System V gABI, "ELF Header" and "ELF Identification".
-ghost use Rattle.std.specs.Prelude.{◌≡◌, ◌≤◌, [], ◌∷◌, length, take};
+ghost use Rattle.std.specs.Prelude.{◌≡◌, ◌≤◌, ◌++◌, [], ◌∷◌, length, take, drop};
 ghost use Rattle.goblin_headers.specs.Header.{header_size, order_named};
 ghost use Rattle.goblin_headers.specs.Names.{class_name, type_name};
 
@@ -200,9 +200,11 @@ use goblin_base::error::Fault;
 use goblin_base::error::Result;
 use goblin_base::number::get_u64;
 use goblin_base::scroll::BE;
+use goblin_base::scroll::IntoCtx;
 use goblin_base::scroll::LE;
 use goblin_base::scroll::SizeWith;
 use goblin_base::scroll::TryFromCtx;
+use goblin_base::scroll::TryIntoCtx;
 
 /// No file type.
 pub const ET_NONE: u16 = 0;
@@ -370,6 +372,15 @@ pub(crate) fn ident_of(bytes: &[u8]) -> [u8; SIZEOF_IDENT]
     ident
 }
 
+// Puts an identification at the start of the bytes.
+pub(crate) fn put_ident(bytes: &mut [u8], ident: &[u8; SIZEOF_IDENT])
+    requires { 16 ≤ length bytes.old }
+    ensures front { bytes.new ≡ ident.now ++ drop 16 bytes.old }
+    ensures long { length ident.now ≡ 16 }
+{
+    bytes[..SIZEOF_IDENT].copy_from_slice(ident);
+}
+
 /// The header of a file of either class.
 #[derive(Clone, Copy, Debug, PartialEq)]
 pub struct Header {
@@ -535,6 +546,49 @@ impl<'a> TryFromCtx<'a, Endian> for Header {
                 Ok((Header::from(header), size))
             }
             class => Err(Error::Malformed(Fault::ElfClass(class))),
+        }
+    }
+}
+
+/// Writes a header in the class of its class byte. The context is ignored: the data byte decides the
+/// byte order.
+///
+/// The errors, of which the first that applies is the answer: `InvalidClass`, where the class byte is
+/// neither 1 nor 2; `Data`, where the data byte is neither; no room for a header of the class. Then no
+/// byte is written.
+impl TryIntoCtx<Endian> for Header {
+    ghost use Rattle.goblin_headers.specs.WriteHeader.{WritesHeader};
+
+    ghost try_into_gives = { λ header _ old answer new. WritesHeader header old answer new };
+
+    fn try_into_ctx(self, bytes: &mut [u8], ctx: Endian) -> Result<usize> {
+        match self.container()? {
+            Container::Little => header32::Header::from(self).try_into_ctx(bytes, ctx),
+            Container::Big => header64::Header::from(self).try_into_ctx(bytes, ctx),
+        }
+    }
+}
+
+/// Writes a header in the context's class and in the byte order of its data byte, which must be 1 or
+/// 2. The buffer must have room for a header of the class.
+impl IntoCtx<Ctx> for Header {
+    ghost use Rattle.std.specs.Prelude.{IsSome, IfSome, slice_index};
+    ghost use Rattle.goblin_headers.specs.Header.{header_image};
+
+    ghost can_into = { λ header ctx old.
+        (header_size ctx.container ≤ length old) × IsSome (order_named (slice_index header.e_ident 5)) };
+
+    ghost into_gives = { λ header ctx old new.
+        IfSome (order_named (slice_index header.e_ident 5)) (λ order.
+        new ≡ header_image ctx.container order header ++ drop (header_size ctx.container) old) };
+
+    fn into_ctx(self, bytes: &mut [u8], ctx: Ctx) {
+        let Some(order) = order_of(self.e_ident[EI_DATA]) else {
+            unreachable!();
+        };
+        match ctx.container {
+            Container::Little => header32::Header::from(self).put(bytes, order),
+            Container::Big => header64::Header::from(self).put(bytes, order),
         }
     }
 }

@@ -1,6 +1,6 @@
 //! The header of a 32-bit ELF file: System V gABI, "ELF Header", `Elf32_Ehdr`.
-ghost use Rattle.std.specs.Prelude.{◌≡◌, ◌≤◌, length};
-ghost use Rattle.goblin_headers.specs.Header32.{header32_of};
+ghost use Rattle.std.specs.Prelude.{◌≡◌, ◌≤◌, ◌++◌, length, drop};
+ghost use Rattle.goblin_headers.specs.Header32.{header32_of, header32_image};
 ghost use Rattle.goblin_headers.specs.ReadHeader.{read_header32};
 
 pub use crate::header::EI_ABIVERSION;
@@ -233,14 +233,19 @@ pub use crate::header::et_to_str;
 use crate::header::ident_of;
 pub use crate::header::machine_to_str;
 use crate::header::order_of;
+use crate::header::put_ident;
 use goblin_base::container::Endian;
 use goblin_base::error::Error;
 use goblin_base::error::Fault;
 use goblin_base::error::Result;
 use goblin_base::number::get_u16;
 use goblin_base::number::get_u32;
+use goblin_base::number::put_u16;
+use goblin_base::number::put_u32;
 use goblin_base::number::room;
+use goblin_base::scroll::LE;
 use goblin_base::scroll::TryFromCtx;
+use goblin_base::scroll::TryIntoCtx;
 
 /// How many bytes a header has.
 pub const SIZEOF_EHDR: usize = 52;
@@ -286,6 +291,7 @@ pub struct Header {
 }
 
 impl Header {
+    ghost use Rattle.goblin_base.specs.declared.container.Endian.TheVariants as endian;
     ghost use Rattle.goblin_base.specs.declared.error.Fault.TheVariants as faults;
 
     // The header at the start of the bytes, in this byte order.
@@ -310,6 +316,34 @@ impl Header {
             e_shnum: get_u16(bytes, 48, order),
             e_shstrndx: get_u16(bytes, 50, order),
         }
+    }
+
+    // Puts the header at the start of the bytes, in this byte order.
+    pub(crate) fn put(&self, bytes: &mut [u8], order: Endian)
+        requires { 52 ≤ length bytes.old }
+        ensures { bytes.new ≡ header32_image order self.now ++ drop 52 bytes.old }
+    {
+        put_ident(bytes, &self.e_ident);
+        put_u16(bytes, 16, self.e_type, order);
+        put_u16(bytes, 18, self.e_machine, order);
+        put_u32(bytes, 20, self.e_version, order);
+        put_u32(bytes, 24, self.e_entry, order);
+        put_u32(bytes, 28, self.e_phoff, order);
+        put_u32(bytes, 32, self.e_shoff, order);
+        put_u32(bytes, 36, self.e_flags, order);
+        put_u16(bytes, 40, self.e_ehsize, order);
+        put_u16(bytes, 42, self.e_phentsize, order);
+        put_u16(bytes, 44, self.e_phnum, order);
+        put_u16(bytes, 46, self.e_shentsize, order);
+        put_u16(bytes, 48, self.e_shnum, order);
+        put_u16(bytes, 50, self.e_shstrndx, order);
+    }
+
+    /// The header that these bytes stand for, read in little byte order whatever its data byte says.
+    pub fn from_bytes(bytes: &[u8; SIZEOF_EHDR]) -> Header
+        ensures { result ≡ header32_of endian.Little bytes.now }
+    {
+        Header::at(bytes, LE)
     }
 
     /// Reads a header without a look at its magic number and its class byte.
@@ -356,6 +390,33 @@ impl From<Header> for ElfHeader {
     }
 }
 
+/// Of the entry and the two offsets the low bits are kept, as many as their fields have room for.
+impl From<ElfHeader> for Header {
+    ghost use Rattle.goblin_headers.specs.Header.{narrowed32};
+
+    ghost from_gives = { λ header raw. raw ≡ narrowed32 header };
+
+    fn from(header: ElfHeader) -> Header {
+        let e_ident = header.e_ident;
+        Header {
+            e_ident,
+            e_type: header.e_type,
+            e_machine: header.e_machine,
+            e_version: header.e_version,
+            e_entry: (header.e_entry % 0x1_0000_0000) as u32,
+            e_phoff: (header.e_phoff % 0x1_0000_0000) as u32,
+            e_shoff: (header.e_shoff % 0x1_0000_0000) as u32,
+            e_flags: header.e_flags,
+            e_ehsize: header.e_ehsize,
+            e_phentsize: header.e_phentsize,
+            e_phnum: header.e_phnum,
+            e_shentsize: header.e_shentsize,
+            e_shnum: header.e_shnum,
+            e_shstrndx: header.e_shstrndx,
+        }
+    }
+}
+
 /// Reads a header as [`Header::parse`] does, but for its error of the data byte, which is
 /// `DataType`. The context is ignored: the data byte decides the byte order.
 impl<'a> TryFromCtx<'a, Endian> for Header {
@@ -373,5 +434,25 @@ impl<'a> TryFromCtx<'a, Endian> for Header {
         };
         room(bytes.len(), 0, SIZEOF_EHDR)?;
         Ok((Header::at(bytes, order), SIZEOF_EHDR))
+    }
+}
+
+/// The context is ignored: the data byte decides the byte order.
+///
+/// The errors, of which the first that applies is the answer: `Data`, where the data byte is neither
+/// 1 nor 2; no room for the 52 bytes of a header. Then no byte is written.
+impl TryIntoCtx<Endian> for Header {
+    ghost use Rattle.goblin_headers.specs.WriteHeader.{WritesHeader32};
+
+    ghost try_into_gives = { λ header _ old answer new. WritesHeader32 header old answer new };
+
+    #[tactic(auto, using(crate::specs::WriteHeaderLaws::header_answers))]
+    fn try_into_ctx(self, bytes: &mut [u8], _ctx: Endian) -> Result<usize> {
+        let Some(order) = order_of(self.e_ident[EI_DATA]) else {
+            return Err(Error::Malformed(Fault::Data(self.e_ident[EI_DATA])));
+        };
+        room(bytes.len(), 0, SIZEOF_EHDR)?;
+        self.put(bytes, order);
+        Ok(SIZEOF_EHDR)
     }
 }
