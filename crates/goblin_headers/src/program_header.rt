@@ -3,7 +3,8 @@ ghost use Rattle.std.specs.Prelude.{◌≡◌, ◌≤◌, ◌<◌, ◌/◌, ◌�
 ghost use Rattle.std.specs.Prelude.{length, drop, codes};
 ghost use Rattle.std.specs.Int.{IsBitSet};
 ghost use Rattle.std.specs.Int.Bits.{bit_or};
-ghost use Rattle.goblin_base.specs.Record.{and_size, read_within, Writes};
+ghost use Rattle.goblin_base.specs.Record.{read_within, Writes};
+ghost use Rattle.goblin_base.specs.Steps.{with_size};
 ghost use Rattle.goblin_base.specs.Refusal.{buffer_too_short, Gives, Refuses};
 ghost use Rattle.goblin_headers.specs.Ranges.{span};
 ghost use Rattle.goblin_headers.specs.ProgramHeader.{program_header_size, program_header_of};
@@ -278,7 +279,7 @@ impl SizeWith<Ctx> for ProgramHeader {
 impl<'a> TryFromCtx<'a, Ctx> for ProgramHeader {
     ghost try_from_gives = { λ bytes ctx answer.
         let size = program_header_size ctx.container in
-        answer ≡ and_size size (read_within size (program_header_of ctx.container ctx.le) bytes) };
+        answer ≡ with_size size (read_within size (program_header_of ctx.container ctx.le) bytes) };
 
     fn try_from_ctx(bytes: &'a [u8], ctx: Ctx) -> Result<(Self, usize)> {
         let header = ProgramHeader::read_record(bytes, ctx)?;

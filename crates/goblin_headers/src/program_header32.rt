@@ -1,7 +1,8 @@
 //! Program headers of the 32-bit class: System V gABI, "Program Header" (`Elf32_Phdr`).
 ghost use Rattle.std.specs.Prelude.{◌≡◌, ◌≤◌, ◌*◌, ◌++◌, length, drop, IfErr, IfOk, alloc_error};
 ghost use Rattle.goblin_base.specs.Eager.{records_in, room_of_each};
-ghost use Rattle.goblin_base.specs.Record.{and_size, read_within, Writes};
+ghost use Rattle.goblin_base.specs.Record.{read_within, Writes};
+ghost use Rattle.goblin_base.specs.Steps.{with_size};
 ghost use Rattle.goblin_base.specs.Refusal.{Gives};
 ghost use Rattle.goblin_base.specs.Table.{records};
 ghost use Rattle.goblin_headers.specs.ProgramHeader32.{program_header32_of, program_header32_image};
@@ -164,7 +165,7 @@ impl SizeWith<Endian> for ProgramHeader {
 /// Refused is only what has no room.
 impl<'a> TryFromCtx<'a, Endian> for ProgramHeader {
     ghost try_from_gives = { λ bytes order answer.
-        answer ≡ and_size 32 (read_within 32 (program_header32_of order) bytes) };
+        answer ≡ with_size 32 (read_within 32 (program_header32_of order) bytes) };
 
     fn try_from_ctx(bytes: &'a [u8], order: Endian) -> Result<(Self, usize)> {
         let header = ProgramHeader::read_record(bytes, order)?;

@@ -1,7 +1,8 @@
 //! Program headers of the 64-bit class: System V gABI, "Program Header" (`Elf64_Phdr`).
 ghost use Rattle.std.specs.Prelude.{◌≡◌, ◌≤◌, ◌*◌, ◌++◌, length, drop, IfErr, IfOk, alloc_error};
 ghost use Rattle.goblin_base.specs.Eager.{records_in, room_of_each};
-ghost use Rattle.goblin_base.specs.Record.{and_size, read_within, Writes};
+ghost use Rattle.goblin_base.specs.Record.{read_within, Writes};
+ghost use Rattle.goblin_base.specs.Steps.{with_size};
 ghost use Rattle.goblin_base.specs.Refusal.{Gives};
 ghost use Rattle.goblin_base.specs.Table.{records};
 ghost use Rattle.goblin_headers.specs.ProgramHeader64.{program_header64_of, program_header64_image};
@@ -162,7 +163,7 @@ impl SizeWith<Endian> for ProgramHeader {
 /// Refused is only what has no room.
 impl<'a> TryFromCtx<'a, Endian> for ProgramHeader {
     ghost try_from_gives = { λ bytes order answer.
-        answer ≡ and_size 56 (read_within 56 (program_header64_of order) bytes) };
+        answer ≡ with_size 56 (read_within 56 (program_header64_of order) bytes) };
 
     fn try_from_ctx(bytes: &'a [u8], order: Endian) -> Result<(Self, usize)> {
         let header = ProgramHeader::read_record(bytes, order)?;

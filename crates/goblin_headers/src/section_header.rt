@@ -2,7 +2,8 @@
 ghost use Rattle.std.specs.Prelude.{◌≡◌, ◌≤◌, ◌<◌, ◌/◌, ◌↔◌, ◌++◌, ◌≢◌, [], ◌∷◌, IsTrue, IfErr};
 ghost use Rattle.std.specs.Prelude.{IsNone, IfSome, length, drop, codes};
 ghost use Rattle.std.specs.Int.{IsBitSet};
-ghost use Rattle.goblin_base.specs.Record.{and_size, read_within, Writes};
+ghost use Rattle.goblin_base.specs.Record.{read_within, Writes};
+ghost use Rattle.goblin_base.specs.Steps.{with_size};
 ghost use Rattle.goblin_base.specs.Refusal.{buffer_too_short, Gives, Refuses};
 ghost use Rattle.goblin_base.specs.Room.{room_of};
 ghost use Rattle.goblin_headers.specs.Ranges.{span};
@@ -479,7 +480,7 @@ impl SizeWith<Ctx> for SectionHeader {
 impl<'a> TryFromCtx<'a, Ctx> for SectionHeader {
     ghost try_from_gives = { λ bytes ctx answer.
         let size = section_header_size ctx.container in
-        answer ≡ and_size size (read_within size (section_header_of ctx.container ctx.le) bytes) };
+        answer ≡ with_size size (read_within size (section_header_of ctx.container ctx.le) bytes) };
 
     fn try_from_ctx(bytes: &'a [u8], ctx: Ctx) -> Result<(Self, usize)> {
         let header = SectionHeader::read_record(bytes, ctx)?;

@@ -1,6 +1,7 @@
 //! Section headers of the 32-bit class: System V gABI, "Section Header" (`Elf32_Shdr`).
 ghost use Rattle.std.specs.Prelude.{◌≡◌, ◌≤◌, ◌*◌, ◌++◌, length, drop, IfErr, IfOk, alloc_error};
-ghost use Rattle.goblin_base.specs.Record.{and_size, read_within, Writes};
+ghost use Rattle.goblin_base.specs.Record.{read_within, Writes};
+ghost use Rattle.goblin_base.specs.Steps.{with_size};
 ghost use Rattle.goblin_base.specs.Table.{records};
 ghost use Rattle.goblin_headers.specs.SectionHeader32.{section_header32_of, section_header32_image};
 ghost use Rattle.goblin_headers.specs.SectionHeader32.{OneImage};
@@ -161,7 +162,7 @@ impl SizeWith<Endian> for SectionHeader {
 /// Refused is only what has no room.
 impl<'a> TryFromCtx<'a, Endian> for SectionHeader {
     ghost try_from_gives = { λ bytes order answer.
-        answer ≡ and_size 40 (read_within 40 (section_header32_of order) bytes) };
+        answer ≡ with_size 40 (read_within 40 (section_header32_of order) bytes) };
 
     fn try_from_ctx(bytes: &'a [u8], order: Endian) -> Result<(Self, usize)> {
         let header = SectionHeader::read_record(bytes, order)?;

@@ -1,6 +1,7 @@
 //! Section headers of the 64-bit class: System V gABI, "Section Header" (`Elf64_Shdr`).
 ghost use Rattle.std.specs.Prelude.{◌≡◌, ◌≤◌, ◌*◌, ◌++◌, length, drop, IfErr, IfOk, alloc_error};
-ghost use Rattle.goblin_base.specs.Record.{and_size, read_within, Writes};
+ghost use Rattle.goblin_base.specs.Record.{read_within, Writes};
+ghost use Rattle.goblin_base.specs.Steps.{with_size};
 ghost use Rattle.goblin_base.specs.Table.{records};
 ghost use Rattle.goblin_headers.specs.SectionHeader64.{section_header64_of, section_header64_image};
 ghost use Rattle.goblin_headers.specs.SectionHeader64.{OneImage};
@@ -160,7 +161,7 @@ impl SizeWith<Endian> for SectionHeader {
 /// Refused is only what has no room.
 impl<'a> TryFromCtx<'a, Endian> for SectionHeader {
     ghost try_from_gives = { λ bytes order answer.
-        answer ≡ and_size 64 (read_within 64 (section_header64_of order) bytes) };
+        answer ≡ with_size 64 (read_within 64 (section_header64_of order) bytes) };
 
     fn try_from_ctx(bytes: &'a [u8], order: Endian) -> Result<(Self, usize)> {
         let header = SectionHeader::read_record(bytes, order)?;
