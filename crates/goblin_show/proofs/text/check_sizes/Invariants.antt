@@ -1,0 +1,7 @@
+use Rattle.std.proofs.Common.{◌≡◌, drop}
+use Rattle.goblin_show.specs.Shown.{sizes_checked}
+use Rattle.goblin_show.proofs.text.check_sizes.Given as goal
+
+-- what was passed lies in the file
+abbrev pub invariant-loop-section : goal.invariant-loop-section
+invariant-loop-section l = sizes_checked l.len l.sections ≡ sizes_checked l.len (drop l.section-index l.sections)
