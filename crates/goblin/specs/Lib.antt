@@ -1,10 +1,11 @@
 pub use Rattle.goblin_base.specs.Refusal
 pub use Rattle.goblin_base.specs.Steps
 pub use Rattle.goblin_base.specs.Texts
+pub use Rattle.goblin_headers.specs.Header
 pub use Rattle.goblin_headers.specs.Machines
 pub use Rattle.goblin_headers.specs.Names
-pub use Rattle.goblin_headers.specs.Header
 pub use Rattle.goblin_headers.specs.ReadHeader
+pub use Rattle.goblin_headers.specs.SectionHeader
 pub use Rattle.goblin_headers.specs.SectionHeaders
 pub use Rattle.goblin_headers.specs.SectionNames
 pub use Rattle.goblin_records.specs.Sym

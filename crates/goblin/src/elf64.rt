@@ -1,4 +1,5 @@
 //! The records of 64-bit ELF files, under the same names as in `elf32`.
-pub use goblin_headers::{header64 as header, program_header64 as program_header};
-pub use goblin_headers::section_header64 as section_header;
+pub use goblin_headers::{
+    header64 as header, program_header64 as program_header, section_header64 as section_header,
+};
 pub use goblin_records::sym64 as sym;

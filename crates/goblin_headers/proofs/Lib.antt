@@ -1,3 +1,5 @@
+pub mod RawTrips
 pub mod ReadHeaderLemmas
 pub mod ReadSections
+pub mod WholeTrips
 pub mod WriteHeaderLemmas

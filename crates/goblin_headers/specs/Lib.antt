@@ -3,6 +3,7 @@ pub mod Header32
 pub mod Header32Laws
 pub mod Header64
 pub mod Header64Laws
+pub mod HeaderTrips
 pub mod Machines
 pub mod Names
 pub mod ProgramHeader

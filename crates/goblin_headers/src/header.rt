@@ -1,6 +1,8 @@
 //! The header of an ELF file: System V gABI, "ELF Header" and "ELF Identification".
 ghost use Rattle.std.specs.Prelude.{◌≡◌, ◌≤◌, ◌++◌, [], ◌∷◌, length, take, drop};
 ghost use Rattle.goblin_headers.specs.Header.{header_size, order_named};
+ghost use Rattle.goblin_headers.specs.HeaderTrips.{ReadsBack, WritesBack};
+ghost use Rattle.goblin_headers.specs.HeaderTrips.{NewIsOfContext, NewIsReadBack};
 ghost use Rattle.goblin_headers.specs.Names.{class_name, type_name};
 
 pub use crate::constants_header::EM_68HC05;
@@ -576,7 +578,8 @@ impl IntoCtx<Ctx> for Header {
     ghost use Rattle.goblin_headers.specs.Header.{header_image};
 
     ghost can_into = { λ header ctx old.
-        (header_size ctx.container ≤ length old) × IsSome (order_named (slice_index header.e_ident 5)) };
+        (header_size ctx.container ≤ length old)
+        × IsSome (order_named (slice_index header.e_ident 5)) };
 
     ghost into_gives = { λ header ctx old new.
         IfSome (order_named (slice_index header.e_ident 5)) (λ order.
@@ -592,3 +595,13 @@ impl IntoCtx<Ctx> for Header {
         }
     }
 }
+
+/// Laws: what fits is read back from what was written, and what was read is written back; a new
+/// header has the class and the byte order of its context, and is read back from its own bytes. A
+/// call does nothing.
+pub fn laws()
+    ensures reads_back { ReadsBack }
+    ensures writes_back { WritesBack }
+    ensures new_context { NewIsOfContext }
+    ensures new_reads_back { NewIsReadBack }
+{}

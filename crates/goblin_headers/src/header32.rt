@@ -1,6 +1,7 @@
 //! The header of a 32-bit ELF file: System V gABI, "ELF Header", `Elf32_Ehdr`.
 ghost use Rattle.std.specs.Prelude.{◌≡◌, ◌≤◌, ◌++◌, length, drop};
 ghost use Rattle.goblin_headers.specs.Header32.{header32_of, header32_image};
+ghost use Rattle.goblin_headers.specs.HeaderTrips.{ReadsBack32, WritesBack32};
 ghost use Rattle.goblin_headers.specs.ReadHeader.{read_header32};
 
 pub use crate::header::EI_ABIVERSION;
@@ -456,3 +457,10 @@ impl TryIntoCtx<Endian> for Header {
         Ok(SIZEOF_EHDR)
     }
 }
+
+/// Laws: what fits is read back from what was written, and what was read is written back. A call does
+/// nothing.
+pub fn laws()
+    ensures reads_back { ReadsBack32 }
+    ensures writes_back { WritesBack32 }
+{}

@@ -1,6 +1,7 @@
 //! The header of a 64-bit ELF file: System V gABI, "ELF Header", `Elf64_Ehdr`.
 ghost use Rattle.std.specs.Prelude.{◌≡◌, ◌≤◌, ◌++◌, length, drop};
 ghost use Rattle.goblin_headers.specs.Header64.{header64_of, header64_image};
+ghost use Rattle.goblin_headers.specs.HeaderTrips.{ReadsBack64, WritesBack64};
 ghost use Rattle.goblin_headers.specs.ReadHeader.{read_header64};
 
 pub use crate::header::EI_ABIVERSION;
@@ -457,3 +458,10 @@ impl TryIntoCtx<Endian> for Header {
         Ok(SIZEOF_EHDR)
     }
 }
+
+/// Laws: what fits is read back from what was written, and what was read is written back. A call does
+/// nothing.
+pub fn laws()
+    ensures reads_back { ReadsBack64 }
+    ensures writes_back { WritesBack64 }
+{}
