@@ -1,8 +1,9 @@
 //! Symbols of either class: System V gABI, "Symbol Table".
-ghost use Rattle.std.specs.Prelude.{◌≡◌, ◌≤◌, ◌↔◌, ◌++◌, [], ◌∷◌, IsTrue, length, drop};
+ghost use Rattle.std.specs.Prelude.{◌≡◌, ◌≤◌, ◌<◌, ◌/◌, ◌↔◌, ◌++◌, [], ◌∷◌, IsTrue, length, drop};
+ghost use Rattle.std.specs.Prelude.{codes};
 ghost use Rattle.goblin_base.specs.Record.{read_within, Writes};
 ghost use Rattle.goblin_base.specs.Steps.{with_size};
-ghost use Rattle.goblin_base.specs.Refusal.{Gives};
+ghost use Rattle.goblin_base.specs.Refusal.{buffer_too_short, Gives, Refuses};
 ghost use Rattle.goblin_records.specs.Sym.{sym_size, sym_of, sym_image, symbols_from};
 ghost use Rattle.goblin_records.specs.Sym.{OneImage, SameInEachClass};
 ghost use Rattle.goblin_records.specs.SymParts.{bind_of, type_of, visibility_of};
@@ -245,9 +246,9 @@ impl Sym {
 
     /// The `count` symbols that lie one after another from an offset on, as a vector.
     ///
-    /// More symbols than the bytes could hold anywhere are a `BufferTooShort`. Else memory is taken for
-    /// all of them at once, and the first symbol without room gives its fault. Where `count` is 0 the
-    /// list is empty, whatever the offset.
+    /// More symbols than the bytes could hold anywhere are a `BufferTooShort`, which want of memory
+    /// never hides. Else memory is taken for all of them at once, and the first symbol without room
+    /// gives its fault. Where `count` is 0 the list is empty, whatever the offset.
     pub fn parse(
         alloc: Global,
         bytes: &[u8],
@@ -255,7 +256,10 @@ impl Sym {
         count: usize,
         ctx: Ctx,
     ) -> Result<Vec<Sym>>
-        ensures { Gives (λ v. v.items) result (symbols_from bytes.now offset count ctx) }
+        ensures given { let right = symbols_from bytes.now offset count ctx in
+            Gives (λ v. v.items) result right }
+        ensures counted { length bytes.now / sym_size ctx.container < count →
+            Refuses result (buffer_too_short count (codes "symbols")) }
     {
         read_all(alloc, bytes, offset, count, ctx, "symbols")
     }
