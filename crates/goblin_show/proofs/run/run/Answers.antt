@@ -1,4 +1,4 @@
-use Rattle.std.proofs.Common.{inl, inr, refl, arith, codes}
+use Rattle.std.proofs.Common.{inl, inr, refl}
 use Rattle.goblin_show.proofs.run.run.Goals as goal
 
 pub returns-in-TooLong-clause-refused : goal.returns-in-TooLong-clause-refused
