@@ -24,7 +24,7 @@ fn digit_of(c: u8) -> Option<u8> {
 }
 
 // The bytes that a hexadecimal text spells.
-fn bytes_of(alloc: Global, text: &str) -> Result<Vec<u8>, AllocError> {
+pub(crate) fn bytes_of(alloc: Global, text: &str) -> Result<Vec<u8>, AllocError> {
     let mut bytes = Vec::new(alloc);
     let mut high = None;
     for digit in text.as_bytes().iter().copied().filter_map(digit_of) {
@@ -39,8 +39,17 @@ fn bytes_of(alloc: Global, text: &str) -> Result<Vec<u8>, AllocError> {
     Ok(bytes)
 }
 
+// The bytes that a hexadecimal text spells, and behind them AA, up to so many in all.
+pub(crate) fn padded(alloc: Global, text: &str, len: usize) -> Result<Vec<u8>, AllocError> {
+    let mut bytes = bytes_of(alloc, text)?;
+    for _ in bytes.len()..len {
+        bytes.push(0xaa)?;
+    }
+    Ok(bytes)
+}
+
 // The text of the error, or `Ok`.
-fn told<T: Drop>(alloc: Global, answer: Answer<T>) -> Result<String, AllocError> {
+pub(crate) fn told<T: Drop>(alloc: Global, answer: Answer<T>) -> Result<String, AllocError> {
     match answer {
         Ok(_) => String::from_str(alloc, "Ok"),
         Err(e) => e.line(alloc),
