@@ -24,6 +24,13 @@ pub too_many : {R : Type 0} (size s : ℕ) (read : List ℕ → R) (bytes : List
 unfolding records_from
 too_many size s read bytes offset count items same h = rw (← same) (grind (arith, nat_tests))
 
+-- none are asked for
+pub none_asked : {R : Type 0} (size : ℕ) (read : List ℕ → R) (bytes : List ℕ) (offset count : ℕ) (items : List ℕ) → count ≡ 0 → records_from size read bytes offset count items ≡ Ok []
+unfolding records_from
+none_asked size read bytes offset count items none =
+    let few : nat_lt (length bytes / size) 0 ≡ false = grind (arith, nat_tests) in
+    rw (none, few, no_records size read 0 (drop offset bytes) refl) refl
+
 -- how far reading has come: i records were read, and the others stand from a place on
 pub record ReadSoFar {R : Type 0} (size : ℕ) (read : List ℕ → R) (bytes : List ℕ) (offset count i place : ℕ) (found : List R) : Type 0 where
   pub there : place ≡ offset + i * size

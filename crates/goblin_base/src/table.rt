@@ -1,7 +1,7 @@
 //! Tables of records that are read from borrowed bytes as they are asked for.
 ghost use Rattle.std.specs.Prelude.{◌≡◌, ◌≤◌, ◌*◌, ◌↔◌, IsTrue, IfOk, IfSome, IfErr, alloc_error};
 ghost use Rattle.std.specs.Prelude.{◌+◌, ◌/◌, ◌<◌, OnOk, take, drop, [], List, length, slice_get};
-ghost use Rattle.std.specs.Prelude.{All, flat_map};
+ghost use Rattle.std.specs.Prelude.{All, flat_map, IsOk};
 ghost use Rattle.std.specs.Iterator.{UpTo, YieldsFirst, item_count};
 ghost use Rattle.std.specs.Iterator.SizeHint.{IsWithinCount};
 ghost use Rattle.goblin_base.specs.Eager.{records_from, records_in, room_of_each};
@@ -180,8 +180,8 @@ pub fn read_at<R: Record<C>, C: Copy>(bytes: &[u8], place: usize, ctx: C) -> Res
 ///
 /// More records than the bytes could hold anywhere are a `BufferTooShort` of these items. Else memory
 /// is taken for all of them at once, and the first record without room gives its fault. Where `count`
-/// is 0 the list is empty, whatever the offset. So want of memory can stand in place of a record's
-/// fault, but never of a `BufferTooShort`.
+/// is 0 the list is empty, whatever the offset, and takes no memory. So want of memory can stand in
+/// place of a record's fault, but never of a `BufferTooShort`.
 pub fn read_all<R: Record<C>, C: Copy>(
     alloc: Global,
     bytes: &[u8],
@@ -195,10 +195,14 @@ pub fn read_all<R: Record<C>, C: Copy>(
         Gives (λ v. v.items) result right }
     ensures counted { length bytes.now / R.size_of ctx < count →
         Refuses result (buffer_too_short count items.now) }
+    ensures none { (count ≡ 0) → IsOk result }
 {
     let size = R::size_with(&ctx);
     if count > bytes.len() / size {
         return Err(Error::BufferTooShort(count, items));
+    }
+    if count == 0 {
+        return Ok(Vec::new(alloc));
     }
     let mut all = Vec::with_capacity(alloc, count)?;
     let mut place = offset;
@@ -231,7 +235,8 @@ fn room_for_each(
 /// The `count` records that lie one after another from an offset on, as a vector.
 ///
 /// The first record without room gives its fault, before any memory is taken, so that want of memory
-/// stands in place of no fault. Where `count` is 0 the list is empty, whatever the offset.
+/// stands in place of no fault. Where `count` is 0 the list is empty, whatever the offset, and takes
+/// no memory.
 pub fn read_in_range<R: Record<C>, C: Copy>(
     alloc: Global,
     bytes: &[u8],
@@ -244,6 +249,7 @@ pub fn read_in_range<R: Record<C>, C: Copy>(
         Gives (λ v. v.items) result right }
     ensures range { IfErr (room_of_each (length bytes.now) offset (R.size_of ctx) count)
         (λ e. result ≡ Err (Error.Scroll e)) }
+    ensures none { (count ≡ 0) → IsOk result }
 {
     room_for_each(bytes.len(), offset, R::size_with(&ctx), count)?;
     if count == 0 {

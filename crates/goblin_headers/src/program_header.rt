@@ -1,6 +1,6 @@
 //! Program headers, which tell how a file is loaded: System V gABI, "Program Header".
 ghost use Rattle.std.specs.Prelude.{◌≡◌, ◌≤◌, ◌<◌, ◌/◌, ◌↔◌, ◌++◌, [], ◌∷◌, IsTrue};
-ghost use Rattle.std.specs.Prelude.{length, drop, codes};
+ghost use Rattle.std.specs.Prelude.{IsOk, length, drop, codes};
 ghost use Rattle.std.specs.Int.{IsBitSet};
 ghost use Rattle.std.specs.Int.Bits.{bit_or};
 ghost use Rattle.goblin_base.specs.Record.{read_within, Writes};
@@ -236,6 +236,7 @@ impl ProgramHeader {
             Gives (λ v. v.items) result right }
         ensures counted { length bytes.now / program_header_size ctx.container < count →
             Refuses result (buffer_too_short count (codes "program headers")) }
+        ensures none { (count ≡ 0) → IsOk result }
     {
         read_all(alloc, bytes, offset, count, ctx, "program headers")
     }

@@ -1,5 +1,6 @@
 //! Program headers of the 64-bit class: System V gABI, "Program Header" (`Elf64_Phdr`).
-ghost use Rattle.std.specs.Prelude.{◌≡◌, ◌≤◌, ◌*◌, ◌++◌, length, drop, IfErr, IfOk, alloc_error};
+ghost use Rattle.std.specs.Prelude.{◌≡◌, ◌≤◌, ◌*◌, ◌++◌, length, drop, IfErr, IfOk, IsOk};
+ghost use Rattle.std.specs.Prelude.{alloc_error};
 ghost use Rattle.goblin_base.specs.Eager.{records_in, room_of_each};
 ghost use Rattle.goblin_base.specs.Record.{read_within, Writes};
 ghost use Rattle.goblin_base.specs.Steps.{with_size};
@@ -66,6 +67,7 @@ impl ProgramHeader {
             Gives (λ v. v.items) result right }
         ensures range { IfErr (room_of_each (length bytes.now) offset SIZEOF_PHDR count)
             (λ e. result ≡ Err (Error.Scroll e)) }
+        ensures none { (count ≡ 0) → IsOk result }
     {
         read_in_range(alloc, bytes, offset, count, order)
     }

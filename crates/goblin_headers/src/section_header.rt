@@ -1,6 +1,6 @@
 //! Section headers, which tell what a file holds: System V gABI, "Section Header".
 ghost use Rattle.std.specs.Prelude.{◌≡◌, ◌≤◌, ◌<◌, ◌/◌, ◌↔◌, ◌++◌, ◌≢◌, [], ◌∷◌, IsTrue, IfErr};
-ghost use Rattle.std.specs.Prelude.{IsNone, IfSome, length, drop, codes};
+ghost use Rattle.std.specs.Prelude.{IsNone, IsOk, IfSome, length, drop, codes};
 ghost use Rattle.std.specs.Int.{IsBitSet};
 ghost use Rattle.goblin_base.specs.Record.{read_within, Writes};
 ghost use Rattle.goblin_base.specs.Steps.{with_size};
@@ -339,6 +339,7 @@ impl SectionHeader {
             Gives (λ v. v.items) result right }
         ensures tested { let tests = section_headers_tested bytes.now offset count ctx in
             (offset ≢ 0) → IfErr tests (λ refusal. Refuses result refusal) }
+        ensures none { (offset ≡ 0) → IsOk result }
     {
         if offset == 0 {
             return Ok(Vec::new(alloc));

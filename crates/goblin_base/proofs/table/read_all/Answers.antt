@@ -1,10 +1,14 @@
 use Rattle.std.proofs.Common.{rules, arith}
-use Rattle.goblin_base.proofs.Eager.{too_many, none_read, next_read, all_read, no_room}
+use Rattle.goblin_base.proofs.Eager.{too_many, none_asked, none_read, next_read, all_read, no_room}
 use Rattle.goblin_base.proofs.table.read_all.Goals as goal
 
 pub returns-then-count-bytes-clause-given : goal.returns-then-count-bytes-clause-given
 returns-then-count-bytes-clause-given g c _ =
     too_many (g.R.SizeWith.size_of c.args.ctx) c.size_with-size.result (g.R.Record.read c.args.ctx) c.args.bytes.now c.args.offset c.args.count c.args.items.now c.size_with-size.ensures c.if-count-bytes.true
+
+pub returns-then-count-eq0-clause-given : goal.returns-then-count-eq0-clause-given
+returns-then-count-eq0-clause-given g c =
+    rw c.new.ensures.items (none_asked (g.R.SizeWith.size_of c.args.ctx) (g.R.Record.read c.args.ctx) c.args.bytes.now c.args.offset c.args.count c.args.items.now c.if-count-eq0.true)
 
 pub each-init : goal.each-init
 each-init g c =
