@@ -1,6 +1,6 @@
 //! Symbols of either class: System V gABI, "Symbol Table".
 ghost use Rattle.std.specs.Prelude.{◌≡◌, ◌≤◌, ◌<◌, ◌/◌, ◌↔◌, ◌++◌, [], ◌∷◌, IsTrue, length, drop};
-ghost use Rattle.std.specs.Prelude.{codes};
+ghost use Rattle.std.specs.Prelude.{codes, IsOk};
 ghost use Rattle.goblin_base.specs.Record.{read_within, Writes};
 ghost use Rattle.goblin_base.specs.Steps.{with_size};
 ghost use Rattle.goblin_base.specs.Refusal.{buffer_too_short, Gives, Refuses};
@@ -248,7 +248,7 @@ impl Sym {
     ///
     /// More symbols than the bytes could hold anywhere are a `BufferTooShort`, which want of memory
     /// never hides. Else memory is taken for all of them at once, and the first symbol without room
-    /// gives its fault. Where `count` is 0 the list is empty, whatever the offset.
+    /// gives its fault. Where `count` is 0 the list is empty, whatever the offset and the memory.
     pub fn parse(
         alloc: Global,
         bytes: &[u8],
@@ -260,6 +260,7 @@ impl Sym {
             Gives (λ v. v.items) result right }
         ensures counted { length bytes.now / sym_size ctx.container < count →
             Refuses result (buffer_too_short count (codes "symbols")) }
+        ensures none { (count ≡ 0) → IsOk result }
     {
         read_all(alloc, bytes, offset, count, ctx, "symbols")
     }
