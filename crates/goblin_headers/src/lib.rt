@@ -1,4 +1,4 @@
-//! The headers of ELF files: System V gABI, "ELF Header".
+//! The headers of ELF files: System V gABI, "ELF Header", "Program Header" and "Section Header".
 #![tactic(auto)]
 
 mod constants_header;
