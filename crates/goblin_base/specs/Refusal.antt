@@ -35,6 +35,11 @@ abbrev pub Gives : {X Y : Type 0} → (X → Y) → Result X Error → Result Y 
 Gives view (Ok x) right = right ≡ Ok (view x)
 Gives view (Err e) right = refusal_of e ≢ out_of_memory → right ≡ Err (refusal_of e)
 
+-- what was answered, seen by `view`, is what is right, an error too
+abbrev pub Answers : {X Y : Type 0} → (X → Y) → Result X Error → Result Y Refusal → Type 0
+Answers view (Ok x) right = right ≡ Ok (view x)
+Answers view (Err e) right = right ≡ Err (refusal_of e)
+
 -- the answer is an error that tells this refusal
 abbrev pub Refuses : {X : Type 0} → Result X Error → Refusal → Type 0
 Refuses (Ok x) refusal = ⊥
