@@ -11,3 +11,4 @@ pub use Rattle.goblin_headers.specs.SectionNames
 pub use Rattle.goblin_records.specs.Sym
 pub use Rattle.goblin_records.specs.SymParts
 pub mod Symtab
+pub mod SymtabLaws

@@ -1,9 +1,11 @@
 -- Symbol tables: which are accepted, and which symbols they hold (System V gABI, "Symbol Table").
-use Rattle.std.specs.Prelude.{◌*◌, ◌-◌, ◌^◌, ℕ, List, length, drop, nat_le, nat_lt, if◌then◌else◌, Result, Ok, Err}
+use Rattle.std.specs.Prelude.{◌≡◌, ◌*◌, ◌-◌, ◌/◌, ◌^◌, min, ℕ, List, [], length, drop, take, nat_le, nat_lt, if◌then◌else◌, Result, Ok, Err}
 use Rattle.goblin_base.specs.declared.container.Ctx.{Ctx}
 use Rattle.goblin_base.specs.declared.error.Error.{Error}
 use Rattle.goblin_base.specs.declared.error.Error.TheVariants.{Malformed}
 use Rattle.goblin_base.specs.declared.error.Fault.TheVariants.{SymtabOffset, TooManySymbols, SymtabPast}
+use Rattle.goblin_base.specs.declared.options.ParseMode.{ParseMode}
+use Rattle.goblin_base.specs.declared.options.ParseMode.TheVariants.{Strict, Permissive}
 use Rattle.goblin_base.specs.Table.{records}
 use Rattle.goblin_records.specs.declared.sym.Sym.{Sym}
 use Rattle.goblin_records.specs.Sym.{sym_size, sym_of}
@@ -14,15 +16,43 @@ pub record Symbols : Type 0 where
   pub offset : ℕ
   pub ctx : Ctx
 
+-- so many symbols that lie one after another from an offset on
+abbrev pub symbols_at : List ℕ → ℕ → ℕ → Ctx → Symbols
+symbols_at bytes offset count ctx = record {
+  symbols = records (sym_size ctx.container) (sym_of ctx.container ctx.le) count (drop offset bytes);
+  offset = offset;
+  ctx = ctx;
+}
+
 -- the table of so many symbols at an offset: the offset must lie before the end, even for no symbols; the size of
 -- all symbols must fit a machine word, and the bytes from the offset on must hold them
 abbrev pub symtab_of : List ℕ → ℕ → ℕ → Ctx → Result Symbols Error
 symtab_of bytes offset count ctx =
-    let size = sym_size ctx.container in
+    let requested = count * sym_size ctx.container in
     let available = length bytes - offset in
     if nat_le (length bytes) offset then Err (Malformed (SymtabOffset offset (length bytes)))
+    else if nat_le (2 ^ 64) requested then Err (Malformed (TooManySymbols offset count))
+    else if nat_lt available requested then Err (Malformed (SymtabPast requested available))
+    else Ok (symbols_at bytes offset count ctx)
+
+-- the same of a damaged file: at the end or past it there are no symbols, and of more than the bytes hold there are
+-- as many as they hold; a size that fits no machine word is refused
+abbrev pub permissive_symtab_of : List ℕ → ℕ → ℕ → Ctx → Result Symbols Error
+permissive_symtab_of bytes offset count ctx =
+    let size = sym_size ctx.container in
+    let available = length bytes - offset in
+    if nat_le (length bytes) offset then Ok (record { symbols = []; offset = offset; ctx = ctx })
     else if nat_le (2 ^ 64) (count * size) then Err (Malformed (TooManySymbols offset count))
-    else if nat_lt available (count * size) then Err (Malformed (SymtabPast (count * size) available))
-    else
-    let symbols = records size (sym_of ctx.container ctx.le) count (drop offset bytes) in
-    Ok (record { symbols = symbols; offset = offset; ctx = ctx })
+    else Ok (symbols_at bytes offset (min count (available / size)) ctx)
+
+-- the table by a mode
+abbrev pub symtab_by : ParseMode → List ℕ → ℕ → ℕ → Ctx → Result Symbols Error
+symtab_by Strict = symtab_of
+symtab_by Permissive = permissive_symtab_of
+
+-- where the strict reading accepts a table, the permissive one gives the same
+abbrev pub PermissiveKeepsStrict : Type 0
+PermissiveKeepsStrict =
+    (bytes : List ℕ) (offset count : ℕ) (ctx : Ctx) (table : Symbols)
+    → symtab_of bytes offset count ctx ≡ Ok table
+    → permissive_symtab_of bytes offset count ctx ≡ Ok table

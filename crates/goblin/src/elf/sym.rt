@@ -1,12 +1,14 @@
 //! Symbols and symbol tables: System V gABI, "Symbol Table".
-ghost use Rattle.std.specs.Prelude.{◌≡◌, ◌↔◌, [], length, slice_get, IsTrue, IfOk, IfErr};
+ghost use Rattle.std.specs.Prelude.{◌≡◌, ◌≤◌, ◌-◌, ◌*◌, ◌↔◌, [], length, slice_get, IsTrue, IfOk, IfErr};
 ghost use Rattle.std.specs.Prelude.{IfSome, alloc_error};
 ghost use Rattle.std.specs.Iterator.{UpTo, YieldsFirst, item_count};
 ghost use Rattle.std.specs.Iterator.SizeHint.{IsWithinCount};
-ghost use Rattle.goblin.specs.Symtab.{symtab_of};
+ghost use Rattle.goblin.specs.Symtab.{symbols_at, symtab_by, symtab_of, PermissiveKeepsStrict};
+ghost use Rattle.goblin_records.specs.Sym.{sym_size};
 
 use goblin_base::container::Ctx;
 use goblin_base::error::{Error, Fault, Result};
+use goblin_base::options::{ParseMode, ParseOptions};
 use goblin_base::table::{Table, TableIter};
 pub use goblin_records::sym::{
     STB_GLOBAL, STB_GNU_UNIQUE, STB_HIOS, STB_HIPROC, STB_LOCAL, STB_LOOS, STB_LOPROC, STB_NUM,
@@ -47,27 +49,66 @@ impl<'a> Symtab<'a> {
     pub fn parse(bytes: &'a [u8], offset: usize, count: usize, ctx: Ctx) -> Result<Symtab<'a>>
         ensures { result ≡ symtab_of bytes.now offset count ctx }
     {
+        Symtab::parse_with_opts(bytes, offset, count, ctx, &ParseOptions::strict())
+    }
+
+    /// The table of `count` symbols, by these options.
+    ///
+    /// Strict options answer as [`Symtab::parse`] does. Permissive ones give the empty table where the
+    /// offset lies at the file's end or past it, whatever the count, and as many symbols as there are
+    /// bytes for where `count` asks for more. They refuse a size of all symbols that passes `usize`,
+    /// which is `TooManySymbols`, and nothing else.
+    #[tactic(auto, unfolding(goblin_base::specs::Table::records))]
+    pub fn parse_with_opts(
+        bytes: &'a [u8],
+        offset: usize,
+        count: usize,
+        ctx: Ctx,
+        opts: &ParseOptions,
+    ) -> Result<Symtab<'a>>
+        ensures { result ≡ symtab_by opts.now.parse_mode bytes.now offset count ctx }
+    {
         if offset >= bytes.len() {
-            return Err(Error::Malformed(Fault::SymtabOffset {
-                offset,
-                len: bytes.len(),
-            }));
+            return match opts.parse_mode {
+                ParseMode::Strict => Err(Error::Malformed(Fault::SymtabOffset {
+                    offset,
+                    len: bytes.len(),
+                })),
+                ParseMode::Permissive => Ok(Symtab {
+                    table: Table::of(&[], 0, ctx),
+                    offset,
+                    ctx,
+                }),
+            };
         }
-        let Some(requested) = count.checked_mul(Sym::size(ctx.container)) else {
+        let size = Sym::size(ctx.container);
+        let Some(requested) = count.checked_mul(size) else {
             return Err(Error::Malformed(Fault::TooManySymbols { offset, count }));
         };
         let available = bytes.len() - offset;
-        if requested > available {
-            return Err(Error::Malformed(Fault::SymtabPast {
+        if requested <= available {
+            return Ok(Symtab::of(bytes, offset, count, ctx));
+        }
+        match opts.parse_mode {
+            ParseMode::Strict => Err(Error::Malformed(Fault::SymtabPast {
                 requested,
                 available,
-            }));
+            })),
+            ParseMode::Permissive => Ok(Symtab::of(bytes, offset, available / size, ctx)),
         }
-        Ok(Symtab {
+    }
+
+    // The table of so many symbols, which the bytes from the offset on must hold.
+    fn of(bytes: &'a [u8], offset: usize, count: usize, ctx: Ctx) -> Symtab<'a>
+        requires start { offset ≤ length bytes.now }
+        requires room { count * sym_size ctx.container ≤ length bytes.now - offset }
+        ensures { result ≡ symbols_at bytes.now offset count ctx }
+    {
+        Symtab {
             table: Table::of(&bytes[offset..], count, ctx),
             offset,
             ctx,
-        })
+        }
     }
 
     /// The symbol at an index, or `None` from `len()` on.
@@ -198,3 +239,9 @@ impl<'a> ExactSizeIterator for SymIterator<'a> {
         self.inner.len()
     }
 }
+
+/// A law: where a table is accepted strictly, the permissive reading gives the same table. A call does
+/// nothing.
+pub fn laws()
+    ensures { PermissiveKeepsStrict }
+{}
