@@ -1,11 +1,17 @@
 # The two commands of this repository. Both need nothing but the Rattle toolchain (`rt`).
 
-# Builds the program where needed, and shows a file: make show FILE=/bin/true
+# Proves and builds the program where needed, and shows a file: make show FILE=/bin/true
+# (A refused file is no error of make: only a program that isn't proved or built, or that can't read or write, is.)
 show:
-	@(cd crates/goblin_show && exec rt run) < '$(FILE)'
+	@test -n '$(FILE)' || { echo 'make show wants a file, as: make show FILE=/bin/true' >&2; exit 2; }
+	@test -r '$(FILE)' || { echo 'make show: $(FILE) can not be read' >&2; exit 2; }
+	@(cd crates/goblin_show && exec rt run) < '$(FILE)' \
+	|| { test $$? -eq 1 && test -e crates/goblin_show/out/goblin_show.stamp; }
 
-# The whole gate: every proof from nothing, the edits that must fail, the tests, and the stored run.
+# The whole gate: the pages' quotations, every proof from nothing, the edits that must fail, the tests, and the
+# stored runs.
 test:
+	sh docs/check_quotes.sh
 	rt ci
 
 .PHONY: show test

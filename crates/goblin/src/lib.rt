@@ -5,6 +5,8 @@ pub mod elf;
 pub mod elf32;
 pub mod elf64;
 #[cfg(test)]
-mod tests;
+mod tests_paths;
+#[cfg(test)]
+mod tests_sym;
 
 pub use goblin_base::{container, error, options, scroll};

@@ -1,0 +1,195 @@
+//! Symbol tables: what is accepted, what is refused and how, and the symbols in each way of asking.
+use crate::elf::sym::{Sym, SymIterator, Symtab};
+use goblin_base::container::{BE, Container, Ctx, LE};
+use goblin_base::options::ParseOptions;
+use goblin_base::scroll::TryIntoCtx;
+use std::alloc::Global;
+
+static ZEROS: [u8; 50] = [0; 50];
+
+const MAX: usize = usize::MAX;
+
+fn big() -> Ctx {
+    Ctx::new(Container::Big, LE)
+}
+
+// Whether a table over the first bytes of zeros is accepted, with this offset and so many symbols.
+fn holds(len: usize, offset: usize, asked: usize, opts: &ParseOptions, count: usize) -> bool {
+    let Some(bytes) = ZEROS.get(..len) else {
+        return false;
+    };
+    match Symtab::parse_with_opts(bytes, offset, asked, big(), opts) {
+        Ok(table) => {
+            table.len() == count
+                && table.is_empty() == (count == 0)
+                && table.offset() == offset
+                && *table.ctx() == big()
+                && table.iter().count() == count
+        }
+        Err(_) => false,
+    }
+}
+
+// Whether it is refused with this line.
+fn refuses(alloc: Global, offset: usize, asked: usize, opts: &ParseOptions, line: &str) -> bool {
+    let Some(bytes) = ZEROS.get(..48) else {
+        return false;
+    };
+    match Symtab::parse_with_opts(bytes, offset, asked, big(), opts) {
+        Ok(_) => false,
+        Err(e) => match e.line(alloc) {
+            Ok(text) => text.as_str() == line,
+            Err(_) => false,
+        },
+    }
+}
+
+#[test]
+fn accepts_what_lies_in_the_file(rt: HostRuntime) {
+    let strict = ParseOptions::strict();
+    assert!(rt; holds(48, 0, 2, &strict, 2));
+    assert!(rt; holds(48, 24, 1, &strict, 1));
+    assert!(rt; holds(48, 47, 0, &strict, 0));
+}
+
+#[test]
+fn refuses_what_does_not(rt: HostRuntime) {
+    let strict = ParseOptions::strict();
+    let at_end = "Malformed entity: Symbol table offset (48) is beyond file boundary (48)";
+    let far =
+        "Malformed entity: Symbol table offset (18446744073709551615) is beyond file boundary (48)";
+    let many = "Malformed entity: Too many ELF symbols (offset 0x0, count 18446744073709551615)";
+    let past =
+        "Malformed entity: Symbol table extends beyond file boundary (requested: 72, available: 48)";
+    let last =
+        "Malformed entity: Symbol table extends beyond file boundary (requested: 24, available: 1)";
+    assert!(rt; refuses(rt.alloc(), 48, 0, &strict, at_end));
+    assert!(rt; refuses(rt.alloc(), MAX, MAX, &strict, far));
+    assert!(rt; refuses(rt.alloc(), 0, MAX, &strict, many));
+    assert!(rt; refuses(rt.alloc(), 0, 3, &strict, past));
+    assert!(rt; refuses(rt.alloc(), 47, 1, &strict, last));
+}
+
+#[test]
+fn cuts_a_table_to_the_file_where_asked_to(rt: HostRuntime) {
+    let permissive = ParseOptions::permissive();
+    let many = "Malformed entity: Too many ELF symbols (offset 0x0, count 18446744073709551615)";
+    assert!(rt; holds(50, 0, 3, &permissive, 2));
+    assert!(rt; holds(50, 0, 1, &permissive, 1));
+    assert!(rt; holds(48, 48, MAX, &permissive, 0));
+    assert!(rt; holds(48, MAX, 1, &permissive, 0));
+    assert!(rt; refuses(rt.alloc(), 0, MAX, &permissive, many));
+}
+
+fn one() -> Sym {
+    Sym {
+        st_name: 1,
+        st_info: 0x12,
+        st_other: 3,
+        st_shndx: 5,
+        st_value: 0x1000,
+        st_size: 0x20,
+    }
+}
+
+fn other() -> Sym {
+    Sym {
+        st_name: 0xffff_ffff,
+        st_shndx: 0xfff1,
+        ..Sym::default()
+    }
+}
+
+// Bytes that hold the two symbols from place 1 on, or nothing where they can't be written.
+fn two_symbols(ctx: Ctx) -> [u8; 50] {
+    let mut bytes = [0xaa; 50];
+    let first = one().try_into_ctx(&mut bytes[1..], ctx);
+    let second = other().try_into_ctx(&mut bytes[1 + Sym::size(ctx.container)..], ctx);
+    if first.is_ok() && second.is_ok() {
+        bytes
+    } else {
+        [0; 50]
+    }
+}
+
+// Whether the two symbols are had by index, and as a vector.
+fn gives_by_index(alloc: Global, ctx: Ctx) -> bool {
+    let bytes = two_symbols(ctx);
+    let Ok(table) = Symtab::parse(&bytes, 1, 2, ctx) else {
+        return false;
+    };
+    let Ok(all) = table.to_vec(alloc) else {
+        return false;
+    };
+    table.get(0) == Some(one())
+        && table.get(1) == Some(other())
+        && table.get(2).is_none()
+        && all.as_slice() == [one(), other()].as_slice()
+}
+
+// The symbols that are left, as long as the bytes that they were parsed from, and not only as long as the table.
+fn symbols_of(bytes: &[u8], count: usize, ctx: Ctx) -> SymIterator<'_> {
+    match Symtab::parse(bytes, 1, count, ctx) {
+        Ok(table) => table.iter(),
+        Err(_) => Symtab::default().iter(),
+    }
+}
+
+// Whether the two symbols are had one after another, with how many are left, and none from then on.
+fn gives_in_turn(ctx: Ctx) -> bool {
+    let bytes = two_symbols(ctx);
+    let mut left = symbols_of(&bytes, 2, ctx);
+    left.len() == 2
+        && left.next() == Some(one())
+        && left.size_hint() == (1, Some(1))
+        && left.next() == Some(other())
+        && left.next().is_none()
+        && left.next().is_none()
+}
+
+// The values of all symbols, one bit over another.
+fn values(ctx: Ctx) -> u64 {
+    let bytes = two_symbols(ctx);
+    let mut all = 0;
+    if let Ok(table) = Symtab::parse(&bytes, 1, 2, ctx) {
+        for symbol in &table {
+            all = symbol.st_value | all;
+        }
+    }
+    all
+}
+
+#[test]
+fn gives_the_symbols_in_three_ways(rt: HostRuntime) {
+    assert!(rt; gives_by_index(rt.alloc(), Ctx::new(Container::Little, LE)));
+    assert!(rt; gives_by_index(rt.alloc(), Ctx::new(Container::Big, BE)));
+    assert!(rt; gives_in_turn(Ctx::new(Container::Little, BE)));
+    assert!(rt; gives_in_turn(Ctx::new(Container::Big, LE)));
+    assert!(rt; values(Ctx::new(Container::Little, LE)) == 0x1000);
+    assert!(rt; values(Ctx::new(Container::Big, BE)) == 0x1000);
+}
+
+// Whether a table of two zero symbols is had as a vector of them.
+fn gives_zeros(alloc: Global) -> bool {
+    match Symtab::parse(&ZEROS, 0, 2, big()) {
+        Ok(table) => match table.to_vec(alloc) {
+            Ok(all) => all.as_slice() == [Sym::default(), Sym::default()].as_slice(),
+            Err(_) => false,
+        },
+        Err(_) => false,
+    }
+}
+
+#[test]
+fn gives_a_vector_of_zero_symbols(rt: HostRuntime) {
+    assert!(rt; gives_zeros(rt.alloc()));
+}
+
+#[test]
+fn has_no_symbols_by_default(rt: HostRuntime) {
+    let none = Symtab::default();
+    assert!(rt; none.is_empty());
+    assert!(rt; none.get(0).is_none());
+    assert!(rt; none.offset() == 0);
+    assert!(rt; *none.ctx() == Ctx::default());
+}
