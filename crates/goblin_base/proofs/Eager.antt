@@ -3,7 +3,7 @@ use Rattle.std.proofs.Common.{◌≡◌, ◌<◌, ◌≤◌, ◌+◌, ◌*◌, �
 use Rattle.std.proofs.lemmas.Bool.Decides.{nat_tests}
 use Rattle.std.proofs.lemmas.List.{drop-drop, take_rest}
 use Rattle.goblin_base.specs.declared.error.Error.{Error}
-use Rattle.goblin_base.specs.declared.scroll.Error.{Error as Fault}
+use Rattle.goblin_base.specs.declared.scroll.Error.{Error as Misplaced}
 use Rattle.goblin_base.specs.declared.error.Error.TheVariants.{Memory}
 use Rattle.goblin_base.specs.Eager.{room_of_each, records_from, records_in}
 use Rattle.goblin_base.specs.Record.{read_within, unless_fault}
@@ -11,7 +11,8 @@ use Rattle.goblin_base.specs.RecordLaws.{fits-room_of, unless_fault-is, unless_f
 use Rattle.goblin_base.specs.Refusal.{Refusal, buffer_too_short, misplaced, refusal_of, Gives}
 use Rattle.goblin_base.specs.Room.{room_of}
 use Rattle.goblin_base.specs.Table.{records}
-use Rattle.goblin_base.proofs.Records.{read_field, no_records, last_record}
+use Rattle.goblin_base.specs.TableLaws.{no_records}
+use Rattle.goblin_base.proofs.Records.{read_field, last_record}
 
 -- a record that is read from just its own bytes, where there is room for them
 pub read_piece : {R : Type 0} (size s : ℕ) (read : List ℕ → R) (bytes : List ℕ) (place : ℕ) (u : Unit {0}) (found : Result R Error) → s ≡ size → Ok u ≡ room_of (length bytes) place s → found ≡ read_within size read (take (place + s - place) (drop place bytes)) → found ≡ unless_fault (room_of (length bytes) place size) (read (take size (drop place bytes)))
@@ -75,7 +76,7 @@ all_read size s read bytes offset count i place items found before same all enou
     rw (few, each, before.gave, all) refl
 
 -- the next one has no room
-refused : {R : Type 0} (size s : ℕ) (read : List ℕ → R) (bytes : List ℕ) (offset count i place : ℕ) (items : List ℕ) (found : List R) (e : Fault) → ReadSoFar size read bytes offset count i place found → s ≡ size → i < count → count ≤ length bytes / s → room_of (length bytes) place size ≡ Err e → records_from size read bytes offset count items ≡ Err (misplaced e)
+refused : {R : Type 0} (size s : ℕ) (read : List ℕ → R) (bytes : List ℕ) (offset count i place : ℕ) (items : List ℕ) (found : List R) (e : Misplaced) → ReadSoFar size read bytes offset count i place found → s ≡ size → i < count → count ≤ length bytes / s → room_of (length bytes) place size ≡ Err e → records_from size read bytes offset count items ≡ Err (misplaced e)
 unfolding records_from
 refused size s read bytes offset count i place items found e before same h enough fault =
     let some : count - i ≡ suc (count - (i + 1)) = omega arith in
@@ -95,7 +96,7 @@ pub record RoomSoFar (len offset size count i place : ℕ) : Type 0 where
   pub within : 0 < i → place ≤ len
 
 -- the first without room
-pub in_range_refused : {R : Type 0} (size s : ℕ) (read : List ℕ → R) (bytes : List ℕ) (offset count : ℕ) (e : Fault) → s ≡ size → Err e ≡ room_of_each (length bytes) offset s count → records_in size read bytes offset count ≡ Err (misplaced e)
+pub in_range_refused : {R : Type 0} (size s : ℕ) (read : List ℕ → R) (bytes : List ℕ) (offset count : ℕ) (e : Misplaced) → s ≡ size → Err e ≡ room_of_each (length bytes) offset s count → records_in size read bytes offset count ≡ Err (misplaced e)
 unfolding records_in
 in_range_refused size s read bytes offset count e same fault = rw (← same, ← fault) refl
 

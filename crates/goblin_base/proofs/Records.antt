@@ -1,34 +1,17 @@
--- Laws of the records of a table.
+-- What a table answers, by the laws of its records.
 use Rattle.std.proofs.Common.{◌≡◌, ◌<◌, ◌≤◌, ◌+◌, ◌*◌, ◌-◌, ℕ, zero, suc, List, [], ◌∷◌, ◌++◌, map, length, take, drop, Option, Some, None, Result, Ok, refl, sym, ap, ◌∙◌, arith}
-use Rattle.std.specs.List.{All, slice_get, slice_range, range_with_len, flat_map}
+use Rattle.std.specs.List.{slice_get, slice_range, range_with_len}
 use Rattle.std.proofs.lemmas.List.FromFn.{length-map-range_with_len, map-range_with_len_more}
 use Rattle.std.specs.Result.{result_ok}
 use Rattle.std.proofs.lemmas.Grind.{common_steps}
 use Rattle.std.proofs.lemmas.Nat.{rows}
 use Rattle.std.proofs.lemmas.Option.{slice_get_past}
-use Rattle.std.proofs.lemmas.List.{take_rest, take_at, drop_at, drop-drop, length-take-le, length-drop}
+use Rattle.std.proofs.lemmas.List.{take_rest, length-take-le, length-drop}
 use Rattle.goblin_base.specs.declared.error.Error.{Error}
 use Rattle.goblin_base.specs.Record.{read_within}
 use Rattle.goblin_base.specs.RecordLaws.{room_of_fits, read_within-ok}
 use Rattle.goblin_base.specs.Table.{records}
-
--- the piece of the bytes with an index
-piece : ℕ → List ℕ → ℕ → List ℕ
-piece size bytes i = slice_range bytes (i * size) ((i + 1) * size)
-
-piece-is : (size : ℕ) (bytes : List ℕ) (i : ℕ) → piece size bytes i ≡ take size (drop (i * size) bytes)
-unfolding piece
-piece-is size bytes i = let e : (i + 1) * size - i * size ≡ size = omega arith in rw e refl
-
--- the pieces after the first one are those of the bytes behind it
-piece-next : (size : ℕ) (bytes : List ℕ) (i : ℕ) → piece size bytes (i + 1) ≡ piece size (drop size bytes) i
-piece-next size bytes i =
-    let e : size + i * size ≡ (i + 1) * size = omega arith in
-    piece-is size bytes (i + 1) ∙ ap (λ k. take size (drop k bytes)) (sym e) ∙ ap (take size) (sym (drop-drop (i * size) size bytes)) ∙ sym (piece-is size (drop size bytes) i)
-
-pieces-next : {R : Type 0} (size : ℕ) (read : List ℕ → R) (bytes : List ℕ) (i n : ℕ) → map (λ i. read (piece size bytes i)) (range_with_len (i + 1) n) ≡ map (λ i. read (piece size (drop size bytes) i)) (range_with_len i n)
-pieces-next size read bytes i zero = refl
-pieces-next size read bytes i (suc n) = rw (piece-next size bytes i, pieces-next size read bytes (i + 1) n) refl
+use Rattle.goblin_base.specs.TableLaws.{piece, piece-is, no_records, first_record}
 
 pub length_records : {R : Type 0} (size : ℕ) (read : List ℕ → R) (n : ℕ) (bytes : List ℕ) → length (records size read n bytes) ≡ n
 unfolding records
@@ -62,19 +45,6 @@ read_first size read bytes h = read_within_fits size read (take size bytes) (ome
 pub past_records : {R : Type 0} (size : ℕ) (read : List ℕ → R) (n : ℕ) (bytes : List ℕ) (i : ℕ) → n ≤ i → slice_get (records size read n bytes) i ≡ None
 past_records size read n bytes i h = slice_get_past (records size read n bytes) i (omega (arith, length_records size read n bytes))
 
-pub no_records : {R : Type 0} (size : ℕ) (read : List ℕ → R) (n : ℕ) (bytes : List ℕ) → n ≡ 0 → records size read n bytes ≡ []
-unfolding records
-no_records size read n bytes e = rw e refl
-
-pub first_record : {R : Type 0} (size : ℕ) (read : List ℕ → R) (n : ℕ) (bytes : List ℕ) → 0 < n → records size read n bytes ≡ read (take size bytes) ∷ records size read (n - 1) (drop size bytes)
-unfolding records piece
-first_record size read zero bytes h = absurd (omega arith)
-first_record size read (suc n) bytes h =
-    let e : suc n - 1 ≡ n = omega arith in
-    let none : 0 * size ≡ 0 = omega arith in
-    let front : piece size bytes 0 ≡ take size bytes = piece-is size bytes 0 ∙ ap (λ (k : ℕ). take size (drop k bytes)) none in
-    rw (e, front) (ap (λ rest. read (take size bytes) ∷ rest) (pieces-next size read bytes 0 n))
-
 pub last_record : {R : Type 0} (size : ℕ) (read : List ℕ → R) (n : ℕ) (bytes : List ℕ) → records size read (n + 1) bytes ≡ records size read n bytes ++ read (take size (drop (n * size) bytes)) ∷ []
 unfolding records piece
 last_record size read n bytes =
@@ -94,16 +64,5 @@ next_is size read n bytes s items found answer same is fits below read_is ok_is 
       rw same at (ok_is ∙ ap result_ok read_is) ∙ ap result_ok (read_first size read bytes room),
       sym is ∙ first_record size read n bytes below ∙ ap (λ (left : List ℕ). read (take size bytes) ∷ records size read (n - 1) left) (sym (rw same (take_rest bytes size))),
     )
-
--- records that are written one after another are read back as the same list
-pub records-flat_map : {R : Type 0} (size : ℕ) (read : List ℕ → R) (image : R → List ℕ) (Right : R → Type 0) → ((x : R) → length (image x) ≡ size) → ((x : R) → Right x → read (image x) ≡ x) → (all : List R) → All Right all → records size read (length all) (flat_map image all) ≡ all
-unfolding records
-records-flat_map size read image Right long back [] right = refl
-records-flat_map size read image Right long back (x ∷ all) right =
-    let rest = records-flat_map size read image Right long back all (λ k d below. right (suc k) d (omega arith)) in
-    let less : suc (length all) - 1 ≡ length all = omega arith in
-    let is = back x (right 0 x (omega arith)) in
-    first_record size read (suc (length all)) (image x ++ flat_map image all) (omega arith)
-    ∙ rw (less, take_at (image x) (flat_map image all) size (long x), drop_at (image x) (flat_map image all) size (long x), is, rest) refl
 
 pub ruleset record_steps = (length_records, get_records, past_records, read_field, read_first, no_records, first_record)

@@ -1,6 +1,6 @@
 -- Lists of records that are read at once.
 use Rattle.std.specs.Prelude.{◌+◌, ◌/◌, ℕ, zero, suc, nat_lt, List, length, drop, Result, Ok}
-use Rattle.goblin_base.specs.declared.scroll.Error.{Error}
+use Rattle.goblin_base.specs.declared.scroll.Error.{Error as Misplaced}
 use Rattle.goblin_base.specs.Refusal.{Refusal, buffer_too_short, misplaced}
 use Rattle.goblin_base.specs.Room.{room_of}
 use Rattle.goblin_base.specs.Steps.{◌>>=◌, refuse_if, refuse_as}
@@ -8,7 +8,7 @@ use Rattle.goblin_base.specs.Table.{records}
 
 -- whether there is room for so many records of a size, one after another from an offset on; the first without
 -- room gives its fault
-abbrev pub room_of_each : ℕ → ℕ → ℕ → ℕ → Result (Unit {0}) Error
+abbrev pub room_of_each : ℕ → ℕ → ℕ → ℕ → Result (Unit {0}) Misplaced
 room_of_each len offset size zero = Ok tt
 room_of_each len offset size (suc count) = do
   _ ← room_of len offset size

@@ -7,33 +7,8 @@ use Rattle.std.proofs.lemmas.List.{get_or_past, length-take, append_assoc, appen
 use Rattle.goblin_base.specs.declared.container.Endian.{Endian}
 use Rattle.goblin_base.specs.Number.{IsBytes, number, number_at, spelled}
 use Rattle.goblin_base.specs.NumberLaws.{IsBytes-append, IsBytes-spelled, spelled-mod, number-spelled_low, number-lt, length-spelled, spelled-number}
-use Rattle.goblin_base.specs.Fields.{Field, field, size_of_fields, FieldsFit, image_of_fields}
+use Rattle.goblin_base.specs.Fields.{Field, field, size_of_fields, FieldsFit, image_of_fields, values_at, fields_at, total, widths_of, values_of, lows_of}
 use Rattle.goblin_base.specs.Place.{with_number}
-
--- the numbers of these widths from a place
-abbrev pub values_at : Endian → List ℕ → ℕ → List ℕ → List ℕ
-values_at order bytes place [] = []
-values_at order bytes place (w ∷ widths) = number_at order bytes place w ∷ values_at order bytes (place + w) widths
-
--- those numbers, as fields
-abbrev pub fields_at : Endian → List ℕ → ℕ → List ℕ → List Field
-fields_at order bytes place [] = []
-fields_at order bytes place (w ∷ widths) = field w (number_at order bytes place w) ∷ fields_at order bytes (place + w) widths
-
--- the widths added up
-abbrev pub total : List ℕ → ℕ
-total [] = 0
-total (w ∷ widths) = w + total widths
-
--- the widths of fields
-abbrev pub widths_of : List Field → List ℕ
-widths_of [] = []
-widths_of (f ∷ fields) = f.width ∷ widths_of fields
-
--- the values of fields
-abbrev pub values_of : List Field → List ℕ
-values_of [] = []
-values_of (f ∷ fields) = f.value ∷ values_of fields
 
 -- the bytes after each of the fields in turn was put
 abbrev pub with_fields : Endian → List ℕ → ℕ → List Field → List ℕ
@@ -79,11 +54,6 @@ values_at-append order bytes more place (w ∷ widths) h =
     let first = number_at-append order bytes more place w (omega arith) in
     let rest = values_at-append order bytes more (place + w) widths (omega arith) in
     rw (first, rest) refl
-
--- the low bits of the values, as many as their widths hold
-abbrev pub lows_of : List Field → List ℕ
-lows_of [] = []
-lows_of (f ∷ fields) = f.value % 256 ^ f.width ∷ lows_of fields
 
 -- what fits is its own low bits
 pub lows_of-fits : (fields : List Field) → FieldsFit fields → lows_of fields ≡ values_of fields

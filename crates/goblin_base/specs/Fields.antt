@@ -1,7 +1,7 @@
 -- The fields of a record: numbers of given widths that lie one after another.
-use Rattle.std.specs.Prelude.{◌+◌, ◌^◌, ◌<◌, ℕ, List, [], ◌∷◌, ◌++◌}
+use Rattle.std.specs.Prelude.{◌+◌, ◌%◌, ◌^◌, ◌<◌, ℕ, List, [], ◌∷◌, ◌++◌}
 use Rattle.goblin_base.specs.declared.container.Endian.{Endian}
-use Rattle.goblin_base.specs.Number.{spelled}
+use Rattle.goblin_base.specs.Number.{number_at, spelled}
 
 -- how many bytes a field takes, and its number
 pub record Field : Type 0 where
@@ -26,3 +26,33 @@ FieldsFit (f ∷ fields) = (f.value < 256 ^ f.width) × FieldsFit fields
 unfoldable pub image_of_fields : Endian → List Field → List ℕ
 image_of_fields order [] = []
 image_of_fields order (f ∷ fields) = spelled order f.width f.value ++ image_of_fields order fields
+
+-- the numbers of these widths from a place
+abbrev pub values_at : Endian → List ℕ → ℕ → List ℕ → List ℕ
+values_at order bytes place [] = []
+values_at order bytes place (w ∷ widths) = number_at order bytes place w ∷ values_at order bytes (place + w) widths
+
+-- those numbers, as fields
+abbrev pub fields_at : Endian → List ℕ → ℕ → List ℕ → List Field
+fields_at order bytes place [] = []
+fields_at order bytes place (w ∷ widths) = field w (number_at order bytes place w) ∷ fields_at order bytes (place + w) widths
+
+-- the widths added up
+abbrev pub total : List ℕ → ℕ
+total [] = 0
+total (w ∷ widths) = w + total widths
+
+-- the widths of fields
+abbrev pub widths_of : List Field → List ℕ
+widths_of [] = []
+widths_of (f ∷ fields) = f.width ∷ widths_of fields
+
+-- the values of fields
+abbrev pub values_of : List Field → List ℕ
+values_of [] = []
+values_of (f ∷ fields) = f.value ∷ values_of fields
+
+-- the low bits of the values, as many as their widths hold
+abbrev pub lows_of : List Field → List ℕ
+lows_of [] = []
+lows_of (f ∷ fields) = f.value % 256 ^ f.width ∷ lows_of fields

@@ -2,6 +2,8 @@ pub mod Container
 pub mod Eager
 pub mod FieldLaws
 pub mod Fields
+pub mod Layout
+pub mod LayoutLaws
 pub mod Names
 pub mod Number
 pub mod NumberLaws
@@ -10,6 +12,9 @@ pub mod Record
 pub mod RecordLaws
 pub mod Refusal
 pub mod Room
+pub mod Signed
+pub mod SignedLaws
 pub mod Steps
 pub mod Table
+pub mod TableLaws
 pub mod Texts

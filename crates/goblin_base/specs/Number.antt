@@ -32,8 +32,8 @@ spelled Little width x = digits width x
 spelled Big width x = reverse (digits width x)
 
 -- a number that fits a width is what its bytes stand for
-abbrev pub ReadsBack : Type 0
-ReadsBack = (order : Endian) (width x : ℕ) → x < 256 ^ width → number order (spelled order width x) ≡ x
+abbrev pub ReadsSpelling : Type 0
+ReadsSpelling = (order : Endian) (width x : ℕ) → x < 256 ^ width → number order (spelled order width x) ≡ x
 
 -- bytes are the only ones of their width that stand for their number
 abbrev pub SpellsBack : Type 0

@@ -2,11 +2,11 @@
 use Rattle.std.specs.Prelude.{◌≡◌, ℕ, List, ◌++◌, length, drop, Result, Ok, Err}
 use Rattle.goblin_base.specs.declared.error.Error.{Error}
 use Rattle.goblin_base.specs.declared.error.Error.TheVariants.{Scroll}
-use Rattle.goblin_base.specs.declared.scroll.Error.{Error as Fault}
+use Rattle.goblin_base.specs.declared.scroll.Error.{Error as Misplaced}
 use Rattle.goblin_base.specs.Room.{room_of}
 
 -- a value where there is room, and else the fault
-abbrev pub unless_fault : {X : Type 0} → Result (Unit {0}) Fault → X → Result X Error
+abbrev pub unless_fault : {X : Type 0} → Result (Unit {0}) Misplaced → X → Result X Error
 unless_fault (Ok _) x = Ok x
 unless_fault (Err e) x = Err (Scroll e)
 
@@ -16,7 +16,7 @@ read_within size read bytes = unless_fault (room_of (length bytes) 0 size) (read
 
 -- where there is room, the image stands in front, the other bytes are as they were, and the answer is the size;
 -- else nothing has changed, and the answer is the fault
-abbrev pub WritesUnless : Result (Unit {0}) Fault → ℕ → List ℕ → List ℕ → Result ℕ Error → List ℕ → Type 0
+abbrev pub WritesUnless : Result (Unit {0}) Misplaced → ℕ → List ℕ → List ℕ → Result ℕ Error → List ℕ → Type 0
 WritesUnless (Ok _) size image old answer new = (answer ≡ Ok size) × (new ≡ image ++ drop size old)
 WritesUnless (Err e) size image old answer new = (answer ≡ Err (Scroll e)) × (new ≡ old)
 

@@ -4,7 +4,7 @@ use Rattle.std.proofs.lemmas.Bool.Decides.{nat_tests}
 use Rattle.std.proofs.lemmas.List.{take-append-drop}
 use Rattle.goblin_base.specs.declared.error.Error.{Error}
 use Rattle.goblin_base.specs.declared.error.Error.TheVariants.{Scroll}
-use Rattle.goblin_base.specs.declared.scroll.Error.{Error as Fault}
+use Rattle.goblin_base.specs.declared.scroll.Error.{Error as Misplaced}
 use Rattle.goblin_base.specs.Room.{room_of}
 use Rattle.goblin_base.specs.Record.{unless_fault, read_within, WritesUnless, Writes}
 
@@ -24,17 +24,17 @@ unfolding read_within
 read_within-ok size s read bytes u x same e is = rw (← same, ← e) (ap Ok is)
 
 -- where there is none, reading gives the fault
-pub read_within-err : {X : Type 0} (size s : ℕ) (read : List ℕ → X) (bytes : List ℕ) (e : Fault) → s ≡ size → Err e ≡ room_of (length bytes) 0 s → Err (Scroll e) ≡ read_within size read bytes
+pub read_within-err : {X : Type 0} (size s : ℕ) (read : List ℕ → X) (bytes : List ℕ) (e : Misplaced) → s ≡ size → Err e ≡ room_of (length bytes) 0 s → Err (Scroll e) ≡ read_within size read bytes
 unfolding read_within
 read_within-err size s read bytes e same is = rw (← same, ← is) refl
 
 -- what was read is the record, and there was room for it
-pub unless_fault-is : {X : Type 0} (room : Result (Unit {0}) Fault) (x y : X) → Ok x ≡ unless_fault room y → (room ≡ Ok tt) × (x ≡ y)
+pub unless_fault-is : {X : Type 0} (room : Result (Unit {0}) Misplaced) (x y : X) → Ok x ≡ unless_fault room y → (room ≡ Ok tt) × (x ≡ y)
 unless_fault-is (Ok _) x y e = (refl, cc)
 unless_fault-is (Err d) x y e = absurd (cc)
 
 -- what was refused is the fault of room
-pub unless_fault-err : {X : Type 0} (room : Result (Unit {0}) Fault) (e : Error) (y : X) → Err e ≡ unless_fault room y → (d : Fault) × (room ≡ Err d) × (e ≡ Scroll d)
+pub unless_fault-err : {X : Type 0} (room : Result (Unit {0}) Misplaced) (e : Error) (y : X) → Err e ≡ unless_fault room y → (d : Misplaced) × (room ≡ Err d) × (e ≡ Scroll d)
 unless_fault-err (Ok _) e y is = absurd (cc)
 unless_fault-err (Err d) e y is = (d, refl, cc)
 
@@ -47,7 +47,7 @@ read_within-is size read bytes x e =
     (omega arith, is.1)
 
 -- what holds of the record holds of what was read
-if_ok : {X : Type 0} (room : Result (Unit {0}) Fault) (x : X) (P : X → Type 0) → (room ≡ Ok tt → P x) → IfOk (unless_fault room x) P
+if_ok : {X : Type 0} (room : Result (Unit {0}) Misplaced) (x : X) (P : X → Type 0) → (room ≡ Ok tt → P x) → IfOk (unless_fault room x) P
 if_ok (Ok _) x P h = h refl
 if_ok (Err d) x P h = tt
 
@@ -63,12 +63,12 @@ unfolding Writes
 Writes-ok size s image old new u same e h = rw (← same, ← e) (refl, rw same h)
 
 -- where there is none, nothing has changed
-pub Writes-err : (size s : ℕ) (image old : List ℕ) (e : Fault) → s ≡ size → Err e ≡ room_of (length old) 0 s → Writes size image old (Err (Scroll e)) old
+pub Writes-err : (size s : ℕ) (image old : List ℕ) (e : Misplaced) → s ≡ size → Err e ≡ room_of (length old) 0 s → Writes size image old (Err (Scroll e)) old
 unfolding Writes
 Writes-err size s image old e same is = rw (← same, ← is) (refl, refl)
 
 -- bytes that are written over themselves stay as they were
-unchanged : (room : Result (Unit {0}) Fault) (size : ℕ) (image old new : List ℕ) (answer : Result ℕ Error) → image ≡ take size old → WritesUnless room size image old answer new → new ≡ old
+unchanged : (room : Result (Unit {0}) Misplaced) (size : ℕ) (image old new : List ℕ) (answer : Result ℕ Error) → image ≡ take size old → WritesUnless room size image old answer new → new ≡ old
 unchanged (Ok _) size image old new answer e h = h.1 ∙ ap (λ (front : List ℕ). front ++ drop size old) e ∙ take-append-drop size old
 unchanged (Err d) size image old new answer e h = h.1
 

@@ -1,9 +1,12 @@
 //! Whether a place has room, and the numbers that bytes there stand for: System V gABI, "Data
 //! Representation" and "Data Encoding".
 ghost use Rattle.std.specs.Prelude.{◌≡◌, ◌≤◌, ◌+◌, ◌↔◌, length, IsOk};
-ghost use Rattle.goblin_base.specs.Number.{number_at, ReadsBack, SpellsBack, SpellsWidth};
+ghost use Rattle.goblin_base.specs.declared.container.Endian.{Endian};
+ghost use Rattle.goblin_base.specs.Number.{number_at, ReadsSpelling, SpellsBack, SpellsWidth};
 ghost use Rattle.goblin_base.specs.Place.{with_number, ReadsWhatWasPut};
 ghost use Rattle.goblin_base.specs.Room.{room_of};
+ghost use Rattle.goblin_base.specs.Signed.{signed_number_at, complement, ReadsSigned, SpellsSigned};
+ghost use Rattle.goblin_base.specs.Signed.{IsSignedSlice, ReadsSignedThere};
 
 use crate::container::Endian;
 use crate::scroll;
@@ -29,11 +32,10 @@ pub fn room(len: usize, offset: usize, size: usize) -> Result<(), scroll::Error>
 }
 
 /// The number that the byte at a place stands for, which is the same in both orders.
-pub fn get_u8(bytes: &[u8], place: usize, order: Endian) -> u8
+pub fn get_u8(bytes: &[u8], place: usize) -> u8
     requires { place + 1 ≤ length bytes.now }
-    ensures { result ≡ number_at order bytes.now place 1 }
+    ensures { (order : Endian) → result ≡ number_at order bytes.now place 1 }
 {
-    let _ = order;
     bytes[place]
 }
 
@@ -73,14 +75,28 @@ pub fn get_u64(bytes: &[u8], place: usize, order: Endian) -> u64
     }
 }
 
-/// Puts a number into the byte at a place, the same in both orders.
-pub fn put_u8(bytes: &mut [u8], place: usize, value: u8, order: Endian)
-    requires { place + 1 ≤ length bytes.old }
-    ensures { bytes.new ≡ with_number order bytes.old place 1 value }
+/// The signed number that the four bytes at a place stand for, in two's complement.
+pub fn get_i32(bytes: &[u8], place: usize, order: Endian) -> i32
+    requires { place + 4 ≤ length bytes.now }
+    ensures { result ≡ signed_number_at order bytes.now place 4 }
 {
-    let _ = order;
-    let byte = &mut bytes[place];
-    *byte = value;
+    get_u32(bytes, place, order).cast_signed()
+}
+
+/// The signed number that the eight bytes at a place stand for, in two's complement.
+pub fn get_i64(bytes: &[u8], place: usize, order: Endian) -> i64
+    requires { place + 8 ≤ length bytes.now }
+    ensures { result ≡ signed_number_at order bytes.now place 8 }
+{
+    get_u64(bytes, place, order).cast_signed()
+}
+
+/// Puts a number into the byte at a place, the same in both orders. All other bytes stay.
+pub fn put_u8(bytes: &mut [u8], place: usize, value: u8)
+    requires { place + 1 ≤ length bytes.old }
+    ensures { (order : Endian) → bytes.new ≡ with_number order bytes.old place 1 value }
+{
+    bytes[place] = value;
 }
 
 /// Puts a number into the two bytes at a place. All other bytes stay.
@@ -119,10 +135,35 @@ pub fn put_u64(bytes: &mut [u8], place: usize, value: u64, order: Endian)
     }
 }
 
+/// Puts a signed number into the four bytes at a place, in two's complement. All other bytes stay.
+pub fn put_i32(bytes: &mut [u8], place: usize, value: i32, order: Endian)
+    requires { place + 4 ≤ length bytes.old }
+    ensures { bytes.new ≡ with_number order bytes.old place 4 (complement 4 value) }
+{
+    put_u32(bytes, place, value.cast_unsigned(), order);
+}
+
+/// Puts a signed number into the eight bytes at a place, in two's complement. All other bytes stay.
+pub fn put_i64(bytes: &mut [u8], place: usize, value: i64, order: Endian)
+    requires { place + 8 ≤ length bytes.old }
+    ensures { bytes.new ≡ with_number order bytes.old place 8 (complement 8 value) }
+{
+    put_u64(bytes, place, value.cast_unsigned(), order);
+}
+
 /// Laws: a number of one width has one spelling, and is read where it was put. A call does nothing.
 pub fn spellings()
     ensures width { SpellsWidth }
-    ensures reads_back { ReadsBack }
+    ensures reads_back { ReadsSpelling }
     ensures spells_back { SpellsBack }
     ensures there { ReadsWhatWasPut }
+{}
+
+/// Laws: a signed number of one width has one spelling, and is read where it was put. A call does
+/// nothing.
+pub fn signed_spellings()
+    ensures reads_back { ReadsSigned }
+    ensures spells_back { SpellsSigned }
+    ensures slice { IsSignedSlice }
+    ensures there { ReadsSignedThere }
 {}

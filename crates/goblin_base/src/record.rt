@@ -30,6 +30,9 @@ pub trait Record<C: Copy>: SizeWith<C> + TryIntoCtx<C> + Drop {
     // The image has the size of a record.
     ghost length_image: { (ctx : C) (x : Self) → length (image ctx x) ≡ Self.size_of ctx };
 
+    // The image is bytes.
+    ghost image_bytes: { (ctx : C) (x : Self) → IsBytes (image ctx x) };
+
     // Writing leaves the image in front and the other bytes as they were, or it refuses and changes
     // nothing.
     ghost writes_image: { (ctx : C) (x : Self) (old new : List ℕ) (answer : Result ℕ Refusing)

@@ -1,7 +1,7 @@
 //! Tables of records that are read from borrowed bytes as they are asked for.
 ghost use Rattle.std.specs.Prelude.{◌≡◌, ◌≤◌, ◌*◌, ◌↔◌, IsTrue, IfOk, IfSome, IfErr, alloc_error};
 ghost use Rattle.std.specs.Prelude.{◌+◌, ◌/◌, ◌<◌, OnOk, take, drop, [], List, length, slice_get};
-ghost use Rattle.std.specs.Prelude.{All, flat_map, IsOk};
+ghost use Rattle.std.specs.Prelude.{◌^◌, ℕ, All, flat_map, IsOk};
 ghost use Rattle.std.specs.Iterator.{UpTo, YieldsFirst, item_count};
 ghost use Rattle.std.specs.Iterator.SizeHint.{IsWithinCount};
 ghost use Rattle.goblin_base.specs.Eager.{records_from, records_in, room_of_each};
@@ -85,23 +85,41 @@ impl<'a, R: Record<C>, C: Copy> Table<'a, R, C> {
         R::read_record(&self.bytes[start..start + size], self.ctx).ok()
     }
 
+    // Takes the first record off the table, or answers `None` where there is none.
+    #[tactic(auto, using(crate::proofs::Records::record_steps))]
+    fn take_first(&mut self) -> Option<R>
+        ensures { YieldsFirst (λ left. left) self.old result self.new }
+    {
+        if self.count == 0 {
+            return None;
+        }
+        let size = R::size_with(&self.ctx);
+        let bytes = self.bytes;
+        self.bytes = &bytes[size..];
+        self.count -= 1;
+        R::read_record(&bytes[..size], self.ctx).ok()
+    }
+
     /// An iterator over the records, from the first one on.
+    #[tactic(auto, using(crate::proofs::Records::record_steps))]
     pub fn iter(&self) -> TableIter<'a, R, C>
-        ensures { result ≡ self.now }
+        ensures exact { result ≡ self.now }
+        ensures bound { length self.now < 2 ^ 64 }
     {
         TableIter {
-            bytes: self.bytes,
-            count: self.count,
-            ctx: self.ctx,
-            of: PhantomData,
+            left: Table::of(self.bytes, self.count, self.ctx),
         }
     }
 
-    /// The records as a vector. Only want of memory is an error.
+    /// The records as a vector. Only want of memory is an error, and none is taken for no records.
     pub fn to_vec(&self, alloc: Global) -> Result<Vec<R>>
         ensures ok { IfOk result (λ v. v.items ≡ self.now) }
         ensures err { IfErr result (λ e. e ≡ Error.Memory alloc_error) }
+        ensures none { (self.now ≡ []) → IsOk result }
     {
+        if self.is_empty() {
+            return Ok(Vec::new(alloc));
+        }
         Ok(self.iter().collect(alloc)?)
     }
 }
@@ -109,22 +127,16 @@ impl<'a, R: Record<C>, C: Copy> Table<'a, R, C> {
 /// An iterator over the records of a table: from the first to the last, and `None` from then on.
 #[derive(Debug, Drop)]
 pub struct TableIter<'a, R: Record<C>, C: Copy> {
-    bytes: &'a [u8],
-    count: usize,
-    ctx: C,
-    of: PhantomData<R>,
+    left: Table<'a, R, C>,
 }
 
 // An iterator is seen as the list of the records that are left.
 impl<'a, R: Record<C>, C: Copy> Model for TableIter<'a, R, C> {
-    ghost use Rattle.std.specs.Prelude.{◌≤◌, ◌*◌, List, length};
-    ghost use Rattle.goblin_base.specs.Table.{records};
+    ghost use Rattle.std.specs.Prelude.{List};
 
     ghost Value = { List R };
 
-    ghost view = { λ t. records (R.size_of t.ctx) (R.read t.ctx) t.count t.bytes.now };
-
-    ghost invariant = { λ t. t.count * R.size_of t.ctx ≤ length t.bytes.now };
+    ghost view = { λ t. t.left };
 }
 
 impl<'a, R: Record<C>, C: Copy> Iterator for TableIter<'a, R, C> {
@@ -134,16 +146,8 @@ impl<'a, R: Record<C>, C: Copy> Iterator for TableIter<'a, R, C> {
 
     ghost remaining = { item_count (λ left. left) };
 
-    #[tactic(auto, using(crate::proofs::Records::record_steps))]
     fn next(&mut self) -> Option<R> {
-        if self.count == 0 {
-            return None;
-        }
-        let size = R::size_with(&self.ctx);
-        let bytes = self.bytes;
-        self.bytes = &bytes[size..];
-        self.count -= 1;
-        R::read_record(&bytes[..size], self.ctx).ok()
+        self.left.take_first()
     }
 
     fn size_hint(&self) -> (usize, Option<usize>)
@@ -158,9 +162,8 @@ impl<'a, R: Record<C>, C: Copy> Iterator for TableIter<'a, R, C> {
 }
 
 impl<'a, R: Record<C>, C: Copy> ExactSizeIterator for TableIter<'a, R, C> {
-    #[tactic(auto, using(crate::proofs::Records::record_steps))]
     fn len(&self) -> usize {
-        self.count
+        self.left.len()
     }
 }
 
@@ -264,4 +267,13 @@ pub fn read_back<R: Record<C>, C: Copy>()
     ensures { (ctx : C) (all : List R)
         → All (R.fits ctx) all
         → records (R.size_of ctx) (R.read ctx) (length all) (flat_map (R.image ctx) all) ≡ all }
+{}
+
+/// A law: the records of a range depend on that range alone, so that byte lists that agree on it
+/// hold the same records there. A call does nothing.
+pub fn same_range<R: Record<C>, C: Copy>()
+    ensures { (ctx : C) (count : ℕ) (bytes others : List ℕ)
+        → take (count * R.size_of ctx) bytes ≡ take (count * R.size_of ctx) others
+        → records (R.size_of ctx) (R.read ctx) count bytes
+        ≡ records (R.size_of ctx) (R.read ctx) count others }
 {}

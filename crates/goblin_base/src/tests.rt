@@ -193,9 +193,9 @@ fn puts_numbers(rt: HostRuntime) {
     put_u32(&mut little, 1, 0x11121314, LE);
     assert_eq!(rt; little, [0xff, 0x14, 0x13, 0x12, 0x11, 4, 3, 2, 1, 0xff]);
     put_u16(&mut little, 1, 0x2122, LE);
-    put_u8(&mut little, 9, 0x31, LE);
+    put_u8(&mut little, 9, 0x31);
     assert_eq!(rt; little, [0xff, 0x22, 0x21, 0x12, 0x11, 4, 3, 2, 1, 0x31]);
-    assert_eq!(rt; get_u8(&little, 9, LE), 0x31);
+    assert_eq!(rt; get_u8(&little, 9), 0x31);
 
     let mut big = [0xff; 10];
     put_u64(&mut big, 1, 0x0102030405060708, BE);
@@ -203,9 +203,9 @@ fn puts_numbers(rt: HostRuntime) {
     put_u32(&mut big, 1, 0x11121314, BE);
     assert_eq!(rt; big, [0xff, 0x11, 0x12, 0x13, 0x14, 5, 6, 7, 8, 0xff]);
     put_u16(&mut big, 1, 0x2122, BE);
-    put_u8(&mut big, 9, 0x31, BE);
+    put_u8(&mut big, 9, 0x31);
     assert_eq!(rt; big, [0xff, 0x21, 0x22, 0x13, 0x14, 5, 6, 7, 8, 0x31]);
-    assert_eq!(rt; get_u8(&big, 9, BE), 0x31);
+    assert_eq!(rt; get_u8(&big, 9), 0x31);
 }
 
 #[test]

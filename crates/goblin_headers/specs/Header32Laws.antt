@@ -3,8 +3,8 @@ use Rattle.std.proofs.Common.{◌≡◌, ◌≤◌, ℕ, List, [], ◌∷◌, �
 use Rattle.std.proofs.Math.Seq.{take-add}
 use Rattle.std.proofs.lemmas.List.{append_assoc, length-append, take_at}
 use Rattle.goblin_base.specs.declared.container.Endian.{Endian}
-use Rattle.goblin_base.specs.Fields.{FieldsFit, image_of_fields}
-use Rattle.goblin_base.specs.FieldLaws.{values_at, widths_of, values_at-image, lows_of-fits, image-fields_at, length-image_of_fields}
+use Rattle.goblin_base.specs.Fields.{FieldsFit, image_of_fields, values_at, widths_of}
+use Rattle.goblin_base.specs.FieldLaws.{values_at-image, lows_of-fits, image-fields_at, length-image_of_fields}
 use Rattle.goblin_base.specs.Number.{IsBytes}
 use Rattle.goblin_headers.specs.declared.header32.Header.{Header}
 use Rattle.goblin_headers.specs.Header32.{header32_of, header32_fields, header32_image}

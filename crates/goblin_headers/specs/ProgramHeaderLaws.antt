@@ -4,7 +4,7 @@ use Rattle.goblin_base.specs.declared.container.Container.{Container}
 use Rattle.goblin_base.specs.declared.container.Container.TheVariants.{Little, Big}
 use Rattle.goblin_base.specs.declared.container.Endian.{Endian}
 use Rattle.goblin_base.specs.Number.{IsBytes}
-use Rattle.goblin_base.proofs.Records.{records-flat_map}
+use Rattle.goblin_base.specs.TableLaws.{records-flat_map}
 use Rattle.goblin_headers.specs.declared.program_header.ProgramHeader.{ProgramHeader}
 use Rattle.goblin_headers.specs.ProgramHeader.{program_header_size, program_header_of, program_header_image, ProgramHeaderFits, as32, as64, widened32, widened64, OneImage, SameInEachClass}
 use Rattle.goblin_headers.specs.ProgramHeader32Laws as laws32

@@ -6,7 +6,7 @@ use Rattle.goblin_base.specs.declared.container.Endian.{Endian}
 use Rattle.goblin_base.specs.Fields.{image_of_fields}
 use Rattle.goblin_base.specs.Number.{IsBytes}
 use Rattle.goblin_base.specs.NumberLaws.{spelled-mod}
-use Rattle.goblin_base.proofs.Records.{records-flat_map}
+use Rattle.goblin_base.specs.TableLaws.{records-flat_map}
 use Rattle.goblin_headers.specs.declared.section_header.SectionHeader.{SectionHeader}
 use Rattle.goblin_headers.specs.SectionHeader.{section_header_size, section_header_of, section_header_image, SectionHeaderFits, as32, as64, narrowed64, widened32, widened64, OneImage, SameInEachClass}
 use Rattle.goblin_headers.specs.SectionHeader64.{section_header64_image}

@@ -304,7 +304,8 @@ impl TryIntoCtx<Ctx> for ProgramHeader {
 }
 
 impl Record<Ctx> for ProgramHeader {
-    ghost use Rattle.goblin_headers.specs.ProgramHeader.{ProgramHeaderFits};
+    ghost use Rattle.goblin_base.specs.FieldLaws.{IsBytes-image_of_fields};
+    ghost use Rattle.goblin_headers.specs.ProgramHeader.{ProgramHeaderFits, program_header_fields};
     ghost use Rattle.goblin_headers.specs.ProgramHeaderLaws.{program_header_size-positive};
     ghost use Rattle.goblin_headers.specs.ProgramHeaderLaws.{length-program_header_image};
     ghost use Rattle.goblin_headers.specs.ProgramHeaderLaws.{program_header_of-append};
@@ -326,6 +327,9 @@ impl Record<Ctx> for ProgramHeader {
     ghost size_positive = { λ ctx. program_header_size-positive ctx.container };
 
     ghost length_image = { λ ctx. length-program_header_image ctx.container ctx.le };
+
+    ghost image_bytes = { λ ctx header.
+        IsBytes-image_of_fields ctx.le (program_header_fields ctx.container header) };
 
     ghost writes_image = { λ ctx header old new answer so. so };
 

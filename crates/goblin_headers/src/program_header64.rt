@@ -188,6 +188,7 @@ impl TryIntoCtx<Endian> for ProgramHeader {
 
 impl Record<Endian> for ProgramHeader {
     ghost use Rattle.goblin_base.specs.Fields.{FieldsFit};
+    ghost use Rattle.goblin_base.specs.FieldLaws.{IsBytes-image_of_fields};
     ghost use Rattle.goblin_headers.specs.ProgramHeader64.{program_header64_fields};
     ghost use Rattle.goblin_headers.specs.ProgramHeader64Laws.{positive, length-image};
     ghost use Rattle.goblin_headers.specs.ProgramHeader64Laws.{program_header64_of-append};
@@ -209,6 +210,8 @@ impl Record<Endian> for ProgramHeader {
     ghost size_positive = { λ _. positive };
 
     ghost length_image = { length-image };
+
+    ghost image_bytes = { λ order header. IsBytes-image_of_fields order (program_header64_fields header) };
 
     ghost writes_image = { λ order header old new answer so. so };
 

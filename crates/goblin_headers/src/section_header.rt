@@ -518,7 +518,8 @@ impl IntoCtx<Ctx> for SectionHeader {
 }
 
 impl Record<Ctx> for SectionHeader {
-    ghost use Rattle.goblin_headers.specs.SectionHeader.{SectionHeaderFits};
+    ghost use Rattle.goblin_base.specs.FieldLaws.{IsBytes-image_of_fields};
+    ghost use Rattle.goblin_headers.specs.SectionHeader.{SectionHeaderFits, section_header_fields};
     ghost use Rattle.goblin_headers.specs.SectionHeaderLaws.{section_header_size-positive};
     ghost use Rattle.goblin_headers.specs.SectionHeaderLaws.{length-section_header_image};
     ghost use Rattle.goblin_headers.specs.SectionHeaderLaws.{section_header_of-append};
@@ -540,6 +541,9 @@ impl Record<Ctx> for SectionHeader {
     ghost size_positive = { λ ctx. section_header_size-positive ctx.container };
 
     ghost length_image = { λ ctx. length-section_header_image ctx.container ctx.le };
+
+    ghost image_bytes = { λ ctx header.
+        IsBytes-image_of_fields ctx.le (section_header_fields ctx.container header) };
 
     ghost writes_image = { λ ctx header old new answer so. so };
 

@@ -185,6 +185,7 @@ impl TryIntoCtx<Endian> for SectionHeader {
 
 impl Record<Endian> for SectionHeader {
     ghost use Rattle.goblin_base.specs.Fields.{FieldsFit};
+    ghost use Rattle.goblin_base.specs.FieldLaws.{IsBytes-image_of_fields};
     ghost use Rattle.goblin_headers.specs.SectionHeader32.{section_header32_fields};
     ghost use Rattle.goblin_headers.specs.SectionHeader32Laws.{positive, length-image};
     ghost use Rattle.goblin_headers.specs.SectionHeader32Laws.{section_header32_of-append};
@@ -206,6 +207,8 @@ impl Record<Endian> for SectionHeader {
     ghost size_positive = { λ _. positive };
 
     ghost length_image = { length-image };
+
+    ghost image_bytes = { λ order header. IsBytes-image_of_fields order (section_header32_fields header) };
 
     ghost writes_image = { λ order header old new answer so. so };
 

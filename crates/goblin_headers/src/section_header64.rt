@@ -184,6 +184,7 @@ impl TryIntoCtx<Endian> for SectionHeader {
 
 impl Record<Endian> for SectionHeader {
     ghost use Rattle.goblin_base.specs.Fields.{FieldsFit};
+    ghost use Rattle.goblin_base.specs.FieldLaws.{IsBytes-image_of_fields};
     ghost use Rattle.goblin_headers.specs.SectionHeader64.{section_header64_fields};
     ghost use Rattle.goblin_headers.specs.SectionHeader64Laws.{positive, length-image};
     ghost use Rattle.goblin_headers.specs.SectionHeader64Laws.{section_header64_of-append};
@@ -205,6 +206,8 @@ impl Record<Endian> for SectionHeader {
     ghost size_positive = { λ _. positive };
 
     ghost length_image = { length-image };
+
+    ghost image_bytes = { λ order header. IsBytes-image_of_fields order (section_header64_fields header) };
 
     ghost writes_image = { λ order header old new answer so. so };
 

@@ -1,24 +1,21 @@
 -- Symbols of either class, and lists of them (System V gABI, "Symbol Table").
-use Rattle.std.specs.Prelude.{◌≡◌, ◌↔◌, ℕ, List, All, codes, flat_map, length, Result}
+use Rattle.std.specs.Prelude.{ℕ, List, codes, Result}
 use Rattle.goblin_base.specs.declared.container.Container.{Container}
 use Rattle.goblin_base.specs.declared.container.Container.TheVariants.{Little, Big}
 use Rattle.goblin_base.specs.declared.container.Ctx.{Ctx}
 use Rattle.goblin_base.specs.declared.container.Endian.{Endian}
 use Rattle.goblin_base.specs.Eager.{records_from}
-use Rattle.goblin_base.specs.Fields.{Field, FieldsFit, image_of_fields}
-use Rattle.goblin_base.specs.Number.{IsBytes}
 use Rattle.goblin_base.specs.Refusal.{Refusal}
-use Rattle.goblin_base.specs.Table.{records}
 use Rattle.goblin_records.specs.declared.sym.Sym.{Sym}
 use Rattle.goblin_records.specs.declared.sym32.Sym.{Sym as Sym32}
 use Rattle.goblin_records.specs.declared.sym64.Sym.{Sym as Sym64}
-use Rattle.goblin_records.specs.Sym32.{sym32_of, sym32_fields, sym32_low}
-use Rattle.goblin_records.specs.Sym64.{sym64_of, sym64_fields, sym64_low}
+use Rattle.goblin_records.specs.Sym32.{sym32_size, sym32_of, sym32_image, sym32_low, Sym32Fits}
+use Rattle.goblin_records.specs.Sym64.{sym64_size, sym64_of, sym64_image, sym64_low, Sym64Fits}
 
 -- how many bytes a symbol of a class takes
 abbrev pub sym_size : Container → ℕ
-sym_size Little = 16
-sym_size Big = 24
+sym_size Little = sym32_size
+sym_size Big = sym64_size
 
 -- the symbol with the fields of one of the 32-bit class
 abbrev pub widened32 : Sym32 → Sym
@@ -69,18 +66,15 @@ abbrev pub sym_of : Container → Endian → List ℕ → Sym
 sym_of Little order bytes = widened32 (sym32_of order bytes)
 sym_of Big order bytes = widened64 (sym64_of order bytes)
 
--- the fields of a symbol in the order in which they lie in a class, each with its width there
-abbrev pub sym_fields : Container → Sym → List Field
-sym_fields Little s = sym32_fields (as32 s)
-sym_fields Big s = sym64_fields (as64 s)
-
 -- each field of a symbol is in the range of its width in a class
 abbrev pub SymFits : Container → Sym → Type 0
-SymFits class s = FieldsFit (sym_fields class s)
+SymFits Little s = Sym32Fits (as32 s)
+SymFits Big s = Sym64Fits (as64 s)
 
 -- the bytes that a symbol is written as in a class
 abbrev pub sym_image : Container → Endian → Sym → List ℕ
-sym_image class order s = image_of_fields order (sym_fields class s)
+sym_image Little order s = sym32_image order (as32 s)
+sym_image Big order s = sym64_image order (as64 s)
 
 -- the symbol with the low bits of each field, as many as its width in a class holds
 abbrev pub sym_low : Container → Sym → Sym
@@ -92,19 +86,3 @@ sym_low Big s = widened64 (sym64_low (as64 s))
 abbrev pub symbols_from : List ℕ → ℕ → ℕ → Ctx → Result (List Sym) Refusal
 symbols_from bytes offset count ctx =
     records_from (sym_size ctx.container) (sym_of ctx.container ctx.le) bytes offset count (codes "symbols")
-
--- the image of a symbol is the one list of bytes of its size whose slice at each field's place stands for the low
--- bits of that field
-abbrev pub OneImage : Type 0
-OneImage =
-    (class : Container) (order : Endian) (s : Sym) (bytes : List ℕ)
-    → (bytes ≡ sym_image class order s)
-    ↔ (IsBytes bytes × (length bytes ≡ sym_size class) × (sym_of class order bytes ≡ sym_low class s))
-
--- symbols that fit both classes, written one after another in either class and order, are read in that class and
--- order as the same symbols
-abbrev pub SameInEachClass : Type 0
-SameInEachClass =
-    (class : Container) (order : Endian) (all : List Sym)
-    → All (SymFits Little) all → All (SymFits Big) all
-    → records (sym_size class) (sym_of class order) (length all) (flat_map (sym_image class order) all) ≡ all

@@ -1,9 +1,13 @@
 -- Symbols of the 32-bit class (System V gABI, "Symbol Table", Elf32_Sym).
-use Rattle.std.specs.Prelude.{◌≡◌, ◌↔◌, ◌%◌, ◌^◌, ℕ, List, [], ◌∷◌, length}
+use Rattle.std.specs.Prelude.{◌%◌, ◌^◌, ℕ, List, [], ◌∷◌}
 use Rattle.goblin_base.specs.declared.container.Endian.{Endian}
-use Rattle.goblin_base.specs.Fields.{Field, field, image_of_fields}
-use Rattle.goblin_base.specs.Number.{IsBytes, number_at}
+use Rattle.goblin_base.specs.Fields.{Field, field, FieldsFit, image_of_fields}
+use Rattle.goblin_base.specs.Number.{number_at}
 use Rattle.goblin_records.specs.declared.sym32.Sym.{Sym}
+
+-- how many bytes a symbol takes
+abbrev pub sym32_size : ℕ
+sym32_size = 16
 
 -- the symbol that bytes stand for: each field is the number at its place, of so many bytes
 abbrev pub sym32_of : Endian → List ℕ → Sym
@@ -22,6 +26,10 @@ sym32_fields s =
     field 4 s.st_name ∷ field 4 s.st_value ∷ field 4 s.st_size ∷ field 1 s.st_info
     ∷ field 1 s.st_other ∷ field 2 s.st_shndx ∷ []
 
+-- each field of a symbol is in the range of its width
+abbrev pub Sym32Fits : Sym → Type 0
+Sym32Fits s = FieldsFit (sym32_fields s)
+
 -- the bytes that a symbol is written as
 abbrev pub sym32_image : Endian → Sym → List ℕ
 sym32_image order s = image_of_fields order (sym32_fields s)
@@ -36,11 +44,3 @@ sym32_low s = record {
   st_other = s.st_other % 256 ^ 1;
   st_shndx = s.st_shndx % 256 ^ 2;
 }
-
--- the image of a symbol is the one list of 16 bytes whose slice at each field's place stands for the low bits of
--- that field
-abbrev pub OneImage : Type 0
-OneImage =
-    (order : Endian) (s : Sym) (bytes : List ℕ)
-    → (bytes ≡ sym32_image order s)
-    ↔ (IsBytes bytes × (length bytes ≡ 16) × (sym32_of order bytes ≡ sym32_low s))

@@ -1,9 +1,13 @@
 -- Symbols of the 64-bit class (System V gABI, "Symbol Table", Elf64_Sym).
-use Rattle.std.specs.Prelude.{◌≡◌, ◌↔◌, ◌%◌, ◌^◌, ℕ, List, [], ◌∷◌, length}
+use Rattle.std.specs.Prelude.{◌%◌, ◌^◌, ℕ, List, [], ◌∷◌}
 use Rattle.goblin_base.specs.declared.container.Endian.{Endian}
-use Rattle.goblin_base.specs.Fields.{Field, field, image_of_fields}
-use Rattle.goblin_base.specs.Number.{IsBytes, number_at}
+use Rattle.goblin_base.specs.Fields.{Field, field, FieldsFit, image_of_fields}
+use Rattle.goblin_base.specs.Number.{number_at}
 use Rattle.goblin_records.specs.declared.sym64.Sym.{Sym}
+
+-- how many bytes a symbol takes
+abbrev pub sym64_size : ℕ
+sym64_size = 24
 
 -- the symbol that bytes stand for: each field is the number at its place, of so many bytes
 abbrev pub sym64_of : Endian → List ℕ → Sym
@@ -22,6 +26,10 @@ sym64_fields s =
     field 4 s.st_name ∷ field 1 s.st_info ∷ field 1 s.st_other ∷ field 2 s.st_shndx
     ∷ field 8 s.st_value ∷ field 8 s.st_size ∷ []
 
+-- each field of a symbol is in the range of its width
+abbrev pub Sym64Fits : Sym → Type 0
+Sym64Fits s = FieldsFit (sym64_fields s)
+
 -- the bytes that a symbol is written as
 abbrev pub sym64_image : Endian → Sym → List ℕ
 sym64_image order s = image_of_fields order (sym64_fields s)
@@ -36,11 +44,3 @@ sym64_low s = record {
   st_value = s.st_value % 256 ^ 8;
   st_size = s.st_size % 256 ^ 8;
 }
-
--- the image of a symbol is the one list of 24 bytes whose slice at each field's place stands for the low bits of
--- that field
-abbrev pub OneImage : Type 0
-OneImage =
-    (order : Endian) (s : Sym) (bytes : List ℕ)
-    → (bytes ≡ sym64_image order s)
-    ↔ (IsBytes bytes × (length bytes ≡ 24) × (sym64_of order bytes ≡ sym64_low s))

@@ -1,11 +1,14 @@
 //! Symbols of either class: System V gABI, "Symbol Table".
 ghost use Rattle.std.specs.Prelude.{◌≡◌, ◌≤◌, ◌<◌, ◌/◌, ◌↔◌, ◌++◌, [], ◌∷◌, IsTrue, length, drop};
 ghost use Rattle.std.specs.Prelude.{codes, IsOk};
+ghost use Rattle.goblin_base.specs.declared.container.Container.{Container};
+ghost use Rattle.goblin_base.specs.declared.container.Endian.{Endian};
+ghost use Rattle.goblin_base.specs.Layout.{IsOneImage, IsSameInEachClass};
 ghost use Rattle.goblin_base.specs.Record.{read_within, Writes};
 ghost use Rattle.goblin_base.specs.Steps.{with_size};
 ghost use Rattle.goblin_base.specs.Refusal.{buffer_too_short, Gives, Refuses};
-ghost use Rattle.goblin_records.specs.Sym.{sym_size, sym_of, sym_image, symbols_from};
-ghost use Rattle.goblin_records.specs.Sym.{OneImage, SameInEachClass};
+ghost use Rattle.goblin_records.specs.Sym.{sym_size, sym_of, sym_image, sym_low, SymFits};
+ghost use Rattle.goblin_records.specs.Sym.{symbols_from};
 ghost use Rattle.goblin_records.specs.SymParts.{bind_of, type_of, visibility_of};
 ghost use Rattle.goblin_records.specs.SymParts.{IsGlobalImport, IsImport};
 ghost use Rattle.goblin_records.specs.SymParts.{bind_name, type_name, visibility_name};
@@ -336,9 +339,7 @@ impl IntoCtx<Ctx> for Sym {
 }
 
 impl Record<Ctx> for Sym {
-    ghost use Rattle.goblin_records.specs.Sym.{SymFits};
-    ghost use Rattle.goblin_records.specs.SymLaws.{sym_size-positive, length-sym_image};
-    ghost use Rattle.goblin_records.specs.SymLaws.{sym_of-append, sym_of-image, image-sym_of};
+    ghost use Rattle.goblin_records.specs.SymLaws.{sym_laws};
 
     ghost read = { λ ctx. sym_of ctx.container ctx.le };
 
@@ -352,17 +353,19 @@ impl Record<Ctx> for Sym {
         Ok(Sym::at(bytes, ctx))
     }
 
-    ghost size_positive = { λ ctx. sym_size-positive ctx.container };
+    ghost size_positive = { λ ctx. (sym_laws ctx.container ctx.le).size_positive };
 
-    ghost length_image = { λ ctx. length-sym_image ctx.container ctx.le };
+    ghost length_image = { λ ctx. (sym_laws ctx.container ctx.le).length_image };
+
+    ghost image_bytes = { λ ctx. (sym_laws ctx.container ctx.le).image_bytes };
 
     ghost writes_image = { λ ctx sym old new answer h. h };
 
-    ghost reads_front = { λ ctx. sym_of-append ctx.container ctx.le };
+    ghost reads_front = { λ ctx. (sym_laws ctx.container ctx.le).reads_front };
 
-    ghost reads_back = { λ ctx. sym_of-image ctx.container ctx.le };
+    ghost reads_back = { λ ctx. (sym_laws ctx.container ctx.le).reads_back };
 
-    ghost writes_back = { λ ctx. image-sym_of ctx.container ctx.le };
+    ghost writes_back = { λ ctx. (sym_laws ctx.container ctx.le).writes_back };
 }
 
 /// Laws: what the constants of this module stand for. A call does nothing.
@@ -382,6 +385,7 @@ pub fn constants()
 /// Laws: which bytes a symbol is written as, and that classes and byte orders keep lists of symbols
 /// the same. A call does nothing.
 pub fn laws()
-    ensures image { OneImage }
-    ensures same { SameInEachClass }
+    ensures image { (class : Container) (order : Endian) →
+        IsOneImage (sym_size class) (sym_of class order) (sym_image class order) (sym_low class) }
+    ensures same { IsSameInEachClass sym_size sym_of sym_image SymFits }
 {}

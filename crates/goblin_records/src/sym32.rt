@@ -1,8 +1,10 @@
 //! Symbols of the 32-bit class: System V gABI, "Symbol Table" (`Elf32_Sym`).
 ghost use Rattle.std.specs.Prelude.{◌≡◌, ◌≤◌, ◌↔◌, ◌++◌, IsTrue, length, drop};
+ghost use Rattle.goblin_base.specs.declared.container.Endian.{Endian};
+ghost use Rattle.goblin_base.specs.Layout.{IsOneImage};
 ghost use Rattle.goblin_base.specs.Record.{read_within, Writes};
 ghost use Rattle.goblin_base.specs.Steps.{with_size};
-ghost use Rattle.goblin_records.specs.Sym32.{sym32_of, sym32_image, OneImage};
+ghost use Rattle.goblin_records.specs.Sym32.{sym32_size, sym32_of, sym32_image, sym32_low};
 ghost use Rattle.goblin_records.specs.SymParts.{type_of, IsImport};
 
 use crate::sym::Sym as ElfSym;
@@ -64,8 +66,8 @@ impl Sym {
             st_name: get_u32(bytes, 0, order),
             st_value: get_u32(bytes, 4, order),
             st_size: get_u32(bytes, 8, order),
-            st_info: get_u8(bytes, 12, order),
-            st_other: get_u8(bytes, 13, order),
+            st_info: get_u8(bytes, 12),
+            st_other: get_u8(bytes, 13),
             st_shndx: get_u16(bytes, 14, order),
         }
     }
@@ -78,8 +80,8 @@ impl Sym {
         put_u32(bytes, 0, self.st_name, order);
         put_u32(bytes, 4, self.st_value, order);
         put_u32(bytes, 8, self.st_size, order);
-        put_u8(bytes, 12, self.st_info, order);
-        put_u8(bytes, 13, self.st_other, order);
+        put_u8(bytes, 12, self.st_info);
+        put_u8(bytes, 13, self.st_other);
         put_u16(bytes, 14, self.st_shndx, order);
     }
 }
@@ -104,7 +106,6 @@ impl From<Sym> for ElfSym {
 /// Of each field the low bits are kept, as many as it has room for.
 impl From<ElfSym> for Sym {
     ghost use Rattle.goblin_records.specs.Sym.{as32};
-    ghost use Rattle.goblin_records.specs.Sym32.{sym32_low};
 
     ghost from_gives = { λ sym raw. raw ≡ sym32_low (as32 sym) };
 
@@ -121,7 +122,7 @@ impl From<ElfSym> for Sym {
 }
 
 impl SizeWith<Endian> for Sym {
-    ghost size_of = { λ _. 16 };
+    ghost size_of = { λ _. sym32_size };
 
     fn size_with(_order: &Endian) -> usize {
         SIZEOF_SYM
@@ -131,7 +132,7 @@ impl SizeWith<Endian> for Sym {
 /// Refused is only what has no room.
 impl<'a> TryFromCtx<'a, Endian> for Sym {
     ghost try_from_gives = { λ bytes order answer.
-        answer ≡ with_size 16 (read_within 16 (sym32_of order) bytes) };
+        answer ≡ with_size sym32_size (read_within sym32_size (sym32_of order) bytes) };
 
     fn try_from_ctx(bytes: &'a [u8], order: Endian) -> Result<(Self, usize)> {
         let sym = Sym::read_record(bytes, order)?;
@@ -142,7 +143,7 @@ impl<'a> TryFromCtx<'a, Endian> for Sym {
 /// Refused is only what has no room, and then no byte is written.
 impl TryIntoCtx<Endian> for Sym {
     ghost try_into_gives = { λ sym order old answer new.
-        Writes 16 (sym32_image order sym) old answer new };
+        Writes sym32_size (sym32_image order sym) old answer new };
 
     #[tactic(auto, using(goblin_base::specs::RecordLaws::record_answers))]
     fn try_into_ctx(self, bytes: &mut [u8], order: Endian) -> Result<usize> {
@@ -153,16 +154,14 @@ impl TryIntoCtx<Endian> for Sym {
 }
 
 impl Record<Endian> for Sym {
-    ghost use Rattle.goblin_base.specs.Fields.{FieldsFit};
-    ghost use Rattle.goblin_records.specs.Sym32.{sym32_fields};
-    ghost use Rattle.goblin_records.specs.Sym32Laws.{positive, length-image, sym32_of-append};
-    ghost use Rattle.goblin_records.specs.Sym32Laws.{sym32_of-image, image-sym32_of};
+    ghost use Rattle.goblin_records.specs.Sym32.{Sym32Fits};
+    ghost use Rattle.goblin_records.specs.Sym32Laws.{sym32_laws};
 
     ghost read = { sym32_of };
 
     ghost image = { sym32_image };
 
-    ghost fits = { λ _ sym. FieldsFit (sym32_fields sym) };
+    ghost fits = { λ _. Sym32Fits };
 
     #[tactic(auto, using(goblin_base::specs::RecordLaws::record_answers))]
     fn read_record(bytes: &[u8], order: Endian) -> Result<Self> {
@@ -170,21 +169,24 @@ impl Record<Endian> for Sym {
         Ok(Sym::at(bytes, order))
     }
 
-    ghost size_positive = { λ _. positive };
+    ghost size_positive = { λ order. (sym32_laws order).size_positive };
 
-    ghost length_image = { length-image };
+    ghost length_image = { λ order. (sym32_laws order).length_image };
+
+    ghost image_bytes = { λ order. (sym32_laws order).image_bytes };
 
     ghost writes_image = { λ order sym old new answer h. h };
 
-    ghost reads_front = { sym32_of-append };
+    ghost reads_front = { λ order. (sym32_laws order).reads_front };
 
-    ghost reads_back = { sym32_of-image };
+    ghost reads_back = { λ order. (sym32_laws order).reads_back };
 
-    ghost writes_back = { image-sym32_of };
+    ghost writes_back = { λ order. (sym32_laws order).writes_back };
 }
 
 /// Laws: how many bytes a symbol takes, and which they are. A call does nothing.
 pub fn laws()
-    ensures size { SIZEOF_SYM ≡ 16 }
-    ensures image { OneImage }
+    ensures size { SIZEOF_SYM ≡ sym32_size }
+    ensures image { (order : Endian) →
+        IsOneImage sym32_size (sym32_of order) (sym32_image order) sym32_low }
 {}

@@ -1,8 +1,10 @@
 //! Symbols of the 64-bit class: System V gABI, "Symbol Table" (`Elf64_Sym`).
 ghost use Rattle.std.specs.Prelude.{◌≡◌, ◌≤◌, ◌↔◌, ◌++◌, IsTrue, length, drop};
+ghost use Rattle.goblin_base.specs.declared.container.Endian.{Endian};
+ghost use Rattle.goblin_base.specs.Layout.{IsOneImage};
 ghost use Rattle.goblin_base.specs.Record.{read_within, Writes};
 ghost use Rattle.goblin_base.specs.Steps.{with_size};
-ghost use Rattle.goblin_records.specs.Sym64.{sym64_of, sym64_image, OneImage};
+ghost use Rattle.goblin_records.specs.Sym64.{sym64_size, sym64_of, sym64_image, sym64_low};
 ghost use Rattle.goblin_records.specs.SymParts.{type_of, IsImport};
 
 use crate::sym::Sym as ElfSym;
@@ -64,8 +66,8 @@ impl Sym {
     {
         Sym {
             st_name: get_u32(bytes, 0, order),
-            st_info: get_u8(bytes, 4, order),
-            st_other: get_u8(bytes, 5, order),
+            st_info: get_u8(bytes, 4),
+            st_other: get_u8(bytes, 5),
             st_shndx: get_u16(bytes, 6, order),
             st_value: get_u64(bytes, 8, order),
             st_size: get_u64(bytes, 16, order),
@@ -78,8 +80,8 @@ impl Sym {
         ensures { bytes.new ≡ sym64_image order self.now ++ drop SIZEOF_SYM bytes.old }
     {
         put_u32(bytes, 0, self.st_name, order);
-        put_u8(bytes, 4, self.st_info, order);
-        put_u8(bytes, 5, self.st_other, order);
+        put_u8(bytes, 4, self.st_info);
+        put_u8(bytes, 5, self.st_other);
         put_u16(bytes, 6, self.st_shndx, order);
         put_u64(bytes, 8, self.st_value, order);
         put_u64(bytes, 16, self.st_size, order);
@@ -106,7 +108,6 @@ impl From<Sym> for ElfSym {
 /// Of each field the low bits are kept, as many as it has room for.
 impl From<ElfSym> for Sym {
     ghost use Rattle.goblin_records.specs.Sym.{as64};
-    ghost use Rattle.goblin_records.specs.Sym64.{sym64_low};
 
     ghost from_gives = { λ sym raw. raw ≡ sym64_low (as64 sym) };
 
@@ -123,7 +124,7 @@ impl From<ElfSym> for Sym {
 }
 
 impl SizeWith<Endian> for Sym {
-    ghost size_of = { λ _. 24 };
+    ghost size_of = { λ _. sym64_size };
 
     fn size_with(_order: &Endian) -> usize {
         SIZEOF_SYM
@@ -133,7 +134,7 @@ impl SizeWith<Endian> for Sym {
 /// Refused is only what has no room.
 impl<'a> TryFromCtx<'a, Endian> for Sym {
     ghost try_from_gives = { λ bytes order answer.
-        answer ≡ with_size 24 (read_within 24 (sym64_of order) bytes) };
+        answer ≡ with_size sym64_size (read_within sym64_size (sym64_of order) bytes) };
 
     fn try_from_ctx(bytes: &'a [u8], order: Endian) -> Result<(Self, usize)> {
         let sym = Sym::read_record(bytes, order)?;
@@ -144,7 +145,7 @@ impl<'a> TryFromCtx<'a, Endian> for Sym {
 /// Refused is only what has no room, and then no byte is written.
 impl TryIntoCtx<Endian> for Sym {
     ghost try_into_gives = { λ sym order old answer new.
-        Writes 24 (sym64_image order sym) old answer new };
+        Writes sym64_size (sym64_image order sym) old answer new };
 
     #[tactic(auto, using(goblin_base::specs::RecordLaws::record_answers))]
     fn try_into_ctx(self, bytes: &mut [u8], order: Endian) -> Result<usize> {
@@ -155,16 +156,14 @@ impl TryIntoCtx<Endian> for Sym {
 }
 
 impl Record<Endian> for Sym {
-    ghost use Rattle.goblin_base.specs.Fields.{FieldsFit};
-    ghost use Rattle.goblin_records.specs.Sym64.{sym64_fields};
-    ghost use Rattle.goblin_records.specs.Sym64Laws.{positive, length-image, sym64_of-append};
-    ghost use Rattle.goblin_records.specs.Sym64Laws.{sym64_of-image, image-sym64_of};
+    ghost use Rattle.goblin_records.specs.Sym64.{Sym64Fits};
+    ghost use Rattle.goblin_records.specs.Sym64Laws.{sym64_laws};
 
     ghost read = { sym64_of };
 
     ghost image = { sym64_image };
 
-    ghost fits = { λ _ sym. FieldsFit (sym64_fields sym) };
+    ghost fits = { λ _. Sym64Fits };
 
     #[tactic(auto, using(goblin_base::specs::RecordLaws::record_answers))]
     fn read_record(bytes: &[u8], order: Endian) -> Result<Self> {
@@ -172,21 +171,24 @@ impl Record<Endian> for Sym {
         Ok(Sym::at(bytes, order))
     }
 
-    ghost size_positive = { λ _. positive };
+    ghost size_positive = { λ order. (sym64_laws order).size_positive };
 
-    ghost length_image = { length-image };
+    ghost length_image = { λ order. (sym64_laws order).length_image };
+
+    ghost image_bytes = { λ order. (sym64_laws order).image_bytes };
 
     ghost writes_image = { λ order sym old new answer h. h };
 
-    ghost reads_front = { sym64_of-append };
+    ghost reads_front = { λ order. (sym64_laws order).reads_front };
 
-    ghost reads_back = { sym64_of-image };
+    ghost reads_back = { λ order. (sym64_laws order).reads_back };
 
-    ghost writes_back = { image-sym64_of };
+    ghost writes_back = { λ order. (sym64_laws order).writes_back };
 }
 
 /// Laws: how many bytes a symbol takes, and which they are. A call does nothing.
 pub fn laws()
-    ensures size { SIZEOF_SYM ≡ 24 }
-    ensures image { OneImage }
+    ensures size { SIZEOF_SYM ≡ sym64_size }
+    ensures image { (order : Endian) →
+        IsOneImage sym64_size (sym64_of order) (sym64_image order) sym64_low }
 {}

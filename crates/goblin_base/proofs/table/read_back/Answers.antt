@@ -1,4 +1,4 @@
-use Rattle.goblin_base.proofs.Records.{records-flat_map}
+use Rattle.goblin_base.specs.TableLaws.{records-flat_map}
 use Rattle.goblin_base.proofs.table.read_back.Goals as goal
 
 pub returns : goal.returns

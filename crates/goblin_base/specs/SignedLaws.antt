@@ -1,0 +1,90 @@
+-- Laws of signed numbers: each that fits a width has one spelling in two's complement.
+use Rattle.std.proofs.Common.{◌≡◌, ◌<◌, ◌≤◌, ◌+◌, ◌*◌, ◌-◌, ◌%◌, ◌^◌, ℕ, List, length, take, drop, inl, inr, sym, ap, ◌∙◌, arith}
+use Rattle.std.specs.Prelude.{ℤ, pos, negsuc}
+use Rattle.std.specs.Int.{cast_signed, cast_unsigned, w32, w64}
+use Rattle.std.specs.Int.RustNames.{FitsSigned as FitsInt}
+use Rattle.std.proofs.Math.Nat.{one-le-pow, mod-lt, mod-eq_of_lt}
+use Rattle.std.proofs.lemmas.Bool.{cases_lt}
+use Rattle.std.proofs.lemmas.Bool.Decides.{nat_tests}
+use Rattle.std.proofs.lemmas.Int.{ints}
+use Rattle.std.proofs.lemmas.List.{length-take-le, length-drop}
+use Rattle.goblin_base.specs.declared.container.Endian.{Endian}
+use Rattle.goblin_base.specs.Number.{IsBytes, number, number_at, spelled}
+use Rattle.goblin_base.specs.FieldLaws.{number_at-with_number, number_at-lt}
+use Rattle.goblin_base.specs.NumberLaws.{length-spelled, number-spelled, spelled-number, number-lt}
+use Rattle.goblin_base.specs.Signed.{signed_of, signed_number_at, complement, FitsSigned, ReadsSigned, SpellsSigned, IsSignedSlice, ReadsSignedThere}
+
+-- two's complement there and back
+pub signed_of-complement : (width : ℕ) (z : ℤ) → FitsSigned width z → signed_of width (complement width z) ≡ z
+signed_of-complement width (pos x) fits =
+    let e : x % 256 ^ width ≡ x = mod-eq_of_lt (omega arith) in
+    rw e (grind (arith, nat_tests))
+signed_of-complement width (negsuc x) fits =
+    let e : x % 256 ^ width ≡ x = mod-eq_of_lt (omega arith) in
+    rw e (grind (arith, nat_tests, ints))
+
+-- the number of a signed number has so many bytes
+pub complement-lt : (width : ℕ) (z : ℤ) → complement width z < 256 ^ width
+complement-lt width (pos x) = mod-lt x (omega (arith, one-le-pow width 256 (omega arith)))
+complement-lt width (negsuc x) = omega (arith, one-le-pow width 256 (omega arith))
+
+-- so its low bits are all of it
+pub complement-mod : (width : ℕ) (z : ℤ) → complement width z % 256 ^ width ≡ complement width z
+complement-mod width z = mod-eq_of_lt (complement-lt width z)
+
+-- and from a number back to it
+pub complement-signed_of : (width x : ℕ) → x < 256 ^ width → complement width (signed_of width x) ≡ x
+complement-signed_of width x h =
+    elim (cases_lt (2 * x) (256 ^ width)) [
+      | inl p ↦ let low : signed_of width x ≡ pos x = grind (arith, nat_tests) in ap (complement width) low ∙ mod-eq_of_lt h
+      | inr p ↦
+          let high : signed_of width x ≡ negsuc (256 ^ width - 1 - x) = grind (arith, nat_tests, ints) in
+          let rest : (256 ^ width - 1 - x) % 256 ^ width ≡ 256 ^ width - 1 - x = mod-eq_of_lt (omega arith) in
+          ap (complement width) high ∙ rw rest (omega arith)
+    ]
+
+-- what is spelled is read back
+pub signed_number-spelled : ReadsSigned
+signed_number-spelled order width z fits =
+    let x = complement width z in
+    ap (λ (w : ℕ). signed_of w (number order (spelled order width x))) (length-spelled order width x)
+    ∙ ap (signed_of width) (number-spelled order width x (complement-lt width z))
+    ∙ signed_of-complement width z fits
+
+-- what is read is spelled by the bytes that were read
+pub spelled-signed_number : SpellsSigned
+spelled-signed_number order bytes are =
+    ap (spelled order (length bytes)) (complement-signed_of (length bytes) (number order bytes) (number-lt order bytes are))
+    ∙ spelled-number order bytes are
+
+-- the number of the signed number that stands at a place is the one that stands there
+pub complement-signed_number_at : (order : Endian) (bytes : List ℕ) (place width : ℕ) → IsBytes bytes → place + width ≤ length bytes → complement width (signed_number_at order bytes place width) ≡ number_at order bytes place width
+complement-signed_number_at order bytes place width are room =
+    complement-signed_of width (number_at order bytes place width) (number_at-lt order bytes place width are room)
+
+-- a slice that is there has its length
+pub signed_number_at-is : IsSignedSlice
+signed_number_at-is order bytes place width room =
+    ap (λ (w : ℕ). signed_of w (number order (take width (drop place bytes)))) (sym (length-take-le width (drop place bytes) (omega (arith, length-drop place bytes))))
+
+-- what was put in range is read back
+pub signed_number_at-with_number : ReadsSignedThere
+signed_number_at-with_number order bytes place width z room fits =
+    let x = complement width z in
+    ap (signed_of width) (number_at-with_number order bytes place width x room ∙ complement-mod width z)
+    ∙ signed_of-complement width z fits
+
+-- the casts of the numbers of four and of eight bytes are two's complement
+pub signed_of-four : (x : ℕ) → x < 2 ^ 32 → cast_signed w32 x ≡ signed_of 4 x
+signed_of-four x h = grind (arith, nat_tests, ints)
+
+pub signed_of-eight : (x : ℕ) → x < 2 ^ 64 → cast_signed w64 x ≡ signed_of 8 x
+signed_of-eight x h = grind (arith, nat_tests, ints)
+
+pub complement-four : (z : ℤ) → FitsInt w32 z → cast_unsigned w32 z ≡ complement 4 z
+complement-four (pos x) fits = grind (arith, nat_tests, ints)
+complement-four (negsuc x) fits = grind (arith, nat_tests, ints)
+
+pub complement-eight : (z : ℤ) → FitsInt w64 z → cast_unsigned w64 z ≡ complement 8 z
+complement-eight (pos x) fits = grind (arith, nat_tests, ints)
+complement-eight (negsuc x) fits = grind (arith, nat_tests, ints)

@@ -1,0 +1,67 @@
+-- Laws of the records of a table.
+use Rattle.std.proofs.Common.{◌≡◌, ◌<◌, ◌+◌, ◌*◌, ◌-◌, ℕ, zero, suc, List, [], ◌∷◌, ◌++◌, map, length, take, drop, refl, sym, ap, ◌∙◌, arith}
+use Rattle.std.specs.List.{All, slice_range, range_with_len, flat_map}
+use Rattle.std.proofs.lemmas.List.{take_at, drop_at, drop-drop, drop-take, take-take}
+use Rattle.goblin_base.specs.Table.{records}
+
+-- the piece of the bytes with an index
+unfoldable pub piece : ℕ → List ℕ → ℕ → List ℕ
+piece size bytes i = slice_range bytes (i * size) ((i + 1) * size)
+
+-- it is as many bytes as a record takes, from its start on
+pub piece-is : (size : ℕ) (bytes : List ℕ) (i : ℕ) → piece size bytes i ≡ take size (drop (i * size) bytes)
+unfolding piece
+piece-is size bytes i = let e : (i + 1) * size - i * size ≡ size = omega arith in rw e refl
+
+-- the pieces after the first one are those of the bytes behind it
+piece-next : (size : ℕ) (bytes : List ℕ) (i : ℕ) → piece size bytes (i + 1) ≡ piece size (drop size bytes) i
+piece-next size bytes i =
+    let e : size + i * size ≡ (i + 1) * size = omega arith in
+    piece-is size bytes (i + 1) ∙ ap (λ k. take size (drop k bytes)) (sym e) ∙ ap (take size) (sym (drop-drop (i * size) size bytes)) ∙ sym (piece-is size (drop size bytes) i)
+
+pieces-next : {R : Type 0} (size : ℕ) (read : List ℕ → R) (bytes : List ℕ) (i n : ℕ) → map (λ i. read (piece size bytes i)) (range_with_len (i + 1) n) ≡ map (λ i. read (piece size (drop size bytes) i)) (range_with_len i n)
+pieces-next size read bytes i zero = refl
+pieces-next size read bytes i (suc n) = rw (piece-next size bytes i, pieces-next size read bytes (i + 1) n) refl
+
+-- a table of none is empty
+pub no_records : {R : Type 0} (size : ℕ) (read : List ℕ → R) (n : ℕ) (bytes : List ℕ) → n ≡ 0 → records size read n bytes ≡ []
+unfolding records
+no_records size read n bytes e = rw e refl
+
+-- the first record, and those behind it
+pub first_record : {R : Type 0} (size : ℕ) (read : List ℕ → R) (n : ℕ) (bytes : List ℕ) → 0 < n → records size read n bytes ≡ read (take size bytes) ∷ records size read (n - 1) (drop size bytes)
+unfolding records piece
+first_record size read zero bytes h = absurd (omega arith)
+first_record size read (suc n) bytes h =
+    let e : suc n - 1 ≡ n = omega arith in
+    let none : 0 * size ≡ 0 = omega arith in
+    let front : piece size bytes 0 ≡ take size bytes = piece-is size bytes 0 ∙ ap (λ (k : ℕ). take size (drop k bytes)) none in
+    rw (e, front) (ap (λ rest. read (take size bytes) ∷ rest) (pieces-next size read bytes 0 n))
+
+-- records that are written one after another are read back as the same list
+pub records-flat_map : {R : Type 0} (size : ℕ) (read : List ℕ → R) (image : R → List ℕ) (Right : R → Type 0) → ((x : R) → length (image x) ≡ size) → ((x : R) → Right x → read (image x) ≡ x) → (all : List R) → All Right all → records size read (length all) (flat_map image all) ≡ all
+unfolding records
+records-flat_map size read image Right long back [] right = refl
+records-flat_map size read image Right long back (x ∷ all) right =
+    let rest = records-flat_map size read image Right long back all (λ k d below. right (suc k) d (omega arith)) in
+    let less : suc (length all) - 1 ≡ length all = omega arith in
+    let is = back x (right 0 x (omega arith)) in
+    first_record size read (suc (length all)) (image x ++ flat_map image all) (omega arith)
+    ∙ rw (less, take_at (image x) (flat_map image all) size (long x), drop_at (image x) (flat_map image all) size (long x), is, rest) refl
+
+-- the records of a range depend on that range alone
+pub records-take : {R : Type 0} (size : ℕ) (read : List ℕ → R) (n : ℕ) (bytes : List ℕ) → records size read n (take (n * size) bytes) ≡ records size read n bytes
+unfolding records
+records-take size read zero bytes = refl
+records-take size read (suc n) bytes =
+    let less : suc n - 1 ≡ n = omega arith in
+    let whole : suc n * size ≡ size + n * size = omega arith in
+    let front : take size (take (suc n * size) bytes) ≡ take size bytes = take-take size (suc n * size) bytes (omega arith) in
+    let behind : drop size (take (suc n * size) bytes) ≡ take (n * size) (drop size bytes) = ap (λ (k : ℕ). drop size (take k bytes)) whole ∙ drop-take size (n * size) bytes in
+    first_record size read (suc n) (take (suc n * size) bytes) (omega arith)
+    ∙ rw (less, front, behind, records-take size read n (drop size bytes)) (sym (rw less at (first_record size read (suc n) bytes (omega arith))))
+
+-- so bytes that agree on the range give the same records
+pub records-agree : {R : Type 0} (size : ℕ) (read : List ℕ → R) (n : ℕ) (bytes others : List ℕ) → take (n * size) bytes ≡ take (n * size) others → records size read n bytes ≡ records size read n others
+records-agree size read n bytes others same =
+    sym (records-take size read n bytes) ∙ ap (records size read n) same ∙ records-take size read n others
