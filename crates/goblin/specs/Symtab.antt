@@ -56,3 +56,14 @@ PermissiveKeepsStrict =
     (bytes : List ℕ) (offset count : ℕ) (ctx : Ctx) (table : Symbols)
     → symtab_of bytes offset count ctx ≡ Ok table
     → permissive_symtab_of bytes offset count ctx ≡ Ok table
+
+-- two files of one length that agree on the range of a table, as far as it lies in them, have the same table, or refuse
+-- it alike
+abbrev pub DependsOnItsRange : Type 0
+DependsOnItsRange =
+    (mode : ParseMode) (bytes others : List ℕ) (offset count : ℕ) (ctx : Ctx)
+    → length bytes ≡ length others
+    → let size = sym_size ctx.container in
+    let range = min count ((length bytes - offset) / size) * size in
+    take range (drop offset bytes) ≡ take range (drop offset others)
+    → symtab_by mode bytes offset count ctx ≡ symtab_by mode others offset count ctx

@@ -1,9 +1,10 @@
 //! Symbols and symbol tables: System V gABI, "Symbol Table".
-ghost use Rattle.std.specs.Prelude.{◌≡◌, ◌≤◌, ◌-◌, ◌*◌, ◌↔◌, [], ◌∷◌, length, slice_get, IsTrue, IfOk, IfErr};
+ghost use Rattle.std.specs.Prelude.{◌≡◌, ◌≤◌, ◌<◌, ◌-◌, ◌*◌, ◌^◌, ◌↔◌, [], ◌∷◌, length, slice_get, IsTrue, IfOk, IfErr};
 ghost use Rattle.std.specs.Prelude.{IfSome, alloc_error};
 ghost use Rattle.std.specs.Iterator.{UpTo, YieldsFirst, item_count};
 ghost use Rattle.std.specs.Iterator.SizeHint.{IsWithinCount};
-ghost use Rattle.goblin.specs.Symtab.{symbols_at, symtab_by, symtab_of, PermissiveKeepsStrict};
+ghost use Rattle.goblin.specs.Symtab.{symbols_at, symtab_by, symtab_of};
+ghost use Rattle.goblin.specs.Symtab.{DependsOnItsRange, PermissiveKeepsStrict};
 ghost use Rattle.goblin_records.specs.Sym.{sym_size};
 
 use goblin_base::container::Ctx;
@@ -148,7 +149,8 @@ impl<'a> Symtab<'a> {
 
     /// An iterator over the symbols, from the first one on.
     pub fn iter(&self) -> SymIterator<'a>
-        ensures { result ≡ self.now.symbols }
+        ensures exact { result ≡ self.now.symbols }
+        ensures bound { length self.now.symbols < 2 ^ 64 }
     {
         SymIterator {
             inner: self.table.iter(),
@@ -192,7 +194,10 @@ impl<'a, 'b> IntoIterator for &'b Symtab<'a> {
 
     ghost into_iter_gives = { λ t symbols. symbols ≡ t.now.symbols };
 
-    fn into_iter(self) -> Self::IntoIter {
+    fn into_iter(self) -> Self::IntoIter
+        ensures exact { result ≡ self.now.symbols }
+        ensures bound { length self.now.symbols < 2 ^ 64 }
+    {
         self.iter()
     }
 }
@@ -254,8 +259,9 @@ pub fn constants()
         ≡ 0 ∷ 1 ∷ 2 ∷ 3 ∷ 4 ∷ 5 ∷ 6 ∷ [] }
 {}
 
-/// A law: where a table is accepted strictly, the permissive reading gives the same table. A call does
-/// nothing.
+/// Laws: where a table is accepted strictly, the permissive reading gives the same table; and a table
+/// depends on the bytes of its range alone. A call does nothing.
 pub fn laws()
-    ensures { PermissiveKeepsStrict }
+    ensures permissive { PermissiveKeepsStrict }
+    ensures range { DependsOnItsRange }
 {}
