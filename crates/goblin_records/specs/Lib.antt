@@ -1,3 +1,5 @@
+pub mod RelocInfo
+pub mod RelocInfoLaws
 pub mod Sym
 pub mod Sym32
 pub mod Sym32Laws

@@ -1,6 +1,8 @@
-//! The records of ELF tables: symbols of either class.
+//! The records of ELF tables: symbols and relocations of either class.
 #![tactic(auto)]
 
+pub mod reloc32;
+pub mod reloc64;
 pub mod sym;
 pub mod sym32;
 pub mod sym64;

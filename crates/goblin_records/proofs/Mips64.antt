@@ -1,0 +1,26 @@
+-- The `r_info` of MIPS64 files of little order, as the functions make it.
+use Rattle.std.proofs.Common.{◌≡◌, ◌<◌, ◌+◌, ◌*◌, ◌/◌, ◌%◌, ◌^◌, ℕ, w32, refl, sym, ap, ◌∙◌, arith}
+use Rattle.std.specs.Int.{swap_bytes}
+use Rattle.goblin_base.specs.declared.container.Container.TheVariants.{Big}
+use Rattle.goblin_base.specs.Number.{number, spelled}
+use Rattle.goblin_records.specs.RelocInfo.{info_of, reversed, mips64el_info, mips64el_info_inverse}
+use Rattle.goblin_records.specs.RelocInfoLaws.{reversed-lt}
+
+-- what std makes of a word whose bytes are exchanged
+swapped : (word : ℕ) → swap_bytes w32 word ≡ reversed word
+unfolding number spelled
+swapped word = omega arith
+
+-- the low word goes before the high one, whose bytes were exchanged
+pub turned : (info high low word result : ℕ) → low ≡ info % 2 ^ 32 → high ≡ info / 2 ^ 32 → word ≡ swap_bytes w32 high → result ≡ info_of Big low word → result ≡ mips64el_info info
+turned info high low word result l h w is =
+    let same : word ≡ reversed (info / 2 ^ 32) = w ∙ swapped high ∙ ap reversed h in
+    let below = reversed-lt (info / 2 ^ 32) in
+    is ∙ rw (l, same) (omega arith)
+
+-- and back
+pub turned_back : (info high low word result : ℕ) → info < 2 ^ 64 → low ≡ info % 2 ^ 32 → high ≡ info / 2 ^ 32 → word ≡ swap_bytes w32 low → result ≡ info_of Big word high → result ≡ mips64el_info_inverse info
+turned_back info high low word result range l h w is =
+    let same : word ≡ reversed (info % 2 ^ 32) = w ∙ swapped low ∙ ap reversed l in
+    let below = reversed-lt (info % 2 ^ 32) in
+    is ∙ rw (h, same) (omega arith)

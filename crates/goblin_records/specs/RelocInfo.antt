@@ -1,0 +1,79 @@
+-- What an `r_info` tells: the symbol and the type (System V gABI, "Relocation", ELF32_R_SYM and its like), and the
+-- order in which MIPS64 files of little order keep its parts.
+use Rattle.std.specs.Prelude.{◌≡◌, ◌<◌, ◌+◌, ◌*◌, ◌/◌, ◌%◌, ◌^◌, ℕ}
+use Rattle.goblin_base.specs.declared.container.Container.{Container}
+use Rattle.goblin_base.specs.declared.container.Container.TheVariants.{Little, Big}
+use Rattle.goblin_base.specs.declared.container.Endian.TheVariants as order
+use Rattle.goblin_base.specs.Number.{number, spelled}
+
+-- how many symbols an `r_info` of a class can name
+abbrev pub symbols : Container → ℕ
+symbols Little = 2 ^ 24
+symbols Big = 2 ^ 32
+
+-- how many types it can name
+abbrev pub types : Container → ℕ
+types Little = 2 ^ 8
+types Big = 2 ^ 32
+
+-- the symbol that an `r_info` names: what stands above its type
+abbrev pub symbol_in : Container → ℕ → ℕ
+symbol_in class info = info / types class
+
+-- the type that an `r_info` names: its low bits
+abbrev pub type_in : Container → ℕ → ℕ
+type_in class info = info % types class
+
+-- the `r_info` of the low bits of a symbol and of a type, as many as a class has room for
+abbrev pub info_of : Container → ℕ → ℕ → ℕ
+info_of class symbol typ = (symbol % symbols class) * types class + typ % types class
+
+-- an `r_info` of a class is joined again from the parts that it was split into
+abbrev pub JoinsItsParts : Container → Type 0
+JoinsItsParts class =
+    (info : ℕ) → info < symbols class * types class → info_of class (symbol_in class info) (type_in class info) ≡ info
+
+-- what four bytes in little order stand for in big order
+abbrev pub reversed : ℕ → ℕ
+reversed word = number order.Big (spelled order.Little 4 word)
+
+-- what the high and the low word of an `r_info`, as they were read, stand for in a MIPS64 file of little order: the
+-- low one is the symbol, and the high one has the bytes of the type in the other order
+abbrev pub mips64el_pair : ℕ × ℕ → ℕ × ℕ
+mips64el_pair read = (read.1, reversed read.0)
+
+-- the words that stand for a symbol and a type there
+abbrev pub mips64el_pair_inverse : ℕ × ℕ → ℕ × ℕ
+mips64el_pair_inverse meant = (reversed meant.1, meant.0)
+
+-- the high and the low word of a number
+abbrev pub words_of : ℕ → ℕ × ℕ
+words_of info = (info / 2 ^ 32, info % 2 ^ 32)
+
+-- the number of a high and a low word
+abbrev pub joined : ℕ × ℕ → ℕ
+joined words = words.0 * 2 ^ 32 + words.1
+
+-- the standard `r_info` of one that was read from a MIPS64 file of little order
+abbrev pub mips64el_info : ℕ → ℕ
+mips64el_info info = joined (mips64el_pair (words_of info))
+
+-- the `r_info` that stands for a standard one there
+abbrev pub mips64el_info_inverse : ℕ → ℕ
+mips64el_info_inverse info = joined (mips64el_pair_inverse (words_of info))
+
+-- the one undoes the other, both ways
+abbrev pub MipsInverse : Type 0
+MipsInverse =
+    (info : ℕ) → info < 2 ^ 64
+    → (mips64el_info_inverse (mips64el_info info) ≡ info) × (mips64el_info (mips64el_info_inverse info) ≡ info)
+
+-- no two infos stand for the same one
+abbrev pub MipsOneToOne : Type 0
+MipsOneToOne =
+    (one other : ℕ) → one < 2 ^ 64 → other < 2 ^ 64 → mips64el_info one ≡ mips64el_info other → one ≡ other
+
+-- four times is not at all
+abbrev pub MipsFourTimes : Type 0
+MipsFourTimes =
+    (info : ℕ) → info < 2 ^ 64 → mips64el_info (mips64el_info (mips64el_info (mips64el_info info))) ≡ info

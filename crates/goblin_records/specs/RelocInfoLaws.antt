@@ -1,0 +1,85 @@
+-- Laws of the parts of an `r_info`: they are joined again, and the pair of MIPS64 is turned back.
+use Rattle.std.proofs.Common.{◌≡◌, ◌<◌, ◌≤◌, ◌+◌, ◌*◌, ◌/◌, ◌%◌, ◌^◌, ℕ, List, length, reverse, refl, sym, ap, ◌∙◌, arith}
+use Rattle.std.proofs.lemmas.List.{length-reverse, reverse-reverse}
+use Rattle.goblin_base.specs.declared.container.Container.{Container}
+use Rattle.goblin_base.specs.declared.container.Container.TheVariants.{Little, Big}
+use Rattle.goblin_base.specs.declared.container.Endian.TheVariants as order
+use Rattle.goblin_base.specs.Number.{number, spelled, digits}
+use Rattle.goblin_base.specs.NumberLaws.{IsBytes-spelled, number-lt, number-spelled, length-spelled, spelled-number}
+use Rattle.goblin_records.specs.RelocInfo.{symbols, types, symbol_in, type_in, info_of, JoinsItsParts, reversed, mips64el_info, mips64el_info_inverse, MipsInverse, MipsOneToOne, MipsFourTimes}
+
+-- an `r_info` of the low bits of a symbol and a type is in range, and is split into them
+pub info_of-lt : (class : Container) (symbol typ : ℕ) → info_of class symbol typ < symbols class * types class
+info_of-lt Little symbol typ = omega arith
+info_of-lt Big symbol typ = omega arith
+
+pub symbol_in-info_of : (class : Container) (symbol typ : ℕ) → symbol_in class (info_of class symbol typ) ≡ symbol % symbols class
+symbol_in-info_of Little symbol typ = omega arith
+symbol_in-info_of Big symbol typ = omega arith
+
+pub type_in-info_of : (class : Container) (symbol typ : ℕ) → type_in class (info_of class symbol typ) ≡ typ % types class
+type_in-info_of Little symbol typ = omega arith
+type_in-info_of Big symbol typ = omega arith
+
+-- and is joined again from what it was split into
+pub joins_its_parts : (class : Container) → JoinsItsParts class
+joins_its_parts Little info h = omega arith
+joins_its_parts Big info h = omega arith
+
+-- four bytes in big order are those in little order from the last to the first
+spelled-big : (word : ℕ) → spelled order.Big 4 word ≡ reverse (spelled order.Little 4 word)
+unfolding spelled
+spelled-big word = refl
+
+number-little : (bytes : List ℕ) → number order.Big (reverse bytes) ≡ number order.Little bytes
+unfolding number
+number-little bytes = ap (λ (all : List ℕ). number order.Little all) (reverse-reverse bytes)
+
+-- four bytes stand for a number below 2 to the 32nd in either order
+pub reversed-lt : (word : ℕ) → reversed word < 2 ^ 32
+reversed-lt word =
+    let below = number-lt order.Big (spelled order.Little 4 word) (IsBytes-spelled order.Little 4 word) in
+    rw (length-spelled order.Little 4 word) at below
+
+-- bytes that are reversed twice are as they were
+pub reversed-reversed : (word : ℕ) → word < 2 ^ 32 → reversed (reversed word) ≡ word
+reversed-reversed word h =
+    let bytes = spelled order.Little 4 word in
+    let again : spelled order.Big 4 (reversed word) ≡ bytes =
+    rw (length-spelled order.Little 4 word) at (spelled-number order.Big bytes (IsBytes-spelled order.Little 4 word)) in
+    let turned : spelled order.Little 4 (reversed word) ≡ reverse bytes =
+    sym (reverse-reverse (spelled order.Little 4 (reversed word))) ∙ ap reverse (sym (spelled-big (reversed word)) ∙ again) in
+    ap (number order.Big) turned ∙ number-little bytes ∙ number-spelled order.Little 4 word h
+
+-- the words of joined words
+high_of : (high low : ℕ) → low < 2 ^ 32 → (high * 2 ^ 32 + low) / 2 ^ 32 ≡ high
+high_of high low h = omega arith
+
+low_of : (high low : ℕ) → low < 2 ^ 32 → (high * 2 ^ 32 + low) % 2 ^ 32 ≡ low
+low_of high low h = omega arith
+
+pub mips_inverse : MipsInverse
+mips_inverse info h =
+    let high : info / 2 ^ 32 < 2 ^ 32 = omega arith in
+    let low : info % 2 ^ 32 < 2 ^ 32 = omega arith in
+    let a = reversed (info / 2 ^ 32) in
+    let b = reversed (info % 2 ^ 32) in
+    let whole : (info / 2 ^ 32) * 2 ^ 32 + info % 2 ^ 32 ≡ info = omega arith in (
+      rw (high_of (info % 2 ^ 32) a (reversed-lt (info / 2 ^ 32)), low_of (info % 2 ^ 32) a (reversed-lt (info / 2 ^ 32)), reversed-reversed (info / 2 ^ 32) high) whole,
+      rw (high_of b (info / 2 ^ 32) high, low_of b (info / 2 ^ 32) high, reversed-reversed (info % 2 ^ 32) low) whole,
+    )
+
+pub mips_one_to_one : MipsOneToOne
+mips_one_to_one one other h k e = sym (mips_inverse one h).0 ∙ ap mips64el_info_inverse e ∙ (mips_inverse other k).0
+
+pub mips_four_times : MipsFourTimes
+mips_four_times info h =
+    let high : info / 2 ^ 32 < 2 ^ 32 = omega arith in
+    let low : info % 2 ^ 32 < 2 ^ 32 = omega arith in
+    let a = reversed (info / 2 ^ 32) in
+    let b = reversed (info % 2 ^ 32) in
+    let alt = reversed-lt (info / 2 ^ 32) in
+    let blt = reversed-lt (info % 2 ^ 32) in
+    let whole : (info / 2 ^ 32) * 2 ^ 32 + info % 2 ^ 32 ≡ info = omega arith in
+    rw (high_of (info % 2 ^ 32) a alt, low_of (info % 2 ^ 32) a alt, high_of a b blt, low_of a b blt, high_of b (reversed a) (reversed-lt a), low_of b (reversed a) (reversed-lt a),
+    reversed-reversed (info / 2 ^ 32) high, reversed-reversed (info % 2 ^ 32) low) whole
