@@ -1,5 +1,9 @@
+pub mod Reloc
+pub mod Reloc32
+pub mod Reloc64
 pub mod RelocInfo
 pub mod RelocInfoLaws
+pub mod Signed
 pub mod Sym
 pub mod Sym32
 pub mod Sym32Laws

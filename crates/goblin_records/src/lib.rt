@@ -1,6 +1,7 @@
 //! The records of ELF tables: symbols and relocations of either class.
 #![tactic(auto)]
 
+pub mod reloc;
 pub mod reloc32;
 pub mod reloc64;
 pub mod sym;

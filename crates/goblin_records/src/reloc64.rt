@@ -1,9 +1,42 @@
 //! Relocations of the 64-bit class: System V gABI, "Relocation" (`Elf64_Rel` and `Elf64_Rela`).
-ghost use Rattle.std.specs.Prelude.{◌≡◌, ◌<◌, ◌^◌};
+ghost use Rattle.std.specs.Prelude.{◌≡◌, ◌<◌, ◌≤◌, ◌^◌, ◌++◌, length, drop};
 ghost use Rattle.goblin_base.specs.declared.container.Container.TheVariants as class;
+ghost use Rattle.goblin_records.specs.Reloc64.{rel64_size, rel64_of, rel64_image};
+ghost use Rattle.goblin_records.specs.Reloc64.{rela64_size, rela64_of, rela64_image};
 ghost use Rattle.goblin_records.specs.RelocInfo.{symbol_in, type_in, info_of, JoinsItsParts};
 ghost use Rattle.goblin_records.specs.RelocInfo.{mips64el_info, mips64el_info_inverse};
 ghost use Rattle.goblin_records.specs.RelocInfo.{MipsInverse, MipsOneToOne, MipsFourTimes};
+
+use crate::reloc::Reloc;
+use goblin_base::container::Endian;
+use goblin_base::number::{get_u64, put_u64};
+
+/// A relocation with an addend, of the 64-bit class.
+#[derive(Clone, Copy, Debug, Default, PartialEq)]
+pub struct Rela {
+    /// Where the relocation applies: an offset in bytes from the section's start in a relocatable
+    /// file, and else an address.
+    pub r_offset: u64,
+    /// The symbol in the high 32 bits, and the type in the low 32.
+    pub r_info: u64,
+    /// What is added to the value that is stored.
+    pub r_addend: i64,
+}
+
+/// A relocation without an addend, of the 64-bit class.
+#[derive(Clone, Debug, Default, Drop, PartialEq)]
+pub struct Rel {
+    /// Where the relocation applies: an offset in bytes from the section's start in a relocatable
+    /// file, and else an address.
+    pub r_offset: u64,
+    /// The symbol in the high 32 bits, and the type in the low 32.
+    pub r_info: u64,
+}
+
+/// How many bytes a relocation with an addend takes.
+pub const SIZEOF_RELA: usize = 8 + 8 + 8;
+/// How many bytes a relocation without an addend takes.
+pub const SIZEOF_REL: usize = 8 + 8;
 
 /// The symbol in an `r_info`: its high 32 bits.
 pub fn r_sym(info: u64) -> u32
@@ -42,9 +75,118 @@ pub fn mips64el_r_info_inverse(info: u64) -> u64
     r_info(r_type(info).swap_bytes() as u64, r_sym(info) as u64)
 }
 
-/// Laws: that an `r_info` is joined again from its parts; that the `r_info` of MIPS64 files can be had
+impl Rela {
+    // The relocation at the start of the bytes.
+    pub(crate) fn at(bytes: &[u8], order: Endian) -> Rela
+        requires { SIZEOF_RELA ≤ length bytes.now }
+        ensures { result ≡ rela64_of order bytes.now }
+    {
+        Rela {
+            r_offset: get_u64(bytes, 0, order),
+            r_info: get_u64(bytes, 8, order),
+            r_addend: get_u64(bytes, 16, order).cast_signed(),
+        }
+    }
+
+    // Puts the relocation at the start of the bytes.
+    pub(crate) fn put(&self, bytes: &mut [u8], order: Endian)
+        requires { SIZEOF_RELA ≤ length bytes.old }
+        ensures { bytes.new ≡ rela64_image order self.now ++ drop SIZEOF_RELA bytes.old }
+    {
+        put_u64(bytes, 0, self.r_offset, order);
+        put_u64(bytes, 8, self.r_info, order);
+        put_u64(bytes, 16, self.r_addend.cast_unsigned(), order);
+    }
+}
+
+impl Rel {
+    // The relocation at the start of the bytes.
+    pub(crate) fn at(bytes: &[u8], order: Endian) -> Rel
+        requires { SIZEOF_REL ≤ length bytes.now }
+        ensures { result ≡ rel64_of order bytes.now }
+    {
+        Rel {
+            r_offset: get_u64(bytes, 0, order),
+            r_info: get_u64(bytes, 8, order),
+        }
+    }
+
+    // Puts the relocation at the start of the bytes.
+    pub(crate) fn put(&self, bytes: &mut [u8], order: Endian)
+        requires { SIZEOF_REL ≤ length bytes.old }
+        ensures { bytes.new ≡ rel64_image order self.now ++ drop SIZEOF_REL bytes.old }
+    {
+        put_u64(bytes, 0, self.r_offset, order);
+        put_u64(bytes, 8, self.r_info, order);
+    }
+}
+
+impl From<Rela> for Reloc {
+    ghost use Rattle.goblin_records.specs.Reloc.{rela_widened64};
+
+    ghost from_gives = { λ raw reloc. reloc ≡ rela_widened64 raw };
+
+    fn from(rela: Rela) -> Self {
+        Reloc {
+            r_offset: rela.r_offset,
+            r_addend: Some(rela.r_addend),
+            r_sym: r_sym(rela.r_info) as usize,
+            r_type: r_type(rela.r_info),
+        }
+    }
+}
+
+/// There is no addend.
+impl From<Rel> for Reloc {
+    ghost use Rattle.goblin_records.specs.Reloc.{rel_widened64};
+
+    ghost from_gives = { λ raw reloc. reloc ≡ rel_widened64 raw };
+
+    fn from(rel: Rel) -> Self {
+        Reloc {
+            r_offset: rel.r_offset,
+            r_addend: None,
+            r_sym: r_sym(rel.r_info) as usize,
+            r_type: r_type(rel.r_info),
+        }
+    }
+}
+
+/// Of each field the low bits are kept, as many as it has room for. A missing addend is 0.
+impl From<Reloc> for Rela {
+    ghost use Rattle.goblin_records.specs.Reloc.{rela_as64};
+    ghost use Rattle.goblin_records.specs.Reloc64.{rela64_low};
+
+    ghost from_gives = { λ reloc raw. raw ≡ rela64_low (rela_as64 reloc) };
+
+    fn from(rela: Reloc) -> Self {
+        Rela {
+            r_offset: rela.r_offset,
+            r_info: r_info(rela.r_sym as u64, u64::from(rela.r_type)),
+            r_addend: rela.r_addend.unwrap_or(0),
+        }
+    }
+}
+
+/// Of each field the low bits are kept, as many as it has room for. The addend is dropped.
+impl From<Reloc> for Rel {
+    ghost use Rattle.goblin_records.specs.Reloc.{rel_as64};
+    ghost use Rattle.goblin_records.specs.Reloc64.{rel64_low};
+
+    ghost from_gives = { λ reloc raw. raw ≡ rel64_low (rel_as64 reloc) };
+
+    fn from(rel: Reloc) -> Self {
+        Rel {
+            r_offset: rel.r_offset,
+            r_info: r_info(rel.r_sym as u64, u64::from(rel.r_type)),
+        }
+    }
+}
+
+/// Laws: how many bytes relocations take; that an `r_info` is joined again from its parts; that the `r_info` of MIPS64 files can be had
 /// back. A call does nothing.
 pub fn laws()
+    ensures sizes { (SIZEOF_RELA ≡ rela64_size) × (SIZEOF_REL ≡ rel64_size) }
     ensures joins { JoinsItsParts class.Big }
     ensures inverse { MipsInverse }
     ensures one_to_one { MipsOneToOne }

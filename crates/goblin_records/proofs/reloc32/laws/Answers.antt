@@ -2,5 +2,5 @@ use Rattle.goblin_base.specs.declared.container.Container.TheVariants.{Little}
 use Rattle.goblin_records.specs.RelocInfoLaws.{joins_its_parts}
 use Rattle.goblin_records.proofs.reloc32.laws.Goals as goal
 
-pub returns : goal.returns
-returns c = joins_its_parts Little
+pub returns-clause-joins : goal.returns-clause-joins
+returns-clause-joins c = joins_its_parts Little

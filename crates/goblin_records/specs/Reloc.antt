@@ -1,0 +1,142 @@
+-- Relocations of either class, with an addend or without, and lists of them (System V gABI, "Relocation").
+use Rattle.std.specs.Prelude.{◌≡◌, ◌<◌, ◌%◌, ◌^◌, ℕ, ℤ, pos, List, Bool, false, true, Option, Some, None, unwrap_or, IsNone, IsSomeAnd}
+use Rattle.goblin_base.specs.declared.container.Container.{Container}
+use Rattle.goblin_base.specs.declared.container.Container.TheVariants.{Little, Big}
+use Rattle.goblin_base.specs.declared.container.Endian.{Endian}
+use Rattle.goblin_base.specs.Container.{word_size}
+use Rattle.goblin_base.specs.Fields.{Field, image_of_fields}
+use Rattle.goblin_records.specs.declared.reloc.Reloc.{Reloc}
+use Rattle.goblin_records.specs.declared.reloc.RelocCtx.{RelocCtx}
+use Rattle.goblin_records.specs.declared.reloc32.Rel.{Rel as Rel32}
+use Rattle.goblin_records.specs.declared.reloc32.Rela.{Rela as Rela32}
+use Rattle.goblin_records.specs.declared.reloc64.Rel.{Rel as Rel64}
+use Rattle.goblin_records.specs.declared.reloc64.Rela.{Rela as Rela64}
+use Rattle.goblin_records.specs.Reloc32.{rel32_size, rela32_size, rel32_of, rela32_of, rel32_fields, rela32_fields, rel32_low, rela32_low}
+use Rattle.goblin_records.specs.Reloc64.{rel64_size, rela64_size, rel64_of, rela64_of, rel64_fields, rela64_fields, rel64_low, rela64_low}
+use Rattle.goblin_records.specs.RelocInfo.{symbols, types, symbol_in, type_in, info_of, mips64el_pair, mips64el_pair_inverse}
+use Rattle.goblin_records.specs.Signed.{FitsBytes}
+
+-- how many bytes a relocation takes, with an addend or without, in a class
+abbrev pub reloc_size : Bool → Container → ℕ
+reloc_size false Little = rel32_size
+reloc_size true Little = rela32_size
+reloc_size false Big = rel64_size
+reloc_size true Big = rela64_size
+
+-- the relocation with the fields of a raw one, its `r_info` split
+abbrev pub rel_widened32 : Rel32 → Reloc
+rel_widened32 r = record {
+  r_offset = r.r_offset;
+  r_addend = None;
+  r_sym = symbol_in Little r.r_info;
+  r_type = type_in Little r.r_info;
+}
+
+abbrev pub rela_widened32 : Rela32 → Reloc
+rela_widened32 r = record {
+  r_offset = r.r_offset;
+  r_addend = Some r.r_addend;
+  r_sym = symbol_in Little r.r_info;
+  r_type = type_in Little r.r_info;
+}
+
+abbrev pub rel_widened64 : Rel64 → Reloc
+rel_widened64 r = record {
+  r_offset = r.r_offset;
+  r_addend = None;
+  r_sym = symbol_in Big r.r_info;
+  r_type = type_in Big r.r_info;
+}
+
+abbrev pub rela_widened64 : Rela64 → Reloc
+rela_widened64 r = record {
+  r_offset = r.r_offset;
+  r_addend = Some r.r_addend;
+  r_sym = symbol_in Big r.r_info;
+  r_type = type_in Big r.r_info;
+}
+
+-- the raw relocation with the same offset and addend, whether they fit it or not, and the `r_info` of symbol and type;
+-- a missing addend is 0
+abbrev pub rel_as32 : Reloc → Rel32
+rel_as32 r = record { r_offset = r.r_offset; r_info = info_of Little r.r_sym r.r_type }
+
+abbrev pub rela_as32 : Reloc → Rela32
+rela_as32 r = record {
+  r_offset = r.r_offset;
+  r_info = info_of Little r.r_sym r.r_type;
+  r_addend = unwrap_or r.r_addend (pos 0);
+}
+
+abbrev pub rel_as64 : Reloc → Rel64
+rel_as64 r = record { r_offset = r.r_offset; r_info = info_of Big r.r_sym r.r_type }
+
+abbrev pub rela_as64 : Reloc → Rela64
+rela_as64 r = record {
+  r_offset = r.r_offset;
+  r_info = info_of Big r.r_sym r.r_type;
+  r_addend = unwrap_or r.r_addend (pos 0);
+}
+
+-- the relocation that bytes stand for, with an addend or without, in a class
+abbrev pub reloc_of : Bool → Container → Endian → List ℕ → Reloc
+reloc_of false Little order bytes = rel_widened32 (rel32_of order bytes)
+reloc_of true Little order bytes = rela_widened32 (rela32_of order bytes)
+reloc_of false Big order bytes = rel_widened64 (rel64_of order bytes)
+reloc_of true Big order bytes = rela_widened64 (rela64_of order bytes)
+
+-- the fields of a relocation in the order in which they lie, each with its width
+abbrev pub reloc_fields : Bool → Container → Reloc → List Field
+reloc_fields false Little r = rel32_fields (rel_as32 r)
+reloc_fields true Little r = rela32_fields (rela_as32 r)
+reloc_fields false Big r = rel64_fields (rel_as64 r)
+reloc_fields true Big r = rela64_fields (rela_as64 r)
+
+-- the bytes that a relocation is written as
+abbrev pub reloc_image : Bool → Container → Endian → Reloc → List ℕ
+reloc_image with_addend class order r = image_of_fields order (reloc_fields with_addend class r)
+
+-- the relocation with the low bits of each field, as many as there is room for
+abbrev pub reloc_low : Bool → Container → Reloc → Reloc
+reloc_low false Little r = rel_widened32 (rel32_low (rel_as32 r))
+reloc_low true Little r = rela_widened32 (rela32_low (rela_as32 r))
+reloc_low false Big r = rel_widened64 (rel64_low (rel_as64 r))
+reloc_low true Big r = rela_widened64 (rela64_low (rela_as64 r))
+
+-- there is an addend exactly where one is written, and so many bytes can stand for it
+abbrev pub AddendFits : Bool → ℕ → Option ℤ → Type 0
+AddendFits false width addend = addend ≡ None
+AddendFits true width addend = IsSomeAnd addend (FitsBytes width)
+
+-- each field of a relocation is in the range that a class has for it
+pub record RelocFits (with_addend : Bool) (class : Container) (r : Reloc) : Type 0 where
+  pub offset : r.r_offset < 256 ^ word_size class
+  pub symbol : r.r_sym < symbols class
+  pub kind : r.r_type < types class
+  pub addend : AddendFits with_addend (word_size class) r.r_addend
+
+-- what a relocation that was read means: in a MIPS64 file of little order its symbol and type go through the pair
+abbrev pub as_meant : Bool → Reloc → Reloc
+as_meant false r = r
+as_meant true r = let pair = mips64el_pair (r.r_sym, r.r_type) in record r { r_sym = pair.0; r_type = pair.1 }
+
+-- the relocation that is stored for one that is meant
+abbrev pub as_stored : Bool → Reloc → Reloc
+as_stored false r = r
+as_stored true r =
+    let pair = mips64el_pair_inverse (r.r_sym % 2 ^ 32, r.r_type) in
+    record r { r_sym = pair.0; r_type = pair.1 }
+
+-- what is stored for a relocation fits; of a pair each part is a word of 32 bits
+abbrev pub StoredFits : Bool → Bool → Container → Reloc → Type 0
+StoredFits false with_addend class r = RelocFits with_addend class r
+StoredFits true with_addend class r =
+    (r.r_sym < 2 ^ 32) × (r.r_type < 2 ^ 32) × RelocFits with_addend class (as_stored true r)
+
+-- the relocation that bytes stand for in a context, through the pair where it says so
+abbrev pub reloc_in : RelocCtx → List ℕ → Reloc
+reloc_in c bytes = as_meant c.is_mips64el (reloc_of c.is_rela c.ctx.container c.ctx.le bytes)
+
+-- the bytes that a relocation is written as there
+abbrev pub reloc_image_in : RelocCtx → Reloc → List ℕ
+reloc_image_in c r = reloc_image c.is_rela c.ctx.container c.ctx.le (as_stored c.is_mips64el r)
