@@ -2,8 +2,10 @@
 use Rattle.std.proofs.Common.{◌≡◌, ◌<◌, ◌+◌, ◌*◌, ◌/◌, ◌%◌, ◌^◌, ℕ, w32, refl, sym, ap, ◌∙◌, arith}
 use Rattle.std.specs.Int.{swap_bytes}
 use Rattle.goblin_base.specs.declared.container.Container.TheVariants.{Big}
+use Rattle.goblin_base.specs.declared.container.Endian.TheVariants as order
 use Rattle.goblin_base.specs.Number.{number, spelled}
-use Rattle.goblin_records.specs.RelocInfo.{info_of, reversed, mips64el_info, mips64el_info_inverse}
+use Rattle.goblin_base.specs.NumberLaws.{spelled-mod}
+use Rattle.goblin_records.specs.RelocInfo.{symbol_in, type_in, info_of, reversed, mips64el_info, mips64el_info_inverse}
 use Rattle.goblin_records.specs.RelocInfoLaws.{reversed-lt}
 
 -- what std makes of a word whose bytes are exchanged
@@ -24,3 +26,13 @@ turned_back info high low word result range l h w is =
     let same : word ≡ reversed (info % 2 ^ 32) = w ∙ swapped low ∙ ap reversed l in
     let below = reversed-lt (info % 2 ^ 32) in
     is ∙ rw (h, same) (omega arith)
+
+-- the symbol and the type of what was read through the pair
+pub meant_parts : (symbol typ read info : ℕ) → typ < 2 ^ 32 → read ≡ info_of Big symbol typ → info ≡ mips64el_info read → (symbol_in Big info ≡ typ) × (type_in Big info ≡ reversed symbol)
+meant_parts symbol typ read info h r i =
+    let high : read / 2 ^ 32 ≡ symbol % 2 ^ 32 = omega arith in
+    let low : read % 2 ^ 32 ≡ typ = omega arith in
+    let same : reversed (symbol % 2 ^ 32) ≡ reversed symbol = ap (number order.Big) (spelled-mod order.Little 4 symbol) in
+    let below = reversed-lt symbol in
+    let is : info ≡ typ * 2 ^ 32 + reversed symbol = i ∙ rw (high, low, same) refl in
+    (omega arith, omega arith)

@@ -3,7 +3,7 @@ pub mod Reloc32
 pub mod Reloc64
 pub mod RelocInfo
 pub mod RelocInfoLaws
-pub mod Signed
+pub mod RelocLaws
 pub mod Sym
 pub mod Sym32
 pub mod Sym32Laws

@@ -5,6 +5,7 @@ use Rattle.goblin_base.specs.declared.container.Container.TheVariants.{Little, B
 use Rattle.goblin_base.specs.declared.container.Endian.{Endian}
 use Rattle.goblin_base.specs.Container.{word_size}
 use Rattle.goblin_base.specs.Fields.{Field, image_of_fields}
+use Rattle.goblin_base.specs.Layout.{IsOneImage, IsSameInEachClass}
 use Rattle.goblin_records.specs.declared.reloc.Reloc.{Reloc}
 use Rattle.goblin_records.specs.declared.reloc.RelocCtx.{RelocCtx}
 use Rattle.goblin_records.specs.declared.reloc32.Rel.{Rel as Rel32}
@@ -14,7 +15,7 @@ use Rattle.goblin_records.specs.declared.reloc64.Rela.{Rela as Rela64}
 use Rattle.goblin_records.specs.Reloc32.{rel32_size, rela32_size, rel32_of, rela32_of, rel32_fields, rela32_fields, rel32_low, rela32_low}
 use Rattle.goblin_records.specs.Reloc64.{rel64_size, rela64_size, rel64_of, rela64_of, rel64_fields, rela64_fields, rel64_low, rela64_low}
 use Rattle.goblin_records.specs.RelocInfo.{symbols, types, symbol_in, type_in, info_of, mips64el_pair, mips64el_pair_inverse}
-use Rattle.goblin_records.specs.Signed.{FitsBytes}
+use Rattle.goblin_base.specs.Signed.{FitsSigned}
 
 -- how many bytes a relocation takes, with an addend or without, in a class
 abbrev pub reloc_size : Bool → Container → ℕ
@@ -106,7 +107,7 @@ reloc_low true Big r = rela_widened64 (rela64_low (rela_as64 r))
 -- there is an addend exactly where one is written, and so many bytes can stand for it
 abbrev pub AddendFits : Bool → ℕ → Option ℤ → Type 0
 AddendFits false width addend = addend ≡ None
-AddendFits true width addend = IsSomeAnd addend (FitsBytes width)
+AddendFits true width addend = IsSomeAnd addend (FitsSigned width)
 
 -- each field of a relocation is in the range that a class has for it
 pub record RelocFits (with_addend : Bool) (class : Container) (r : Reloc) : Type 0 where
@@ -133,6 +134,14 @@ StoredFits false with_addend class r = RelocFits with_addend class r
 StoredFits true with_addend class r =
     (r.r_sym < 2 ^ 32) × (r.r_type < 2 ^ 32) × RelocFits with_addend class (as_stored true r)
 
+-- the context of these parts
+abbrev pub context : Bool → Container → Endian → Bool → RelocCtx
+context with_addend class order is_mips64el = record {
+  is_rela = with_addend;
+  ctx = record { container = class; le = order };
+  is_mips64el = is_mips64el;
+}
+
 -- the relocation that bytes stand for in a context, through the pair where it says so
 abbrev pub reloc_in : RelocCtx → List ℕ → Reloc
 reloc_in c bytes = as_meant c.is_mips64el (reloc_of c.is_rela c.ctx.container c.ctx.le bytes)
@@ -140,3 +149,26 @@ reloc_in c bytes = as_meant c.is_mips64el (reloc_of c.is_rela c.ctx.container c.
 -- the bytes that a relocation is written as there
 abbrev pub reloc_image_in : RelocCtx → Reloc → List ℕ
 reloc_image_in c r = reloc_image c.is_rela c.ctx.container c.ctx.le (as_stored c.is_mips64el r)
+
+-- the relocation with the low bits of what is stored for it
+abbrev pub reloc_low_in : RelocCtx → Reloc → Reloc
+reloc_low_in c r = as_meant c.is_mips64el (reloc_low c.is_rela c.ctx.container (as_stored c.is_mips64el r))
+
+-- what is stored for a relocation fits the context
+abbrev pub RelocFitsIn : RelocCtx → Reloc → Type 0
+RelocFitsIn c r = StoredFits c.is_mips64el c.is_rela c.ctx.container r
+
+-- the image of a relocation is the one list of bytes of its size that reads as the low bits of what is stored for it
+abbrev pub OneImage : Type 0
+OneImage =
+    (c : RelocCtx) → IsOneImage (reloc_size c.is_rela c.ctx.container) (reloc_in c) (reloc_image_in c) (reloc_low_in c)
+
+-- relocations that fit both classes, written one after another in either class and order, are read in that class and
+-- order as the same relocations; with addends and without, through the pair and not
+abbrev pub SameInEachClass : Type 0
+SameInEachClass =
+    (with_addend is_mips64el : Bool)
+    → IsSameInEachClass (reloc_size with_addend)
+    (λ class order. reloc_in (context with_addend class order is_mips64el))
+    (λ class order. reloc_image_in (context with_addend class order is_mips64el))
+    (StoredFits is_mips64el with_addend)

@@ -2,10 +2,11 @@
 use Rattle.std.specs.Prelude.{◌%◌, ◌^◌, ◌<◌, ℕ, List, [], ◌∷◌}
 use Rattle.goblin_base.specs.declared.container.Endian.{Endian}
 use Rattle.goblin_base.specs.Fields.{Field, field, image_of_fields}
+use Rattle.goblin_base.specs.Layout.{IsOneImage}
 use Rattle.goblin_base.specs.Number.{number_at}
 use Rattle.goblin_records.specs.declared.reloc64.Rel.{Rel}
 use Rattle.goblin_records.specs.declared.reloc64.Rela.{Rela}
-use Rattle.goblin_records.specs.Signed.{signed, signed_number_at, unsigned, FitsBytes}
+use Rattle.goblin_base.specs.Signed.{signed_of, signed_number_at, complement, FitsSigned}
 
 -- how many bytes a relocation takes, without an addend and with one
 abbrev pub rel64_size : ℕ
@@ -34,7 +35,7 @@ abbrev pub rel64_fields : Rel → List Field
 rel64_fields r = field 8 r.r_offset ∷ field 8 r.r_info ∷ []
 
 abbrev pub rela64_fields : Rela → List Field
-rela64_fields r = field 8 r.r_offset ∷ field 8 r.r_info ∷ field 8 (unsigned 8 r.r_addend) ∷ []
+rela64_fields r = field 8 r.r_offset ∷ field 8 r.r_info ∷ field 8 (complement 8 r.r_addend) ∷ []
 
 -- the bytes that a relocation is written as
 abbrev pub rel64_image : Endian → Rel → List ℕ
@@ -51,7 +52,7 @@ abbrev pub rela64_low : Rela → Rela
 rela64_low r = record {
   r_offset = r.r_offset % 256 ^ 8;
   r_info = r.r_info % 256 ^ 8;
-  r_addend = signed 8 (unsigned 8 r.r_addend);
+  r_addend = signed_of 8 (complement 8 r.r_addend);
 }
 
 -- each field is in the range of its width
@@ -59,4 +60,11 @@ abbrev pub Rel64Fits : Rel → Type 0
 Rel64Fits r = (r.r_offset < 256 ^ 8) × (r.r_info < 256 ^ 8)
 
 abbrev pub Rela64Fits : Rela → Type 0
-Rela64Fits r = (r.r_offset < 256 ^ 8) × (r.r_info < 256 ^ 8) × FitsBytes 8 r.r_addend
+Rela64Fits r = (r.r_offset < 256 ^ 8) × (r.r_info < 256 ^ 8) × FitsSigned 8 r.r_addend
+
+-- the image of a relocation is the one list of bytes of its size that reads as the low bits of its fields
+abbrev pub OneRelImage : Type 0
+OneRelImage = (order : Endian) → IsOneImage rel64_size (rel64_of order) (rel64_image order) rel64_low
+
+abbrev pub OneRelaImage : Type 0
+OneRelaImage = (order : Endian) → IsOneImage rela64_size (rela64_of order) (rela64_image order) rela64_low

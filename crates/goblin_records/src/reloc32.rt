@@ -1,13 +1,19 @@
 //! Relocations of the 32-bit class: System V gABI, "Relocation" (`Elf32_Rel` and `Elf32_Rela`).
 ghost use Rattle.std.specs.Prelude.{◌≡◌, ◌≤◌, ◌++◌, length, drop};
 ghost use Rattle.goblin_base.specs.declared.container.Container.TheVariants as class;
+ghost use Rattle.goblin_base.specs.Record.{read_within, Writes};
+ghost use Rattle.goblin_base.specs.Steps.{with_size};
 ghost use Rattle.goblin_records.specs.Reloc32.{rel32_size, rel32_of, rel32_image};
 ghost use Rattle.goblin_records.specs.Reloc32.{rela32_size, rela32_of, rela32_image};
+ghost use Rattle.goblin_records.specs.Reloc32.{OneRelImage, OneRelaImage};
 ghost use Rattle.goblin_records.specs.RelocInfo.{symbol_in, type_in, info_of, JoinsItsParts};
 
 use crate::reloc::Reloc;
 use goblin_base::container::Endian;
-use goblin_base::number::{get_u32, put_u32};
+use goblin_base::error::Result;
+use goblin_base::number::{get_i32, get_u32, put_i32, put_u32, room};
+use goblin_base::record::Record;
+use goblin_base::scroll::{SizeWith, TryFromCtx, TryIntoCtx};
 
 /// A relocation with an addend, of the 32-bit class.
 #[derive(Clone, Copy, Debug, Default, PartialEq)]
@@ -66,7 +72,7 @@ impl Rela {
         Rela {
             r_offset: get_u32(bytes, 0, order),
             r_info: get_u32(bytes, 4, order),
-            r_addend: get_u32(bytes, 8, order).cast_signed(),
+            r_addend: get_i32(bytes, 8, order),
         }
     }
 
@@ -77,7 +83,7 @@ impl Rela {
     {
         put_u32(bytes, 0, self.r_offset, order);
         put_u32(bytes, 4, self.r_info, order);
-        put_u32(bytes, 8, self.r_addend.cast_unsigned(), order);
+        put_i32(bytes, 8, self.r_addend, order);
     }
 }
 
@@ -166,9 +172,137 @@ impl From<Reloc> for Rel {
     }
 }
 
-/// Laws: how many bytes relocations take, and that an `r_info` is joined again from its parts. A call
-/// does nothing.
+impl SizeWith<Endian> for Rela {
+    ghost size_of = { λ _. rela32_size };
+
+    fn size_with(_order: &Endian) -> usize {
+        SIZEOF_RELA
+    }
+}
+
+/// Refused is only what has no room.
+impl<'a> TryFromCtx<'a, Endian> for Rela {
+    ghost try_from_gives = { λ bytes order answer.
+        answer ≡ with_size rela32_size (read_within rela32_size (rela32_of order) bytes) };
+
+    fn try_from_ctx(bytes: &'a [u8], order: Endian) -> Result<(Self, usize)> {
+        let rela = Rela::read_record(bytes, order)?;
+        Ok((rela, SIZEOF_RELA))
+    }
+}
+
+/// Refused is only what has no room, and then no byte is written.
+impl TryIntoCtx<Endian> for Rela {
+    ghost try_into_gives = { λ rela order old answer new.
+        Writes rela32_size (rela32_image order rela) old answer new };
+
+    #[tactic(auto, using(goblin_base::specs::RecordLaws::record_answers))]
+    fn try_into_ctx(self, bytes: &mut [u8], order: Endian) -> Result<usize> {
+        room(bytes.len(), 0, SIZEOF_RELA)?;
+        self.put(bytes, order);
+        Ok(SIZEOF_RELA)
+    }
+}
+
+impl Record<Endian> for Rela {
+    ghost use Rattle.goblin_records.specs.Reloc32.{Rela32Fits};
+    ghost use Rattle.goblin_records.specs.RelocLaws.{rela32_laws};
+
+    ghost read = { rela32_of };
+
+    ghost image = { rela32_image };
+
+    ghost fits = { λ _. Rela32Fits };
+
+    #[tactic(auto, using(goblin_base::specs::RecordLaws::record_answers))]
+    fn read_record(bytes: &[u8], order: Endian) -> Result<Self> {
+        room(bytes.len(), 0, SIZEOF_RELA)?;
+        Ok(Rela::at(bytes, order))
+    }
+
+    ghost size_positive = { λ order. (rela32_laws order).size_positive };
+
+    ghost length_image = { λ order. (rela32_laws order).length_image };
+
+    ghost image_bytes = { λ order. (rela32_laws order).image_bytes };
+
+    ghost writes_image = { λ order rela old new answer h. h };
+
+    ghost reads_front = { λ order. (rela32_laws order).reads_front };
+
+    ghost reads_back = { λ order. (rela32_laws order).reads_back };
+
+    ghost writes_back = { λ order. (rela32_laws order).writes_back };
+}
+
+impl SizeWith<Endian> for Rel {
+    ghost size_of = { λ _. rel32_size };
+
+    fn size_with(_order: &Endian) -> usize {
+        SIZEOF_REL
+    }
+}
+
+/// Refused is only what has no room.
+impl<'a> TryFromCtx<'a, Endian> for Rel {
+    ghost try_from_gives = { λ bytes order answer.
+        answer ≡ with_size rel32_size (read_within rel32_size (rel32_of order) bytes) };
+
+    fn try_from_ctx(bytes: &'a [u8], order: Endian) -> Result<(Self, usize)> {
+        let rel = Rel::read_record(bytes, order)?;
+        Ok((rel, SIZEOF_REL))
+    }
+}
+
+/// Refused is only what has no room, and then no byte is written.
+impl TryIntoCtx<Endian> for Rel {
+    ghost try_into_gives = { λ rel order old answer new.
+        Writes rel32_size (rel32_image order rel) old answer new };
+
+    #[tactic(auto, using(goblin_base::specs::RecordLaws::record_answers))]
+    fn try_into_ctx(self, bytes: &mut [u8], order: Endian) -> Result<usize> {
+        room(bytes.len(), 0, SIZEOF_REL)?;
+        self.put(bytes, order);
+        Ok(SIZEOF_REL)
+    }
+}
+
+impl Record<Endian> for Rel {
+    ghost use Rattle.goblin_records.specs.Reloc32.{Rel32Fits};
+    ghost use Rattle.goblin_records.specs.RelocLaws.{rel32_laws};
+
+    ghost read = { rel32_of };
+
+    ghost image = { rel32_image };
+
+    ghost fits = { λ _. Rel32Fits };
+
+    #[tactic(auto, using(goblin_base::specs::RecordLaws::record_answers))]
+    fn read_record(bytes: &[u8], order: Endian) -> Result<Self> {
+        room(bytes.len(), 0, SIZEOF_REL)?;
+        Ok(Rel::at(bytes, order))
+    }
+
+    ghost size_positive = { λ order. (rel32_laws order).size_positive };
+
+    ghost length_image = { λ order. (rel32_laws order).length_image };
+
+    ghost image_bytes = { λ order. (rel32_laws order).image_bytes };
+
+    ghost writes_image = { λ order rel old new answer h. h };
+
+    ghost reads_front = { λ order. (rel32_laws order).reads_front };
+
+    ghost reads_back = { λ order. (rel32_laws order).reads_back };
+
+    ghost writes_back = { λ order. (rel32_laws order).writes_back };
+}
+
+/// Laws: how many bytes relocations take, and which they are; that an `r_info` is joined again from its
+/// parts. A call does nothing.
 pub fn laws()
     ensures sizes { (SIZEOF_RELA ≡ rela32_size) × (SIZEOF_REL ≡ rel32_size) }
+    ensures rela_image { OneRelaImage }
+    ensures rel_image { OneRelImage }
     ensures joins { JoinsItsParts class.Little }
 {}

@@ -1,15 +1,21 @@
 //! Relocations of the 64-bit class: System V gABI, "Relocation" (`Elf64_Rel` and `Elf64_Rela`).
 ghost use Rattle.std.specs.Prelude.{◌≡◌, ◌<◌, ◌≤◌, ◌^◌, ◌++◌, length, drop};
 ghost use Rattle.goblin_base.specs.declared.container.Container.TheVariants as class;
+ghost use Rattle.goblin_base.specs.Record.{read_within, Writes};
+ghost use Rattle.goblin_base.specs.Steps.{with_size};
 ghost use Rattle.goblin_records.specs.Reloc64.{rel64_size, rel64_of, rel64_image};
 ghost use Rattle.goblin_records.specs.Reloc64.{rela64_size, rela64_of, rela64_image};
+ghost use Rattle.goblin_records.specs.Reloc64.{OneRelImage, OneRelaImage};
 ghost use Rattle.goblin_records.specs.RelocInfo.{symbol_in, type_in, info_of, JoinsItsParts};
 ghost use Rattle.goblin_records.specs.RelocInfo.{mips64el_info, mips64el_info_inverse};
 ghost use Rattle.goblin_records.specs.RelocInfo.{MipsInverse, MipsOneToOne, MipsFourTimes};
 
 use crate::reloc::Reloc;
 use goblin_base::container::Endian;
-use goblin_base::number::{get_u64, put_u64};
+use goblin_base::error::Result;
+use goblin_base::number::{get_i64, get_u64, put_i64, put_u64, room};
+use goblin_base::record::Record;
+use goblin_base::scroll::{SizeWith, TryFromCtx, TryIntoCtx};
 
 /// A relocation with an addend, of the 64-bit class.
 #[derive(Clone, Copy, Debug, Default, PartialEq)]
@@ -84,7 +90,7 @@ impl Rela {
         Rela {
             r_offset: get_u64(bytes, 0, order),
             r_info: get_u64(bytes, 8, order),
-            r_addend: get_u64(bytes, 16, order).cast_signed(),
+            r_addend: get_i64(bytes, 16, order),
         }
     }
 
@@ -95,7 +101,7 @@ impl Rela {
     {
         put_u64(bytes, 0, self.r_offset, order);
         put_u64(bytes, 8, self.r_info, order);
-        put_u64(bytes, 16, self.r_addend.cast_unsigned(), order);
+        put_i64(bytes, 16, self.r_addend, order);
     }
 }
 
@@ -183,10 +189,138 @@ impl From<Reloc> for Rel {
     }
 }
 
-/// Laws: how many bytes relocations take; that an `r_info` is joined again from its parts; that the `r_info` of MIPS64 files can be had
+impl SizeWith<Endian> for Rela {
+    ghost size_of = { λ _. rela64_size };
+
+    fn size_with(_order: &Endian) -> usize {
+        SIZEOF_RELA
+    }
+}
+
+/// Refused is only what has no room.
+impl<'a> TryFromCtx<'a, Endian> for Rela {
+    ghost try_from_gives = { λ bytes order answer.
+        answer ≡ with_size rela64_size (read_within rela64_size (rela64_of order) bytes) };
+
+    fn try_from_ctx(bytes: &'a [u8], order: Endian) -> Result<(Self, usize)> {
+        let rela = Rela::read_record(bytes, order)?;
+        Ok((rela, SIZEOF_RELA))
+    }
+}
+
+/// Refused is only what has no room, and then no byte is written.
+impl TryIntoCtx<Endian> for Rela {
+    ghost try_into_gives = { λ rela order old answer new.
+        Writes rela64_size (rela64_image order rela) old answer new };
+
+    #[tactic(auto, using(goblin_base::specs::RecordLaws::record_answers))]
+    fn try_into_ctx(self, bytes: &mut [u8], order: Endian) -> Result<usize> {
+        room(bytes.len(), 0, SIZEOF_RELA)?;
+        self.put(bytes, order);
+        Ok(SIZEOF_RELA)
+    }
+}
+
+impl Record<Endian> for Rela {
+    ghost use Rattle.goblin_records.specs.Reloc64.{Rela64Fits};
+    ghost use Rattle.goblin_records.specs.RelocLaws.{rela64_laws};
+
+    ghost read = { rela64_of };
+
+    ghost image = { rela64_image };
+
+    ghost fits = { λ _. Rela64Fits };
+
+    #[tactic(auto, using(goblin_base::specs::RecordLaws::record_answers))]
+    fn read_record(bytes: &[u8], order: Endian) -> Result<Self> {
+        room(bytes.len(), 0, SIZEOF_RELA)?;
+        Ok(Rela::at(bytes, order))
+    }
+
+    ghost size_positive = { λ order. (rela64_laws order).size_positive };
+
+    ghost length_image = { λ order. (rela64_laws order).length_image };
+
+    ghost image_bytes = { λ order. (rela64_laws order).image_bytes };
+
+    ghost writes_image = { λ order rela old new answer h. h };
+
+    ghost reads_front = { λ order. (rela64_laws order).reads_front };
+
+    ghost reads_back = { λ order. (rela64_laws order).reads_back };
+
+    ghost writes_back = { λ order. (rela64_laws order).writes_back };
+}
+
+impl SizeWith<Endian> for Rel {
+    ghost size_of = { λ _. rel64_size };
+
+    fn size_with(_order: &Endian) -> usize {
+        SIZEOF_REL
+    }
+}
+
+/// Refused is only what has no room.
+impl<'a> TryFromCtx<'a, Endian> for Rel {
+    ghost try_from_gives = { λ bytes order answer.
+        answer ≡ with_size rel64_size (read_within rel64_size (rel64_of order) bytes) };
+
+    fn try_from_ctx(bytes: &'a [u8], order: Endian) -> Result<(Self, usize)> {
+        let rel = Rel::read_record(bytes, order)?;
+        Ok((rel, SIZEOF_REL))
+    }
+}
+
+/// Refused is only what has no room, and then no byte is written.
+impl TryIntoCtx<Endian> for Rel {
+    ghost try_into_gives = { λ rel order old answer new.
+        Writes rel64_size (rel64_image order rel) old answer new };
+
+    #[tactic(auto, using(goblin_base::specs::RecordLaws::record_answers))]
+    fn try_into_ctx(self, bytes: &mut [u8], order: Endian) -> Result<usize> {
+        room(bytes.len(), 0, SIZEOF_REL)?;
+        self.put(bytes, order);
+        Ok(SIZEOF_REL)
+    }
+}
+
+impl Record<Endian> for Rel {
+    ghost use Rattle.goblin_records.specs.Reloc64.{Rel64Fits};
+    ghost use Rattle.goblin_records.specs.RelocLaws.{rel64_laws};
+
+    ghost read = { rel64_of };
+
+    ghost image = { rel64_image };
+
+    ghost fits = { λ _. Rel64Fits };
+
+    #[tactic(auto, using(goblin_base::specs::RecordLaws::record_answers))]
+    fn read_record(bytes: &[u8], order: Endian) -> Result<Self> {
+        room(bytes.len(), 0, SIZEOF_REL)?;
+        Ok(Rel::at(bytes, order))
+    }
+
+    ghost size_positive = { λ order. (rel64_laws order).size_positive };
+
+    ghost length_image = { λ order. (rel64_laws order).length_image };
+
+    ghost image_bytes = { λ order. (rel64_laws order).image_bytes };
+
+    ghost writes_image = { λ order rel old new answer h. h };
+
+    ghost reads_front = { λ order. (rel64_laws order).reads_front };
+
+    ghost reads_back = { λ order. (rel64_laws order).reads_back };
+
+    ghost writes_back = { λ order. (rel64_laws order).writes_back };
+}
+
+/// Laws: how many bytes relocations take, and which they are; that an `r_info` is joined again from its parts; that the `r_info` of MIPS64 files can be had
 /// back. A call does nothing.
 pub fn laws()
     ensures sizes { (SIZEOF_RELA ≡ rela64_size) × (SIZEOF_REL ≡ rel64_size) }
+    ensures rela_image { OneRelaImage }
+    ensures rel_image { OneRelImage }
     ensures joins { JoinsItsParts class.Big }
     ensures inverse { MipsInverse }
     ensures one_to_one { MipsOneToOne }

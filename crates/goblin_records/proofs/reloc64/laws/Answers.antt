@@ -1,4 +1,6 @@
 use Rattle.goblin_base.specs.declared.container.Container.TheVariants.{Big}
+use Rattle.goblin_base.specs.LayoutLaws.{one_image}
+use Rattle.goblin_records.specs.RelocLaws.{rel64_laws, rela64_laws}
 use Rattle.goblin_records.specs.RelocInfoLaws.{joins_its_parts, mips_inverse, mips_one_to_one, mips_four_times}
 use Rattle.goblin_records.proofs.reloc64.laws.Goals as goal
 
@@ -13,3 +15,9 @@ returns-clause-one_to_one c = mips_one_to_one
 
 pub returns-clause-four_times : goal.returns-clause-four_times
 returns-clause-four_times c = mips_four_times
+
+pub returns-clause-rela_image : goal.returns-clause-rela_image
+returns-clause-rela_image c order = one_image (rela64_laws order)
+
+pub returns-clause-rel_image : goal.returns-clause-rel_image
+returns-clause-rel_image c order = one_image (rel64_laws order)

@@ -1,0 +1,11 @@
+use Rattle.std.proofs.Common.{rules, FitsSigned, w32, ℕ, ℤ, List, ap}
+use Rattle.std.proofs.lemmas.Int.{to_z-of_z}
+use Rattle.goblin_base.specs.FieldLaws.{with_fields-image}
+use Rattle.goblin_records.specs.Reloc32.{rela32_fields}
+use Rattle.goblin_records.proofs.reloc32.Rela.put.Goals as goal
+
+pub returns : goal.returns
+returns c =
+    let fits : FitsSigned w32 c.args.self.now.r_addend = search rules in
+    let put = simp to_z-of_z at c.put_i32.ensures in
+    rw (put, c.put_u32-2.ensures, c.put_u32.ensures) (with_fields-image c.args.order c.args.bytes.now 0 (rela32_fields c.args.self.now) c.requires)
