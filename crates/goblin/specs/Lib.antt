@@ -8,7 +8,11 @@ pub use Rattle.goblin_headers.specs.ReadHeader
 pub use Rattle.goblin_headers.specs.SectionHeader
 pub use Rattle.goblin_headers.specs.SectionHeaders
 pub use Rattle.goblin_headers.specs.SectionNames
+pub use Rattle.goblin_records.specs.Reloc
+pub use Rattle.goblin_records.specs.RelocInfo
 pub use Rattle.goblin_records.specs.Sym
 pub use Rattle.goblin_records.specs.SymParts
+pub mod RelocSection
+pub mod RelocSectionLaws
 pub mod Symtab
 pub mod SymtabLaws

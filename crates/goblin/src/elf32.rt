@@ -2,4 +2,4 @@
 pub use goblin_headers::{
     header32 as header, program_header32 as program_header, section_header32 as section_header,
 };
-pub use goblin_records::sym32 as sym;
+pub use goblin_records::{reloc32 as reloc, sym32 as sym};

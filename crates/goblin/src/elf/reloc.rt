@@ -1,0 +1,212 @@
+//! Relocations and relocation sections: System V gABI, "Relocation".
+ghost use Rattle.std.specs.Prelude.{◌≡◌, ◌<◌, ◌^◌, ◌↔◌, [], false, length, slice_get, IsTrue, IfOk};
+ghost use Rattle.std.specs.Prelude.{IfErr, IfSome, alloc_error};
+ghost use Rattle.std.specs.Iterator.{UpTo, YieldsFirst, item_count};
+ghost use Rattle.std.specs.Iterator.SizeHint.{IsWithinCount};
+ghost use Rattle.goblin.specs.RelocSection.{relocs_of, is_of_mips64el};
+ghost use Rattle.goblin.specs.RelocSection.{DependsOnItsRange, WritesItsBytes};
+
+use goblin_base::container::Ctx;
+use goblin_base::error::{Error, Result};
+use goblin_base::number::room;
+use goblin_base::table::{Table, TableIter};
+use goblin_headers::header::{
+    EI_CLASS, EI_DATA, ELFCLASS64, ELFDATA2LSB, EM_MIPS, Header,
+};
+pub use goblin_records::reloc::{Reloc, RelocCtx, reloc32, reloc64};
+use std::alloc::Global;
+use std::marker::Model;
+
+/// A section of relocations, which are read from the file's bytes as they are asked for.
+///
+/// It takes no memory, and what it gives outlives it. Whoever asks gets each relocation alike: where the
+/// section was parsed so, through the pair of MIPS64 files of little order.
+#[derive(Debug, Drop)]
+pub struct RelocSection<'a> {
+    table: Table<'a, Reloc, RelocCtx>,
+}
+
+// A relocation section is seen as the list of its relocations.
+impl<'a> Model for RelocSection<'a> {
+    ghost use Rattle.std.specs.Prelude.{List};
+    ghost use Rattle.goblin_records.specs.declared.reloc.Reloc.{Reloc};
+
+    ghost Value = { List Reloc };
+
+    ghost view = { λ s. s.table };
+}
+
+impl<'a> RelocSection<'a> {
+    /// The relocations, with addends or without, of `filesz` bytes at an offset.
+    ///
+    /// A size of 0 succeeds at any offset, and else the section must lie in the bytes: a place past the
+    /// end, or the end itself, is a `BadOffset`, and more bytes than there are from the place on are
+    /// `TooBig`. There are as many relocations as the size holds whole; what remains is not read.
+    ///
+    /// The relocations are taken as they stand. [`is_mips64el`] tells of which files they are to go
+    /// through the pair, by [`RelocSection::parse_inner`].
+    pub fn parse(
+        bytes: &'a [u8],
+        offset: usize,
+        filesz: usize,
+        is_rela: bool,
+        ctx: Ctx,
+    ) -> Result<RelocSection<'a>>
+        ensures { result ≡ relocs_of bytes.now offset filesz is_rela ctx false }
+    {
+        Self::parse_inner(bytes, offset, filesz, is_rela, ctx, false)
+    }
+
+    /// The same, where `is_mips64el` says so with the symbol and the type of each relocation sent through
+    /// the pair of MIPS64 files of little order, in either class.
+    #[tactic(auto, unfolding(goblin_base::specs::Table::records))]
+    pub fn parse_inner(
+        bytes: &'a [u8],
+        offset: usize,
+        filesz: usize,
+        is_rela: bool,
+        ctx: Ctx,
+        is_mips64el: bool,
+    ) -> Result<RelocSection<'a>>
+        ensures { result ≡ relocs_of bytes.now offset filesz is_rela ctx is_mips64el }
+    {
+        let layout = RelocCtx {
+            is_rela,
+            ctx,
+            is_mips64el,
+        };
+        if filesz == 0 {
+            return Ok(RelocSection {
+                table: Table::of(&[], 0, layout),
+            });
+        }
+        room(bytes.len(), offset, filesz)?;
+        let part = &bytes[offset..offset + filesz];
+        Ok(RelocSection {
+            table: Table::of(part, filesz / Reloc::size(is_rela, ctx), layout),
+        })
+    }
+
+    /// The relocation at an index, or `None` from `len()` on.
+    pub fn get(&self, index: usize) -> Option<Reloc>
+        ensures { result ≡ slice_get self.now index }
+    {
+        self.table.get(index)
+    }
+
+    /// How many relocations there are.
+    pub fn len(&self) -> usize
+        ensures { result ≡ length self.now }
+    {
+        self.table.len()
+    }
+
+    /// Whether there are none.
+    pub fn is_empty(&self) -> bool
+        ensures { IsTrue result ↔ (self.now ≡ []) }
+    {
+        self.table.is_empty()
+    }
+
+    /// An iterator over the relocations, from the first one on.
+    pub fn iter(&self) -> RelocIterator<'a>
+        ensures items { result ≡ self.now }
+        ensures bound { length self.now < 2 ^ 64 }
+    {
+        RelocIterator {
+            inner: self.table.iter(),
+        }
+    }
+
+    /// The relocations as a vector. Only want of memory is an error.
+    pub fn to_vec(&self, alloc: Global) -> Result<Vec<Reloc>>
+        ensures ok { IfOk result (λ v. v.items ≡ self.now) }
+        ensures err { IfErr result (λ e. e ≡ Error.Memory alloc_error) }
+    {
+        self.table.to_vec(alloc)
+    }
+}
+
+/// The section of no relocations, without addends and without the pair.
+impl Default for RelocSection<'_> {
+    ghost is_default = { λ s. s ≡ [] };
+
+    #[tactic(auto, unfolding(goblin_base::specs::Table::records))]
+    fn default() -> Self {
+        RelocSection {
+            table: Table::of(&[], 0, RelocCtx::default()),
+        }
+    }
+}
+
+impl<'a, 'b> IntoIterator for &'b RelocSection<'a> {
+    type Item = Reloc;
+
+    type IntoIter = RelocIterator<'a>;
+
+    ghost into_iter_gives = { λ s relocs. relocs ≡ s.now };
+
+    fn into_iter(self) -> Self::IntoIter {
+        self.iter()
+    }
+}
+
+/// An iterator over the relocations of a section: from the first to the last, and `None` from then on.
+#[derive(Debug, Drop)]
+pub struct RelocIterator<'a> {
+    inner: TableIter<'a, Reloc, RelocCtx>,
+}
+
+// An iterator is seen as the list of the relocations that are left.
+impl<'a> Model for RelocIterator<'a> {
+    ghost use Rattle.std.specs.Prelude.{List};
+    ghost use Rattle.goblin_records.specs.declared.reloc.Reloc.{Reloc};
+
+    ghost Value = { List Reloc };
+
+    ghost view = { λ it. it.inner };
+}
+
+impl<'a> Iterator for RelocIterator<'a> {
+    type Item = Reloc;
+
+    ghost next_gives = { YieldsFirst (λ left. left) };
+
+    ghost remaining = { item_count (λ left. left) };
+
+    fn next(&mut self) -> Option<Self::Item> {
+        self.inner.next()
+    }
+
+    fn size_hint(&self) -> (usize, Option<usize>)
+        ensures lower { IsWithinCount result.0 (item_count (λ left. left) self.now) }
+        ensures upper { IfSome result.1 (UpTo (item_count (λ left. left) self.now)) }
+        // Both bounds are the number of relocations that are left.
+        ensures exact { result ≡ (length self.now, Some (length self.now)) }
+    {
+        self.inner.size_hint()
+    }
+}
+
+impl<'a> ExactSizeIterator for RelocIterator<'a> {
+    fn len(&self) -> usize {
+        self.inner.len()
+    }
+}
+
+/// Whether a file is a MIPS64 file of little order, whose relocations go through the pair: its machine is
+/// `EM_MIPS`, its class byte `ELFCLASS64` and its data byte `ELFDATA2LSB`.
+pub fn is_mips64el(header: &Header) -> bool
+    ensures { result ≡ is_of_mips64el header.now }
+{
+    header.e_machine == EM_MIPS
+        && header.e_ident[EI_CLASS] == ELFCLASS64
+        && header.e_ident[EI_DATA] == ELFDATA2LSB
+}
+
+/// Laws: that a relocation section depends on its own bytes alone, and is written as them. A call does
+/// nothing.
+pub fn laws()
+    ensures range { DependsOnItsRange }
+    ensures bytes { WritesItsBytes }
+{}
