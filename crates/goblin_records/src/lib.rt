@@ -9,3 +9,5 @@ pub mod sym32;
 pub mod sym64;
 #[cfg(test)]
 mod tests;
+#[cfg(test)]
+mod tests_reloc;
