@@ -7,6 +7,8 @@ pub mod elf64;
 #[cfg(test)]
 mod tests_paths;
 #[cfg(test)]
+mod tests_reloc;
+#[cfg(test)]
 mod tests_sym;
 
 pub use goblin_base::{container, error, options, scroll};

@@ -146,7 +146,10 @@ impl<'a, 'b> IntoIterator for &'b RelocSection<'a> {
 
     ghost into_iter_gives = { λ s relocs. relocs ≡ s.now };
 
-    fn into_iter(self) -> Self::IntoIter {
+    fn into_iter(self) -> Self::IntoIter
+        ensures items { result ≡ self.now }
+        ensures bound { length self.now < 2 ^ 64 }
+    {
         self.iter()
     }
 }
