@@ -1,3 +1,6 @@
+pub mod Nhdr
+pub mod Nhdr32Laws
+pub mod Nhdr64Laws
 pub mod Sym
 pub mod Sym32
 pub mod Sym32Laws
