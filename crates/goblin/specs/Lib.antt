@@ -10,5 +10,7 @@ pub use Rattle.goblin_headers.specs.SectionHeaders
 pub use Rattle.goblin_headers.specs.SectionNames
 pub use Rattle.goblin_records.specs.Sym
 pub use Rattle.goblin_records.specs.SymParts
+pub mod Note
+pub mod NoteType
 pub mod Symtab
 pub mod SymtabLaws

@@ -2,4 +2,5 @@
 //! module of each record, as `header::header32`.
 pub use goblin_headers::{header, program_header, section_header};
 
+pub mod note;
 pub mod sym;

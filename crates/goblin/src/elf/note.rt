@@ -1,0 +1,134 @@
+//! Notes: System V gABI, "Note Section".
+ghost use Rattle.std.specs.Prelude.{◌≡◌, ◌+◌, ◌≤◌, ◌<◌, ◌^◌, IfOk, IfSome, length, take, drop};
+ghost use Rattle.std.specs.Int.{next_multiple_of};
+ghost use Rattle.std.specs.Iterator.{MakesProgress, UpTo, YieldsFirstBy, at_most, item_count};
+ghost use Rattle.std.specs.Iterator.SizeHint.{IsWithinCount};
+ghost use Rattle.goblin_base.specs.Refusal.{Answers};
+ghost use Rattle.goblin.specs.NoteType.{note_type_name};
+ghost use Rattle.goblin.specs.Note.{bytes_at, text_at};
+
+use goblin_base::container::Ctx;
+use goblin_base::error::{Error, Fault, Result};
+use goblin_base::number::room;
+use goblin_base::scroll;
+use goblin_base::scroll::TryFromCtx;
+pub use goblin_records::note::{
+    ELF_NOTE_ABI, ELF_NOTE_OS_FREEBSD, ELF_NOTE_OS_GNU, ELF_NOTE_OS_LINUX, ELF_NOTE_OS_SOLARIS2,
+    NT_FILE, NT_GNU_ABI_TAG, NT_GNU_BUILD_ID, NT_GNU_GOLD_VERSION, NT_GNU_HWCAP,
+    NT_GNU_PROPERTY_TYPE_0, NT_PRPSINFO, NT_PRSTATUS, NT_SIGINFO, Nhdr32, Nhdr64,
+};
+
+/// The notes of a range, one after another, and then `None`.
+#[derive(Debug, Drop)]
+pub struct NoteDataIterator<'a> {
+    /// The bytes that the notes lie in.
+    pub bytes: &'a [u8],
+    /// The offset at which the range ends: no note begins there or behind it.
+    pub size: usize,
+    /// The offset of the next note.
+    pub offset: usize,
+    /// The alignment, and the context of the file.
+    pub ctx: (usize, Ctx),
+}
+
+/// The notes of several ranges, one range after another, and then `None`.
+#[derive(Debug, Drop)]
+pub struct NoteIterator<'a> {
+    /// The ranges.
+    pub iters: Vec<NoteDataIterator<'a>>,
+    /// The index of the range that the next note is looked for in.
+    pub index: usize,
+}
+
+/// A note of either class.
+#[derive(Debug, Drop)]
+pub struct Note<'a> {
+    /// The type, whose meaning depends on the name.
+    pub n_type: u32,
+    /// The name, without the zero byte that closes it.
+    pub name: &'a str,
+    /// The descriptor: bytes whose meaning depends on name and type.
+    pub desc: &'a [u8],
+}
+
+impl<'a> Note<'a> {
+    /// The name of the type of the note, as its name gives it a meaning, or `NT_UNKNOWN`.
+    #[tactic(auto, unfolding(crate::specs::NoteType::note_type_name))]
+    pub fn type_to_str(&self) -> &'static str
+        ensures { result.now ≡ note_type_name self.now.name.now self.now.n_type }
+    {
+        if self.name == "CORE" {
+            return match self.n_type {
+                NT_PRPSINFO => "NT_PRPSINFO",
+                NT_PRSTATUS => "NT_PRSTATUS",
+                NT_SIGINFO => "NT_SIGINFO",
+                _ => "NT_UNKNOWN",
+            };
+        }
+        match self.n_type {
+            NT_GNU_ABI_TAG => "NT_GNU_ABI_TAG",
+            NT_GNU_HWCAP => "NT_GNU_HWCAP",
+            NT_GNU_BUILD_ID => "NT_GNU_BUILD_ID",
+            NT_GNU_GOLD_VERSION => "NT_GNU_GOLD_VERSION",
+            NT_GNU_PROPERTY_TYPE_0 => "NT_GNU_PROPERTY_0",
+            _ => "NT_UNKNOWN",
+        }
+    }
+}
+
+// So many bytes from a place on, or the fault of room.
+fn bytes_at(bytes: &[u8], place: usize, size: usize) -> Result<&[u8]>
+    ensures given { Answers (λ part. part.now) result (bytes_at bytes.now place size) }
+    ensures fits { IfOk result (λ _. place + size ≤ length bytes.now) }
+{
+    room(bytes.len(), place, size)?;
+    Ok(&bytes[place..place + size])
+}
+
+// So many bytes of text from a place on, or the fault of room, or of other bytes than text.
+fn text_at(bytes: &[u8], place: usize, size: usize) -> Result<&str>
+    ensures { Answers (λ text. text.now) result (text_at bytes.now place size) }
+{
+    let part = bytes_at(bytes, place, size)?;
+    match std::str::from_utf8(part) {
+        Ok(text) => Ok(text),
+        Err(_) => Err(Error::Scroll(scroll::Error::BadInput {
+            size: bytes.len() - place,
+            msg: "invalid utf8",
+        })),
+    }
+}
+
+/// An alignment below 4 counts as 4, and any other than 4 and 8 is a `NoteAlign`, before a byte is
+/// read. Then a header without room is refused, a name without room, a name that is no text
+/// (`BadInput`) and a descriptor without room, in this order, with places that count from the note's
+/// start. The number answered is where the next note begins, which may lie behind the bytes.
+impl<'a> TryFromCtx<'a, (usize, Ctx)> for Note<'a> {
+    ghost use Rattle.goblin.specs.Note.{note_and_len, read_note};
+
+    ghost try_from_gives = { λ bytes ctx answer.
+        Answers note_and_len answer (read_note ctx.0 ctx.1.le bytes) };
+
+    #[tactic(auto, unfolding(crate::specs::Note::read_note))]
+    fn try_from_ctx(bytes: &'a [u8], ctx: (usize, Ctx)) -> Result<(Self, usize)> {
+        let (alignment, ctx) = ctx;
+        let alignment = alignment.max(4);
+        if alignment != 4 && alignment != 8 {
+            return Err(Error::Malformed(Fault::NoteAlign(alignment)));
+        }
+        let (header, start) = Nhdr32::try_from_ctx(bytes, ctx.le)?;
+        let name_size = header.n_namesz as usize;
+        let name = text_at(bytes, start, name_size.saturating_sub(1))?;
+        let place = (start + name_size).next_multiple_of(alignment);
+        let desc = bytes_at(bytes, place, header.n_descsz as usize)?;
+        let end = (place + desc.len()).next_multiple_of(alignment);
+        Ok((
+            Note {
+                n_type: header.n_type,
+                name,
+                desc,
+            },
+            end,
+        ))
+    }
+}
