@@ -11,6 +11,8 @@ pub use Rattle.goblin_headers.specs.SectionNames
 pub use Rattle.goblin_records.specs.Sym
 pub use Rattle.goblin_records.specs.SymParts
 pub mod Note
+pub mod NoteLaws
 pub mod NoteType
+pub mod Notes
 pub mod Symtab
 pub mod SymtabLaws

@@ -14,8 +14,6 @@ use Rattle.goblin_base.specs.Room.{room_of}
 use Rattle.goblin_base.specs.Steps.{◌>>=◌, refuse_if, refuse_as}
 use Rattle.goblin_records.specs.Nhdr.{nhdr32_of, nhdr32_size}
 use Rattle.goblin.specs.declared.elf.note.Note.{Note}
-use Rattle.goblin.specs.declared.elf.note.NoteDataIterator.{NoteDataIterator}
-use Rattle.goblin.specs.declared.elf.note.NoteIterator.{NoteIterator}
 
 -- what a note says: its type, its name without the zero byte that closes it, and its descriptor
 pub record NoteParts : Type 0 where
@@ -76,14 +74,14 @@ abbrev pub item_and_rest : Result (NoteParts × ℕ) Refusal → (ℕ → List (
 item_and_rest (Ok note) rest = Ok note.0 ∷ rest note.1
 item_and_rest (Err refusal) rest = Err refusal ∷ []
 
--- the first so many items of a range of notes
+-- the items of a range, of which no more than so many bytes are looked through
 abbrev pub items_within : ℕ → List ℕ → ℕ → ℕ → ℕ × Ctx → List (Result NoteParts Refusal)
 items_within zero bytes size offset ctx = []
 items_within (suc k) bytes size offset ctx =
     if nat_le size offset then []
     else item_and_rest (note_at bytes offset ctx) (λ len. items_within k bytes size (offset + len) ctx)
 
--- the items of a range of notes, from an offset up to `size`: none from `size` on; else the note at the offset, and
--- then the items from its end on; or else why there is none, and no item more
+-- the items of the range from an offset up to `size`: none from `size` on; else the note at the offset, and then the
+-- items from its end on; or else why there is none, as the last item
 unfoldable pub note_items : List ℕ → ℕ → ℕ → ℕ × Ctx → List (Result NoteParts Refusal)
 note_items bytes size offset ctx = items_within (size - offset) bytes size offset ctx

@@ -1,11 +1,11 @@
 //! Notes: System V gABI, "Note Section".
-ghost use Rattle.std.specs.Prelude.{◌≡◌, ◌+◌, ◌≤◌, ◌<◌, ◌^◌, IfOk, IfSome, length, take, drop};
+ghost use Rattle.std.specs.Prelude.{⊤, ◌≡◌, ◌+◌, ◌≤◌, ◌<◌, ◌^◌, IfOk, IfSome, length, take, drop};
 ghost use Rattle.std.specs.Int.{next_multiple_of};
 ghost use Rattle.std.specs.Iterator.{MakesProgress, UpTo, YieldsFirstBy, at_most, item_count};
 ghost use Rattle.std.specs.Iterator.SizeHint.{IsWithinCount};
 ghost use Rattle.goblin_base.specs.Refusal.{Answers};
 ghost use Rattle.goblin.specs.NoteType.{note_type_name};
-ghost use Rattle.goblin.specs.Note.{bytes_at, text_at};
+ghost use Rattle.goblin.specs.Note.{bytes_at, note_and_len, note_at, text_at};
 
 use goblin_base::container::Ctx;
 use goblin_base::error::{Error, Fault, Result};
@@ -29,6 +29,52 @@ pub struct NoteDataIterator<'a> {
     pub offset: usize,
     /// The alignment, and the context of the file.
     pub ctx: (usize, Ctx),
+}
+
+// The note at an offset, and how many bytes it takes.
+fn note_at(bytes: &[u8], offset: usize, ctx: (usize, Ctx)) -> Result<(Note<'_>, usize)>
+    ensures given { Answers note_and_len result (note_at bytes.now offset ctx) }
+    ensures fits { IfOk result (λ note. offset + note.1 < 2 ^ 64) }
+{
+    if offset >= bytes.len() {
+        return Err(Error::Scroll(scroll::Error::BadOffset(offset)));
+    }
+    Note::try_from_ctx(&bytes[offset..], ctx)
+}
+
+/// Each item is a note, or why there is none. Where the offset lies before `size`, it is a `BadOffset`
+/// at the end of the bytes or behind it, and else what reading a note there answers, whose places
+/// count from there. A note moves the offset behind it, and an error to `size`, so that it is the last
+/// item. No item needs memory.
+impl<'a> Iterator for NoteDataIterator<'a> {
+    ghost use Rattle.goblin.specs.Notes.{after_next, item_of, items_left, most_left};
+
+    type Item = Result<Note<'a>>;
+
+    ghost next_gives = { YieldsFirstBy item_of items_left };
+
+    ghost remaining = { λ it. at_most (most_left it) };
+
+    fn next(&mut self) -> Option<Self::Item>
+        ensures steps { YieldsFirstBy item_of items_left self.old result self.new }
+        ensures goes { MakesProgress (λ _. ⊤) (λ it. at_most (most_left it)) self.old result self.new }
+        // Nothing but the offset moves.
+        ensures moves { self.new ≡ after_next self.old }
+    {
+        if self.offset >= self.size {
+            return None;
+        }
+        match note_at(self.bytes, self.offset, self.ctx) {
+            Ok((note, len)) => {
+                self.offset += len;
+                Some(Ok(note))
+            }
+            Err(e) => {
+                self.offset = self.size;
+                Some(Err(e))
+            }
+        }
+    }
 }
 
 /// The notes of several ranges, one range after another, and then `None`.
