@@ -1,5 +1,5 @@
 -- Laws of notes and of the notes of a range.
-use Rattle.std.proofs.Common.{◌≡◌, ◌≢◌, ◌+◌, ◌-◌, ◌<◌, ◌≤◌, ◌^◌, ◌==◌, ◌||◌, ℕ, zero, suc, max, Bool, true, false, nat_le, nat_lt, if◌then◌else◌, List, [], ◌∷◌, length, take, drop, Result, Ok, Err, IfOk, inl, inr, refl, sym, ap, ◌∙◌, arith}
+use Rattle.std.proofs.Common.{◌≡◌, ◌≢◌, ◌+◌, ◌-◌, ◌<◌, ◌≤◌, ◌^◌, ◌==◌, ◌||◌, ℕ, zero, suc, max, min, Bool, true, false, nat_le, nat_lt, if◌then◌else◌, List, [], ◌∷◌, length, take, drop, Result, Ok, Err, IfOk, inl, inr, refl, sym, ap, ◌∙◌, arith}
 use Rattle.std.proofs.lemmas.Bool.{cases_lt, le-leb, lt-leb, leb-false}
 use Rattle.std.proofs.lemmas.Bool.Decides.{nat_tests}
 use Rattle.std.proofs.lemmas.List.{length-drop, take_all}
@@ -16,8 +16,9 @@ use Rattle.goblin_base.specs.Steps.{◌>>=◌, refuse_as, refuse_if}
 use Rattle.goblin_records.specs.declared.note.Nhdr32.{Nhdr32}
 use Rattle.goblin_records.specs.Nhdr.{nhdr32_of, nhdr32_size}
 use Rattle.goblin.specs.declared.elf.note.Note.{Note}
+use Rattle.goblin.specs.declared.elf.note.NoteDataIterator.{NoteDataIterator}
 use Rattle.goblin.specs.Note.{NoteParts, note_and_len, note_align, bytes_at, text_at, read_note, note_at, item_and_rest, items_within, note_items}
-use Rattle.goblin.specs.Notes.{NoteByNote, NotesAdvance, FewNotes}
+use Rattle.goblin.specs.Notes.{items_left, most_left, NoteByNote, NotesAdvance, FewNotes}
 
 -- what holds after each value of a step holds after the steps
 if_ok_then : {A B E : Type 0} (first : Result A E) (next : A → Result B E) (P : B → Type 0) → ((x : A) → first ≡ Ok x → IfOk (next x) P) → IfOk (first >>= next) P
@@ -182,3 +183,23 @@ note_items-note bytes size offset ctx note before is = note_by_note bytes size o
 pub note_items-refusal : (bytes : List ℕ) (size offset : ℕ) (ctx : ℕ × Ctx) (refusal : Refusal) → offset < size → note_at bytes offset ctx ≡ Err refusal → note_items bytes size offset ctx ≡ Err refusal ∷ note_items bytes size size ctx
 note_items-refusal bytes size offset ctx refusal before is =
     note_by_note bytes size offset ctx ∙ rw (lt-leb size offset before, is, note_items-past bytes size size ctx (omega arith)) refl
+
+-- before the end of a range there is an item
+pub note_items-some : (bytes : List ℕ) (size offset : ℕ) (ctx : ℕ × Ctx) → offset < size → 0 < length (note_items bytes size offset ctx)
+note_items-some bytes size offset ctx before = rw (note_by_note bytes size offset ctx, lt-leb size offset before) (one_at_least (note_at bytes offset ctx) _)
+  where
+    one_at_least : (answer : Result (NoteParts × ℕ) Refusal) (rest : ℕ → List (Result NoteParts Refusal)) → 0 < length (item_and_rest answer rest)
+    one_at_least (Ok note) rest = omega arith
+    one_at_least (Err e) rest = omega arith
+
+-- a range has no more items left than headers begin in it
+pub few_left : (it : NoteDataIterator) → length (items_left it) ≤ most_left it
+few_left it = few_notes it.bytes.now it.size it.offset it.ctx
+
+-- and one at least, before its end
+pub some_left : (it : NoteDataIterator) → min 1 (most_left it) ≤ length (items_left it)
+some_left it =
+    elim (cases_lt it.offset it.size) [
+      | inl before ↦ let some = note_items-some it.bytes.now it.size it.offset it.ctx before in omega arith
+      | inr past ↦ let none : most_left it ≡ 0 = omega arith in omega arith
+    ]

@@ -1,5 +1,6 @@
 //! Notes: System V gABI, "Note Section".
-ghost use Rattle.std.specs.Prelude.{⊤, ◌≡◌, ◌+◌, ◌≤◌, ◌<◌, ◌^◌, IfOk, IfSome, length, take, drop};
+ghost use Rattle.std.specs.Prelude.{⊤, ◌≡◌, ◌+◌, ◌≤◌, ◌<◌, ◌^◌, ◌++◌, IfOk, IfSome, length, min};
+ghost use Rattle.std.specs.Prelude.{take, drop};
 ghost use Rattle.std.specs.Int.{next_multiple_of};
 ghost use Rattle.std.specs.Iterator.{MakesProgress, UpTo, YieldsFirstBy, at_most, item_count};
 ghost use Rattle.std.specs.Iterator.SizeHint.{IsWithinCount};
@@ -11,7 +12,7 @@ use goblin_base::container::Ctx;
 use goblin_base::error::{Error, Fault, Result};
 use goblin_base::number::room;
 use goblin_base::scroll;
-use goblin_base::scroll::TryFromCtx;
+use goblin_base::scroll::{SizeWith, TryFromCtx};
 pub use goblin_records::note::{
     ELF_NOTE_ABI, ELF_NOTE_OS_FREEBSD, ELF_NOTE_OS_GNU, ELF_NOTE_OS_LINUX, ELF_NOTE_OS_SOLARIS2,
     NT_FILE, NT_GNU_ABI_TAG, NT_GNU_BUILD_ID, NT_GNU_GOLD_VERSION, NT_GNU_HWCAP,
@@ -75,6 +76,19 @@ impl<'a> Iterator for NoteDataIterator<'a> {
             }
         }
     }
+
+    fn size_hint(&self) -> (usize, Option<usize>)
+        ensures lower { IsWithinCount result.0 (at_most (most_left self.now)) }
+        ensures upper { IfSome result.1 (UpTo (at_most (most_left self.now))) }
+        // One item is left at least, before the end, and no more than headers begin before it.
+        ensures exact { let most = most_left self.now in result ≡ (min 1 most, Some most) }
+        ensures least { result.0 ≤ length (items_left self.now) }
+        ensures most { IfSome result.1 (λ most. length (items_left self.now) ≤ most) }
+    {
+        let header_size = Nhdr32::size_with(&self.ctx.1.le);
+        let most = self.size.saturating_sub(self.offset).div_ceil(header_size);
+        (most.min(1), Some(most))
+    }
 }
 
 /// The notes of several ranges, one range after another, and then `None`.
@@ -84,6 +98,39 @@ pub struct NoteIterator<'a> {
     pub iters: Vec<NoteDataIterator<'a>>,
     /// The index of the range that the next note is looked for in.
     pub index: usize,
+}
+
+/// The items of the ranges from the index on, one range after another. The index moves to the range
+/// that gave the item, or behind the last range where there is none.
+impl<'a> Iterator for NoteIterator<'a> {
+    ghost use Rattle.goblin.specs.Notes.{after_next_of_first, all_items_left, index_of_next};
+    ghost use Rattle.goblin.specs.Notes.{item_of, most_left_in};
+
+    type Item = Result<Note<'a>>;
+
+    ghost next_gives = { YieldsFirstBy item_of all_items_left };
+
+    ghost remaining = { λ it. at_most (most_left_in (drop it.index it.iters.items)) };
+
+    fn next(&mut self) -> Option<Self::Item>
+        ensures steps { YieldsFirstBy item_of all_items_left self.old result self.new }
+        ensures goes { MakesProgress (λ _. ⊤)
+            (λ it. at_most (most_left_in (drop it.index it.iters.items))) self.old result self.new }
+        ensures index { self.new.index ≡ index_of_next self.old }
+        // Of the ranges only the one that gave the item has moved.
+        ensures ranges { let at = index_of_next self.old in
+            let old = self.old.iters.items in
+            self.new.iters.items ≡ take at old ++ after_next_of_first (drop at old) }
+    {
+        while self.index < self.iters.len() {
+            let range = &mut self.iters[self.index];
+            if let Some(item) = range.next() {
+                return Some(item);
+            }
+            self.index += 1;
+        }
+        None
+    }
 }
 
 /// A note of either class.
