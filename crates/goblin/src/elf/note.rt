@@ -1,10 +1,11 @@
 //! Notes: System V gABI, "Note Section".
 ghost use Rattle.std.specs.Prelude.{⊤, ◌≡◌, ◌+◌, ◌≤◌, ◌<◌, ◌^◌, ◌++◌, IfOk, IfSome, length, min};
-ghost use Rattle.std.specs.Prelude.{take, drop};
+ghost use Rattle.std.specs.Prelude.{[], ◌∷◌, take, drop};
 ghost use Rattle.std.specs.Int.{next_multiple_of};
 ghost use Rattle.std.specs.Iterator.{MakesProgress, UpTo, YieldsFirstBy, at_most, item_count};
 ghost use Rattle.std.specs.Iterator.SizeHint.{IsWithinCount};
 ghost use Rattle.goblin_base.specs.Refusal.{Answers};
+ghost use Rattle.goblin.specs.Notes.{NoteByNote, NotesAdvance, FewNotes};
 ghost use Rattle.goblin.specs.NoteType.{note_type_name};
 ghost use Rattle.goblin.specs.Note.{bytes_at, note_and_len, note_at, text_at};
 
@@ -225,3 +226,23 @@ impl<'a> TryFromCtx<'a, (usize, Ctx)> for Note<'a> {
         ))
     }
 }
+
+/// Laws: what the constants of this module stand for. A call does nothing.
+pub fn constants()
+    ensures gnu { NT_GNU_ABI_TAG ∷ ELF_NOTE_ABI ∷ NT_GNU_HWCAP ∷ NT_GNU_BUILD_ID ∷
+        NT_GNU_GOLD_VERSION ∷ NT_GNU_PROPERTY_TYPE_0 ∷ []
+        ≡ 1 ∷ 1 ∷ 2 ∷ 3 ∷ 4 ∷ 5 ∷ [] }
+    ensures systems { ELF_NOTE_OS_LINUX ∷ ELF_NOTE_OS_GNU ∷ ELF_NOTE_OS_SOLARIS2 ∷
+        ELF_NOTE_OS_FREEBSD ∷ []
+        ≡ 0 ∷ 1 ∷ 2 ∷ 3 ∷ [] }
+    ensures core { NT_PRSTATUS ∷ NT_PRPSINFO ∷ NT_SIGINFO ∷ NT_FILE ∷ []
+        ≡ 1 ∷ 3 ∷ 0x5349_4749 ∷ 0x4649_4c45 ∷ [] }
+{}
+
+/// Laws: how the items of a range follow one another, how far a note reaches, and how many items a
+/// range has. A call does nothing.
+pub fn laws()
+    ensures items { NoteByNote }
+    ensures advance { NotesAdvance }
+    ensures few { FewNotes }
+{}
