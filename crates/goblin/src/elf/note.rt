@@ -44,23 +44,13 @@ fn note_at(bytes: &[u8], offset: usize, ctx: (usize, Ctx)) -> Result<(Note<'_>, 
     Note::try_from_ctx(&bytes[offset..], ctx)
 }
 
-/// Each item is a note, or why there is none. Where the offset lies before `size`, it is a `BadOffset`
-/// at the end of the bytes or behind it, and else what reading a note there answers, whose places
-/// count from there. A note moves the offset behind it, and an error to `size`, so that it is the last
-/// item. No item needs memory.
-impl<'a> Iterator for NoteDataIterator<'a> {
+impl<'a> NoteDataIterator<'a> {
     ghost use Rattle.goblin.specs.Notes.{after_next, item_of, items_left, most_left};
 
-    type Item = Result<Note<'a>>;
-
-    ghost next_gives = { YieldsFirstBy item_of items_left };
-
-    ghost remaining = { λ it. at_most (most_left it) };
-
-    fn next(&mut self) -> Option<Self::Item>
+    // What `next` answers, and where the fields are then.
+    fn advance(&mut self) -> Option<Result<Note<'a>>>
         ensures steps { YieldsFirstBy item_of items_left self.old result self.new }
         ensures goes { MakesProgress (λ _. ⊤) (λ it. at_most (most_left it)) self.old result self.new }
-        // Nothing but the offset moves.
         ensures moves { self.new ≡ after_next self.old }
     {
         if self.offset >= self.size {
@@ -76,6 +66,24 @@ impl<'a> Iterator for NoteDataIterator<'a> {
                 Some(Err(e))
             }
         }
+    }
+}
+
+/// Each item is a note, or why there is none. Where the offset lies before `size`, it is a `BadOffset`
+/// at the end of the bytes or behind it, and else what reading a note there answers, whose places
+/// count from there. A note moves the offset behind it, and an error to `size`, so that it is the last
+/// item. No other field moves, and no item needs memory.
+impl<'a> Iterator for NoteDataIterator<'a> {
+    ghost use Rattle.goblin.specs.Notes.{item_of, items_left, most_left};
+
+    type Item = Result<Note<'a>>;
+
+    ghost next_gives = { YieldsFirstBy item_of items_left };
+
+    ghost remaining = { λ it. at_most (most_left it) };
+
+    fn next(&mut self) -> Option<Self::Item> {
+        self.advance()
     }
 
     fn size_hint(&self) -> (usize, Option<usize>)
@@ -101,19 +109,12 @@ pub struct NoteIterator<'a> {
     pub index: usize,
 }
 
-/// The items of the ranges from the index on, one range after another. The index moves to the range
-/// that gave the item, or behind the last range where there is none.
-impl<'a> Iterator for NoteIterator<'a> {
+impl<'a> NoteIterator<'a> {
     ghost use Rattle.goblin.specs.Notes.{after_next_of_first, all_items_left, index_of_next};
     ghost use Rattle.goblin.specs.Notes.{item_of, most_left_in};
 
-    type Item = Result<Note<'a>>;
-
-    ghost next_gives = { YieldsFirstBy item_of all_items_left };
-
-    ghost remaining = { λ it. at_most (most_left_in (drop it.index it.iters.items)) };
-
-    fn next(&mut self) -> Option<Self::Item>
+    // What `next` answers, and where the fields are then.
+    fn advance(&mut self) -> Option<Result<Note<'a>>>
         ensures steps { YieldsFirstBy item_of all_items_left self.old result self.new }
         ensures goes { MakesProgress (λ _. ⊤)
             (λ it. at_most (most_left_in (drop it.index it.iters.items))) self.old result self.new }
@@ -125,12 +126,29 @@ impl<'a> Iterator for NoteIterator<'a> {
     {
         while self.index < self.iters.len() {
             let range = &mut self.iters[self.index];
-            if let Some(item) = range.next() {
+            if let Some(item) = range.advance() {
                 return Some(item);
             }
             self.index += 1;
         }
         None
+    }
+}
+
+/// The items of the ranges from the index on, one range after another. The index moves to the range
+/// that gives the item, or behind the last range where none has an item left. Of the ranges only that
+/// one moves, and no item needs memory.
+impl<'a> Iterator for NoteIterator<'a> {
+    ghost use Rattle.goblin.specs.Notes.{all_items_left, item_of, most_left_in};
+
+    type Item = Result<Note<'a>>;
+
+    ghost next_gives = { YieldsFirstBy item_of all_items_left };
+
+    ghost remaining = { λ it. at_most (most_left_in (drop it.index it.iters.items)) };
+
+    fn next(&mut self) -> Option<Self::Item> {
+        self.advance()
     }
 }
 

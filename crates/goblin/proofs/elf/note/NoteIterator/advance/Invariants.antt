@@ -1,7 +1,7 @@
 use Rattle.std.proofs.Common.{◌≡◌, ◌+◌, ◌-◌, ◌≤◌, drop, length}
 use Rattle.std.specs.Prelude.{flat_map}
 use Rattle.goblin.specs.Notes.{items_left, most_left_in, spent}
-use Rattle.goblin.proofs.elf.note.NoteIteratorIterator.next.Given as goal
+use Rattle.goblin.proofs.elf.note.NoteIterator.advance.Given as goal
 
 abbrev pub invariant-loop-self : goal.invariant-loop-self
 invariant-loop-self l = record {

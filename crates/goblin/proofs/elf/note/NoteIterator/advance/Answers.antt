@@ -1,7 +1,7 @@
 use Rattle.std.proofs.Common.{◌≡◌, ◌<◌, get_or, length, rules, arith, ap, sym, ◌∙◌}
 use Rattle.goblin.specs.Notes.{index_of_next}
 use Rattle.goblin.proofs.Ranges.{unspent, moved, next_is, passed}
-use Rattle.goblin.proofs.elf.note.NoteIteratorIterator.next.Goals as goal
+use Rattle.goblin.proofs.elf.note.NoteIterator.advance.Goals as goal
 
 pub returns-in-Some-clause-ranges : goal.returns-in-Some-clause-ranges
 returns-in-Some-clause-ranges c =
