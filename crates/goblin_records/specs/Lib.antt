@@ -1,6 +1,5 @@
 pub mod Nhdr
-pub mod Nhdr32Laws
-pub mod Nhdr64Laws
+pub mod NhdrLaws
 pub mod Sym
 pub mod Sym32
 pub mod Sym32Laws

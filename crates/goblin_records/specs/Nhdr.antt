@@ -1,9 +1,9 @@
 -- Note headers of the 32-bit and the 64-bit class (System V gABI, "Note Section"; its words are 4 bytes each, and 8
 -- in the 64-bit form).
-use Rattle.std.specs.Prelude.{◌≡◌, ◌↔◌, ◌%◌, ◌^◌, ℕ, List, [], ◌∷◌, length}
+use Rattle.std.specs.Prelude.{◌%◌, ◌^◌, ℕ, List, [], ◌∷◌}
 use Rattle.goblin_base.specs.declared.container.Endian.{Endian}
-use Rattle.goblin_base.specs.Fields.{Field, field, image_of_fields}
-use Rattle.goblin_base.specs.Number.{IsBytes, number_at}
+use Rattle.goblin_base.specs.Fields.{Field, field, FieldsFit, image_of_fields}
+use Rattle.goblin_base.specs.Number.{number_at}
 use Rattle.goblin_records.specs.declared.note.Nhdr32.{Nhdr32}
 use Rattle.goblin_records.specs.declared.note.Nhdr64.{Nhdr64}
 
@@ -39,6 +39,14 @@ nhdr32_fields h = field 4 h.n_namesz ∷ field 4 h.n_descsz ∷ field 4 h.n_type
 abbrev pub nhdr64_fields : Nhdr64 → List Field
 nhdr64_fields h = field 8 h.n_namesz ∷ field 8 h.n_descsz ∷ field 8 h.n_type ∷ []
 
+-- each field of a note header is in the range of its width
+abbrev pub Nhdr32Fits : Nhdr32 → Type 0
+Nhdr32Fits h = FieldsFit (nhdr32_fields h)
+
+-- the same in the 64-bit class
+abbrev pub Nhdr64Fits : Nhdr64 → Type 0
+Nhdr64Fits h = FieldsFit (nhdr64_fields h)
+
 -- the bytes that a note header is written as
 abbrev pub nhdr32_image : Endian → Nhdr32 → List ℕ
 nhdr32_image order h = image_of_fields order (nhdr32_fields h)
@@ -62,18 +70,3 @@ nhdr64_low h = record {
   n_descsz = h.n_descsz % 256 ^ 8;
   n_type = h.n_type % 256 ^ 8;
 }
-
--- the image of a note header is the one list of its size whose slice at each field's place stands for the low bits
--- of that field
-abbrev pub OneImage32 : Type 0
-OneImage32 =
-    (order : Endian) (h : Nhdr32) (bytes : List ℕ)
-    → (bytes ≡ nhdr32_image order h)
-    ↔ (IsBytes bytes × (length bytes ≡ nhdr32_size) × (nhdr32_of order bytes ≡ nhdr32_low h))
-
--- the same in the 64-bit class
-abbrev pub OneImage64 : Type 0
-OneImage64 =
-    (order : Endian) (h : Nhdr64) (bytes : List ℕ)
-    → (bytes ≡ nhdr64_image order h)
-    ↔ (IsBytes bytes × (length bytes ≡ nhdr64_size) × (nhdr64_of order bytes ≡ nhdr64_low h))

@@ -1,9 +1,10 @@
 //! Note headers of both classes, and the types of notes: System V gABI, "Note Section".
 ghost use Rattle.std.specs.Prelude.{◌≡◌, ◌≤◌, ◌++◌, [], ◌∷◌, length, drop};
+ghost use Rattle.goblin_base.specs.Layout.{IsOneImage};
 ghost use Rattle.goblin_base.specs.Record.{read_within, Writes};
 ghost use Rattle.goblin_base.specs.Steps.{with_size};
-ghost use Rattle.goblin_records.specs.Nhdr.{nhdr32_of, nhdr32_image, nhdr32_size, OneImage32};
-ghost use Rattle.goblin_records.specs.Nhdr.{nhdr64_of, nhdr64_image, nhdr64_size, OneImage64};
+ghost use Rattle.goblin_records.specs.Nhdr.{nhdr32_of, nhdr32_image, nhdr32_low, nhdr32_size};
+ghost use Rattle.goblin_records.specs.Nhdr.{nhdr64_of, nhdr64_image, nhdr64_low, nhdr64_size};
 
 use goblin_base::container::Endian;
 use goblin_base::error::Result;
@@ -116,16 +117,14 @@ impl TryIntoCtx<Endian> for Nhdr32 {
 }
 
 impl Record<Endian> for Nhdr32 {
-    ghost use Rattle.goblin_base.specs.Fields.{FieldsFit};
-    ghost use Rattle.goblin_records.specs.Nhdr.{nhdr32_fields};
-    ghost use Rattle.goblin_records.specs.Nhdr32Laws.{positive, length-image, nhdr32_of-append};
-    ghost use Rattle.goblin_records.specs.Nhdr32Laws.{nhdr32_of-image, image-nhdr32_of};
+    ghost use Rattle.goblin_records.specs.Nhdr.{Nhdr32Fits};
+    ghost use Rattle.goblin_records.specs.NhdrLaws.{nhdr32_laws};
 
     ghost read = { nhdr32_of };
 
     ghost image = { nhdr32_image };
 
-    ghost fits = { λ _ header. FieldsFit (nhdr32_fields header) };
+    ghost fits = { λ _. Nhdr32Fits };
 
     #[tactic(auto, using(goblin_base::specs::RecordLaws::record_answers))]
     fn read_record(bytes: &[u8], order: Endian) -> Result<Self> {
@@ -133,17 +132,19 @@ impl Record<Endian> for Nhdr32 {
         Ok(Nhdr32::at(bytes, order))
     }
 
-    ghost size_positive = { λ _. positive };
+    ghost size_positive = { λ order. (nhdr32_laws order).size_positive };
 
-    ghost length_image = { length-image };
+    ghost length_image = { λ order. (nhdr32_laws order).length_image };
+
+    ghost image_bytes = { λ order. (nhdr32_laws order).image_bytes };
 
     ghost writes_image = { λ order header old new answer h. h };
 
-    ghost reads_front = { nhdr32_of-append };
+    ghost reads_front = { λ order. (nhdr32_laws order).reads_front };
 
-    ghost reads_back = { nhdr32_of-image };
+    ghost reads_back = { λ order. (nhdr32_laws order).reads_back };
 
-    ghost writes_back = { image-nhdr32_of };
+    ghost writes_back = { λ order. (nhdr32_laws order).writes_back };
 }
 
 /// The header of a note, in words of 8 bytes.
@@ -217,16 +218,14 @@ impl TryIntoCtx<Endian> for Nhdr64 {
 }
 
 impl Record<Endian> for Nhdr64 {
-    ghost use Rattle.goblin_base.specs.Fields.{FieldsFit};
-    ghost use Rattle.goblin_records.specs.Nhdr.{nhdr64_fields};
-    ghost use Rattle.goblin_records.specs.Nhdr64Laws.{positive, length-image, nhdr64_of-append};
-    ghost use Rattle.goblin_records.specs.Nhdr64Laws.{nhdr64_of-image, image-nhdr64_of};
+    ghost use Rattle.goblin_records.specs.Nhdr.{Nhdr64Fits};
+    ghost use Rattle.goblin_records.specs.NhdrLaws.{nhdr64_laws};
 
     ghost read = { nhdr64_of };
 
     ghost image = { nhdr64_image };
 
-    ghost fits = { λ _ header. FieldsFit (nhdr64_fields header) };
+    ghost fits = { λ _. Nhdr64Fits };
 
     #[tactic(auto, using(goblin_base::specs::RecordLaws::record_answers))]
     fn read_record(bytes: &[u8], order: Endian) -> Result<Self> {
@@ -234,17 +233,19 @@ impl Record<Endian> for Nhdr64 {
         Ok(Nhdr64::at(bytes, order))
     }
 
-    ghost size_positive = { λ _. positive };
+    ghost size_positive = { λ order. (nhdr64_laws order).size_positive };
 
-    ghost length_image = { length-image };
+    ghost length_image = { λ order. (nhdr64_laws order).length_image };
+
+    ghost image_bytes = { λ order. (nhdr64_laws order).image_bytes };
 
     ghost writes_image = { λ order header old new answer h. h };
 
-    ghost reads_front = { nhdr64_of-append };
+    ghost reads_front = { λ order. (nhdr64_laws order).reads_front };
 
-    ghost reads_back = { nhdr64_of-image };
+    ghost reads_back = { λ order. (nhdr64_laws order).reads_back };
 
-    ghost writes_back = { image-nhdr64_of };
+    ghost writes_back = { λ order. (nhdr64_laws order).writes_back };
 }
 
 /// Laws: what the constants of this module stand for. A call does nothing.
@@ -259,8 +260,12 @@ pub fn constants()
         ≡ 1 ∷ 3 ∷ 0x5349_4749 ∷ 0x4649_4c45 ∷ [] }
 {}
 
-/// Laws: which bytes a note header is written as. A call does nothing.
+/// Laws: how many bytes a note header takes, and which they are. A call does nothing.
 pub fn laws()
-    ensures image32 { OneImage32 }
-    ensures image64 { OneImage64 }
+    ensures size32 { SIZEOF_NHDR32 ≡ nhdr32_size }
+    ensures size64 { SIZEOF_NHDR64 ≡ nhdr64_size }
+    ensures image32 { (order : Endian) →
+        IsOneImage nhdr32_size (nhdr32_of order) (nhdr32_image order) nhdr32_low }
+    ensures image64 { (order : Endian) →
+        IsOneImage nhdr64_size (nhdr64_of order) (nhdr64_image order) nhdr64_low }
 {}
