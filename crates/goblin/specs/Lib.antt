@@ -12,6 +12,10 @@ pub use Rattle.goblin_records.specs.Reloc
 pub use Rattle.goblin_records.specs.RelocInfo
 pub use Rattle.goblin_records.specs.Sym
 pub use Rattle.goblin_records.specs.SymParts
+pub mod Note
+pub mod NoteLaws
+pub mod NoteType
+pub mod Notes
 pub mod RelocSection
 pub mod RelocSectionLaws
 pub mod Symtab

@@ -2,5 +2,6 @@
 //! module of each record, as `header::header32`.
 pub use goblin_headers::{header, program_header, section_header};
 
+pub mod note;
 pub mod reloc;
 pub mod sym;

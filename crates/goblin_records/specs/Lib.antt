@@ -1,3 +1,5 @@
+pub mod Nhdr
+pub mod NhdrLaws
 pub mod Reloc
 pub mod Reloc32
 pub mod Reloc64

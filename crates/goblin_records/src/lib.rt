@@ -1,6 +1,7 @@
-//! The records of ELF tables: symbols and relocations of either class.
+//! The records of ELF tables: symbols and relocations of either class, and the headers of notes.
 #![tactic(auto)]
 
+pub mod note;
 pub mod reloc;
 pub mod reloc32;
 pub mod reloc64;

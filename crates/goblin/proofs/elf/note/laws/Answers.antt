@@ -1,0 +1,11 @@
+use Rattle.goblin.specs.NoteLaws.{note_by_note, notes_advance, few_notes}
+use Rattle.goblin.proofs.elf.note.laws.Goals as goal
+
+pub returns-clause-items : goal.returns-clause-items
+returns-clause-items c = note_by_note
+
+pub returns-clause-advance : goal.returns-clause-advance
+returns-clause-advance c = notes_advance
+
+pub returns-clause-few : goal.returns-clause-few
+returns-clause-few c = few_notes

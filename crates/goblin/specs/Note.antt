@@ -1,0 +1,87 @@
+-- Notes: what bytes are read as, and the notes of a range (System V gABI, "Note Section").
+use Rattle.std.specs.Prelude.{◌≡◌, ◌+◌, ◌-◌, ◌≤◌, ◌==◌, ◌||◌, not, max, ℕ, zero, suc, nat_le, if◌then◌else◌, List, [], ◌∷◌, codes, length, take, drop, flat_map, Result, Ok, Err}
+use Rattle.std.specs.Borrow.{Bor}
+use Rattle.std.specs.Int.{div_ceil, next_multiple_of}
+use Rattle.std.specs.Str.{bytes_eq, is_utf8}
+use Rattle.goblin_base.specs.declared.container.Ctx.{Ctx}
+use Rattle.goblin_base.specs.declared.container.Endian.{Endian}
+use Rattle.goblin_base.specs.declared.error.Error.{Error}
+use Rattle.goblin_base.specs.declared.error.Fault.TheVariants.{NoteAlign}
+use Rattle.goblin_base.specs.Names.{name_in}
+use Rattle.goblin_base.specs.Record.{read_within}
+use Rattle.goblin_base.specs.Refusal.{Refusal, bad_input, bad_offset, malformed, misplaced, refusal_of}
+use Rattle.goblin_base.specs.Room.{room_of}
+use Rattle.goblin_base.specs.Steps.{◌>>=◌, refuse_if, refuse_as}
+use Rattle.goblin_records.specs.Nhdr.{nhdr32_of, nhdr32_size}
+use Rattle.goblin.specs.declared.elf.note.Note.{Note}
+
+-- what a note says: its type, its name without the zero byte that closes it, and its descriptor
+pub record NoteParts : Type 0 where
+  pub n_type : ℕ
+  pub name : List ℕ
+  pub desc : List ℕ
+
+-- the parts of a note whose name and descriptor are borrowed
+abbrev pub parts_of : Note → NoteParts
+parts_of n = record { n_type = n.n_type; name = n.name.now; desc = n.desc.now }
+
+-- the same, beside how many bytes the note takes
+abbrev pub note_and_len : Note × ℕ → NoteParts × ℕ
+note_and_len p = (parts_of p.0, p.1)
+
+-- the alignment of notes: one below 4 is 4, and one other than 4 and 8 is refused
+abbrev pub note_align : ℕ → Result ℕ Refusal
+note_align alignment =
+    let align = max alignment 4 in
+    if (align == 4) || (align == 8) then Ok align else Err (malformed (NoteAlign align))
+
+-- so many bytes from a place on, or the fault of room
+abbrev pub bytes_at : List ℕ → ℕ → ℕ → Result (List ℕ) Refusal
+bytes_at bytes place size = do
+  _ ← refuse_as misplaced (room_of (length bytes) place size)
+  Ok (take size (drop place bytes))
+
+-- bytes that are text, or else a refusal; so many bytes there are from where they begin
+abbrev pub as_text : ℕ → List ℕ → Result (List ℕ) Refusal
+as_text available bytes = if is_utf8 bytes then Ok bytes else Err (bad_input available (codes "invalid utf8"))
+
+-- so many bytes of text from a place on
+abbrev pub text_at : List ℕ → ℕ → ℕ → Result (List ℕ) Refusal
+text_at bytes place size = do
+  text ← bytes_at bytes place size
+  as_text (length bytes - place) text
+
+-- The note at the start of some bytes, and how many bytes it takes. Behind its header lies its name, whose size counts
+-- one byte more, unless it is 0. The descriptor lies from the next multiple of the alignment on, and the note takes
+-- the bytes up to the next multiple behind that, be they there or not. All places count from the note's start.
+unfoldable pub read_note : ℕ → Endian → List ℕ → Result (NoteParts × ℕ) Refusal
+read_note alignment order bytes = do
+  align ← note_align alignment
+  header ← refuse_as refusal_of (read_within nhdr32_size (nhdr32_of order) bytes)
+  name ← text_at bytes nhdr32_size (header.n_namesz - 1)
+  place ← Ok (next_multiple_of (nhdr32_size + header.n_namesz) align)
+  desc ← bytes_at bytes place header.n_descsz
+  Ok (record { n_type = header.n_type; name = name; desc = desc }, next_multiple_of (place + header.n_descsz) align)
+
+-- the note at an offset, which must lie before the bytes' end
+unfoldable pub note_at : List ℕ → ℕ → ℕ × Ctx → Result (NoteParts × ℕ) Refusal
+note_at bytes offset ctx = do
+  _ ← refuse_if (nat_le (length bytes) offset) (bad_offset offset)
+  read_note ctx.0 ctx.1.le (drop offset bytes)
+
+-- a refusal is the last item, and behind a note come the items from its end on
+abbrev pub item_and_rest : Result (NoteParts × ℕ) Refusal → (ℕ → List (Result NoteParts Refusal)) → List (Result NoteParts Refusal)
+item_and_rest (Ok note) rest = Ok note.0 ∷ rest note.1
+item_and_rest (Err refusal) rest = Err refusal ∷ []
+
+-- the items of a range, of which no more than so many bytes are looked through
+abbrev pub items_within : ℕ → List ℕ → ℕ → ℕ → ℕ × Ctx → List (Result NoteParts Refusal)
+items_within zero bytes size offset ctx = []
+items_within (suc k) bytes size offset ctx =
+    if nat_le size offset then []
+    else item_and_rest (note_at bytes offset ctx) (λ len. items_within k bytes size (offset + len) ctx)
+
+-- the items of the range from an offset up to `size`: none from `size` on; else the note at the offset, and then the
+-- items from its end on; or else why there is none, as the last item
+unfoldable pub note_items : List ℕ → ℕ → ℕ → ℕ × Ctx → List (Result NoteParts Refusal)
+note_items bytes size offset ctx = items_within (size - offset) bytes size offset ctx

@@ -1,0 +1,205 @@
+-- Laws of notes and of the notes of a range.
+use Rattle.std.proofs.Common.{◌≡◌, ◌≢◌, ◌+◌, ◌-◌, ◌<◌, ◌≤◌, ◌^◌, ◌==◌, ◌||◌, ℕ, zero, suc, max, min, Bool, true, false, nat_le, nat_lt, if◌then◌else◌, List, [], ◌∷◌, length, take, drop, Result, Ok, Err, IfOk, inl, inr, refl, sym, ap, ◌∙◌, arith}
+use Rattle.std.proofs.lemmas.Bool.{cases_lt, le-leb, lt-leb, leb-false}
+use Rattle.std.proofs.lemmas.Bool.Decides.{nat_tests}
+use Rattle.std.proofs.lemmas.List.{length-drop, take_all}
+use Rattle.std.specs.Int.{div_ceil, next_multiple_of}
+use Rattle.goblin_base.specs.declared.container.Ctx.{Ctx}
+use Rattle.goblin_base.specs.declared.container.Endian.{Endian}
+use Rattle.goblin_base.specs.declared.error.Error.{Error}
+use Rattle.goblin_base.specs.declared.scroll.Error.{Error as Misplaced}
+use Rattle.goblin_base.specs.Record.{read_within}
+use Rattle.goblin_base.specs.RecordLaws.{fits-room_of}
+use Rattle.goblin_base.specs.Refusal.{Answers, Refusal, refusal_of, misplaced, bad_offset}
+use Rattle.goblin_base.specs.Room.{room_of}
+use Rattle.goblin_base.specs.Steps.{◌>>=◌, refuse_as, refuse_if}
+use Rattle.goblin_records.specs.declared.note.Nhdr32.{Nhdr32}
+use Rattle.goblin_records.specs.Nhdr.{nhdr32_of, nhdr32_size}
+use Rattle.goblin.specs.declared.elf.note.Note.{Note}
+use Rattle.goblin.specs.declared.elf.note.NoteDataIterator.{NoteDataIterator}
+use Rattle.goblin.specs.Note.{NoteParts, note_and_len, note_align, bytes_at, text_at, read_note, note_at, item_and_rest, items_within, note_items}
+use Rattle.goblin.specs.Notes.{items_left, most_left, NoteByNote, NotesAdvance, FewNotes}
+
+-- what holds after each value of a step holds after the steps
+if_ok_then : {A B E : Type 0} (first : Result A E) (next : A → Result B E) (P : B → Type 0) → ((x : A) → first ≡ Ok x → IfOk (next x) P) → IfOk (first >>= next) P
+if_ok_then (Ok x) next P h = h x refl
+if_ok_then (Err e) next P h = tt
+
+-- what follows from what holds holds
+if_ok_more : {A E : Type 0} (answer : Result A E) (P Q : A → Type 0) → IfOk answer P → ((x : A) → P x → Q x) → IfOk answer Q
+if_ok_more (Ok x) P Q h more = more x h
+if_ok_more (Err e) P Q h more = tt
+
+-- an alignment is at least 4 and at most 8
+align_range : (alignment align : ℕ) → note_align alignment ≡ Ok align → (4 ≤ align) × (align ≤ 8)
+align_range alignment align is = grind (arith, nat_tests)
+
+-- what was read had room
+had_room : (room : Result (Unit {0}) Misplaced) (part other : List ℕ) → (refuse_as misplaced room >>= λ _. Ok other) ≡ Ok part → room ≡ Ok tt
+had_room (Ok u) part other is = refl
+had_room (Err e) part other is = absurd (cc)
+
+-- bytes that are read lie within
+bytes_at-fits : (bytes : List ℕ) (place size : ℕ) (part : List ℕ) → bytes_at bytes place size ≡ Ok part → place + size ≤ length bytes
+bytes_at-fits bytes place size part is =
+    fits-room_of (length bytes) place size tt (had_room (room_of (length bytes) place size) part (take size (drop place bytes)) is)
+
+-- the least multiple from a place on lies less than the alignment behind it
+multiple_range : (place align : ℕ) → 4 ≤ align → (place ≤ next_multiple_of place align) × (next_multiple_of place align < place + align)
+multiple_range place align h = (omega arith, omega arith)
+
+-- the last steps of reading a note: its descriptor and its end
+abbrev after_name : List ℕ → ℕ → Nhdr32 → List ℕ → Result (NoteParts × ℕ) Refusal
+after_name bytes align header name =
+    let place = next_multiple_of (nhdr32_size + header.n_namesz) align in
+    bytes_at bytes place header.n_descsz >>= λ desc.
+    Ok (record { n_type = header.n_type; name = name; desc = desc }, next_multiple_of (place + header.n_descsz) align)
+
+-- how many bytes a note takes, of so many: at least those of its header, and at most 7 more than there are
+abbrev TakesFrom : ℕ → NoteParts × ℕ → Type 0
+TakesFrom available note = (nhdr32_size ≤ note.1) × (note.1 ≤ available + 7)
+
+after_name-range : (bytes : List ℕ) (align : ℕ) (header : Nhdr32) (name : List ℕ) → (4 ≤ align) × (align ≤ 8) → IfOk (after_name bytes align header name) (TakesFrom (length bytes))
+after_name-range bytes align header name range =
+    let place = next_multiple_of (nhdr32_size + header.n_namesz) align in
+    let first = multiple_range (nhdr32_size + header.n_namesz) align range.0 in
+    let last = multiple_range (place + header.n_descsz) align range.0 in
+    if_ok_then (bytes_at bytes place header.n_descsz) _ (TakesFrom (length bytes)) λ (desc : List ℕ) described.
+    let fits = bytes_at-fits bytes place header.n_descsz desc described in
+    (omega arith, omega arith)
+
+read_note-range : (alignment : ℕ) (order : Endian) (bytes : List ℕ) → IfOk (read_note alignment order bytes) (TakesFrom (length bytes))
+unfolding read_note
+read_note-range alignment order bytes =
+    let header : Result Nhdr32 Refusal = refuse_as refusal_of (read_within nhdr32_size (nhdr32_of order) bytes) in
+    let after_header = λ (align : ℕ) (h : Nhdr32). text_at bytes nhdr32_size (h.n_namesz - 1) >>= after_name bytes align h in
+    let Takes = TakesFrom (length bytes) in
+    if_ok_then (note_align alignment) (λ align. header >>= after_header align) Takes λ align aligned.
+    if_ok_then header (after_header align) Takes λ h begins.
+    if_ok_then (text_at bytes nhdr32_size (h.n_namesz - 1)) (after_name bytes align h) Takes λ name named.
+    after_name-range bytes align h name (align_range alignment align aligned)
+
+-- what holds of each value holds of this one
+pub at_ok : {A E : Type 0} (answer : Result A E) (x : A) (P : A → Type 0) → answer ≡ Ok x → IfOk answer P → P x
+at_ok answer x P is h = rw is at h
+
+-- the test that an offset lies before the end lets nothing else through
+read_behind : (test : Bool) (refusal : Refusal) (answer : Result (NoteParts × ℕ) Refusal) (P : NoteParts × ℕ → Type 0) → (test ≡ false → IfOk answer P) → IfOk (refuse_if test refusal >>= λ _. answer) P
+read_behind true refusal answer P h = tt
+read_behind false refusal answer P h = h refl
+
+-- a note takes at least the bytes of its header, and at most 7 more than there are
+pub notes_advance : NotesAdvance
+unfolding note_at
+notes_advance bytes offset ctx =
+    read_behind (nat_le (length bytes) offset) (bad_offset offset) (read_note ctx.0 ctx.1.le (drop offset bytes)) _ λ before.
+    if_ok_more (read_note ctx.0 ctx.1.le (drop offset bytes)) _ _ (read_note-range ctx.0 ctx.1.le (drop offset bytes)) λ note range.
+    let there = leb-false (length bytes) offset before in
+    let rest = length-drop offset bytes in
+    (range.0, omega arith)
+
+-- nothing is left from the end of a range on
+items_past : (k : ℕ) (bytes : List ℕ) (size offset : ℕ) (ctx : ℕ × Ctx) → size ≤ offset → items_within k bytes size offset ctx ≡ []
+items_past zero bytes size offset ctx past = refl
+items_past (suc k) bytes size offset ctx past = rw (le-leb size offset past) refl
+
+-- the items from a place on agree where the rests behind each note agree
+same_items : (answer : Result (NoteParts × ℕ) Refusal) (f g : ℕ → List (Result NoteParts Refusal)) → ((note : NoteParts × ℕ) → answer ≡ Ok note → f note.1 ≡ g note.1) → item_and_rest answer f ≡ item_and_rest answer g
+same_items (Ok note) f g h = ap (λ (rest : List (Result NoteParts Refusal)). Ok note.0 ∷ rest) (h note refl)
+same_items (Err e) f g h = refl
+
+-- it makes no difference how many bytes are looked through, if they are enough
+items_enough : (k j : ℕ) (bytes : List ℕ) (size offset : ℕ) (ctx : ℕ × Ctx) → size - offset ≤ k → size - offset ≤ j → items_within k bytes size offset ctx ≡ items_within j bytes size offset ctx
+items_enough zero j bytes size offset ctx h i = sym (items_past j bytes size offset ctx (omega arith))
+items_enough (suc k) zero bytes size offset ctx h i = items_past (suc k) bytes size offset ctx (omega arith)
+items_enough (suc k) (suc j) bytes size offset ctx h i =
+    elim (cases_lt offset size) [
+      | inr past ↦ items_past (suc k) bytes size offset ctx past ∙ sym (items_past (suc j) bytes size offset ctx past)
+      | inl before ↦ rw (lt-leb size offset before) (same_items (note_at bytes offset ctx) _ _ λ note is.
+          let moved = at_ok (note_at bytes offset ctx) note _ is (notes_advance bytes offset ctx) in
+          items_enough k j bytes size (offset + note.1) ctx (omega arith) (omega arith))
+    ]
+
+-- the items of a range, note by note
+pub note_by_note : NoteByNote
+unfolding note_items
+note_by_note bytes size offset ctx =
+    elim (cases_lt offset size) [
+      | inr past ↦ items_past (size - offset) bytes size offset ctx past ∙ rw (le-leb size offset past) refl
+      | inl before ↦
+          items_enough (size - offset) (suc (size - offset)) bytes size offset ctx (omega arith) (omega arith)
+          ∙ rw (lt-leb size offset before) (same_items (note_at bytes offset ctx) _ _ λ note is.
+            let moved = at_ok (note_at bytes offset ctx) note _ is (notes_advance bytes offset ctx) in
+            items_enough (size - offset) (size - (offset + note.1)) bytes size (offset + note.1) ctx (omega arith) (omega arith))
+    ]
+
+-- an item and what comes behind it are few, if what comes behind each note is
+few_items : (answer : Result (NoteParts × ℕ) Refusal) (rest : ℕ → List (Result NoteParts Refusal)) (most : ℕ) → 0 < most → ((note : NoteParts × ℕ) → answer ≡ Ok note → length (rest note.1) < most) → length (item_and_rest answer rest) ≤ most
+few_items (Ok note) rest most some h = let fewer = h note refl in omega arith
+few_items (Err e) rest most some h = omega arith
+
+few_within : (k : ℕ) (bytes : List ℕ) (size offset : ℕ) (ctx : ℕ × Ctx) → length (items_within k bytes size offset ctx) ≤ div_ceil (size - offset) nhdr32_size
+few_within zero bytes size offset ctx = omega arith
+few_within (suc k) bytes size offset ctx =
+    elim (cases_lt offset size) [
+      | inr past ↦ rw (items_past (suc k) bytes size offset ctx past) (omega arith)
+      | inl before ↦ rw (lt-leb size offset before) (few_items (note_at bytes offset ctx) _ (div_ceil (size - offset) nhdr32_size) (omega arith) λ note is.
+          let moved = at_ok (note_at bytes offset ctx) note _ is (notes_advance bytes offset ctx) in
+          let few = few_within k bytes size (offset + note.1) ctx in
+          omega arith)
+    ]
+
+-- a range has no more items than headers begin in it
+pub few_notes : FewNotes
+unfolding note_items
+few_notes bytes size offset ctx = few_within (size - offset) bytes size offset ctx
+
+-- before the end of the bytes a note is read from those that are left
+pub note_at-before : (bytes : List ℕ) (offset : ℕ) (ctx : ℕ × Ctx) → offset < length bytes → note_at bytes offset ctx ≡ read_note ctx.0 ctx.1.le (take (length bytes - offset) (drop offset bytes))
+unfolding note_at
+note_at-before bytes offset ctx before =
+    let all = take_all (length bytes - offset) (drop offset bytes) (omega (arith, length-drop offset bytes)) in
+    rw (lt-leb (length bytes) offset before, all) refl
+
+-- from the end of the bytes on there is none
+pub note_at-past : (bytes : List ℕ) (offset : ℕ) (ctx : ℕ × Ctx) → length bytes ≤ offset → note_at bytes offset ctx ≡ Err (bad_offset offset)
+unfolding note_at
+note_at-past bytes offset ctx past = rw (le-leb (length bytes) offset past) refl
+
+-- the end of a note that was answered fits a machine word
+pub note_at-fits : (answer : Result (Note × ℕ) Error) (bytes : List ℕ) (offset : ℕ) (ctx : ℕ × Ctx) → length bytes < 2 ^ 63 → Answers note_and_len answer (note_at bytes offset ctx) → IfOk answer (λ note. offset + note.1 < 2 ^ 64)
+note_at-fits (Ok note) bytes offset ctx long is = let range = at_ok (note_at bytes offset ctx) (note_and_len note) _ is (notes_advance bytes offset ctx) in omega arith
+note_at-fits (Err e) bytes offset ctx long is = tt
+
+-- no item is left from the end of a range on
+pub note_items-past : (bytes : List ℕ) (size offset : ℕ) (ctx : ℕ × Ctx) → size ≤ offset → note_items bytes size offset ctx ≡ []
+note_items-past bytes size offset ctx past = note_by_note bytes size offset ctx ∙ rw (le-leb size offset past) refl
+
+-- a note, and the items behind it
+pub note_items-note : (bytes : List ℕ) (size offset : ℕ) (ctx : ℕ × Ctx) (note : NoteParts × ℕ) → offset < size → note_at bytes offset ctx ≡ Ok note → note_items bytes size offset ctx ≡ Ok note.0 ∷ note_items bytes size (offset + note.1) ctx
+note_items-note bytes size offset ctx note before is = note_by_note bytes size offset ctx ∙ rw (lt-leb size offset before, is) refl
+
+-- a refusal, and nothing behind it
+pub note_items-refusal : (bytes : List ℕ) (size offset : ℕ) (ctx : ℕ × Ctx) (refusal : Refusal) → offset < size → note_at bytes offset ctx ≡ Err refusal → note_items bytes size offset ctx ≡ Err refusal ∷ note_items bytes size size ctx
+note_items-refusal bytes size offset ctx refusal before is =
+    note_by_note bytes size offset ctx ∙ rw (lt-leb size offset before, is, note_items-past bytes size size ctx (omega arith)) refl
+
+-- before the end of a range there is an item
+pub note_items-some : (bytes : List ℕ) (size offset : ℕ) (ctx : ℕ × Ctx) → offset < size → 0 < length (note_items bytes size offset ctx)
+note_items-some bytes size offset ctx before = rw (note_by_note bytes size offset ctx, lt-leb size offset before) (one_at_least (note_at bytes offset ctx) _)
+  where
+    one_at_least : (answer : Result (NoteParts × ℕ) Refusal) (rest : ℕ → List (Result NoteParts Refusal)) → 0 < length (item_and_rest answer rest)
+    one_at_least (Ok note) rest = omega arith
+    one_at_least (Err e) rest = omega arith
+
+-- a range has no more items left than headers begin in it
+pub few_left : (it : NoteDataIterator) → length (items_left it) ≤ most_left it
+few_left it = few_notes it.bytes.now it.size it.offset it.ctx
+
+-- and one at least, before its end
+pub some_left : (it : NoteDataIterator) → min 1 (most_left it) ≤ length (items_left it)
+some_left it =
+    elim (cases_lt it.offset it.size) [
+      | inl before ↦ let some = note_items-some it.bytes.now it.size it.offset it.ctx before in omega arith
+      | inr past ↦ let none : most_left it ≡ 0 = omega arith in omega arith
+    ]

@@ -1,0 +1,78 @@
+-- The notes that iterators give.
+use Rattle.std.specs.Prelude.{◌≡◌, ◌+◌, ◌-◌, ◌<◌, ◌≤◌, ℕ, nat_le, nat_lt, sum_by, if◌then◌else◌, List, [], ◌∷◌, ◌++◌, length, drop, flat_map, Result, Ok, Err, IfOk}
+use Rattle.std.specs.Int.{div_ceil}
+use Rattle.std.specs.List.{position_or_len}
+use Rattle.goblin_base.specs.declared.container.Ctx.{Ctx}
+use Rattle.goblin_base.specs.declared.error.Error.{Error}
+use Rattle.goblin_base.specs.Refusal.{Refusal, refusal_of}
+use Rattle.goblin_records.specs.Nhdr.{nhdr32_size}
+use Rattle.goblin.specs.declared.elf.note.Note.{Note}
+use Rattle.goblin.specs.declared.elf.note.NoteDataIterator.{NoteDataIterator}
+use Rattle.goblin.specs.declared.elf.note.NoteIterator.{NoteIterator}
+use Rattle.goblin.specs.Note.{NoteParts, parts_of, note_at, note_items, item_and_rest}
+
+-- the parts of a note, or what an error refuses
+abbrev pub item_of : Result Note Error → Result NoteParts Refusal
+item_of (Ok note) = Ok (parts_of note)
+item_of (Err e) = Err (refusal_of e)
+
+-- the items that a range of notes has left
+abbrev pub items_left : NoteDataIterator → List (Result NoteParts Refusal)
+items_left it = note_items it.bytes.now it.size it.offset it.ctx
+
+-- no more items are left than headers begin in the range
+abbrev pub most_left : NoteDataIterator → ℕ
+most_left it = div_ceil (it.size - it.offset) nhdr32_size
+
+-- the offset behind a note, or the end of the range where there is none
+abbrev pub offset_behind : Result (NoteParts × ℕ) Refusal → ℕ → ℕ → ℕ
+offset_behind (Ok note) size offset = offset + note.1
+offset_behind (Err refusal) size offset = size
+
+-- the range after its next item was taken: nothing but its offset moves, and at the end not even that
+abbrev pub after_next : NoteDataIterator → NoteDataIterator
+after_next it =
+    if nat_le it.size it.offset then it
+    else record it { offset = offset_behind (note_at it.bytes.now it.offset it.ctx) it.size it.offset }
+
+-- the items that the ranges from the index on have left, one range after another
+abbrev pub all_items_left : NoteIterator → List (Result NoteParts Refusal)
+all_items_left it = flat_map items_left (drop it.index it.iters.items)
+
+-- no more items are left than headers begin in these ranges
+abbrev pub most_left_in : List NoteDataIterator → ℕ
+most_left_in ranges = sum_by most_left ranges
+
+-- how many of these ranges, from the first one on, have nothing left
+abbrev pub spent : List NoteDataIterator → ℕ
+spent ranges = position_or_len (λ range. nat_lt range.offset range.size) ranges
+
+-- the index of the range that has the next item
+abbrev pub index_of_next : NoteIterator → ℕ
+index_of_next it = it.index + spent (drop it.index it.iters.items)
+
+-- the ranges after the first one's next item was taken
+abbrev pub after_next_of_first : List NoteDataIterator → List NoteDataIterator
+after_next_of_first [] = []
+after_next_of_first (range ∷ ranges) = after_next range ∷ ranges
+
+-- the items of a range are none from its end on; else the note at its offset and the items from the note's end on, or
+-- the refusal alone
+abbrev pub NoteByNote : Type 0
+NoteByNote =
+    (bytes : List ℕ) (size offset : ℕ) (ctx : ℕ × Ctx)
+    → note_items bytes size offset ctx
+    ≡ (if nat_le size offset then []
+    else item_and_rest (note_at bytes offset ctx) (λ len. note_items bytes size (offset + len) ctx))
+
+-- a note takes at least the bytes of its header, and at most 7 more than there are
+abbrev pub NotesAdvance : Type 0
+NotesAdvance =
+    (bytes : List ℕ) (offset : ℕ) (ctx : ℕ × Ctx)
+    → IfOk (note_at bytes offset ctx) (λ note. (nhdr32_size ≤ note.1) × (offset + note.1 ≤ length bytes + 7))
+
+-- a range has no more items than headers begin in it
+abbrev pub FewNotes : Type 0
+FewNotes =
+    (bytes : List ℕ) (size offset : ℕ) (ctx : ℕ × Ctx)
+    → length (note_items bytes size offset ctx) ≤ div_ceil (size - offset) nhdr32_size

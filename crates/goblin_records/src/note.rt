@@ -1,0 +1,271 @@
+//! Note headers of both classes, and the types of notes: System V gABI, "Note Section".
+ghost use Rattle.std.specs.Prelude.{◌≡◌, ◌≤◌, ◌++◌, [], ◌∷◌, length, drop};
+ghost use Rattle.goblin_base.specs.Layout.{IsOneImage};
+ghost use Rattle.goblin_base.specs.Record.{read_within, Writes};
+ghost use Rattle.goblin_base.specs.Steps.{with_size};
+ghost use Rattle.goblin_records.specs.Nhdr.{nhdr32_of, nhdr32_image, nhdr32_low, nhdr32_size};
+ghost use Rattle.goblin_records.specs.Nhdr.{nhdr64_of, nhdr64_image, nhdr64_low, nhdr64_size};
+
+use goblin_base::container::Endian;
+use goblin_base::error::Result;
+use goblin_base::number::{get_u32, get_u64, put_u32, put_u64, room};
+use goblin_base::record::Record;
+use goblin_base::scroll::{SizeWith, TryFromCtx, TryIntoCtx};
+
+/// The system that a file was built for, as words: the system's number, and the major, minor and
+/// subminor version of its binary interface.
+pub const NT_GNU_ABI_TAG: u32 = 1;
+/// The older name of `NT_GNU_ABI_TAG`.
+pub const ELF_NOTE_ABI: u32 = NT_GNU_ABI_TAG;
+
+/// Linux, as the first word of a note of type `NT_GNU_ABI_TAG` numbers systems.
+pub const ELF_NOTE_OS_LINUX: u32 = 0;
+/// The Hurd.
+pub const ELF_NOTE_OS_GNU: u32 = 1;
+/// Solaris.
+pub const ELF_NOTE_OS_SOLARIS2: u32 = 2;
+/// FreeBSD.
+pub const ELF_NOTE_OS_FREEBSD: u32 = 3;
+
+/// Made-up capabilities of the hardware: how many there are, a mask of those that are on, and for each
+/// the number of its bit and its name.
+pub const NT_GNU_HWCAP: u32 = 2;
+/// The bytes that tell one build from another, as linkers make them.
+pub const NT_GNU_BUILD_ID: u32 = 3;
+/// The version of the linker `gold`, as text.
+pub const NT_GNU_GOLD_VERSION: u32 = 4;
+/// Properties of the program.
+pub const NT_GNU_PROPERTY_TYPE_0: u32 = 5;
+
+/// In a core file: the state of a thread.
+pub const NT_PRSTATUS: u32 = 1;
+/// In a core file: what is known of the process.
+pub const NT_PRPSINFO: u32 = 3;
+/// In a core file: the signal that ended the process.
+pub const NT_SIGINFO: u32 = 0x5349_4749;
+/// In a core file: which files were mapped where.
+pub const NT_FILE: u32 = 0x4649_4c45;
+
+/// The header of a note, in words of 4 bytes. Notes of both classes are read with it.
+#[derive(Clone, Copy, Debug)]
+pub struct Nhdr32 {
+    /// How many bytes the name takes, with the zero byte that closes it; 0 for no name.
+    pub n_namesz: u32,
+    /// How many bytes the descriptor takes.
+    pub n_descsz: u32,
+    /// The type, whose meaning depends on the name.
+    pub n_type: u32,
+}
+
+// How many bytes an `Nhdr32` takes.
+const SIZEOF_NHDR32: usize = 4 + 4 + 4;
+
+impl Nhdr32 {
+    // The note header at the start of the bytes.
+    fn at(bytes: &[u8], order: Endian) -> Nhdr32
+        requires { SIZEOF_NHDR32 ≤ length bytes.now }
+        ensures { result ≡ nhdr32_of order bytes.now }
+    {
+        Nhdr32 {
+            n_namesz: get_u32(bytes, 0, order),
+            n_descsz: get_u32(bytes, 4, order),
+            n_type: get_u32(bytes, 8, order),
+        }
+    }
+
+    // Puts the note header at the start of the bytes.
+    fn put(&self, bytes: &mut [u8], order: Endian)
+        requires { SIZEOF_NHDR32 ≤ length bytes.old }
+        ensures { bytes.new ≡ nhdr32_image order self.now ++ drop SIZEOF_NHDR32 bytes.old }
+    {
+        put_u32(bytes, 0, self.n_namesz, order);
+        put_u32(bytes, 4, self.n_descsz, order);
+        put_u32(bytes, 8, self.n_type, order);
+    }
+}
+
+impl SizeWith<Endian> for Nhdr32 {
+    ghost size_of = { λ _. nhdr32_size };
+
+    fn size_with(_order: &Endian) -> usize {
+        SIZEOF_NHDR32
+    }
+}
+
+/// Refused is only what has no room.
+impl<'a> TryFromCtx<'a, Endian> for Nhdr32 {
+    ghost try_from_gives = { λ bytes order answer.
+        answer ≡ with_size nhdr32_size (read_within nhdr32_size (nhdr32_of order) bytes) };
+
+    fn try_from_ctx(bytes: &'a [u8], order: Endian) -> Result<(Self, usize)> {
+        let header = Nhdr32::read_record(bytes, order)?;
+        Ok((header, SIZEOF_NHDR32))
+    }
+}
+
+/// Refused is only what has no room, and then no byte is written.
+impl TryIntoCtx<Endian> for Nhdr32 {
+    ghost try_into_gives = { λ header order old answer new.
+        Writes nhdr32_size (nhdr32_image order header) old answer new };
+
+    #[tactic(auto, using(goblin_base::specs::RecordLaws::record_answers))]
+    fn try_into_ctx(self, bytes: &mut [u8], order: Endian) -> Result<usize> {
+        room(bytes.len(), 0, SIZEOF_NHDR32)?;
+        self.put(bytes, order);
+        Ok(SIZEOF_NHDR32)
+    }
+}
+
+impl Record<Endian> for Nhdr32 {
+    ghost use Rattle.goblin_records.specs.Nhdr.{Nhdr32Fits};
+    ghost use Rattle.goblin_records.specs.NhdrLaws.{nhdr32_laws};
+
+    ghost read = { nhdr32_of };
+
+    ghost image = { nhdr32_image };
+
+    ghost fits = { λ _. Nhdr32Fits };
+
+    #[tactic(auto, using(goblin_base::specs::RecordLaws::record_answers))]
+    fn read_record(bytes: &[u8], order: Endian) -> Result<Self> {
+        room(bytes.len(), 0, SIZEOF_NHDR32)?;
+        Ok(Nhdr32::at(bytes, order))
+    }
+
+    ghost size_positive = { λ order. (nhdr32_laws order).size_positive };
+
+    ghost length_image = { λ order. (nhdr32_laws order).length_image };
+
+    ghost image_bytes = { λ order. (nhdr32_laws order).image_bytes };
+
+    ghost writes_image = { λ order header old new answer h. h };
+
+    ghost reads_front = { λ order. (nhdr32_laws order).reads_front };
+
+    ghost reads_back = { λ order. (nhdr32_laws order).reads_back };
+
+    ghost writes_back = { λ order. (nhdr32_laws order).writes_back };
+}
+
+/// The header of a note, in words of 8 bytes.
+#[derive(Clone, Copy, Debug)]
+pub struct Nhdr64 {
+    /// How many bytes the name takes, with the zero byte that closes it; 0 for no name.
+    pub n_namesz: u64,
+    /// How many bytes the descriptor takes.
+    pub n_descsz: u64,
+    /// The type, whose meaning depends on the name.
+    pub n_type: u64,
+}
+
+// How many bytes an `Nhdr64` takes.
+const SIZEOF_NHDR64: usize = 8 + 8 + 8;
+
+impl Nhdr64 {
+    // The note header at the start of the bytes.
+    fn at(bytes: &[u8], order: Endian) -> Nhdr64
+        requires { SIZEOF_NHDR64 ≤ length bytes.now }
+        ensures { result ≡ nhdr64_of order bytes.now }
+    {
+        Nhdr64 {
+            n_namesz: get_u64(bytes, 0, order),
+            n_descsz: get_u64(bytes, 8, order),
+            n_type: get_u64(bytes, 16, order),
+        }
+    }
+
+    // Puts the note header at the start of the bytes.
+    fn put(&self, bytes: &mut [u8], order: Endian)
+        requires { SIZEOF_NHDR64 ≤ length bytes.old }
+        ensures { bytes.new ≡ nhdr64_image order self.now ++ drop SIZEOF_NHDR64 bytes.old }
+    {
+        put_u64(bytes, 0, self.n_namesz, order);
+        put_u64(bytes, 8, self.n_descsz, order);
+        put_u64(bytes, 16, self.n_type, order);
+    }
+}
+
+impl SizeWith<Endian> for Nhdr64 {
+    ghost size_of = { λ _. nhdr64_size };
+
+    fn size_with(_order: &Endian) -> usize {
+        SIZEOF_NHDR64
+    }
+}
+
+/// Refused is only what has no room.
+impl<'a> TryFromCtx<'a, Endian> for Nhdr64 {
+    ghost try_from_gives = { λ bytes order answer.
+        answer ≡ with_size nhdr64_size (read_within nhdr64_size (nhdr64_of order) bytes) };
+
+    fn try_from_ctx(bytes: &'a [u8], order: Endian) -> Result<(Self, usize)> {
+        let header = Nhdr64::read_record(bytes, order)?;
+        Ok((header, SIZEOF_NHDR64))
+    }
+}
+
+/// Refused is only what has no room, and then no byte is written.
+impl TryIntoCtx<Endian> for Nhdr64 {
+    ghost try_into_gives = { λ header order old answer new.
+        Writes nhdr64_size (nhdr64_image order header) old answer new };
+
+    #[tactic(auto, using(goblin_base::specs::RecordLaws::record_answers))]
+    fn try_into_ctx(self, bytes: &mut [u8], order: Endian) -> Result<usize> {
+        room(bytes.len(), 0, SIZEOF_NHDR64)?;
+        self.put(bytes, order);
+        Ok(SIZEOF_NHDR64)
+    }
+}
+
+impl Record<Endian> for Nhdr64 {
+    ghost use Rattle.goblin_records.specs.Nhdr.{Nhdr64Fits};
+    ghost use Rattle.goblin_records.specs.NhdrLaws.{nhdr64_laws};
+
+    ghost read = { nhdr64_of };
+
+    ghost image = { nhdr64_image };
+
+    ghost fits = { λ _. Nhdr64Fits };
+
+    #[tactic(auto, using(goblin_base::specs::RecordLaws::record_answers))]
+    fn read_record(bytes: &[u8], order: Endian) -> Result<Self> {
+        room(bytes.len(), 0, SIZEOF_NHDR64)?;
+        Ok(Nhdr64::at(bytes, order))
+    }
+
+    ghost size_positive = { λ order. (nhdr64_laws order).size_positive };
+
+    ghost length_image = { λ order. (nhdr64_laws order).length_image };
+
+    ghost image_bytes = { λ order. (nhdr64_laws order).image_bytes };
+
+    ghost writes_image = { λ order header old new answer h. h };
+
+    ghost reads_front = { λ order. (nhdr64_laws order).reads_front };
+
+    ghost reads_back = { λ order. (nhdr64_laws order).reads_back };
+
+    ghost writes_back = { λ order. (nhdr64_laws order).writes_back };
+}
+
+/// Laws: what the constants of this module stand for. A call does nothing.
+pub fn constants()
+    ensures gnu { NT_GNU_ABI_TAG ∷ ELF_NOTE_ABI ∷ NT_GNU_HWCAP ∷ NT_GNU_BUILD_ID ∷
+        NT_GNU_GOLD_VERSION ∷ NT_GNU_PROPERTY_TYPE_0 ∷ []
+        ≡ 1 ∷ 1 ∷ 2 ∷ 3 ∷ 4 ∷ 5 ∷ [] }
+    ensures systems { ELF_NOTE_OS_LINUX ∷ ELF_NOTE_OS_GNU ∷ ELF_NOTE_OS_SOLARIS2 ∷
+        ELF_NOTE_OS_FREEBSD ∷ []
+        ≡ 0 ∷ 1 ∷ 2 ∷ 3 ∷ [] }
+    ensures core { NT_PRSTATUS ∷ NT_PRPSINFO ∷ NT_SIGINFO ∷ NT_FILE ∷ []
+        ≡ 1 ∷ 3 ∷ 0x5349_4749 ∷ 0x4649_4c45 ∷ [] }
+{}
+
+/// Laws: how many bytes a note header takes, and which they are. A call does nothing.
+pub fn laws()
+    ensures size32 { SIZEOF_NHDR32 ≡ nhdr32_size }
+    ensures size64 { SIZEOF_NHDR64 ≡ nhdr64_size }
+    ensures image32 { (order : Endian) →
+        IsOneImage nhdr32_size (nhdr32_of order) (nhdr32_image order) nhdr32_low }
+    ensures image64 { (order : Endian) →
+        IsOneImage nhdr64_size (nhdr64_of order) (nhdr64_image order) nhdr64_low }
+{}
