@@ -1,5 +1,8 @@
 -- Entries kept as places.
-use Rattle.std.proofs.Common.{◌≡◌, ℕ, zero, suc, ◌+◌, ◌-◌, ◌<◌, ◌≤◌, true, false, take, drop, List, [], ◌∷◌, ◌++◌, length, get_or, refl, sym, ap, subst, ◌∙◌, arith}
+use Rattle.std.proofs.lemmas.Bool.{both_ways, ne_eqb}
+use Rattle.std.specs.Prelude.{◌==◌}
+use Rattle.std.specs.Bool.{IsTrue}
+use Rattle.std.proofs.Common.{Bool, ◌≡◌, ℕ, zero, suc, ◌+◌, ◌-◌, ◌<◌, ◌≤◌, true, false, take, drop, List, [], ◌∷◌, ◌++◌, length, get_or, refl, sym, ap, subst, ◌∙◌, arith}
 use Rattle.std.specs.List.{slice_range}
 use Rattle.std.specs.Str.{is_utf8}
 use Rattle.goblin_base.specs.Entries.{places_of, text_of}
@@ -100,3 +103,11 @@ module _ (bytes : List ℕ) (d : ℕ) where
 
   pub walked_none : IsWalkedTo bytes d [] 0
   walked_none = record { kept = tt; found = refl }
+
+-- no entries stand at no places
+pub none_between : (bytes ps : List ℕ) (c n : ℕ) (r : Bool) {es : List (ℕ × List ℕ)} → entries_between bytes ps c ≡ es → n ≡ length ps → r ≡ (n == 0) → (IsTrue r → es ≡ []) × (es ≡ [] → IsTrue r)
+none_between bytes [] c n r v e f = (λ _. sym v, λ _. f ∙ ap (λ k. k == 0) e)
+none_between bytes (p ∷ ps) c n r v e f = (
+  λ t. absurd (both_ways _ (f ∙ ne_eqb n 0 (λ (z : n ≡ 0). omega arith)) t),
+  λ h. absurd (let x = v ∙ h in cc),
+)

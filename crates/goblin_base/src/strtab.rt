@@ -1,12 +1,13 @@
 //! String tables, which are indexed by byte offsets: System V gABI, "String Table".
 ghost use Rattle.std.specs.Prelude.{◌≡◌, ◌+◌, ◌<◌, ◌≤◌, ◌↔◌, [], true, false, drop, length, map};
 ghost use Rattle.std.specs.Prelude.{nat_lt, position, ◌==◌, if◌then◌else◌, Some, None, Ok};
-ghost use Rattle.std.specs.Prelude.{IfErr, IfOk, IfSome, IsNone, IsOk, MatchOption, MatchResult, alloc_error, slice_range};
+ghost use Rattle.std.specs.Prelude.{IfErr, IfOk, IfSome, IsNone, IsOk, MatchOption, MatchResult, EachIndex, alloc_error, slice_index, slice_range};
 ghost use Rattle.std.specs.Option.{option_map};
 ghost use Rattle.std.specs.Str.{IsCharBoundary};
-ghost use Rattle.goblin_base.specs.Entries.{text_of};
+ghost use Rattle.goblin_base.specs.Entries.{places_of, text_of};
 ghost use Rattle.goblin_base.specs.Pieces.{piece};
 ghost use Rattle.goblin_base.specs.Refusal.{Answers, Gives};
+ghost use Rattle.goblin_base.specs.Search.{IsLastUpTo};
 ghost use Rattle.goblin_base.specs.Strtab.{look_up, plain, range_in, strings_of, strtab_of, table_of, texts_of};
 
 use crate::entries::{Entries, Looked, Probes};
@@ -209,9 +210,7 @@ impl<'a> Strtab<'a> {
             return None;
         }
         let entries = self.entries.as_ref()?;
-        let mut probes = Probes::of(entries);
-        let k = find(&mut probes, offset)?;
-        let place = probes.at(k);
+        let (k, place) = last_entry(entries, offset)?;
         rest_of(entries.text(k), offset - place)
     }
 
@@ -291,6 +290,19 @@ fn texts<'a>(alloc: Global, entries: &Entries<'a>) -> Result<Vec<&'a str>>
         texts.push(entries.text(i))?;
     }
     Ok(texts)
+}
+
+// Which entry is the last at or before an offset, and its place.
+fn last_entry(entries: &Entries<'_>, offset: usize) -> Option<(usize, usize)>
+    ensures { let places = places_of entries.now in
+        MatchOption result
+            (EachIndex places (λ k. offset < slice_index places k))
+            (λ entry. IsLastUpTo places offset entry.0 × (entry.1 ≡ slice_index places entry.0)) }
+{
+    let mut probes = Probes::of(&*entries);
+    let k = find(&mut probes, offset)?;
+    let place = probes.at(k);
+    Some((k, place))
 }
 
 // The rest of a text, unless it would begin inside a character.
