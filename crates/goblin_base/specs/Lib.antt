@@ -20,6 +20,7 @@ pub mod Signed
 pub mod SignedLaws
 pub mod Steps
 pub mod Strtab
+pub mod StrtabLaws
 pub mod Table
 pub mod TableLaws
 pub mod Texts

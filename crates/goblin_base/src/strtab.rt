@@ -9,6 +9,7 @@ ghost use Rattle.goblin_base.specs.Pieces.{piece};
 ghost use Rattle.goblin_base.specs.Refusal.{Answers, Gives};
 ghost use Rattle.goblin_base.specs.Search.{IsLastUpTo};
 ghost use Rattle.goblin_base.specs.Strtab.{look_up, plain, range_in, strings_of, strtab_of, table_of, texts_of};
+ghost use Rattle.goblin_base.specs.StrtabLaws.{ClosedForm, DependsOnRange, JoinsAgain, LookUpHasPlain, PermissiveAccepts, StrictIsPermissive, StrictLookUpIsPlain, TextIsUtf8};
 
 use crate::entries::{Entries, Looked, Probes};
 use crate::error::{Error, Fault, Result};
@@ -317,3 +318,15 @@ fn rest_of(text: &str, from: usize) -> Option<&str>
         None
     }
 }
+
+/// Laws of string tables, over their definitions alone. A call does nothing.
+pub fn laws()
+    ensures text_is_utf8 { TextIsUtf8 }
+    ensures closed_form { ClosedForm }
+    ensures joins_again { JoinsAgain }
+    ensures permissive_accepts { PermissiveAccepts }
+    ensures strict_is_permissive { StrictIsPermissive }
+    ensures look_up_has_plain { LookUpHasPlain }
+    ensures strict_look_up_is_plain { StrictLookUpIsPlain }
+    ensures depends_on_range { DependsOnRange }
+{}
