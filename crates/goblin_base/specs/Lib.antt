@@ -1,5 +1,6 @@
 pub mod Container
 pub mod Eager
+pub mod Entries
 pub mod FieldLaws
 pub mod Fields
 pub mod Layout
@@ -7,14 +8,20 @@ pub mod LayoutLaws
 pub mod Names
 pub mod Number
 pub mod NumberLaws
+pub mod Pieces
 pub mod Place
 pub mod Record
 pub mod RecordLaws
 pub mod Refusal
 pub mod Room
+pub mod Scan
+pub mod Search
 pub mod Signed
 pub mod SignedLaws
 pub mod Steps
+pub mod Strtab
+pub mod StrtabLaws
 pub mod Table
 pub mod TableLaws
 pub mod Texts
+pub mod Utf8

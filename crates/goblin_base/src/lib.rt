@@ -3,12 +3,17 @@
 #![tactic(auto)]
 
 pub mod container;
+pub mod entries;
 pub mod error;
+pub mod find;
 pub mod names;
 pub mod number;
 pub mod options;
 pub mod record;
 pub mod scroll;
+pub mod strtab;
 pub mod table;
 #[cfg(test)]
 mod tests;
+pub mod utf8;
+pub mod walk;

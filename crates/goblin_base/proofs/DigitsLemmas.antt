@@ -1,0 +1,37 @@
+-- Halving a number takes one binary digit off it.
+use Rattle.std.proofs.Common.{◌≡◌, ℕ, zero, suc, ◌+◌, ◌/◌, ◌≤◌, ◌<◌, refl, sym, ap, arith}
+use Rattle.goblin_base.specs.Search.{digits, digits_within}
+
+within_zero : (n : ℕ) → digits_within n 0 ≡ 0
+within_zero zero = refl
+within_zero (suc n) = refl
+
+-- more room changes nothing
+within_more : (n m k : ℕ) → k ≤ n → k ≤ m → digits_within n k ≡ digits_within m k
+within_more zero m k p q = let e : k ≡ 0 = omega arith in rw e (sym (within_zero m))
+within_more (suc n) zero k p q = let e : k ≡ 0 = omega arith in rw e refl
+within_more (suc n) (suc m) zero p q = refl
+within_more (suc n) (suc m) (suc k) p q = ap (λ x. x + 1) (within_more n m (suc k / 2) (omega arith) (omega arith))
+
+pub digits_half : (k : ℕ) → 0 < k → digits k ≡ digits (k / 2) + 1
+unfolding digits
+digits_half zero h = absurd (omega arith)
+digits_half (suc k) h = ap (λ x. x + 1) (within_more k (suc k / 2) (suc k / 2) (omega arith) (omega arith))
+
+pub digits-zero : digits 0 ≡ 0
+unfolding digits
+digits-zero = refl
+
+within_mono : (n a b : ℕ) → a ≤ b → digits_within n a ≤ digits_within n b
+within_mono zero a b h = omega arith
+within_mono (suc n) zero b h = omega arith
+within_mono (suc n) (suc a) zero h = absurd (omega arith)
+within_mono (suc n) (suc a) (suc b) h = omega (arith, within_mono n (suc a / 2) (suc b / 2) (omega arith))
+
+pub digits_mono : (a b : ℕ) → a ≤ b → digits a ≤ digits b
+unfolding digits
+digits_mono a b h = omega (arith, within_more a b a (omega arith) h, within_mono b a b h)
+
+-- what is left after one probe, on either side, has a digit less
+pub digits_step : (s t : ℕ) → 0 < s → t ≤ s / 2 → digits t + 1 ≤ digits s
+digits_step s t h l = omega (arith, digits_half s h, digits_mono t (s / 2) l)

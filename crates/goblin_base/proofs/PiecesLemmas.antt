@@ -1,0 +1,104 @@
+-- Where pieces begin and end.
+use Rattle.std.proofs.Common.{◌≡◌, ℕ, zero, suc, ◌+◌, ◌-◌, ◌<◌, ◌≤◌, Bool, true, false, cond, not, eqb, List, [], ◌∷◌, length, get_or, take, drop, refl, sym, ap, ◌∙◌, arith}
+use Rattle.std.proofs.lemmas.Bool.{cond-true, cond-false}
+use Rattle.std.proofs.lemmas.List.{get_or-drop, length-drop, length-take-le, drop_more, drop_all}
+use Rattle.std.proofs.lemmas.List.Sums.{prefix_len-le-length, fails_before_first, passes_at_first, position_or_len_is}
+use Rattle.std.specs.List.{slice_range, position_or_len}
+use Rattle.goblin_base.specs.Pieces.{piece_end, piece, piece_start}
+
+abbrev is_delim : ℕ → ℕ → Bool
+is_delim d b = eqb b d
+
+module _ (bytes : List ℕ) (d : ℕ) where
+  pub end_from : (o : ℕ) → o ≤ piece_end bytes d o
+  unfolding piece_end
+  end_from o = omega arith
+
+  pub end_within : (o : ℕ) → o ≤ length bytes → piece_end bytes d o ≤ length bytes
+  unfolding piece_end
+  end_within o h = omega (arith, prefix_len-le-length (λ b. not (is_delim d b)) (drop o bytes), length-drop o bytes)
+
+  -- no byte of a piece is the delimiter
+  pub inside_piece : (o k : ℕ) → o ≤ k → k < piece_end bytes d o → eqb (get_or bytes k 0) d ≡ false
+  unfolding piece_end
+  inside_piece o k h l =
+      let e : o + (k - o) ≡ k = omega arith in
+      ap (λ x. eqb (get_or bytes x 0) d) (sym e) ∙ ap (λ x. eqb x d) (sym (get_or-drop o bytes (k - o) 0))
+      ∙ fails_before_first (is_delim d) (drop o bytes) (k - o) 0 (omega arith)
+
+  -- a piece ends at a delimiter, or with the bytes
+  pub at_end : (o : ℕ) → o ≤ length bytes → piece_end bytes d o < length bytes → eqb (get_or bytes (piece_end bytes d o) 0) d ≡ true
+  unfolding piece_end
+  at_end o h l =
+      ap (λ x. eqb x d) (sym (get_or-drop o bytes (position_or_len (is_delim d) (drop o bytes)) 0))
+      ∙ passes_at_first (is_delim d) (drop o bytes) 0 (omega (arith, length-drop o bytes))
+
+  -- and that fixes the end
+  pub end_is : (o e : ℕ) → o ≤ e → e ≤ length bytes → ((k : ℕ) → o ≤ k → k < e → eqb (get_or bytes k 0) d ≡ false) → (e < length bytes → eqb (get_or bytes e 0) d ≡ true) → piece_end bytes d o ≡ e
+  unfolding piece_end
+  end_is o e from within none there =
+      let same : o + (e - o) ≡ e = omega arith in
+      ap (λ x. o + x) (position_or_len_is (is_delim d) (drop o bytes) (e - o) 0 (omega (arith, length-drop o bytes))
+      (λ k h. ap (λ x. eqb x d) (get_or-drop o bytes k 0) ∙ none (o + k) (omega arith) (omega arith))
+      (λ h. ap (λ x. eqb x d) (get_or-drop o bytes (e - o) 0) ∙ ap (λ x. eqb (get_or bytes x 0) d) same ∙ there (omega (arith, length-drop o bytes)))) ∙ same
+
+  pub piece_is_range : (o : ℕ) → piece bytes d o ≡ slice_range bytes o (piece_end bytes d o)
+  unfolding piece piece_end
+  piece_is_range o =
+      let n = position_or_len (is_delim d) (drop o bytes) in
+      let e : n ≡ o + n - o = omega arith in
+      ap (λ x. take x (drop o bytes)) e
+
+  pub length-piece : (o : ℕ) → o + length (piece bytes d o) ≡ piece_end bytes d o
+  unfolding piece piece_end
+  length-piece o = ap (λ x. o + x) (length-take-le (position_or_len (is_delim d) (drop o bytes)) (drop o bytes) (prefix_len-le-length (λ b. not (is_delim d b)) (drop o bytes)))
+
+  -- of the places of a piece, each has the rest of it
+  pub end_same : (o k : ℕ) → o ≤ length bytes → o ≤ k → k ≤ piece_end bytes d o → piece_end bytes d k ≡ piece_end bytes d o
+  end_same o k h l m = end_is k (piece_end bytes d o) m (end_within o h) (λ j p q. inside_piece o j (omega arith) q) (λ q. at_end o h q)
+
+  pub piece_at_end : (o : ℕ) → piece_end bytes d o ≡ o → piece bytes d o ≡ []
+  piece_at_end o e = nil_of (piece bytes d o) (omega (arith, length-piece o))
+    where
+      nil_of : (xs : List ℕ) → length xs ≡ 0 → xs ≡ []
+      nil_of [] z = refl
+      nil_of (x ∷ xs) z = absurd (omega arith)
+
+  pub piece_more : (o : ℕ) → o < piece_end bytes d o → o < length bytes → piece bytes d o ≡ get_or bytes o 0 ∷ piece bytes d (o + 1)
+  piece_more o h l =
+      let same = end_same o (o + 1) (omega arith) (omega arith) (omega arith) in
+      let e : piece_end bytes d o - o ≡ suc (piece_end bytes d o - (o + 1)) = omega arith in
+      piece_is_range o ∙ ap (λ n. take n (drop o bytes)) e ∙ ap (take (suc (piece_end bytes d o - (o + 1)))) (drop_more bytes o 0 l)
+      ∙ ap (λ n. get_or bytes o 0 ∷ take (n - (o + 1)) (drop (o + 1) bytes)) (sym same) ∙ ap (λ xs. get_or bytes o 0 ∷ xs) (sym (piece_is_range (o + 1)))
+
+  pub piece_past : (o : ℕ) → length bytes ≤ o → piece bytes d o ≡ []
+  unfolding piece
+  piece_past o h = ap (λ xs. take (position_or_len (is_delim d) xs) xs) (drop_all o bytes h)
+
+  -- ---- where a whole piece begins
+  pub start_to : (o : ℕ) → piece_start bytes d o ≤ o
+  unfolding piece_start
+  start_to zero = omega arith
+  start_to (suc o) = elim (eqb (get_or bytes o 0) d) as (λ b. cond b (suc o) (piece_start bytes d o) ≤ suc o) [ true ↦ omega arith | false ↦ omega (arith, start_to o) ]
+
+  pub start_after_delim : (o : ℕ) → eqb (get_or bytes o 0) d ≡ true → piece_start bytes d (suc o) ≡ suc o
+  unfolding piece_start
+  start_after_delim o h = cond-true _ _ _ h
+
+  pub start_more : (o : ℕ) → eqb (get_or bytes o 0) d ≡ false → piece_start bytes d (suc o) ≡ piece_start bytes d o
+  unfolding piece_start
+  start_more o h = cond-false _ _ _ h
+
+  start_plus : (o n : ℕ) → o + n ≤ piece_end bytes d o → piece_start bytes d (o + n) ≡ piece_start bytes d o
+  start_plus o zero h = let e : o + 0 ≡ o = omega arith in ap (piece_start bytes d) e
+  start_plus o (suc n) h =
+      let e : o + suc n ≡ suc (o + n) = omega arith in
+      ap (piece_start bytes d) e ∙ start_more (o + n) (inside_piece o (o + n) (omega arith) (omega arith)) ∙ start_plus o n (omega arith)
+
+  pub start_same : (o k : ℕ) → o ≤ k → k ≤ piece_end bytes d o → piece_start bytes d k ≡ piece_start bytes d o
+  start_same o k h l = let e : o + (k - o) ≡ k = omega arith in ap (piece_start bytes d) (sym e) ∙ start_plus o (k - o) (omega arith)
+
+  pub start_next : (o : ℕ) → o ≤ length bytes → piece_end bytes d o < length bytes → piece_start bytes d (piece_end bytes d o + 1) ≡ piece_end bytes d o + 1
+  start_next o h l =
+      let e : piece_end bytes d o + 1 ≡ suc (piece_end bytes d o) = omega arith in
+      ap (piece_start bytes d) e ∙ start_after_delim (piece_end bytes d o) (at_end o h l) ∙ sym e

@@ -1,0 +1,130 @@
+-- An attempt to read a piece as text: what is known at each byte.
+use Rattle.std.proofs.Common.{◌≡◌, ℕ, zero, suc, ◌+◌, ◌<◌, ◌≤◌, true, false, eqb, List, [], ◌∷◌, length, get_or, max, refl, sym, ap, ◌∙◌, subst, ⊎_elim, arith, Some, None, eq-eqb, ne_eqb}
+use Rattle.std.proofs.lemmas.Bool.{cases_lt, cases_eq, both_ways, false_from_ne_true, cond-true, cond-false}
+use Rattle.std.proofs.lemmas.Str.{IsUtf8-from_is_utf8, is_utf8-from_IsUtf8}
+use Rattle.goblin_base.specs.declared.utf8.Awaited.{Awaited}
+use Rattle.goblin_base.specs.declared.walk.Found.TheVariants.{Whole, Fault}
+use Rattle.goblin_base.specs.Utf8.{awaits_first, after_byte}
+use Rattle.goblin_base.specs.Pieces.{piece_end, piece, is_readable}
+use Rattle.goblin_base.specs.Scan.{IsScan, NoneReadable, scan_end}
+use Rattle.goblin_base.proofs.Utf8Lemmas.{Completes, any_bounds, IsUtf8-from_Completes, Completes-from_IsUtf8}
+use Rattle.goblin_base.proofs.AwaitedLemmas.{CompletesFrom, IsInner, after_some, after_none}
+use Rattle.goblin_base.proofs.WalkLemmas.{bad_within}
+use Rattle.goblin_base.proofs.PiecesLemmas.{end_is, end_same, end_from, at_end, piece_more, piece_at_end}
+
+module _ (bytes : List ℕ) (d : ℕ) where
+  completes_if_readable : (q : ℕ) → is_readable bytes d q ≡ true → Completes 0 0x80 0xbf (piece bytes d q)
+  unfolding is_readable
+  completes_if_readable q r = Completes-from_IsUtf8 0x80 0xbf _ (IsUtf8-from_is_utf8 _ r)
+
+  readable_if_completes : (q lo hi : ℕ) → Completes 0 lo hi (piece bytes d q) → is_readable bytes d q ≡ true
+  unfolding is_readable
+  readable_if_completes q lo hi v = is_utf8-from_IsUtf8 _ (IsUtf8-from_Completes lo hi _ v)
+
+  -- what the bytes from o up to p say of the pieces there, where s is awaited
+  pub record IsScanned (o p : ℕ) (s : Awaited) : Type 0 where
+    pub from : o ≤ p
+    pub within : p ≤ length bytes
+    pub none : (k : ℕ) → o ≤ k → k < p → eqb (get_or bytes k 0) d ≡ false
+    pub inner : IsInner s
+    pub begun : p ≡ o → s.more ≡ 0
+    -- the piece at o is text if the rest of it completes s, and only then any place before p has text
+    pub back : CompletesFrom s (piece bytes d p) → is_readable bytes d o ≡ true
+    pub forth : (q : ℕ) → o ≤ q → q < p → is_readable bytes d q ≡ true → CompletesFrom s (piece bytes d p)
+
+  pub scan_starts : (o : ℕ) → o ≤ length bytes → IsScanned o o awaits_first
+  scan_starts o h = record {
+    from = omega arith;
+    within = h;
+    none = λ k p q. absurd (omega arith);
+    inner = record { least = omega arith; most = omega arith };
+    begun = λ _. refl;
+    back = λ v. readable_if_completes o 0x80 0xbf v;
+    forth = λ q l m. absurd (omega arith);
+  }
+
+  piece_at_byte : (p : ℕ) → p < length bytes → eqb (get_or bytes p 0) d ≡ false → piece bytes d p ≡ get_or bytes p 0 ∷ piece bytes d (p + 1)
+  piece_at_byte p l n = ⊎_elim
+      (λ (m : p < piece_end bytes d p). piece_more bytes d p m l)
+      (λ (m : piece_end bytes d p ≤ p).
+      let e : piece_end bytes d p ≡ p = omega (arith, end_from bytes d p) in
+      absurd (both_ways _ n (ap (λ x. eqb (get_or bytes x 0) d) (sym e) ∙ at_end bytes d p (omega arith) (omega arith))))
+      (cases_lt p (piece_end bytes d p))
+
+  pub scan_steps : (o p : ℕ) (s t : Awaited) → p < length bytes → eqb (get_or bytes p 0) d ≡ false → after_byte s (get_or bytes p 0) ≡ Some t → IsScanned o p s → IsScanned o (p + 1) t
+  scan_steps o p s t l n e h =
+      let b = get_or bytes p 0 in
+      let split = piece_at_byte p l n in
+      let step = after_some s t b h.inner e in
+      let from = h.from in
+      record {
+        from = omega arith;
+        within = omega arith;
+        none = λ k x y. ⊎_elim (λ (z : k < p). h.none k x z) (λ (z : p ≤ k). let same : k ≡ p = omega arith in ap (λ j. eqb (get_or bytes j 0) d) same ∙ n) (cases_lt k p);
+        inner = step.inner;
+        begun = λ z. absurd (omega arith);
+        back = λ v. h.back (subst (CompletesFrom s) (sym split) (step.back _ v));
+        forth = λ q x y r. ⊎_elim
+            (λ (z : q < p). step.forth _ (subst (CompletesFrom s) split (h.forth q x z r)))
+            (λ (z : p ≤ q). let same : q ≡ p = omega arith in
+            step.excludes _ (subst (Completes 0 0x80 0xbf) split (completes_if_readable p (ap (is_readable bytes d) (sym same) ∙ r))))
+            (cases_lt q p);
+      }
+
+  -- no place before p, nor the one where the attempt began, has text where the byte at p may not come
+  pub scan_faults : (o p : ℕ) (s : Awaited) → p < length bytes → eqb (get_or bytes p 0) d ≡ false → after_byte s (get_or bytes p 0) ≡ None → IsScanned o p s → IsScan bytes d o (Fault (max p (o + 1)))
+  scan_faults o p s l n e h =
+      let b = get_or bytes p 0 in
+      let split = piece_at_byte p l n in
+      let from = h.from in
+      let no : CompletesFrom s (piece bytes d p) → ⊥ = λ v. after_none s b _ e (subst (CompletesFrom s) split v) in (
+        λ q x y. false_from_ne_true _ (λ (r : is_readable bytes d q ≡ true). ⊎_elim
+            (λ (z : q < p). no (h.forth q x z r))
+            (λ (z : p ≤ q). let same : q ≡ p = omega arith in let start : p ≡ o = omega arith in
+            no (subst (λ k. Completes k s.least s.most (piece bytes d p)) (sym (h.begun start)) (any_bounds 0x80 0xbf s.least s.most _ (completes_if_readable p (ap (is_readable bytes d) (sym same) ∙ r)))))
+            (cases_lt q p)),
+        omega arith,
+        omega arith,
+      )
+
+  -- where the piece ends, it is text if no byte is missing, and else no place of it has text
+  pub scan_ends : (o p : ℕ) (s : Awaited) → (p < length bytes → eqb (get_or bytes p 0) d ≡ true) → IsScanned o p s → IsScan bytes d o (scan_end s p)
+  scan_ends o p s there h =
+      let from = h.from in
+      let within = h.within in
+      let same = end_is bytes d o p h.from h.within h.none there in
+      let last : piece_end bytes d p ≡ p = end_is bytes d p p (omega arith) within (λ k x y. absurd (omega arith)) there in
+      let empty = piece_at_end bytes d p last in
+      ⊎_elim
+      (λ (e : s.more ≡ 0). subst (IsScan bytes d o) (sym (cond-true _ (Whole p) (Fault p) (eq-eqb _ _ e))) (
+        h.back (subst (CompletesFrom s) (sym empty) (subst (λ k. Completes k s.least s.most []) (sym e) tt)),
+        sym same,
+        from,
+        within,
+      ))
+      (λ (e : s.more ≡ 0 → ⊥). subst (IsScan bytes d o) (sym (cond-false _ (Whole p) (Fault p) (ne_eqb _ _ e))) (
+        λ q x y. false_from_ne_true _ (λ (r : is_readable bytes d q ≡ true). missing s e (subst (CompletesFrom s) empty (h.forth q x y r))),
+        ⊎_elim (λ (z : o < p). z) (λ (z : p ≤ o). absurd (e (h.begun (omega arith)))) (cases_lt o p),
+        within,
+      ))
+      (cases_eq s.more 0)
+    where
+      none_missing : (n lo hi : ℕ) → Completes n lo hi [] → n ≡ 0
+      none_missing zero lo hi v = refl
+      none_missing (suc n) lo hi v = absurd v
+
+      missing : (s : Awaited) → (s.more ≡ 0 → ⊥) → CompletesFrom s [] → ⊥
+      missing s e v = e (none_missing s.more s.least s.most v)
+
+-- what an attempt inside a piece found, of bytes that it left as they were
+module _ (bytes seen : List ℕ) (d from end i : ℕ) (same : seen ≡ bytes) (is_end : end ≡ piece_end bytes d from) (l : from ≤ i) (m : i ≤ end) (n : end ≤ length bytes) where
+  same_end : piece_end bytes d i ≡ end
+  same_end = end_same bytes d from i (omega arith) l (omega (arith, is_end)) ∙ sym is_end
+
+  pub attempt_whole : (e : ℕ) → IsScan seen d i (Whole e) → (is_readable bytes d i ≡ true) × (e ≡ piece_end bytes d i) × (e ≡ end)
+  attempt_whole e h = let found : IsScan bytes d i (Whole e) = subst (λ bs. IsScan bs d i (Whole e)) same h in (found.0, found.1, found.1 ∙ same_end)
+
+  pub attempt_fault : (next : ℕ) → IsScan seen d i (Fault next) → NoneReadable bytes d i next × (i < next) × (next ≤ end)
+  attempt_fault next h =
+      let found : IsScan bytes d i (Fault next) = subst (λ bs. IsScan bs d i (Fault next)) same h in
+      (found.0, found.1, omega (arith, same_end, bad_within bytes d i next found.2 found.0 (omega arith)))

@@ -1,0 +1,53 @@
+use Rattle.std.proofs.Common.{◌≡◌, ℕ, ◌+◌, ◌-◌, ◌/◌, ◌<◌, ◌≤◌, ⊎_elim, List, length, slice_index, sym, ap, subst, ◌∙◌, arith}
+use Rattle.std.proofs.lemmas.Bool.{cases_lt}
+use Rattle.goblin_base.specs.Search.{IsRising, digits}
+use Rattle.goblin_base.proofs.DigitsLemmas.{digits_step}
+use Rattle.goblin_base.proofs.find.find.Goals as goal
+
+-- what is known of the place in the middle holds of all places on that side
+to_the_left : (ps : List ℕ) (m o : ℕ) → IsRising ps → m < length ps → slice_index ps m ≤ o → (k : ℕ) → k < m + 1 → slice_index ps k ≤ o
+to_the_left ps m o rising within here k h = ⊎_elim
+    (λ (l : k < m). omega (arith, rising k m l within))
+    (λ (l : m ≤ k). let e : k ≡ m = omega arith in subst (λ x. slice_index ps x ≤ o) (sym e) here)
+    (cases_lt k m)
+
+to_the_right : (ps : List ℕ) (m o : ℕ) → IsRising ps → o < slice_index ps m → (k : ℕ) → m ≤ k → k < length ps → o < slice_index ps k
+to_the_right ps m o rising here k h within = ⊎_elim
+    (λ (l : m < k). omega (arith, rising m k l within))
+    (λ (l : k ≤ m). let e : k ≡ m = omega arith in subst (λ x. o < slice_index ps x) (sym e) here)
+    (cases_lt m k)
+
+pub loop-low-preserved-then-at-offset : goal.loop-low-preserved-then-at-offset
+loop-low-preserved-then-at-offset c =
+    let s = c.loop-low in
+    let m = s.low + (s.high - s.low) / 2 in
+    let e : c.at.new.self.places ≡ s.view.places = ap (λ v. v.places) c.at.ensures.counted in
+    let n = ap (λ v. v.count) c.at.ensures.counted in
+    let rising : IsRising s.view.places = subst IsRising (sym s.invariant.same) c.len-high.ensures.rising in
+    let inside : m < length s.view.places = omega arith in
+    let here : slice_index s.view.places m ≤ c.args.offset = omega (arith, c.at.ensures.value, c.if-at-offset.true) in
+    record {
+      same = e ∙ s.invariant.same;
+      ordered = omega arith;
+      within = omega (arith, ap length e);
+      before = subst (λ ps. (k : ℕ) → k < m + 1 → slice_index ps k ≤ c.args.offset) (sym e) (to_the_left s.view.places m c.args.offset rising inside here);
+      after = subst (λ ps. (k : ℕ) → s.high ≤ k → k < length ps → c.args.offset < slice_index ps k) (sym e) s.invariant.after;
+      probes = omega (arith, n, ap length e, digits_step (s.high - s.low) (s.high - (m + 1)) (omega arith) (omega arith), s.invariant.probes, ap (λ ps. digits (length ps)) e);
+    }
+
+pub loop-low-preserved : goal.loop-low-preserved
+loop-low-preserved c =
+    let s = c.loop-low in
+    let m = s.low + (s.high - s.low) / 2 in
+    let e : c.at.new.self.places ≡ s.view.places = ap (λ v. v.places) c.at.ensures.counted in
+    let n = ap (λ v. v.count) c.at.ensures.counted in
+    let rising : IsRising s.view.places = subst IsRising (sym s.invariant.same) c.len-high.ensures.rising in
+    let here : c.args.offset < slice_index s.view.places m = omega (arith, c.at.ensures.value, c.if-at-offset.false) in
+    record {
+      same = e ∙ s.invariant.same;
+      ordered = omega arith;
+      within = omega (arith, ap length e);
+      before = subst (λ ps. (k : ℕ) → k < s.low → slice_index ps k ≤ c.args.offset) (sym e) s.invariant.before;
+      after = subst (λ ps. (k : ℕ) → m ≤ k → k < length ps → c.args.offset < slice_index ps k) (sym e) (to_the_right s.view.places m c.args.offset rising here);
+      probes = omega (arith, n, ap length e, digits_step (s.high - s.low) (m - s.low) (omega arith) (omega arith), s.invariant.probes, ap (λ ps. digits (length ps)) e);
+    }

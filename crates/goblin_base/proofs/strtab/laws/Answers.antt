@@ -1,0 +1,14 @@
+use Rattle.goblin_base.proofs.LawLemmas.{text_is_utf8, closed_form, joins_again, permissive_accepts, strict_is_permissive, look_up_has_plain, strict_look_up_is_plain, depends_on_range}
+use Rattle.goblin_base.proofs.strtab.laws.Goals as goal
+
+pub returns : goal.returns
+returns c = record {
+  text_is_utf8 = text_is_utf8;
+  closed_form = closed_form;
+  joins_again = joins_again;
+  permissive_accepts = permissive_accepts;
+  strict_is_permissive = strict_is_permissive;
+  look_up_has_plain = look_up_has_plain;
+  strict_look_up_is_plain = strict_look_up_is_plain;
+  depends_on_range = depends_on_range;
+}

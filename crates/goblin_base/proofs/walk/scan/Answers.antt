@@ -1,0 +1,44 @@
+use Rattle.std.proofs.Common.{◌≡◌, length, get_or, slice_index, false, eqb, sym, ap, subst, ◌∙◌, refl, arith}
+use Rattle.std.proofs.lemmas.Bool.{eq-eqb, ne_eqb}
+use Rattle.goblin_base.specs.Utf8.{after_byte}
+use Rattle.goblin_base.specs.Scan.{IsScan}
+use Rattle.goblin_base.specs.declared.walk.Found.TheVariants.{Fault}
+use Rattle.goblin_base.proofs.ScanLemmas.{scan_starts, scan_steps, scan_faults, scan_ends}
+use Rattle.goblin_base.proofs.walk.scan.Goals as goal
+
+pub loop-at-init : goal.loop-at-init
+loop-at-init c = record {
+  same = refl;
+  looks = omega arith;
+  scanned = rw c.first-awaited.ensures (scan_starts c.args.view.now.bytes c.args.delim c.args.from (omega arith));
+}
+
+pub returns-then-byte-delim-clause-found : goal.returns-then-byte-delim-clause-found
+returns-then-byte-delim-clause-found c =
+    let i = c.loop-at.invariant in
+    let byte : c.at-byte.result ≡ get_or c.args.view.now.bytes c.loop-at.at 0 = c.at-byte.ensures.value ∙ ap (λ bs. slice_index bs c.loop-at.at) i.same in
+    rw c.ended.ensures (scan_ends c.args.view.now.bytes c.args.delim c.args.from c.loop-at.at c.loop-at.awaited (λ _. eq-eqb _ _ (sym byte ∙ c.if-byte-delim.true)) i.scanned)
+
+pub returns-in-None-clause-found : goal.returns-in-None-clause-found
+returns-in-None-clause-found c =
+    let i = c.loop-at.invariant in
+    let byte : c.at-byte.result ≡ get_or c.args.view.now.bytes c.loop-at.at 0 = c.at-byte.ensures.value ∙ ap (λ bs. slice_index bs c.loop-at.at) i.same in
+    let test : eqb (get_or c.args.view.now.bytes c.loop-at.at 0) c.args.delim ≡ false = ne_eqb _ _ (λ (e : get_or c.args.view.now.bytes c.loop-at.at 0 ≡ c.args.delim). c.if-byte-delim.false (byte ∙ e)) in
+    subst (λ k. IsScan c.args.view.now.bytes c.args.delim c.args.from (Fault k)) (sym c.max.ensures)
+    (scan_faults c.args.view.now.bytes c.args.delim c.args.from c.loop-at.at c.loop-at.awaited (omega (arith, ap length i.same)) test (ap (after_byte c.loop-at.awaited) (sym byte) ∙ sym c.in-None.ensures) i.scanned)
+
+pub loop-at-preserved : goal.loop-at-preserved
+loop-at-preserved c =
+    let i = c.loop-at.invariant in
+    let byte : c.at-byte.result ≡ get_or c.args.view.now.bytes c.loop-at.at 0 = c.at-byte.ensures.value ∙ ap (λ bs. slice_index bs c.loop-at.at) i.same in
+    let test : eqb (get_or c.args.view.now.bytes c.loop-at.at 0) c.args.delim ≡ false = ne_eqb _ _ (λ (e : get_or c.args.view.now.bytes c.loop-at.at 0 ≡ c.args.delim). c.if-byte-delim.false (byte ∙ e)) in
+    record {
+      same = ap (λ v. v.bytes) c.at-byte.ensures.counted ∙ i.same;
+      looks = omega (arith, ap (λ v. v.count) c.at-byte.ensures.counted, i.scanned.from);
+      scanned = scan_steps c.args.view.now.bytes c.args.delim c.args.from c.loop-at.at c.loop-at.awaited c.in-Some.next (omega (arith, ap length i.same)) test (ap (after_byte c.loop-at.awaited) (sym byte) ∙ sym c.in-Some.ensures) i.scanned;
+    }
+
+pub returns-clause-found : goal.returns-clause-found
+returns-clause-found c =
+    let i = c.loop-at.invariant in
+    rw c.ended-2.ensures (scan_ends c.args.view.now.bytes c.args.delim c.args.from c.loop-at.at c.loop-at.awaited (λ h. absurd (omega (arith, ap length i.same, h))) i.scanned)

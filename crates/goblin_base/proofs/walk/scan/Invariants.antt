@@ -1,0 +1,13 @@
+use Rattle.std.proofs.Common.{◌≡◌, ◌+◌, ◌-◌, ◌≤◌, length}
+use Rattle.goblin_base.proofs.ScanLemmas.{IsScanned}
+use Rattle.goblin_base.proofs.walk.scan.Given as goal
+
+abbrev pub invariant-loop-at : goal.invariant-loop-at
+invariant-loop-at l = record {
+  same : l.view.bytes ≡ l.fn.view.bytes;
+  looks : l.view.count ≤ l.fn.view.count + (l.at - l.from);
+  scanned : IsScanned l.fn.view.bytes l.delim l.from l.at l.awaited;
+}
+
+abbrev pub decreases-loop-at : goal.decreases-loop-at
+decreases-loop-at l = length l.view.bytes - l.at

@@ -1,0 +1,93 @@
+use Rattle.std.proofs.Common.{◌≡◌, ◌+◌, ◌-◌, ◌*◌, ◌<◌, ◌≤◌, ℕ, List, min, true, false, length, refl, sym, ap, subst, ◌∙◌, Ok, Err, arith}
+use Rattle.std.proofs.lemmas.Bool.{false≢true}
+use Rattle.std.specs.Str.{IsUtf8}
+use Rattle.std.specs.List.{slice_range}
+use Rattle.goblin_base.specs.Entries.{entries_between}
+use Rattle.goblin_base.specs.Pieces.{piece_end, is_readable}
+use Rattle.goblin_base.specs.Strtab.{walked}
+use Rattle.goblin_base.specs.Utf8.{invalid_utf8}
+use Rattle.goblin_base.proofs.EntriesLemmas.{walked_none, walked_text}
+use Rattle.goblin_base.proofs.SoFarLemmas.{IsTextSoFar, readable_from_text, bad_from_fault, text_so_far_none, text_so_far_more, nothing_passed, walked_fault, walked_all, strict_if_not_permissive, found_all}
+use Rattle.goblin_base.proofs.walk.walk.Goals as goal
+
+-- what a test of the piece at i says, of bytes that were left as they were
+readable_here : (bytes seen then : List ℕ) (d i e : ℕ) → seen ≡ bytes → then ≡ seen → e ≡ piece_end seen d i → IsUtf8 (slice_range then i e) → (e ≡ piece_end bytes d i) × (is_readable bytes d i ≡ true)
+readable_here bytes seen then d i e same unchanged is u =
+    let end : e ≡ piece_end bytes d i = is ∙ ap (λ bs. piece_end bs d i) same in
+    (end, readable_from_text bytes d i e end (subst (λ bs. IsUtf8 (slice_range bs i e)) (unchanged ∙ same) u))
+
+bad_here : (bytes seen then : List ℕ) (d i e : ℕ) → seen ≡ bytes → then ≡ seen → e ≡ piece_end seen d i → ¬ (IsUtf8 (slice_range then i e)) → is_readable bytes d i ≡ false
+bad_here bytes seen then d i e same unchanged is u =
+    bad_from_fault bytes d i e (is ∙ ap (λ bs. piece_end bs d i) same) (subst (λ bs. ¬ (IsUtf8 (slice_range bs i e))) (unchanged ∙ same) u)
+
+pub loop-i-init : goal.loop-i-init
+loop-i-init c = record {
+  same = refl;
+  within = omega arith;
+  walked = rw c.new-places.ensures.items (walked_none c.args.view.now.bytes c.args.delim);
+  strict = λ _. text_so_far_none c.args.view.now.bytes c.args.delim;
+  looks = omega arith;
+}
+
+pub returns-in_err-push-clause-first : goal.returns-in_err-push-clause-first
+returns-in_err-push-clause-first c = λ m r.
+    let s = c.loop-i.invariant in
+    let bytes = c.args.view.now.bytes in
+    let d = c.args.delim in
+    let i = c.loop-i.i in
+    let here = readable_here bytes _ _ d i _ s.same c.end_of_piece-end.ensures.unchanged c.end_of_piece-end.ensures.value (c.if-text.ensures.value.0 refl) in
+    let in_range : i < length bytes = omega (arith, ap length s.same, c.len.ensures.value, c.loop-i-test.true) in
+    let none = nothing_passed bytes d (piece_end bytes d i + 1) r (text_so_far_more bytes d i in_range here.1 (s.strict m)) in
+    absurd (omega (arith, none.0))
+
+pub loop-i-preserved-then-text : goal.loop-i-preserved-then-text
+loop-i-preserved-then-text c =
+    let s = c.loop-i.invariant in
+    let bytes = c.args.view.now.bytes in
+    let d = c.args.delim in
+    let i = c.loop-i.i in
+    let e = c.end_of_piece-end.ensures in
+    let here = readable_here bytes _ _ d i _ s.same e.unchanged e.value (c.if-text.ensures.value.0 refl) in
+    let in_range : i < length bytes = omega (arith, ap length s.same, c.len.ensures.value, c.loop-i-test.true) in
+    record {
+      same = ap (λ v. v.bytes) c.text.ensures.counted ∙ e.unchanged ∙ s.same;
+      within = omega (arith, e.within, ap length s.same);
+      walked = walked_text bytes d _ _ i c.end_of_piece-end.result in_range e.ordered (omega (arith, e.within, ap length s.same)) here.0 here.1 c.in_ok-push.ensures.items s.walked;
+      strict = λ m. subst (λ k. IsTextSoFar bytes d (k + 1)) (sym here.0) (text_so_far_more bytes d i in_range here.1 (s.strict m));
+      looks = omega (arith, ap (λ v. v.count) c.text.ensures.counted, e.looks, e.within, e.ordered, s.looks, ap length s.same);
+    }
+
+pub returns-else-is_permissive-clause-given : goal.returns-else-is_permissive-clause-given
+returns-else-is_permissive-clause-given c = λ _.
+    let s = c.loop-i.invariant in
+    let bytes = c.args.view.now.bytes in
+    let d = c.args.delim in
+    let i = c.loop-i.i in
+    let e = c.end_of_piece-end.ensures in
+    let here = bad_here bytes _ _ d i _ s.same e.unchanged e.value (λ u. false≢true (c.if-text.ensures.value.1 u)) in
+    let in_range : i < length bytes = omega (arith, ap length s.same, c.len.ensures.value, c.loop-i-test.true) in
+    let n : c.len-else-is_permissive.result ≡ length bytes = c.len-else-is_permissive.ensures.value ∙ ap length (ap (λ v. v.bytes) c.text.ensures.counted ∙ e.unchanged ∙ s.same) in
+    let strict = strict_if_not_permissive c.args.mode c.if-is_permissive.ensures.1 in
+    ap (λ m. walked m bytes d) strict ∙ walked_fault bytes d i in_range here (s.strict strict) ∙ ap (λ k. Err (invalid_utf8 (k - i))) (sym n) ∙ ap Err (sym c.invalid_utf8.ensures)
+
+pub returns-else-is_permissive-clause-first : goal.returns-else-is_permissive-clause-first
+returns-else-is_permissive-clause-first c = λ m r.
+    let s = c.loop-i.invariant in
+    let bytes = c.args.view.now.bytes in
+    let n : c.len-else-is_permissive.result ≡ length bytes = c.len-else-is_permissive.ensures.value ∙ ap length (ap (λ v. v.bytes) c.text.ensures.counted ∙ c.end_of_piece-end.ensures.unchanged ∙ s.same) in
+    let none = nothing_passed bytes c.args.delim c.loop-i.i r (s.strict m) in
+    let all : c.len-else-is_permissive.result - c.loop-i.i ≡ length bytes = omega (arith, n, none.0) in
+    c.invalid_utf8.ensures ∙ ap invalid_utf8 all
+
+pub returns-clause-given : goal.returns-clause-given
+returns-clause-given c =
+    let i = c.loop-i.invariant in
+    let past : length c.args.view.now.bytes ≤ c.loop-i.i = omega (arith, ap length i.same, c.len.ensures.value, c.loop-i-test.false) in
+    walked_all c.args.view.now.bytes c.args.delim c.args.mode c.loop-i.i past i.strict ∙ ap Ok (sym (c.entries.ensures ∙ ap (λ bs. entries_between bs c.loop-i.places.items c.loop-i.i) i.same ∙ found_all c.args.view.now.bytes c.args.delim _ c.loop-i.i past i.walked.found))
+
+pub returns-clause-first : goal.returns-clause-first
+returns-clause-first c = λ m r.
+    let i = c.loop-i.invariant in
+    let past : length c.args.view.now.bytes ≤ c.loop-i.i = omega (arith, ap length i.same, c.len.ensures.value, c.loop-i-test.false) in
+    let none = nothing_passed c.args.view.now.bytes c.args.delim c.loop-i.i r (i.strict m) in
+    absurd (omega (arith, none.0, none.1))

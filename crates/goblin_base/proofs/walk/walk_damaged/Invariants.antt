@@ -1,0 +1,18 @@
+use Rattle.std.proofs.Common.{◌≡◌, ◌+◌, ◌-◌, ◌*◌, ◌≤◌, length}
+use Rattle.goblin_base.specs.Scan.{IsWalkedTo}
+use Rattle.goblin_base.proofs.walk.walk_damaged.Given as goal
+
+abbrev pub invariant-loop-i : goal.invariant-loop-i
+invariant-loop-i l = record {
+  same : l.view.bytes ≡ l.fn.view.bytes;
+  from : l.from ≤ l.i;
+  within : l.i ≤ l.end;
+  walked : IsWalkedTo l.fn.view.bytes l.delim l.places.items l.i;
+  looks : l.view.count ≤ l.fn.view.count + 2 * (l.i - l.from);
+}
+
+abbrev pub decreases-loop-i : goal.decreases-loop-i
+decreases-loop-i l = l.end - l.i
+
+abbrev pub invariant-loop-place : goal.invariant-loop-place
+invariant-loop-place l = IsWalkedTo l.fn.view.bytes l.delim l.places.items l.place

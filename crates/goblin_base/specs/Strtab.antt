@@ -1,0 +1,66 @@
+-- A string table: which bytes it has, and what its calls answer (System V gABI, "String Table").
+use Rattle.std.specs.Prelude.{ℕ, ◌+◌, ◌-◌, ◌^◌, Bool, true, List, [], map, length, take, drop, nat_lt, nat_le, if◌then◌else◌, Option, Some, None, Result, Ok, Err}
+use Rattle.goblin_base.specs.declared.error.Fault.{Fault}
+use Rattle.goblin_base.specs.declared.error.Fault.TheVariants.{StrtabOffset, StrtabRange}
+use Rattle.goblin_base.specs.declared.options.ParseMode.{ParseMode}
+use Rattle.goblin_base.specs.declared.options.ParseMode.TheVariants.{Strict, Permissive}
+use Rattle.goblin_base.specs.Entries.{text_of}
+use Rattle.goblin_base.specs.Pieces.{piece, entries, first_bad, text_at}
+use Rattle.goblin_base.specs.Refusal.{Refusal, malformed}
+use Rattle.goblin_base.specs.Steps.{◌>>=◌, refuse_as}
+use Rattle.goblin_base.specs.Utf8.{invalid_utf8, text_or_fault}
+
+-- its bytes, the byte that cuts them into strings, and whether it was parsed and so has entries
+pub record StringTable : Type 0 where
+  pub bytes : List ℕ
+  pub delim : ℕ
+  pub is_parsed : Bool
+
+-- what is done with a fault of the range: strict mode refuses by it, permissive mode goes on with these bytes
+abbrev pub or_cut : ParseMode → Fault → List ℕ → Result (List ℕ) Fault
+or_cut Strict fault bytes = Err fault
+or_cut Permissive fault bytes = Ok bytes
+
+-- the bytes of a table whose `size` bytes are asked for at an offset of the file; permissive mode cuts them to the file
+unfoldable pub range_in : ParseMode → List ℕ → ℕ → ℕ → Result (List ℕ) Fault
+range_in mode file offset size =
+    if nat_lt (length file) offset then or_cut mode (StrtabOffset offset (length file)) []
+    else if nat_lt (length file) (offset + size)
+    then or_cut mode (StrtabRange size offset (length file) (nat_le (2 ^ 64) (offset + size))) (drop offset file)
+    else Ok (take size (drop offset file))
+
+-- what a walk gives: the entries, or in strict mode the fault of the first whole piece that is no text
+unfoldable pub walked : ParseMode → List ℕ → ℕ → Result (List (ℕ × List ℕ)) Refusal
+walked Permissive bytes delim = Ok (entries bytes delim)
+walked Strict bytes delim =
+    if nat_lt (first_bad bytes delim) (length bytes) then Err (invalid_utf8 (length bytes - first_bad bytes delim))
+    else Ok (entries bytes delim)
+
+-- the table of all these bytes
+abbrev pub table_of : ParseMode → List ℕ → ℕ → Result StringTable Refusal
+table_of mode bytes delim = do
+  _ ← walked mode bytes delim
+  Ok (record { bytes = bytes; delim = delim; is_parsed = true })
+
+-- the table of a range of the file: the fault of the range comes first
+unfoldable pub strtab_of : ParseMode → List ℕ → ℕ → ℕ → ℕ → Result StringTable Refusal
+strtab_of mode file offset size delim = do
+  range ← refuse_as malformed (range_in mode file offset size)
+  table_of mode range delim
+
+-- the plain reading at an offset: the piece there, or the fault of bytes that are no text
+abbrev pub plain : List ℕ → ℕ → ℕ → Result (List ℕ) Refusal
+plain bytes delim offset = text_or_fault (piece bytes delim offset) (length bytes - offset)
+
+-- the look-up at an offset: a table that was not parsed has nothing
+abbrev pub look_up : StringTable → ℕ → Option (List ℕ)
+look_up table offset = if table.is_parsed then text_at table.bytes table.delim offset else None
+
+-- the strings of entries, of any answer
+abbrev pub texts_of : Result (List (ℕ × List ℕ)) Refusal → Result (List (List ℕ)) Refusal
+texts_of (Ok es) = Ok (map text_of es)
+texts_of (Err e) = Err e
+
+-- the strings of a table: of its entries, or where it was not parsed of a strict walk
+abbrev pub strings_of : StringTable → Result (List (List ℕ)) Refusal
+strings_of table = texts_of (if table.is_parsed then Ok (entries table.bytes table.delim) else walked Strict table.bytes table.delim)

@@ -1,0 +1,26 @@
+//! A place among sorted places, by halves.
+ghost use Rattle.std.specs.Prelude.{◌≡◌, ◌+◌, ◌≤◌, length};
+ghost use Rattle.goblin_base.specs.Search.{FindsLast, digits};
+
+use crate::entries::Probes;
+
+/// The index of the last place at or before the offset, or `None` where there is none.
+///
+/// It reads at most as many places as the number of places has binary digits.
+pub fn find(view: &mut Probes<'_>, offset: usize) -> Option<usize>
+    ensures found { FindsLast view.old.places offset result }
+    ensures unchanged { view.new.places ≡ view.old.places }
+    ensures probes { view.new.count ≤ view.old.count + digits (length view.old.places) }
+{
+    let mut low = 0;
+    let mut high = view.len();
+    while low < high {
+        let middle = low + (high - low) / 2;
+        if view.at(middle) <= offset {
+            low = middle + 1;
+        } else {
+            high = middle;
+        }
+    }
+    if low == 0 { None } else { Some(low - 1) }
+}

@@ -1,0 +1,332 @@
+//! String tables, which are indexed by byte offsets: System V gABI, "String Table".
+ghost use Rattle.std.specs.Prelude.{◌≡◌, ◌+◌, ◌<◌, ◌≤◌, ◌↔◌, [], true, false, drop, length, map};
+ghost use Rattle.std.specs.Prelude.{nat_lt, position, ◌==◌, if◌then◌else◌, Some, None, Ok};
+ghost use Rattle.std.specs.Prelude.{IfErr, IfOk, IfSome, IsNone, IsOk, MatchOption, MatchResult, EachIndex, alloc_error, slice_index, slice_range};
+ghost use Rattle.std.specs.Option.{option_map};
+ghost use Rattle.std.specs.Str.{IsCharBoundary};
+ghost use Rattle.goblin_base.specs.Entries.{places_of, text_of};
+ghost use Rattle.goblin_base.specs.Pieces.{piece};
+ghost use Rattle.goblin_base.specs.Refusal.{Answers, Gives};
+ghost use Rattle.goblin_base.specs.Search.{IsLastUpTo};
+ghost use Rattle.goblin_base.specs.Strtab.{look_up, plain, range_in, strings_of, strtab_of, table_of, texts_of};
+ghost use Rattle.goblin_base.specs.StrtabLaws.{ClosedForm, DependsOnRange, JoinsAgain, LookUpHasPlain, PermissiveAccepts, StrictIsPermissive, StrictLookUpIsPlain, TextIsUtf8};
+
+use crate::entries::{Entries, Looked, Probes};
+use crate::error::{Error, Fault, Result};
+use crate::find::find;
+use crate::options::{ParseMode, ParseOptions};
+use crate::utf8::read_text;
+use crate::walk::walk;
+use std::alloc::Global;
+use std::marker::Model;
+use std::result;
+
+/// Bytes that a delimiter cuts into strings, which are asked for by their offsets.
+///
+/// A table that is parsed keeps the places of its entries; one that is not has none.
+#[derive(Debug, Drop)]
+pub struct Strtab<'a> {
+    delim: u8,
+    bytes: &'a [u8],
+    entries: Option<Entries<'a>>,
+}
+
+// A string table is seen as its bytes, its delimiter and whether it was parsed. Its entries follow.
+impl<'a> Model for Strtab<'a> {
+    ghost use Rattle.std.specs.Prelude.{◌≡◌, IfSome};
+    ghost use Rattle.std.specs.Option.{is_some};
+    ghost use Rattle.goblin_base.specs.Pieces.{entries as entries_of};
+    ghost use Rattle.goblin_base.specs.Strtab.{StringTable};
+
+    ghost Value = { StringTable };
+
+    ghost view = { λ t. record { bytes = t.bytes.now; delim = t.delim; is_parsed = is_some t.entries } };
+
+    ghost invariant = { λ t. IfSome t.entries (λ es. es ≡ entries_of t.bytes.now t.delim) };
+}
+
+// The piece at an offset, or the fault of bytes that are no text.
+fn get_str(offset: usize, bytes: &[u8], delim: u8) -> Result<&str>
+    requires { offset ≤ length bytes.now }
+    ensures { Answers (λ text. text.now) result (plain bytes.now delim offset) }
+{
+    let rest = &bytes[offset..];
+    let len = position(rest, delim).unwrap_or(rest.len());
+    read_text(&rest[..len], rest.len())
+}
+
+// Where the delimiter stands first.
+fn position(bytes: &[u8], delim: u8) -> Option<usize>
+    ensures { result ≡ position (λ b. b == delim) bytes.now }
+{
+    bytes.iter().position(|b| *b == delim)
+}
+
+impl<'a> Strtab<'a> {
+    /// The table of all the bytes, which is not parsed.
+    pub fn new(bytes: &'a [u8], delim: u8) -> Self
+        ensures { result ≡ record { bytes = bytes.now; delim = delim; is_parsed = false } }
+    {
+        Self::from_slice_unparsed(bytes, 0, bytes.len(), delim)
+    }
+
+    /// How many bytes there are.
+    pub fn len(&self) -> usize
+        ensures { result ≡ length self.now.bytes }
+    {
+        self.bytes.len()
+    }
+
+    /// The table of `len` bytes from an offset on, which is not parsed.
+    pub fn from_slice_unparsed(bytes: &'a [u8], offset: usize, len: usize, delim: u8) -> Self
+        requires { offset + len ≤ length bytes.now }
+        ensures { result ≡ record {
+          bytes = slice_range bytes.now offset (offset + len);
+          delim = delim;
+          is_parsed = false;
+        } }
+    {
+        Strtab {
+            delim,
+            bytes: &bytes[offset..offset + len],
+            entries: None,
+        }
+    }
+
+    /// The piece at an offset, or `None` from `len()` on.
+    ///
+    /// The piece goes on to the first delimiter, or to the end. It must be text, which `get` tests.
+    pub fn get_unsafe(&self, offset: usize) -> Option<&'a str>
+        requires { offset < length self.now.bytes
+            → IsOk (plain self.now.bytes self.now.delim offset) }
+        ensures { option_map (λ text. text.now) result
+            ≡ (if nat_lt offset (length self.now.bytes)
+            then Some (piece self.now.bytes self.now.delim offset)
+            else None) }
+    {
+        if offset >= self.bytes.len() {
+            None
+        } else {
+            Some(get_str(offset, self.bytes, self.delim).unwrap())
+        }
+    }
+
+    /// The table of `len` bytes of a file from an offset on, each piece of which must be text: that of
+    /// `parse_with_opts` in strict mode.
+    pub fn parse(
+        alloc: Global,
+        bytes: &'a [u8],
+        offset: usize,
+        len: usize,
+        delim: u8,
+    ) -> Result<Self>
+        ensures given { let right = strtab_of ParseMode.Strict bytes.now offset len delim in
+            Gives (λ table. table) result right }
+        ensures range { IfErr (range_in ParseMode.Strict bytes.now offset len)
+            (λ fault. result ≡ Err (Error.Malformed fault)) }
+        ensures none { (range_in ParseMode.Strict bytes.now offset len ≡ Ok []) → IsOk result }
+    {
+        Self::parse_with_opts(alloc, bytes, offset, len, delim, &ParseOptions::strict())
+    }
+
+    /// The table of `len` bytes of a file from an offset on.
+    ///
+    /// In strict mode an offset past the file's end is a `StrtabOffset`; else an end past the file's end, or
+    /// past `usize`, is a `StrtabRange`; else the first piece that is no text is a `BadInput`, whose size is
+    /// the number of bytes from there to the table's end. In permissive mode nothing but want of memory is
+    /// refused: the range is cut to the file, and where a piece is no text the bytes are entries with no
+    /// text, up to where a text begins.
+    ///
+    /// The range is tested before memory is taken, and a table of no bytes takes none. Want of memory for
+    /// an entry comes before a later piece's fault.
+    pub fn parse_with_opts(
+        alloc: Global,
+        bytes: &'a [u8],
+        offset: usize,
+        len: usize,
+        delim: u8,
+        opts: &ParseOptions,
+    ) -> Result<Self>
+        ensures given { let right = strtab_of opts.now.parse_mode bytes.now offset len delim in
+            Gives (λ table. table) result right }
+        ensures range { IfErr (range_in opts.now.parse_mode bytes.now offset len)
+            (λ fault. result ≡ Err (Error.Malformed fault)) }
+        ensures none { (range_in opts.now.parse_mode bytes.now offset len ≡ Ok []) → IsOk result }
+    {
+        match range(bytes, offset, len, opts.parse_mode) {
+            Ok(bytes) => Self::of_bytes(alloc, bytes, delim, opts.parse_mode),
+            Err(fault) => Err(Error::Malformed(fault)),
+        }
+    }
+
+    // The parsed table of all the bytes.
+    fn of_bytes(alloc: Global, bytes: &'a [u8], delim: u8, mode: ParseMode) -> Result<Self>
+        ensures given { Gives (λ table. table) result (table_of mode bytes.now delim) }
+        ensures none { (bytes.now ≡ []) → IsOk result }
+    {
+        let entries = walk(alloc, &mut Looked::new(bytes), delim, mode)?;
+        Ok(Strtab {
+            delim,
+            bytes,
+            entries: Some(entries),
+        })
+    }
+
+    /// The table of all the bytes, each piece of which must be text: that of `parse`.
+    pub fn new_preparsed(alloc: Global, bytes: &'a [u8], delim: u8) -> Result<Self>
+        ensures given { let right = table_of ParseMode.Strict bytes.now delim in
+            Gives (λ table. table) result right }
+        ensures none { (bytes.now ≡ []) → IsOk result }
+    {
+        Self::parse(alloc, bytes, 0, bytes.len(), delim)
+    }
+
+    /// The strings of the table: the texts of its entries, or where it was not parsed those of a strict
+    /// walk, whose fault is a `BadInput`.
+    pub fn to_vec(&self, alloc: Global) -> Result<Vec<&'a str>>
+        ensures given { Gives (λ v. map (λ text. text.now) v.items) result (strings_of self.now) }
+        ensures none { (self.now.bytes ≡ []) → IsOk result }
+    {
+        match &self.entries {
+            Some(entries) => texts(alloc, entries),
+            None => texts(
+                alloc,
+                &walk(
+                    alloc,
+                    &mut Looked::new(self.bytes),
+                    self.delim,
+                    ParseMode::Strict,
+                )?,
+            ),
+        }
+    }
+
+    /// The rest of the string round an offset: of the last entry at or before it, from the offset on.
+    ///
+    /// It is `None` from `len()` on, inside a character, and for every offset of a table that was not parsed.
+    pub fn get_at(&self, offset: usize) -> Option<&'a str>
+        ensures { option_map (λ text. text.now) result ≡ look_up self.now offset }
+    {
+        if offset >= self.bytes.len() {
+            return None;
+        }
+        let entries = self.entries.as_ref()?;
+        let (k, place) = last_entry(entries, offset)?;
+        rest_of(entries.text(k), offset - place)
+    }
+
+    /// The piece at an offset, or `None` from `len()` on. A piece that is no text is a `BadInput`, whose size
+    /// is the number of bytes from the offset on.
+    pub fn get(&self, offset: usize) -> Option<Result<&'a str>>
+        ensures past { IsNone result ↔ (length self.now.bytes ≤ offset) }
+        ensures read { IfSome result (λ piece. let right = plain self.now.bytes self.now.delim offset in
+            Answers (λ text. text.now) piece right) }
+    {
+        if offset >= self.bytes.len() {
+            None
+        } else {
+            Some(get_str(offset, self.bytes, self.delim))
+        }
+    }
+
+    /// The piece at an offset, which must be below `len()` and have a piece that is text. `get` tests both.
+    pub fn index(&self, offset: usize) -> &'a str
+        requires within { offset < length self.now.bytes }
+        requires text { IsOk (plain self.now.bytes self.now.delim offset) }
+        ensures { result.now ≡ piece self.now.bytes self.now.delim offset }
+    {
+        get_str(offset, self.bytes, self.delim).unwrap()
+    }
+}
+
+/// The table of no bytes, with the delimiter 0, which is not parsed.
+impl Default for Strtab<'_> {
+    ghost use Rattle.std.specs.Prelude.{◌≡◌, [], false};
+
+    ghost is_default = { λ t. t ≡ record { bytes = []; delim = 0; is_parsed = false } };
+
+    fn default() -> Self {
+        Strtab::new(&[], 0)
+    }
+}
+
+// The bytes of a range of the file, which permissive mode cuts to the file.
+#[tactic(auto, unfolding(crate::specs::Strtab::range_in))]
+fn range(bytes: &[u8], offset: usize, len: usize, mode: ParseMode) -> result::Result<&[u8], Fault>
+    ensures { let right = range_in mode bytes.now offset len in
+        MatchResult result (λ range. right ≡ Ok range.now) (λ fault. right ≡ Err fault) }
+{
+    if offset > bytes.len() {
+        if mode.is_permissive() {
+            return Ok(&[]);
+        }
+        return Err(Fault::StrtabOffset {
+            offset,
+            len: bytes.len(),
+        });
+    }
+    let (end, overflow) = offset.overflowing_add(len);
+    if overflow || end > bytes.len() {
+        if mode.is_permissive() {
+            return Ok(&bytes[offset..]);
+        }
+        return Err(Fault::StrtabRange {
+            size: len,
+            offset,
+            len: bytes.len(),
+            overflow,
+        });
+    }
+    Ok(&bytes[offset..end])
+}
+
+// The texts of entries.
+fn texts<'a>(alloc: Global, entries: &Entries<'a>) -> Result<Vec<&'a str>>
+    ensures ok { IfOk result (λ v. map (λ text. text.now) v.items ≡ map text_of entries.now) }
+    ensures err { IfErr result (λ e. e ≡ Error.Memory alloc_error) }
+    ensures none { (entries.now ≡ []) → IsOk result }
+{
+    let mut texts = Vec::new(alloc);
+    for i in 0..entries.len() {
+        texts.push(entries.text(i))?;
+    }
+    Ok(texts)
+}
+
+// Which entry is the last at or before an offset, and its place.
+fn last_entry(entries: &Entries<'_>, offset: usize) -> Option<(usize, usize)>
+    ensures { let places = places_of entries.now in
+        MatchOption result
+            (EachIndex places (λ k. offset < slice_index places k))
+            (λ entry. IsLastUpTo places offset entry.0 × (entry.1 ≡ slice_index places entry.0)) }
+{
+    let mut probes = Probes::of(&*entries);
+    let k = find(&mut probes, offset)?;
+    let place = probes.at(k);
+    Some((k, place))
+}
+
+// The rest of a text, unless it would begin inside a character.
+fn rest_of(text: &str, from: usize) -> Option<&str>
+    ensures { MatchOption result
+        (¬ (IsCharBoundary text.now from))
+        (λ rest. IsCharBoundary text.now from × (rest.now ≡ drop from text.now)) }
+{
+    if text.is_char_boundary(from) {
+        Some(&text[from..])
+    } else {
+        None
+    }
+}
+
+/// Laws of string tables, over their definitions alone. A call does nothing.
+pub fn laws()
+    ensures text_is_utf8 { TextIsUtf8 }
+    ensures closed_form { ClosedForm }
+    ensures joins_again { JoinsAgain }
+    ensures permissive_accepts { PermissiveAccepts }
+    ensures strict_is_permissive { StrictIsPermissive }
+    ensures look_up_has_plain { LookUpHasPlain }
+    ensures strict_look_up_is_plain { StrictLookUpIsPlain }
+    ensures depends_on_range { DependsOnRange }
+{}
