@@ -13,4 +13,4 @@ mod tests_reloc;
 #[cfg(test)]
 mod tests_sym;
 
-pub use goblin_base::{container, error, options, scroll};
+pub use goblin_base::{container, error, options, scroll, strtab};

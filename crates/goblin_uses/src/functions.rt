@@ -2,29 +2,12 @@
 ghost use Rattle.std.specs.Prelude.{◌≡◌, ◌==◌, ◌%◌, count_by};
 
 use goblin::container::Ctx;
-use goblin::elf::header::Header;
-use goblin::elf::section_header::{SHT_SYMTAB, SectionHeader};
+use goblin::elf::section_header::SectionHeader;
 use goblin::elf::sym::{Sym, Symtab};
 use goblin::error::Result;
-use goblin::scroll::{LE, TryFromCtx};
+use goblin::strtab::Strtab;
 use std::alloc::Global;
 use std::cmp::Reverse;
-
-/// The symbols of a file: those of its first `SHT_SYMTAB` section, or none.
-pub fn symbols_of(alloc: Global, bytes: &[u8]) -> Result<Symtab<'_>> {
-    let (header, _) = Header::try_from_ctx(bytes, LE)?;
-    let ctx = Ctx::new(header.container()?, header.endianness()?);
-    let offset = header.e_shoff as usize;
-    let count = usize::from(header.e_shnum);
-    let sections = SectionHeader::parse(alloc, bytes, offset, count, ctx)?;
-    for section in &sections {
-        if section.sh_type == SHT_SYMTAB {
-            let count = section.sh_size as usize / Sym::size(ctx.container);
-            return Symtab::parse(bytes, section.sh_offset as usize, count, ctx);
-        }
-    }
-    Ok(Symtab::default())
-}
 
 /// How many functions there are.
 pub fn count_functions(symbols: &Symtab) -> usize
@@ -43,4 +26,43 @@ pub fn functions_by_size(alloc: Global, symbols: &Symtab) -> Result<Vec<Sym>> {
     }
     functions.sort_by_key(|function| Reverse(function.st_size))?;
     Ok(functions)
+}
+
+// The table of the names that a section of strings holds; without one there are none.
+fn names_of<'a>(
+    alloc: Global,
+    bytes: &'a [u8],
+    strings: Option<&SectionHeader>,
+) -> Result<Strtab<'a>> {
+    match strings {
+        Some(section) => {
+            let offset = section.sh_offset as usize;
+            Strtab::parse(alloc, bytes, offset, section.sh_size as usize, 0)
+        }
+        None => Ok(Strtab::default()),
+    }
+}
+
+/// Adds the lines of the functions of a symbol section, whose names lie in a section of strings.
+pub fn push_functions(
+    alloc: Global,
+    text: &mut String,
+    bytes: &[u8],
+    section: &SectionHeader,
+    strings: Option<&SectionHeader>,
+    ctx: Ctx,
+) -> Result<()> {
+    let count = section.sh_size as usize / Sym::size(ctx.container);
+    let symbols = Symtab::parse(bytes, section.sh_offset as usize, count, ctx)?;
+    let names = names_of(alloc, bytes, strings)?;
+    let functions = count_functions(&symbols);
+    let all = symbols.len();
+    write!(text, "{functions} functions of {all} symbols\n")?;
+    for (index, function) in functions_by_size(alloc, &symbols)?.iter().enumerate() {
+        let name = names.get_at(function.st_name).unwrap_or("?");
+        let value = function.st_value;
+        let size = function.st_size;
+        write!(text, "{index} {name}: {size} bytes at 0x{value:x}\n")?;
+    }
+    Ok(())
 }

@@ -1,26 +1,40 @@
-//! Lists the functions of an ELF file on standard input, the largest first: a small user of `goblin`, whose
-//! loops are written as people write them.
+//! Lists what an ELF file on standard input holds: its functions by size, its relocations, its notes. It is a small
+//! user of `goblin`, whose loops are written as people write them.
 #![tactic(auto)]
 
 mod functions;
+mod notes;
+mod relocations;
 
-use functions::{count_functions, functions_by_size, symbols_of};
+use functions::push_functions;
+use goblin::container::Ctx;
+use goblin::elf::header::Header;
+use goblin::elf::section_header::{SHT_NOTE, SHT_REL, SHT_RELA, SHT_SYMTAB, SectionHeader};
 use goblin::error::Result;
+use goblin::scroll::{LE, TryFromCtx};
+use notes::push_notes;
+use relocations::push_relocations;
 use std::alloc::Global;
 use std::io;
 use std::io::Read;
 
-// The lines of a file's functions.
+// The lines of a file with these bytes.
 fn list(alloc: Global, bytes: &[u8]) -> Result<String> {
+    let (header, _) = Header::try_from_ctx(bytes, LE)?;
+    let ctx = Ctx::new(header.container()?, header.endianness()?);
+    let count = usize::from(header.e_shnum);
+    let sections = SectionHeader::parse(alloc, bytes, header.e_shoff as usize, count, ctx)?;
     let mut text = String::new(alloc);
-    let symbols = symbols_of(alloc, bytes)?;
-    let count = count_functions(&symbols);
-    let all = symbols.len();
-    write!(text, "{count} functions of {all} symbols\n")?;
-    for (place, function) in functions_by_size(alloc, &symbols)?.iter().enumerate() {
-        let value = function.st_value;
-        let size = function.st_size;
-        write!(text, "{place}: {size} bytes at 0x{value:x}\n")?;
+    for section in &sections {
+        match section.sh_type {
+            SHT_SYMTAB => {
+                let strings = sections.get(section.sh_link as usize);
+                push_functions(alloc, &mut text, bytes, section, strings, ctx)?;
+            }
+            SHT_REL | SHT_RELA => push_relocations(&mut text, bytes, section, &header, ctx)?,
+            SHT_NOTE => push_notes(&mut text, bytes, section, ctx)?,
+            _ => {}
+        }
     }
     Ok(text)
 }

@@ -1,0 +1,39 @@
+//! The relocations of a file.
+use goblin::container::Ctx;
+use goblin::elf::header::Header;
+use goblin::elf::reloc::{RelocSection, is_mips64el};
+use goblin::elf::section_header::{SHT_RELA, SectionHeader};
+use goblin::error::Result;
+
+/// How many relocations of a section name a symbol.
+pub fn count_named(relocations: &RelocSection) -> usize {
+    relocations.iter().filter(|reloc| reloc.r_sym != 0).count()
+}
+
+/// Adds the lines of the relocations of a section.
+pub fn push_relocations(
+    text: &mut String,
+    bytes: &[u8],
+    section: &SectionHeader,
+    header: &Header,
+    ctx: Ctx,
+) -> Result<()> {
+    let relocations = RelocSection::parse_inner(
+        bytes,
+        section.sh_offset as usize,
+        section.sh_size as usize,
+        section.sh_type == SHT_RELA,
+        ctx,
+        is_mips64el(header),
+    )?;
+    let named = count_named(&relocations);
+    let all = relocations.len();
+    write!(text, "{named} of {all} relocations name a symbol\n")?;
+    for (index, reloc) in relocations.iter().enumerate() {
+        let offset = reloc.r_offset;
+        let symbol = reloc.r_sym;
+        let addend = reloc.r_addend.unwrap_or(0);
+        write!(text, "{index} at 0x{offset:x}: symbol {symbol}, addend {addend}\n")?;
+    }
+    Ok(())
+}
