@@ -1,211 +1,329 @@
-//! Cases with their answers: texts of errors, room, numbers, contexts and options.
+//! Cases with their answers: texts of errors, room, numbers, contexts, options and names.
 use crate::container::{BE, CONTAINER, Container, Ctx, Endian, LE, constants};
 use crate::error::{Error, Fault};
 use crate::names::name_of;
 use crate::number::{
-    get_u8, get_u16, get_u32, get_u64, put_u8, put_u16, put_u32, put_u64, room, spellings,
+    get_i32, get_i64, get_u8, get_u16, get_u32, get_u64, put_i32, put_i64, put_u8, put_u16,
+    put_u32, put_u64, room, signed_spellings, spellings,
 };
 use crate::options::{ParseMode, ParseOptions};
 use crate::scroll;
-use std::alloc::{AllocError, AllocFailed};
+use std::alloc::{AllocError, AllocFailed, Global};
 use std::num::TryFromIntError;
-use std::test::Fail;
+
+// Whether both `line` and `Display` tell an error by this text.
+fn tells(alloc: Global, error: &Error, text: &str) -> bool {
+    let line = error.line(alloc);
+    let display = format!(in alloc; "{error}");
+    match (line, display) {
+        (Ok(line), Ok(display)) => line.as_str() == text && display.as_str() == text,
+        _ => false,
+    }
+}
+
+// Whether a fault is told by this text behind that of all malformed files.
+fn tells_fault(alloc: Global, fault: Fault, text: &str) -> bool {
+    let error = Error::Malformed(fault);
+    match format!(in alloc; "Malformed entity: {text}") {
+        Ok(text) => tells(alloc, &error, text.as_str()),
+        Err(_) => false,
+    }
+}
+
+#[test]
+fn tells_faults_of_headers(rt: HostRuntime) {
+    let alloc = rt.alloc();
+    assert!(rt;
+        tells_fault(
+            alloc,
+            Fault::InvalidClass(200),
+            "Invalid class in Header: 200"
+        )
+    );
+    assert!(rt;
+        tells_fault(
+            alloc,
+            Fault::InvalidEndianness(200),
+            "Invalid endianness in Header: 200"
+        )
+    );
+    assert!(rt; tells_fault(alloc, Fault::TooSmall, "Too small"));
+    assert!(rt; tells_fault(alloc, Fault::ElfClass(200), "invalid ELF class c8"));
+    assert!(rt; tells_fault(alloc, Fault::ElfClass(9), "invalid ELF class 9"));
+    assert!(rt;
+        tells_fault(
+            alloc,
+            Fault::DataType(200),
+            "invalid ELF endianness DATA type c8"
+        )
+    );
+    assert!(rt; tells_fault(alloc, Fault::Data(200), "invalid ELF DATA type c8"));
+}
+
+#[test]
+fn tells_faults_of_notes_and_numbers(rt: HostRuntime) {
+    let alloc = rt.alloc();
+    let aligned_to_16 = "Notes has unimplemented alignment requirement: 0x10";
+    assert!(rt; tells_fault(alloc, Fault::NoteAlign(16), aligned_to_16));
+    let aligned_to_171 = "Notes has unimplemented alignment requirement: 0xab";
+    assert!(rt; tells_fault(alloc, Fault::NoteAlign(0xab), aligned_to_171));
+    let misfit = "Integer do not fit: out of range integral type conversion attempted";
+    assert!(rt; tells_misfit(alloc, misfit));
+}
+
+// Whether the fault of a number that does not fit is told by this text, also where it is made by `From`.
+fn tells_misfit(alloc: Global, text: &str) -> bool {
+    match (misfit(), misfit()) {
+        (Err(one), Err(other)) => {
+            tells_fault(alloc, Fault::IntegerFit(one), text)
+                && tells_made(alloc, Error::from(other), text)
+        }
+        _ => false,
+    }
+}
+
+// Whether a malformed file is told by this text.
+fn tells_made(alloc: Global, error: Error, text: &str) -> bool {
+    match error {
+        Error::Malformed(fault) => tells_fault(alloc, fault, text),
+        _ => false,
+    }
+}
 
 // The error of a number that does not fit.
 fn misfit() -> Result<u8, TryFromIntError> {
     u8::try_from(256u16)
 }
 
-#[test]
-fn tells_each_fault(rt: HostRuntime) -> Result<(), Fail> {
-    let misfit = misfit().err().ok_or("256 fits")?;
-    let table = [
-        (Fault::InvalidClass(200), "Invalid class in Header: 200"),
-        (
-            Fault::InvalidEndianness(200),
-            "Invalid endianness in Header: 200",
-        ),
-        (Fault::TooSmall, "Too small"),
-        (Fault::ElfClass(200), "invalid ELF class c8"),
-        (Fault::DataType(200), "invalid ELF endianness DATA type c8"),
-        (Fault::Data(200), "invalid ELF DATA type c8"),
-        (
-            Fault::NoteAlign(16),
-            "Notes has unimplemented alignment requirement: 0x10",
-        ),
-        (
-            Fault::SymtabOffset {
-                offset: 48,
-                len: 47,
-            },
-            "Symbol table offset (48) is beyond file boundary (47)",
-        ),
-        (
-            Fault::TooManySymbols {
-                offset: 47,
-                count: 18446744073709551615,
-            },
-            "Too many ELF symbols (offset 0x2f, count 18446744073709551615)",
-        ),
-        (
-            Fault::SymtabPast {
-                requested: 72,
-                available: 48,
-            },
-            "Symbol table extends beyond file boundary (requested: 72, available: 48)",
-        ),
-        (
-            Fault::StrtabOffset { offset: 5, len: 4 },
-            "String table offset (5) is beyond file boundary (4)",
-        ),
-        (
-            Fault::StrtabRange {
-                size: 3,
-                offset: 2,
-                len: 4,
-                overflow: false,
-            },
-            "Strtable size (3) + offset (2) is out of bounds for 4 #bytes. Overflowed: false",
-        ),
-        (
-            Fault::SectionOffset {
-                name: 7,
-                size: 50,
-                offset: 100,
-                overflow: false,
-            },
-            "Section 7 size (50) + offset (100) is out of bounds. Overflowed: false",
-        ),
-        (
-            Fault::SectionAddr {
-                name: 7,
-                size: 50,
-                addr: 18446744073709551566,
-                overflow: true,
-            },
-            "Section 7 size (50) + addr (18446744073709551566) is out of bounds. Overflowed: true",
-        ),
-        (
-            Fault::IntegerFit(misfit),
-            "Integer do not fit: out of range integral type conversion attempted",
-        ),
-    ];
-    for (fault, text) in table {
-        let want = format!(in rt.alloc(); "Malformed entity: {text}")?;
-        let error = Error::Malformed(fault);
-        let line = error.line(rt.alloc())?;
-        let display = format!(in rt.alloc(); "{error}")?;
-        assert_eq!(rt; line.as_str(), want.as_str(), "by line");
-        assert_eq!(rt; display.as_str(), want.as_str(), "by Display");
+// The fault of a symbol table that starts past the file's end.
+fn symtab_offset() -> Fault {
+    Fault::SymtabOffset {
+        offset: 48,
+        len: 47,
     }
-    Ok(())
+}
+
+// The fault of a symbol table whose size passes `usize`.
+fn too_many_symbols() -> Fault {
+    Fault::TooManySymbols {
+        offset: 47,
+        count: 18446744073709551615,
+    }
+}
+
+// The fault of a symbol table that ends past the file's end.
+fn symtab_past() -> Fault {
+    Fault::SymtabPast {
+        requested: 72,
+        available: 48,
+    }
 }
 
 #[test]
-fn tells_each_error(rt: HostRuntime) -> Result<(), Fail> {
-    let table = [
-        (Error::BadMagic(0xabc), "Invalid magic number: 0xabc"),
-        (
-            Error::BufferTooShort(7, "symbols"),
-            "Buffer is too short for 7 symbols",
-        ),
-        (
-            Error::from(scroll::Error::TooBig { size: 64, len: 52 }),
-            "type is too big (64) for 52",
-        ),
-        (Error::from(scroll::Error::BadOffset(20)), "bad offset 20"),
-        (
-            Error::from(scroll::Error::BadInput {
-                size: 3,
-                msg: "invalid utf8",
-            }),
-            "bad input invalid utf8 (3)",
-        ),
-        (Error::from(AllocError), "Out of memory"),
-        (Error::from(AllocFailed { value: 5u8 }), "Out of memory"),
-        (
-            Error::from(misfit().err().ok_or("256 fits")?),
-            "Malformed entity: Integer do not fit: out of range integral type conversion attempted",
-        ),
-    ];
-    for (error, want) in table {
-        let line = error.line(rt.alloc())?;
-        let display = format!(in rt.alloc(); "{error}")?;
-        assert_eq!(rt; line.as_str(), want, "by line");
-        assert_eq!(rt; display.as_str(), want, "by Display");
+fn tells_faults_of_symbol_tables(rt: HostRuntime) {
+    let alloc = rt.alloc();
+    let offset = "Symbol table offset (48) is beyond file boundary (47)";
+    assert!(rt; tells_fault(alloc, symtab_offset(), offset));
+    let many = "Too many ELF symbols (offset 0x2f, count 18446744073709551615)";
+    assert!(rt; tells_fault(alloc, too_many_symbols(), many));
+    let past = "Symbol table extends beyond file boundary (requested: 72, available: 48)";
+    assert!(rt; tells_fault(alloc, symtab_past(), past));
+}
+
+// The fault of a string table that ends past the file's end.
+fn strtab_range() -> Fault {
+    Fault::StrtabRange {
+        size: 3,
+        offset: 2,
+        len: 4,
+        overflow: false,
     }
-    Ok(())
 }
 
 #[test]
-fn has_room_or_tells_the_fault(rt: HostRuntime) -> Result<(), Fail> {
-    let max = usize::MAX;
-    let table = [
-        (10, 0, 10, None),
-        (10, 10, 0, None),
-        (0, 0, 0, None),
-        (10, 3, 7, None),
-        (10, 10, 1, Some("bad offset 10")),
-        (0, 0, 1, Some("bad offset 0")),
-        (10, 11, 0, Some("bad offset 11")),
-        (10, max, max, Some("bad offset 18446744073709551615")),
-        (10, 3, 8, Some("type is too big (8) for 7")),
-        (
-            10,
-            1,
-            max,
-            Some("type is too big (18446744073709551615) for 9"),
-        ),
-    ];
-    for (len, offset, size, want) in table {
-        match room(len, offset, size) {
-            Ok(()) => assert_eq!(rt; want, None, "{size} bytes at {offset} of {len}"),
-            Err(e) => {
-                let told = format!(in rt.alloc(); "{e}")?;
-                assert_eq!(rt;
-                    Some(told.as_str()),
-                    want,
-                    "{size} bytes at {offset} of {len}"
-                );
-            }
-        }
-    }
-    Ok(())
+fn tells_faults_of_string_tables(rt: HostRuntime) {
+    let alloc = rt.alloc();
+    let offset = "String table offset (5) is beyond file boundary (4)";
+    assert!(rt; tells_fault(alloc, Fault::StrtabOffset { offset: 5, len: 4 }, offset));
+    let range = "Strtable size (3) + offset (2) is out of bounds for 4 #bytes. Overflowed: false";
+    assert!(rt; tells_fault(alloc, strtab_range(), range));
 }
+
+// The fault of a section with this name whose bytes end past the file's end.
+fn section_offset(name: usize) -> Fault {
+    Fault::SectionOffset {
+        name,
+        size: 50,
+        offset: 100,
+        overflow: false,
+    }
+}
+
+// The fault of a section with this name whose addresses pass the greatest one.
+fn section_addr(name: usize) -> Fault {
+    Fault::SectionAddr {
+        name,
+        size: 50,
+        addr: 18446744073709551566,
+        overflow: true,
+    }
+}
+
+#[test]
+fn tells_faults_of_sections(rt: HostRuntime) {
+    let alloc = rt.alloc();
+    let offset = "Section 7 size (50) + offset (100) is out of bounds. Overflowed: false";
+    assert!(rt; tells_fault(alloc, section_offset(7), offset));
+    let far = "Section 12 size (50) + offset (100) is out of bounds. Overflowed: false";
+    assert!(rt; tells_fault(alloc, section_offset(12), far));
+    let addr =
+        "Section 7 size (50) + addr (18446744073709551566) is out of bounds. Overflowed: true";
+    assert!(rt; tells_fault(alloc, section_addr(7), addr));
+    let tenth =
+        "Section 10 size (50) + addr (18446744073709551566) is out of bounds. Overflowed: true";
+    assert!(rt; tells_fault(alloc, section_addr(10), tenth));
+}
+
+// The error of a range that is too long.
+fn too_big() -> Error {
+    Error::from(scroll::Error::TooBig { size: 64, len: 52 })
+}
+
+// The error of bytes that are no text.
+fn bad_input() -> Error {
+    Error::from(scroll::Error::BadInput {
+        size: 3,
+        msg: "invalid utf8",
+    })
+}
+
+#[test]
+fn tells_errors(rt: HostRuntime) {
+    let alloc = rt.alloc();
+    assert!(rt;
+        tells(
+            alloc,
+            &Error::BadMagic(0xabc),
+            "Invalid magic number: 0xabc"
+        )
+    );
+    let short = Error::BufferTooShort(7, "symbols");
+    assert!(rt; tells(alloc, &short, "Buffer is too short for 7 symbols"));
+    assert!(rt; tells(alloc, &too_big(), "type is too big (64) for 52"));
+    assert!(rt;
+        tells(
+            alloc,
+            &Error::from(scroll::Error::BadOffset(20)),
+            "bad offset 20"
+        )
+    );
+    assert!(rt; tells(alloc, &bad_input(), "bad input invalid utf8 (3)"));
+    assert!(rt; tells(alloc, &Error::from(AllocError), "Out of memory"));
+    let failed = Error::from(AllocFailed { value: 5u8 });
+    assert!(rt; tells(alloc, &failed, "Out of memory"));
+}
+
+// A length, an offset and a size that there is room for.
+static ROOM: [(usize, usize, usize); 4] = [(10, 0, 10), (10, 10, 0), (0, 0, 0), (10, 3, 7)];
+
+// A length, an offset and a size for which the offset is bad.
+static BAD_OFFSET: [(usize, usize, usize); 4] = [
+    (10, 10, 1),
+    (0, 0, 1),
+    (10, 11, 0),
+    (10, usize::MAX, usize::MAX),
+];
+
+// Whether an offset is refused as itself.
+fn is_bad_offset(len: usize, offset: usize, size: usize) -> bool {
+    match room(len, offset, size) {
+        Err(scroll::Error::BadOffset(told)) => told == offset,
+        _ => false,
+    }
+}
+
+// Whether a size is refused, with how many bytes there are from the offset on.
+fn is_too_big(len: usize, offset: usize, size: usize, left: usize) -> bool {
+    match room(len, offset, size) {
+        Err(
+            scroll::Error::TooBig {
+                size: told,
+                len: rest,
+            },
+        ) => told == size && rest == left,
+        _ => false,
+    }
+}
+
+#[test]
+fn has_room_or_tells_the_fault(rt: HostRuntime) {
+    assert!(rt; ROOM.iter().all(|row| room(row.0, row.1, row.2).is_ok()));
+    assert!(rt;
+        BAD_OFFSET
+            .iter()
+            .all(|row| is_bad_offset(row.0, row.1, row.2))
+    );
+    assert!(rt; is_too_big(10, 3, 8, 7));
+    assert!(rt; is_too_big(10, 1, usize::MAX, 9));
+}
+
+const COUNTED: &[u8; 9] = b"\xff\x01\x02\x03\x04\x05\x06\x07\x08";
 
 #[test]
 fn reads_numbers(rt: HostRuntime) {
-    let bytes = [0xff, 0x01, 0x02, 0x03, 0x04, 0x05, 0x06, 0x07, 0x08];
-    assert_eq!(rt; get_u16(&bytes, 1, LE), 0x0201);
-    assert_eq!(rt; get_u16(&bytes, 1, BE), 0x0102);
-    assert_eq!(rt; get_u32(&bytes, 1, LE), 0x04030201);
-    assert_eq!(rt; get_u32(&bytes, 1, BE), 0x01020304);
-    assert_eq!(rt; get_u64(&bytes, 1, LE), 0x0807060504030201);
-    assert_eq!(rt; get_u64(&bytes, 1, BE), 0x0102030405060708);
+    assert!(rt; get_u8(COUNTED, 0) == 0xff && get_u8(COUNTED, 8) == 8);
+    assert!(rt; get_u16(COUNTED, 1, LE) == 0x0201 && get_u16(COUNTED, 1, BE) == 0x0102);
+    assert!(rt; get_u32(COUNTED, 1, LE) == 0x04030201);
+    assert!(rt; get_u32(COUNTED, 1, BE) == 0x01020304);
+    assert!(rt; get_u64(COUNTED, 1, LE) == 0x0807060504030201);
+    assert!(rt; get_u64(COUNTED, 1, BE) == 0x0102030405060708);
+}
+
+#[test]
+fn reads_signed_numbers(rt: HostRuntime) {
+    let turned = b"\xfe\xff\xff\xff\xff\xff\xff\xff\x7f";
+    assert!(rt; get_i32(turned, 0, LE) == -2 && get_i32(turned, 0, BE) == -16777217);
+    assert!(rt; get_i32(turned, 5, LE) == 2147483647 && get_i32(turned, 5, BE) == -129);
+    assert!(rt; get_i64(turned, 0, LE) == -2);
+    assert!(rt; get_i64(turned, 1, LE) == 9223372036854775807);
+    assert!(rt; get_i64(turned, 1, BE) == -129);
+}
+
+// The bytes after numbers were put over each other in one order.
+fn put_over(bytes: &mut [u8; 10], order: Endian) {
+    put_u64(bytes, 1, 0x0102030405060708, order);
+    put_u32(bytes, 1, 0x11121314, order);
+    put_u16(bytes, 1, 0x2122, order);
+    put_u8(bytes, 9, 0x31);
+}
+
+// Whether that leaves these bytes.
+fn puts(order: Endian, want: &[u8; 10]) -> bool {
+    let mut bytes = [0xff; 10];
+    put_over(&mut bytes, order);
+    bytes == *want
 }
 
 #[test]
 fn puts_numbers(rt: HostRuntime) {
     spellings();
-    let mut little = [0xff; 10];
-    put_u64(&mut little, 1, 0x0102030405060708, LE);
-    assert_eq!(rt; little, [0xff, 8, 7, 6, 5, 4, 3, 2, 1, 0xff]);
-    put_u32(&mut little, 1, 0x11121314, LE);
-    assert_eq!(rt; little, [0xff, 0x14, 0x13, 0x12, 0x11, 4, 3, 2, 1, 0xff]);
-    put_u16(&mut little, 1, 0x2122, LE);
-    put_u8(&mut little, 9, 0x31);
-    assert_eq!(rt; little, [0xff, 0x22, 0x21, 0x12, 0x11, 4, 3, 2, 1, 0x31]);
-    assert_eq!(rt; get_u8(&little, 9), 0x31);
+    assert!(rt; puts(LE, b"\xff\x22\x21\x12\x11\x04\x03\x02\x01\x31"));
+    assert!(rt; puts(BE, b"\xff\x21\x22\x13\x14\x05\x06\x07\x08\x31"));
+}
 
-    let mut big = [0xff; 10];
-    put_u64(&mut big, 1, 0x0102030405060708, BE);
-    assert_eq!(rt; big, [0xff, 1, 2, 3, 4, 5, 6, 7, 8, 0xff]);
-    put_u32(&mut big, 1, 0x11121314, BE);
-    assert_eq!(rt; big, [0xff, 0x11, 0x12, 0x13, 0x14, 5, 6, 7, 8, 0xff]);
-    put_u16(&mut big, 1, 0x2122, BE);
-    put_u8(&mut big, 9, 0x31);
-    assert_eq!(rt; big, [0xff, 0x21, 0x22, 0x13, 0x14, 5, 6, 7, 8, 0x31]);
-    assert_eq!(rt; get_u8(&big, 9), 0x31);
+// Whether a signed number of eight bytes, with one of four put into its middle, leaves these bytes.
+fn puts_signed(order: Endian, want: &[u8; 10]) -> bool {
+    let mut bytes = [0xaa; 10];
+    put_i64(&mut bytes, 1, -3, order);
+    put_i32(&mut bytes, 3, -2147483648, order);
+    bytes == *want
+}
+
+#[test]
+fn puts_signed_numbers(rt: HostRuntime) {
+    signed_spellings();
+    assert!(rt; puts_signed(LE, b"\xaa\xfd\xff\0\0\0\x80\xff\xff\xaa"));
+    assert!(rt; puts_signed(BE, b"\xaa\xff\xff\x80\0\0\0\xff\xfd\xaa"));
 }
 
 #[test]
@@ -217,10 +335,13 @@ fn makes_contexts(rt: HostRuntime) {
     let little = Ctx::new(Container::Little, LE);
     assert!(rt; !little.is_big() && !little.container.is_big() && little.size() == 4);
     assert!(rt; little.is_little_endian() && little.le.is_little());
+}
 
-    assert_eq!(rt; Ctx::from(Container::Little), little);
-    assert_eq!(rt; Ctx::from(Endian::Big), big);
-    assert_eq!(rt; Ctx::default(), Ctx::new(CONTAINER, LE));
+#[test]
+fn makes_contexts_of_one_part(rt: HostRuntime) {
+    assert!(rt; Ctx::from(Container::Little) == Ctx::new(Container::Little, LE));
+    assert!(rt; Ctx::from(Endian::Big) == Ctx::new(Container::Big, BE));
+    assert!(rt; Ctx::default() == Ctx::new(CONTAINER, LE));
 }
 
 #[test]
@@ -228,19 +349,19 @@ fn makes_options(rt: HostRuntime) {
     let strict = ParseOptions {
         parse_mode: ParseMode::Strict,
     };
-    assert_eq!(rt; ParseOptions::new(), strict);
-    assert_eq!(rt; ParseOptions::default(), strict);
-    assert_eq!(rt; ParseOptions::strict(), strict);
-    assert!(rt; !strict.parse_mode.is_permissive());
+    assert!(rt; ParseOptions::new() == strict && ParseOptions::default() == strict);
+    assert!(rt; ParseOptions::strict() == strict && !strict.parse_mode.is_permissive());
     let permissive = strict.with_parse_mode(ParseMode::Permissive);
-    assert_eq!(rt; ParseOptions::permissive(), permissive);
+    assert!(rt; ParseOptions::permissive() == permissive);
     assert!(rt; permissive.parse_mode.is_permissive());
 }
 
+// A table of names in which one number stands twice.
+static NAMES: [(u32, &str); 3] = [(1, "one"), (2, "two"), (1, "another one")];
+
 #[test]
 fn finds_names(rt: HostRuntime) {
-    let table = [(1, "one"), (2, "two"), (1, "another one")];
-    assert_eq!(rt; name_of(&table, 1, "none"), "one");
-    assert_eq!(rt; name_of(&table, 2, "none"), "two");
-    assert_eq!(rt; name_of(&table, 3, "none"), "none");
+    assert!(rt; name_of(&NAMES, 1, "none") == "one");
+    assert!(rt; name_of(&NAMES, 2, "none") == "two");
+    assert!(rt; name_of(&NAMES, 3, "none") == "none");
 }

@@ -86,3 +86,7 @@ sym_low Big s = widened64 (sym64_low (as64 s))
 abbrev pub symbols_from : List ℕ → ℕ → ℕ → Ctx → Result (List Sym) Refusal
 symbols_from bytes offset count ctx =
     records_from (sym_size ctx.container) (sym_of ctx.container ctx.le) bytes offset count (codes "symbols")
+
+-- the symbol whose fields are all 0
+abbrev pub sym_zero : Sym
+sym_zero = record { st_name = 0; st_info = 0; st_other = 0; st_shndx = 0; st_value = 0; st_size = 0 }

@@ -44,3 +44,7 @@ sym32_low s = record {
   st_other = s.st_other % 256 ^ 1;
   st_shndx = s.st_shndx % 256 ^ 2;
 }
+
+-- the symbol whose fields are all 0
+abbrev pub sym32_zero : Sym
+sym32_zero = record { st_name = 0; st_value = 0; st_size = 0; st_info = 0; st_other = 0; st_shndx = 0 }

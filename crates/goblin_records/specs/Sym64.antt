@@ -44,3 +44,7 @@ sym64_low s = record {
   st_value = s.st_value % 256 ^ 8;
   st_size = s.st_size % 256 ^ 8;
 }
+
+-- the symbol whose fields are all 0
+abbrev pub sym64_zero : Sym
+sym64_zero = record { st_name = 0; st_info = 0; st_other = 0; st_shndx = 0; st_value = 0; st_size = 0 }

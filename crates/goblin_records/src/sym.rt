@@ -8,7 +8,8 @@ ghost use Rattle.goblin_base.specs.Record.{read_within, Writes};
 ghost use Rattle.goblin_base.specs.Steps.{with_size};
 ghost use Rattle.goblin_base.specs.Refusal.{buffer_too_short, Gives, Refuses};
 ghost use Rattle.goblin_records.specs.Sym.{sym_size, sym_of, sym_image, sym_low, SymFits};
-ghost use Rattle.goblin_records.specs.Sym.{symbols_from};
+ghost use Rattle.goblin_records.specs.Sym.{symbols_from, sym_zero};
+ghost use Rattle.goblin_records.specs.declared.sym.Sym.{Sym};
 ghost use Rattle.goblin_records.specs.SymParts.{bind_of, type_of, visibility_of};
 ghost use Rattle.goblin_records.specs.SymParts.{IsGlobalImport, IsImport};
 ghost use Rattle.goblin_records.specs.SymParts.{bind_name, type_name, visibility_name};
@@ -368,7 +369,7 @@ impl Record<Ctx> for Sym {
     ghost writes_back = { λ ctx. (sym_laws ctx.container ctx.le).writes_back };
 }
 
-/// Laws: what the constants of this module stand for. A call does nothing.
+/// Laws: the numbers of this module's constants. A call does nothing.
 pub fn constants()
     ensures bindings { STB_LOCAL ∷ STB_GLOBAL ∷ STB_WEAK ∷ STB_NUM ∷ STB_LOOS ∷ STB_GNU_UNIQUE ∷
         STB_HIOS ∷ STB_LOPROC ∷ STB_HIPROC ∷ []
@@ -382,10 +383,11 @@ pub fn constants()
         ≡ 0 ∷ 1 ∷ 2 ∷ 3 ∷ 4 ∷ 5 ∷ 6 ∷ [] }
 {}
 
-/// Laws: which bytes a symbol is written as, and that classes and byte orders keep lists of symbols
-/// the same. A call does nothing.
+/// Laws: which bytes a symbol is written as, that classes and byte orders keep lists of symbols the
+/// same, and that the default symbol is that of zeros. A call does nothing.
 pub fn laws()
     ensures image { (class : Container) (order : Endian) →
         IsOneImage (sym_size class) (sym_of class order) (sym_image class order) (sym_low class) }
     ensures same { IsSameInEachClass sym_size sym_of sym_image SymFits }
+    ensures zeros { (sym : Sym) → ⟦<Sym as Default>⟧.is_default sym → sym ≡ sym_zero }
 {}

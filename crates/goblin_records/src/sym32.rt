@@ -1,20 +1,15 @@
 //! Symbols of the 32-bit class: System V gABI, "Symbol Table" (`Elf32_Sym`).
-ghost use Rattle.std.specs.Prelude.{◌≡◌, ◌≤◌, ◌↔◌, ◌++◌, IsTrue, length, drop};
+ghost use Rattle.std.specs.Prelude.{◌≡◌, ◌≤◌, ◌↔◌, ◌++◌, [], ◌∷◌, IsTrue, length, drop};
 ghost use Rattle.goblin_base.specs.declared.container.Endian.{Endian};
 ghost use Rattle.goblin_base.specs.Layout.{IsOneImage};
 ghost use Rattle.goblin_base.specs.Record.{read_within, Writes};
 ghost use Rattle.goblin_base.specs.Steps.{with_size};
+ghost use Rattle.goblin_records.specs.declared.sym32.Sym.{Sym};
 ghost use Rattle.goblin_records.specs.Sym32.{sym32_size, sym32_of, sym32_image, sym32_low};
+ghost use Rattle.goblin_records.specs.Sym32.{sym32_zero};
 ghost use Rattle.goblin_records.specs.SymParts.{type_of, IsImport};
 
 use crate::sym::Sym as ElfSym;
-pub use crate::sym::{
-    STB_GLOBAL, STB_GNU_UNIQUE, STB_HIOS, STB_HIPROC, STB_LOCAL, STB_LOOS, STB_LOPROC, STB_NUM,
-    STB_WEAK, STT_COMMON, STT_FILE, STT_FUNC, STT_GNU_IFUNC, STT_HIOS, STT_HIPROC, STT_LOOS,
-    STT_LOPROC, STT_NOTYPE, STT_NUM, STT_OBJECT, STT_SECTION, STT_TLS, STV_DEFAULT, STV_ELIMINATE,
-    STV_EXPORTED, STV_HIDDEN, STV_INTERNAL, STV_PROTECTED, STV_SINGLETON, bind_to_str, get_type,
-    is_import, st_bind, st_type, st_visibility, type_to_str, visibility_to_str,
-};
 use goblin_base::container::Endian;
 use goblin_base::error::Result;
 use goblin_base::number::{get_u8, get_u16, get_u32, put_u8, put_u16, put_u32, room};
@@ -184,9 +179,35 @@ impl Record<Endian> for Sym {
     ghost writes_back = { λ order. (sym32_laws order).writes_back };
 }
 
-/// Laws: how many bytes a symbol takes, and which they are. A call does nothing.
-pub fn laws()
+/// Laws: the numbers of this module's own constants, and of those that it passes on, under the names
+/// that they have here. A call does nothing.
+pub fn constants()
     ensures size { SIZEOF_SYM ≡ sym32_size }
+    ensures bindings { STB_LOCAL ∷ STB_GLOBAL ∷ STB_WEAK ∷ STB_NUM ∷ STB_LOOS ∷ STB_GNU_UNIQUE ∷
+        STB_HIOS ∷ STB_LOPROC ∷ STB_HIPROC ∷ []
+        ≡ 0 ∷ 1 ∷ 2 ∷ 3 ∷ 10 ∷ 10 ∷ 12 ∷ 13 ∷ 15 ∷ [] }
+    ensures types { STT_NOTYPE ∷ STT_OBJECT ∷ STT_FUNC ∷ STT_SECTION ∷ STT_FILE ∷ STT_COMMON ∷
+        STT_TLS ∷ STT_NUM ∷ STT_LOOS ∷ STT_GNU_IFUNC ∷ STT_HIOS ∷ STT_LOPROC ∷ STT_HIPROC ∷
+        []
+        ≡ 0 ∷ 1 ∷ 2 ∷ 3 ∷ 4 ∷ 5 ∷ 6 ∷ 7 ∷ 10 ∷ 10 ∷ 12 ∷ 13 ∷ 15 ∷ [] }
+    ensures visibilities { STV_DEFAULT ∷ STV_INTERNAL ∷ STV_HIDDEN ∷ STV_PROTECTED ∷ STV_EXPORTED ∷
+        STV_SINGLETON ∷ STV_ELIMINATE ∷ []
+        ≡ 0 ∷ 1 ∷ 2 ∷ 3 ∷ 4 ∷ 5 ∷ 6 ∷ [] }
+{}
+
+/// Laws: which bytes a symbol is written as, and that the default symbol is that of zeros. A call
+/// does nothing.
+pub fn laws()
     ensures image { (order : Endian) →
         IsOneImage sym32_size (sym32_of order) (sym32_image order) sym32_low }
+    ensures zeros { (sym : Sym) → ⟦<Sym as Default>⟧.is_default sym → sym ≡ sym32_zero }
 {}
+
+// The constants of symbols, and what their bytes tell.
+pub use crate::sym::{
+    STB_GLOBAL, STB_GNU_UNIQUE, STB_HIOS, STB_HIPROC, STB_LOCAL, STB_LOOS, STB_LOPROC, STB_NUM,
+    STB_WEAK, STT_COMMON, STT_FILE, STT_FUNC, STT_GNU_IFUNC, STT_HIOS, STT_HIPROC, STT_LOOS,
+    STT_LOPROC, STT_NOTYPE, STT_NUM, STT_OBJECT, STT_SECTION, STT_TLS, STV_DEFAULT, STV_ELIMINATE,
+    STV_EXPORTED, STV_HIDDEN, STV_INTERNAL, STV_PROTECTED, STV_SINGLETON, bind_to_str, get_type,
+    is_import, st_bind, st_type, st_visibility, type_to_str, visibility_to_str,
+};
