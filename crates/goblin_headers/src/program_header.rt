@@ -1,17 +1,18 @@
 //! Program headers, which tell how a file is loaded: System V gABI, "Program Header".
-ghost use Rattle.std.specs.Prelude.{◌≡◌, ◌≤◌, ◌<◌, ◌/◌, ◌↔◌, ◌++◌, [], ◌∷◌, IsTrue};
-ghost use Rattle.std.specs.Prelude.{IsOk, length, drop, codes};
+ghost use Rattle.std.specs.Prelude.{◌≡◌, ◌≤◌, ◌↔◌, ◌++◌, [], ◌∷◌, IsTrue, IfErr, IsOk};
+ghost use Rattle.std.specs.Prelude.{length, drop};
 ghost use Rattle.std.specs.Int.{IsBitSet};
 ghost use Rattle.std.specs.Int.Bits.{bit_or};
 ghost use Rattle.goblin_base.specs.Record.{read_within, Writes};
 ghost use Rattle.goblin_base.specs.Steps.{with_size};
-ghost use Rattle.goblin_base.specs.Refusal.{buffer_too_short, Gives, Refuses};
+ghost use Rattle.goblin_base.specs.Refusal.{Gives, Refuses};
 ghost use Rattle.goblin_headers.specs.Ranges.{span};
 ghost use Rattle.goblin_headers.specs.ProgramHeader.{program_header_size, program_header_of};
 ghost use Rattle.goblin_headers.specs.ProgramHeader.{program_header_image, OneImage};
 ghost use Rattle.goblin_headers.specs.ProgramHeader.{SameInEachClass};
 ghost use Rattle.goblin_headers.specs.ProgramHeaders.{new_program_header};
 ghost use Rattle.goblin_headers.specs.ProgramHeaders.{program_headers_from};
+ghost use Rattle.goblin_headers.specs.ProgramHeaders.{program_headers_tested};
 ghost use Rattle.goblin_headers.specs.SegmentNames.{segment_name};
 
 pub use crate::{program_header32, program_header64};
@@ -234,8 +235,8 @@ impl ProgramHeader {
     ) -> Result<Vec<ProgramHeader>>
         ensures given { let right = program_headers_from bytes.now offset count ctx in
             Gives (λ v. v.items) result right }
-        ensures counted { length bytes.now / program_header_size ctx.container < count →
-            Refuses result (buffer_too_short count (codes "program headers")) }
+        ensures tested { IfErr (program_headers_tested bytes.now count ctx)
+            (λ refusal. Refuses result refusal) }
         ensures none { (count ≡ 0) → IsOk result }
     {
         read_all(alloc, bytes, offset, count, ctx, "program headers")

@@ -10,9 +10,12 @@ ghost use Rattle.goblin_headers.specs.Ranges.{span};
 ghost use Rattle.goblin_headers.specs.SectionHeader.{section_header_size, section_header_of};
 ghost use Rattle.goblin_headers.specs.SectionHeader.{section_header_image, OneImage};
 ghost use Rattle.goblin_headers.specs.SectionHeader.{SameInEachClass};
-ghost use Rattle.goblin_headers.specs.SectionHeaders.{new_section_header, size_checked};
-ghost use Rattle.goblin_headers.specs.SectionHeaders.{count_told, section_headers_from};
-ghost use Rattle.goblin_headers.specs.SectionHeaders.{section_headers_of, section_headers_tested};
+ghost use Rattle.goblin_headers.specs.SectionHeaders.{new_section_header, count_told};
+ghost use Rattle.goblin_headers.specs.SectionHeaders.{section_headers_from};
+ghost use Rattle.goblin_headers.specs.SectionHeaders.{section_headers_from_tested};
+ghost use Rattle.goblin_headers.specs.SectionHeaders.{section_headers_of};
+ghost use Rattle.goblin_headers.specs.SectionHeaders.{section_headers_of_tested};
+ghost use Rattle.goblin_headers.specs.SectionHeaders.{size_checked, size_checked_in};
 ghost use Rattle.goblin_headers.specs.SectionNames.{section_name, section_flag_name};
 
 pub use crate::{section_header32, section_header64};
@@ -305,9 +308,9 @@ impl SectionHeader {
     }
 
     /// Where the section lies in the file, in bytes from the file's start, or `None` for a section
-    /// without bytes there (`SHT_NOBITS`). An end past the greatest number is that number.
+    /// without bytes there (`SHT_NOBITS`, type 8). An end past the greatest number is that number.
     pub fn file_range(&self) -> Option<Range<usize>>
-        ensures none { IsNone result ↔ (self.now.sh_type ≡ SHT_NOBITS) }
+        ensures none { IsNone result ↔ (self.now.sh_type ≡ 8) }
         ensures some { IfSome result (λ range.
             (range.start, range.end) ≡ span self.now.sh_offset self.now.sh_size) }
     {
@@ -337,8 +340,8 @@ impl SectionHeader {
     ) -> Result<Vec<SectionHeader>>
         ensures given { let right = section_headers_of bytes.now offset count ctx in
             Gives (λ v. v.items) result right }
-        ensures tested { let tests = section_headers_tested bytes.now offset count ctx in
-            (offset ≢ 0) → IfErr tests (λ refusal. Refuses result refusal) }
+        ensures tested { IfErr (section_headers_of_tested bytes.now offset count ctx)
+            (λ refusal. Refuses result refusal) }
         ensures none { (offset ≡ 0) → IsOk result }
     {
         if offset == 0 {
@@ -363,23 +366,32 @@ impl SectionHeader {
     ) -> Result<Vec<SectionHeader>>
         ensures given { let right = section_headers_from bytes.now offset count ctx in
             Gives (λ v. v.items) result right }
-        ensures tested { let tests = section_headers_tested bytes.now offset count ctx in
-            IfErr tests (λ refusal. Refuses result refusal) }
+        ensures tested { IfErr (section_headers_from_tested bytes.now offset count ctx)
+            (λ refusal. Refuses result refusal) }
     {
         let first: SectionHeader = read_at(bytes, offset, ctx)?;
         let asked = first.count_asked(count);
         read_all(alloc, bytes, offset, asked.max(1), ctx, "section headers")
     }
 
-    /// Whether the section lies inside a file of `size` bytes, and its addresses inside all addresses.
+    /// Whether the section lies inside a file of `size` bytes, and its addresses inside all addresses:
+    /// [`SectionHeader::check_size_with_opts`], strictly.
+    pub fn check_size(&self, size: usize) -> Result<()>
+        ensures { result ≡ size_checked size self.now }
+    {
+        self.check_size_with_opts(size, false)
+    }
+
+    /// Whether the section lies inside a file of `size` bytes, and its addresses inside all addresses;
+    /// where `permissive` is true, every section passes.
     ///
     /// A section without bytes in the file (`SHT_NOBITS`, or of size 0) is not looked at. Else the
     /// first of these that applies is the error: `SectionOffset`, where the section ends past the
     /// file's end; `SectionAddr`, where its last address and one more pass `u64`.
-    pub fn check_size(&self, size: usize) -> Result<()>
-        ensures { result ≡ size_checked size self.now }
+    pub fn check_size_with_opts(&self, size: usize, permissive: bool) -> Result<()>
+        ensures { result ≡ size_checked_in permissive size self.now }
     {
-        if self.sh_type == SHT_NOBITS || self.sh_size == 0 {
+        if permissive || self.sh_type == SHT_NOBITS || self.sh_size == 0 {
             return Ok(());
         }
         let (end, overflow) = self.sh_offset.overflowing_add(self.sh_size);
@@ -403,9 +415,10 @@ impl SectionHeader {
         Ok(())
     }
 
-    /// Whether the section holds relocations with addends. Those without (`SHT_REL`) are not counted.
+    /// Whether the section holds relocations with addends (`SHT_RELA`, type 4). Those without
+    /// (`SHT_REL`) are not counted.
     pub fn is_relocation(&self) -> bool
-        ensures { IsTrue result ↔ (self.now.sh_type ≡ SHT_RELA) }
+        ensures { IsTrue result ↔ (self.now.sh_type ≡ 4) }
     {
         self.sh_type == SHT_RELA
     }
