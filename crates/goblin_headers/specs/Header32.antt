@@ -5,6 +5,10 @@ use Rattle.goblin_base.specs.Fields.{Field, field, image_of_fields}
 use Rattle.goblin_base.specs.Number.{number_at}
 use Rattle.goblin_headers.specs.declared.header32.Header.{Header}
 
+-- how many bytes a header has
+abbrev pub header32_size : ℕ
+header32_size = 52
+
 -- the header that bytes stand for: its first 16 bytes as they are, and each other field the number at its place
 abbrev pub header32_of : Endian → List ℕ → Header
 header32_of order bytes = record {

@@ -5,6 +5,10 @@ use Rattle.goblin_base.specs.Fields.{Field, field, image_of_fields}
 use Rattle.goblin_base.specs.Number.{number_at}
 use Rattle.goblin_headers.specs.declared.header64.Header.{Header}
 
+-- how many bytes a header has
+abbrev pub header64_size : ℕ
+header64_size = 64
+
 -- the header that bytes stand for: its first 16 bytes as they are, and each other field the number at its place
 abbrev pub header64_of : Endian → List ℕ → Header
 header64_of order bytes = record {

@@ -5,6 +5,10 @@ use Rattle.goblin_base.specs.Fields.{Field, field, image_of_fields}
 use Rattle.goblin_base.specs.Number.{IsBytes, number_at}
 use Rattle.goblin_headers.specs.declared.program_header32.ProgramHeader.{ProgramHeader}
 
+-- how many bytes a program header has
+abbrev pub program_header32_size : ℕ
+program_header32_size = 32
+
 -- the program header that bytes stand for: each field is the number at its place, of so many bytes
 abbrev pub program_header32_of : Endian → List ℕ → ProgramHeader
 program_header32_of order bytes = record {

@@ -5,6 +5,10 @@ use Rattle.goblin_base.specs.Fields.{Field, field, image_of_fields}
 use Rattle.goblin_base.specs.Number.{IsBytes, number_at}
 use Rattle.goblin_headers.specs.declared.section_header32.SectionHeader.{SectionHeader}
 
+-- how many bytes a section header has
+abbrev pub section_header32_size : ℕ
+section_header32_size = 40
+
 -- the section header that bytes stand for: each field is the number at its place, of so many bytes
 abbrev pub section_header32_of : Endian → List ℕ → SectionHeader
 section_header32_of order bytes = record {

@@ -7,6 +7,10 @@ ghost use Rattle.goblin_base.specs.Record.{read_within, Writes};
 ghost use Rattle.goblin_base.specs.Steps.{with_size};
 ghost use Rattle.goblin_base.specs.Refusal.{Gives, Refuses};
 ghost use Rattle.goblin_headers.specs.Ranges.{span};
+ghost use Rattle.std.specs.Prelude.{replicate};
+ghost use Rattle.goblin_base.specs.declared.container.Container.TheVariants as class;
+ghost use Rattle.goblin_base.specs.FieldLaws.{values_of};
+ghost use Rattle.goblin_headers.specs.ProgramHeader.{program_header_fields};
 ghost use Rattle.goblin_headers.specs.ProgramHeader.{program_header_size, program_header_of};
 ghost use Rattle.goblin_headers.specs.ProgramHeader.{program_header_image, OneImage};
 ghost use Rattle.goblin_headers.specs.ProgramHeader.{SameInEachClass};
@@ -341,10 +345,18 @@ impl Record<Ctx> for ProgramHeader {
     ghost writes_back = { λ ctx. image-program_header_of ctx.container ctx.le };
 }
 
-/// Laws: what the constants of this module stand for, but for those that [`pt_to_str`] names. A
-/// call does nothing.
+/// Laws: the numbers of this module's constants. A call does nothing.
 pub fn constants()
-    ensures ranges { PT_LOSUNW ∷ PT_HISUNW ∷ [] ≡ 0x6ffffffa ∷ 0x6fffffff ∷ [] }
+    ensures types { PT_NULL ∷ PT_LOAD ∷ PT_DYNAMIC ∷ PT_INTERP ∷ PT_NOTE ∷ PT_SHLIB ∷ PT_PHDR
+        ∷ PT_TLS ∷ PT_NUM ∷ []
+        ≡ 0 ∷ 1 ∷ 2 ∷ 3 ∷ 4 ∷ 5 ∷ 6 ∷ 7 ∷ 8 ∷ [] }
+    ensures ranges { PT_LOOS ∷ PT_HIOS ∷ PT_LOPROC ∷ PT_HIPROC ∷ []
+        ≡ 0x60000000 ∷ 0x6fffffff ∷ 0x70000000 ∷ 0x7fffffff ∷ [] }
+    ensures gnu { PT_GNU_EH_FRAME ∷ PT_GNU_STACK ∷ PT_GNU_RELRO ∷ PT_GNU_PROPERTY ∷ []
+        ≡ 0x6474e550 ∷ 0x6474e551 ∷ 0x6474e552 ∷ 0x6474e553 ∷ [] }
+    ensures sun { PT_LOSUNW ∷ PT_SUNWBSS ∷ PT_SUNWSTACK ∷ PT_HISUNW ∷ []
+        ≡ 0x6ffffffa ∷ 0x6ffffffa ∷ 0x6ffffffb ∷ 0x6fffffff ∷ [] }
+    ensures arm { PT_ARM_EXIDX ≡ 0x70000001 }
     ensures flags { PF_X ∷ PF_W ∷ PF_R ∷ PF_MASKOS ∷ PF_MASKPROC ∷ []
         ≡ 1 ∷ 2 ∷ 4 ∷ 0x0ff00000 ∷ 0xf0000000 ∷ [] }
 {}
@@ -355,3 +367,10 @@ pub fn laws()
     ensures image { OneImage }
     ensures same { SameInEachClass }
 {}
+
+/// A law: the default program header is the one of zeros, which a call answers.
+pub fn default_is_zeros() -> ProgramHeader
+    ensures { values_of (program_header_fields class.Big result) ≡ replicate 8 0 }
+{
+    ProgramHeader::default()
+}

@@ -1,12 +1,15 @@
 //! Section headers, which tell what a file holds: System V gABI, "Section Header".
-ghost use Rattle.std.specs.Prelude.{◌≡◌, ◌≤◌, ◌<◌, ◌/◌, ◌↔◌, ◌++◌, ◌≢◌, [], ◌∷◌, IsTrue, IfErr};
-ghost use Rattle.std.specs.Prelude.{IsNone, IsOk, IfSome, length, drop, codes};
+ghost use Rattle.std.specs.Prelude.{◌≡◌, ◌≤◌, ◌↔◌, ◌++◌, [], ◌∷◌, IsTrue, IfErr, IsNone, IsOk};
+ghost use Rattle.std.specs.Prelude.{IfSome, length, drop, map};
 ghost use Rattle.std.specs.Int.{IsBitSet};
 ghost use Rattle.goblin_base.specs.Record.{read_within, Writes};
 ghost use Rattle.goblin_base.specs.Steps.{with_size};
-ghost use Rattle.goblin_base.specs.Refusal.{buffer_too_short, Gives, Refuses};
-ghost use Rattle.goblin_base.specs.Room.{room_of};
+ghost use Rattle.goblin_base.specs.Refusal.{Gives, Refuses};
 ghost use Rattle.goblin_headers.specs.Ranges.{span};
+ghost use Rattle.std.specs.Prelude.{replicate};
+ghost use Rattle.goblin_base.specs.declared.container.Container.TheVariants as class;
+ghost use Rattle.goblin_base.specs.FieldLaws.{values_of};
+ghost use Rattle.goblin_headers.specs.SectionHeader.{section_header_fields};
 ghost use Rattle.goblin_headers.specs.SectionHeader.{section_header_size, section_header_of};
 ghost use Rattle.goblin_headers.specs.SectionHeader.{section_header_image, OneImage};
 ghost use Rattle.goblin_headers.specs.SectionHeader.{SameInEachClass};
@@ -17,6 +20,7 @@ ghost use Rattle.goblin_headers.specs.SectionHeaders.{section_headers_of};
 ghost use Rattle.goblin_headers.specs.SectionHeaders.{section_headers_of_tested};
 ghost use Rattle.goblin_headers.specs.SectionHeaders.{size_checked, size_checked_in};
 ghost use Rattle.goblin_headers.specs.SectionNames.{section_name, section_flag_name};
+ghost use Rattle.goblin_headers.specs.SectionNames.{section_flag_names};
 
 pub use crate::{section_header32, section_header64};
 use goblin_base::container::{Container, Ctx};
@@ -567,21 +571,36 @@ impl Record<Ctx> for SectionHeader {
     ghost writes_back = { λ ctx. image-section_header_of ctx.container ctx.le };
 }
 
-/// Laws: what the constants of this module stand for, but for those that [`sht_to_str`] and
-/// [`shf_to_str`] name. A call does nothing.
+/// Laws: the numbers of this module's constants. A call does nothing.
 pub fn constants()
-    ensures indices { SHN_UNDEF ∷ SHN_LORESERVE ∷ SHN_LOPROC ∷ SHN_BEFORE ∷ SHN_AFTER ∷ SHN_HIPROC
-        ∷ SHN_LOOS ∷ SHN_HIOS ∷ SHN_ABS ∷ SHN_COMMON ∷ SHN_XINDEX ∷ SHN_HIRESERVE ∷ []
+    ensures indices { SHN_UNDEF ∷ SHN_LORESERVE ∷ SHN_LOPROC ∷ SHN_BEFORE ∷ SHN_AFTER
+        ∷ SHN_HIPROC ∷ SHN_LOOS ∷ SHN_HIOS ∷ SHN_ABS ∷ SHN_COMMON ∷ SHN_XINDEX ∷ SHN_HIRESERVE ∷ []
         ≡ 0 ∷ 0xff00 ∷ 0xff00 ∷ 0xff00 ∷ 0xff01 ∷ 0xff1f ∷ 0xff20 ∷ 0xff3f ∷ 0xfff1 ∷ 0xfff2
         ∷ 0xffff ∷ 0xffff ∷ [] }
-    ensures ranges { SHT_LOSUNW ∷ SHT_HISUNW ∷ SHT_HIOS ∷ []
-        ≡ 0x6ffffffa ∷ 0x6fffffff ∷ 0x6fffffff ∷ [] }
-    ensures masks { SHF_MASKOS ∷ SHF_MASKPROC ∷ SHF_EXCLUDE ∷ []
-        ≡ 0x0ff00000 ∷ 0xf0000000 ∷ 0x80000000 ∷ [] }
-    ensures flags { SHF_FLAGS ≡ SHF_WRITE ∷ SHF_ALLOC ∷ SHF_EXECINSTR ∷ SHF_MERGE ∷ SHF_STRINGS
+    ensures types { SHT_NULL ∷ SHT_PROGBITS ∷ SHT_SYMTAB ∷ SHT_STRTAB ∷ SHT_RELA ∷ SHT_HASH
+        ∷ SHT_DYNAMIC ∷ SHT_NOTE ∷ SHT_NOBITS ∷ SHT_REL ∷ SHT_SHLIB ∷ SHT_DYNSYM
+        ∷ SHT_INIT_ARRAY ∷ SHT_FINI_ARRAY ∷ SHT_PREINIT_ARRAY ∷ SHT_GROUP ∷ SHT_SYMTAB_SHNDX
+        ∷ SHT_NUM ∷ []
+        ≡ 0 ∷ 1 ∷ 2 ∷ 3 ∷ 4 ∷ 5 ∷ 6 ∷ 7 ∷ 8 ∷ 9 ∷ 10 ∷ 11 ∷ 14 ∷ 15 ∷ 16 ∷ 17 ∷ 18 ∷ 19 ∷ [] }
+    ensures ranges { SHT_LOOS ∷ SHT_HIOS ∷ SHT_LOPROC ∷ SHT_HIPROC ∷ SHT_LOUSER ∷ SHT_HIUSER ∷ []
+        ≡ 0x60000000 ∷ 0x6fffffff ∷ 0x70000000 ∷ 0x7fffffff ∷ 0x80000000 ∷ 0x8fffffff ∷ [] }
+    ensures gnu { SHT_GNU_ATTRIBUTES ∷ SHT_GNU_HASH ∷ SHT_GNU_LIBLIST ∷ SHT_CHECKSUM
+        ∷ SHT_GNU_VERDEF ∷ SHT_GNU_VERNEED ∷ SHT_GNU_VERSYM ∷ []
+        ≡ 0x6ffffff5 ∷ 0x6ffffff6 ∷ 0x6ffffff7 ∷ 0x6ffffff8 ∷ 0x6ffffffd ∷ 0x6ffffffe ∷ 0x6fffffff
+        ∷ [] }
+    ensures sun { SHT_LOSUNW ∷ SHT_SUNW_MOVE ∷ SHT_SUNW_COMDAT ∷ SHT_SUNW_SYMINFO ∷ SHT_HISUNW ∷ []
+        ≡ 0x6ffffffa ∷ 0x6ffffffa ∷ 0x6ffffffb ∷ 0x6ffffffc ∷ 0x6fffffff ∷ [] }
+    ensures x86_64 { SHT_X86_64_UNWIND ≡ 0x70000001 }
+
+    ensures flags { SHF_WRITE ∷ SHF_ALLOC ∷ SHF_EXECINSTR ∷ SHF_MERGE ∷ SHF_STRINGS
         ∷ SHF_INFO_LINK ∷ SHF_LINK_ORDER ∷ SHF_OS_NONCONFORMING ∷ SHF_GROUP ∷ SHF_TLS
-        ∷ SHF_COMPRESSED ∷ SHF_ORDERED ∷ [] }
+        ∷ SHF_COMPRESSED ∷ SHF_ORDERED ∷ []
+        ≡ 0x1 ∷ 0x2 ∷ 0x4 ∷ 0x10 ∷ 0x20 ∷ 0x40 ∷ 0x80 ∷ 0x100 ∷ 0x200 ∷ 0x400 ∷ 0x800 ∷ 0x40000000
+        ∷ [] }
+    ensures all_flags { SHF_FLAGS ≡ map (λ row. row.0) section_flag_names }
     ensures count { SHF_NUM_REGULAR_FLAGS ≡ 12 }
+    ensures others { SHF_MASKOS ∷ SHF_MASKPROC ∷ SHF_EXCLUDE ∷ []
+        ≡ 0x0ff00000 ∷ 0xf0000000 ∷ 0x80000000 ∷ [] }
 {}
 
 /// Laws: which bytes a section header is written as, and that classes and byte orders keep lists of
@@ -590,3 +609,10 @@ pub fn laws()
     ensures image { OneImage }
     ensures same { SameInEachClass }
 {}
+
+/// A law: the default section header is the one of zeros, which a call answers.
+pub fn default_is_zeros() -> SectionHeader
+    ensures { values_of (section_header_fields class.Big result) ≡ replicate 10 0 }
+{
+    SectionHeader::default()
+}

@@ -1,5 +1,5 @@
 use Rattle.goblin_headers.specs.SectionHeader32Laws.{one_image}
 use Rattle.goblin_headers.proofs.section_header32.laws.Goals as goal
 
-pub returns-clause-image : goal.returns-clause-image
-returns-clause-image c = one_image
+pub returns : goal.returns
+returns c = record { image = one_image }
