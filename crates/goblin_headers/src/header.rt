@@ -1,7 +1,8 @@
 //! The header of an ELF file: System V gABI, "ELF Header" and "ELF Identification".
 ghost use Rattle.std.specs.Prelude.{◌≡◌, ◌≤◌, ◌++◌, [], ◌∷◌, length, take, drop};
 ghost use Rattle.goblin_headers.specs.Header.{header_size, magic, order_named};
-ghost use Rattle.goblin_headers.specs.HeaderTrips.{ReadsBack, WritesBack};
+ghost use Rattle.goblin_headers.specs.HeaderTrips.{OneImage, ReadsBack, WrittenAndReadBack};
+ghost use Rattle.goblin_headers.specs.HeaderTrips.{ImageOfRead, WritesBack};
 ghost use Rattle.goblin_headers.specs.HeaderTrips.{NewIsOfContext, NewIsReadBack};
 ghost use Rattle.goblin_headers.specs.Machines.{machine_numbers};
 ghost use Rattle.goblin_headers.specs.Names.{class_name, type_name};
@@ -250,7 +251,7 @@ pub struct Header {
 
 impl Header {
     ghost use Rattle.goblin_base.specs.declared.error.Fault.TheVariants as faults;
-    ghost use Rattle.goblin_headers.specs.Header.{class_of, new_header, order_of_header};
+    ghost use Rattle.goblin_headers.specs.Header.{class_of, new_header, order_of};
 
     /// How many bytes a header has in this context: 52 or 64.
     pub fn size(ctx: Ctx) -> usize
@@ -272,7 +273,7 @@ impl Header {
 
     /// The byte order that the data byte names. A byte other than 1 and 2 is `InvalidEndianness`.
     pub fn endianness(&self) -> Result<Endian>
-        ensures { result ≡ order_of_header faults.InvalidEndianness self.now.e_ident }
+        ensures { result ≡ order_of faults.InvalidEndianness self.now.e_ident }
     {
         match self.e_ident[EI_DATA] {
             ELFDATA2LSB => Ok(LE),
@@ -362,7 +363,7 @@ impl<'a> TryFromCtx<'a, Endian> for Header {
 
     ghost try_from_gives = { λ bytes _ answer. answer ≡ read_header bytes };
 
-    #[tactic(auto, unfolding(crate::specs::ReadHeader::read_header, crate::specs::ReadHeader::read_header32, crate::specs::ReadHeader::read_header64, goblin_base::specs::Room::room_of))]
+    #[tactic(auto, unfolding(crate::specs::ReadHeader::read_header, crate::specs::ReadHeader::read_in_order, goblin_base::specs::Room::room_of))]
     fn try_from_ctx(bytes: &'a [u8], ctx: Endian) -> Result<(Self, usize)> {
         if bytes.len() < SIZEOF_IDENT {
             return Err(Error::Malformed(Fault::TooSmall));
@@ -428,11 +429,17 @@ impl IntoCtx<Ctx> for Header {
     }
 }
 
-/// Laws: what fits is read back from what was written, and what was read is written back; a new
-/// header has the class and the byte order of its context, and is read back from its own bytes. A
-/// call does nothing.
+/// Laws: the image of a header is the one list of bytes that reads so. What fits the class that it
+/// names is read back from its image there, whatever follows, and so where `try_into_ctx` wrote it,
+/// which succeeds wherever there is room, or `into_ctx` put it in that class. What was read from bytes
+/// has them as its image, and is written over them without an error and without a change. A new header
+/// names the class and the byte order of its context, and is read back from its own bytes. A call does
+/// nothing.
 pub fn laws()
+    ensures image { OneImage }
     ensures reads_back { ReadsBack }
+    ensures written { WrittenAndReadBack }
+    ensures image_of_read { ImageOfRead }
     ensures writes_back { WritesBack }
     ensures new_context { NewIsOfContext }
     ensures new_reads_back { NewIsReadBack }

@@ -2,11 +2,13 @@
 ghost use Rattle.std.specs.Prelude.{◌≡◌, ◌≤◌, ◌++◌, [], ◌∷◌, length, drop, replicate};
 ghost use Rattle.goblin_headers.specs.Header.{magic};
 ghost use Rattle.goblin_base.specs.FieldLaws.{values_of};
-ghost use Rattle.goblin_headers.specs.Header32.{header32_fields};
 ghost use Rattle.goblin_headers.specs.Header32.{header32_of, header32_image, header32_size};
-ghost use Rattle.goblin_headers.specs.HeaderTrips.{ReadsBack32, WritesBack32};
+ghost use Rattle.goblin_headers.specs.Header32.{header32_fields, header32_low, Header32Fits};
+ghost use Rattle.goblin_headers.specs.HeaderTrips.{IsOneHeaderImage, IsReadBack};
+ghost use Rattle.goblin_headers.specs.HeaderTrips.{IsWrittenAndReadBack, IsWrittenBack};
 ghost use Rattle.goblin_headers.specs.Machines.{machine_numbers};
 ghost use Rattle.goblin_headers.specs.ReadHeader.{read_header32};
+ghost use Rattle.goblin_headers.specs.WriteHeader.{WritesHeader32};
 
 use crate::header::{Header as ElfHeader, ident_of, order_of, put_ident};
 use goblin_base::container::Endian;
@@ -112,7 +114,7 @@ impl Header {
 
     // The header at the start of the bytes, in this byte order.
     fn at(bytes: &[u8], order: Endian) -> Header
-        requires { 52 ≤ length bytes.now }
+        requires { header32_size ≤ length bytes.now }
         ensures { result ≡ header32_of order bytes.now }
     {
         let e_ident = ident_of(bytes);
@@ -136,8 +138,8 @@ impl Header {
 
     // Puts the header at the start of the bytes, in this byte order.
     pub(crate) fn put(&self, bytes: &mut [u8], order: Endian)
-        requires { 52 ≤ length bytes.old }
-        ensures { bytes.new ≡ header32_image order self.now ++ drop 52 bytes.old }
+        requires { header32_size ≤ length bytes.old }
+        ensures { bytes.new ≡ header32_image order self.now ++ drop header32_size bytes.old }
     {
         put_ident(bytes, &self.e_ident);
         put_u16(bytes, 16, self.e_type, order);
@@ -167,7 +169,7 @@ impl Header {
     /// The errors, of which the first that applies is the answer: no room for the 16 bytes of the
     /// identification; `Data`, where the data byte is neither 1 nor 2; no room for the 52 bytes of
     /// a header.
-    #[tactic(auto, unfolding(crate::specs::ReadHeader::read_header32))]
+    #[tactic(auto, unfolding(crate::specs::ReadHeader::read_in_order))]
     pub fn parse(bytes: &[u8]) -> Result<Header>
         ensures { result ≡ read_header32 faults.Data bytes.now }
     {
@@ -181,9 +183,9 @@ impl Header {
 }
 
 impl From<Header> for ElfHeader {
-    ghost use Rattle.goblin_headers.specs.Header.{unified32};
+    ghost use Rattle.goblin_headers.specs.Header.{widened32};
 
-    ghost from_gives = { λ header unified. unified ≡ unified32 header };
+    ghost from_gives = { λ raw header. header ≡ widened32 raw };
 
     fn from(header: Header) -> ElfHeader {
         let e_ident = header.e_ident;
@@ -208,9 +210,9 @@ impl From<Header> for ElfHeader {
 
 /// Of the entry and the two offsets the low bits are kept, as many as their fields have room for.
 impl From<ElfHeader> for Header {
-    ghost use Rattle.goblin_headers.specs.Header.{narrowed32};
+    ghost use Rattle.goblin_headers.specs.Header.{as32};
 
-    ghost from_gives = { λ header raw. raw ≡ narrowed32 header };
+    ghost from_gives = { λ header raw. raw ≡ header32_low (as32 header) };
 
     fn from(header: ElfHeader) -> Header {
         let e_ident = header.e_ident;
@@ -240,9 +242,9 @@ impl<'a> TryFromCtx<'a, Endian> for Header {
     ghost use Rattle.goblin_base.specs.Steps.{with_size};
 
     ghost try_from_gives = { λ bytes _ answer.
-        answer ≡ with_size 52 (read_header32 faults.DataType bytes) };
+        answer ≡ with_size header32_size (read_header32 faults.DataType bytes) };
 
-    #[tactic(auto, unfolding(crate::specs::ReadHeader::read_header32))]
+    #[tactic(auto, unfolding(crate::specs::ReadHeader::read_in_order))]
     fn try_from_ctx(bytes: &'a [u8], _ctx: Endian) -> Result<(Self, usize)> {
         room(bytes.len(), 0, SIZEOF_IDENT)?;
         let Some(order) = order_of(bytes[EI_DATA]) else {
@@ -258,8 +260,6 @@ impl<'a> TryFromCtx<'a, Endian> for Header {
 /// The errors, of which the first that applies is the answer: `Data`, where the data byte is neither
 /// 1 nor 2; no room for the 52 bytes of a header. Then no byte is written.
 impl TryIntoCtx<Endian> for Header {
-    ghost use Rattle.goblin_headers.specs.WriteHeader.{WritesHeader32};
-
     ghost try_into_gives = { λ header _ old answer new. WritesHeader32 header old answer new };
 
     #[tactic(auto, using(crate::specs::WriteHeaderLaws::header_answers))]
@@ -273,11 +273,15 @@ impl TryIntoCtx<Endian> for Header {
     }
 }
 
-/// Laws: what fits is read back from what was written, and what was read is written back. A call does
-/// nothing.
+/// Laws: the image of a header is the one list of bytes that reads so; what fits is read back, from its
+/// image and from where it was written; what was read is written back. A call does nothing.
 pub fn laws()
-    ensures reads_back { ReadsBack32 }
-    ensures writes_back { WritesBack32 }
+    ensures image { IsOneHeaderImage header32_size (λ h. h.e_ident) header32_of header32_image
+        header32_low }
+    ensures reads_back { IsReadBack (λ h. h.e_ident) Header32Fits header32_image read_header32 }
+    ensures written { IsWrittenAndReadBack header32_size (λ h. h.e_ident) Header32Fits WritesHeader32
+        read_header32 }
+    ensures writes_back { IsWrittenBack header32_size read_header32 WritesHeader32 }
 {}
 
 /// A law: the default header is the one of zeros, which a call answers.
