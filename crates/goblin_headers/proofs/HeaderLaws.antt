@@ -5,8 +5,8 @@ use Rattle.std.proofs.lemmas.List.{append_assoc, append-nil, length-append, take
 use Rattle.goblin_base.specs.declared.container.Container.{Container}
 use Rattle.goblin_base.specs.declared.container.Container.TheVariants as class
 use Rattle.goblin_base.specs.declared.container.Endian.{Endian}
-use Rattle.goblin_base.specs.Fields.{Field, FieldsFit, size_of_fields, image_of_fields}
-use Rattle.goblin_base.specs.FieldLaws.{values_at, fields_at, total, widths_of, values_of, lows_of, values_at-image, lows_of-fits, image-fields_at, length-image_of_fields, IsBytes-image_of_fields}
+use Rattle.goblin_base.specs.Fields.{Field, FieldsFit, size_of_fields, image_of_fields, values_at, fields_at, total, widths_of, values_of, lows_of}
+use Rattle.goblin_base.specs.FieldLaws.{values_at-image, lows_of-fits, image-fields_at, length-image_of_fields, IsBytes-image_of_fields}
 use Rattle.goblin_base.specs.Number.{IsBytes}
 use Rattle.goblin_base.specs.NumberLaws.{IsBytes-append}
 use Rattle.goblin_headers.specs.declared.header.Header.{Header}

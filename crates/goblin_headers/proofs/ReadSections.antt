@@ -7,7 +7,7 @@ use Rattle.goblin_base.specs.declared.container.Container.{Container}
 use Rattle.goblin_base.specs.declared.container.Container.TheVariants.{Little, Big}
 use Rattle.goblin_base.specs.declared.container.Ctx.{Ctx}
 use Rattle.goblin_base.specs.declared.error.Error.{Error}
-use Rattle.goblin_base.specs.declared.scroll.Error.{Error as Fault}
+use Rattle.goblin_base.specs.declared.scroll.Error.{Error as Misplaced}
 use Rattle.goblin_base.specs.Eager.{records_from, records_in}
 use Rattle.goblin_base.specs.Record.{unless_fault}
 use Rattle.goblin_base.specs.RecordLaws.{unless_fault-is, unless_fault-err, fits-room_of}
@@ -16,7 +16,7 @@ use Rattle.goblin_base.specs.Room.{room_of}
 use Rattle.goblin_base.proofs.Eager.{too_many}
 use Rattle.goblin_headers.specs.declared.section_header.SectionHeader.{SectionHeader}
 use Rattle.goblin_headers.specs.SectionHeader.{section_header_size, section_header_of}
-use Rattle.goblin_headers.specs.SectionHeaderLaws.{section_header_of-append}
+use Rattle.goblin_headers.specs.SectionHeaderLaws.{section_header_laws}
 use Rattle.goblin_headers.specs.SectionHeaders.{count_told, count_asked, section_headers_from_tested, section_headers_from}
 
 -- the answer of the first header's reading
@@ -29,7 +29,7 @@ abbrev pub items : List ℕ
 items = codes "section headers"
 
 -- without room for the first header the tests refuse
-no_room : (bytes : List ℕ) (offset count : ℕ) (ctx : Ctx) (d : Fault) → room_of (length bytes) offset (section_header_size ctx.container) ≡ Err d → section_headers_from_tested bytes offset count ctx ≡ Err (misplaced d)
+no_room : (bytes : List ℕ) (offset count : ℕ) (ctx : Ctx) (d : Misplaced) → room_of (length bytes) offset (section_header_size ctx.container) ≡ Err d → section_headers_from_tested bytes offset count ctx ≡ Err (misplaced d)
 unfolding section_headers_from_tested
 no_room bytes offset count ctx d fault = rw fault refl
 
@@ -51,7 +51,7 @@ same_first bytes offset ctx first is =
     let found = unless_fault-is (room_of (length bytes) offset size) first (section_header_of ctx.container ctx.le (take size rest)) is in
     let fits = fits-room_of (length bytes) offset size tt found.0 in
     let long : size ≤ length (take size rest) = omega (arith, length-take-le size rest (omega (arith, length-drop offset bytes))) in
-    found.1 ∙ sym (section_header_of-append ctx.container ctx.le (take size rest) (drop size rest) long) ∙ ap (section_header_of ctx.container ctx.le) (take-append-drop size rest)
+    found.1 ∙ sym ((section_header_laws ctx.container ctx.le).reads_front (take size rest) (drop size rest) long) ∙ ap (section_header_of ctx.container ctx.le) (take-append-drop size rest)
 
 -- with room for the first header, what is left of the tests is the one of the count
 few : (bytes : List ℕ) (offset count : ℕ) (ctx : Ctx) (first : SectionHeader) (asked : ℕ) → Ok first ≡ read_first bytes offset ctx → asked ≡ count_told first count → asked ≤ length bytes / section_header_size ctx.container → section_headers_from_tested bytes offset count ctx ≡ Ok tt

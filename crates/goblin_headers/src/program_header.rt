@@ -8,12 +8,14 @@ ghost use Rattle.goblin_base.specs.Steps.{with_size};
 ghost use Rattle.goblin_base.specs.Refusal.{Gives, Refuses};
 ghost use Rattle.goblin_headers.specs.Ranges.{span};
 ghost use Rattle.std.specs.Prelude.{replicate};
-ghost use Rattle.goblin_base.specs.declared.container.Container.TheVariants as class;
-ghost use Rattle.goblin_base.specs.FieldLaws.{values_of};
-ghost use Rattle.goblin_headers.specs.ProgramHeader.{program_header_fields};
+ghost use Rattle.goblin_base.specs.declared.container.Container.{Container as Class};
+ghost use Rattle.goblin_base.specs.declared.container.Endian.{Endian as ByteOrder};
+ghost use Rattle.goblin_base.specs.Layout.{IsOneImage, IsSameInEachClass};
+ghost use Rattle.goblin_base.specs.Fields.{values_of};
+ghost use Rattle.goblin_headers.specs.ProgramHeader.{as64};
+ghost use Rattle.goblin_headers.specs.ProgramHeader64.{program_header64_fields};
 ghost use Rattle.goblin_headers.specs.ProgramHeader.{program_header_size, program_header_of};
-ghost use Rattle.goblin_headers.specs.ProgramHeader.{program_header_image, OneImage};
-ghost use Rattle.goblin_headers.specs.ProgramHeader.{SameInEachClass};
+ghost use Rattle.goblin_headers.specs.ProgramHeader.{program_header_image, program_header_low, ProgramHeaderFits};
 ghost use Rattle.goblin_headers.specs.ProgramHeaders.{new_program_header};
 ghost use Rattle.goblin_headers.specs.ProgramHeaders.{program_headers_from};
 ghost use Rattle.goblin_headers.specs.ProgramHeaders.{program_headers_tested};
@@ -309,13 +311,7 @@ impl TryIntoCtx<Ctx> for ProgramHeader {
 }
 
 impl Record<Ctx> for ProgramHeader {
-    ghost use Rattle.goblin_base.specs.FieldLaws.{IsBytes-image_of_fields};
-    ghost use Rattle.goblin_headers.specs.ProgramHeader.{ProgramHeaderFits, program_header_fields};
-    ghost use Rattle.goblin_headers.specs.ProgramHeaderLaws.{program_header_size-positive};
-    ghost use Rattle.goblin_headers.specs.ProgramHeaderLaws.{length-program_header_image};
-    ghost use Rattle.goblin_headers.specs.ProgramHeaderLaws.{program_header_of-append};
-    ghost use Rattle.goblin_headers.specs.ProgramHeaderLaws.{program_header_of-image};
-    ghost use Rattle.goblin_headers.specs.ProgramHeaderLaws.{image-program_header_of};
+    ghost use Rattle.goblin_headers.specs.ProgramHeaderLaws.{program_header_laws};
 
     ghost read = { λ ctx. program_header_of ctx.container ctx.le };
 
@@ -329,20 +325,19 @@ impl Record<Ctx> for ProgramHeader {
         Ok(ProgramHeader::at(bytes, ctx))
     }
 
-    ghost size_positive = { λ ctx. program_header_size-positive ctx.container };
+    ghost size_positive = { λ ctx. (program_header_laws ctx.container ctx.le).size_positive };
 
-    ghost length_image = { λ ctx. length-program_header_image ctx.container ctx.le };
+    ghost length_image = { λ ctx. (program_header_laws ctx.container ctx.le).length_image };
 
-    ghost image_bytes = { λ ctx header.
-        IsBytes-image_of_fields ctx.le (program_header_fields ctx.container header) };
+    ghost image_bytes = { λ ctx. (program_header_laws ctx.container ctx.le).image_bytes };
 
     ghost writes_image = { λ ctx header old new answer so. so };
 
-    ghost reads_front = { λ ctx. program_header_of-append ctx.container ctx.le };
+    ghost reads_front = { λ ctx. (program_header_laws ctx.container ctx.le).reads_front };
 
-    ghost reads_back = { λ ctx. program_header_of-image ctx.container ctx.le };
+    ghost reads_back = { λ ctx. (program_header_laws ctx.container ctx.le).reads_back };
 
-    ghost writes_back = { λ ctx. image-program_header_of ctx.container ctx.le };
+    ghost writes_back = { λ ctx. (program_header_laws ctx.container ctx.le).writes_back };
 }
 
 /// Laws: the numbers of this module's constants. A call does nothing.
@@ -364,13 +359,14 @@ pub fn constants()
 /// Laws: which bytes a program header is written as, and that classes and byte orders keep lists of
 /// program headers the same. A call does nothing.
 pub fn laws()
-    ensures image { OneImage }
-    ensures same { SameInEachClass }
+    ensures image { (class : Class) (order : ByteOrder) →
+        IsOneImage (program_header_size class) (program_header_of class order) (program_header_image class order) (program_header_low class) }
+    ensures same { IsSameInEachClass program_header_size program_header_of program_header_image ProgramHeaderFits }
 {}
 
 /// A law: the default program header is the one of zeros, which a call answers.
 pub fn default_is_zeros() -> ProgramHeader
-    ensures { values_of (program_header_fields class.Big result) ≡ replicate 8 0 }
+    ensures { values_of (program_header64_fields (as64 result)) ≡ replicate 8 0 }
 {
     ProgramHeader::default()
 }

@@ -2,15 +2,17 @@
 ghost use Rattle.std.specs.Prelude.{◌≡◌, ◌≤◌, ◌*◌, ◌++◌, [], ◌∷◌, length, drop, IfErr, IfOk, IsOk};
 ghost use Rattle.std.specs.Prelude.{alloc_error};
 ghost use Rattle.goblin_base.specs.Eager.{records_in, room_of_each};
+ghost use Rattle.goblin_base.specs.declared.container.Endian.{Endian as ByteOrder};
+ghost use Rattle.goblin_base.specs.Layout.{IsOneImage};
 ghost use Rattle.goblin_base.specs.Record.{read_within, Writes};
 ghost use Rattle.goblin_base.specs.Steps.{with_size};
 ghost use Rattle.goblin_base.specs.Refusal.{Gives};
 ghost use Rattle.goblin_base.specs.Table.{records};
 ghost use Rattle.std.specs.Prelude.{replicate};
-ghost use Rattle.goblin_base.specs.FieldLaws.{values_of};
+ghost use Rattle.goblin_base.specs.Fields.{values_of};
 ghost use Rattle.goblin_headers.specs.ProgramHeader32.{program_header32_fields};
 ghost use Rattle.goblin_headers.specs.ProgramHeader32.{program_header32_of, program_header32_image};
-ghost use Rattle.goblin_headers.specs.ProgramHeader32.{program_header32_size, OneImage};
+ghost use Rattle.goblin_headers.specs.ProgramHeader32.{program_header32_size, program_header32_low};
 
 use crate::program_header::ProgramHeader as ElfProgramHeader;
 use goblin_base::container::Endian;
@@ -135,7 +137,6 @@ impl From<ProgramHeader> for ElfProgramHeader {
 /// Of each field the low bits are kept, as many as it has room for.
 impl From<ElfProgramHeader> for ProgramHeader {
     ghost use Rattle.goblin_headers.specs.ProgramHeader.{as32};
-    ghost use Rattle.goblin_headers.specs.ProgramHeader32.{program_header32_low};
 
     ghost from_gives = { λ header raw. raw ≡ program_header32_low (as32 header) };
 
@@ -154,7 +155,7 @@ impl From<ElfProgramHeader> for ProgramHeader {
 }
 
 impl SizeWith<Endian> for ProgramHeader {
-    ghost size_of = { λ _. 32 };
+    ghost size_of = { λ _. program_header32_size };
 
     fn size_with(_order: &Endian) -> usize {
         SIZEOF_PHDR
@@ -164,7 +165,7 @@ impl SizeWith<Endian> for ProgramHeader {
 /// Refused is only what has no room.
 impl<'a> TryFromCtx<'a, Endian> for ProgramHeader {
     ghost try_from_gives = { λ bytes order answer.
-        answer ≡ with_size 32 (read_within 32 (program_header32_of order) bytes) };
+        answer ≡ with_size program_header32_size (read_within program_header32_size (program_header32_of order) bytes) };
 
     fn try_from_ctx(bytes: &'a [u8], order: Endian) -> Result<(Self, usize)> {
         let header = ProgramHeader::read_record(bytes, order)?;
@@ -175,7 +176,7 @@ impl<'a> TryFromCtx<'a, Endian> for ProgramHeader {
 /// Refused is only what has no room, and then no byte is written.
 impl TryIntoCtx<Endian> for ProgramHeader {
     ghost try_into_gives = { λ header order old answer new.
-        Writes 32 (program_header32_image order header) old answer new };
+        Writes program_header32_size (program_header32_image order header) old answer new };
 
     #[tactic(auto, using(goblin_base::specs::RecordLaws::record_answers))]
     fn try_into_ctx(self, bytes: &mut [u8], order: Endian) -> Result<usize> {
@@ -186,19 +187,14 @@ impl TryIntoCtx<Endian> for ProgramHeader {
 }
 
 impl Record<Endian> for ProgramHeader {
-    ghost use Rattle.goblin_base.specs.Fields.{FieldsFit};
-    ghost use Rattle.goblin_base.specs.FieldLaws.{IsBytes-image_of_fields};
-    ghost use Rattle.goblin_headers.specs.ProgramHeader32.{program_header32_fields};
-    ghost use Rattle.goblin_headers.specs.ProgramHeader32Laws.{positive, length-image};
-    ghost use Rattle.goblin_headers.specs.ProgramHeader32Laws.{program_header32_of-append};
-    ghost use Rattle.goblin_headers.specs.ProgramHeader32Laws.{program_header32_of-image};
-    ghost use Rattle.goblin_headers.specs.ProgramHeader32Laws.{image-program_header32_of};
+    ghost use Rattle.goblin_headers.specs.ProgramHeader32.{ProgramHeader32Fits};
+    ghost use Rattle.goblin_headers.specs.ProgramHeader32Laws.{program_header32_laws};
 
     ghost read = { program_header32_of };
 
     ghost image = { program_header32_image };
 
-    ghost fits = { λ _ header. FieldsFit (program_header32_fields header) };
+    ghost fits = { λ _. ProgramHeader32Fits };
 
     #[tactic(auto, using(goblin_base::specs::RecordLaws::record_answers))]
     fn read_record(bytes: &[u8], order: Endian) -> Result<Self> {
@@ -206,19 +202,19 @@ impl Record<Endian> for ProgramHeader {
         Ok(ProgramHeader::at(bytes, order))
     }
 
-    ghost size_positive = { λ _. positive };
+    ghost size_positive = { λ order. (program_header32_laws order).size_positive };
 
-    ghost length_image = { length-image };
+    ghost length_image = { λ order. (program_header32_laws order).length_image };
 
-    ghost image_bytes = { λ order header. IsBytes-image_of_fields order (program_header32_fields header) };
+    ghost image_bytes = { λ order. (program_header32_laws order).image_bytes };
 
     ghost writes_image = { λ order header old new answer so. so };
 
-    ghost reads_front = { program_header32_of-append };
+    ghost reads_front = { λ order. (program_header32_laws order).reads_front };
 
-    ghost reads_back = { program_header32_of-image };
+    ghost reads_back = { λ order. (program_header32_laws order).reads_back };
 
-    ghost writes_back = { image-program_header32_of };
+    ghost writes_back = { λ order. (program_header32_laws order).writes_back };
 }
 
 /// Laws: the numbers of this module's own constants, and of those that it passes on, under the names
@@ -242,7 +238,8 @@ pub fn constants()
 
 /// A law: which bytes a program header is written as. A call does nothing.
 pub fn laws()
-    ensures image { OneImage }
+    ensures image { (order : ByteOrder) →
+        IsOneImage program_header32_size (program_header32_of order) (program_header32_image order) program_header32_low }
 {}
 
 /// A law: the default program header is the one of zeros, which a call answers.

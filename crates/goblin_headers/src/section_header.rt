@@ -7,12 +7,14 @@ ghost use Rattle.goblin_base.specs.Steps.{with_size};
 ghost use Rattle.goblin_base.specs.Refusal.{Gives, Refuses};
 ghost use Rattle.goblin_headers.specs.Ranges.{span};
 ghost use Rattle.std.specs.Prelude.{replicate};
-ghost use Rattle.goblin_base.specs.declared.container.Container.TheVariants as class;
-ghost use Rattle.goblin_base.specs.FieldLaws.{values_of};
-ghost use Rattle.goblin_headers.specs.SectionHeader.{section_header_fields};
+ghost use Rattle.goblin_base.specs.declared.container.Container.{Container as Class};
+ghost use Rattle.goblin_base.specs.declared.container.Endian.{Endian as ByteOrder};
+ghost use Rattle.goblin_base.specs.Layout.{IsOneImage, IsSameInEachClass};
+ghost use Rattle.goblin_base.specs.Fields.{values_of};
+ghost use Rattle.goblin_headers.specs.SectionHeader.{as64};
+ghost use Rattle.goblin_headers.specs.SectionHeader64.{section_header64_fields};
 ghost use Rattle.goblin_headers.specs.SectionHeader.{section_header_size, section_header_of};
-ghost use Rattle.goblin_headers.specs.SectionHeader.{section_header_image, OneImage};
-ghost use Rattle.goblin_headers.specs.SectionHeader.{SameInEachClass};
+ghost use Rattle.goblin_headers.specs.SectionHeader.{section_header_image, section_header_low, SectionHeaderFits};
 ghost use Rattle.goblin_headers.specs.SectionHeaders.{new_section_header, count_told};
 ghost use Rattle.goblin_headers.specs.SectionHeaders.{section_headers_from};
 ghost use Rattle.goblin_headers.specs.SectionHeaders.{section_headers_from_tested};
@@ -535,13 +537,7 @@ impl IntoCtx<Ctx> for SectionHeader {
 }
 
 impl Record<Ctx> for SectionHeader {
-    ghost use Rattle.goblin_base.specs.FieldLaws.{IsBytes-image_of_fields};
-    ghost use Rattle.goblin_headers.specs.SectionHeader.{SectionHeaderFits, section_header_fields};
-    ghost use Rattle.goblin_headers.specs.SectionHeaderLaws.{section_header_size-positive};
-    ghost use Rattle.goblin_headers.specs.SectionHeaderLaws.{length-section_header_image};
-    ghost use Rattle.goblin_headers.specs.SectionHeaderLaws.{section_header_of-append};
-    ghost use Rattle.goblin_headers.specs.SectionHeaderLaws.{section_header_of-image};
-    ghost use Rattle.goblin_headers.specs.SectionHeaderLaws.{image-section_header_of};
+    ghost use Rattle.goblin_headers.specs.SectionHeaderLaws.{section_header_laws};
 
     ghost read = { λ ctx. section_header_of ctx.container ctx.le };
 
@@ -555,20 +551,19 @@ impl Record<Ctx> for SectionHeader {
         Ok(SectionHeader::at(bytes, ctx))
     }
 
-    ghost size_positive = { λ ctx. section_header_size-positive ctx.container };
+    ghost size_positive = { λ ctx. (section_header_laws ctx.container ctx.le).size_positive };
 
-    ghost length_image = { λ ctx. length-section_header_image ctx.container ctx.le };
+    ghost length_image = { λ ctx. (section_header_laws ctx.container ctx.le).length_image };
 
-    ghost image_bytes = { λ ctx header.
-        IsBytes-image_of_fields ctx.le (section_header_fields ctx.container header) };
+    ghost image_bytes = { λ ctx. (section_header_laws ctx.container ctx.le).image_bytes };
 
     ghost writes_image = { λ ctx header old new answer so. so };
 
-    ghost reads_front = { λ ctx. section_header_of-append ctx.container ctx.le };
+    ghost reads_front = { λ ctx. (section_header_laws ctx.container ctx.le).reads_front };
 
-    ghost reads_back = { λ ctx. section_header_of-image ctx.container ctx.le };
+    ghost reads_back = { λ ctx. (section_header_laws ctx.container ctx.le).reads_back };
 
-    ghost writes_back = { λ ctx. image-section_header_of ctx.container ctx.le };
+    ghost writes_back = { λ ctx. (section_header_laws ctx.container ctx.le).writes_back };
 }
 
 /// Laws: the numbers of this module's constants. A call does nothing.
@@ -606,13 +601,14 @@ pub fn constants()
 /// Laws: which bytes a section header is written as, and that classes and byte orders keep lists of
 /// section headers the same. A call does nothing.
 pub fn laws()
-    ensures image { OneImage }
-    ensures same { SameInEachClass }
+    ensures image { (class : Class) (order : ByteOrder) →
+        IsOneImage (section_header_size class) (section_header_of class order) (section_header_image class order) (section_header_low class) }
+    ensures same { IsSameInEachClass section_header_size section_header_of section_header_image SectionHeaderFits }
 {}
 
 /// A law: the default section header is the one of zeros, which a call answers.
 pub fn default_is_zeros() -> SectionHeader
-    ensures { values_of (section_header_fields class.Big result) ≡ replicate 10 0 }
+    ensures { values_of (section_header64_fields (as64 result)) ≡ replicate 10 0 }
 {
     SectionHeader::default()
 }

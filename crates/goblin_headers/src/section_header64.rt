@@ -1,13 +1,15 @@
 //! Section headers of the 64-bit class: System V gABI, "Section Header" (`Elf64_Shdr`).
 ghost use Rattle.std.specs.Prelude.{◌≡◌, ◌≤◌, ◌*◌, ◌++◌, [], ◌∷◌, length, drop, map, IfErr, IfOk, alloc_error};
+ghost use Rattle.goblin_base.specs.declared.container.Endian.{Endian as ByteOrder};
+ghost use Rattle.goblin_base.specs.Layout.{IsOneImage};
 ghost use Rattle.goblin_base.specs.Record.{read_within, Writes};
 ghost use Rattle.goblin_base.specs.Steps.{with_size};
 ghost use Rattle.goblin_base.specs.Table.{records};
 ghost use Rattle.std.specs.Prelude.{replicate};
-ghost use Rattle.goblin_base.specs.FieldLaws.{values_of};
+ghost use Rattle.goblin_base.specs.Fields.{values_of};
 ghost use Rattle.goblin_headers.specs.SectionHeader64.{section_header64_fields};
 ghost use Rattle.goblin_headers.specs.SectionHeader64.{section_header64_of, section_header64_image};
-ghost use Rattle.goblin_headers.specs.SectionHeader64.{section_header64_size, OneImage};
+ghost use Rattle.goblin_headers.specs.SectionHeader64.{section_header64_size, section_header64_low};
 ghost use Rattle.goblin_headers.specs.SectionNames.{section_flag_names};
 
 use crate::section_header::SectionHeader as ElfSectionHeader;
@@ -121,9 +123,9 @@ impl From<SectionHeader> for ElfSectionHeader {
 
 /// Of the name's place the low bits are kept, as many as its field has room for.
 impl From<ElfSectionHeader> for SectionHeader {
-    ghost use Rattle.goblin_headers.specs.SectionHeader.{narrowed64};
+    ghost use Rattle.goblin_headers.specs.SectionHeader.{as64};
 
-    ghost from_gives = { λ header raw. raw ≡ narrowed64 header };
+    ghost from_gives = { λ header raw. raw ≡ section_header64_low (as64 header) };
 
     fn from(header: ElfSectionHeader) -> Self {
         SectionHeader {
@@ -142,7 +144,7 @@ impl From<ElfSectionHeader> for SectionHeader {
 }
 
 impl SizeWith<Endian> for SectionHeader {
-    ghost size_of = { λ _. 64 };
+    ghost size_of = { λ _. section_header64_size };
 
     fn size_with(_order: &Endian) -> usize {
         SIZEOF_SHDR
@@ -152,7 +154,7 @@ impl SizeWith<Endian> for SectionHeader {
 /// Refused is only what has no room.
 impl<'a> TryFromCtx<'a, Endian> for SectionHeader {
     ghost try_from_gives = { λ bytes order answer.
-        answer ≡ with_size 64 (read_within 64 (section_header64_of order) bytes) };
+        answer ≡ with_size section_header64_size (read_within section_header64_size (section_header64_of order) bytes) };
 
     fn try_from_ctx(bytes: &'a [u8], order: Endian) -> Result<(Self, usize)> {
         let header = SectionHeader::read_record(bytes, order)?;
@@ -163,7 +165,7 @@ impl<'a> TryFromCtx<'a, Endian> for SectionHeader {
 /// Refused is only what has no room, and then no byte is written.
 impl TryIntoCtx<Endian> for SectionHeader {
     ghost try_into_gives = { λ header order old answer new.
-        Writes 64 (section_header64_image order header) old answer new };
+        Writes section_header64_size (section_header64_image order header) old answer new };
 
     #[tactic(auto, using(goblin_base::specs::RecordLaws::record_answers))]
     fn try_into_ctx(self, bytes: &mut [u8], order: Endian) -> Result<usize> {
@@ -174,19 +176,14 @@ impl TryIntoCtx<Endian> for SectionHeader {
 }
 
 impl Record<Endian> for SectionHeader {
-    ghost use Rattle.goblin_base.specs.Fields.{FieldsFit};
-    ghost use Rattle.goblin_base.specs.FieldLaws.{IsBytes-image_of_fields};
-    ghost use Rattle.goblin_headers.specs.SectionHeader64.{section_header64_fields};
-    ghost use Rattle.goblin_headers.specs.SectionHeader64Laws.{positive, length-image};
-    ghost use Rattle.goblin_headers.specs.SectionHeader64Laws.{section_header64_of-append};
-    ghost use Rattle.goblin_headers.specs.SectionHeader64Laws.{section_header64_of-image};
-    ghost use Rattle.goblin_headers.specs.SectionHeader64Laws.{image-section_header64_of};
+    ghost use Rattle.goblin_headers.specs.SectionHeader64.{SectionHeader64Fits};
+    ghost use Rattle.goblin_headers.specs.SectionHeader64Laws.{section_header64_laws};
 
     ghost read = { section_header64_of };
 
     ghost image = { section_header64_image };
 
-    ghost fits = { λ _ header. FieldsFit (section_header64_fields header) };
+    ghost fits = { λ _. SectionHeader64Fits };
 
     #[tactic(auto, using(goblin_base::specs::RecordLaws::record_answers))]
     fn read_record(bytes: &[u8], order: Endian) -> Result<Self> {
@@ -194,19 +191,19 @@ impl Record<Endian> for SectionHeader {
         Ok(SectionHeader::at(bytes, order))
     }
 
-    ghost size_positive = { λ _. positive };
+    ghost size_positive = { λ order. (section_header64_laws order).size_positive };
 
-    ghost length_image = { length-image };
+    ghost length_image = { λ order. (section_header64_laws order).length_image };
 
-    ghost image_bytes = { λ order header. IsBytes-image_of_fields order (section_header64_fields header) };
+    ghost image_bytes = { λ order. (section_header64_laws order).image_bytes };
 
     ghost writes_image = { λ order header old new answer so. so };
 
-    ghost reads_front = { section_header64_of-append };
+    ghost reads_front = { λ order. (section_header64_laws order).reads_front };
 
-    ghost reads_back = { section_header64_of-image };
+    ghost reads_back = { λ order. (section_header64_laws order).reads_back };
 
-    ghost writes_back = { image-section_header64_of };
+    ghost writes_back = { λ order. (section_header64_laws order).writes_back };
 }
 
 /// Laws: the numbers of this module's own constants, and of those that it passes on, under the names
@@ -246,7 +243,8 @@ pub fn constants()
 
 /// A law: which bytes a section header is written as. A call does nothing.
 pub fn laws()
-    ensures image { OneImage }
+    ensures image { (order : ByteOrder) →
+        IsOneImage section_header64_size (section_header64_of order) (section_header64_image order) section_header64_low }
 {}
 
 /// A law: the default section header is the one of zeros, which a call answers.
