@@ -1,3 +1,4 @@
+pub mod HeaderLaws
 pub mod RawTrips
 pub mod ReadHeaderLemmas
 pub mod ReadSections

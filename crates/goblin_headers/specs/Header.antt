@@ -1,5 +1,5 @@
 -- The header of a file of either class (System V gABI, "ELF Header" and "ELF Identification").
-use Rattle.std.specs.Prelude.{ℕ, ◌%◌, ◌^◌, ◌==◌, if◌then◌else◌, List, [], ◌∷◌, ◌++◌, replicate, slice_index, Option, Some, None, Result}
+use Rattle.std.specs.Prelude.{◌≡◌, ℕ, ◌==◌, if◌then◌else◌, List, [], ◌∷◌, ◌++◌, length, replicate, slice_index, take, Option, Some, None, Result}
 use Rattle.goblin_base.specs.declared.container.Container.{Container}
 use Rattle.goblin_base.specs.declared.container.Container.TheVariants as class
 use Rattle.goblin_base.specs.declared.container.Endian.{Endian}
@@ -8,20 +8,19 @@ use Rattle.goblin_base.specs.declared.container.Ctx.{Ctx}
 use Rattle.goblin_base.specs.declared.error.Error.{Error}
 use Rattle.goblin_base.specs.declared.error.Error.TheVariants.{Malformed}
 use Rattle.goblin_base.specs.declared.error.Fault.{Fault}
-use Rattle.goblin_base.specs.Fields.{FieldsFit}
 use Rattle.goblin_base.specs.Steps.{or_refuse}
 use Rattle.goblin_headers.specs.declared.header.Header.{Header}
 use Rattle.goblin_headers.specs.declared.header32.Header.{Header as Raw32}
 use Rattle.goblin_headers.specs.declared.header64.Header.{Header as Raw64}
-use Rattle.goblin_headers.specs.Header32.{header32_of, header32_fields, header32_image}
-use Rattle.goblin_headers.specs.Header64.{header64_of, header64_fields, header64_image}
+use Rattle.goblin_headers.specs.Header32.{header32_size, header32_of, header32_image, header32_low, Header32Fits}
+use Rattle.goblin_headers.specs.Header64.{header64_size, header64_of, header64_image, header64_low, Header64Fits}
 use Rattle.goblin_headers.specs.ProgramHeader.{program_header_size}
 use Rattle.goblin_headers.specs.SectionHeader.{section_header_size}
 
 -- how many bytes a header has
 abbrev pub header_size : Container → ℕ
-header_size class.Little = 52
-header_size class.Big = 64
+header_size class.Little = header32_size
+header_size class.Big = header64_size
 
 -- the four bytes that every ELF file begins with
 abbrev pub magic : List ℕ
@@ -49,12 +48,21 @@ abbrev pub class_of : (ℕ → Fault) → List ℕ → Result Container Error
 class_of fault ident = or_refuse (class_named (slice_index ident 4)) (Malformed (fault (slice_index ident 4)))
 
 -- the byte order that the data byte of an identification names, or this fault of that byte
-abbrev pub order_of_header : (ℕ → Fault) → List ℕ → Result Endian Error
-order_of_header fault ident = or_refuse (order_named (slice_index ident 5)) (Malformed (fault (slice_index ident 5)))
+abbrev pub order_of : (ℕ → Fault) → List ℕ → Result Endian Error
+order_of fault ident = or_refuse (order_named (slice_index ident 5)) (Malformed (fault (slice_index ident 5)))
 
--- the header of either class with the fields of a 32-bit one
-abbrev pub unified32 : Raw32 → Header
-unified32 h = record {
+-- an identification of 16 bytes that names this byte order
+abbrev pub NamesOrder : Endian → List ℕ → Type 0
+NamesOrder order ident = (length ident ≡ 16) × (order_named (slice_index ident 5) ≡ Some order)
+
+-- an identification that begins with the magic number, and names this class and this byte order
+abbrev pub Identifies : Container → Endian → List ℕ → Type 0
+Identifies class order ident =
+    (take 4 ident ≡ magic) × (class_named (slice_index ident 4) ≡ Some class) × NamesOrder order ident
+
+-- the header with the fields of a 32-bit one
+abbrev pub widened32 : Raw32 → Header
+widened32 h = record {
   e_ident = h.e_ident;
   e_type = h.e_type;
   e_machine = h.e_machine;
@@ -71,9 +79,9 @@ unified32 h = record {
   e_shstrndx = h.e_shstrndx;
 }
 
--- the header of either class with the fields of a 64-bit one
-abbrev pub unified64 : Raw64 → Header
-unified64 h = record {
+-- the header with the fields of a 64-bit one
+abbrev pub widened64 : Raw64 → Header
+widened64 h = record {
   e_ident = h.e_ident;
   e_type = h.e_type;
   e_machine = h.e_machine;
@@ -109,7 +117,7 @@ as32 h = record {
   e_shstrndx = h.e_shstrndx;
 }
 
--- the 64-bit header with the same fields
+-- the 64-bit header with the same fields, whether they fit it or not
 abbrev pub as64 : Header → Raw64
 as64 h = record {
   e_ident = h.e_ident;
@@ -128,29 +136,10 @@ as64 h = record {
   e_shstrndx = h.e_shstrndx;
 }
 
--- the 32-bit header with the low bits of the entry and of the two offsets, and the other fields the same
-abbrev pub narrowed32 : Header → Raw32
-narrowed32 h = record {
-  e_ident = h.e_ident;
-  e_type = h.e_type;
-  e_machine = h.e_machine;
-  e_version = h.e_version;
-  e_entry = h.e_entry % 256 ^ 4;
-  e_phoff = h.e_phoff % 256 ^ 4;
-  e_shoff = h.e_shoff % 256 ^ 4;
-  e_flags = h.e_flags;
-  e_ehsize = h.e_ehsize;
-  e_phentsize = h.e_phentsize;
-  e_phnum = h.e_phnum;
-  e_shentsize = h.e_shentsize;
-  e_shnum = h.e_shnum;
-  e_shstrndx = h.e_shstrndx;
-}
-
 -- the header that bytes stand for in a class and a byte order
 abbrev pub header_of : Container → Endian → List ℕ → Header
-header_of class.Little order bytes = unified32 (header32_of order bytes)
-header_of class.Big order bytes = unified64 (header64_of order bytes)
+header_of class.Little order bytes = widened32 (header32_of order bytes)
+header_of class.Big order bytes = widened64 (header64_of order bytes)
 
 -- the bytes that a header is written as in a class and a byte order
 abbrev pub header_image : Container → Endian → Header → List ℕ
@@ -159,8 +148,13 @@ header_image class.Big order h = header64_image order (as64 h)
 
 -- each field of a header is in the range of its width in a class
 abbrev pub HeaderFits : Container → Header → Type 0
-HeaderFits class.Little h = FieldsFit (header32_fields (as32 h))
-HeaderFits class.Big h = FieldsFit (header64_fields (as64 h))
+HeaderFits class.Little h = Header32Fits (as32 h)
+HeaderFits class.Big h = Header64Fits (as64 h)
+
+-- the header with the low bits of each field behind its identification, as many as its width in a class holds
+abbrev pub header_low : Container → Header → Header
+header_low class.Little h = widened32 (header32_low (as32 h))
+header_low class.Big h = widened64 (header64_low (as64 h))
 
 -- the header of a shared object file in a context, version 1, with the sizes of its class and all else 0
 abbrev pub new_header : Ctx → Header

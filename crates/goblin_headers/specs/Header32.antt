@@ -1,9 +1,13 @@
 -- The header of a 32-bit file (System V gABI, "ELF Header", Elf32_Ehdr).
-use Rattle.std.specs.Prelude.{ℕ, List, [], ◌∷◌, ◌++◌, take}
+use Rattle.std.specs.Prelude.{◌%◌, ◌^◌, ℕ, List, [], ◌∷◌, ◌++◌, take}
 use Rattle.goblin_base.specs.declared.container.Endian.{Endian}
-use Rattle.goblin_base.specs.Fields.{Field, field, image_of_fields}
+use Rattle.goblin_base.specs.Fields.{Field, field, FieldsFit, image_of_fields}
 use Rattle.goblin_base.specs.Number.{number_at}
 use Rattle.goblin_headers.specs.declared.header32.Header.{Header}
+
+-- how many bytes a header has
+abbrev pub header32_size : ℕ
+header32_size = 52
 
 -- the header that bytes stand for: its first 16 bytes as they are, and each other field the number at its place
 abbrev pub header32_of : Endian → List ℕ → Header
@@ -31,6 +35,29 @@ header32_fields h =
     ∷ field 4 h.e_flags ∷ field 2 h.e_ehsize ∷ field 2 h.e_phentsize ∷ field 2 h.e_phnum ∷ field 2 h.e_shentsize
     ∷ field 2 h.e_shnum ∷ field 2 h.e_shstrndx ∷ []
 
+-- each field of a header behind its identification is in the range of its width
+abbrev pub Header32Fits : Header → Type 0
+Header32Fits h = FieldsFit (header32_fields h)
+
 -- the bytes that a header is written as: its identification as it is, and then the other fields
 abbrev pub header32_image : Endian → Header → List ℕ
 header32_image order h = h.e_ident ++ image_of_fields order (header32_fields h)
+
+-- the header with the low bits of each field behind its identification, as many as its width holds
+abbrev pub header32_low : Header → Header
+header32_low h = record {
+  e_ident = h.e_ident;
+  e_type = h.e_type % 256 ^ 2;
+  e_machine = h.e_machine % 256 ^ 2;
+  e_version = h.e_version % 256 ^ 4;
+  e_entry = h.e_entry % 256 ^ 4;
+  e_phoff = h.e_phoff % 256 ^ 4;
+  e_shoff = h.e_shoff % 256 ^ 4;
+  e_flags = h.e_flags % 256 ^ 4;
+  e_ehsize = h.e_ehsize % 256 ^ 2;
+  e_phentsize = h.e_phentsize % 256 ^ 2;
+  e_phnum = h.e_phnum % 256 ^ 2;
+  e_shentsize = h.e_shentsize % 256 ^ 2;
+  e_shnum = h.e_shnum % 256 ^ 2;
+  e_shstrndx = h.e_shstrndx % 256 ^ 2;
+}

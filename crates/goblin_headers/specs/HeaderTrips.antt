@@ -1,81 +1,92 @@
 -- Headers are read back from what was written, and written back as they were read.
-use Rattle.std.specs.Prelude.{◌≡◌, ℕ, List, ◌++◌, length, take, drop, slice_index, Some, Ok}
+use Rattle.std.specs.Prelude.{◌≡◌, ◌↔◌, ◌≤◌, ℕ, List, ◌++◌, length, take, Result, Ok}
 use Rattle.goblin_base.specs.declared.container.Container.{Container}
 use Rattle.goblin_base.specs.declared.container.Ctx.{Ctx}
+use Rattle.goblin_base.specs.declared.container.Endian.{Endian}
+use Rattle.goblin_base.specs.declared.error.Error.{Error}
 use Rattle.goblin_base.specs.declared.error.Fault.{Fault}
-use Rattle.goblin_base.specs.declared.error.Fault.TheVariants.{InvalidClass, InvalidEndianness}
-use Rattle.goblin_base.specs.Fields.{FieldsFit}
 use Rattle.goblin_base.specs.Number.{IsBytes}
 use Rattle.goblin_headers.specs.declared.header.Header.{Header}
-use Rattle.goblin_headers.specs.declared.header32.Header.{Header as Raw32}
-use Rattle.goblin_headers.specs.declared.header64.Header.{Header as Raw64}
-use Rattle.goblin_headers.specs.Header.{header_size, header_image, HeaderFits, new_header, magic, class_named, class_of, order_of_header}
-use Rattle.goblin_headers.specs.Header32.{header32_fields}
-use Rattle.goblin_headers.specs.Header64.{header64_fields}
-use Rattle.goblin_headers.specs.ReadHeader.{read_header, read_header32, read_header64}
-use Rattle.goblin_headers.specs.WriteHeader.{WritesHeader, WritesHeader32, WritesHeader64}
+use Rattle.goblin_headers.specs.Header.{header_size, header_of, header_image, header_low, HeaderFits, NamesOrder, Identifies, new_header}
+use Rattle.goblin_headers.specs.ReadHeader.{read_header}
+use Rattle.goblin_headers.specs.WriteHeader.{WritesHeader}
 
--- a header with the magic number and a class, which fits the class, is read back where it was written
+-- the image of a header is the one list of bytes of its size that reads as its identification and the low bits of its
+-- other fields
+abbrev pub IsOneHeaderImage : {R : Type 0} → ℕ → (R → List ℕ) → (Endian → List ℕ → R) → (Endian → R → List ℕ) → (R → R) → Type 0
+IsOneHeaderImage {R = R} size ident read image low =
+    (order : Endian) (h : R) (bytes : List ℕ)
+    → length (ident h) ≡ 16 → IsBytes (ident h)
+    → (bytes ≡ image order h) ↔ (IsBytes bytes × (length bytes ≡ size) × (read order bytes ≡ low h))
+
+-- a header that fits is read back from its image in the byte order that it names, whatever follows
+abbrev pub IsReadBack : {R : Type 0} → (R → List ℕ) → (R → Type 0) → (Endian → R → List ℕ) → ((ℕ → Fault) → List ℕ → Result R Error) → Type 0
+IsReadBack {R = R} ident Fits image read =
+    (fault : ℕ → Fault) (order : Endian) (h : R) (rest : List ℕ)
+    → NamesOrder order (ident h) → Fits h
+    → read fault (image order h ++ rest) ≡ Ok h
+
+-- where there is room it is written, and then read back
+abbrev pub IsWrittenAndReadBack : {R : Type 0} → ℕ → (R → List ℕ) → (R → Type 0) → (R → List ℕ → Result ℕ Error → List ℕ → Type 0) → ((ℕ → Fault) → List ℕ → Result R Error) → Type 0
+IsWrittenAndReadBack {R = R} size ident Fits Writes read =
+    (fault : ℕ → Fault) (order : Endian) (h : R) (old new : List ℕ) (answer : Result ℕ Error)
+    → NamesOrder order (ident h) → Fits h → size ≤ length old
+    → Writes h old answer new
+    → (answer ≡ Ok size) × (read fault new ≡ Ok h)
+
+-- a header that was read is written over the bytes that it was read from, and they stay as they were
+abbrev pub IsWrittenBack : {R : Type 0} → ℕ → ((ℕ → Fault) → List ℕ → Result R Error) → (R → List ℕ → Result ℕ Error → List ℕ → Type 0) → Type 0
+IsWrittenBack {R = R} size read Writes =
+    (fault : ℕ → Fault) (h : R) (bytes new : List ℕ) (answer : Result ℕ Error)
+    → IsBytes bytes
+    → read fault bytes ≡ Ok h
+    → Writes h bytes answer new
+    → (answer ≡ Ok size) × (new ≡ bytes)
+
+-- the image of a header in a class is the one list of bytes that reads so
+abbrev pub OneImage : Type 0
+OneImage = (class : Container) → IsOneHeaderImage (header_size class) (λ h. h.e_ident) (header_of class) (header_image class) (header_low class)
+
+-- a header that fits is read back from its image in the class and the byte order that it names, whatever follows
 abbrev pub ReadsBack : Type 0
 ReadsBack =
-    (class : Container) (h : Header) (old new : List ℕ) (size : ℕ)
-    → length h.e_ident ≡ 16 → take 4 h.e_ident ≡ magic
-    → class_named (slice_index h.e_ident 4) ≡ Some class → HeaderFits class h
-    → WritesHeader h old (Ok size) new
-    → read_header new ≡ Ok (h, size)
+    (class : Container) (order : Endian) (h : Header) (rest : List ℕ)
+    → Identifies class order h.e_ident → HeaderFits class h
+    → read_header (header_image class order h ++ rest) ≡ Ok (h, header_size class)
 
--- a header that was read leaves, where it is written, the bytes that it was read from
+-- where there is room it is written, and then read back
+abbrev pub WrittenAndReadBack : Type 0
+WrittenAndReadBack =
+    (class : Container) (order : Endian) (h : Header) (old new : List ℕ) (answer : Result ℕ Error)
+    → Identifies class order h.e_ident → HeaderFits class h → header_size class ≤ length old
+    → WritesHeader h old answer new
+    → (answer ≡ Ok (header_size class)) × (read_header new ≡ Ok (h, header_size class))
+
+-- a header that was read names a class and a byte order, and its image there is the bytes that it was read from
+abbrev pub ImageOfRead : Type 0
+ImageOfRead =
+    (h : Header) (bytes : List ℕ) (size : ℕ)
+    → IsBytes bytes
+    → read_header bytes ≡ Ok (h, size)
+    → (class : Container) × (order : Endian) × Identifies class order h.e_ident × (size ≡ header_size class) × (header_image class order h ≡ take size bytes)
+
+-- it is written over the bytes that it was read from, and they stay as they were
 abbrev pub WritesBack : Type 0
 WritesBack =
-    (h : Header) (bytes old new : List ℕ) (read written : ℕ)
+    (h : Header) (bytes new : List ℕ) (size : ℕ) (answer : Result ℕ Error)
     → IsBytes bytes
-    → read_header bytes ≡ Ok (h, read)
-    → WritesHeader h old (Ok written) new
-    → new ≡ take read bytes ++ drop read old
+    → read_header bytes ≡ Ok (h, size)
+    → WritesHeader h bytes answer new
+    → (answer ≡ Ok size) × (new ≡ bytes)
 
--- a new header has the class and the byte order of its context
+-- a new header names the class and the byte order of its context, and fits the class
 abbrev pub NewIsOfContext : Type 0
 NewIsOfContext =
     (ctx : Ctx)
-    → (class_of InvalidClass (new_header ctx).e_ident ≡ Ok ctx.container)
-    × (order_of_header InvalidEndianness (new_header ctx).e_ident ≡ Ok ctx.le)
+    → Identifies ctx.container ctx.le (new_header ctx).e_ident × HeaderFits ctx.container (new_header ctx)
 
 -- a new header is read back from its own bytes
 abbrev pub NewIsReadBack : Type 0
 NewIsReadBack =
     (ctx : Ctx)
     → read_header (header_image ctx.container ctx.le (new_header ctx)) ≡ Ok (new_header ctx, header_size ctx.container)
-
--- a 32-bit header is read back where it was written
-abbrev pub ReadsBack32 : Type 0
-ReadsBack32 =
-    (fault : ℕ → Fault) (h : Raw32) (old new : List ℕ) (size : ℕ)
-    → length h.e_ident ≡ 16 → FieldsFit (header32_fields h)
-    → WritesHeader32 h old (Ok size) new
-    → read_header32 fault new ≡ Ok h
-
--- a 32-bit header that was read leaves, where it is written, the bytes that it was read from
-abbrev pub WritesBack32 : Type 0
-WritesBack32 =
-    (fault : ℕ → Fault) (h : Raw32) (bytes old new : List ℕ) (size : ℕ)
-    → IsBytes bytes
-    → read_header32 fault bytes ≡ Ok h
-    → WritesHeader32 h old (Ok size) new
-    → new ≡ take 52 bytes ++ drop 52 old
-
--- a 64-bit header is read back where it was written
-abbrev pub ReadsBack64 : Type 0
-ReadsBack64 =
-    (fault : ℕ → Fault) (h : Raw64) (old new : List ℕ) (size : ℕ)
-    → length h.e_ident ≡ 16 → FieldsFit (header64_fields h)
-    → WritesHeader64 h old (Ok size) new
-    → read_header64 fault new ≡ Ok h
-
--- a 64-bit header that was read leaves, where it is written, the bytes that it was read from
-abbrev pub WritesBack64 : Type 0
-WritesBack64 =
-    (fault : ℕ → Fault) (h : Raw64) (bytes old new : List ℕ) (size : ℕ)
-    → IsBytes bytes
-    → read_header64 fault bytes ≡ Ok h
-    → WritesHeader64 h old (Ok size) new
-    → new ≡ take 64 bytes ++ drop 64 old

@@ -1,8 +1,6 @@
 pub mod Header
 pub mod Header32
-pub mod Header32Laws
 pub mod Header64
-pub mod Header64Laws
 pub mod HeaderTrips
 pub mod Machines
 pub mod Names

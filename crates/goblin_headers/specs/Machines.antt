@@ -1,5 +1,5 @@
 -- The machines of ELF (System V gABI, "ELF Header", e_machine, and the numbers given out later).
-use Rattle.std.specs.Prelude.{ℕ, List, [], ◌∷◌, codes}
+use Rattle.std.specs.Prelude.{ℕ, List, [], ◌∷◌, codes, map}
 use Rattle.goblin_base.specs.Names.{name_in}
 
 -- each machine that has a name, and the name
@@ -184,6 +184,10 @@ machine_names =
     (247, codes "BPF") ∷
     (258, codes "LOONGARCH") ∷
     []
+
+-- the numbers of those machines, in the same order
+abbrev pub machine_numbers : List ℕ
+machine_numbers = map (λ row. row.0) machine_names
 
 -- the name of a machine
 unfoldable pub machine_name : ℕ → List ℕ

@@ -1,9 +1,13 @@
 -- Program headers of the 32-bit class (System V gABI, "Program Header", Elf32_Phdr).
-use Rattle.std.specs.Prelude.{◌≡◌, ◌↔◌, ◌%◌, ◌^◌, ℕ, List, [], ◌∷◌, length}
+use Rattle.std.specs.Prelude.{◌%◌, ◌^◌, ℕ, List, [], ◌∷◌}
 use Rattle.goblin_base.specs.declared.container.Endian.{Endian}
-use Rattle.goblin_base.specs.Fields.{Field, field, image_of_fields}
-use Rattle.goblin_base.specs.Number.{IsBytes, number_at}
+use Rattle.goblin_base.specs.Fields.{Field, field, FieldsFit, image_of_fields}
+use Rattle.goblin_base.specs.Number.{number_at}
 use Rattle.goblin_headers.specs.declared.program_header32.ProgramHeader.{ProgramHeader}
+
+-- how many bytes a program header has
+abbrev pub program_header32_size : ℕ
+program_header32_size = 32
 
 -- the program header that bytes stand for: each field is the number at its place, of so many bytes
 abbrev pub program_header32_of : Endian → List ℕ → ProgramHeader
@@ -24,6 +28,10 @@ program_header32_fields h =
     field 4 h.p_type ∷ field 4 h.p_offset ∷ field 4 h.p_vaddr ∷ field 4 h.p_paddr
     ∷ field 4 h.p_filesz ∷ field 4 h.p_memsz ∷ field 4 h.p_flags ∷ field 4 h.p_align ∷ []
 
+-- each field of a program header is in the range of its width
+abbrev pub ProgramHeader32Fits : ProgramHeader → Type 0
+ProgramHeader32Fits h = FieldsFit (program_header32_fields h)
+
 -- the bytes that a program header is written as
 abbrev pub program_header32_image : Endian → ProgramHeader → List ℕ
 program_header32_image order h = image_of_fields order (program_header32_fields h)
@@ -40,10 +48,3 @@ program_header32_low h = record {
   p_flags = h.p_flags % 256 ^ 4;
   p_align = h.p_align % 256 ^ 4;
 }
-
--- the image of a program header is the one list of 32 bytes whose slice at each field's place stands for the low bits
--- of that field
-abbrev pub OneImage : Type 0
-OneImage =
-    (order : Endian) (h : ProgramHeader) (bytes : List ℕ)
-    → (bytes ≡ program_header32_image order h) ↔ (IsBytes bytes × (length bytes ≡ 32) × (program_header32_of order bytes ≡ program_header32_low h))

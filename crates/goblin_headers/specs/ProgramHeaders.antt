@@ -1,8 +1,9 @@
 -- New program headers, and lists of them that are read at once (System V gABI, "Program Header").
-use Rattle.std.specs.Prelude.{ℕ, List, codes, Result}
+use Rattle.std.specs.Prelude.{◌/◌, ℕ, nat_lt, List, codes, length, Result}
 use Rattle.goblin_base.specs.declared.container.Ctx.{Ctx}
 use Rattle.goblin_base.specs.Eager.{records_from}
-use Rattle.goblin_base.specs.Refusal.{Refusal}
+use Rattle.goblin_base.specs.Refusal.{Refusal, buffer_too_short}
+use Rattle.goblin_base.specs.Steps.{refuse_if}
 use Rattle.goblin_headers.specs.declared.program_header.ProgramHeader.{ProgramHeader}
 use Rattle.goblin_headers.specs.ProgramHeader.{program_header_size, program_header_of}
 
@@ -18,6 +19,11 @@ new_program_header = record {
   p_memsz = 0;
   p_align = 2097152;
 }
+
+-- the test before memory is taken: there are not more program headers than the bytes could hold anywhere
+abbrev pub program_headers_tested : List ℕ → ℕ → Ctx → Result (Unit {0}) Refusal
+program_headers_tested bytes count ctx =
+    refuse_if (nat_lt (length bytes / program_header_size ctx.container) count) (buffer_too_short count (codes "program headers"))
 
 -- so many program headers from an offset on: more than the bytes could hold anywhere are refused as too many, and
 -- else the first without room is refused

@@ -1,6 +1,7 @@
 -- Reading a header: the first of these refusals that applies, or the header that the bytes stand for.
 use Rattle.std.specs.Prelude.{ℕ, nat_lt, nat_eq, not, List, length, Result, Ok}
 use Rattle.std.specs.List.{starts_with}
+use Rattle.goblin_base.specs.declared.container.Endian.{Endian}
 use Rattle.goblin_base.specs.declared.container.Endian.TheVariants as endian
 use Rattle.goblin_base.specs.declared.error.Error.{Error}
 use Rattle.goblin_base.specs.declared.error.Error.TheVariants.{Malformed, BadMagic, Scroll}
@@ -12,9 +13,9 @@ use Rattle.goblin_base.specs.Steps.{◌>>=◌, refuse_if, refuse_as}
 use Rattle.goblin_headers.specs.declared.header.Header.{Header}
 use Rattle.goblin_headers.specs.declared.header32.Header.{Header as Raw32}
 use Rattle.goblin_headers.specs.declared.header64.Header.{Header as Raw64}
-use Rattle.goblin_headers.specs.Header.{header_size, magic, class_of, order_of_header, header_of}
-use Rattle.goblin_headers.specs.Header32.{header32_of}
-use Rattle.goblin_headers.specs.Header64.{header64_of}
+use Rattle.goblin_headers.specs.Header.{header_size, magic, class_of, order_of, header_of}
+use Rattle.goblin_headers.specs.Header32.{header32_size, header32_of}
+use Rattle.goblin_headers.specs.Header64.{header64_size, header64_of}
 
 -- the bytes have room for this many at their start
 abbrev pub needs : ℕ → List ℕ → Result (Unit {0}) Error
@@ -26,22 +27,22 @@ read_header bytes = do
   _ ← refuse_if (nat_lt (length bytes) 16) (Malformed TooSmall)
   _ ← refuse_if (not (starts_with nat_eq bytes magic)) (BadMagic (number_at endian.Little bytes 0 8))
   class ← class_of ElfClass bytes
-  order ← order_of_header DataType bytes
+  order ← order_of DataType bytes
   _ ← needs (header_size class) bytes
   Ok (header_of class order bytes, header_size class)
 
--- a 32-bit header, where a wrong data byte is this fault
-unfoldable pub read_header32 : (ℕ → Fault) → List ℕ → Result Raw32 Error
-read_header32 fault bytes = do
+-- a header of a size, read in the byte order that its data byte names; a wrong data byte is this fault
+unfoldable pub read_in_order : {R : Type 0} → ℕ → (Endian → List ℕ → R) → (ℕ → Fault) → List ℕ → Result R Error
+read_in_order size read fault bytes = do
   _ ← needs 16 bytes
-  order ← order_of_header fault bytes
-  _ ← needs 52 bytes
-  Ok (header32_of order bytes)
+  order ← order_of fault bytes
+  _ ← needs size bytes
+  Ok (read order bytes)
+
+-- a 32-bit header, where a wrong data byte is this fault
+abbrev pub read_header32 : (ℕ → Fault) → List ℕ → Result Raw32 Error
+read_header32 = read_in_order header32_size header32_of
 
 -- a 64-bit header, where a wrong data byte is this fault
-unfoldable pub read_header64 : (ℕ → Fault) → List ℕ → Result Raw64 Error
-read_header64 fault bytes = do
-  _ ← needs 16 bytes
-  order ← order_of_header fault bytes
-  _ ← needs 64 bytes
-  Ok (header64_of order bytes)
+abbrev pub read_header64 : (ℕ → Fault) → List ℕ → Result Raw64 Error
+read_header64 = read_in_order header64_size header64_of

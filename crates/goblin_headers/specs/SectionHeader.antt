@@ -1,21 +1,18 @@
 -- Section headers of either class (System V gABI, "Section Header").
-use Rattle.std.specs.Prelude.{◌≡◌, ◌↔◌, ◌%◌, ◌^◌, ℕ, List, All, flat_map, length}
+use Rattle.std.specs.Prelude.{ℕ, List}
 use Rattle.goblin_base.specs.declared.container.Container.{Container}
 use Rattle.goblin_base.specs.declared.container.Container.TheVariants.{Little, Big}
 use Rattle.goblin_base.specs.declared.container.Endian.{Endian}
-use Rattle.goblin_base.specs.Fields.{Field, FieldsFit, image_of_fields}
-use Rattle.goblin_base.specs.Number.{IsBytes}
-use Rattle.goblin_base.specs.Table.{records}
 use Rattle.goblin_headers.specs.declared.section_header.SectionHeader.{SectionHeader}
 use Rattle.goblin_headers.specs.declared.section_header32.SectionHeader.{SectionHeader as Raw32}
 use Rattle.goblin_headers.specs.declared.section_header64.SectionHeader.{SectionHeader as Raw64}
-use Rattle.goblin_headers.specs.SectionHeader32.{section_header32_of, section_header32_fields, section_header32_low}
-use Rattle.goblin_headers.specs.SectionHeader64.{section_header64_of, section_header64_fields, section_header64_low}
+use Rattle.goblin_headers.specs.SectionHeader32.{section_header32_size, section_header32_of, section_header32_image, section_header32_low, SectionHeader32Fits}
+use Rattle.goblin_headers.specs.SectionHeader64.{section_header64_size, section_header64_of, section_header64_image, section_header64_low, SectionHeader64Fits}
 
 -- how many bytes a section header of a class has
 abbrev pub section_header_size : Container → ℕ
-section_header_size Little = 40
-section_header_size Big = 64
+section_header_size Little = section_header32_size
+section_header_size Big = section_header64_size
 
 -- the section header with the fields of one of the 32-bit class
 abbrev pub widened32 : Raw32 → SectionHeader
@@ -77,55 +74,22 @@ as64 h = record {
   sh_entsize = h.sh_entsize;
 }
 
--- the section header of the 64-bit class with the low bits of the name's place, and the other fields the same
-abbrev pub narrowed64 : SectionHeader → Raw64
-narrowed64 h = record {
-  sh_name = h.sh_name % 256 ^ 4;
-  sh_type = h.sh_type;
-  sh_flags = h.sh_flags;
-  sh_addr = h.sh_addr;
-  sh_offset = h.sh_offset;
-  sh_size = h.sh_size;
-  sh_link = h.sh_link;
-  sh_info = h.sh_info;
-  sh_addralign = h.sh_addralign;
-  sh_entsize = h.sh_entsize;
-}
-
 -- the section header that bytes stand for in a class
 abbrev pub section_header_of : Container → Endian → List ℕ → SectionHeader
 section_header_of Little order bytes = widened32 (section_header32_of order bytes)
 section_header_of Big order bytes = widened64 (section_header64_of order bytes)
 
--- the fields of a section header in the order in which they lie in a class, each with its width there
-abbrev pub section_header_fields : Container → SectionHeader → List Field
-section_header_fields Little h = section_header32_fields (as32 h)
-section_header_fields Big h = section_header64_fields (as64 h)
-
 -- each field of a section header is in the range of its width in a class
 abbrev pub SectionHeaderFits : Container → SectionHeader → Type 0
-SectionHeaderFits class h = FieldsFit (section_header_fields class h)
+SectionHeaderFits Little h = SectionHeader32Fits (as32 h)
+SectionHeaderFits Big h = SectionHeader64Fits (as64 h)
 
 -- the bytes that a section header is written as in a class
 abbrev pub section_header_image : Container → Endian → SectionHeader → List ℕ
-section_header_image class order h = image_of_fields order (section_header_fields class h)
+section_header_image Little order h = section_header32_image order (as32 h)
+section_header_image Big order h = section_header64_image order (as64 h)
 
 -- the section header with the low bits of each field, as many as its width in a class holds
 abbrev pub section_header_low : Container → SectionHeader → SectionHeader
 section_header_low Little h = widened32 (section_header32_low (as32 h))
 section_header_low Big h = widened64 (section_header64_low (as64 h))
-
--- the image of a section header is the one list of bytes of its size whose slice at each field's place stands for the
--- low bits of that field
-abbrev pub OneImage : Type 0
-OneImage =
-    (class : Container) (order : Endian) (h : SectionHeader) (bytes : List ℕ)
-    → (bytes ≡ section_header_image class order h) ↔ (IsBytes bytes × (length bytes ≡ section_header_size class) × (section_header_of class order bytes ≡ section_header_low class h))
-
--- section headers that fit both classes, written one after another in either class and order, are read in that class
--- and order as the same section headers
-abbrev pub SameInEachClass : Type 0
-SameInEachClass =
-    (class : Container) (order : Endian) (all : List SectionHeader)
-    → All (SectionHeaderFits Little) all → All (SectionHeaderFits Big) all
-    → records (section_header_size class) (section_header_of class order) (length all) (flat_map (section_header_image class order) all) ≡ all

@@ -1,9 +1,13 @@
 -- Section headers of the 64-bit class (System V gABI, "Section Header", Elf64_Shdr).
-use Rattle.std.specs.Prelude.{◌≡◌, ◌↔◌, ◌%◌, ◌^◌, ℕ, List, [], ◌∷◌, length}
+use Rattle.std.specs.Prelude.{◌%◌, ◌^◌, ℕ, List, [], ◌∷◌}
 use Rattle.goblin_base.specs.declared.container.Endian.{Endian}
-use Rattle.goblin_base.specs.Fields.{Field, field, image_of_fields}
-use Rattle.goblin_base.specs.Number.{IsBytes, number_at}
+use Rattle.goblin_base.specs.Fields.{Field, field, FieldsFit, image_of_fields}
+use Rattle.goblin_base.specs.Number.{number_at}
 use Rattle.goblin_headers.specs.declared.section_header64.SectionHeader.{SectionHeader}
+
+-- how many bytes a section header has
+abbrev pub section_header64_size : ℕ
+section_header64_size = 64
 
 -- the section header that bytes stand for: each field is the number at its place, of so many bytes
 abbrev pub section_header64_of : Endian → List ℕ → SectionHeader
@@ -26,6 +30,10 @@ section_header64_fields h =
     field 4 h.sh_name ∷ field 4 h.sh_type ∷ field 8 h.sh_flags ∷ field 8 h.sh_addr ∷ field 8 h.sh_offset
     ∷ field 8 h.sh_size ∷ field 4 h.sh_link ∷ field 4 h.sh_info ∷ field 8 h.sh_addralign ∷ field 8 h.sh_entsize ∷ []
 
+-- each field of a section header is in the range of its width
+abbrev pub SectionHeader64Fits : SectionHeader → Type 0
+SectionHeader64Fits h = FieldsFit (section_header64_fields h)
+
 -- the bytes that a section header is written as
 abbrev pub section_header64_image : Endian → SectionHeader → List ℕ
 section_header64_image order h = image_of_fields order (section_header64_fields h)
@@ -44,10 +52,3 @@ section_header64_low h = record {
   sh_addralign = h.sh_addralign % 256 ^ 8;
   sh_entsize = h.sh_entsize % 256 ^ 8;
 }
-
--- the image of a section header is the one list of 64 bytes whose slice at each field's place stands for the low bits
--- of that field
-abbrev pub OneImage : Type 0
-OneImage =
-    (order : Endian) (h : SectionHeader) (bytes : List ℕ)
-    → (bytes ≡ section_header64_image order h) ↔ (IsBytes bytes × (length bytes ≡ 64) × (section_header64_of order bytes ≡ section_header64_low h))

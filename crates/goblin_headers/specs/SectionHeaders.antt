@@ -1,11 +1,11 @@
 -- New section headers, lists of them that are read at once, and whether a section lies in its file (System V gABI,
 -- "Section Header").
-use Rattle.std.specs.Prelude.{◌+◌, ◌/◌, ◌^◌, ◌||◌, ◌==◌, ℕ, nat_lt, nat_le, if◌then◌else◌, List, [], codes, drop, length, max, true, Result, Ok}
+use Rattle.std.specs.Prelude.{◌+◌, ◌/◌, ◌^◌, ◌||◌, ◌==◌, ℕ, nat_lt, nat_le, if◌then◌else◌, List, [], codes, drop, length, max, Bool, true, Result, Ok}
 use Rattle.goblin_base.specs.declared.container.Ctx.{Ctx}
 use Rattle.goblin_base.specs.declared.error.Error.{Error}
 use Rattle.goblin_base.specs.declared.error.Error.TheVariants.{Malformed}
 use Rattle.goblin_base.specs.declared.error.Fault.TheVariants.{SectionOffset, SectionAddr}
-use Rattle.goblin_base.specs.Eager.{records_from}
+use Rattle.goblin_base.specs.Eager.{records_in}
 use Rattle.goblin_base.specs.Refusal.{Refusal, buffer_too_short, misplaced}
 use Rattle.goblin_base.specs.Room.{room_of}
 use Rattle.goblin_base.specs.Steps.{◌>>=◌, refuse_if, refuse_as}
@@ -37,8 +37,8 @@ count_asked bytes offset count ctx = count_told (section_header_of ctx.container
 
 -- the tests before memory is taken: the first header has room, and there are not more than the bytes could hold
 -- anywhere
-unfoldable pub section_headers_tested : List ℕ → ℕ → ℕ → Ctx → Result (Unit {0}) Refusal
-section_headers_tested bytes offset count ctx = do
+unfoldable pub section_headers_from_tested : List ℕ → ℕ → ℕ → Ctx → Result (Unit {0}) Refusal
+section_headers_from_tested bytes offset count ctx = do
   _ ← refuse_as misplaced (room_of (length bytes) offset (section_header_size ctx.container))
   let asked = count_asked bytes offset count ctx in
       refuse_if (nat_lt (length bytes / section_header_size ctx.container) asked) (buffer_too_short asked (codes "section headers"))
@@ -46,13 +46,18 @@ section_headers_tested bytes offset count ctx = do
 -- the section headers from an offset on: after those tests the first without room is refused; there is one at least
 unfoldable pub section_headers_from : List ℕ → ℕ → ℕ → Ctx → Result (List SectionHeader) Refusal
 section_headers_from bytes offset count ctx = do
-  _ ← section_headers_tested bytes offset count ctx
-  records_from (section_header_size ctx.container) (section_header_of ctx.container ctx.le) bytes offset (max 1 (count_asked bytes offset count ctx)) (codes "section headers")
+  _ ← section_headers_from_tested bytes offset count ctx
+  records_in (section_header_size ctx.container) (section_header_of ctx.container ctx.le) bytes offset (max 1 (count_asked bytes offset count ctx))
 
 -- the section headers of a file: none where they are said to start at its start
 abbrev pub section_headers_of : List ℕ → ℕ → ℕ → Ctx → Result (List SectionHeader) Refusal
 section_headers_of bytes offset count ctx =
     if offset == 0 then Ok [] else section_headers_from bytes offset count ctx
+
+-- those of its tests that stand before memory is taken
+abbrev pub section_headers_of_tested : List ℕ → ℕ → ℕ → Ctx → Result (Unit {0}) Refusal
+section_headers_of_tested bytes offset count ctx =
+    if offset == 0 then Ok tt else section_headers_from_tested bytes offset count ctx
 
 -- whether a section with bytes in the file (not of type 8) lies in a file of so many bytes, and its addresses below
 -- 2 ^ 64
@@ -62,3 +67,7 @@ size_checked len s =
     else do
       _ ← refuse_if (nat_lt len (s.sh_offset + s.sh_size)) (Malformed (SectionOffset s.sh_name s.sh_size s.sh_offset (nat_le (2 ^ 64) (s.sh_offset + s.sh_size))))
       refuse_if (nat_le (2 ^ 64) (s.sh_addr + s.sh_size)) (Malformed (SectionAddr s.sh_name s.sh_size s.sh_addr true))
+
+-- the same in a mode: a permissive check passes every section
+abbrev pub size_checked_in : Bool → ℕ → SectionHeader → Result (Unit {0}) Error
+size_checked_in permissive len s = if permissive then Ok tt else size_checked len s

@@ -1,17 +1,24 @@
 //! Program headers, which tell how a file is loaded: System V gABI, "Program Header".
-ghost use Rattle.std.specs.Prelude.{◌≡◌, ◌≤◌, ◌<◌, ◌/◌, ◌↔◌, ◌++◌, [], ◌∷◌, IsTrue};
-ghost use Rattle.std.specs.Prelude.{IsOk, length, drop, codes};
+ghost use Rattle.std.specs.Prelude.{◌≡◌, ◌≤◌, ◌↔◌, ◌++◌, [], ◌∷◌, IsTrue, IfErr, IsOk};
+ghost use Rattle.std.specs.Prelude.{length, drop};
 ghost use Rattle.std.specs.Int.{IsBitSet};
 ghost use Rattle.std.specs.Int.Bits.{bit_or};
 ghost use Rattle.goblin_base.specs.Record.{read_within, Writes};
 ghost use Rattle.goblin_base.specs.Steps.{with_size};
-ghost use Rattle.goblin_base.specs.Refusal.{buffer_too_short, Gives, Refuses};
+ghost use Rattle.goblin_base.specs.Refusal.{Gives, Refuses};
 ghost use Rattle.goblin_headers.specs.Ranges.{span};
+ghost use Rattle.std.specs.Prelude.{replicate};
+ghost use Rattle.goblin_base.specs.declared.container.Container.{Container as Class};
+ghost use Rattle.goblin_base.specs.declared.container.Endian.{Endian as ByteOrder};
+ghost use Rattle.goblin_base.specs.Layout.{IsOneImage, IsSameInEachClass};
+ghost use Rattle.goblin_base.specs.Fields.{values_of};
+ghost use Rattle.goblin_headers.specs.ProgramHeader.{as64};
+ghost use Rattle.goblin_headers.specs.ProgramHeader64.{program_header64_fields};
 ghost use Rattle.goblin_headers.specs.ProgramHeader.{program_header_size, program_header_of};
-ghost use Rattle.goblin_headers.specs.ProgramHeader.{program_header_image, OneImage};
-ghost use Rattle.goblin_headers.specs.ProgramHeader.{SameInEachClass};
+ghost use Rattle.goblin_headers.specs.ProgramHeader.{program_header_image, program_header_low, ProgramHeaderFits};
 ghost use Rattle.goblin_headers.specs.ProgramHeaders.{new_program_header};
 ghost use Rattle.goblin_headers.specs.ProgramHeaders.{program_headers_from};
+ghost use Rattle.goblin_headers.specs.ProgramHeaders.{program_headers_tested};
 ghost use Rattle.goblin_headers.specs.SegmentNames.{segment_name};
 
 pub use crate::{program_header32, program_header64};
@@ -234,8 +241,8 @@ impl ProgramHeader {
     ) -> Result<Vec<ProgramHeader>>
         ensures given { let right = program_headers_from bytes.now offset count ctx in
             Gives (λ v. v.items) result right }
-        ensures counted { length bytes.now / program_header_size ctx.container < count →
-            Refuses result (buffer_too_short count (codes "program headers")) }
+        ensures tested { IfErr (program_headers_tested bytes.now count ctx)
+            (λ refusal. Refuses result refusal) }
         ensures none { (count ≡ 0) → IsOk result }
     {
         read_all(alloc, bytes, offset, count, ctx, "program headers")
@@ -304,13 +311,7 @@ impl TryIntoCtx<Ctx> for ProgramHeader {
 }
 
 impl Record<Ctx> for ProgramHeader {
-    ghost use Rattle.goblin_base.specs.FieldLaws.{IsBytes-image_of_fields};
-    ghost use Rattle.goblin_headers.specs.ProgramHeader.{ProgramHeaderFits, program_header_fields};
-    ghost use Rattle.goblin_headers.specs.ProgramHeaderLaws.{program_header_size-positive};
-    ghost use Rattle.goblin_headers.specs.ProgramHeaderLaws.{length-program_header_image};
-    ghost use Rattle.goblin_headers.specs.ProgramHeaderLaws.{program_header_of-append};
-    ghost use Rattle.goblin_headers.specs.ProgramHeaderLaws.{program_header_of-image};
-    ghost use Rattle.goblin_headers.specs.ProgramHeaderLaws.{image-program_header_of};
+    ghost use Rattle.goblin_headers.specs.ProgramHeaderLaws.{program_header_laws};
 
     ghost read = { λ ctx. program_header_of ctx.container ctx.le };
 
@@ -324,26 +325,33 @@ impl Record<Ctx> for ProgramHeader {
         Ok(ProgramHeader::at(bytes, ctx))
     }
 
-    ghost size_positive = { λ ctx. program_header_size-positive ctx.container };
+    ghost size_positive = { λ ctx. (program_header_laws ctx.container ctx.le).size_positive };
 
-    ghost length_image = { λ ctx. length-program_header_image ctx.container ctx.le };
+    ghost length_image = { λ ctx. (program_header_laws ctx.container ctx.le).length_image };
 
-    ghost image_bytes = { λ ctx header.
-        IsBytes-image_of_fields ctx.le (program_header_fields ctx.container header) };
+    ghost image_bytes = { λ ctx. (program_header_laws ctx.container ctx.le).image_bytes };
 
     ghost writes_image = { λ ctx header old new answer so. so };
 
-    ghost reads_front = { λ ctx. program_header_of-append ctx.container ctx.le };
+    ghost reads_front = { λ ctx. (program_header_laws ctx.container ctx.le).reads_front };
 
-    ghost reads_back = { λ ctx. program_header_of-image ctx.container ctx.le };
+    ghost reads_back = { λ ctx. (program_header_laws ctx.container ctx.le).reads_back };
 
-    ghost writes_back = { λ ctx. image-program_header_of ctx.container ctx.le };
+    ghost writes_back = { λ ctx. (program_header_laws ctx.container ctx.le).writes_back };
 }
 
-/// Laws: what the constants of this module stand for, but for those that [`pt_to_str`] names. A
-/// call does nothing.
+/// Laws: the numbers of this module's constants. A call does nothing.
 pub fn constants()
-    ensures ranges { PT_LOSUNW ∷ PT_HISUNW ∷ [] ≡ 0x6ffffffa ∷ 0x6fffffff ∷ [] }
+    ensures types { PT_NULL ∷ PT_LOAD ∷ PT_DYNAMIC ∷ PT_INTERP ∷ PT_NOTE ∷ PT_SHLIB ∷ PT_PHDR
+        ∷ PT_TLS ∷ PT_NUM ∷ []
+        ≡ 0 ∷ 1 ∷ 2 ∷ 3 ∷ 4 ∷ 5 ∷ 6 ∷ 7 ∷ 8 ∷ [] }
+    ensures ranges { PT_LOOS ∷ PT_HIOS ∷ PT_LOPROC ∷ PT_HIPROC ∷ []
+        ≡ 0x60000000 ∷ 0x6fffffff ∷ 0x70000000 ∷ 0x7fffffff ∷ [] }
+    ensures gnu { PT_GNU_EH_FRAME ∷ PT_GNU_STACK ∷ PT_GNU_RELRO ∷ PT_GNU_PROPERTY ∷ []
+        ≡ 0x6474e550 ∷ 0x6474e551 ∷ 0x6474e552 ∷ 0x6474e553 ∷ [] }
+    ensures sun { PT_LOSUNW ∷ PT_SUNWBSS ∷ PT_SUNWSTACK ∷ PT_HISUNW ∷ []
+        ≡ 0x6ffffffa ∷ 0x6ffffffa ∷ 0x6ffffffb ∷ 0x6fffffff ∷ [] }
+    ensures arm { PT_ARM_EXIDX ≡ 0x70000001 }
     ensures flags { PF_X ∷ PF_W ∷ PF_R ∷ PF_MASKOS ∷ PF_MASKPROC ∷ []
         ≡ 1 ∷ 2 ∷ 4 ∷ 0x0ff00000 ∷ 0xf0000000 ∷ [] }
 {}
@@ -351,6 +359,14 @@ pub fn constants()
 /// Laws: which bytes a program header is written as, and that classes and byte orders keep lists of
 /// program headers the same. A call does nothing.
 pub fn laws()
-    ensures image { OneImage }
-    ensures same { SameInEachClass }
+    ensures image { (class : Class) (order : ByteOrder) →
+        IsOneImage (program_header_size class) (program_header_of class order) (program_header_image class order) (program_header_low class) }
+    ensures same { IsSameInEachClass program_header_size program_header_of program_header_image ProgramHeaderFits }
 {}
+
+/// A law: the default program header is the one of zeros, which a call answers.
+pub fn default_is_zeros() -> ProgramHeader
+    ensures { values_of (program_header64_fields (as64 result)) ≡ replicate 8 0 }
+{
+    ProgramHeader::default()
+}

@@ -1,21 +1,20 @@
 //! Program headers of the 64-bit class: System V gABI, "Program Header" (`Elf64_Phdr`).
-ghost use Rattle.std.specs.Prelude.{◌≡◌, ◌≤◌, ◌*◌, ◌++◌, length, drop, IfErr, IfOk, IsOk};
+ghost use Rattle.std.specs.Prelude.{◌≡◌, ◌≤◌, ◌*◌, ◌++◌, [], ◌∷◌, length, drop, IfErr, IfOk, IsOk};
 ghost use Rattle.std.specs.Prelude.{alloc_error};
 ghost use Rattle.goblin_base.specs.Eager.{records_in, room_of_each};
+ghost use Rattle.goblin_base.specs.declared.container.Endian.{Endian as ByteOrder};
+ghost use Rattle.goblin_base.specs.Layout.{IsOneImage};
 ghost use Rattle.goblin_base.specs.Record.{read_within, Writes};
 ghost use Rattle.goblin_base.specs.Steps.{with_size};
 ghost use Rattle.goblin_base.specs.Refusal.{Gives};
 ghost use Rattle.goblin_base.specs.Table.{records};
+ghost use Rattle.std.specs.Prelude.{replicate};
+ghost use Rattle.goblin_base.specs.Fields.{values_of};
+ghost use Rattle.goblin_headers.specs.ProgramHeader64.{program_header64_fields};
 ghost use Rattle.goblin_headers.specs.ProgramHeader64.{program_header64_of, program_header64_image};
-ghost use Rattle.goblin_headers.specs.ProgramHeader64.{OneImage};
+ghost use Rattle.goblin_headers.specs.ProgramHeader64.{program_header64_size, program_header64_low};
 
 use crate::program_header::ProgramHeader as ElfProgramHeader;
-pub use crate::program_header::{
-    PF_MASKOS, PF_MASKPROC, PF_R, PF_W, PF_X, PT_ARM_EXIDX, PT_DYNAMIC, PT_GNU_EH_FRAME,
-    PT_GNU_PROPERTY, PT_GNU_RELRO, PT_GNU_STACK, PT_HIOS, PT_HIPROC, PT_HISUNW, PT_INTERP, PT_LOAD,
-    PT_LOOS, PT_LOPROC, PT_LOSUNW, PT_NOTE, PT_NULL, PT_NUM, PT_PHDR, PT_SHLIB, PT_SUNWBSS,
-    PT_SUNWSTACK, PT_TLS, pt_to_str,
-};
 use goblin_base::container::Endian;
 use goblin_base::error::{Error, Result};
 use goblin_base::number::{get_u32, get_u64, put_u32, put_u64, room};
@@ -155,7 +154,7 @@ impl From<ElfProgramHeader> for ProgramHeader {
 }
 
 impl SizeWith<Endian> for ProgramHeader {
-    ghost size_of = { λ _. 56 };
+    ghost size_of = { λ _. program_header64_size };
 
     fn size_with(_order: &Endian) -> usize {
         SIZEOF_PHDR
@@ -165,7 +164,7 @@ impl SizeWith<Endian> for ProgramHeader {
 /// Refused is only what has no room.
 impl<'a> TryFromCtx<'a, Endian> for ProgramHeader {
     ghost try_from_gives = { λ bytes order answer.
-        answer ≡ with_size 56 (read_within 56 (program_header64_of order) bytes) };
+        answer ≡ with_size program_header64_size (read_within program_header64_size (program_header64_of order) bytes) };
 
     fn try_from_ctx(bytes: &'a [u8], order: Endian) -> Result<(Self, usize)> {
         let header = ProgramHeader::read_record(bytes, order)?;
@@ -176,7 +175,7 @@ impl<'a> TryFromCtx<'a, Endian> for ProgramHeader {
 /// Refused is only what has no room, and then no byte is written.
 impl TryIntoCtx<Endian> for ProgramHeader {
     ghost try_into_gives = { λ header order old answer new.
-        Writes 56 (program_header64_image order header) old answer new };
+        Writes program_header64_size (program_header64_image order header) old answer new };
 
     #[tactic(auto, using(goblin_base::specs::RecordLaws::record_answers))]
     fn try_into_ctx(self, bytes: &mut [u8], order: Endian) -> Result<usize> {
@@ -187,19 +186,14 @@ impl TryIntoCtx<Endian> for ProgramHeader {
 }
 
 impl Record<Endian> for ProgramHeader {
-    ghost use Rattle.goblin_base.specs.Fields.{FieldsFit};
-    ghost use Rattle.goblin_base.specs.FieldLaws.{IsBytes-image_of_fields};
-    ghost use Rattle.goblin_headers.specs.ProgramHeader64.{program_header64_fields};
-    ghost use Rattle.goblin_headers.specs.ProgramHeader64Laws.{positive, length-image};
-    ghost use Rattle.goblin_headers.specs.ProgramHeader64Laws.{program_header64_of-append};
-    ghost use Rattle.goblin_headers.specs.ProgramHeader64Laws.{program_header64_of-image};
-    ghost use Rattle.goblin_headers.specs.ProgramHeader64Laws.{image-program_header64_of};
+    ghost use Rattle.goblin_headers.specs.ProgramHeader64.{ProgramHeader64Fits};
+    ghost use Rattle.goblin_headers.specs.ProgramHeader64Laws.{program_header64_laws};
 
     ghost read = { program_header64_of };
 
     ghost image = { program_header64_image };
 
-    ghost fits = { λ _ header. FieldsFit (program_header64_fields header) };
+    ghost fits = { λ _. ProgramHeader64Fits };
 
     #[tactic(auto, using(goblin_base::specs::RecordLaws::record_answers))]
     fn read_record(bytes: &[u8], order: Endian) -> Result<Self> {
@@ -207,23 +201,59 @@ impl Record<Endian> for ProgramHeader {
         Ok(ProgramHeader::at(bytes, order))
     }
 
-    ghost size_positive = { λ _. positive };
+    ghost size_positive = { λ order. (program_header64_laws order).size_positive };
 
-    ghost length_image = { length-image };
+    ghost length_image = { λ order. (program_header64_laws order).length_image };
 
-    ghost image_bytes = { λ order header. IsBytes-image_of_fields order (program_header64_fields header) };
+    ghost image_bytes = { λ order. (program_header64_laws order).image_bytes };
 
     ghost writes_image = { λ order header old new answer so. so };
 
-    ghost reads_front = { program_header64_of-append };
+    ghost reads_front = { λ order. (program_header64_laws order).reads_front };
 
-    ghost reads_back = { program_header64_of-image };
+    ghost reads_back = { λ order. (program_header64_laws order).reads_back };
 
-    ghost writes_back = { image-program_header64_of };
+    ghost writes_back = { λ order. (program_header64_laws order).writes_back };
 }
 
-/// Laws: how many bytes a program header has, and which they are. A call does nothing.
-pub fn laws()
-    ensures size { SIZEOF_PHDR ≡ 56 }
-    ensures image { OneImage }
+/// Laws: the numbers of this module's own constants, and of those that it passes on, under the names
+/// that they have here. A call does nothing.
+pub fn constants()
+    ensures size { SIZEOF_PHDR ≡ program_header64_size }
+
+    ensures types { PT_NULL ∷ PT_LOAD ∷ PT_DYNAMIC ∷ PT_INTERP ∷ PT_NOTE ∷ PT_SHLIB ∷ PT_PHDR
+        ∷ PT_TLS ∷ PT_NUM ∷ []
+        ≡ 0 ∷ 1 ∷ 2 ∷ 3 ∷ 4 ∷ 5 ∷ 6 ∷ 7 ∷ 8 ∷ [] }
+    ensures ranges { PT_LOOS ∷ PT_HIOS ∷ PT_LOPROC ∷ PT_HIPROC ∷ []
+        ≡ 0x60000000 ∷ 0x6fffffff ∷ 0x70000000 ∷ 0x7fffffff ∷ [] }
+    ensures gnu { PT_GNU_EH_FRAME ∷ PT_GNU_STACK ∷ PT_GNU_RELRO ∷ PT_GNU_PROPERTY ∷ []
+        ≡ 0x6474e550 ∷ 0x6474e551 ∷ 0x6474e552 ∷ 0x6474e553 ∷ [] }
+    ensures sun { PT_LOSUNW ∷ PT_SUNWBSS ∷ PT_SUNWSTACK ∷ PT_HISUNW ∷ []
+        ≡ 0x6ffffffa ∷ 0x6ffffffa ∷ 0x6ffffffb ∷ 0x6fffffff ∷ [] }
+    ensures arm { PT_ARM_EXIDX ≡ 0x70000001 }
+    ensures flags { PF_X ∷ PF_W ∷ PF_R ∷ PF_MASKOS ∷ PF_MASKPROC ∷ []
+        ≡ 1 ∷ 2 ∷ 4 ∷ 0x0ff00000 ∷ 0xf0000000 ∷ [] }
 {}
+
+/// A law: which bytes a program header is written as. A call does nothing.
+pub fn laws()
+    ensures image { (order : ByteOrder) →
+        IsOneImage program_header64_size (program_header64_of order) (program_header64_image order) program_header64_low }
+{}
+
+/// A law: the default program header is the one of zeros, which a call answers.
+pub fn default_is_zeros() -> ProgramHeader
+    ensures { values_of (program_header64_fields result) ≡ replicate 8 0 }
+{
+    ProgramHeader::default()
+}
+
+// What a segment is.
+pub use crate::program_header::{
+    PT_ARM_EXIDX, PT_DYNAMIC, PT_GNU_EH_FRAME, PT_GNU_PROPERTY, PT_GNU_RELRO, PT_GNU_STACK,
+    PT_HIOS, PT_HIPROC, PT_HISUNW, PT_INTERP, PT_LOAD, PT_LOOS, PT_LOPROC, PT_LOSUNW, PT_NOTE,
+    PT_NULL, PT_NUM, PT_PHDR, PT_SHLIB, PT_SUNWBSS, PT_SUNWSTACK, PT_TLS, pt_to_str,
+};
+
+// What may be done with a segment.
+pub use crate::program_header::{PF_MASKOS, PF_MASKPROC, PF_R, PF_W, PF_X};

@@ -1,19 +1,28 @@
 //! Section headers, which tell what a file holds: System V gABI, "Section Header".
-ghost use Rattle.std.specs.Prelude.{◌≡◌, ◌≤◌, ◌<◌, ◌/◌, ◌↔◌, ◌++◌, ◌≢◌, [], ◌∷◌, IsTrue, IfErr};
-ghost use Rattle.std.specs.Prelude.{IsNone, IsOk, IfSome, length, drop, codes};
+ghost use Rattle.std.specs.Prelude.{◌≡◌, ◌≤◌, ◌↔◌, ◌++◌, [], ◌∷◌, IsTrue, IfErr, IsNone, IsOk};
+ghost use Rattle.std.specs.Prelude.{IfSome, length, drop, map};
 ghost use Rattle.std.specs.Int.{IsBitSet};
 ghost use Rattle.goblin_base.specs.Record.{read_within, Writes};
 ghost use Rattle.goblin_base.specs.Steps.{with_size};
-ghost use Rattle.goblin_base.specs.Refusal.{buffer_too_short, Gives, Refuses};
-ghost use Rattle.goblin_base.specs.Room.{room_of};
+ghost use Rattle.goblin_base.specs.Refusal.{Gives, Refuses};
 ghost use Rattle.goblin_headers.specs.Ranges.{span};
+ghost use Rattle.std.specs.Prelude.{replicate};
+ghost use Rattle.goblin_base.specs.declared.container.Container.{Container as Class};
+ghost use Rattle.goblin_base.specs.declared.container.Endian.{Endian as ByteOrder};
+ghost use Rattle.goblin_base.specs.Layout.{IsOneImage, IsSameInEachClass};
+ghost use Rattle.goblin_base.specs.Fields.{values_of};
+ghost use Rattle.goblin_headers.specs.SectionHeader.{as64};
+ghost use Rattle.goblin_headers.specs.SectionHeader64.{section_header64_fields};
 ghost use Rattle.goblin_headers.specs.SectionHeader.{section_header_size, section_header_of};
-ghost use Rattle.goblin_headers.specs.SectionHeader.{section_header_image, OneImage};
-ghost use Rattle.goblin_headers.specs.SectionHeader.{SameInEachClass};
-ghost use Rattle.goblin_headers.specs.SectionHeaders.{new_section_header, size_checked};
-ghost use Rattle.goblin_headers.specs.SectionHeaders.{count_told, section_headers_from};
-ghost use Rattle.goblin_headers.specs.SectionHeaders.{section_headers_of, section_headers_tested};
+ghost use Rattle.goblin_headers.specs.SectionHeader.{section_header_image, section_header_low, SectionHeaderFits};
+ghost use Rattle.goblin_headers.specs.SectionHeaders.{new_section_header, count_told};
+ghost use Rattle.goblin_headers.specs.SectionHeaders.{section_headers_from};
+ghost use Rattle.goblin_headers.specs.SectionHeaders.{section_headers_from_tested};
+ghost use Rattle.goblin_headers.specs.SectionHeaders.{section_headers_of};
+ghost use Rattle.goblin_headers.specs.SectionHeaders.{section_headers_of_tested};
+ghost use Rattle.goblin_headers.specs.SectionHeaders.{size_checked, size_checked_in};
 ghost use Rattle.goblin_headers.specs.SectionNames.{section_name, section_flag_name};
+ghost use Rattle.goblin_headers.specs.SectionNames.{section_flag_names};
 
 pub use crate::{section_header32, section_header64};
 use goblin_base::container::{Container, Ctx};
@@ -305,9 +314,9 @@ impl SectionHeader {
     }
 
     /// Where the section lies in the file, in bytes from the file's start, or `None` for a section
-    /// without bytes there (`SHT_NOBITS`). An end past the greatest number is that number.
+    /// without bytes there (`SHT_NOBITS`, type 8). An end past the greatest number is that number.
     pub fn file_range(&self) -> Option<Range<usize>>
-        ensures none { IsNone result ↔ (self.now.sh_type ≡ SHT_NOBITS) }
+        ensures none { IsNone result ↔ (self.now.sh_type ≡ 8) }
         ensures some { IfSome result (λ range.
             (range.start, range.end) ≡ span self.now.sh_offset self.now.sh_size) }
     {
@@ -337,8 +346,8 @@ impl SectionHeader {
     ) -> Result<Vec<SectionHeader>>
         ensures given { let right = section_headers_of bytes.now offset count ctx in
             Gives (λ v. v.items) result right }
-        ensures tested { let tests = section_headers_tested bytes.now offset count ctx in
-            (offset ≢ 0) → IfErr tests (λ refusal. Refuses result refusal) }
+        ensures tested { IfErr (section_headers_of_tested bytes.now offset count ctx)
+            (λ refusal. Refuses result refusal) }
         ensures none { (offset ≡ 0) → IsOk result }
     {
         if offset == 0 {
@@ -363,23 +372,32 @@ impl SectionHeader {
     ) -> Result<Vec<SectionHeader>>
         ensures given { let right = section_headers_from bytes.now offset count ctx in
             Gives (λ v. v.items) result right }
-        ensures tested { let tests = section_headers_tested bytes.now offset count ctx in
-            IfErr tests (λ refusal. Refuses result refusal) }
+        ensures tested { IfErr (section_headers_from_tested bytes.now offset count ctx)
+            (λ refusal. Refuses result refusal) }
     {
         let first: SectionHeader = read_at(bytes, offset, ctx)?;
         let asked = first.count_asked(count);
         read_all(alloc, bytes, offset, asked.max(1), ctx, "section headers")
     }
 
-    /// Whether the section lies inside a file of `size` bytes, and its addresses inside all addresses.
+    /// Whether the section lies inside a file of `size` bytes, and its addresses inside all addresses:
+    /// [`SectionHeader::check_size_with_opts`], strictly.
+    pub fn check_size(&self, size: usize) -> Result<()>
+        ensures { result ≡ size_checked size self.now }
+    {
+        self.check_size_with_opts(size, false)
+    }
+
+    /// Whether the section lies inside a file of `size` bytes, and its addresses inside all addresses;
+    /// where `permissive` is true, every section passes.
     ///
     /// A section without bytes in the file (`SHT_NOBITS`, or of size 0) is not looked at. Else the
     /// first of these that applies is the error: `SectionOffset`, where the section ends past the
     /// file's end; `SectionAddr`, where its last address and one more pass `u64`.
-    pub fn check_size(&self, size: usize) -> Result<()>
-        ensures { result ≡ size_checked size self.now }
+    pub fn check_size_with_opts(&self, size: usize, permissive: bool) -> Result<()>
+        ensures { result ≡ size_checked_in permissive size self.now }
     {
-        if self.sh_type == SHT_NOBITS || self.sh_size == 0 {
+        if permissive || self.sh_type == SHT_NOBITS || self.sh_size == 0 {
             return Ok(());
         }
         let (end, overflow) = self.sh_offset.overflowing_add(self.sh_size);
@@ -403,9 +421,10 @@ impl SectionHeader {
         Ok(())
     }
 
-    /// Whether the section holds relocations with addends. Those without (`SHT_REL`) are not counted.
+    /// Whether the section holds relocations with addends (`SHT_RELA`, type 4). Those without
+    /// (`SHT_REL`) are not counted.
     pub fn is_relocation(&self) -> bool
-        ensures { IsTrue result ↔ (self.now.sh_type ≡ SHT_RELA) }
+        ensures { IsTrue result ↔ (self.now.sh_type ≡ 4) }
     {
         self.sh_type == SHT_RELA
     }
@@ -518,13 +537,7 @@ impl IntoCtx<Ctx> for SectionHeader {
 }
 
 impl Record<Ctx> for SectionHeader {
-    ghost use Rattle.goblin_base.specs.FieldLaws.{IsBytes-image_of_fields};
-    ghost use Rattle.goblin_headers.specs.SectionHeader.{SectionHeaderFits, section_header_fields};
-    ghost use Rattle.goblin_headers.specs.SectionHeaderLaws.{section_header_size-positive};
-    ghost use Rattle.goblin_headers.specs.SectionHeaderLaws.{length-section_header_image};
-    ghost use Rattle.goblin_headers.specs.SectionHeaderLaws.{section_header_of-append};
-    ghost use Rattle.goblin_headers.specs.SectionHeaderLaws.{section_header_of-image};
-    ghost use Rattle.goblin_headers.specs.SectionHeaderLaws.{image-section_header_of};
+    ghost use Rattle.goblin_headers.specs.SectionHeaderLaws.{section_header_laws};
 
     ghost read = { λ ctx. section_header_of ctx.container ctx.le };
 
@@ -538,42 +551,64 @@ impl Record<Ctx> for SectionHeader {
         Ok(SectionHeader::at(bytes, ctx))
     }
 
-    ghost size_positive = { λ ctx. section_header_size-positive ctx.container };
+    ghost size_positive = { λ ctx. (section_header_laws ctx.container ctx.le).size_positive };
 
-    ghost length_image = { λ ctx. length-section_header_image ctx.container ctx.le };
+    ghost length_image = { λ ctx. (section_header_laws ctx.container ctx.le).length_image };
 
-    ghost image_bytes = { λ ctx header.
-        IsBytes-image_of_fields ctx.le (section_header_fields ctx.container header) };
+    ghost image_bytes = { λ ctx. (section_header_laws ctx.container ctx.le).image_bytes };
 
     ghost writes_image = { λ ctx header old new answer so. so };
 
-    ghost reads_front = { λ ctx. section_header_of-append ctx.container ctx.le };
+    ghost reads_front = { λ ctx. (section_header_laws ctx.container ctx.le).reads_front };
 
-    ghost reads_back = { λ ctx. section_header_of-image ctx.container ctx.le };
+    ghost reads_back = { λ ctx. (section_header_laws ctx.container ctx.le).reads_back };
 
-    ghost writes_back = { λ ctx. image-section_header_of ctx.container ctx.le };
+    ghost writes_back = { λ ctx. (section_header_laws ctx.container ctx.le).writes_back };
 }
 
-/// Laws: what the constants of this module stand for, but for those that [`sht_to_str`] and
-/// [`shf_to_str`] name. A call does nothing.
+/// Laws: the numbers of this module's constants. A call does nothing.
 pub fn constants()
-    ensures indices { SHN_UNDEF ∷ SHN_LORESERVE ∷ SHN_LOPROC ∷ SHN_BEFORE ∷ SHN_AFTER ∷ SHN_HIPROC
-        ∷ SHN_LOOS ∷ SHN_HIOS ∷ SHN_ABS ∷ SHN_COMMON ∷ SHN_XINDEX ∷ SHN_HIRESERVE ∷ []
+    ensures indices { SHN_UNDEF ∷ SHN_LORESERVE ∷ SHN_LOPROC ∷ SHN_BEFORE ∷ SHN_AFTER
+        ∷ SHN_HIPROC ∷ SHN_LOOS ∷ SHN_HIOS ∷ SHN_ABS ∷ SHN_COMMON ∷ SHN_XINDEX ∷ SHN_HIRESERVE ∷ []
         ≡ 0 ∷ 0xff00 ∷ 0xff00 ∷ 0xff00 ∷ 0xff01 ∷ 0xff1f ∷ 0xff20 ∷ 0xff3f ∷ 0xfff1 ∷ 0xfff2
         ∷ 0xffff ∷ 0xffff ∷ [] }
-    ensures ranges { SHT_LOSUNW ∷ SHT_HISUNW ∷ SHT_HIOS ∷ []
-        ≡ 0x6ffffffa ∷ 0x6fffffff ∷ 0x6fffffff ∷ [] }
-    ensures masks { SHF_MASKOS ∷ SHF_MASKPROC ∷ SHF_EXCLUDE ∷ []
-        ≡ 0x0ff00000 ∷ 0xf0000000 ∷ 0x80000000 ∷ [] }
-    ensures flags { SHF_FLAGS ≡ SHF_WRITE ∷ SHF_ALLOC ∷ SHF_EXECINSTR ∷ SHF_MERGE ∷ SHF_STRINGS
+    ensures types { SHT_NULL ∷ SHT_PROGBITS ∷ SHT_SYMTAB ∷ SHT_STRTAB ∷ SHT_RELA ∷ SHT_HASH
+        ∷ SHT_DYNAMIC ∷ SHT_NOTE ∷ SHT_NOBITS ∷ SHT_REL ∷ SHT_SHLIB ∷ SHT_DYNSYM
+        ∷ SHT_INIT_ARRAY ∷ SHT_FINI_ARRAY ∷ SHT_PREINIT_ARRAY ∷ SHT_GROUP ∷ SHT_SYMTAB_SHNDX
+        ∷ SHT_NUM ∷ []
+        ≡ 0 ∷ 1 ∷ 2 ∷ 3 ∷ 4 ∷ 5 ∷ 6 ∷ 7 ∷ 8 ∷ 9 ∷ 10 ∷ 11 ∷ 14 ∷ 15 ∷ 16 ∷ 17 ∷ 18 ∷ 19 ∷ [] }
+    ensures ranges { SHT_LOOS ∷ SHT_HIOS ∷ SHT_LOPROC ∷ SHT_HIPROC ∷ SHT_LOUSER ∷ SHT_HIUSER ∷ []
+        ≡ 0x60000000 ∷ 0x6fffffff ∷ 0x70000000 ∷ 0x7fffffff ∷ 0x80000000 ∷ 0x8fffffff ∷ [] }
+    ensures gnu { SHT_GNU_ATTRIBUTES ∷ SHT_GNU_HASH ∷ SHT_GNU_LIBLIST ∷ SHT_CHECKSUM
+        ∷ SHT_GNU_VERDEF ∷ SHT_GNU_VERNEED ∷ SHT_GNU_VERSYM ∷ []
+        ≡ 0x6ffffff5 ∷ 0x6ffffff6 ∷ 0x6ffffff7 ∷ 0x6ffffff8 ∷ 0x6ffffffd ∷ 0x6ffffffe ∷ 0x6fffffff
+        ∷ [] }
+    ensures sun { SHT_LOSUNW ∷ SHT_SUNW_MOVE ∷ SHT_SUNW_COMDAT ∷ SHT_SUNW_SYMINFO ∷ SHT_HISUNW ∷ []
+        ≡ 0x6ffffffa ∷ 0x6ffffffa ∷ 0x6ffffffb ∷ 0x6ffffffc ∷ 0x6fffffff ∷ [] }
+    ensures x86_64 { SHT_X86_64_UNWIND ≡ 0x70000001 }
+
+    ensures flags { SHF_WRITE ∷ SHF_ALLOC ∷ SHF_EXECINSTR ∷ SHF_MERGE ∷ SHF_STRINGS
         ∷ SHF_INFO_LINK ∷ SHF_LINK_ORDER ∷ SHF_OS_NONCONFORMING ∷ SHF_GROUP ∷ SHF_TLS
-        ∷ SHF_COMPRESSED ∷ SHF_ORDERED ∷ [] }
+        ∷ SHF_COMPRESSED ∷ SHF_ORDERED ∷ []
+        ≡ 0x1 ∷ 0x2 ∷ 0x4 ∷ 0x10 ∷ 0x20 ∷ 0x40 ∷ 0x80 ∷ 0x100 ∷ 0x200 ∷ 0x400 ∷ 0x800 ∷ 0x40000000
+        ∷ [] }
+    ensures all_flags { SHF_FLAGS ≡ map (λ row. row.0) section_flag_names }
     ensures count { SHF_NUM_REGULAR_FLAGS ≡ 12 }
+    ensures others { SHF_MASKOS ∷ SHF_MASKPROC ∷ SHF_EXCLUDE ∷ []
+        ≡ 0x0ff00000 ∷ 0xf0000000 ∷ 0x80000000 ∷ [] }
 {}
 
 /// Laws: which bytes a section header is written as, and that classes and byte orders keep lists of
 /// section headers the same. A call does nothing.
 pub fn laws()
-    ensures image { OneImage }
-    ensures same { SameInEachClass }
+    ensures image { (class : Class) (order : ByteOrder) →
+        IsOneImage (section_header_size class) (section_header_of class order) (section_header_image class order) (section_header_low class) }
+    ensures same { IsSameInEachClass section_header_size section_header_of section_header_image SectionHeaderFits }
 {}
+
+/// A law: the default section header is the one of zeros, which a call answers.
+pub fn default_is_zeros() -> SectionHeader
+    ensures { values_of (section_header64_fields (as64 result)) ≡ replicate 10 0 }
+{
+    SectionHeader::default()
+}

@@ -1,25 +1,18 @@
 //! Section headers of the 64-bit class: System V gABI, "Section Header" (`Elf64_Shdr`).
-ghost use Rattle.std.specs.Prelude.{◌≡◌, ◌≤◌, ◌*◌, ◌++◌, length, drop, IfErr, IfOk, alloc_error};
+ghost use Rattle.std.specs.Prelude.{◌≡◌, ◌≤◌, ◌*◌, ◌++◌, [], ◌∷◌, length, drop, map, IfErr, IfOk, alloc_error};
+ghost use Rattle.goblin_base.specs.declared.container.Endian.{Endian as ByteOrder};
+ghost use Rattle.goblin_base.specs.Layout.{IsOneImage};
 ghost use Rattle.goblin_base.specs.Record.{read_within, Writes};
 ghost use Rattle.goblin_base.specs.Steps.{with_size};
 ghost use Rattle.goblin_base.specs.Table.{records};
+ghost use Rattle.std.specs.Prelude.{replicate};
+ghost use Rattle.goblin_base.specs.Fields.{values_of};
+ghost use Rattle.goblin_headers.specs.SectionHeader64.{section_header64_fields};
 ghost use Rattle.goblin_headers.specs.SectionHeader64.{section_header64_of, section_header64_image};
-ghost use Rattle.goblin_headers.specs.SectionHeader64.{OneImage};
+ghost use Rattle.goblin_headers.specs.SectionHeader64.{section_header64_size, section_header64_low};
+ghost use Rattle.goblin_headers.specs.SectionNames.{section_flag_names};
 
 use crate::section_header::SectionHeader as ElfSectionHeader;
-pub use crate::section_header::{
-    SHF_ALLOC, SHF_COMPRESSED, SHF_EXCLUDE, SHF_EXECINSTR, SHF_FLAGS, SHF_GROUP, SHF_INFO_LINK,
-    SHF_LINK_ORDER, SHF_MASKOS, SHF_MASKPROC, SHF_MERGE, SHF_NUM_REGULAR_FLAGS, SHF_ORDERED,
-    SHF_OS_NONCONFORMING, SHF_STRINGS, SHF_TLS, SHF_WRITE, SHN_ABS, SHN_AFTER, SHN_BEFORE,
-    SHN_COMMON, SHN_HIOS, SHN_HIPROC, SHN_HIRESERVE, SHN_LOOS, SHN_LOPROC, SHN_LORESERVE,
-    SHN_UNDEF, SHN_XINDEX, SHT_CHECKSUM, SHT_DYNAMIC, SHT_DYNSYM, SHT_FINI_ARRAY,
-    SHT_GNU_ATTRIBUTES, SHT_GNU_HASH, SHT_GNU_LIBLIST, SHT_GNU_VERDEF, SHT_GNU_VERNEED,
-    SHT_GNU_VERSYM, SHT_GROUP, SHT_HASH, SHT_HIOS, SHT_HIPROC, SHT_HISUNW, SHT_HIUSER,
-    SHT_INIT_ARRAY, SHT_LOOS, SHT_LOPROC, SHT_LOSUNW, SHT_LOUSER, SHT_NOBITS, SHT_NOTE, SHT_NULL,
-    SHT_NUM, SHT_PREINIT_ARRAY, SHT_PROGBITS, SHT_REL, SHT_RELA, SHT_SHLIB, SHT_STRTAB,
-    SHT_SUNW_COMDAT, SHT_SUNW_MOVE, SHT_SUNW_SYMINFO, SHT_SYMTAB, SHT_SYMTAB_SHNDX,
-    SHT_X86_64_UNWIND, shf_to_str, sht_to_str,
-};
 use goblin_base::container::Endian;
 use goblin_base::error::{Error, Result};
 use goblin_base::number::{get_u32, get_u64, put_u32, put_u64, room};
@@ -130,9 +123,9 @@ impl From<SectionHeader> for ElfSectionHeader {
 
 /// Of the name's place the low bits are kept, as many as its field has room for.
 impl From<ElfSectionHeader> for SectionHeader {
-    ghost use Rattle.goblin_headers.specs.SectionHeader.{narrowed64};
+    ghost use Rattle.goblin_headers.specs.SectionHeader.{as64};
 
-    ghost from_gives = { λ header raw. raw ≡ narrowed64 header };
+    ghost from_gives = { λ header raw. raw ≡ section_header64_low (as64 header) };
 
     fn from(header: ElfSectionHeader) -> Self {
         SectionHeader {
@@ -151,7 +144,7 @@ impl From<ElfSectionHeader> for SectionHeader {
 }
 
 impl SizeWith<Endian> for SectionHeader {
-    ghost size_of = { λ _. 64 };
+    ghost size_of = { λ _. section_header64_size };
 
     fn size_with(_order: &Endian) -> usize {
         SIZEOF_SHDR
@@ -161,7 +154,7 @@ impl SizeWith<Endian> for SectionHeader {
 /// Refused is only what has no room.
 impl<'a> TryFromCtx<'a, Endian> for SectionHeader {
     ghost try_from_gives = { λ bytes order answer.
-        answer ≡ with_size 64 (read_within 64 (section_header64_of order) bytes) };
+        answer ≡ with_size section_header64_size (read_within section_header64_size (section_header64_of order) bytes) };
 
     fn try_from_ctx(bytes: &'a [u8], order: Endian) -> Result<(Self, usize)> {
         let header = SectionHeader::read_record(bytes, order)?;
@@ -172,7 +165,7 @@ impl<'a> TryFromCtx<'a, Endian> for SectionHeader {
 /// Refused is only what has no room, and then no byte is written.
 impl TryIntoCtx<Endian> for SectionHeader {
     ghost try_into_gives = { λ header order old answer new.
-        Writes 64 (section_header64_image order header) old answer new };
+        Writes section_header64_size (section_header64_image order header) old answer new };
 
     #[tactic(auto, using(goblin_base::specs::RecordLaws::record_answers))]
     fn try_into_ctx(self, bytes: &mut [u8], order: Endian) -> Result<usize> {
@@ -183,19 +176,14 @@ impl TryIntoCtx<Endian> for SectionHeader {
 }
 
 impl Record<Endian> for SectionHeader {
-    ghost use Rattle.goblin_base.specs.Fields.{FieldsFit};
-    ghost use Rattle.goblin_base.specs.FieldLaws.{IsBytes-image_of_fields};
-    ghost use Rattle.goblin_headers.specs.SectionHeader64.{section_header64_fields};
-    ghost use Rattle.goblin_headers.specs.SectionHeader64Laws.{positive, length-image};
-    ghost use Rattle.goblin_headers.specs.SectionHeader64Laws.{section_header64_of-append};
-    ghost use Rattle.goblin_headers.specs.SectionHeader64Laws.{section_header64_of-image};
-    ghost use Rattle.goblin_headers.specs.SectionHeader64Laws.{image-section_header64_of};
+    ghost use Rattle.goblin_headers.specs.SectionHeader64.{SectionHeader64Fits};
+    ghost use Rattle.goblin_headers.specs.SectionHeader64Laws.{section_header64_laws};
 
     ghost read = { section_header64_of };
 
     ghost image = { section_header64_image };
 
-    ghost fits = { λ _ header. FieldsFit (section_header64_fields header) };
+    ghost fits = { λ _. SectionHeader64Fits };
 
     #[tactic(auto, using(goblin_base::specs::RecordLaws::record_answers))]
     fn read_record(bytes: &[u8], order: Endian) -> Result<Self> {
@@ -203,23 +191,88 @@ impl Record<Endian> for SectionHeader {
         Ok(SectionHeader::at(bytes, order))
     }
 
-    ghost size_positive = { λ _. positive };
+    ghost size_positive = { λ order. (section_header64_laws order).size_positive };
 
-    ghost length_image = { length-image };
+    ghost length_image = { λ order. (section_header64_laws order).length_image };
 
-    ghost image_bytes = { λ order header. IsBytes-image_of_fields order (section_header64_fields header) };
+    ghost image_bytes = { λ order. (section_header64_laws order).image_bytes };
 
     ghost writes_image = { λ order header old new answer so. so };
 
-    ghost reads_front = { section_header64_of-append };
+    ghost reads_front = { λ order. (section_header64_laws order).reads_front };
 
-    ghost reads_back = { section_header64_of-image };
+    ghost reads_back = { λ order. (section_header64_laws order).reads_back };
 
-    ghost writes_back = { image-section_header64_of };
+    ghost writes_back = { λ order. (section_header64_laws order).writes_back };
 }
 
-/// Laws: how many bytes a section header has, and which they are. A call does nothing.
-pub fn laws()
-    ensures size { SIZEOF_SHDR ≡ 64 }
-    ensures image { OneImage }
+/// Laws: the numbers of this module's own constants, and of those that it passes on, under the names
+/// that they have here. A call does nothing.
+pub fn constants()
+    ensures size { SIZEOF_SHDR ≡ section_header64_size }
+
+    ensures indices { SHN_UNDEF ∷ SHN_LORESERVE ∷ SHN_LOPROC ∷ SHN_BEFORE ∷ SHN_AFTER
+        ∷ SHN_HIPROC ∷ SHN_LOOS ∷ SHN_HIOS ∷ SHN_ABS ∷ SHN_COMMON ∷ SHN_XINDEX ∷ SHN_HIRESERVE ∷ []
+        ≡ 0 ∷ 0xff00 ∷ 0xff00 ∷ 0xff00 ∷ 0xff01 ∷ 0xff1f ∷ 0xff20 ∷ 0xff3f ∷ 0xfff1 ∷ 0xfff2
+        ∷ 0xffff ∷ 0xffff ∷ [] }
+    ensures types { SHT_NULL ∷ SHT_PROGBITS ∷ SHT_SYMTAB ∷ SHT_STRTAB ∷ SHT_RELA ∷ SHT_HASH
+        ∷ SHT_DYNAMIC ∷ SHT_NOTE ∷ SHT_NOBITS ∷ SHT_REL ∷ SHT_SHLIB ∷ SHT_DYNSYM
+        ∷ SHT_INIT_ARRAY ∷ SHT_FINI_ARRAY ∷ SHT_PREINIT_ARRAY ∷ SHT_GROUP ∷ SHT_SYMTAB_SHNDX
+        ∷ SHT_NUM ∷ []
+        ≡ 0 ∷ 1 ∷ 2 ∷ 3 ∷ 4 ∷ 5 ∷ 6 ∷ 7 ∷ 8 ∷ 9 ∷ 10 ∷ 11 ∷ 14 ∷ 15 ∷ 16 ∷ 17 ∷ 18 ∷ 19 ∷ [] }
+    ensures ranges { SHT_LOOS ∷ SHT_HIOS ∷ SHT_LOPROC ∷ SHT_HIPROC ∷ SHT_LOUSER ∷ SHT_HIUSER ∷ []
+        ≡ 0x60000000 ∷ 0x6fffffff ∷ 0x70000000 ∷ 0x7fffffff ∷ 0x80000000 ∷ 0x8fffffff ∷ [] }
+    ensures gnu { SHT_GNU_ATTRIBUTES ∷ SHT_GNU_HASH ∷ SHT_GNU_LIBLIST ∷ SHT_CHECKSUM
+        ∷ SHT_GNU_VERDEF ∷ SHT_GNU_VERNEED ∷ SHT_GNU_VERSYM ∷ []
+        ≡ 0x6ffffff5 ∷ 0x6ffffff6 ∷ 0x6ffffff7 ∷ 0x6ffffff8 ∷ 0x6ffffffd ∷ 0x6ffffffe ∷ 0x6fffffff
+        ∷ [] }
+    ensures sun { SHT_LOSUNW ∷ SHT_SUNW_MOVE ∷ SHT_SUNW_COMDAT ∷ SHT_SUNW_SYMINFO ∷ SHT_HISUNW ∷ []
+        ≡ 0x6ffffffa ∷ 0x6ffffffa ∷ 0x6ffffffb ∷ 0x6ffffffc ∷ 0x6fffffff ∷ [] }
+    ensures x86_64 { SHT_X86_64_UNWIND ≡ 0x70000001 }
+
+    ensures flags { SHF_WRITE ∷ SHF_ALLOC ∷ SHF_EXECINSTR ∷ SHF_MERGE ∷ SHF_STRINGS
+        ∷ SHF_INFO_LINK ∷ SHF_LINK_ORDER ∷ SHF_OS_NONCONFORMING ∷ SHF_GROUP ∷ SHF_TLS
+        ∷ SHF_COMPRESSED ∷ SHF_ORDERED ∷ []
+        ≡ 0x1 ∷ 0x2 ∷ 0x4 ∷ 0x10 ∷ 0x20 ∷ 0x40 ∷ 0x80 ∷ 0x100 ∷ 0x200 ∷ 0x400 ∷ 0x800 ∷ 0x40000000
+        ∷ [] }
+    ensures all_flags { SHF_FLAGS ≡ map (λ row. row.0) section_flag_names }
+    ensures count { SHF_NUM_REGULAR_FLAGS ≡ 12 }
+    ensures others { SHF_MASKOS ∷ SHF_MASKPROC ∷ SHF_EXCLUDE ∷ []
+        ≡ 0x0ff00000 ∷ 0xf0000000 ∷ 0x80000000 ∷ [] }
 {}
+
+/// A law: which bytes a section header is written as. A call does nothing.
+pub fn laws()
+    ensures image { (order : ByteOrder) →
+        IsOneImage section_header64_size (section_header64_of order) (section_header64_image order) section_header64_low }
+{}
+
+/// A law: the default section header is the one of zeros, which a call answers.
+pub fn default_is_zeros() -> SectionHeader
+    ensures { values_of (section_header64_fields result) ≡ replicate 10 0 }
+{
+    SectionHeader::default()
+}
+
+// Indices of sections with a meaning of their own.
+pub use crate::section_header::{
+    SHN_ABS, SHN_AFTER, SHN_BEFORE, SHN_COMMON, SHN_HIOS, SHN_HIPROC, SHN_HIRESERVE, SHN_LOOS,
+    SHN_LOPROC, SHN_LORESERVE, SHN_UNDEF, SHN_XINDEX,
+};
+
+// What a section holds.
+pub use crate::section_header::{
+    SHT_CHECKSUM, SHT_DYNAMIC, SHT_DYNSYM, SHT_FINI_ARRAY, SHT_GNU_ATTRIBUTES, SHT_GNU_HASH,
+    SHT_GNU_LIBLIST, SHT_GNU_VERDEF, SHT_GNU_VERNEED, SHT_GNU_VERSYM, SHT_GROUP, SHT_HASH,
+    SHT_HIOS, SHT_HIPROC, SHT_HISUNW, SHT_HIUSER, SHT_INIT_ARRAY, SHT_LOOS, SHT_LOPROC, SHT_LOSUNW,
+    SHT_LOUSER, SHT_NOBITS, SHT_NOTE, SHT_NULL, SHT_NUM, SHT_PREINIT_ARRAY, SHT_PROGBITS, SHT_REL,
+    SHT_RELA, SHT_SHLIB, SHT_STRTAB, SHT_SUNW_COMDAT, SHT_SUNW_MOVE, SHT_SUNW_SYMINFO, SHT_SYMTAB,
+    SHT_SYMTAB_SHNDX, SHT_X86_64_UNWIND, sht_to_str,
+};
+
+// What may be done with a section.
+pub use crate::section_header::{
+    SHF_ALLOC, SHF_COMPRESSED, SHF_EXCLUDE, SHF_EXECINSTR, SHF_FLAGS, SHF_GROUP, SHF_INFO_LINK,
+    SHF_LINK_ORDER, SHF_MASKOS, SHF_MASKPROC, SHF_MERGE, SHF_NUM_REGULAR_FLAGS, SHF_ORDERED,
+    SHF_OS_NONCONFORMING, SHF_STRINGS, SHF_TLS, SHF_WRITE, shf_to_str,
+};

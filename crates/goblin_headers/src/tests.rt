@@ -4,313 +4,336 @@ use crate::header::{
     Header, class_to_str, et_to_str, machine_to_str,
 };
 use crate::{header, header32, header64};
-use goblin_base::container::{BE, Container, Ctx, LE};
+use goblin_base::container::{BE, Container, Ctx, Endian, LE};
 use goblin_base::error::Result as Answer;
 use goblin_base::scroll::{SizeWith, TryFromCtx};
-use std::alloc::{AllocError, Global};
-use std::test::Fail;
+use std::alloc::Global;
 
-// A 64-bit header in big byte order.
-const BIG: &str = "7F454C46 02020100 0000000000000000 0002 003E 00000001 0000000000401000
-    0000000000000040 00000000000000A0 0000F00D 0040 0038 000D 0040 0002 0001";
+// The context of 32-bit files in little byte order, and that of 64-bit files in big byte order.
+pub(crate) const LITTLE32: Ctx = Ctx {
+    container: Container::Little,
+    le: Endian::Little,
+};
 
-// The digit that a character of a hexadecimal text stands for, if it is one.
-fn digit_of(c: u8) -> Option<u8> {
-    match c {
-        b'0'..=b'9' => Some(c - b'0'),
-        b'A'..=b'F' => Some(c - b'A' + 10),
-        _ => None,
-    }
-}
+pub(crate) const BIG64: Ctx = Ctx {
+    container: Container::Big,
+    le: Endian::Big,
+};
 
-// The bytes that a hexadecimal text spells.
-pub(crate) fn bytes_of(alloc: Global, text: &str) -> Result<Vec<u8>, AllocError> {
-    let mut bytes = Vec::new(alloc);
-    let mut high = None;
-    for digit in text.as_bytes().iter().copied().filter_map(digit_of) {
-        match high {
-            None => high = Some(digit),
-            Some(first) => {
-                bytes.push((first & 0xf) << 4 | (digit & 0xf))?;
-                high = None;
-            }
-        }
-    }
-    Ok(bytes)
-}
+// A 64-bit header in big byte order, each field with a number of its own, and the header.
+const BIG: &[u8; 64] = b"\x7fELF\x02\x02\x01\0\0\0\0\0\0\0\0\0\
+    \x00\x02\x00\x3e\x00\x00\x00\x01\
+    \x00\x00\x00\x00\x00\x40\x10\x00\
+    \x00\x00\x00\x00\x00\x00\x00\x40\
+    \x00\x00\x00\x00\x00\x00\x00\xa0\
+    \x00\x00\xf0\x0d\x00\x40\x00\x38\
+    \x00\x0d\x00\x40\x00\x02\x00\x01";
 
-// The bytes that a hexadecimal text spells, and behind them AA, up to so many in all.
-pub(crate) fn padded(alloc: Global, text: &str, len: usize) -> Result<Vec<u8>, AllocError> {
-    let mut bytes = bytes_of(alloc, text)?;
-    for _ in bytes.len()..len {
-        bytes.push(0xaa)?;
-    }
-    Ok(bytes)
-}
+const READ: Header = Header {
+    e_ident: [0x7f, 0x45, 0x4c, 0x46, 2, 2, 1, 0, 0, 0, 0, 0, 0, 0, 0, 0],
+    e_type: 2,
+    e_machine: 62,
+    e_version: 1,
+    e_entry: 0x401000,
+    e_phoff: 0x40,
+    e_shoff: 0xa0,
+    e_flags: 0xf00d,
+    e_ehsize: 64,
+    e_phentsize: 56,
+    e_phnum: 13,
+    e_shentsize: 64,
+    e_shnum: 2,
+    e_shstrndx: 1,
+};
 
-// The text of the error, or `Ok`.
-pub(crate) fn told<T: Drop>(alloc: Global, answer: Answer<T>) -> Result<String, AllocError> {
+// The bytes of new headers: of the 32-bit class in little byte order, and of the 64-bit class in big
+// byte order.
+pub(crate) const NEW32: &[u8; 52] = b"\x7fELF\x01\x01\x01\0\0\0\0\0\0\0\0\0\
+    \x03\x00\x00\x00\x01\x00\x00\x00\x00\x00\x00\x00\x00\x00\x00\x00\x00\x00\x00\x00\x00\x00\x00\x00\
+    \x34\x00\x20\x00\x00\x00\x28\x00\x00\x00\x00\x00";
+
+pub(crate) const NEW64: &[u8; 64] = b"\x7fELF\x02\x02\x01\0\0\0\0\0\0\0\0\0\
+    \x00\x03\x00\x00\x00\x00\x00\x01\0\0\0\0\0\0\0\0\0\0\0\0\0\0\0\0\0\0\0\0\0\0\0\0\0\0\0\0\
+    \x00\x40\x00\x38\x00\x00\x00\x40\x00\x00\x00\x00";
+
+// Whether the answer is an error with this text, or a value and the text is `Ok`.
+pub(crate) fn says<T: Drop>(alloc: Global, answer: Answer<T>, text: &str) -> bool {
     match answer {
-        Ok(_) => String::from_str(alloc, "Ok"),
-        Err(e) => e.line(alloc),
+        Ok(_) => text == "Ok",
+        Err(e) => e.line(alloc).is_ok_and(|line| line.as_str() == text),
     }
 }
 
-#[test]
-fn reads_a_header(rt: HostRuntime) -> Result<(), Fail> {
-    let bytes = bytes_of(rt.alloc(), BIG)?;
-    // The order that is passed is ignored.
-    let (header, size) = Header::try_from_ctx(bytes.as_slice(), LE)?;
-    assert_eq!(rt; size, 64);
-    let ident = [0x7f, 0x45, 0x4c, 0x46, 2, 2, 1, 0, 0, 0, 0, 0, 0, 0, 0, 0];
-    assert_eq!(rt; header.e_ident, ident);
-    assert_eq!(rt; header.e_type, 2);
-    assert_eq!(rt; header.e_machine, 62);
-    assert_eq!(rt; header.e_version, 1);
-    assert_eq!(rt; header.e_entry, 0x401000);
-    assert_eq!(rt; header.e_phoff, 0x40);
-    assert_eq!(rt; header.e_shoff, 0xa0);
-    assert_eq!(rt; header.e_flags, 0xf00d);
-    assert_eq!(rt; header.e_ehsize, 64);
-    assert_eq!(rt; header.e_phentsize, 56);
-    assert_eq!(rt; header.e_phnum, 13);
-    assert_eq!(rt; header.e_shentsize, 64);
-    assert_eq!(rt; header.e_shnum, 2);
-    assert_eq!(rt; header.e_shstrndx, 1);
-    assert_eq!(rt; header.container()?, Container::Big);
-    assert_eq!(rt; header.endianness()?, BE);
-
-    let raw = header64::Header::parse(bytes.as_slice())?;
-    assert_eq!(rt; Header::from(raw), header);
-    let (same, size) = header64::Header::try_from_ctx(bytes.as_slice(), LE)?;
-    assert_eq!(rt; size, 64);
-    assert_eq!(rt; same, raw);
-    Ok(())
+// Whether these bytes stand in front, and all behind them is as before, 0xaa.
+pub(crate) fn stands(room: &[u8], bytes: &[u8]) -> bool {
+    room.starts_with(bytes) && room.iter().skip(bytes.len()).all(|byte| *byte == 0xaa)
 }
 
-#[test]
-fn makes_a_header(rt: HostRuntime) -> Result<(), Fail> {
-    let table = [
-        (
-            Ctx::new(Container::Little, LE),
-            52,
-            "7F454C46 01010100 0000000000000000 0300 0000 01000000 00000000 00000000 00000000
-            00000000 3400 2000 0000 2800 0000 0000",
-        ),
-        (
-            Ctx::new(Container::Big, BE),
-            64,
-            "7F454C46 02020100 0000000000000000 0003 0000 00000001 0000000000000000
-            0000000000000000 0000000000000000 00000000 0040 0038 0000 0040 0000 0000",
-        ),
-    ];
-    for (ctx, size, hex) in table {
-        let bytes = bytes_of(rt.alloc(), hex)?;
-        assert_eq!(rt; Header::size(ctx), size);
-        assert_eq!(rt; Header::size_with(&ctx), size);
-        let (read, counted) = Header::try_from_ctx(bytes.as_slice(), ctx.le)?;
-        assert_eq!(rt; counted, size);
-        assert_eq!(rt; Header::new(ctx), read);
+fn reads(bytes: &[u8], order: Endian, header: Header) -> bool {
+    match Header::try_from_ctx(bytes, order) {
+        Ok((read, size)) => read == header && size == bytes.len(),
+        Err(_) => false,
     }
-    let bytes = bytes_of(rt.alloc(), table[0].2)?;
-    let raw = header32::Header::parse(bytes.as_slice())?;
-    assert_eq!(rt; Header::from(raw), Header::new(table[0].0));
-    let (same, size) = header32::Header::try_from_ctx(bytes.as_slice(), BE)?;
-    assert_eq!(rt; size, 52);
-    assert_eq!(rt; same, raw);
-    assert_eq!(rt; header32::Header::default().e_type, 0);
-    assert_eq!(rt; header64::Header::default().e_entry, 0);
-    Ok(())
+}
+
+fn reads32(bytes: &[u8], order: Endian, header: Header) -> bool {
+    let (Ok(parsed), Ok((read, size))) = (
+        header32::Header::parse(bytes),
+        header32::Header::try_from_ctx(bytes, order),
+    ) else {
+        return false;
+    };
+    parsed == read && size == bytes.len() && Header::from(read) == header
+}
+
+fn reads64(bytes: &[u8], order: Endian, header: Header) -> bool {
+    let (Ok(parsed), Ok((read, size))) = (
+        header64::Header::parse(bytes),
+        header64::Header::try_from_ctx(bytes, order),
+    ) else {
+        return false;
+    };
+    parsed == read && size == bytes.len() && Header::from(read) == header
+}
+
+// The order that is passed is ignored.
+#[test]
+fn reads_headers(rt: HostRuntime) {
+    assert!(rt; reads(BIG, LE, READ));
+    assert!(rt; reads64(BIG, LE, READ));
+    assert!(rt; reads(NEW32, BE, Header::new(LITTLE32)));
+    assert!(rt; reads32(NEW32, BE, Header::new(LITTLE32)));
+    assert!(rt; reads(NEW64, LE, Header::new(BIG64)));
+}
+
+fn has_size(ctx: Ctx, size: usize) -> bool {
+    Header::size(ctx) == size && Header::size_with(&ctx) == size
 }
 
 #[test]
-fn refuses_in_order(rt: HostRuntime) -> Result<(), Fail> {
-    let too_small = "Malformed entity: Too small";
-    let data = "Malformed entity: invalid ELF endianness DATA type 0";
-    let raw_data = "Malformed entity: invalid ELF DATA type 0";
-    // A header with a wrong magic number, class byte and data byte, where a case says so; how many
-    // of its bytes there are; and the answers of the reader of both classes and the two of the class.
-    let table = [
-        (0x7f, 2, 2, 64, "Ok", "Ok", "Ok"),
-        (
-            0x00,
-            2,
-            2,
-            64,
-            "Invalid magic number: 0x10202464c4500",
-            "Ok",
-            "Ok",
-        ),
-        (
-            0x7f,
-            3,
-            2,
-            64,
-            "Malformed entity: invalid ELF class 3",
-            "Ok",
-            "Ok",
-        ),
-        (0x7f, 2, 0, 64, data, data, raw_data),
-        (
-            0x7f,
-            3,
-            0,
-            64,
-            "Malformed entity: invalid ELF class 3",
-            data,
-            raw_data,
-        ),
-        (
-            0x00,
-            3,
-            0,
-            64,
-            "Invalid magic number: 0x10003464c4500",
-            data,
-            raw_data,
-        ),
-        (
-            0x7f,
-            2,
-            2,
-            63,
-            "type is too big (64) for 63",
-            "type is too big (64) for 63",
-            "type is too big (64) for 63",
-        ),
-        (
-            0x7f,
-            2,
-            2,
-            16,
-            "type is too big (64) for 16",
-            "type is too big (64) for 16",
-            "type is too big (64) for 16",
-        ),
-        (0x7f, 2, 0, 16, data, data, raw_data),
-        (
-            0x00,
-            3,
-            0,
-            15,
-            too_small,
-            "type is too big (16) for 15",
-            "type is too big (16) for 15",
-        ),
-        (0x7f, 2, 2, 0, too_small, "bad offset 0", "bad offset 0"),
-    ];
-    for (magic, class, order, len, both, read, parsed) in table {
-        let mut bytes = bytes_of(rt.alloc(), BIG)?;
-        assert_eq!(rt; bytes.len(), 64);
-        let all = bytes.as_mut_slice();
-        all[0] = magic;
-        all[4] = class;
-        all[5] = order;
-        bytes.truncate(len);
-        let bytes = bytes.as_slice();
-        let what = "byte 0, class byte, data byte and length";
-        let told_both = told(rt.alloc(), Header::try_from_ctx(bytes, BE))?;
-        assert_eq!(rt;
-            told_both.as_str(),
-            both,
-            "{what} {magic} {class} {order} {len}"
-        );
-        let told_read = told(rt.alloc(), header64::Header::try_from_ctx(bytes, BE))?;
-        assert_eq!(rt;
-            told_read.as_str(),
-            read,
-            "{what} {magic} {class} {order} {len}"
-        );
-        let told_parsed = told(rt.alloc(), header64::Header::parse(bytes))?;
-        assert_eq!(rt;
-            told_parsed.as_str(),
-            parsed,
-            "{what} {magic} {class} {order} {len}"
-        );
-    }
-    Ok(())
+fn sizes_of_headers(rt: HostRuntime) {
+    assert!(rt; has_size(LITTLE32, 52));
+    assert!(rt; has_size(BIG64, 64));
 }
 
 #[test]
-fn refuses_a_raw_32_bit_header(rt: HostRuntime) -> Result<(), Fail> {
-    let ok = "7F454C46 01010100 0000000000000000 0300 0000 01000000 00000000 00000000 00000000
-        00000000 3400 2000 0000 2800 0000 0000";
-    let mut bytes = bytes_of(rt.alloc(), ok)?;
-    assert_eq!(rt; bytes.len(), 52);
-    bytes.truncate(51);
-    let cut = bytes.as_slice();
-    let parsed = told(rt.alloc(), header32::Header::parse(cut))?;
-    assert_eq!(rt; parsed.as_str(), "type is too big (52) for 51");
-    let read = told(rt.alloc(), header32::Header::try_from_ctx(cut, LE))?;
-    assert_eq!(rt; read.as_str(), "type is too big (52) for 51");
-    Ok(())
+fn default_headers_are_zeros(rt: HostRuntime) {
+    assert!(rt; header32::default_is_zeros() == header32::Header::default());
+    assert!(rt; header64::default_is_zeros() == header64::Header::default());
+    assert!(rt; header32::Header::default().e_ident == [0; 16]);
+    assert!(rt; header64::Header::default().e_entry == 0);
+}
+
+// A case of refused bytes: byte 0, the class byte, the data byte and how many bytes there are of `BIG`
+// with these; and the texts of the reader of both classes, and of `try_from_ctx` and `parse` of its own.
+struct Refused {
+    changed: [u8; 3],
+    len: usize,
+    texts: [&'static str; 3],
+}
+
+const OK: &str = "Ok";
+
+const DATA: &str = "Malformed entity: invalid ELF DATA type 0";
+
+const DATA_TYPE: &str = "Malformed entity: invalid ELF endianness DATA type 0";
+
+const CLASS: &str = "Malformed entity: invalid ELF class 3";
+
+const SMALL: &str = "Malformed entity: Too small";
+
+const CUT63: &str = "type is too big (64) for 63";
+
+const CUT16: &str = "type is too big (64) for 16";
+
+const CUT15: &str = "type is too big (16) for 15";
+
+const NONE: &str = "bad offset 0";
+
+static REFUSED: [Refused; 11] = [
+    Refused {
+        changed: [0x7f, 2, 2],
+        len: 64,
+        texts: [OK, OK, OK],
+    },
+    Refused {
+        changed: [0, 2, 2],
+        len: 64,
+        texts: ["Invalid magic number: 0x10202464c4500", OK, OK],
+    },
+    Refused {
+        changed: [0x7f, 3, 2],
+        len: 64,
+        texts: [CLASS, OK, OK],
+    },
+    Refused {
+        changed: [0x7f, 2, 0],
+        len: 64,
+        texts: [DATA_TYPE, DATA_TYPE, DATA],
+    },
+    Refused {
+        changed: [0x7f, 3, 0],
+        len: 64,
+        texts: [CLASS, DATA_TYPE, DATA],
+    },
+    Refused {
+        changed: [0, 3, 0],
+        len: 64,
+        texts: ["Invalid magic number: 0x10003464c4500", DATA_TYPE, DATA],
+    },
+    Refused {
+        changed: [0x7f, 2, 2],
+        len: 63,
+        texts: [CUT63, CUT63, CUT63],
+    },
+    Refused {
+        changed: [0x7f, 2, 2],
+        len: 16,
+        texts: [CUT16, CUT16, CUT16],
+    },
+    Refused {
+        changed: [0x7f, 2, 0],
+        len: 16,
+        texts: [DATA_TYPE, DATA_TYPE, DATA],
+    },
+    Refused {
+        changed: [0, 3, 0],
+        len: 15,
+        texts: [SMALL, CUT15, CUT15],
+    },
+    Refused {
+        changed: [0x7f, 2, 2],
+        len: 0,
+        texts: [SMALL, NONE, NONE],
+    },
+];
+
+fn refuses(alloc: Global, case: &Refused) -> bool {
+    let mut bytes = *BIG;
+    let [magic, class, order] = case.changed;
+    bytes[0] = magic;
+    bytes[4] = class;
+    bytes[5] = order;
+    let cut = &bytes[..case.len.min(64)];
+    says(alloc, Header::try_from_ctx(cut, BE), case.texts[0])
+        && says(
+            alloc,
+            header64::Header::try_from_ctx(cut, BE),
+            case.texts[1],
+        )
+        && says(alloc, header64::Header::parse(cut), case.texts[2])
 }
 
 #[test]
-fn asks_a_header(rt: HostRuntime) -> Result<(), Fail> {
-    let mut header = Header::new(Ctx::new(Container::Little, LE));
-    assert_eq!(rt; header.container()?, Container::Little);
-    assert_eq!(rt; header.endianness()?, LE);
+fn refuses_headers_in_order(rt: HostRuntime) {
+    let wrong = REFUSED.iter().position(|case| !refuses(rt.alloc(), case));
+    assert!(rt; wrong.is_none(), "case {wrong:?}");
+}
+
+#[test]
+fn refuses_a_cut_32_bit_header(rt: HostRuntime) {
+    let cut = &NEW32[..51];
+    let text = "type is too big (52) for 51";
+    assert!(rt; says(rt.alloc(), header32::Header::parse(cut), text));
+    assert!(rt; says(rt.alloc(), header32::Header::try_from_ctx(cut, LE), text));
+    assert!(rt; says(rt.alloc(), Header::try_from_ctx(cut, LE), text));
+}
+
+#[test]
+fn asks_a_header(rt: HostRuntime) {
+    assert!(rt; READ.container().is_ok_and(|class| class == Container::Big));
+    assert!(rt; READ.endianness().is_ok_and(|order| order == BE));
+    let new = Header::new(LITTLE32);
+    assert!(rt;
+        new.container()
+            .is_ok_and(|class| class == Container::Little)
+    );
+    assert!(rt; new.endianness().is_ok_and(|order| order == LE));
+}
+
+#[test]
+fn tells_a_bad_class_and_a_bad_order(rt: HostRuntime) {
+    let mut header = READ;
     header.e_ident[4] = 10;
     header.e_ident[5] = 11;
-    let class = told(rt.alloc(), header.container())?;
-    assert_eq!(rt;
-        class.as_str(),
-        "Malformed entity: Invalid class in Header: 10"
-    );
-    let order = told(rt.alloc(), header.endianness())?;
-    assert_eq!(rt;
-        order.as_str(),
-        "Malformed entity: Invalid endianness in Header: 11"
-    );
-    Ok(())
+    let text = "Malformed entity: Invalid class in Header: 10";
+    assert!(rt; says(rt.alloc(), header.container(), text));
+    let text = "Malformed entity: Invalid endianness in Header: 11";
+    assert!(rt; says(rt.alloc(), header.endianness(), text));
+}
+
+static MACHINES: [(u16, &str); 14] = [
+    (62, "X86_64"),
+    (0, "EM_UNKNOWN"),
+    (258, "LOONGARCH"),
+    (205, "EM_UNKNOWN"),
+    (EM_M32, "M32"),
+    (EM_386, "386"),
+    (EM_AARCH64, "AARCH64"),
+    (EM_X86_64, "X86_64"),
+    (EM_LOONGARCH, "LOONGARCH"),
+    (EM_NONE, "EM_UNKNOWN"),
+    (EM_INTELGT, "EM_UNKNOWN"),
+    (EM_NUM, "EM_UNKNOWN"),
+    (EM_CSKY, "EM_UNKNOWN"),
+    (65535, "EM_UNKNOWN"),
+];
+
+static TYPES: [(u16, &str); 8] = [
+    (0, "NONE"),
+    (1, "REL"),
+    (2, "EXEC"),
+    (3, "DYN"),
+    (4, "CORE"),
+    (5, "NUM"),
+    (6, "UNKNOWN_ET"),
+    (0xfe00, "UNKNOWN_ET"),
+];
+
+static CLASSES: [(u8, &str); 5] = [
+    (0, "NONE"),
+    (1, "ELF32"),
+    (2, "ELF64"),
+    (3, "UNKNOWN_CLASS"),
+    (255, "UNKNOWN_CLASS"),
+];
+
+#[test]
+fn names_machines(rt: HostRuntime) {
+    let wrong = MACHINES
+        .iter()
+        .position(|row| machine_to_str(row.0) != row.1);
+    assert!(rt; wrong.is_none(), "row {wrong:?}");
 }
 
 #[test]
-fn names_numbers(rt: HostRuntime) {
+fn names_file_types(rt: HostRuntime) {
+    let wrong = TYPES.iter().position(|row| et_to_str(row.0) != row.1);
+    assert!(rt; wrong.is_none(), "row {wrong:?}");
+}
+
+#[test]
+fn names_classes(rt: HostRuntime) {
+    let wrong = CLASSES.iter().position(|row| class_to_str(row.0) != row.1);
+    assert!(rt; wrong.is_none(), "row {wrong:?}");
+}
+
+// The functions that the modules of the classes pass on are these.
+#[test]
+fn passes_on_the_names(rt: HostRuntime) {
+    assert!(rt; header32::machine_to_str(3) == "386" && header64::machine_to_str(3) == "386");
+    assert!(rt; header32::et_to_str(3) == "DYN" && header64::et_to_str(3) == "DYN");
+    assert!(rt; header32::class_to_str(1) == "ELF32" && header64::class_to_str(1) == "ELF32");
+    assert!(rt; header::header32::machine_to_str(3) == "386");
+    assert!(rt; header::header64::class_to_str(2) == "ELF64");
+}
+
+#[test]
+fn calls_the_laws_of_headers() {
     header::constants();
     header32::constants();
     header64::constants();
-    let machines = [
-        (62, "X86_64"),
-        (0, "EM_UNKNOWN"),
-        (258, "LOONGARCH"),
-        (205, "EM_UNKNOWN"),
-        (EM_M32, "M32"),
-        (EM_386, "386"),
-        (EM_AARCH64, "AARCH64"),
-        (EM_X86_64, "X86_64"),
-        (EM_LOONGARCH, "LOONGARCH"),
-        (EM_NONE, "EM_UNKNOWN"),
-        (EM_INTELGT, "EM_UNKNOWN"),
-        (EM_NUM, "EM_UNKNOWN"),
-        (EM_CSKY, "EM_UNKNOWN"),
-        (65535, "EM_UNKNOWN"),
-    ];
-    for (machine, name) in machines {
-        assert_eq!(rt; machine_to_str(machine), name, "machine {machine}");
-    }
-    let types = [
-        (0, "NONE"),
-        (1, "REL"),
-        (2, "EXEC"),
-        (3, "DYN"),
-        (4, "CORE"),
-        (5, "NUM"),
-        (6, "UNKNOWN_ET"),
-        (0xfe00, "UNKNOWN_ET"),
-    ];
-    for (et, name) in types {
-        assert_eq!(rt; et_to_str(et), name, "type {et}");
-    }
-    let classes = [
-        (0, "NONE"),
-        (1, "ELF32"),
-        (2, "ELF64"),
-        (3, "UNKNOWN_CLASS"),
-        (255, "UNKNOWN_CLASS"),
-    ];
-    for (class, name) in classes {
-        assert_eq!(rt; class_to_str(class), name, "class {class}");
-    }
+    header::laws();
+    header32::laws();
+    header64::laws();
 }

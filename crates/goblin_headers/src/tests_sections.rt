@@ -4,19 +4,23 @@ use crate::section_header::{
     SHT_GNU_VERSYM, SHT_HIUSER, SHT_NOBITS, SHT_NUM, SHT_PROGBITS, SHT_REL, SHT_RELA,
     SHT_SUNW_MOVE, SHT_X86_64_UNWIND, SectionHeader, shf_to_str, sht_to_str,
 };
-use crate::tests::{bytes_of, padded, told};
+use crate::tests::{BIG64, LITTLE32, says, stands};
 use crate::{section_header, section_header32, section_header64};
-use goblin_base::container::{BE, Container, Ctx, LE};
+use goblin_base::container::{BE, Ctx, LE};
+use goblin_base::error::Result as Answer;
 use goblin_base::scroll::{IntoCtx, SizeWith, TryFromCtx, TryIntoCtx};
-use std::test::Fail;
+use std::alloc::Global;
 
-// A 64-bit section header in big byte order, each field with a number of its own.
-const BIG: &str = "00000007 00000001 0000000000000006 0000000000401000 0000000000001000
-    0000000000000020 00000002 00000003 0000000000000010 0000000000000018";
+// A section header of the 64-bit class in big byte order, each field with a number of its own.
+const BIG: &[u8; 64] = b"\x00\x00\x00\x07\x00\x00\x00\x01\x00\x00\x00\x00\x00\x00\x00\x06\
+    \x00\x00\x00\x00\x00\x40\x10\x00\x00\x00\x00\x00\x00\x00\x10\x00\
+    \x00\x00\x00\x00\x00\x00\x00\x20\x00\x00\x00\x02\x00\x00\x00\x03\
+    \x00\x00\x00\x00\x00\x00\x00\x10\x00\x00\x00\x00\x00\x00\x00\x18";
 
-// A 32-bit section header in little byte order, with the same numbers.
-const LITTLE: &str = "07000000 01000000 06000000 00104000 00100000 20000000 02000000 03000000
-    10000000 18000000";
+// A section header of the 32-bit class in little byte order, with the same numbers.
+const LITTLE: &[u8; 40] = b"\x07\x00\x00\x00\x01\x00\x00\x00\x06\x00\x00\x00\x00\x10\x40\x00\
+    \x00\x10\x00\x00\x20\x00\x00\x00\x02\x00\x00\x00\x03\x00\x00\x00\
+    \x10\x00\x00\x00\x18\x00\x00\x00";
 
 // The section header that both stand for.
 fn section() -> SectionHeader {
@@ -34,262 +38,382 @@ fn section() -> SectionHeader {
     }
 }
 
-#[test]
-fn reads_and_writes_a_section_header(rt: HostRuntime) -> Result<(), Fail> {
-    let alloc = rt.alloc();
-    let table = [
-        (
-            Ctx::new(Container::Little, LE),
-            40,
-            LITTLE,
-            "type is too big (40) for 39",
-        ),
-        (
-            Ctx::new(Container::Big, BE),
-            64,
-            BIG,
-            "type is too big (64) for 63",
-        ),
-    ];
-    for (ctx, size, hex, short) in table {
-        let mut bytes = bytes_of(alloc, hex)?;
-        assert_eq!(rt; bytes.len(), size);
-        assert_eq!(rt; SectionHeader::size(ctx), size);
-        assert_eq!(rt; SectionHeader::size_with(&ctx), size);
-        let (read, counted) = SectionHeader::try_from_ctx(bytes.as_slice(), ctx)?;
-        assert_eq!(rt; counted, size);
-        assert_eq!(rt; read, section());
-        let mut room = padded(alloc, "", 70)?;
-        assert_eq!(rt; section().try_into_ctx(room.as_mut_slice(), ctx)?, size);
-        assert_eq!(rt; room.as_slice(), padded(alloc, hex, 70)?.as_slice());
-
-        let _ = bytes.pop();
-        let refused = told(alloc, SectionHeader::try_from_ctx(bytes.as_slice(), ctx))?;
-        assert_eq!(rt; refused.as_str(), short);
-        let before = bytes.clone()?;
-        let refused = told(
-            alloc,
-            SectionHeader::new().try_into_ctx(bytes.as_mut_slice(), ctx),
-        )?;
-        assert_eq!(rt; refused.as_str(), short);
-        assert_eq!(rt; bytes.as_slice(), before.as_slice());
+fn reads(bytes: &[u8], ctx: Ctx) -> bool {
+    match SectionHeader::try_from_ctx(bytes, ctx) {
+        Ok((read, size)) => read == section() && size == bytes.len(),
+        Err(_) => false,
     }
+}
+
+fn writes(ctx: Ctx, bytes: &[u8]) -> bool {
     let mut room = [0xaa; 70];
-    section().into_ctx(&mut room, Ctx::new(Container::Big, BE));
-    assert_eq!(rt; room.as_slice(), padded(alloc, BIG, 70)?.as_slice());
-    let mut room = [0xaa; 50];
-    section().into_ctx(&mut room, Ctx::new(Container::Little, LE));
-    assert_eq!(rt; room.as_slice(), padded(alloc, LITTLE, 50)?.as_slice());
-    Ok(())
+    match section().try_into_ctx(&mut room, ctx) {
+        Ok(size) => size == bytes.len() && stands(&room, bytes),
+        Err(_) => false,
+    }
+}
+
+fn has_size(ctx: Ctx, size: usize) -> bool {
+    SectionHeader::size(ctx) == size && SectionHeader::size_with(&ctx) == size
 }
 
 #[test]
-fn converts_section_headers(rt: HostRuntime) -> Result<(), Fail> {
-    let little = bytes_of(rt.alloc(), LITTLE)?;
-    let (raw, size) = section_header32::SectionHeader::try_from_ctx(little.as_slice(), LE)?;
-    assert_eq!(rt; size, 40);
-    assert_eq!(rt; SectionHeader::from(raw), section());
-    assert_eq!(rt; section_header32::SectionHeader::from(section()), raw);
-    let mut room = padded(rt.alloc(), "", 50)?;
-    assert_eq!(rt; raw.try_into_ctx(room.as_mut_slice(), LE)?, 40);
-    assert_eq!(rt; room.as_slice(), padded(rt.alloc(), LITTLE, 50)?.as_slice());
-    let big = bytes_of(rt.alloc(), BIG)?;
-    let (raw, size) = section_header64::SectionHeader::try_from_ctx(big.as_slice(), BE)?;
-    assert_eq!(rt; size, 64);
-    assert_eq!(rt; SectionHeader::from(raw), section());
-    assert_eq!(rt; section_header64::SectionHeader::from(section()), raw);
-    let mut room = padded(rt.alloc(), "", 70)?;
-    assert_eq!(rt; raw.try_into_ctx(room.as_mut_slice(), BE)?, 64);
-    assert_eq!(rt; room.as_slice(), padded(rt.alloc(), BIG, 70)?.as_slice());
-    let wide = SectionHeader {
+fn reads_and_writes_section_headers(rt: HostRuntime) {
+    assert!(rt; has_size(LITTLE32, 40));
+    assert!(rt; has_size(BIG64, 64));
+    assert!(rt; reads(LITTLE, LITTLE32));
+    assert!(rt; reads(BIG, BIG64));
+    assert!(rt; writes(LITTLE32, LITTLE));
+    assert!(rt; writes(BIG64, BIG));
+}
+
+fn puts(ctx: Ctx, bytes: &[u8]) -> bool {
+    let mut room = [0xaa; 70];
+    section().into_ctx(&mut room, ctx);
+    stands(&room, bytes)
+}
+
+#[test]
+fn puts_section_headers(rt: HostRuntime) {
+    assert!(rt; puts(LITTLE32, LITTLE));
+    assert!(rt; puts(BIG64, BIG));
+}
+
+// Whether both reading from so many bytes and writing over them are refused with this text, and
+// nothing is written.
+fn refuses(alloc: Global, len: usize, ctx: Ctx, text: &str) -> bool {
+    let mut room = [0xaa; 64];
+    let room = &mut room[..len.min(64)];
+    says(alloc, SectionHeader::try_from_ctx(room, ctx), text)
+        && says(alloc, SectionHeader::new().try_into_ctx(room, ctx), text)
+        && room.iter().all(|byte| *byte == 0xaa)
+}
+
+#[test]
+fn refuses_section_headers_without_room(rt: HostRuntime) {
+    assert!(rt; refuses(rt.alloc(), 39, LITTLE32, "type is too big (40) for 39"));
+    assert!(rt; refuses(rt.alloc(), 63, BIG64, "type is too big (64) for 63"));
+    assert!(rt; refuses(rt.alloc(), 0, BIG64, "bad offset 0"));
+}
+
+fn converts32(bytes: &[u8]) -> bool {
+    let Ok((raw, size)) = section_header32::SectionHeader::try_from_ctx(bytes, LE) else {
+        return false;
+    };
+    let mut room = [0xaa; 70];
+    size == 40
+        && SectionHeader::from(raw) == section()
+        && section_header32::SectionHeader::from(section()) == raw
+        && raw.try_into_ctx(&mut room, LE).is_ok_and(|size| size == 40)
+        && stands(&room, bytes)
+}
+
+fn converts64(bytes: &[u8]) -> bool {
+    let Ok((raw, size)) = section_header64::SectionHeader::try_from_ctx(bytes, BE) else {
+        return false;
+    };
+    let mut room = [0xaa; 70];
+    size == 64
+        && SectionHeader::from(raw) == section()
+        && section_header64::SectionHeader::from(section()) == raw
+        && raw.try_into_ctx(&mut room, BE).is_ok_and(|size| size == 64)
+        && stands(&room, bytes)
+}
+
+#[test]
+fn converts_section_headers(rt: HostRuntime) {
+    assert!(rt; converts32(LITTLE));
+    assert!(rt; converts64(BIG));
+}
+
+fn wide() -> SectionHeader {
+    SectionHeader {
         sh_name: 0x1_2345_6789,
         sh_size: 0x2_0000_0003,
         ..section()
-    };
-    assert_eq!(rt;
-        section_header64::SectionHeader::from(wide.clone()?).sh_name,
-        0x2345_6789
-    );
-    assert_eq!(rt;
-        section_header64::SectionHeader::from(wide.clone()?).sh_size,
-        0x2_0000_0003
-    );
-    assert_eq!(rt; section_header32::SectionHeader::from(wide).sh_size, 3);
-    Ok(())
+    }
 }
 
 #[test]
-fn asks_a_section_header(rt: HostRuntime) {
-    let new = SectionHeader::new();
-    assert_eq!(rt; new.sh_type, 1);
-    assert_eq!(rt; new.sh_flags, 2);
-    assert_eq!(rt; new.sh_addralign, 512);
-    assert_eq!(rt;
-        new.is_alloc() && !new.is_writable() && !new.is_executable(),
-        true
-    );
-    // Flags, and whether the section is in memory, writable and executable.
-    let flags = [
-        (0, false, false, false),
-        (2, true, false, false),
-        (3, true, true, false),
-        (6, true, false, true),
-        (7, true, true, true),
-        (5, false, false, false),
-        (0x7_0000_0000, false, false, false),
-    ];
-    for (sh_flags, alloc, write, execute) in flags {
-        let header = SectionHeader {
-            sh_flags,
-            ..section()
-        };
-        assert_eq!(rt; header.is_alloc(), alloc, "flags {sh_flags}");
-        assert_eq!(rt; header.is_writable(), write, "flags {sh_flags}");
-        assert_eq!(rt; header.is_executable(), execute, "flags {sh_flags}");
-    }
-    for (sh_type, relocation) in [(SHT_RELA, true), (SHT_REL, false), (SHT_PROGBITS, false)] {
-        let header = SectionHeader {
-            sh_type,
-            ..section()
-        };
-        assert_eq!(rt; header.is_relocation(), relocation, "type {sh_type}");
-    }
+fn keeps_low_bits(rt: HostRuntime) {
+    let raw = section_header64::SectionHeader::from(wide());
+    assert!(rt; raw.sh_name == 0x2345_6789 && raw.sh_size == 0x2_0000_0003);
+    assert!(rt; section_header32::SectionHeader::from(wide()).sh_size == 3);
+}
 
-    assert_eq!(rt; section().file_range(), Some(0x1000..0x1020));
-    assert_eq!(rt; section().vm_range(), 0x401000..0x401020);
+#[test]
+fn makes_section_headers(rt: HostRuntime) {
+    let new = SectionHeader::new();
+    assert!(rt; new.sh_type == 1 && new.sh_flags == 2 && new.sh_addralign == 512);
+    assert!(rt; new.is_alloc() && !new.is_writable() && !new.is_executable());
+    assert!(rt; SectionHeader::default() == section_header::default_is_zeros());
+    assert!(rt; SectionHeader::default().sh_entsize == 0);
+}
+
+// Flags, and whether a section with them is in memory, writable and executable.
+static FLAGS: [(u64, [bool; 3]); 7] = [
+    (0, [false, false, false]),
+    (2, [true, false, false]),
+    (3, [true, true, false]),
+    (6, [true, false, true]),
+    (7, [true, true, true]),
+    (5, [false, false, false]),
+    (0x7_0000_0000, [false, false, false]),
+];
+
+fn asks(sh_flags: u64, answers: [bool; 3]) -> bool {
+    let header = SectionHeader {
+        sh_flags,
+        ..section()
+    };
+    [
+        header.is_alloc(),
+        header.is_writable(),
+        header.is_executable(),
+    ] == answers
+}
+
+#[test]
+fn asks_for_flags(rt: HostRuntime) {
+    let wrong = FLAGS.iter().position(|row| !asks(row.0, row.1));
+    assert!(rt; wrong.is_none(), "row {wrong:?}");
+}
+
+fn of_type(sh_type: u32) -> SectionHeader {
+    SectionHeader {
+        sh_type,
+        ..section()
+    }
+}
+
+#[test]
+fn asks_for_relocations(rt: HostRuntime) {
+    assert!(rt; of_type(SHT_RELA).is_relocation());
+    assert!(rt; !of_type(SHT_REL).is_relocation());
+    assert!(rt; !of_type(SHT_PROGBITS).is_relocation());
+}
+
+#[test]
+fn tells_ranges(rt: HostRuntime) {
+    assert!(rt;
+        section()
+            .file_range()
+            .is_some_and(|range| range == (0x1000..0x1020))
+    );
+    assert!(rt; section().vm_range() == (0x401000..0x401020));
+    assert!(rt; of_type(SHT_NOBITS).file_range().is_none());
     let far = SectionHeader {
         sh_addr: u64::MAX - 1,
         sh_offset: u64::MAX,
         ..section()
     };
-    assert_eq!(rt; far.file_range(), Some(usize::MAX..usize::MAX));
-    assert_eq!(rt; far.vm_range(), usize::MAX - 1..usize::MAX);
-    let empty = SectionHeader {
+    assert!(rt;
+        far.file_range()
+            .is_some_and(|range| range == (usize::MAX..usize::MAX))
+    );
+    assert!(rt; far.vm_range() == (usize::MAX - 1..usize::MAX));
+}
+
+// A section of 50 bytes: its type, offset and address, and the text of its check against a file of
+// 120 bytes.
+struct Checked {
+    sh_type: u32,
+    sh_offset: u64,
+    sh_addr: u64,
+    text: &'static str,
+}
+
+// The greatest number of which 50 more is none.
+const NEAR: u64 = 18446744073709551566;
+
+static CHECKED: [Checked; 7] = [
+    Checked {
+        sh_type: SHT_PROGBITS,
+        sh_offset: 100,
+        sh_addr: 0,
+        text: "Malformed entity: Section 7 size (50) + offset (100) is out of bounds. Overflowed: false",
+    },
+    Checked {
         sh_type: SHT_NOBITS,
+        sh_offset: 100,
+        sh_addr: 0,
+        text: "Ok",
+    },
+    Checked {
+        sh_type: SHT_PROGBITS,
+        sh_offset: 70,
+        sh_addr: 0,
+        text: "Ok",
+    },
+    Checked {
+        sh_type: SHT_PROGBITS,
+        sh_offset: 71,
+        sh_addr: NEAR,
+        text: "Malformed entity: Section 7 size (50) + offset (71) is out of bounds. Overflowed: false",
+    },
+    Checked {
+        sh_type: SHT_PROGBITS,
+        sh_offset: 0,
+        sh_addr: NEAR,
+        text: "Malformed entity: Section 7 size (50) + addr (18446744073709551566) is out of bounds. \
+            Overflowed: true",
+    },
+    Checked {
+        sh_type: SHT_PROGBITS,
+        sh_offset: 0,
+        sh_addr: NEAR - 1,
+        text: "Ok",
+    },
+    Checked {
+        sh_type: SHT_PROGBITS,
+        sh_offset: NEAR,
+        sh_addr: 0,
+        text: "Malformed entity: Section 7 size (50) + offset (18446744073709551566) is out of bounds. \
+            Overflowed: true",
+    },
+];
+
+// The permissive check passes each.
+fn checks(alloc: Global, case: &Checked) -> bool {
+    let header = SectionHeader {
+        sh_type: case.sh_type,
+        sh_offset: case.sh_offset,
+        sh_size: 50,
+        sh_addr: case.sh_addr,
         ..section()
     };
-    assert_eq!(rt; empty.file_range(), None);
+    says(alloc, header.check_size(120), case.text)
+        && says(alloc, header.check_size_with_opts(120, false), case.text)
+        && header.check_size_with_opts(120, true).is_ok()
 }
 
 #[test]
-fn checks_sizes(rt: HostRuntime) -> Result<(), Fail> {
-    let past = "Malformed entity: Section 7 size (50) + offset (100) is out of bounds. \
-        Overflowed: false";
-    let wraps = "Malformed entity: Section 7 size (50) + addr (18446744073709551566) is out of \
-        bounds. Overflowed: true";
-    let both = "Malformed entity: Section 7 size (50) + offset (18446744073709551566) is out of \
-        bounds. Overflowed: true";
-    let near = 18446744073709551566;
-    // The type, the offset, the size, the address, and the text for a file of 120 bytes.
-    let table = [
-        (SHT_PROGBITS, 100, 50, 0, past),
-        (SHT_NOBITS, 100, 50, 0, "Ok"),
-        (SHT_PROGBITS, 70, 50, 0, "Ok"),
-        (
-            SHT_PROGBITS,
-            71,
-            50,
-            near,
-            "Malformed entity: Section 7 size (50) + offset (71) is out \
-            of bounds. Overflowed: false",
-        ),
-        (SHT_PROGBITS, 0, 50, near, wraps),
-        (SHT_PROGBITS, 0, 50, near - 1, "Ok"),
-        (SHT_PROGBITS, near, 50, 0, both),
-        (SHT_PROGBITS, u64::MAX, 0, u64::MAX, "Ok"),
-    ];
-    for (sh_type, sh_offset, sh_size, sh_addr, text) in table {
-        let header = SectionHeader {
-            sh_type,
-            sh_offset,
-            sh_size,
-            sh_addr,
-            ..section()
-        };
-        let answer = told(rt.alloc(), header.check_size(120))?;
-        assert_eq!(rt;
-            answer.as_str(),
-            text,
-            "type {sh_type}, offset {sh_offset}, addr {sh_addr}"
-        );
-    }
-    Ok(())
+fn checks_sizes(rt: HostRuntime) {
+    let wrong = CHECKED.iter().position(|case| !checks(rt.alloc(), case));
+    assert!(rt; wrong.is_none(), "case {wrong:?}");
 }
 
 #[test]
-fn reads_section_headers_at_once(rt: HostRuntime) -> Result<(), Fail> {
-    let alloc = rt.alloc();
-    let ctx = Ctx::new(Container::Big, LE);
-    // How many bytes there are, the first header's size, the offset, the count, how many headers are
-    // read, and the text.
-    let table = [
-        (64, 0, 0, 0, 1, "Ok"),
-        (64, 0, 0, 1, 1, "Ok"),
-        (64, 0, 1, 0, 0, "type is too big (64) for 63"),
-        (64, 0, 64, 0, 0, "bad offset 64"),
-        (64, 0, 0, 2, 0, "Buffer is too short for 2 section headers"),
-        (64, 0, 64, 2, 0, "bad offset 64"),
-        (128, 0, 64, 2, 0, "bad offset 128"),
-        (128, 2, 0, 0, 2, "Ok"),
-        (128, 2, 0, 1, 1, "Ok"),
-        (100, 2, 0, 0, 0, "Buffer is too short for 2 section headers"),
-    ];
-    for (len, size, offset, count, read, text) in table {
-        let mut bytes = vec![in alloc; 0; len]?;
-        if let Some(byte) = bytes.as_mut_slice().get_mut(32) {
-            *byte = size;
-        }
-        let bytes = bytes.as_slice();
-        let answer = SectionHeader::parse_from(alloc, bytes, offset, count, ctx);
-        let headers = match &answer {
-            Ok(headers) => headers.len(),
-            Err(_) => 0,
-        };
-        assert_eq!(rt;
-            headers,
-            read,
-            "{len} bytes, offset {offset}, count {count}"
-        );
-        let answer = told(alloc, answer)?;
-        assert_eq!(rt;
-            answer.as_str(),
-            text,
-            "{len} bytes, offset {offset}, count {count}"
-        );
-        let whole = SectionHeader::parse(alloc, bytes, offset, count, ctx);
-        if offset == 0 {
-            assert_eq!(rt; whole?.len(), 0);
+fn checks_no_empty_section(rt: HostRuntime) {
+    let empty = SectionHeader {
+        sh_offset: u64::MAX,
+        sh_size: 0,
+        sh_addr: u64::MAX,
+        ..section()
+    };
+    assert!(rt; empty.check_size(120).is_ok());
+}
+
+// How many zero bytes there are, what `sh_size` of the header at their start is, the offset, the
+// count, how many headers are read, and the text.
+static LISTED: [(usize, u8, usize, usize, usize, &str); 10] = [
+    (64, 0, 0, 0, 1, "Ok"),
+    (64, 0, 0, 1, 1, "Ok"),
+    (64, 0, 1, 0, 0, "type is too big (64) for 63"),
+    (64, 0, 64, 0, 0, "bad offset 64"),
+    (64, 0, 0, 2, 0, "Buffer is too short for 2 section headers"),
+    (64, 0, 64, 2, 0, "bad offset 64"),
+    (128, 0, 64, 2, 0, "bad offset 128"),
+    (128, 2, 0, 0, 2, "Ok"),
+    (128, 2, 0, 1, 1, "Ok"),
+    (100, 2, 0, 0, 0, "Buffer is too short for 2 section headers"),
+];
+
+// Whether the answer has so many headers, and says this text.
+fn answers(alloc: Global, answer: Answer<Vec<SectionHeader>>, count: usize, text: &str) -> bool {
+    let read = match &answer {
+        Ok(headers) => headers.len(),
+        Err(_) => 0,
+    };
+    read == count && says(alloc, answer, text)
+}
+
+// At offset 0 a file has no section headers; elsewhere it has those from there on.
+fn lists(alloc: Global, row: &(usize, u8, usize, usize, usize, &str)) -> bool {
+    let (len, size, offset, count, read, text) = *row;
+    let mut bytes = [0; 128];
+    bytes[39] = size;
+    let bytes = &bytes[..len.min(128)];
+    let from = SectionHeader::parse_from(alloc, bytes, offset, count, BIG64);
+    let whole = SectionHeader::parse(alloc, bytes, offset, count, BIG64);
+    answers(alloc, from, read, text)
+        && if offset == 0 {
+            answers(alloc, whole, 0, "Ok")
         } else {
-            let whole = told(alloc, whole)?;
-            assert_eq!(rt;
-                whole.as_str(),
-                text,
-                "{len} bytes, offset {offset}, count {count}"
-            );
+            answers(alloc, whole, read, text)
         }
-    }
-    let one = SectionHeader::parse_from(alloc, &[0; 64], 0, 0, ctx)?;
-    assert_eq!(rt; one.as_slice(), &[SectionHeader::default()][..]);
-    Ok(())
 }
 
 #[test]
-fn reads_raw_section_headers_from_bytes(rt: HostRuntime) -> Result<(), Fail> {
-    let alloc = rt.alloc();
-    let two = section_header32::SectionHeader::from_bytes(alloc, &[0; 80], 2)?;
+fn reads_section_headers_at_once(rt: HostRuntime) {
+    let wrong = LISTED.iter().position(|row| !lists(rt.alloc(), row));
+    assert!(rt; wrong.is_none(), "row {wrong:?}");
+}
+
+// 16 bytes of something else, and two section headers, of which the first has the size 2.
+fn file() -> [u8; 144] {
+    let mut bytes = [0xaa; 144];
+    bytes[16..80].copy_from_slice(BIG);
+    bytes[55] = 2;
+    bytes[80..].copy_from_slice(BIG);
+    bytes
+}
+
+fn first() -> SectionHeader {
+    SectionHeader {
+        sh_size: 2,
+        ..section()
+    }
+}
+
+fn gives(alloc: Global, count: usize, headers: &[SectionHeader]) -> bool {
+    match SectionHeader::parse(alloc, &file(), 16, count, BIG64) {
+        Ok(read) => read.as_slice() == headers,
+        Err(_) => false,
+    }
+}
+
+// Where the count is 0, the first header's size is the count.
+#[test]
+fn reads_the_section_headers_of_a_file(rt: HostRuntime) {
+    assert!(rt; gives(rt.alloc(), 2, &[first(), section()]));
+    assert!(rt; gives(rt.alloc(), 1, &[first()]));
+    assert!(rt; gives(rt.alloc(), 0, &[first(), section()]));
+}
+
+#[test]
+fn reads_one_section_header_of_zeros(rt: HostRuntime) {
+    let one = SectionHeader::parse_from(rt.alloc(), &[0; 64], 0, 0, BIG64);
+    assert!(rt; one.is_ok_and(|read| read.as_slice() == [SectionHeader::default()].as_slice()));
+    let one = SectionHeader::parse_from(rt.alloc(), &[0; 40], 0, 0, LITTLE32);
+    assert!(rt; one.is_ok_and(|read| read.as_slice() == [SectionHeader::default()].as_slice()));
+}
+
+fn gives32(alloc: Global, bytes: &[u8; 80], headers: &[section_header32::SectionHeader]) -> bool {
+    match section_header32::SectionHeader::from_bytes(alloc, bytes, 2) {
+        Ok(read) => read.as_slice() == headers,
+        Err(_) => false,
+    }
+}
+
+fn gives64(alloc: Global, bytes: &[u8; 128], headers: &[section_header64::SectionHeader]) -> bool {
+    match section_header64::SectionHeader::from_bytes(alloc, bytes, 2) {
+        Ok(read) => read.as_slice() == headers,
+        Err(_) => false,
+    }
+}
+
+// 40 zero bytes, and a section of four bytes of names at 52.
+const NAMES: &[u8; 80] =
+    b"\0\0\0\0\0\0\0\0\0\0\0\0\0\0\0\0\0\0\0\0\0\0\0\0\0\0\0\0\0\0\0\0\0\0\0\0\0\0\0\0\
+    \x01\x00\x00\x00\x03\x00\x00\x00\x00\x00\x00\x00\x00\x00\x00\x00\
+    \x34\x00\x00\x00\x04\x00\x00\x00\0\0\0\0\0\0\0\0\0\0\0\0\0\0\0\0";
+
+#[test]
+fn reads_raw_section_headers_from_bytes(rt: HostRuntime) {
     let none = section_header32::SectionHeader::default();
-    assert_eq!(rt; two.as_slice(), &[none, none][..]);
-    let two = section_header64::SectionHeader::from_bytes(alloc, &[0; 128], 2)?;
-    let none = section_header64::SectionHeader::default();
-    assert_eq!(rt; two.as_slice(), &[none, none][..]);
-    // 40 zero bytes, and a section of four bytes of names at 52.
-    let mut bytes = [0; 80];
-    bytes[40] = 1;
-    bytes[44] = 3;
-    bytes[56] = 52;
-    bytes[60] = 4;
-    let read = section_header32::SectionHeader::from_bytes(alloc, &bytes, 2)?;
-    let none = section_header32::SectionHeader::default();
+    assert!(rt; none == section_header32::default_is_zeros() && none.sh_size == 0);
+    assert!(rt; gives32(rt.alloc(), &[0; 80], &[none, none]));
     let names = section_header32::SectionHeader {
         sh_name: 1,
         sh_type: 3,
@@ -297,54 +421,74 @@ fn reads_raw_section_headers_from_bytes(rt: HostRuntime) -> Result<(), Fail> {
         sh_size: 4,
         ..none
     };
-    assert_eq!(rt; read.as_slice(), &[none, names][..]);
-    Ok(())
+    assert!(rt; gives32(rt.alloc(), NAMES, &[none, names]));
+    let none = section_header64::SectionHeader::default();
+    assert!(rt; none == section_header64::default_is_zeros() && none.sh_size == 0);
+    assert!(rt; gives64(rt.alloc(), &[0; 128], &[none, none]));
+}
+
+static TYPES: [(u32, &str); 18] = [
+    (0, "SHT_NULL"),
+    (3, "SHT_STRTAB"),
+    (SHT_RELA, "SHT_RELA"),
+    (9, "SHT_REL"),
+    (SHT_DYNSYM, "SHT_DYNSYM"),
+    (12, "UNKNOWN_SHT"),
+    (14, "SHT_INIT_ARRAY"),
+    (SHT_NUM, "SHT_NUM"),
+    (19, "SHT_NUM"),
+    (0x6ffffff6, "SHT_GNU_HASH"),
+    (0x6ffffffa, "SHT_SUNW_MOVE"),
+    (SHT_SUNW_MOVE, "SHT_SUNW_MOVE"),
+    (0x6fffffff, "SHT_GNU_VERSYM"),
+    (SHT_GNU_VERSYM, "SHT_GNU_VERSYM"),
+    (SHT_X86_64_UNWIND, "SHT_X86_64_UNWIND"),
+    (0x80000000, "SHT_LOUSER"),
+    (SHT_HIUSER, "SHT_HIUSER"),
+    (u32::MAX, "UNKNOWN_SHT"),
+];
+
+static FLAG_NAMES: [(u32, &str); 10] = [
+    (SHF_WRITE, "SHF_WRITE"),
+    (SHF_ALLOC, "SHF_ALLOC"),
+    (SHF_EXECINSTR, "SHF_EXECINSTR"),
+    (8, "SHF_UNKNOWN"),
+    (0x800, "SHF_COMPRESSED"),
+    (SHF_ORDERED, "SHF_ORDERED"),
+    (0x40000000, "SHF_ORDERED"),
+    (SHF_EXCLUDE, "SHF_UNKNOWN"),
+    (SHF_WRITE | SHF_ALLOC, "SHF_UNKNOWN"),
+    (0, "SHF_UNKNOWN"),
+];
+
+#[test]
+fn names_section_types(rt: HostRuntime) {
+    let wrong = TYPES.iter().position(|row| sht_to_str(row.0) != row.1);
+    assert!(rt; wrong.is_none(), "row {wrong:?}");
 }
 
 #[test]
-fn names_section_types_and_flags(rt: HostRuntime) {
+fn names_section_flags(rt: HostRuntime) {
+    let wrong = FLAG_NAMES.iter().position(|row| shf_to_str(row.0) != row.1);
+    assert!(rt; wrong.is_none(), "row {wrong:?}");
+    assert!(rt; SHF_FLAGS.len() == 12 && SHF_FLAGS[11] == 0x40000000);
+}
+
+// The functions that the modules of the classes pass on are these.
+#[test]
+fn passes_on_the_names(rt: HostRuntime) {
+    assert!(rt; section_header32::sht_to_str(2) == "SHT_SYMTAB");
+    assert!(rt; section_header64::sht_to_str(2) == "SHT_SYMTAB");
+    assert!(rt; section_header32::shf_to_str(2) == "SHF_ALLOC");
+    assert!(rt; section_header64::shf_to_str(2) == "SHF_ALLOC");
+}
+
+#[test]
+fn calls_the_laws_of_section_headers() {
     section_header::constants();
+    section_header32::constants();
+    section_header64::constants();
     section_header::laws();
     section_header32::laws();
     section_header64::laws();
-    let types = [
-        (0, "SHT_NULL"),
-        (3, "SHT_STRTAB"),
-        (SHT_RELA, "SHT_RELA"),
-        (9, "SHT_REL"),
-        (SHT_DYNSYM, "SHT_DYNSYM"),
-        (12, "UNKNOWN_SHT"),
-        (14, "SHT_INIT_ARRAY"),
-        (SHT_NUM, "SHT_NUM"),
-        (19, "SHT_NUM"),
-        (0x6ffffff6, "SHT_GNU_HASH"),
-        (0x6ffffffa, "SHT_SUNW_MOVE"),
-        (SHT_SUNW_MOVE, "SHT_SUNW_MOVE"),
-        (0x6fffffff, "SHT_GNU_VERSYM"),
-        (SHT_GNU_VERSYM, "SHT_GNU_VERSYM"),
-        (SHT_X86_64_UNWIND, "SHT_X86_64_UNWIND"),
-        (0x80000000, "SHT_LOUSER"),
-        (SHT_HIUSER, "SHT_HIUSER"),
-        (u32::MAX, "UNKNOWN_SHT"),
-    ];
-    for (sht, name) in types {
-        assert_eq!(rt; sht_to_str(sht), name, "type {sht}");
-    }
-    let flags = [
-        (SHF_WRITE, "SHF_WRITE"),
-        (SHF_ALLOC, "SHF_ALLOC"),
-        (SHF_EXECINSTR, "SHF_EXECINSTR"),
-        (8, "SHF_UNKNOWN"),
-        (0x800, "SHF_COMPRESSED"),
-        (SHF_ORDERED, "SHF_ORDERED"),
-        (0x40000000, "SHF_ORDERED"),
-        (SHF_EXCLUDE, "SHF_UNKNOWN"),
-        (SHF_WRITE | SHF_ALLOC, "SHF_UNKNOWN"),
-        (0, "SHF_UNKNOWN"),
-    ];
-    for (shf, name) in flags {
-        assert_eq!(rt; shf_to_str(shf), name, "flag {shf}");
-    }
-    assert_eq!(rt; SHF_FLAGS.len(), 12);
-    assert_eq!(rt; SHF_FLAGS[11], 0x40000000);
 }

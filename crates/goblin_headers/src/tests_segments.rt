@@ -3,19 +3,21 @@ use crate::program_header::{
     PF_R, PF_W, PF_X, PT_ARM_EXIDX, PT_GNU_EH_FRAME, PT_GNU_RELRO, PT_GNU_STACK, PT_HIOS, PT_LOAD,
     PT_SUNWBSS, ProgramHeader, pt_to_str,
 };
-use crate::tests::{bytes_of, padded, told};
+use crate::tests::{BIG64, LITTLE32, says, stands};
 use crate::{program_header, program_header32, program_header64};
 use goblin_base::container::{BE, Container, Ctx, LE};
 use goblin_base::scroll::{SizeWith, TryFromCtx, TryIntoCtx};
-use std::alloc::AllocError;
-use std::test::Fail;
+use std::alloc::Global;
 
-// A 64-bit program header in big byte order, each field with a number of its own.
-const BIG: &str = "00000001 00000005 0000000000001000 0000000000402000 0000000000403000
-    0000000000000040 0000000000000050 0000000000000008";
+// A program header of the 64-bit class in big byte order, each field with a number of its own.
+const BIG: &[u8; 56] = b"\x00\x00\x00\x01\x00\x00\x00\x05\x00\x00\x00\x00\x00\x00\x10\x00\
+    \x00\x00\x00\x00\x00\x40\x20\x00\x00\x00\x00\x00\x00\x40\x30\x00\
+    \x00\x00\x00\x00\x00\x00\x00\x40\x00\x00\x00\x00\x00\x00\x00\x50\
+    \x00\x00\x00\x00\x00\x00\x00\x08";
 
-// A 32-bit program header in little byte order, with the same numbers.
-const LITTLE: &str = "01000000 00100000 00204000 00304000 40000000 50000000 05000000 08000000";
+// A program header of the 32-bit class in little byte order, with the same numbers.
+const LITTLE: &[u8; 32] = b"\x01\x00\x00\x00\x00\x10\x00\x00\x00\x20\x40\x00\x00\x30\x40\x00\
+    \x40\x00\x00\x00\x50\x00\x00\x00\x05\x00\x00\x00\x08\x00\x00\x00";
 
 // The program header that both stand for.
 fn segment() -> ProgramHeader {
@@ -31,111 +33,131 @@ fn segment() -> ProgramHeader {
     }
 }
 
-#[test]
-fn reads_and_writes_a_program_header(rt: HostRuntime) -> Result<(), Fail> {
-    let alloc = rt.alloc();
-    let table = [
-        (
-            Ctx::new(Container::Little, LE),
-            32,
-            LITTLE,
-            "type is too big (32) for 31",
-        ),
-        (
-            Ctx::new(Container::Big, BE),
-            56,
-            BIG,
-            "type is too big (56) for 55",
-        ),
-    ];
-    for (ctx, size, hex, short) in table {
-        let mut bytes = bytes_of(alloc, hex)?;
-        assert_eq!(rt; bytes.len(), size);
-        assert_eq!(rt; ProgramHeader::size(ctx), size);
-        assert_eq!(rt; ProgramHeader::size_with(&ctx), size);
-        let (read, counted) = ProgramHeader::try_from_ctx(bytes.as_slice(), ctx)?;
-        assert_eq!(rt; counted, size);
-        assert_eq!(rt; read, segment());
-        let mut room = padded(alloc, "", 60)?;
-        assert_eq!(rt; segment().try_into_ctx(room.as_mut_slice(), ctx)?, size);
-        assert_eq!(rt; room.as_slice(), padded(alloc, hex, 60)?.as_slice());
-
-        let _ = bytes.pop();
-        let refused = told(alloc, ProgramHeader::try_from_ctx(bytes.as_slice(), ctx))?;
-        assert_eq!(rt; refused.as_str(), short);
-        let before = bytes.clone()?;
-        let refused = told(
-            alloc,
-            ProgramHeader::new().try_into_ctx(bytes.as_mut_slice(), ctx),
-        )?;
-        assert_eq!(rt; refused.as_str(), short);
-        assert_eq!(rt; bytes.as_slice(), before.as_slice());
-        let empty = told(alloc, ProgramHeader::try_from_ctx(&[], ctx))?;
-        assert_eq!(rt; empty.as_str(), "bad offset 0");
+fn reads(bytes: &[u8], ctx: Ctx) -> bool {
+    match ProgramHeader::try_from_ctx(bytes, ctx) {
+        Ok((read, size)) => read == segment() && size == bytes.len(),
+        Err(_) => false,
     }
-    Ok(())
+}
+
+fn writes(ctx: Ctx, bytes: &[u8]) -> bool {
+    let mut room = [0xaa; 60];
+    match segment().try_into_ctx(&mut room, ctx) {
+        Ok(size) => size == bytes.len() && stands(&room, bytes),
+        Err(_) => false,
+    }
+}
+
+fn has_size(ctx: Ctx, size: usize) -> bool {
+    ProgramHeader::size(ctx) == size && ProgramHeader::size_with(&ctx) == size
 }
 
 #[test]
-fn converts_program_headers(rt: HostRuntime) -> Result<(), Fail> {
-    let little = bytes_of(rt.alloc(), LITTLE)?;
-    let (raw, size) = program_header32::ProgramHeader::try_from_ctx(little.as_slice(), LE)?;
-    assert_eq!(rt; size, 32);
-    assert_eq!(rt; ProgramHeader::from(raw), segment());
-    assert_eq!(rt; program_header32::ProgramHeader::from(segment()), raw);
-    let big = bytes_of(rt.alloc(), BIG)?;
-    let (raw, size) = program_header64::ProgramHeader::try_from_ctx(big.as_slice(), BE)?;
-    assert_eq!(rt; size, 56);
-    assert_eq!(rt; ProgramHeader::from(raw), segment());
-    assert_eq!(rt; program_header64::ProgramHeader::from(segment()), raw);
-    let mut wide = segment();
-    wide.p_offset = 0x1_2345_6789;
-    assert_eq!(rt;
-        program_header32::ProgramHeader::from(wide).p_offset,
-        0x2345_6789
-    );
+fn reads_and_writes_program_headers(rt: HostRuntime) {
+    assert!(rt; has_size(LITTLE32, 32));
+    assert!(rt; has_size(BIG64, 56));
+    assert!(rt; reads(LITTLE, LITTLE32));
+    assert!(rt; reads(BIG, BIG64));
+    assert!(rt; writes(LITTLE32, LITTLE));
+    assert!(rt; writes(BIG64, BIG));
+}
 
-    let mut room = padded(rt.alloc(), "", 60)?;
-    assert_eq!(rt; raw.try_into_ctx(room.as_mut_slice(), BE)?, 56);
-    assert_eq!(rt; room.as_slice(), padded(rt.alloc(), BIG, 60)?.as_slice());
-    let raw = program_header32::ProgramHeader::from(segment());
-    let mut room = padded(rt.alloc(), "", 40)?;
-    assert_eq!(rt; raw.try_into_ctx(room.as_mut_slice(), LE)?, 32);
-    assert_eq!(rt; room.as_slice(), padded(rt.alloc(), LITTLE, 40)?.as_slice());
-    Ok(())
+// Whether both reading from so many bytes and writing over them are refused with this text, and
+// nothing is written.
+fn refuses(alloc: Global, len: usize, ctx: Ctx, text: &str) -> bool {
+    let mut room = [0xaa; 64];
+    let room = &mut room[..len.min(64)];
+    says(alloc, ProgramHeader::try_from_ctx(room, ctx), text)
+        && says(alloc, ProgramHeader::new().try_into_ctx(room, ctx), text)
+        && room.iter().all(|byte| *byte == 0xaa)
 }
 
 #[test]
-fn asks_a_program_header(rt: HostRuntime) {
+fn refuses_program_headers_without_room(rt: HostRuntime) {
+    assert!(rt; refuses(rt.alloc(), 31, LITTLE32, "type is too big (32) for 31"));
+    assert!(rt; refuses(rt.alloc(), 55, BIG64, "type is too big (56) for 55"));
+    assert!(rt; refuses(rt.alloc(), 0, LITTLE32, "bad offset 0"));
+    assert!(rt; refuses(rt.alloc(), 0, BIG64, "bad offset 0"));
+}
+
+fn converts32(bytes: &[u8]) -> bool {
+    let Ok((raw, size)) = program_header32::ProgramHeader::try_from_ctx(bytes, LE) else {
+        return false;
+    };
+    let mut room = [0xaa; 60];
+    size == 32
+        && ProgramHeader::from(raw) == segment()
+        && program_header32::ProgramHeader::from(segment()) == raw
+        && raw.try_into_ctx(&mut room, LE).is_ok_and(|size| size == 32)
+        && stands(&room, bytes)
+}
+
+fn converts64(bytes: &[u8]) -> bool {
+    let Ok((raw, size)) = program_header64::ProgramHeader::try_from_ctx(bytes, BE) else {
+        return false;
+    };
+    let mut room = [0xaa; 60];
+    size == 56
+        && ProgramHeader::from(raw) == segment()
+        && program_header64::ProgramHeader::from(segment()) == raw
+        && raw.try_into_ctx(&mut room, BE).is_ok_and(|size| size == 56)
+        && stands(&room, bytes)
+}
+
+#[test]
+fn converts_program_headers(rt: HostRuntime) {
+    assert!(rt; converts32(LITTLE));
+    assert!(rt; converts64(BIG));
+}
+
+#[test]
+fn keeps_low_bits(rt: HostRuntime) {
+    let wide = ProgramHeader {
+        p_offset: 0x1_2345_6789,
+        ..segment()
+    };
+    assert!(rt; program_header32::ProgramHeader::from(wide).p_offset == 0x2345_6789);
+}
+
+fn allows(header: &ProgramHeader) -> [bool; 3] {
+    [header.is_read(), header.is_write(), header.is_executable()]
+}
+
+#[test]
+fn makes_program_headers(rt: HostRuntime) {
+    let new = ProgramHeader::new();
+    assert!(rt; new.p_type == 1 && new.p_flags == 0 && new.p_align == 2_097_152);
+    assert!(rt; allows(&new) == [false, false, false]);
+    assert!(rt; ProgramHeader::default() == program_header::default_is_zeros());
+    assert!(rt; ProgramHeader::default().p_align == 0);
+}
+
+// What may be done is added to what might be done before.
+fn sets_flags() -> bool {
     let mut header = ProgramHeader::new();
-    assert_eq!(rt; header.p_type, 1);
-    assert_eq!(rt; header.p_flags, 0);
-    assert_eq!(rt; header.p_align, 2_097_152);
-    assert_eq!(rt;
-        header.is_read() || header.is_write() || header.is_executable(),
-        false
-    );
     header.read();
-    assert_eq!(rt; header.p_flags, PF_R);
+    let reads = header.p_flags == PF_R && allows(&header) == [true, false, false];
     header.executable();
     header.executable();
-    assert_eq!(rt; header.p_flags, PF_R | PF_X);
-    assert_eq!(rt;
-        header.is_read() && header.is_executable() && !header.is_write(),
-        true
-    );
+    let executes = header.p_flags == PF_R | PF_X && allows(&header) == [true, false, true];
     header.write();
-    assert_eq!(rt; header.p_flags, 7);
-    assert_eq!(rt; header.is_write(), true);
-    header.p_flags = !PF_W;
-    assert_eq!(rt;
-        header.is_read() && header.is_executable() && !header.is_write(),
-        true
-    );
+    reads && executes && header.p_flags == 7 && allows(&header) == [true, true, true]
+}
 
-    let header = segment();
-    assert_eq!(rt; header.file_range(), 0x1000..0x1040);
-    assert_eq!(rt; header.vm_range(), 0x402000..0x402050);
+#[test]
+fn sets_and_asks_flags(rt: HostRuntime) {
+    assert!(rt; sets_flags());
+    let header = ProgramHeader {
+        p_flags: !PF_W,
+        ..segment()
+    };
+    assert!(rt; allows(&header) == [true, false, true]);
+}
+
+#[test]
+fn tells_ranges(rt: HostRuntime) {
+    assert!(rt; segment().file_range() == (0x1000..0x1040));
+    assert!(rt; segment().vm_range() == (0x402000..0x402050));
     let far = ProgramHeader {
         p_offset: u64::MAX - 1,
         p_filesz: 2,
@@ -143,99 +165,133 @@ fn asks_a_program_header(rt: HostRuntime) {
         p_memsz: u64::MAX,
         ..segment()
     };
-    assert_eq!(rt; far.file_range(), usize::MAX - 1..usize::MAX);
-    assert_eq!(rt; far.vm_range(), usize::MAX..usize::MAX);
+    assert!(rt; far.file_range() == (usize::MAX - 1..usize::MAX));
+    assert!(rt; far.vm_range() == (usize::MAX..usize::MAX));
 }
 
-#[test]
-fn reads_program_headers_at_once(rt: HostRuntime) -> Result<(), Fail> {
+// How many zero bytes there are, the offset, the count, how many headers are read, and the text.
+static LISTED: [(usize, usize, usize, usize, &str); 7] = [
+    (64, 40, 1, 0, "type is too big (56) for 24"),
+    (64, 1000, 0, 0, "Ok"),
+    (64, 0, 2, 0, "Buffer is too short for 2 program headers"),
+    (64, 8, 1, 1, "Ok"),
+    (64, usize::MAX, 1, 0, "bad offset 18446744073709551615"),
+    (112, 56, 2, 0, "bad offset 112"),
+    (112, 0, 2, 2, "Ok"),
+];
+
+fn lists(alloc: Global, row: &(usize, usize, usize, usize, &str)) -> bool {
+    let (len, offset, count, read, text) = *row;
+    let bytes = [0; 112];
+    let bytes = &bytes[..len.min(112)];
     let ctx = Ctx::new(Container::Big, LE);
-    // How many bytes there are, the offset, the count, how many headers are read, and the text.
-    let table = [
-        (64, 40, 1, 0, "type is too big (56) for 24"),
-        (64, 1000, 0, 0, "Ok"),
-        (64, 0, 2, 0, "Buffer is too short for 2 program headers"),
-        (64, 8, 1, 1, "Ok"),
-        (64, usize::MAX, 1, 0, "bad offset 18446744073709551615"),
-        (112, 56, 2, 0, "bad offset 112"),
-        (112, 0, 2, 2, "Ok"),
-    ];
-    for (len, offset, count, read, text) in table {
-        let bytes = vec![in rt.alloc(); 0; len]?;
-        let answer = ProgramHeader::parse(rt.alloc(), bytes.as_slice(), offset, count, ctx);
-        let headers = match &answer {
-            Ok(headers) => headers.len(),
-            Err(_) => 0,
-        };
-        assert_eq!(rt;
-            headers,
-            read,
-            "{len} bytes, offset {offset}, count {count}"
-        );
-        let answer = told(rt.alloc(), answer)?;
-        assert_eq!(rt;
-            answer.as_str(),
-            text,
-            "{len} bytes, offset {offset}, count {count}"
-        );
-    }
-    Ok(())
+    let answer = ProgramHeader::parse(alloc, bytes, offset, count, ctx);
+    let headers = match &answer {
+        Ok(headers) => headers.len(),
+        Err(_) => 0,
+    };
+    headers == read && says(alloc, answer, text)
 }
 
 #[test]
-fn reads_raw_program_headers_at_once(rt: HostRuntime) -> Result<(), Fail> {
-    let alloc = rt.alloc();
-    let half = [0; 64];
-    let zeros = [0; 112];
-    let two = program_header32::ProgramHeader::parse(alloc, &half, 0, 2, LE)?;
-    let none = program_header32::ProgramHeader::default();
-    assert_eq!(rt; two.as_slice(), &[none, none][..]);
-    for count in [3, usize::MAX] {
-        let answer = program_header32::ProgramHeader::parse(alloc, &half, 0, count, LE);
-        let answer = told(alloc, answer)?;
-        assert_eq!(rt; answer.as_str(), "bad offset 64", "count {count}");
-    }
-    let two = program_header64::ProgramHeader::parse(alloc, &zeros, 0, 2, BE)?;
-    let none = program_header64::ProgramHeader::default();
-    assert_eq!(rt; two.as_slice(), &[none, none][..]);
-    let nothing = program_header64::ProgramHeader::parse(alloc, &zeros, usize::MAX, 0, BE)?;
-    assert_eq!(rt; nothing.len(), 0);
-
-    let zeros32 = program_header32::ProgramHeader::from_bytes(alloc, &half, 2)?;
-    let none = program_header32::ProgramHeader::default();
-    assert_eq!(rt; zeros32.as_slice(), &[none, none][..]);
-    let zeros64 = program_header64::ProgramHeader::from_bytes(alloc, &zeros, 2)?;
-    let none = program_header64::ProgramHeader::default();
-    assert_eq!(rt; zeros64.as_slice(), &[none, none][..]);
-    Ok(())
+fn reads_program_headers_at_once(rt: HostRuntime) {
+    let wrong = LISTED.iter().position(|row| !lists(rt.alloc(), row));
+    assert!(rt; wrong.is_none(), "row {wrong:?}");
 }
+
+// 16 bytes of something else, and one program header.
+fn file() -> [u8; 72] {
+    let mut bytes = [0xaa; 72];
+    bytes[16..].copy_from_slice(BIG);
+    bytes
+}
+
+#[test]
+fn reads_the_program_headers_of_a_file(rt: HostRuntime) {
+    let one = ProgramHeader::parse(rt.alloc(), &file(), 16, 1, BIG64);
+    assert!(rt; one.is_ok_and(|read| read.as_slice() == [segment()].as_slice()));
+    let raw = program_header64::ProgramHeader::from(segment());
+    let one = program_header64::ProgramHeader::parse(rt.alloc(), &file(), 16, 1, BE);
+    assert!(rt; one.is_ok_and(|read| read.as_slice() == [raw].as_slice()));
+}
+
+fn gives32(alloc: Global, count: usize, text: &str) -> bool {
+    let answer = program_header32::ProgramHeader::parse(alloc, &[0; 64], 0, count, LE);
+    says(alloc, answer, text)
+}
+
+#[test]
+fn refuses_raw_program_headers_past_the_end(rt: HostRuntime) {
+    assert!(rt; gives32(rt.alloc(), 2, "Ok"));
+    assert!(rt; gives32(rt.alloc(), 3, "bad offset 64"));
+    assert!(rt; gives32(rt.alloc(), usize::MAX, "bad offset 64"));
+    let none = program_header64::ProgramHeader::parse(rt.alloc(), &[0; 112], usize::MAX, 0, BE);
+    assert!(rt; none.is_ok_and(|read| read.is_empty()));
+}
+
+fn gives_zeros32(alloc: Global) -> bool {
+    let zeros = [program_header32::ProgramHeader::default(); 2];
+    program_header32::ProgramHeader::parse(alloc, &[0; 64], 0, 2, LE).is_ok_and(
+        |read| read.as_slice() == zeros.as_slice(),
+    ) && program_header32::ProgramHeader::from_bytes(alloc, &[0; 64], 2).is_ok_and(
+        |read| read.as_slice() == zeros.as_slice(),
+    )
+}
+
+fn gives_zeros64(alloc: Global) -> bool {
+    let zeros = [program_header64::ProgramHeader::default(); 2];
+    program_header64::ProgramHeader::parse(alloc, &[0; 112], 0, 2, BE).is_ok_and(
+        |read| read.as_slice() == zeros.as_slice(),
+    ) && program_header64::ProgramHeader::from_bytes(alloc, &[0; 112], 2).is_ok_and(
+        |read| read.as_slice() == zeros.as_slice(),
+    )
+}
+
+#[test]
+fn reads_raw_program_headers_at_once(rt: HostRuntime) {
+    assert!(rt; gives_zeros32(rt.alloc()));
+    assert!(rt; gives_zeros64(rt.alloc()));
+    let none = program_header32::ProgramHeader::default();
+    assert!(rt; none == program_header32::default_is_zeros() && none.p_align == 0);
+    let none = program_header64::ProgramHeader::default();
+    assert!(rt; none == program_header64::default_is_zeros() && none.p_align == 0);
+}
+
+static TYPES: [(u32, &str); 17] = [
+    (0, "PT_NULL"),
+    (1, "PT_LOAD"),
+    (PT_LOAD, "PT_LOAD"),
+    (8, "PT_NUM"),
+    (9, "UNKNOWN_PT"),
+    (PT_GNU_EH_FRAME, "PT_GNU_EH_FRAME"),
+    (0x6474e551, "PT_GNU_STACK"),
+    (PT_GNU_STACK, "PT_GNU_STACK"),
+    (PT_GNU_RELRO, "PT_GNU_RELRO"),
+    (0x6474e553, "PT_GNU_PROPERTY"),
+    (0x6ffffffa, "PT_SUNWBSS"),
+    (PT_SUNWBSS, "PT_SUNWBSS"),
+    (0x6fffffff, "PT_HIOS"),
+    (PT_HIOS, "PT_HIOS"),
+    (PT_ARM_EXIDX, "PT_ARM_EXIDX"),
+    (0x7fffffff, "PT_HIPROC"),
+    (u32::MAX, "UNKNOWN_PT"),
+];
 
 #[test]
 fn names_segment_types(rt: HostRuntime) {
+    let wrong = TYPES.iter().position(|row| pt_to_str(row.0) != row.1);
+    assert!(rt; wrong.is_none(), "row {wrong:?}");
+    // The function that the modules of the classes pass on is this one.
+    assert!(rt; program_header32::pt_to_str(2) == "PT_DYNAMIC");
+    assert!(rt; program_header64::pt_to_str(2) == "PT_DYNAMIC");
+}
+
+#[test]
+fn calls_the_laws_of_program_headers() {
     program_header::constants();
+    program_header32::constants();
+    program_header64::constants();
     program_header::laws();
     program_header32::laws();
     program_header64::laws();
-    let table = [
-        (0, "PT_NULL"),
-        (1, "PT_LOAD"),
-        (PT_LOAD, "PT_LOAD"),
-        (8, "PT_NUM"),
-        (9, "UNKNOWN_PT"),
-        (PT_GNU_EH_FRAME, "PT_GNU_EH_FRAME"),
-        (0x6474e551, "PT_GNU_STACK"),
-        (PT_GNU_STACK, "PT_GNU_STACK"),
-        (PT_GNU_RELRO, "PT_GNU_RELRO"),
-        (0x6474e553, "PT_GNU_PROPERTY"),
-        (0x6ffffffa, "PT_SUNWBSS"),
-        (PT_SUNWBSS, "PT_SUNWBSS"),
-        (0x6fffffff, "PT_HIOS"),
-        (PT_HIOS, "PT_HIOS"),
-        (PT_ARM_EXIDX, "PT_ARM_EXIDX"),
-        (0x7fffffff, "PT_HIPROC"),
-        (u32::MAX, "UNKNOWN_PT"),
-    ];
-    for (pt, name) in table {
-        assert_eq!(rt; pt_to_str(pt), name, "type {pt}");
-    }
 }

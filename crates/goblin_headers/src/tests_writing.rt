@@ -1,177 +1,141 @@
 //! Cases with their answers: writing headers.
 use crate::header::Header;
-use crate::tests::{bytes_of, padded, told};
-use crate::{header, header32, header64};
-use goblin_base::container::{BE, Container, Ctx, LE};
+use crate::tests::{BIG64, LITTLE32, NEW32, NEW64, says, stands};
+use crate::{header32, header64};
+use goblin_base::container::{BE, Container, Ctx, Endian, LE};
 use goblin_base::scroll::{IntoCtx, TryFromCtx, TryIntoCtx};
-use std::test::Fail;
+use std::alloc::Global;
 
-// A new header of the 32-bit class in little byte order.
-const LITTLE: &str = "7F454C46 01010100 0000000000000000 0300 0000 01000000 00000000 00000000
-    00000000 00000000 3400 2000 0000 2800 0000 0000";
-
-// A new header of the 64-bit class in big byte order.
-const BIG: &str = "7F454C46 02020100 0000000000000000 0003 0000 00000001 0000000000000000
-    0000000000000000 0000000000000000 00000000 0040 0038 0000 0040 0000 0000";
-
-#[test]
-fn writes_new_headers(rt: HostRuntime) -> Result<(), Fail> {
-    header::laws();
-    header32::laws();
-    header64::laws();
-    let table = [
-        (Ctx::new(Container::Little, LE), 52, LITTLE),
-        (Ctx::new(Container::Big, BE), 64, BIG),
-    ];
-    for (ctx, size, hex) in table {
-        // The order that is passed is ignored.
-        for order in [LE, BE] {
-            let mut room = padded(rt.alloc(), "", 70)?;
-            assert_eq!(rt;
-                Header::new(ctx).try_into_ctx(room.as_mut_slice(), order)?,
-                size
-            );
-            assert_eq!(rt; room.as_slice(), padded(rt.alloc(), hex, 70)?.as_slice());
-        }
+fn writes(ctx: Ctx, order: Endian, bytes: &[u8]) -> bool {
+    let mut room = [0xaa; 70];
+    match Header::new(ctx).try_into_ctx(&mut room, order) {
+        Ok(size) => size == bytes.len() && stands(&room, bytes),
+        Err(_) => false,
     }
+}
+
+fn puts(ctx: Ctx, bytes: &[u8]) -> bool {
     let mut room = [0xaa; 70];
-    let ctx = Ctx::new(Container::Little, LE);
     Header::new(ctx).into_ctx(&mut room, ctx);
-    assert_eq!(rt; room.as_slice(), padded(rt.alloc(), LITTLE, 70)?.as_slice());
+    stands(&room, bytes)
+}
+
+// The order that is passed is ignored.
+#[test]
+fn writes_new_headers(rt: HostRuntime) {
+    assert!(rt; writes(LITTLE32, LE, NEW32));
+    assert!(rt; writes(LITTLE32, BE, NEW32));
+    assert!(rt; writes(BIG64, LE, NEW64));
+    assert!(rt; writes(BIG64, BE, NEW64));
+    assert!(rt; puts(LITTLE32, NEW32));
+    assert!(rt; puts(BIG64, NEW64));
+}
+
+fn writes32(order: Endian) -> bool {
     let mut room = [0xaa; 70];
-    let ctx = Ctx::new(Container::Big, BE);
-    Header::new(ctx).into_ctx(&mut room, ctx);
-    assert_eq!(rt; room.as_slice(), padded(rt.alloc(), BIG, 70)?.as_slice());
-    Ok(())
+    let raw = header32::Header::from(Header::new(LITTLE32));
+    raw.try_into_ctx(&mut room, order)
+        .is_ok_and(|size| size == 52)
+        && stands(&room, NEW32)
+}
+
+fn writes64(order: Endian) -> bool {
+    let mut room = [0xaa; 70];
+    let raw = header64::Header::from(Header::new(BIG64));
+    raw.try_into_ctx(&mut room, order)
+        .is_ok_and(|size| size == 64)
+        && stands(&room, NEW64)
 }
 
 #[test]
-fn writes_raw_headers(rt: HostRuntime) -> Result<(), Fail> {
-    let new32 = Header::new(Ctx::new(Container::Little, LE));
-    let new64 = Header::new(Ctx::new(Container::Big, BE));
-    let mut room = padded(rt.alloc(), "", 70)?;
-    let raw = header32::Header::from(new32);
-    assert_eq!(rt; raw.try_into_ctx(room.as_mut_slice(), BE)?, 52);
-    assert_eq!(rt; room.as_slice(), padded(rt.alloc(), LITTLE, 70)?.as_slice());
-    let mut room = padded(rt.alloc(), "", 70)?;
-    let raw = header64::Header::from(new64);
-    assert_eq!(rt; raw.try_into_ctx(room.as_mut_slice(), LE)?, 64);
-    assert_eq!(rt; room.as_slice(), padded(rt.alloc(), BIG, 70)?.as_slice());
-    let mut wide = new64;
+fn writes_raw_headers(rt: HostRuntime) {
+    assert!(rt; writes32(BE));
+    assert!(rt; writes64(LE));
+}
+
+#[test]
+fn keeps_low_bits(rt: HostRuntime) {
+    let mut wide = Header::new(BIG64);
     wide.e_entry = 0x1_2345_6789;
-    assert_eq!(rt; header32::Header::from(wide).e_entry, 0x2345_6789);
-    Ok(())
+    assert!(rt; header32::Header::from(wide).e_entry == 0x2345_6789);
+    assert!(rt; header64::Header::from(wide).e_entry == 0x1_2345_6789);
 }
 
+// Little byte order, whatever the data byte says.
 #[test]
-fn reads_headers_from_their_bytes(rt: HostRuntime) -> Result<(), Fail> {
-    let little = bytes_of(rt.alloc(), LITTLE)?;
-    let mut bytes = [0; 52];
-    for (to, from) in bytes.iter_mut().zip(little.as_slice()) {
-        *to = *from;
-    }
-    let header = header32::Header::from_bytes(&bytes);
-    assert_eq!(rt;
-        Header::from(header),
-        Header::new(Ctx::new(Container::Little, LE))
-    );
-    // Little byte order, whatever the data byte says.
-    let big = bytes_of(rt.alloc(), BIG)?;
-    let mut bytes = [0; 64];
-    for (to, from) in bytes.iter_mut().zip(big.as_slice()) {
-        *to = *from;
-    }
-    let header = header64::Header::from_bytes(&bytes);
-    assert_eq!(rt; header.e_ident[5], 2);
-    assert_eq!(rt; header.e_type, 0x300);
-    assert_eq!(rt; header.e_version, 0x1000000);
-    assert_eq!(rt; header.e_ehsize, 0x4000);
-    Ok(())
+fn reads_headers_from_their_bytes(rt: HostRuntime) {
+    let header = header32::Header::from_bytes(NEW32);
+    assert!(rt; Header::from(header) == Header::new(LITTLE32));
+    let header = header64::Header::from_bytes(NEW64);
+    assert!(rt; header.e_ident[5] == 2 && header.e_type == 0x300);
+    assert!(rt; header.e_version == 0x1000000 && header.e_ehsize == 0x4000);
 }
 
-#[test]
-fn refuses_to_write_in_order(rt: HostRuntime) -> Result<(), Fail> {
-    // The class byte, the data byte, how many bytes there are, and the texts of the header of
-    // either class and of the 32-bit one.
-    let table = [
-        (1, 1, 52, "Ok", "Ok"),
-        (
-            1,
-            1,
-            51,
-            "type is too big (52) for 51",
-            "type is too big (52) for 51",
-        ),
-        (1, 1, 0, "bad offset 0", "bad offset 0"),
-        (
-            0,
-            0,
-            52,
-            "Malformed entity: Invalid class in Header: 0",
-            "Malformed entity: invalid ELF DATA type 0",
-        ),
-        (
-            1,
-            0,
-            52,
-            "Malformed entity: invalid ELF DATA type 0",
-            "Malformed entity: invalid ELF DATA type 0",
-        ),
-        (
-            1,
-            0,
-            0,
-            "Malformed entity: invalid ELF DATA type 0",
-            "Malformed entity: invalid ELF DATA type 0",
-        ),
-        (
-            3,
-            1,
-            52,
-            "Malformed entity: Invalid class in Header: 3",
-            "Ok",
-        ),
-    ];
-    for (class, order, len, both, raw) in table {
-        let mut header = Header::new(Ctx::new(Container::Little, LE));
-        header.e_ident[4] = class;
-        header.e_ident[5] = order;
-        let untouched = padded(rt.alloc(), "", len)?;
-        let mut room = padded(rt.alloc(), "", len)?;
-        let answer = told(rt.alloc(), header.try_into_ctx(room.as_mut_slice(), BE))?;
-        assert_eq!(rt;
-            answer.as_str(),
-            both,
-            "class {class}, data {order}, {len} bytes"
-        );
-        assert_eq!(rt; room.as_slice() == untouched.as_slice(), both != "Ok");
-        let mut room = padded(rt.alloc(), "", len)?;
-        let form = header32::Header::from(header);
-        let answer = told(rt.alloc(), form.try_into_ctx(room.as_mut_slice(), BE))?;
-        assert_eq!(rt;
-            answer.as_str(),
+const SHORT: &str = "type is too big (52) for 51";
+
+const NONE: &str = "bad offset 0";
+
+const CLASS0: &str = "Malformed entity: Invalid class in Header: 0";
+
+const CLASS3: &str = "Malformed entity: Invalid class in Header: 3";
+
+const DATA: &str = "Malformed entity: invalid ELF DATA type 0";
+
+// The class byte, the data byte, how many bytes there are, and the texts of the header of either class
+// and of the 32-bit one.
+static REFUSED: [(u8, u8, usize, &str, &str); 7] = [
+    (1, 1, 52, "Ok", "Ok"),
+    (1, 1, 51, SHORT, SHORT),
+    (1, 1, 0, NONE, NONE),
+    (0, 0, 52, CLASS0, DATA),
+    (1, 0, 52, DATA, DATA),
+    (1, 0, 0, DATA, DATA),
+    (3, 1, 52, CLASS3, "Ok"),
+];
+
+// What is refused writes nothing.
+fn refuses(alloc: Global, row: &(u8, u8, usize, &str, &str)) -> bool {
+    let (class, order, len, both, raw) = *row;
+    let mut header = Header::new(LITTLE32);
+    header.e_ident[4] = class;
+    header.e_ident[5] = order;
+    let mut room = [0xaa; 52];
+    let room = &mut room[..len.min(52)];
+    let told = says(alloc, header.try_into_ctx(room, BE), both);
+    let untouched = room.iter().all(|byte| *byte == 0xaa);
+    let mut room = [0xaa; 52];
+    let room = &mut room[..len.min(52)];
+    told && untouched == (both != "Ok")
+        && says(
+            alloc,
+            header32::Header::from(header).try_into_ctx(room, BE),
             raw,
-            "class {class}, data {order}, {len} bytes"
-        );
-        assert_eq!(rt; room.as_slice() == untouched.as_slice(), raw != "Ok");
-    }
-    Ok(())
+        )
+        && room.iter().all(|byte| *byte == 0xaa) == (raw != "Ok")
 }
 
 #[test]
-fn reads_what_was_written(rt: HostRuntime) -> Result<(), Fail> {
-    for ctx in [
-        Ctx::new(Container::Little, BE),
-        Ctx::new(Container::Big, LE),
-    ] {
-        let mut header = Header::new(ctx);
-        header.e_entry = 0x8000_1234;
-        header.e_shstrndx = 0xffff;
-        let mut room = [0; 64];
-        let size = header.try_into_ctx(&mut room, LE)?;
-        let (read, counted) = Header::try_from_ctx(&room, LE)?;
-        assert_eq!(rt; counted, size);
-        assert_eq!(rt; read, header);
+fn refuses_to_write_in_order(rt: HostRuntime) {
+    let wrong = REFUSED.iter().position(|row| !refuses(rt.alloc(), row));
+    assert!(rt; wrong.is_none(), "row {wrong:?}");
+}
+
+fn reads_back(ctx: Ctx) -> bool {
+    let mut header = Header::new(ctx);
+    header.e_entry = 0x8000_1234;
+    header.e_shstrndx = 0xffff;
+    let mut room = [0; 64];
+    let Ok(size) = header.try_into_ctx(&mut room, LE) else {
+        return false;
+    };
+    match Header::try_from_ctx(&room, LE) {
+        Ok((read, counted)) => read == header && counted == size,
+        Err(_) => false,
     }
-    Ok(())
+}
+
+#[test]
+fn reads_what_was_written(rt: HostRuntime) {
+    assert!(rt; reads_back(Ctx::new(Container::Little, BE)));
+    assert!(rt; reads_back(Ctx::new(Container::Big, LE)));
 }

@@ -5,7 +5,7 @@ use Rattle.goblin.specs.declared.elf.header.Header.{Header}
 use Rattle.goblin.specs.declared.elf.section_header.SectionHeader.{SectionHeader}
 use Rattle.goblin.specs.declared.error.Error.{Error}
 use Rattle.goblin.specs.declared.error.Fault.TheVariants.{InvalidClass, InvalidEndianness}
-use Rattle.goblin.specs.Header.{class_of, order_of_header}
+use Rattle.goblin.specs.Header.{class_of, order_of}
 use Rattle.goblin.specs.Machines.{machine_name}
 use Rattle.goblin.specs.Names.{class_name, type_name}
 use Rattle.goblin.specs.ReadHeader.{read_header}
@@ -45,7 +45,7 @@ section_lines number (s ∷ sections) = section_line number s & section_lines (n
 abbrev pub ctx_of : Header → Result Ctx Error
 ctx_of h = do
   class ← class_of InvalidClass h.e_ident
-  order ← order_of_header InvalidEndianness h.e_ident
+  order ← order_of InvalidEndianness h.e_ident
   Ok (record { container = class; le = order })
 
 -- each section lies in a file of so many bytes, or else the fault of the first that doesn't

@@ -1,5 +1,6 @@
-use Rattle.goblin_headers.specs.ProgramHeader32Laws.{one_image}
+use Rattle.goblin_base.specs.LayoutLaws.{one_image}
+use Rattle.goblin_headers.specs.ProgramHeader32Laws.{program_header32_laws}
 use Rattle.goblin_headers.proofs.program_header32.laws.Goals as goal
 
-pub returns-clause-image : goal.returns-clause-image
-returns-clause-image c = one_image
+pub returns : goal.returns
+returns c = record { image = λ order. one_image (program_header32_laws order) }

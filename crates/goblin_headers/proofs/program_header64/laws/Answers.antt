@@ -1,5 +1,6 @@
-use Rattle.goblin_headers.specs.ProgramHeader64Laws.{one_image}
+use Rattle.goblin_base.specs.LayoutLaws.{one_image}
+use Rattle.goblin_headers.specs.ProgramHeader64Laws.{program_header64_laws}
 use Rattle.goblin_headers.proofs.program_header64.laws.Goals as goal
 
-pub returns-clause-image : goal.returns-clause-image
-returns-clause-image c = one_image
+pub returns : goal.returns
+returns c = record { image = λ order. one_image (program_header64_laws order) }

@@ -1,5 +1,6 @@
-use Rattle.goblin_headers.specs.SectionHeader64Laws.{one_image}
+use Rattle.goblin_base.specs.LayoutLaws.{one_image}
+use Rattle.goblin_headers.specs.SectionHeader64Laws.{section_header64_laws}
 use Rattle.goblin_headers.proofs.section_header64.laws.Goals as goal
 
-pub returns-clause-image : goal.returns-clause-image
-returns-clause-image c = one_image
+pub returns : goal.returns
+returns c = record { image = λ order. one_image (section_header64_laws order) }

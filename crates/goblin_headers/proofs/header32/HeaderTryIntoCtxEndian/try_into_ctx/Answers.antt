@@ -1,6 +1,7 @@
-use Rattle.goblin_headers.specs.WriteHeaderLaws.{written32}
+use Rattle.goblin_headers.specs.Header32.{header32_size, header32_image}
+use Rattle.goblin_headers.specs.WriteHeaderLaws.{in_order}
 use Rattle.goblin_headers.proofs.header32.HeaderTryIntoCtxEndian.try_into_ctx.Goals as goal
 
 pub returns : goal.returns
 returns c =
-    written32 c.args.self c.args.bytes.now c.put.new.bytes c.in-Some.order tt c.in-Some.ensures c.in_ok-room.ensures.exact c.put.ensures
+    in_order c.args.self.e_ident header32_size (λ order. header32_image order c.args.self) c.args.bytes.now c.put.new.bytes c.in-Some.order tt c.in-Some.ensures c.in_ok-room.ensures.exact c.put.ensures

@@ -1,0 +1,172 @@
+-- Headers of each class and of both: an identification as it is, and behind it numbers of given widths.
+use Rattle.std.proofs.Common.{◌≡◌, ◌≤◌, ◌+◌, ℕ, List, [], ◌∷◌, ◌++◌, length, take, drop, slice_index, refl, sym, ap, ◌∙◌, arith}
+use Rattle.std.proofs.Math.Seq.{take-add}
+use Rattle.std.proofs.lemmas.List.{append_assoc, append-nil, length-append, take_all, take_at}
+use Rattle.goblin_base.specs.declared.container.Container.{Container}
+use Rattle.goblin_base.specs.declared.container.Container.TheVariants as class
+use Rattle.goblin_base.specs.declared.container.Endian.{Endian}
+use Rattle.goblin_base.specs.Fields.{Field, FieldsFit, size_of_fields, image_of_fields, values_at, fields_at, total, widths_of, values_of, lows_of}
+use Rattle.goblin_base.specs.FieldLaws.{values_at-image, lows_of-fits, image-fields_at, length-image_of_fields, IsBytes-image_of_fields}
+use Rattle.goblin_base.specs.Number.{IsBytes}
+use Rattle.goblin_base.specs.NumberLaws.{IsBytes-append}
+use Rattle.goblin_headers.specs.declared.header.Header.{Header}
+use Rattle.goblin_headers.specs.Header.{header_size, header_of, header_image, header_low, HeaderFits, as32, as64, widened32, widened64}
+use Rattle.goblin_headers.specs.Header32.{header32_size, header32_of, header32_fields, header32_image, header32_low, Header32Fits}
+use Rattle.goblin_headers.specs.Header64.{header64_size, header64_of, header64_fields, header64_image, header64_low, Header64Fits}
+use Rattle.goblin_headers.specs.HeaderTrips.{IsOneHeaderImage}
+
+-- headers of a size, with an identification in front, and what holds of reading and writing them
+pub record IsHeader {R : Type 0} (size : ℕ) (ident : R → List ℕ) (read : Endian → List ℕ → R) (image : Endian → R → List ℕ) (low : R → R) (Fits : R → Type 0) : Type 0 where
+  -- there is room for an identification
+  pub enough : 16 ≤ size
+  -- which stands in front of other bytes
+  pub behind : Endian → R → List ℕ
+  pub image_is : (order : Endian) (h : R) → image order h ≡ ident h ++ behind order h
+  pub ident_read : (order : Endian) (bytes : List ℕ) → ident (read order bytes) ≡ take 16 bytes
+  -- the image has the size of a header, and is bytes
+  pub length_image : (order : Endian) (h : R) → length (ident h) ≡ 16 → length (image order h) ≡ size
+  pub image_bytes : (order : Endian) (h : R) → IsBytes (ident h) → IsBytes (image order h)
+  -- the low bits are read back, and what fits as it was, whatever follows
+  pub reads_low : (order : Endian) (h : R) (rest : List ℕ) → length (ident h) ≡ 16 → read order (image order h ++ rest) ≡ low h
+  pub low_fits : (h : R) → Fits h → low h ≡ h
+  -- bytes that were read are written back
+  pub writes_back : (order : Endian) (bytes : List ℕ) → IsBytes bytes → size ≤ length bytes → image order (read order bytes) ≡ take size bytes
+
+-- how the fields of a header lie behind its identification
+record IsHeaderLayout {R : Type 0} (widths : List ℕ) (ident : R → List ℕ) (read : Endian → List ℕ → R) (fields : R → List Field) (low : R → R) : Type 0 where
+  -- the header with this identification and these numbers
+  of_values : List ℕ → List ℕ → R
+  reads : (order : Endian) (bytes : List ℕ) → read order bytes ≡ of_values (take 16 bytes) (values_at order bytes 16 widths)
+  has_ident : (i vs : List ℕ) → ident (of_values i vs) ≡ i
+  has_widths : (h : R) → widths_of (fields h) ≡ widths
+  has_size : (h : R) → size_of_fields (fields h) ≡ total widths
+  lows : (h : R) → of_values (ident h) (lows_of (fields h)) ≡ low h
+  whole : (h : R) → of_values (ident h) (values_of (fields h)) ≡ h
+  fields_read : (order : Endian) (bytes : List ℕ) → fields (read order bytes) ≡ fields_at order bytes 16 widths
+
+module _ {R : Type 0} {widths : List ℕ} {ident : R → List ℕ} {read : Endian → List ℕ → R} {fields : R → List Field} {low : R → R} (l : IsHeaderLayout widths ident read fields low) where
+  abbrev image : Endian → R → List ℕ
+  image order h = ident h ++ image_of_fields order (fields h)
+
+  ident-read : (order : Endian) (bytes : List ℕ) → ident (read order bytes) ≡ take 16 bytes
+  ident-read order bytes = ap ident (l.reads order bytes) ∙ l.has_ident (take 16 bytes) (values_at order bytes 16 widths)
+
+  length-image : (order : Endian) (h : R) → length (ident h) ≡ 16 → length (image order h) ≡ 16 + total widths
+  length-image order h long =
+      omega (arith, long, length-append (ident h) (image_of_fields order (fields h)), length-image_of_fields order (fields h), l.has_size h)
+
+  read-image : (order : Endian) (h : R) (rest : List ℕ) → length (ident h) ≡ 16 → read order (image order h ++ rest) ≡ low h
+  read-image order h rest long =
+      let behind = image_of_fields order (fields h) in
+      let bytes = ident h ++ (behind ++ rest) in
+      let grouped : image order h ++ rest ≡ bytes = append_assoc (ident h) behind rest in
+      let values : values_at order bytes 16 widths ≡ lows_of (fields h) =
+      ap (values_at order bytes 16) (sym (l.has_widths h)) ∙ values_at-image order (fields h) (ident h) rest 16 long in
+      ap (read order) grouped ∙ l.reads order bytes
+      ∙ ap (λ (i : List ℕ). l.of_values i (values_at order bytes 16 widths)) (take_at (ident h) (behind ++ rest) 16 long)
+      ∙ ap (l.of_values (ident h)) values ∙ l.lows h
+
+  low-fits : (h : R) → FieldsFit (fields h) → low h ≡ h
+  low-fits h fits = sym (l.lows h) ∙ ap (l.of_values (ident h)) (lows_of-fits (fields h) fits) ∙ l.whole h
+
+  image-read : (order : Endian) (bytes : List ℕ) → IsBytes bytes → 16 + total widths ≤ length bytes → image order (read order bytes) ≡ take (16 + total widths) bytes
+  image-read order bytes are room =
+      ap (λ (i : List ℕ). i ++ image_of_fields order (fields (read order bytes))) (ident-read order bytes)
+      ∙ ap (λ (all : List Field). take 16 bytes ++ image_of_fields order all) (l.fields_read order bytes)
+      ∙ ap (λ (rest : List ℕ). take 16 bytes ++ rest) (image-fields_at order bytes 16 widths are room)
+      ∙ sym (take-add 16 (total widths) bytes)
+
+  layout_laws : IsHeader (16 + total widths) ident read image low (λ h. FieldsFit (fields h))
+  layout_laws = record {
+    enough = omega arith;
+    behind = λ order h. image_of_fields order (fields h);
+    image_is = λ order h. refl;
+    ident_read = ident-read;
+    length_image = length-image;
+    image_bytes = λ order h are i. IsBytes-append (ident h) (image_of_fields order (fields h)) are (IsBytes-image_of_fields order (fields h)) i;
+    reads_low = read-image;
+    low_fits = low-fits;
+    writes_back = image-read;
+  }
+
+-- the fields of the headers of each class
+layout32 : IsHeaderLayout (2 ∷ 2 ∷ 4 ∷ 4 ∷ 4 ∷ 4 ∷ 4 ∷ 2 ∷ 2 ∷ 2 ∷ 2 ∷ 2 ∷ 2 ∷ []) (λ h. h.e_ident) header32_of header32_fields header32_low
+layout32 = record {
+  of_values = λ i vs. record { e_ident = i; e_type = slice_index vs 0; e_machine = slice_index vs 1; e_version = slice_index vs 2; e_entry = slice_index vs 3; e_phoff = slice_index vs 4; e_shoff = slice_index vs 5; e_flags = slice_index vs 6; e_ehsize = slice_index vs 7; e_phentsize = slice_index vs 8; e_phnum = slice_index vs 9; e_shentsize = slice_index vs 10; e_shnum = slice_index vs 11; e_shstrndx = slice_index vs 12 };
+  reads = λ order bytes. refl;
+  has_ident = λ i vs. refl;
+  has_widths = λ h. refl;
+  has_size = λ h. refl;
+  lows = λ h. refl;
+  whole = λ h. refl;
+  fields_read = λ order bytes. refl;
+}
+
+layout64 : IsHeaderLayout (2 ∷ 2 ∷ 4 ∷ 8 ∷ 8 ∷ 8 ∷ 4 ∷ 2 ∷ 2 ∷ 2 ∷ 2 ∷ 2 ∷ 2 ∷ []) (λ h. h.e_ident) header64_of header64_fields header64_low
+layout64 = record {
+  of_values = λ i vs. record { e_ident = i; e_type = slice_index vs 0; e_machine = slice_index vs 1; e_version = slice_index vs 2; e_entry = slice_index vs 3; e_phoff = slice_index vs 4; e_shoff = slice_index vs 5; e_flags = slice_index vs 6; e_ehsize = slice_index vs 7; e_phentsize = slice_index vs 8; e_phnum = slice_index vs 9; e_shentsize = slice_index vs 10; e_shnum = slice_index vs 11; e_shstrndx = slice_index vs 12 };
+  reads = λ order bytes. refl;
+  has_ident = λ i vs. refl;
+  has_widths = λ h. refl;
+  has_size = λ h. refl;
+  lows = λ h. refl;
+  whole = λ h. refl;
+  fields_read = λ order bytes. refl;
+}
+
+pub header32_laws : IsHeader header32_size (λ h. h.e_ident) header32_of header32_image header32_low Header32Fits
+header32_laws = layout_laws layout32
+
+pub header64_laws : IsHeader header64_size (λ h. h.e_ident) header64_of header64_image header64_low Header64Fits
+header64_laws = layout_laws layout64
+
+-- a header of either class is the raw one of its class, widened
+pub header_laws : (class : Container) → IsHeader (header_size class) (λ h. h.e_ident) (header_of class) (header_image class) (header_low class) (HeaderFits class)
+header_laws class.Little =
+    let raw = header32_laws in record {
+      enough = raw.enough;
+      behind = λ order h. raw.behind order (as32 h);
+      image_is = λ order h. raw.image_is order (as32 h);
+      ident_read = raw.ident_read;
+      length_image = λ order h. raw.length_image order (as32 h);
+      image_bytes = λ order h. raw.image_bytes order (as32 h);
+      reads_low = λ order h rest long. ap widened32 (raw.reads_low order (as32 h) rest long);
+      low_fits = λ h fits. ap widened32 (raw.low_fits (as32 h) fits);
+      writes_back = raw.writes_back;
+    }
+header_laws class.Big =
+    let raw = header64_laws in record {
+      enough = raw.enough;
+      behind = λ order h. raw.behind order (as64 h);
+      image_is = λ order h. raw.image_is order (as64 h);
+      ident_read = raw.ident_read;
+      length_image = λ order h. raw.length_image order (as64 h);
+      image_bytes = λ order h. raw.image_bytes order (as64 h);
+      reads_low = λ order h rest long. ap widened64 (raw.reads_low order (as64 h) rest long);
+      low_fits = λ h fits. ap widened64 (raw.low_fits (as64 h) fits);
+      writes_back = raw.writes_back;
+    }
+
+module _ {R : Type 0} {size : ℕ} {ident : R → List ℕ} {read : Endian → List ℕ → R} {image : Endian → R → List ℕ} {low : R → R} {Fits : R → Type 0} (laws : IsHeader size ident read image low Fits) where
+  -- bytes of the size are the image of what they are read as
+  again : (order : Endian) (bytes : List ℕ) → IsBytes bytes → length bytes ≡ size → bytes ≡ image order (read order bytes)
+  again order bytes are long = sym (take_all size bytes (omega arith)) ∙ sym (laws.writes_back order bytes are (omega arith))
+
+  reads_alone : (order : Endian) (h : R) → length (ident h) ≡ 16 → read order (image order h) ≡ low h
+  reads_alone order h long = ap (read order) (sym (append-nil (image order h))) ∙ laws.reads_low order h [] long
+
+  -- only the low bits are written
+  pub image-low : (order : Endian) (h : R) → length (ident h) ≡ 16 → IsBytes (ident h) → image order (low h) ≡ image order h
+  image-low order h long are =
+      ap (image order) (sym (reads_alone order h long)) ∙ sym (again order (image order h) (laws.image_bytes order h are) (laws.length_image order h long))
+
+  -- the image is the one list of bytes that reads so
+  pub one_header_image : IsOneHeaderImage size ident read image low
+  one_header_image order h bytes long are = (
+    λ is. rw is (laws.image_bytes order h are, laws.length_image order h long, reads_alone order h long),
+    λ so. again order bytes so.0 so.1 ∙ ap (image order) so.2 ∙ image-low order h long are,
+  )
+
+  -- what fits is read back, whatever follows
+  pub reads_fitting : (order : Endian) (h : R) (rest : List ℕ) → length (ident h) ≡ 16 → Fits h → read order (image order h ++ rest) ≡ h
+  reads_fitting order h rest long fits = laws.reads_low order h rest long ∙ laws.low_fits h fits
