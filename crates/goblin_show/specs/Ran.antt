@@ -6,8 +6,8 @@ use Rattle.goblin.specs.Texts.{◌&◌, refusal_text}
 use Rattle.goblin.specs.declared.error.Error.{Error}
 use Rattle.goblin_show.specs.Marks.{Marks}
 use Rattle.goblin_show.specs.Shown.{shown, newline}
-use Rattle.goblin_show.specs.declared.run.Input.{Input}
-use Rattle.goblin_show.specs.declared.run.Input.TheVariants as inputs
+use Rattle.goblin_show.specs.declared.input.Input.{Input}
+use Rattle.goblin_show.specs.declared.input.Input.TheVariants as inputs
 use Rattle.goblin_show.specs.declared.run.Outcome.{Outcome}
 use Rattle.goblin_show.specs.declared.run.Outcome.TheVariants as outcomes
 
@@ -50,6 +50,14 @@ IsShown old new marks held holds =
 -- the writer holds `refused: `, this line and a newline more, and no other
 abbrev pub WritesRefusal : Option (List ℕ) → Option (List ℕ) → List ℕ → Type 0
 WritesRefusal held holds line = Appends held holds (codes "refused: " & line & newline)
+
+-- how the program is called
+abbrev pub usage_line : List ℕ
+usage_line = codes "usage: goblin_show [permissive]" & newline
+
+-- the writer holds the line on how the program is called more, and no other, or it told an error
+abbrev pub TellsUsage : Option (List ℕ) → Option (List ℕ) → Marks → Type 0
+TellsUsage held holds marks = Appends held holds usage_line ⊎ IsTrue marks.told_error
 
 -- a line for an error: its text, unless memory ran out
 abbrev pub TellsError : Error → List ℕ → Type 0
