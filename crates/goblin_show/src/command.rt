@@ -1,7 +1,7 @@
 //! What the program does: from its words, a reader and a writer to its exit status.
 ghost use Rattle.std.specs.Prelude.{◌≡◌, ◌≢◌, ◌+◌, ◌<◌, ◌≤◌, ◌⊎◌, ℕ, List, IsTrue, None, Some, map, string_bytes};
 ghost use Rattle.goblin_show.specs.Options.{asked};
-ghost use Rattle.goblin_show.specs.Ran.{IsReason, IsShown, ReadsAtMostOneMore, TellsUsage, WritesRefusal, read_limit};
+ghost use Rattle.goblin_show.specs.Ran.{FailsToRead, IsReason, IsShown, ReadsAtMostOneMore, TellsUsage, WritesRefusal, read_limit};
 
 use crate::options::options_of;
 use crate::run::run;
@@ -52,9 +52,10 @@ pub fn show<R: Source, W: Sink>(
         × IsReason (R.remaining reader.old) (R.remaining reader.new) (R.marks reader.new) line
         × WritesRefusal (W.contents writer.old) (W.contents writer.new) line }
 
-    // The words ask for nothing, or the reader or the writer told an error.
+    // The words ask for nothing, or reading failed, or the writer told an error.
     ensures failed { result ≡ 2 → (asked (map string_bytes words.now) ≡ None)
-        ⊎ (IsTrue (R.marks reader.new).told_error ⊎ IsTrue (W.marks writer.new).told_error) }
+        ⊎ (FailsToRead (R.marks reader.old) (R.marks reader.new)
+        ⊎ IsTrue (W.marks writer.new).told_error) }
 
     // Where it was shown or refused, the reader told no error but interruptions, and the writer
     // none.

@@ -67,7 +67,7 @@ fn read_behind<R: Source>(
 /// Reads up to the end. An interrupted read is tried again.
 pub fn input_of<R: Source>(alloc: Global, reader: &mut R) -> Input
     ensures input { IsInput result (R.remaining reader.old) (R.remaining reader.new)
-        (R.marks reader.new) }
+        (R.marks reader.old) (R.marks reader.new) }
     ensures most { ReadsAtMostOneMore (R.remaining reader.old) (R.remaining reader.new) }
     ensures calls { (R.marks reader.new).read_calls ≤ (R.marks reader.old).read_calls + read_limit }
     ensures heeded { result ≢ Input.Failed →

@@ -2,7 +2,7 @@
 ghost use Rattle.std.specs.Prelude.{◌≡◌, ◌≢◌, ℕ, ◌+◌, ◌≤◌, ◌⊎◌, List, IsTrue, OnOk, OnErr};
 ghost use Rattle.std.specs.Io.KnownBytes.{Appends};
 ghost use Rattle.goblin_show.specs.Options.{IsStrict};
-ghost use Rattle.goblin_show.specs.Ran.{IsReason, IsShown, ReadsAtMostOneMore, TellsError, WritesRefusal, read_limit, status_of};
+ghost use Rattle.goblin_show.specs.Ran.{FailsToRead, IsReason, IsShown, ReadsAtMostOneMore, TellsError, WritesRefusal, read_limit, status_of};
 
 use crate::input::{Input, input_of};
 use crate::streams::{Sink, Source};
@@ -120,9 +120,11 @@ pub fn run<R: Source, W: Sink>(
         × IsReason (R.remaining reader.old) (R.remaining reader.new) (R.marks reader.new) line
         × WritesRefusal (W.contents writer.old) (W.contents writer.new) line }
 
-    // The reader or the writer told an error.
+    // The reader told an error that was no interruption, or was asked as often as it is and told
+    // no end; or the writer told an error.
     ensures failed { result ≡ Outcome.Failed →
-        IsTrue (R.marks reader.new).told_error ⊎ IsTrue (W.marks writer.new).told_error }
+        FailsToRead (R.marks reader.old) (R.marks reader.new)
+        ⊎ IsTrue (W.marks writer.new).told_error }
 
     // Where it did not, the reader told no error but interruptions, and the writer none.
     ensures heeds_reader { result ≢ Outcome.Failed →

@@ -1,4 +1,4 @@
-use Rattle.std.proofs.Common.{◌≡◌, ◌+◌, ◌≤◌, false, take, vec_len}
+use Rattle.std.proofs.Common.{◌≡◌, ◌+◌, ◌-◌, ◌^◌, ◌≤◌, min, false, take, vec_len}
 use Rattle.std.specs.Io.KnownBytes.{Consumes}
 use Rattle.goblin_show.specs.Ran.{input_limit}
 use Rattle.goblin_show.proofs.input.input_of.Given as goal
@@ -13,6 +13,8 @@ invariant-loop g l =
       room : l.filled ≤ vec_len l.bytes;
       most : vec_len l.bytes ≤ input_limit + 1;
       calls : (source.marks l.reader).read_calls ≤ (source.marks l.initial.reader).read_calls + l.counter;
+      each : min ((source.marks l.initial.reader).read_calls + l.counter) (2 ^ 64 - 1) ≤ (source.marks l.reader).read_calls;
+      endless : (source.marks l.reader).told_end ≡ (source.marks l.initial.reader).told_end;
       gave : (source.marks l.reader).told_error ≡ false → l.counter ≤ l.filled;
       heeded : (source.marks l.reader).told_failure ≡ (source.marks l.initial.reader).told_failure;
     }
