@@ -9,4 +9,4 @@ pub Consumes-behind : (a b c : Option (List ℕ)) (old new : List ℕ) (filled c
     → Consumes a b (take filled old) → Consumes b c (take count (drop filled new)) → Consumes a c (take (filled + count) new)
 Consumes-behind a b c old new filled count kept before behind =
     subst (Consumes a c) (sym (take-add filled count new ∙ ap (λ front. front ++ take count (drop filled new)) kept))
-      (Consumes-trans a b c _ _ before behind)
+    (Consumes-trans a b c _ _ before behind)

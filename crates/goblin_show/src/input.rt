@@ -47,11 +47,7 @@ fn make_room(bytes: &mut Vec<u8>, filled: usize) -> Result<(), AllocError>
 }
 
 // Reads into the room behind the first `filled` bytes.
-fn read_behind<R: Source>(
-    reader: &mut R,
-    bytes: &mut Vec<u8>,
-    filled: usize,
-) -> io::Result<usize>
+fn read_behind<R: Source>(reader: &mut R, bytes: &mut Vec<u8>, filled: usize) -> io::Result<usize>
     requires { filled < vec_len bytes.old }
     ensures len { vec_len bytes.new ≡ vec_len bytes.old }
     ensures front { take filled bytes.new.items ≡ take filled bytes.old.items }

@@ -133,26 +133,259 @@ fn tells_why_sections_are_refused(rt: HostRuntime) {
     assert!(rt; refuses(rt.alloc(), SYMBOLS, &[(188, 208)], line));
 }
 
+// sh_addr of the second section is the greatest u64.
+const GREATEST_ADDRESS: &[(usize, u8)] = &[
+    (160, 0xff),
+    (161, 0xff),
+    (162, 0xff),
+    (163, 0xff),
+    (164, 0xff),
+    (165, 0xff),
+    (166, 0xff),
+    (167, 0xff),
+];
+
 #[test]
 fn tells_why_an_address_is_refused(rt: HostRuntime) {
-    // sh_addr is the greatest multiple of 256 below 2 ^ 64, and sh_size 256 at offset 0.
-    let changes = [
-        (161, 0xff),
-        (162, 0xff),
-        (163, 0xff),
-        (164, 0xff),
-        (165, 0xff),
-        (166, 0xff),
-        (167, 0xff),
-        (160, 0xff),
-    ];
     let line = "refused: Malformed entity: Section 0 size (16) + addr (18446744073709551615) is \
         out of bounds. Overflowed: true\n";
-    assert!(rt; refuses(rt.alloc(), RELOCATIONS, &changes, line));
+    assert!(rt; refuses(rt.alloc(), RELOCATIONS, GREATEST_ADDRESS, line));
+}
+
+fn makes(alloc: Global, file: &str, text: &str) -> bool {
+    match bytes_of(alloc, file) {
+        Some(bytes) => match text_of(alloc, bytes.as_slice(), &STRICT) {
+            Ok(made) => made.as_str() == text,
+            Err(_) => false,
+        },
+        None => false,
+    }
 }
 
 #[test]
 fn makes_the_text(rt: HostRuntime) {
-    let bytes = bytes_of(rt.alloc(), BIG);
-    assert!(rt; bytes.is_some_and(|b| makes(rt.alloc(), b.as_slice(), BIG_TEXT)));
+    assert!(rt; makes(rt.alloc(), BIG, BIG_TEXT));
+}
+
+// A reader that gives zeros, `left` of them, and this error at one call.
+#[derive(Drop)]
+struct Zeros {
+    left: usize,
+    calls: u32,
+    error_at: u32,
+    error: ErrorKind,
+}
+
+impl Zeros {
+    fn new(left: usize, error_at: u32, error: ErrorKind) -> Self {
+        Zeros {
+            left,
+            calls: 0,
+            error_at,
+            error,
+        }
+    }
+}
+
+impl Read for Zeros {
+    fn read(&mut self, buf: &mut [u8]) -> io::Result<usize> {
+        self.calls = self.calls.saturating_add(1);
+        if self.calls == self.error_at {
+            return Err(io::Error::from(self.error));
+        }
+        let count = buf.len().min(self.left);
+        self.left -= count;
+        for byte in buf.iter_mut() {
+            *byte = 0;
+        }
+        Ok(count)
+    }
+}
+
+const NO_MAGIC: &str = "refused: Invalid magic number: 0x0\n";
+
+#[test]
+fn takes_as_many_bytes_as_the_limit(rt: HostRuntime) {
+    let reader = Zeros::new(16_777_216, 0, ErrorKind::Other);
+    assert!(rt; ends(rt.alloc(), reader, Outcome::Refused, NO_MAGIC));
+    let reader = Zeros::new(16_777_217, 0, ErrorKind::Other);
+    let line = "refused: input is longer than 16777216 bytes\n";
+    assert!(rt; ends(rt.alloc(), reader, Outcome::Refused, line));
+}
+
+// Whether a run over 100,000 zeros, which takes three read calls, fails and writes nothing where
+// any of the calls answers this error.
+fn fails_at_each_call(alloc: Global, error: ErrorKind) -> bool {
+    (1..4).all(|call| ends(alloc, Zeros::new(100_000, call, error), Outcome::Failed, ""))
+}
+
+#[test]
+fn fails_where_a_read_does(rt: HostRuntime) {
+    assert!(rt; fails_at_each_call(rt.alloc(), ErrorKind::Other));
+    assert!(rt; fails_at_each_call(rt.alloc(), ErrorKind::WouldBlock));
+    assert!(rt; fails_at_each_call(rt.alloc(), ErrorKind::UnexpectedEof));
+    assert!(rt; fails_at_each_call(rt.alloc(), ErrorKind::OutOfMemory));
+}
+
+#[test]
+fn tries_an_interrupted_read_again(rt: HostRuntime) {
+    assert!(rt;
+        (1..5).all(|call| {
+            let reader = Zeros::new(100_000, call, ErrorKind::Interrupted);
+            ends(rt.alloc(), reader, Outcome::Refused, NO_MAGIC)
+        })
+    );
+}
+
+// A reader that is interrupted so many times before it tells its end.
+#[derive(Drop)]
+struct Interrupted {
+    left: u32,
+}
+
+impl Read for Interrupted {
+    fn read(&mut self, _buf: &mut [u8]) -> io::Result<usize> {
+        if self.left == 0 {
+            return Ok(0);
+        }
+        self.left -= 1;
+        Err(io::Error::from(ErrorKind::Interrupted))
+    }
+}
+
+#[test]
+fn reads_on_through_many_interruptions(rt: HostRuntime) {
+    let line = "refused: Malformed entity: Too small\n";
+    assert!(rt;
+        ends(
+            rt.alloc(),
+            Interrupted { left: 100_000 },
+            Outcome::Refused,
+            line
+        )
+    );
+}
+
+// A writer that takes few bytes at once, and fails at one call.
+#[derive(Drop)]
+struct Slow {
+    held: Vec<u8>,
+    at_once: usize,
+    calls: u32,
+    error_at: u32,
+}
+
+impl Slow {
+    fn new(alloc: Global, at_once: usize, error_at: u32) -> Self {
+        Slow {
+            held: Vec::new(alloc),
+            at_once,
+            calls: 0,
+            error_at,
+        }
+    }
+
+    fn told(&mut self) -> io::Result<()> {
+        self.calls = self.calls.saturating_add(1);
+        if self.calls == self.error_at {
+            return Err(io::Error::from(ErrorKind::BrokenPipe));
+        }
+        Ok(())
+    }
+}
+
+impl Write for Slow {
+    fn write(&mut self, buf: &[u8]) -> io::Result<usize> {
+        self.told()?;
+        let count = buf.len().min(self.at_once);
+        self.held.extend_from_slice(&buf[..count])?;
+        Ok(count)
+    }
+
+    fn flush(&mut self) -> io::Result<()> {
+        self.told()
+    }
+}
+
+// Whether a run over these bytes ends so at such a writer, after so many write calls and flushes.
+fn writes(alloc: Global, bytes: &[u8], writer: Slow, outcome: Outcome, calls: u32) -> bool {
+    let mut reader = Counted::new(Cursor::new(bytes));
+    let mut writer = Counted::new(writer);
+    run(alloc, &mut reader, &mut writer, &STRICT) == outcome && writer.into_inner().calls == calls
+}
+
+// Whether a run over these bytes fails where any of so many write calls and flushes does, and ends
+// so after them.
+fn heeds(alloc: Global, file: &str, outcome: Outcome, calls: u32) -> bool {
+    let Some(bytes) = bytes_of(alloc, file) else {
+        return false;
+    };
+    (1..calls.saturating_add(1)).all(|call| {
+        let writer = Slow::new(alloc, 1000, call);
+        writes(alloc, bytes.as_slice(), writer, Outcome::Failed, call)
+    }) && writes(
+        alloc,
+        bytes.as_slice(),
+        Slow::new(alloc, 1000, 0),
+        outcome,
+        calls,
+    )
+}
+
+#[test]
+fn fails_where_a_write_or_the_flush_does(rt: HostRuntime) {
+    // A text is written by one call, a refusal by three, and a flush follows.
+    assert!(rt; heeds(rt.alloc(), BIG, Outcome::Shown, 2));
+    assert!(rt; heeds(rt.alloc(), "", Outcome::Refused, 4));
+}
+
+#[test]
+fn writes_all_where_a_writer_takes_a_part(rt: HostRuntime) {
+    // 36 bytes in parts of 3, and a flush.
+    let writer = Slow::new(rt.alloc(), 3, 0);
+    assert!(rt; writes(rt.alloc(), b"", writer, Outcome::Refused, 14));
+}
+
+// The words, where there is memory.
+fn words_of(alloc: Global, texts: &[&str]) -> Option<Vec<String>> {
+    let mut words = Vec::new(alloc);
+    for text in texts {
+        words.push(String::from_str(alloc, text).ok()?).ok()?;
+    }
+    Some(words)
+}
+
+fn asks(alloc: Global, texts: &[&str], opts: Option<ParseOptions>) -> bool {
+    words_of(alloc, texts).is_some_and(|words| options_of(words.as_slice()) == opts)
+}
+
+#[test]
+fn takes_no_word(rt: HostRuntime) {
+    assert!(rt; asks(rt.alloc(), &[], Some(STRICT)));
+    assert!(rt; asks(rt.alloc(), &["permissive"], None));
+    assert!(rt; asks(rt.alloc(), &["strict"], None));
+    assert!(rt; asks(rt.alloc(), &[""], None));
+    assert!(rt; asks(rt.alloc(), &["permissive", "permissive"], None));
+}
+
+// Whether the program, with these words and this file, ends with a status and writes this text.
+fn answers(alloc: Global, texts: &[&str], file: &str, status: u8, text: &str) -> bool {
+    let (Some(words), Some(bytes)) = (words_of(alloc, texts), bytes_of(alloc, file)) else {
+        return false;
+    };
+    let mut reader = Counted::new(Cursor::new(bytes.as_slice()));
+    let mut writer = Counted::new(Slow::new(alloc, 1000, 0));
+    let ended = show(alloc, words.as_slice(), &mut reader, &mut writer);
+    let written = writer.into_inner();
+    ended == status && written.held.as_slice() == text.as_bytes()
+}
+
+#[test]
+fn ends_with_a_status(rt: HostRuntime) {
+    let line = "refused: Malformed entity: Too small\n";
+    let usage = "usage: goblin_show [permissive]\n";
+    assert!(rt; answers(rt.alloc(), &[], BIG, 0, BIG_TEXT));
+    assert!(rt; answers(rt.alloc(), &[], "", 1, line));
+    assert!(rt; answers(rt.alloc(), &["strict"], BIG, 2, usage));
+    assert!(rt; answers(rt.alloc(), &["permissive", "permissive"], BIG, 2, usage));
 }

@@ -8,14 +8,14 @@ pub returns-then-filled-gt-INPUT_LIMIT-clause-input :
     goal.returns-then-filled-gt-INPUT_LIMIT-clause-input
 returns-then-filled-gt-INPUT_LIMIT-clause-input g c =
     let taken = Consumes-behind _ _ _ c.loop.bytes.items _ c.loop.filled c.in-Ok.count (grind (arith, common_steps))
-      c.loop.invariant.taken c.in-Ok.ensures.bytes.0 in
+    c.loop.invariant.taken c.in-Ok.ensures.bytes.0 in
     (_, record { taken = taken; long = grind (arith, common_steps) })
 
 pub returns-then-filled-gt-INPUT_LIMIT-clause-most :
     goal.returns-then-filled-gt-INPUT_LIMIT-clause-most
 returns-then-filled-gt-INPUT_LIMIT-clause-most g c =
     let taken = Consumes-behind _ _ _ c.loop.bytes.items _ c.loop.filled c.in-Ok.count (grind (arith, common_steps))
-      c.loop.invariant.taken c.in-Ok.ensures.bytes.0 in
+    c.loop.invariant.taken c.in-Ok.ensures.bytes.0 in
     (_, taken, grind (arith, common_steps))
 
 pub returns-in-Ok-eq0-clause-input : goal.returns-in-Ok-eq0-clause-input
