@@ -1,26 +1,43 @@
 -- What a reader or a writer has told so far.
-use Rattle.std.specs.Prelude.{ℕ, ◌+◌, ◌-◌, ◌^◌, min, Bool, ◌||◌, ◌&&◌, ◌==◌, nat_lt, false, List, length, Result, Ok, Err, is_err}
+use Rattle.std.specs.Prelude.{ℕ, ◌+◌, ◌-◌, ◌^◌, min, Bool, ◌||◌, ◌&&◌, ◌==◌, nat_lt, not, false, true, List, length, Result, Ok, Err, is_err}
+use Rattle.std.specs.IoError.{error_kind}
+use Rattle.std.specs.declared.io.Error.{Error}
+use Rattle.std.specs.declared.io.ErrorKind.{ErrorKind}
+use Rattle.std.specs.declared.io.ErrorKind.TheVariants.{Interrupted}
 
--- how many read calls there were, which stops at the greatest u64, and whether an error and the end were told
+-- how many read calls there were, which stops at the greatest u64, and whether an error, a read error that is no
+-- interruption, and the end were told
 pub record Marks : Type 0 where
   pub read_calls : ℕ
   pub told_error : Bool
+  pub told_failure : Bool
   pub told_end : Bool
 
 -- before any call
 abbrev pub no_marks : Marks
-no_marks = record { read_calls = 0; told_error = false; told_end = false }
+no_marks = record { read_calls = 0; told_error = false; told_failure = false; told_end = false }
+
+-- the kind of an error after which a call is tried again
+unfoldable pub is_interruption : ErrorKind → Bool
+is_interruption Interrupted = true
+is_interruption kind = false
+
+-- an error that is no interruption
+abbrev pub is_failure : Result ℕ Error → Bool
+is_failure (Ok count) = false
+is_failure (Err e) = not (is_interruption (error_kind e))
 
 -- the end is told by 0 bytes for a buffer that has room
-abbrev pub is_end : {E : Type 0} → Result ℕ E → List ℕ → Bool
+abbrev pub is_end : Result ℕ Error → List ℕ → Bool
 is_end (Ok count) buf = (count == 0) && nat_lt 0 (length buf)
 is_end (Err e) buf = false
 
 -- the marks after `read(buf)` gave this answer
-abbrev pub after_read : {E : Type 0} → Marks → Result ℕ E → List ℕ → Marks
+abbrev pub after_read : Marks → Result ℕ Error → List ℕ → Marks
 after_read m answer buf = record {
   read_calls = min (m.read_calls + 1) (2 ^ 64 - 1);
   told_error = m.told_error || is_err answer;
+  told_failure = m.told_failure || is_failure answer;
   told_end = m.told_end || is_end answer buf;
 }
 

@@ -1,13 +1,13 @@
 -- What a run read and wrote.
-use Rattle.std.specs.Prelude.{◌≡◌, ◌≢◌, ℕ, ◌+◌, ◌<◌, ◌≤◌, ◌⊎◌, IsTrue, List, length, codes, Option, Ok, Err, vec_items}
+use Rattle.std.specs.Prelude.{◌≡◌, ◌≢◌, ℕ, ◌+◌, ◌-◌, ◌^◌, ◌<◌, ◌≤◌, ◌⊎◌, min, IsTrue, List, length, codes, Option, Ok, Err, vec_items}
 use Rattle.std.specs.Io.KnownBytes.{Appends, Consumes, IsAtEnd}
 use Rattle.goblin.specs.Refusal.{Refusal, out_of_memory, refusal_of}
 use Rattle.goblin.specs.Texts.{◌&◌, refusal_text}
 use Rattle.goblin.specs.declared.error.Error.{Error}
 use Rattle.goblin_show.specs.Marks.{Marks}
 use Rattle.goblin_show.specs.Shown.{shown, newline}
-use Rattle.goblin_show.specs.declared.run.Input.{Input}
-use Rattle.goblin_show.specs.declared.run.Input.TheVariants as inputs
+use Rattle.goblin_show.specs.declared.input.Input.{Input}
+use Rattle.goblin_show.specs.declared.input.Input.TheVariants as inputs
 use Rattle.goblin_show.specs.declared.run.Outcome.{Outcome}
 use Rattle.goblin_show.specs.declared.run.Outcome.TheVariants as outcomes
 
@@ -35,12 +35,22 @@ pub record ReadsTooMuch (old new : Option (List ℕ)) (bytes : List ℕ) : Type 
 abbrev pub ReadsAtMostOneMore : Option (List ℕ) → Option (List ℕ) → Type 0
 ReadsAtMostOneMore old new = (bytes : List ℕ) × Consumes old new bytes × (length bytes ≤ input_limit + 1)
 
+-- The reader was asked as often as it is, and told no end.
+pub record ReadsInVain (before after : Marks) : Type 0 where
+  pub calls : min (before.read_calls + read_limit) (2 ^ 64 - 1) ≤ after.read_calls
+  pub endless : after.told_end ≡ before.told_end
+
+-- The reader told an error, which was no interruption, or it was asked in vain.
+pub record FailsToRead (before after : Marks) : Type 0 where
+  pub error : IsTrue after.told_error
+  pub reason : IsTrue after.told_failure ⊎ ReadsInVain before after
+
 -- what was read
-abbrev pub IsInput : Input → Option (List ℕ) → Option (List ℕ) → Marks → Type 0
-IsInput (inputs.Whole v) old new marks = ReadsAll old new marks (vec_items v)
-IsInput inputs.TooLong old new marks = (bytes : List ℕ) × ReadsTooMuch old new bytes
-IsInput inputs.OutOfMemory old new marks = Unit {0}
-IsInput inputs.Failed old new marks = IsTrue marks.told_error
+abbrev pub IsInput : Input → Option (List ℕ) → Option (List ℕ) → Marks → Marks → Type 0
+IsInput (inputs.Whole v) old new before after = ReadsAll old new after (vec_items v)
+IsInput inputs.TooLong old new before after = (bytes : List ℕ) × ReadsTooMuch old new bytes
+IsInput inputs.OutOfMemory old new before after = Unit {0}
+IsInput inputs.Failed old new before after = FailsToRead before after
 
 -- the writer holds the text of all bytes more, and no other
 abbrev pub IsShown : (old new : Option (List ℕ)) → Marks → (held holds : Option (List ℕ)) → Type 0
@@ -50,6 +60,14 @@ IsShown old new marks held holds =
 -- the writer holds `refused: `, this line and a newline more, and no other
 abbrev pub WritesRefusal : Option (List ℕ) → Option (List ℕ) → List ℕ → Type 0
 WritesRefusal held holds line = Appends held holds (codes "refused: " & line & newline)
+
+-- how the program is called
+abbrev pub usage_line : List ℕ
+usage_line = codes "usage: goblin_show [permissive]" & newline
+
+-- the writer holds the line on how the program is called more, and no other, or it told an error
+abbrev pub TellsUsage : Option (List ℕ) → Option (List ℕ) → Marks → Type 0
+TellsUsage held holds marks = Appends held holds usage_line ⊎ IsTrue marks.told_error
 
 -- a line for an error: its text, unless memory ran out
 abbrev pub TellsError : Error → List ℕ → Type 0

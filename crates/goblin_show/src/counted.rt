@@ -3,16 +3,18 @@ ghost use Rattle.std.specs.Prelude.{◌≡◌};
 ghost use Rattle.goblin_show.specs.Counted.{inner_of, marks_of};
 ghost use Rattle.goblin_show.specs.Marks.{no_marks};
 
-use crate::streams::{Sink, Source};
+use crate::streams::{Sink, Source, is_interruption};
 use std::io;
 use std::io::{Read, Write};
 
-/// A reader or a writer of std that counts its read calls, and marks that an error or the end came.
+/// A reader or a writer of std that counts its read calls, and marks that an error, a read error
+/// that is no interruption, or the end came.
 #[derive(Drop)]
 pub struct Counted<T> {
     inner: T,
     read_calls: u64,
     told_error: bool,
+    told_failure: bool,
     told_end: bool,
 }
 
@@ -26,6 +28,7 @@ impl<T> Counted<T> {
             inner,
             read_calls: 0,
             told_error: false,
+            told_failure: false,
             told_end: false,
         }
     }
@@ -52,7 +55,12 @@ impl<R: Read> Source for Counted<R> {
                     self.told_end = true;
                 }
             }
-            Err(_) => self.told_error = true,
+            Err(e) => {
+                self.told_error = true;
+                if !is_interruption(e) {
+                    self.told_failure = true;
+                }
+            }
         }
         answer
     }

@@ -2,68 +2,15 @@
 ghost use Rattle.std.specs.Prelude.{◌≡◌, ◌≢◌, ℕ, ◌+◌, ◌≤◌, ◌⊎◌, List, IsTrue, OnOk, OnErr};
 ghost use Rattle.std.specs.Io.KnownBytes.{Appends};
 ghost use Rattle.goblin_show.specs.Options.{IsStrict};
-ghost use Rattle.goblin_show.specs.Ran.{IsInput, IsReason, IsShown, ReadsAtMostOneMore, TellsError, WritesRefusal, read_limit, status_of};
+ghost use Rattle.goblin_show.specs.Ran.{FailsToRead, IsReason, IsShown, ReadsAtMostOneMore, TellsError, WritesRefusal, read_limit, status_of};
 
+use crate::input::{Input, input_of};
 use crate::streams::{Sink, Source};
 use crate::text::text_of;
 use goblin::error::Error;
 use goblin::options::ParseOptions;
 use std::alloc::Global;
 use std::io;
-use std::io::ErrorKind;
-
-// How many bytes of input the program takes.
-const INPUT_LIMIT: usize = 16_777_216;
-
-// How many times the reader is asked.
-const READ_LIMIT: u64 = 33_554_432;
-
-// How many bytes are asked for at once.
-const CHUNK: usize = 65_536;
-
-/// What was read.
-#[derive(Drop)]
-pub enum Input {
-    /// All bytes, up to the end.
-    Whole(Vec<u8>),
-    /// More bytes than the program takes.
-    TooLong,
-    /// Bytes that found no memory.
-    OutOfMemory,
-    /// Bytes up to an error, or up to the last call that was to be made.
-    Failed,
-}
-
-// Reads up to the end. An interrupted read is tried again.
-fn input_of<R: Source>(alloc: Global, reader: &mut R) -> Input
-    ensures input { IsInput result (R.remaining reader.old) (R.remaining reader.new)
-        (R.marks reader.new) }
-    ensures most { ReadsAtMostOneMore (R.remaining reader.old) (R.remaining reader.new) }
-    ensures calls { (R.marks reader.new).read_calls ≤ (R.marks reader.old).read_calls + read_limit }
-{
-    let mut bytes = Vec::new(alloc);
-    let mut chunk = [0u8; CHUNK];
-    for _ in 0..READ_LIMIT {
-        let room = CHUNK.min(INPUT_LIMIT + 1 - bytes.len());
-        match reader.read(&mut chunk[..room]) {
-            Ok(0) => return Input::Whole(bytes),
-            Ok(count) => {
-                if bytes.extend_from_slice(&chunk[..count]).is_err() {
-                    return Input::OutOfMemory;
-                }
-                if bytes.len() > INPUT_LIMIT {
-                    return Input::TooLong;
-                }
-            }
-            Err(e) => {
-                if e.kind() != ErrorKind::Interrupted {
-                    return Input::Failed;
-                }
-            }
-        }
-    }
-    Input::Failed
-}
 
 /// How a run ended.
 #[derive(Clone, Copy, Debug, PartialEq)]
@@ -95,6 +42,8 @@ const TOO_LONG: &str = "input is longer than 16777216 bytes";
 
 fn write_text<W: Sink>(writer: &mut W, text: &str) -> io::Result<()>
     ensures ok { OnOk result (Appends (W.contents writer.old) (W.contents writer.new) text.now) }
+    ensures heeded { OnOk result
+        ((W.marks writer.new).told_error ≡ (W.marks writer.old).told_error) }
     ensures err { OnErr result (IsTrue (W.marks writer.new).told_error) }
 {
     writer.write_all(text.as_bytes())?;
@@ -104,6 +53,8 @@ fn write_text<W: Sink>(writer: &mut W, text: &str) -> io::Result<()>
 fn write_refusal<W: Sink>(writer: &mut W, line: &str) -> io::Result<()>
     ensures ok { OnOk result
         (WritesRefusal (W.contents writer.old) (W.contents writer.new) line.now) }
+    ensures heeded { OnOk result
+        ((W.marks writer.new).told_error ≡ (W.marks writer.old).told_error) }
     ensures err { OnErr result (IsTrue (W.marks writer.new).told_error) }
 {
     writer.write_all(b"refused: ")?;
@@ -117,6 +68,8 @@ fn refuse<W: Sink>(writer: &mut W, line: &str) -> Outcome
     ensures shown { result ≢ Outcome.Shown }
     ensures refused { result ≡ Outcome.Refused →
         WritesRefusal (W.contents writer.old) (W.contents writer.new) line.now }
+    ensures heeded { result ≡ Outcome.Refused →
+        (W.marks writer.new).told_error ≡ (W.marks writer.old).told_error }
     ensures failed { result ≡ Outcome.Failed → IsTrue (W.marks writer.new).told_error }
 {
     match write_refusal(writer, line) {
@@ -130,6 +83,8 @@ fn refuse_for<W: Sink>(alloc: Global, writer: &mut W, e: &Error) -> Outcome
     ensures shown { result ≢ Outcome.Shown }
     ensures refused { result ≡ Outcome.Refused → (line : List ℕ) × TellsError e.now line
         × WritesRefusal (W.contents writer.old) (W.contents writer.new) line }
+    ensures heeded { result ≡ Outcome.Refused →
+        (W.marks writer.new).told_error ≡ (W.marks writer.old).told_error }
     ensures failed { result ≡ Outcome.Failed → IsTrue (W.marks writer.new).told_error }
 {
     if let Error::Memory(_) = e {
@@ -165,9 +120,17 @@ pub fn run<R: Source, W: Sink>(
         × IsReason (R.remaining reader.old) (R.remaining reader.new) (R.marks reader.new) line
         × WritesRefusal (W.contents writer.old) (W.contents writer.new) line }
 
-    // The reader or the writer told an error.
+    // The reader told an error that was no interruption, or was asked as often as it is and told
+    // no end; or the writer told an error.
     ensures failed { result ≡ Outcome.Failed →
-        IsTrue (R.marks reader.new).told_error ⊎ IsTrue (W.marks writer.new).told_error }
+        FailsToRead (R.marks reader.old) (R.marks reader.new)
+        ⊎ IsTrue (W.marks writer.new).told_error }
+
+    // Where it did not, the reader told no error but interruptions, and the writer none.
+    ensures heeds_reader { result ≢ Outcome.Failed →
+        (R.marks reader.new).told_failure ≡ (R.marks reader.old).told_failure }
+    ensures heeds_writer { result ≢ Outcome.Failed →
+        (W.marks writer.new).told_error ≡ (W.marks writer.old).told_error }
 
     // However it ended, the reader was not asked for more.
     ensures most { ReadsAtMostOneMore (R.remaining reader.old) (R.remaining reader.new) }

@@ -2,9 +2,18 @@
 ghost use Rattle.std.specs.Prelude.{◌≡◌, ℕ, List, Option, OnOk};
 ghost use Rattle.std.specs.Io.{ReadsAtMost};
 ghost use Rattle.std.specs.Io.KnownBytes.{Appends, Keeps, ReadConsumes};
-ghost use Rattle.goblin_show.specs.Marks.{Marks, after_read, after_write};
+ghost use Rattle.std.specs.IoError.{error_kind};
+ghost use Rattle.goblin_show.specs.Marks.{Marks, after_read, after_write, is_interruption};
 
 use std::io;
+use std::io::ErrorKind;
+
+/// Whether an error is an interruption, after which the call is tried again.
+pub fn is_interruption(e: &io::Error) -> bool
+    ensures { result ≡ is_interruption (error_kind e.now) }
+{
+    matches!(e.kind(), ErrorKind::Interrupted)
+}
 
 /// A reader.
 pub trait Source {

@@ -1,16 +1,13 @@
 //! Runs over readers and writers in memory, and over ones that fail.
-ghost use Rattle.std.specs.Prelude.{None};
-
+use crate::command::show;
 use crate::counted::Counted;
 use crate::options::options_of;
 use crate::run::{Outcome, run};
-use crate::streams::Sink;
 use crate::text::text_of;
 use goblin::options::{ParseMode, ParseOptions};
 use std::alloc::Global;
 use std::io;
 use std::io::{Cursor, ErrorKind, Read, Write};
-use std::test::Fail;
 
 const STRICT: ParseOptions = ParseOptions {
     parse_mode: ParseMode::Strict,
@@ -19,6 +16,31 @@ const STRICT: ParseOptions = ParseOptions {
 // A 64-bit header in big byte order.
 const BIG: &str = "7F454C46 02020100 0000000000000000 0002 003E 00000001 0000000000401000
     0000000000000000 0000000000000000 00000000 0040 0038 000D 0040 0000 0000";
+
+const BIG_TEXT: &str = "header ELF64 big EXEC X86_64 entry 0x401000 phnum 13 shnum 0\n";
+
+// A 32-bit file of 208 bytes: a header, a string table, a symbol table and three section headers.
+const SYMBOLS: &str = "7F454C46 01010100 0000000000000000 0300 0000 01000000 00000000 00000000
+    58000000 00000000 3400 2000 0000 2800 0300 0000
+    00660000
+    00000000000000000000000000000000 01000000 00100000 05000000 12 00 0100
+    0000000000000000000000000000000000000000 0000000000000000000000000000000000000000
+    00000000 03000000 00000000 00000000 34000000 04000000 00000000 00000000 00000000 00000000
+    00000000 02000000 00000000 00000000 38000000 20000000 01000000 00000000 00000000 00000000";
+
+const SYMBOLS_TEXT: &str = "header ELF32 little DYN EM_UNKNOWN entry 0x0 phnum 0 shnum 3\n\
+    section 0 SHT_NULL offset 0x0 size 0 name=\n\
+    section 1 SHT_STRTAB offset 0x34 size 4 name=\n\
+    section 2 SHT_SYMTAB offset 0x38 size 32 name=\n";
+
+// A 64-bit file of 208 bytes: a header, 16 bytes of relocations and two section headers.
+const RELOCATIONS: &str = "7F454C46 02010100 0000000000000000 0300 0800 01000000 0000000000000000
+    0000000000000000 5000000000000000 00000000 4000 3800 0000 4000 0200 0000
+    F050010000000000 0000000000000012
+    00000000 00000000 0000000000000000 0000000000000000 0000000000000000
+    0000000000000000 00000000 00000000 0000000000000000 0000000000000000
+    00000000 09000000 0000000000000000 0000000000000000 4000000000000000
+    1000000000000000 00000000 00000000 0000000000000000 0000000000000000";
 
 // The digit that a character of a hexadecimal text stands for, if it is one.
 fn digit_of(c: u8) -> Option<u8> {
@@ -29,128 +51,120 @@ fn digit_of(c: u8) -> Option<u8> {
     }
 }
 
-// The bytes that a hexadecimal text spells.
-fn bytes_of(alloc: Global, text: &str) -> Result<Vec<u8>, Fail> {
+// The bytes that a hexadecimal text spells, where there is memory.
+fn bytes_of(alloc: Global, text: &str) -> Option<Vec<u8>> {
     let mut bytes = Vec::new(alloc);
     let mut high = None;
     for digit in text.as_bytes().iter().copied().filter_map(digit_of) {
         match high {
             None => high = Some(digit),
             Some(first) => {
-                bytes.push((first & 0xf) << 4 | (digit & 0xf))?;
+                bytes.push((first & 0xf) << 4 | (digit & 0xf)).ok()?;
                 high = None;
             }
         }
     }
-    Ok(bytes)
+    Some(bytes)
 }
 
-// How a run over a reader ends, and what it writes.
-fn run_over<R: Read + Drop>(alloc: Global, reader: R) -> (Outcome, Vec<u8>) {
+// The same with other bytes at some places.
+fn changed(alloc: Global, text: &str, changes: &[(usize, u8)]) -> Option<Vec<u8>> {
+    let mut bytes = bytes_of(alloc, text)?;
+    for (place, byte) in changes {
+        *bytes.get_mut(*place)? = *byte;
+    }
+    Some(bytes)
+}
+
+// Whether a run over this reader ends so, and writes this text.
+fn ends<R: Read + Drop>(alloc: Global, reader: R, outcome: Outcome, text: &str) -> bool {
     let mut reader = Counted::new(reader);
     let mut writer = Counted::new(Vec::new(alloc));
-    let outcome = run(alloc, &mut reader, &mut writer, &STRICT);
-    (outcome, writer.into_inner())
+    run(alloc, &mut reader, &mut writer, &STRICT) == outcome
+        && writer.into_inner().as_slice() == text.as_bytes()
 }
 
-#[test]
-fn shows_and_refuses(rt: HostRuntime) -> Result<(), Fail> {
-    let table = [
-        (
-            "a 64-bit header in big order",
-            BIG,
-            Outcome::Shown,
-            "header ELF64 big EXEC X86_64 entry 0x401000 phnum 13 shnum 0\n",
-        ),
-        (
-            "the same, cut to 52 bytes",
-            "7F454C46 02020100 0000000000000000 0002 003E 00000001 0000000000401000
-            0000000000000000 0000000000000000 00000000",
-            Outcome::Refused,
-            "refused: type is too big (64) for 52\n",
-        ),
-        (
-            "the same with class byte 3 and data byte 0",
-            "7F454C46 03000100 0000000000000000 0002 003E 00000001 0000000000401000
-            0000000000000000 0000000000000000 00000000 0040 0038 000D 0040 0000 0000",
-            Outcome::Refused,
-            "refused: Malformed entity: invalid ELF class 3\n",
-        ),
-        (
-            "the same with data byte 0",
-            "7F454C46 02000100 0000000000000000 0002 003E 00000001 0000000000401000
-            0000000000000000 0000000000000000 00000000 0040 0038 000D 0040 0000 0000",
-            Outcome::Refused,
-            "refused: Malformed entity: invalid ELF endianness DATA type 0\n",
-        ),
-        (
-            "a 32-bit file with a string table and a symbol table",
-            "7F454C46 01010100 0000000000000000 0300 0000 01000000 00000000 00000000 58000000
-            00000000 3400 2000 0000 2800 0300 0000 00660000
-            00000000000000000000000000000000 01000000 00100000 05000000 12 00 0100
-            0000000000000000000000000000000000000000 0000000000000000000000000000000000000000
-            00000000 03000000 00000000 00000000 34000000 04000000 00000000 00000000 00000000 00000000
-            00000000 02000000 00000000 00000000 38000000 20000000 01000000 00000000 00000000 00000000",
-            Outcome::Shown,
-            "header ELF32 little DYN EM_UNKNOWN entry 0x0 phnum 0 shnum 3\n\
-            section 0 SHT_NULL offset 0x0 size 0 name=\n\
-            section 1 SHT_STRTAB offset 0x34 size 4 name=\n\
-            section 2 SHT_SYMTAB offset 0x38 size 32 name=\n",
-        ),
-        (
-            "the same with a symbol table of 208 bytes",
-            "7F454C46 01010100 0000000000000000 0300 0000 01000000 00000000 00000000 58000000
-            00000000 3400 2000 0000 2800 0300 0000 00660000
-            00000000000000000000000000000000 01000000 00100000 05000000 12 00 0100
-            0000000000000000000000000000000000000000 0000000000000000000000000000000000000000
-            00000000 03000000 00000000 00000000 34000000 04000000 00000000 00000000 00000000 00000000
-            00000000 02000000 00000000 00000000 38000000 D0000000 01000000 00000000 00000000 00000000",
-            Outcome::Refused,
-            "refused: Malformed entity: Section 0 size (208) + offset (56) is out of bounds. \
-            Overflowed: false\n",
-        ),
-        (
-            "the same with four sections, of which the last is missing",
-            "7F454C46 01010100 0000000000000000 0300 0000 01000000 00000000 00000000 58000000
-            00000000 3400 2000 0000 2800 0400 0000 00660000
-            00000000000000000000000000000000 01000000 00100000 05000000 12 00 0100
-            0000000000000000000000000000000000000000 0000000000000000000000000000000000000000
-            00000000 03000000 00000000 00000000 34000000 04000000 00000000 00000000 00000000 00000000
-            00000000 02000000 00000000 00000000 38000000 20000000 01000000 00000000 00000000 00000000",
-            Outcome::Refused,
-            "refused: bad offset 208\n",
-        ),
-        (
-            "no bytes",
-            "",
-            Outcome::Refused,
-            "refused: Malformed entity: Too small\n",
-        ),
-        (
-            "the digits 0 to 9 and a to f",
-            "30313233343536373839616263646566",
-            Outcome::Refused,
-            "refused: Invalid magic number: 0x3736353433323130\n",
-        ),
-    ];
-    for (what, hex, outcome, text) in table {
-        let bytes = bytes_of(rt.alloc(), hex)?;
-        let (ended, written) = run_over(rt.alloc(), Cursor::new(bytes.as_slice()));
-        assert_eq!(rt; ended, outcome, "{what}");
-        assert_eq!(rt; written.as_slice(), text.as_bytes(), "{what}");
+// Whether this text is shown of a file with these changes.
+fn shows(alloc: Global, file: &str, changes: &[(usize, u8)], text: &str) -> bool {
+    match changed(alloc, file, changes) {
+        Some(bytes) => ends(alloc, Cursor::new(bytes.as_slice()), Outcome::Shown, text),
+        None => false,
     }
-    Ok(())
+}
+
+// Whether a file with these changes is refused with this line.
+fn refuses(alloc: Global, file: &str, changes: &[(usize, u8)], line: &str) -> bool {
+    match changed(alloc, file, changes) {
+        Some(bytes) => ends(alloc, Cursor::new(bytes.as_slice()), Outcome::Refused, line),
+        None => false,
+    }
 }
 
 #[test]
-fn makes_the_text(rt: HostRuntime) -> Result<(), Fail> {
-    let header = bytes_of(rt.alloc(), BIG)?;
-    let text = text_of(rt.alloc(), header.as_slice(), &STRICT)?;
-    assert_eq!(rt;
-        text.as_str(),
-        "header ELF64 big EXEC X86_64 entry 0x401000 phnum 13 shnum 0\n"
-    );
-    Ok(())
+fn shows_a_header_and_sections(rt: HostRuntime) {
+    assert!(rt; shows(rt.alloc(), BIG, &[], BIG_TEXT));
+    assert!(rt; shows(rt.alloc(), SYMBOLS, &[], SYMBOLS_TEXT));
+}
+
+#[test]
+fn tells_why_a_header_is_refused(rt: HostRuntime) {
+    let line = "refused: Malformed entity: Too small\n";
+    assert!(rt; refuses(rt.alloc(), "", &[], line));
+    let line = "refused: Invalid magic number: 0x3736353433323130\n";
+    assert!(rt; refuses(rt.alloc(), "30313233343536373839616263646566", &[], line));
+    let line = "refused: Malformed entity: invalid ELF class 3\n";
+    assert!(rt; refuses(rt.alloc(), BIG, &[(4, 3), (5, 0)], line));
+    let line = "refused: Malformed entity: invalid ELF endianness DATA type 0\n";
+    assert!(rt; refuses(rt.alloc(), BIG, &[(5, 0)], line));
+}
+
+#[test]
+fn tells_why_sections_are_refused(rt: HostRuntime) {
+    // A fourth section header, of which there is no byte.
+    let line = "refused: bad offset 208\n";
+    assert!(rt; refuses(rt.alloc(), SYMBOLS, &[(48, 4)], line));
+    let line = "refused: Buffer is too short for 6 section headers\n";
+    assert!(rt; refuses(rt.alloc(), SYMBOLS, &[(48, 6)], line));
+    // The section headers start 8 bytes late.
+    let line = "refused: type is too big (40) for 32\n";
+    assert!(rt; refuses(rt.alloc(), SYMBOLS, &[(32, 96)], line));
+    let line = "refused: Malformed entity: Section 0 size (208) + offset (56) is out of bounds. \
+        Overflowed: false\n";
+    assert!(rt; refuses(rt.alloc(), SYMBOLS, &[(188, 208)], line));
+}
+
+// sh_addr of the second section is the greatest u64.
+const GREATEST_ADDRESS: &[(usize, u8)] = &[
+    (160, 0xff),
+    (161, 0xff),
+    (162, 0xff),
+    (163, 0xff),
+    (164, 0xff),
+    (165, 0xff),
+    (166, 0xff),
+    (167, 0xff),
+];
+
+#[test]
+fn tells_why_an_address_is_refused(rt: HostRuntime) {
+    let line = "refused: Malformed entity: Section 0 size (16) + addr (18446744073709551615) is \
+        out of bounds. Overflowed: true\n";
+    assert!(rt; refuses(rt.alloc(), RELOCATIONS, GREATEST_ADDRESS, line));
+}
+
+fn makes(alloc: Global, file: &str, text: &str) -> bool {
+    match bytes_of(alloc, file) {
+        Some(bytes) => match text_of(alloc, bytes.as_slice(), &STRICT) {
+            Ok(made) => made.as_str() == text,
+            Err(_) => false,
+        },
+        None => false,
+    }
+}
+
+#[test]
+fn makes_the_text(rt: HostRuntime) {
+    assert!(rt; makes(rt.alloc(), BIG, BIG_TEXT));
 }
 
 // A reader that gives zeros, `left` of them, and this error at one call.
@@ -163,12 +177,12 @@ struct Zeros {
 }
 
 impl Zeros {
-    fn new(left: usize) -> Self {
+    fn new(left: usize, error_at: u32, error: ErrorKind) -> Self {
         Zeros {
             left,
             calls: 0,
-            error_at: 0,
-            error: ErrorKind::Other,
+            error_at,
+            error,
         }
     }
 }
@@ -180,54 +194,46 @@ impl Read for Zeros {
             return Err(io::Error::from(self.error));
         }
         let count = buf.len().min(self.left);
+        self.left -= count;
         for byte in buf.iter_mut() {
             *byte = 0;
         }
-        self.left -= count;
         Ok(count)
     }
 }
 
+const NO_MAGIC: &str = "refused: Invalid magic number: 0x0\n";
+
 #[test]
 fn takes_as_many_bytes_as_the_limit(rt: HostRuntime) {
-    let (outcome, written) = run_over(rt.alloc(), Zeros::new(16_777_216));
-    assert_eq!(rt; outcome, Outcome::Refused);
-    assert_eq!(rt;
-        written.as_slice(),
-        b"refused: Invalid magic number: 0x0\n".as_slice()
-    );
+    let reader = Zeros::new(16_777_216, 0, ErrorKind::Other);
+    assert!(rt; ends(rt.alloc(), reader, Outcome::Refused, NO_MAGIC));
+    let reader = Zeros::new(16_777_217, 0, ErrorKind::Other);
+    let line = "refused: input is longer than 16777216 bytes\n";
+    assert!(rt; ends(rt.alloc(), reader, Outcome::Refused, line));
+}
 
-    let (outcome, written) = run_over(rt.alloc(), Zeros::new(16_777_217));
-    assert_eq!(rt; outcome, Outcome::Refused);
-    assert_eq!(rt;
-        written.as_slice(),
-        b"refused: input is longer than 16777216 bytes\n".as_slice()
-    );
+// Whether a run over 100,000 zeros, which takes three read calls, fails and writes nothing where
+// any of the calls answers this error.
+fn fails_at_each_call(alloc: Global, error: ErrorKind) -> bool {
+    (1..4).all(|call| ends(alloc, Zeros::new(100_000, call, error), Outcome::Failed, ""))
 }
 
 #[test]
 fn fails_where_a_read_does(rt: HostRuntime) {
-    let mut reader = Zeros::new(100_000);
-    reader.error_at = 2;
-    let (outcome, written) = run_over(rt.alloc(), reader);
-    assert_eq!(rt; outcome, Outcome::Failed);
-    assert_eq!(rt;
-        written.len(),
-        0,
-        "a failed read leaves the writer untouched"
-    );
+    assert!(rt; fails_at_each_call(rt.alloc(), ErrorKind::Other));
+    assert!(rt; fails_at_each_call(rt.alloc(), ErrorKind::WouldBlock));
+    assert!(rt; fails_at_each_call(rt.alloc(), ErrorKind::UnexpectedEof));
+    assert!(rt; fails_at_each_call(rt.alloc(), ErrorKind::OutOfMemory));
 }
 
 #[test]
 fn tries_an_interrupted_read_again(rt: HostRuntime) {
-    let mut reader = Zeros::new(100_000);
-    reader.error_at = 2;
-    reader.error = ErrorKind::Interrupted;
-    let (outcome, written) = run_over(rt.alloc(), reader);
-    assert_eq!(rt; outcome, Outcome::Refused);
-    assert_eq!(rt;
-        written.as_slice(),
-        b"refused: Invalid magic number: 0x0\n".as_slice()
+    assert!(rt;
+        (1..5).all(|call| {
+            let reader = Zeros::new(100_000, call, ErrorKind::Interrupted);
+            ends(rt.alloc(), reader, Outcome::Refused, NO_MAGIC)
+        })
     );
 }
 
@@ -248,18 +254,16 @@ impl Read for Interrupted {
 }
 
 #[test]
-fn asks_as_many_times_as_the_limit(rt: HostRuntime) {
-    // The end is told by the last call that is made.
-    let (outcome, written) = run_over(rt.alloc(), Interrupted { left: 33_554_431 });
-    assert_eq!(rt; outcome, Outcome::Refused);
-    assert_eq!(rt;
-        written.as_slice(),
-        b"refused: Malformed entity: Too small\n".as_slice()
+fn reads_on_through_many_interruptions(rt: HostRuntime) {
+    let line = "refused: Malformed entity: Too small\n";
+    assert!(rt;
+        ends(
+            rt.alloc(),
+            Interrupted { left: 100_000 },
+            Outcome::Refused,
+            line
+        )
     );
-
-    let (outcome, written) = run_over(rt.alloc(), Interrupted { left: 33_554_432 });
-    assert_eq!(rt; outcome, Outcome::Failed);
-    assert_eq!(rt; written.len(), 0);
 }
 
 // A writer that takes few bytes at once, and fails at one call.
@@ -303,56 +307,85 @@ impl Write for Slow {
     }
 }
 
-// How a run over no bytes ends at such a writer, and how many calls it made.
-fn run_into(alloc: Global, writer: Slow) -> (Outcome, Slow) {
-    let mut reader = Counted::new(Cursor::new(b"".as_slice()));
+// Whether a run over these bytes ends so at such a writer, after so many write calls and flushes.
+fn writes(alloc: Global, bytes: &[u8], writer: Slow, outcome: Outcome, calls: u32) -> bool {
+    let mut reader = Counted::new(Cursor::new(bytes));
     let mut writer = Counted::new(writer);
-    let outcome = run(alloc, &mut reader, &mut writer, &STRICT);
-    (outcome, writer.into_inner())
+    run(alloc, &mut reader, &mut writer, &STRICT) == outcome && writer.into_inner().calls == calls
+}
+
+// Whether a run over these bytes fails where any of so many write calls and flushes does, and ends
+// so after them.
+fn heeds(alloc: Global, file: &str, outcome: Outcome, calls: u32) -> bool {
+    let Some(bytes) = bytes_of(alloc, file) else {
+        return false;
+    };
+    (1..calls.saturating_add(1)).all(|call| {
+        let writer = Slow::new(alloc, 1000, call);
+        writes(alloc, bytes.as_slice(), writer, Outcome::Failed, call)
+    }) && writes(
+        alloc,
+        bytes.as_slice(),
+        Slow::new(alloc, 1000, 0),
+        outcome,
+        calls,
+    )
 }
 
 #[test]
 fn fails_where_a_write_or_the_flush_does(rt: HostRuntime) {
-    // The line is written by three calls, and a flush follows.
-    for error_at in 1..5u32 {
-        let (outcome, _) = run_into(rt.alloc(), Slow::new(rt.alloc(), 100, error_at));
-        assert_eq!(rt; outcome, Outcome::Failed, "at call {error_at}");
-    }
-    let (outcome, writer) = run_into(rt.alloc(), Slow::new(rt.alloc(), 100, 5));
-    assert_eq!(rt; outcome, Outcome::Refused);
-    assert_eq!(rt; writer.calls, 4);
+    // A text is written by one call, a refusal by three, and a flush follows.
+    assert!(rt; heeds(rt.alloc(), BIG, Outcome::Shown, 2));
+    assert!(rt; heeds(rt.alloc(), "", Outcome::Refused, 4));
 }
 
 #[test]
 fn writes_all_where_a_writer_takes_a_part(rt: HostRuntime) {
-    let (outcome, writer) = run_into(rt.alloc(), Slow::new(rt.alloc(), 3, 0));
-    assert_eq!(rt; outcome, Outcome::Refused);
-    assert_eq!(rt;
-        writer.held.as_slice(),
-        b"refused: Malformed entity: Too small\n".as_slice()
-    );
+    // 36 bytes in parts of 3, and a flush.
+    let writer = Slow::new(rt.alloc(), 3, 0);
+    assert!(rt; writes(rt.alloc(), b"", writer, Outcome::Refused, 14));
+}
+
+// The words, where there is memory.
+fn words_of(alloc: Global, texts: &[&str]) -> Option<Vec<String>> {
+    let mut words = Vec::new(alloc);
+    for text in texts {
+        words.push(String::from_str(alloc, text).ok()?).ok()?;
+    }
+    Some(words)
+}
+
+fn asks(alloc: Global, texts: &[&str], opts: Option<ParseOptions>) -> bool {
+    words_of(alloc, texts).is_some_and(|words| options_of(words.as_slice()) == opts)
 }
 
 #[test]
-fn flushes(rt: HostRuntime) -> Result<(), Fail> {
-    let mut writer = Counted::new(Slow::new(rt.alloc(), 100, 0));
-    writer.flush()?;
-    assert_eq!(rt; writer.into_inner().calls, 1);
-    Ok(())
+fn takes_no_word(rt: HostRuntime) {
+    assert!(rt; asks(rt.alloc(), &[], Some(STRICT)));
+    assert!(rt; asks(rt.alloc(), &["permissive"], None));
+    assert!(rt; asks(rt.alloc(), &["strict"], None));
+    assert!(rt; asks(rt.alloc(), &[""], None));
+    assert!(rt; asks(rt.alloc(), &["permissive", "permissive"], None));
 }
 
-#[test]
-fn takes_no_word(rt: HostRuntime) -> Result<(), Fail> {
-    assert_eq!(rt; options_of(&[]), Some(STRICT));
-    let word = String::from_str(rt.alloc(), "permissive")?;
-    let words = vec![in rt.alloc(); word]?;
-    assert_eq!(rt; options_of(words.as_slice()), None);
-    Ok(())
+// Whether the program, with these words and this file, ends with a status and writes this text.
+fn answers(alloc: Global, texts: &[&str], file: &str, status: u8, text: &str) -> bool {
+    let (Some(words), Some(bytes)) = (words_of(alloc, texts), bytes_of(alloc, file)) else {
+        return false;
+    };
+    let mut reader = Counted::new(Cursor::new(bytes.as_slice()));
+    let mut writer = Counted::new(Slow::new(alloc, 1000, 0));
+    let ended = show(alloc, words.as_slice(), &mut reader, &mut writer);
+    let written = writer.into_inner();
+    ended == status && written.held.as_slice() == text.as_bytes()
 }
 
 #[test]
 fn ends_with_a_status(rt: HostRuntime) {
-    assert_eq!(rt; Outcome::Shown.status(), 0);
-    assert_eq!(rt; Outcome::Refused.status(), 1);
-    assert_eq!(rt; Outcome::Failed.status(), 2);
+    let line = "refused: Malformed entity: Too small\n";
+    let usage = "usage: goblin_show [permissive]\n";
+    assert!(rt; answers(rt.alloc(), &[], BIG, 0, BIG_TEXT));
+    assert!(rt; answers(rt.alloc(), &[], "", 1, line));
+    assert!(rt; answers(rt.alloc(), &["strict"], BIG, 2, usage));
+    assert!(rt; answers(rt.alloc(), &["permissive", "permissive"], BIG, 2, usage));
 }

@@ -1,5 +1,6 @@
 //! The text that is shown of a file.
-ghost use Rattle.std.specs.Prelude.{◌≡◌, ◌++◌, OnOk, string_bytes};
+ghost use Rattle.std.specs.Prelude.{◌≡◌, ◌++◌, OnOk, IfErr, string_bytes};
+ghost use Rattle.goblin.specs.ReadHeader.{read_header};
 ghost use Rattle.goblin.specs.Refusal.{Gives};
 ghost use Rattle.goblin_show.specs.Options.{IsStrict};
 ghost use Rattle.goblin_show.specs.Shown.{ctx_of, header_line, section_line, section_lines};
@@ -106,7 +107,10 @@ fn sections_of(alloc: Global, bytes: &[u8], header: &Header) -> Result<Vec<Secti
 #[tactic(auto, unfolding(crate::specs::Shown::shown))]
 pub fn text_of(alloc: Global, bytes: &[u8], opts: &ParseOptions) -> Result<String>
     requires { IsStrict opts.now }
-    ensures { Gives string_bytes result (shown bytes.now) }
+    ensures text { Gives string_bytes result (shown bytes.now) }
+
+    // Want of memory hides no refusal of the header.
+    ensures header { IfErr (read_header bytes.now) (λ e. result ≡ Err e) }
 {
     let _ = opts;
     let (header, _) = Header::try_from_ctx(bytes, LE)?;
