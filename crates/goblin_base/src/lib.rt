@@ -15,5 +15,9 @@ pub mod strtab;
 pub mod table;
 #[cfg(test)]
 mod tests;
+#[cfg(test)]
+mod tests_strtab;
+#[cfg(test)]
+mod tests_walk;
 pub mod utf8;
 pub mod walk;

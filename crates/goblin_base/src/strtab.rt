@@ -297,8 +297,8 @@ fn texts<'a>(alloc: Global, entries: &Entries<'a>) -> Result<Vec<&'a str>>
 fn last_entry(entries: &Entries<'_>, offset: usize) -> Option<(usize, usize)>
     ensures { let places = places_of entries.now in
         MatchOption result
-            (EachIndex places (λ k. offset < slice_index places k))
-            (λ entry. IsLastUpTo places offset entry.0 × (entry.1 ≡ slice_index places entry.0)) }
+        (EachIndex places (λ k. offset < slice_index places k))
+        (λ entry. IsLastUpTo places offset entry.0 × (entry.1 ≡ slice_index places entry.0)) }
 {
     let mut probes = Probes::of(&*entries);
     let k = find(&mut probes, offset)?;

@@ -1,0 +1,180 @@
+//! Cases of string tables with their answers, and all short strings against plain readings.
+use crate::entries::{Entries, Looked, Probes};
+use crate::error::{Error, Result};
+use crate::find::find;
+use crate::options::{ParseMode, ParseOptions};
+use crate::scroll;
+use crate::strtab::{Strtab, laws};
+use crate::walk::walk;
+use std::alloc::Global;
+
+// "\nƒoo\nmemmove\n🅱️usta\n"
+const FOO: &[u8] = b"\n\xC6\x92oo\nmemmove\n\xF0\x9F\x85\xB1\xEF\xB8\x8Fusta\n";
+
+const NAMES: &[u8] = b"\0.text\0.data\0";
+
+const ZEROS: &[u8] = &[0; 4];
+
+const BUSTA: [&str; 4] = ["", "printf", "memmove", "busta"];
+
+// Whether the table has these strings.
+fn has_strings(alloc: Global, table: Result<Strtab<'_>>, strings: &[&str]) -> bool {
+    let Ok(table) = table else {
+        return false;
+    };
+    match table.to_vec(alloc) {
+        Ok(found) => found.as_slice() == strings,
+        Err(_) => false,
+    }
+}
+
+#[test]
+fn tells_the_strings(rt: HostRuntime) {
+    laws();
+    let a = rt.alloc();
+    let names = ["", ".text", ".data"];
+    assert!(rt; has_strings(a, Strtab::new_preparsed(a, NAMES, 0), &names));
+    assert!(rt; has_strings(a, Ok(Strtab::new(NAMES, 0)), &names));
+    let table = Strtab::new_preparsed(a, b"\0printf\0memmove\0busta", 0);
+    assert!(rt; has_strings(a, table, &BUSTA));
+    let table = Strtab::new_preparsed(a, b"printf\0memmove\0busta", 0);
+    assert!(rt; has_strings(a, table, &BUSTA[1..]));
+    let table = Strtab::new_preparsed(a, b"\0printf\0memmove\0busta\0", 0);
+    assert!(rt; has_strings(a, table, &BUSTA));
+    let table = Strtab::new_preparsed(a, b"\nprintf\nmemmove\nbusta\n", b'\n');
+    assert!(rt; has_strings(a, table, &BUSTA));
+    assert!(rt;
+        has_strings(
+            a,
+            Strtab::new_preparsed(a, b"\xC6\x92oo", b'\n'),
+            &["\u{192}oo"]
+        )
+    );
+}
+
+// Whether looking up each offset has its answer.
+fn looks_up(table: Result<Strtab<'_>>, answers: &[(usize, Option<&str>)]) -> bool {
+    match table {
+        Ok(table) => answers
+            .iter()
+            .all(|answer| table.get_at(answer.0) == answer.1),
+        Err(_) => false,
+    }
+}
+
+#[test]
+fn looks_up_offsets(rt: HostRuntime) {
+    let a = rt.alloc();
+    let answers = [(3, Some("ext")), (6, Some("")), (12, Some("")), (13, None)];
+    assert!(rt; looks_up(Strtab::new_preparsed(a, NAMES, 0), &answers));
+    assert!(rt; looks_up(Ok(Strtab::new(NAMES, 0)), &[(3, None)]));
+    assert!(rt;
+        looks_up(
+            Strtab::new_preparsed(a, b"a", 0),
+            &[(0, Some("a")), (1, None)]
+        )
+    );
+    let answers = [
+        (0, Some("")),
+        (5, Some("")),
+        (6, Some("memmove")),
+        (14, Some("\u{1f171}\u{fe0f}usta")),
+        (16, None),
+        (18, Some("\u{fe0f}usta")),
+        (21, Some("usta")),
+        (25, Some("")),
+        (26, None),
+    ];
+    assert!(rt; looks_up(Strtab::new_preparsed(a, FOO, b'\n'), &answers));
+}
+
+// Whether the plain reading, `get_unsafe` and `index` have this text.
+fn reads(table: &Strtab<'_>, offset: usize, text: &str) -> bool {
+    match table.get(offset) {
+        Some(Ok(found)) => {
+            found == text && table.index(offset) == text && table.get_unsafe(offset) == Some(text)
+        }
+        _ => false,
+    }
+}
+
+// Whether the plain reading refuses with a bad input of this size.
+fn cannot_read(table: &Strtab<'_>, offset: usize, bad: usize) -> bool {
+    match table.get(offset) {
+        Some(Err(Error::Scroll(scroll::Error::BadInput { size, msg }))) => {
+            size == bad && msg == "invalid utf8"
+        }
+        _ => false,
+    }
+}
+
+#[test]
+fn reads_plainly(rt: HostRuntime) {
+    let table = Strtab::new(NAMES, 0);
+    assert!(rt; table.len() == 13 && reads(&table, 3, "ext"));
+    assert!(rt; table.get(13).is_none() && table.get_unsafe(13).is_none());
+    assert!(rt; cannot_read(&Strtab::new(b"a\x80\0b", 0), 1, 3));
+    let part = Strtab::from_slice_unparsed(NAMES, 7, 3, 0);
+    assert!(rt; part.len() == 3 && reads(&part, 1, "da"));
+    let none = Strtab::default();
+    assert!(rt; none.len() == 0 && none.get(0).is_none());
+}
+
+// Whether the table is refused with this line.
+fn tells(alloc: Global, table: Result<Strtab<'_>>, line: &str) -> bool {
+    let Err(e) = table else {
+        return false;
+    };
+    match e.line(alloc) {
+        Ok(told) => told.as_str() == line,
+        Err(_) => false,
+    }
+}
+
+#[test]
+fn refuses_a_range_past_the_file(rt: HostRuntime) {
+    let a = rt.alloc();
+    let max = usize::MAX;
+    let line = "Malformed entity: String table offset (5) is beyond file boundary (4)";
+    assert!(rt; tells(a, Strtab::parse(a, ZEROS, 5, 0, 0), line));
+    let line = "Malformed entity: Strtable size (3) + offset (2) is out of bounds for 4 #bytes. \
+        Overflowed: false";
+    assert!(rt; tells(a, Strtab::parse(a, ZEROS, 2, 3, 0), line));
+    let line = "Malformed entity: Strtable size (1) + offset (4) is out of bounds for 4 #bytes. \
+        Overflowed: false";
+    assert!(rt; tells(a, Strtab::parse(a, ZEROS, 4, 1, 0), line));
+    let line = "Malformed entity: Strtable size (18446744073709551615) + offset (0) is out of \
+        bounds for 4 #bytes. Overflowed: false";
+    assert!(rt; tells(a, Strtab::parse(a, ZEROS, 0, max, 0), line));
+    let line = "Malformed entity: Strtable size (18446744073709551615) + offset (1) is out of \
+        bounds for 4 #bytes. Overflowed: true";
+    assert!(rt; tells(a, Strtab::parse(a, ZEROS, 1, max, 0), line));
+    let line = "Malformed entity: Strtable size (18446744073709551615) + offset (4) is out of \
+        bounds for 4 #bytes. Overflowed: true";
+    assert!(rt; tells(a, Strtab::parse(a, ZEROS, 4, max, 0), line));
+    assert!(rt; has_strings(a, Strtab::parse(a, ZEROS, 4, 0, 0), &[]));
+    assert!(rt;
+        tells(
+            a,
+            Strtab::new_preparsed(a, b"\x80\x80", b'\n'),
+            "bad input invalid utf8 (2)"
+        )
+    );
+}
+
+// Whether the permissive table has this length.
+fn is_cut_to(alloc: Global, offset: usize, len: usize, rest: usize) -> bool {
+    match Strtab::parse_with_opts(alloc, ZEROS, offset, len, 0, &ParseOptions::permissive()) {
+        Ok(table) => table.len() == rest,
+        Err(_) => false,
+    }
+}
+
+#[test]
+fn cuts_a_range_to_the_file(rt: HostRuntime) {
+    assert!(rt; is_cut_to(rt.alloc(), 5, 0, 0));
+    assert!(rt; is_cut_to(rt.alloc(), 2, 3, 2));
+    assert!(rt; is_cut_to(rt.alloc(), 4, 0, 0));
+    assert!(rt; is_cut_to(rt.alloc(), 1, usize::MAX, 3));
+    assert!(rt; is_cut_to(rt.alloc(), 1, 2, 2));
+}

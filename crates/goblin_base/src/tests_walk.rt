@@ -1,0 +1,376 @@
+//! Cases of the walk and the search with their counts, and all short strings against a plain walk that tries
+//! the whole piece at every byte.
+use crate::entries::{Entries, Looked, Probes};
+use crate::error::{Error, Result};
+use crate::find::find;
+use crate::options::{ParseMode, ParseOptions};
+use crate::scroll;
+use crate::strtab::Strtab;
+use crate::walk::walk;
+use std::alloc::Global;
+
+// Whether the entries are these.
+fn are_entries(entries: &Entries<'_>, want: &[(usize, &str)]) -> bool {
+    let mut probes = Probes::of(&*entries);
+    if entries.len() != want.len() || probes.len() != want.len() {
+        return false;
+    }
+    for i in 0..want.len() {
+        if i >= entries.len() || i >= probes.len() {
+            return false;
+        }
+        if probes.at(i) != want[i].0 || entries.text(i) != want[i].1 {
+            return false;
+        }
+    }
+    true
+}
+
+// Whether the permissive walk gives these entries within so many looks.
+fn walks(alloc: Global, bytes: &[u8], delim: u8, most: u128, want: &[(usize, &str)]) -> bool {
+    let mut view = Looked::new(bytes);
+    match walk(alloc, &mut view, delim, ParseMode::Permissive) {
+        Ok(entries) => view.count() <= most && are_entries(&entries, want),
+        Err(_) => false,
+    }
+}
+
+// Whether this is a bad input of so many bytes.
+fn is_bad_input(walked: &Result<Entries<'_>>, bad: usize) -> bool {
+    match walked {
+        Err(Error::Scroll(scroll::Error::BadInput { size, msg })) => {
+            *size == bad && *msg == "invalid utf8"
+        }
+        _ => false,
+    }
+}
+
+// Whether the strict walk refuses with a bad input of so many bytes, within five looks at each byte.
+fn refuses(alloc: Global, bytes: &[u8], delim: u8, bad: usize) -> bool {
+    let mut view = Looked::new(bytes);
+    let walked = walk(alloc, &mut view, delim, ParseMode::Strict);
+    is_bad_input(&walked, bad) && view.count() <= 5 * bytes.len() as u128
+}
+
+#[test]
+fn walks_damaged_pieces(rt: HostRuntime) {
+    let a = rt.alloc();
+    assert!(rt; walks(a, b"a\xFFb\0", 0, 20, &[(0, ""), (1, ""), (2, "b")]));
+    assert!(rt; refuses(a, b"a\xFFb\0", 0, 4));
+    assert!(rt;
+        walks(
+            a,
+            b"\xE1\x80\xC2\xA2",
+            0,
+            20,
+            &[(0, ""), (1, ""), (2, "\u{a2}")]
+        )
+    );
+    assert!(rt; walks(a, b"\xE2\x82\xAC", 0x82, 15, &[(0, ""), (1, ""), (2, "")]));
+    assert!(rt; refuses(a, b"\xE2\x82\xAC", 0x82, 3));
+    let entries = [(0, ""), (1, ""), (2, ""), (3, " ")];
+    assert!(rt; walks(a, b"\xF0\x9F\x85 ", 0, 20, &entries));
+    let entries = [(0, ""), (1, ""), (2, ""), (3, "")];
+    assert!(rt; walks(a, b"\xF4\x90\x80\x80", 0, 20, &entries));
+    assert!(rt; walks(a, b"\xED\xA0\x80", 0, 15, &entries[..3]));
+    assert!(rt; walks(a, b"\xED\x90\x80 ", 0, 20, &[(0, "\u{d400} ")]));
+    assert!(rt; walks(a, b"\xC2a", b'a', 10, &[(0, ""), (1, "")]));
+}
+
+// Whether the permissive walk gives an entry with no text at each byte, within five looks a byte.
+fn is_empty_at_each_byte(alloc: Global, bytes: &[u8]) -> bool {
+    let mut view = Looked::new(bytes);
+    let Ok(entries) = walk(alloc, &mut view, 0, ParseMode::Permissive) else {
+        return false;
+    };
+    let mut probes = Probes::of(&entries);
+    if entries.len() != bytes.len() || probes.len() != bytes.len() {
+        return false;
+    }
+    for i in 0..bytes.len() {
+        if i >= entries.len() || i >= probes.len() {
+            return false;
+        }
+        if probes.at(i) != i || !entries.text(i).is_empty() {
+            return false;
+        }
+    }
+    view.count() <= 5 * bytes.len() as u128
+}
+
+// So many bytes of one number, and then another.
+fn filled(alloc: Global, byte: u8, count: usize, last: u8) -> Option<Vec<u8>> {
+    let mut bytes = vec![in alloc; byte; count].ok()?;
+    bytes.push(last).ok()?;
+    Some(bytes)
+}
+
+// Whether so many bytes, the last of which is no text in any piece, are refused, and in permissive mode are
+// an entry with no text at each byte.
+fn walks_long(alloc: Global, byte: u8, count: usize, last: u8) -> bool {
+    match filled(alloc, byte, count, last) {
+        Some(bytes) => {
+            is_empty_at_each_byte(alloc, &bytes) && refuses(alloc, &bytes, 0, bytes.len())
+        }
+        None => false,
+    }
+}
+
+#[test]
+fn walks_a_thousand_bytes(rt: HostRuntime) {
+    assert!(rt; walks_long(rt.alloc(), 0x80, 999, 0x80));
+}
+
+#[test]
+fn walks_two_million_bytes(rt: HostRuntime) {
+    assert!(rt; walks_long(rt.alloc(), 0x61, 2097151, 0xFF));
+}
+
+// Whether a search for each offset up to the length takes at most so many probes.
+fn finds_within(alloc: Global, bytes: &[u8], delim: u8, most: u64) -> bool {
+    let mut view = Looked::new(bytes);
+    let Ok(entries) = walk(alloc, &mut view, delim, ParseMode::Permissive) else {
+        return false;
+    };
+    for offset in 0..bytes.len() {
+        let mut probes = Probes::of(&entries);
+        if find(&mut probes, offset).is_none() || probes.count() > most {
+            return false;
+        }
+    }
+    let mut probes = Probes::of(&entries);
+    find(&mut probes, bytes.len()).is_some() == (bytes.len() > 0) && probes.count() <= most
+}
+
+// Whether a search among a thousand entries takes at most ten probes.
+fn finds_among_a_thousand(alloc: Global) -> bool {
+    match filled(alloc, 0x80, 999, 0x80) {
+        Some(bytes) => finds_within(alloc, &bytes, 0, 10),
+        None => false,
+    }
+}
+
+#[test]
+fn finds_within_the_digits(rt: HostRuntime) {
+    let a = rt.alloc();
+    assert!(rt; finds_within(a, b"\0.text\0.data\0", 0, 2));
+    assert!(rt; finds_within(a, b"a", 0, 1));
+    let foo = b"\n\xC6\x92oo\nmemmove\n\xF0\x9F\x85\xB1\xEF\xB8\x8Fusta\n";
+    assert!(rt; finds_within(a, foo, b'\n', 3));
+    assert!(rt; finds_among_a_thousand(a));
+    assert!(rt; finds_within(a, b"", 0, 0));
+}
+
+// Whether each offset of so many zero bytes looks up the empty text.
+fn looks_up_each(alloc: Global, count: usize) -> bool {
+    let Ok(bytes) = vec![in alloc; 0u8; count] else {
+        return false;
+    };
+    match Strtab::new_preparsed(alloc, &bytes, 0) {
+        Ok(table) => (0..count).all(|offset| table.get_at(offset) == Some("")),
+        Err(_) => false,
+    }
+}
+
+#[test]
+fn looks_up_a_million_offsets(rt: HostRuntime) {
+    assert!(rt; looks_up_each(rt.alloc(), 1000000));
+}
+
+// ---- A plain model: each question is answered from the whole bytes.
+
+// Where the piece at a place ends.
+fn end(bytes: &[u8], delim: u8, place: usize) -> usize {
+    for end in place..bytes.len() {
+        if bytes[end] == delim {
+            return end;
+        }
+    }
+    bytes.len()
+}
+
+// The piece at each place as a text, where it is one.
+fn pieces(alloc: Global, bytes: &[u8], delim: u8) -> Option<Vec<Option<&str>>> {
+    let mut pieces = Vec::new(alloc);
+    for place in 0..bytes.len() {
+        let piece = bytes.get(place..end(bytes, delim, place))?;
+        pieces.push(std::str::from_utf8(piece).ok()).ok()?;
+    }
+    Some(pieces)
+}
+
+// The plain walk: the place and the text of each entry, and the first place whose piece is no text.
+fn plain_walk<'a>(
+    alloc: Global,
+    pieces: &[Option<&'a str>],
+) -> Option<(Vec<(usize, &'a str)>, Option<usize>)> {
+    let mut entries = Vec::new(alloc);
+    let mut bad = None;
+    let mut next = 0;
+    for place in 0..pieces.len() {
+        if place == next {
+            let text = pieces[place].unwrap_or("");
+            entries.push((place, text)).ok()?;
+            next = place.saturating_add(text.len()).saturating_add(1);
+            if pieces[place].is_none() {
+                bad = bad.or(Some(place));
+            }
+        }
+    }
+    Some((entries, bad))
+}
+
+// The look-up: the piece if it is text; else nothing, unless no place of the whole piece up to there has
+// a text.
+fn plain_look_up<'a>(
+    pieces: &[Option<&'a str>],
+    bytes: &[u8],
+    delim: u8,
+    offset: usize,
+) -> Option<&'a str> {
+    let piece = pieces.get(offset)?;
+    if piece.is_some() {
+        return *piece;
+    }
+    for start in (0..offset).rev() {
+        if bytes.get(start) == Some(&delim) {
+            break;
+        }
+        if pieces.get(start)?.is_some() {
+            return None;
+        }
+    }
+    Some("")
+}
+
+// The index of the last entry at or before an offset.
+fn plain_find(entries: &[(usize, &str)], offset: usize) -> Option<usize> {
+    let mut found = None;
+    for i in 0..entries.len() {
+        if entries[i].0 <= offset {
+            found = Some(i);
+        }
+    }
+    found
+}
+
+// How many binary digits a number has.
+fn digits(number: usize) -> u64 {
+    u64::from(usize::BITS.saturating_sub(number.leading_zeros()))
+}
+
+// Whether the walk in both modes gives what the plain one does, within five looks at each byte.
+fn walks_plainly(
+    alloc: Global,
+    bytes: &[u8],
+    delim: u8,
+    want: &[(usize, &str)],
+    bad: Option<usize>,
+) -> bool {
+    let most = 5 * bytes.len() as u128;
+    let mut view = Looked::new(bytes);
+    let strict = walk(alloc, &mut view, delim, ParseMode::Strict);
+    let same = match bad {
+        Some(place) => is_bad_input(&strict, bytes.len().saturating_sub(place)),
+        None => match &strict {
+            Ok(entries) => are_entries(entries, want),
+            Err(_) => false,
+        },
+    };
+    same && view.count() <= most && walks(alloc, bytes, delim, most, want)
+}
+
+// Whether looking up each offset up to the length answers what the plain look-up does.
+fn looks_up_plainly(alloc: Global, bytes: &[u8], delim: u8, pieces: &[Option<&str>]) -> bool {
+    let options = ParseOptions::permissive();
+    match Strtab::parse_with_opts(alloc, bytes, 0, bytes.len(), delim, &options) {
+        Ok(table) => (0..=bytes.len()).all(|offset| table.get_at(offset)
+            == plain_look_up(pieces, bytes, delim, offset)),
+        Err(_) => false,
+    }
+}
+
+// Whether searching for each offset up to the length answers what the plain search does, within the digits
+// of the number of entries.
+fn finds_plainly(alloc: Global, bytes: &[u8], delim: u8, want: &[(usize, &str)]) -> bool {
+    let mut view = Looked::new(bytes);
+    match walk(alloc, &mut view, delim, ParseMode::Permissive) {
+        Ok(entries) => (0..=bytes.len()).all(|offset| finds_one_plainly(&entries, offset, want)),
+        Err(_) => false,
+    }
+}
+
+// The same for one offset.
+fn finds_one_plainly(entries: &Entries<'_>, offset: usize, want: &[(usize, &str)]) -> bool {
+    let mut probes = Probes::of(&*entries);
+    find(&mut probes, offset) == plain_find(want, offset) && probes.count() <= digits(want.len())
+}
+
+// Whether all of this holds of the bytes.
+fn agrees(alloc: Global, bytes: &[u8], delim: u8) -> bool {
+    let Some(pieces) = pieces(alloc, bytes, delim) else {
+        return false;
+    };
+    match plain_walk(alloc, &pieces) {
+        Some((want, bad)) => {
+            walks_plainly(alloc, bytes, delim, &want, bad)
+                && looks_up_plainly(alloc, bytes, delim, &pieces)
+                && finds_plainly(alloc, bytes, delim, &want)
+        }
+        None => false,
+    }
+}
+
+const DELIMITERS: [u8; 4] = [0x00, 0x61, 0x82, 0xC2];
+
+const ALPHABET: [u8; 13] = [
+    0x00, 0x20, 0x61, 0x80, 0x82, 0x90, 0xA0, 0xC2, 0xE2, 0xED, 0xF0, 0xF4, 0xFF,
+];
+
+// The four bytes of the alphabet that a number below 13 ^ 4 spells.
+fn spelled(number: usize) -> [u8; 4] {
+    [
+        ALPHABET[number % 13],
+        ALPHABET[number / 13 % 13],
+        ALPHABET[number / 169 % 13],
+        ALPHABET[number / 2197 % 13],
+    ]
+}
+
+// The first of so many strings of a length at which a delimiter shows a difference.
+fn first_difference(alloc: Global, len: usize, count: usize) -> Option<usize> {
+    (0..count).find(|number| {
+        let bytes = spelled(*number);
+        !DELIMITERS.iter().all(|delim| agrees(alloc, bytes.get(..len).unwrap_or(&[]), *delim))
+    })
+}
+
+#[test]
+fn agrees_on_all_short_strings(rt: HostRuntime) {
+    assert_eq!(rt; first_difference(rt.alloc(), 0, 1), None);
+    assert_eq!(rt; first_difference(rt.alloc(), 1, 13), None);
+    assert_eq!(rt; first_difference(rt.alloc(), 2, 169), None);
+    assert_eq!(rt; first_difference(rt.alloc(), 3, 2197), None);
+    assert_eq!(rt; first_difference(rt.alloc(), 4, 28561), None);
+}
+
+// Whether it holds of so many repetitions of some bytes.
+fn agrees_repeated(alloc: Global, part: &[u8], count: usize) -> bool {
+    let mut bytes = Vec::new(alloc);
+    for _ in 0..count {
+        if bytes.extend_from_slice(part).is_err() {
+            return false;
+        }
+    }
+    agrees(alloc, &bytes, 0)
+}
+
+#[test]
+fn agrees_on_long_strings(rt: HostRuntime) {
+    assert!(rt; agrees_repeated(rt.alloc(), b"\x80", 9));
+    assert!(rt; agrees_repeated(rt.alloc(), b"\x80", 10));
+    assert!(rt; agrees_repeated(rt.alloc(), b"\x80", 100));
+    assert!(rt; agrees_repeated(rt.alloc(), b"\x80", 4096));
+    assert!(rt; agrees_repeated(rt.alloc(), b"\xE1\x80", 2048));
+    assert!(rt; agrees_repeated(rt.alloc(), b"\xF0\x9F\x85", 1365));
+}
