@@ -61,8 +61,7 @@ read_names class order bytes ident enough is starts named ordered =
     let begins : magic ≡ take 4 bytes = (bytes_eq-Decides magic (take 4 bytes)).0 starts in
     let long : length (take 16 bytes) ≡ 16 = length-take-le 16 bytes enough in
     let front : take 4 ident ≡ take 4 bytes =
-    ap (take 4) is ∙ sym (take-append-le 4 (take 16 bytes) (drop 16 bytes) (omega arith)) ∙ ap (take 4) (take-append-drop 16 bytes) in
-    (
+    ap (take 4) is ∙ sym (take-append-le 4 (take 16 bytes) (drop 16 bytes) (omega arith)) ∙ ap (take 4) (take-append-drop 16 bytes) in (
       front ∙ sym begins,
       ap class_named (ident_byte ident bytes 4 is (omega arith)) ∙ named,
       (ap length is ∙ long, ap order_named (ident_byte ident bytes 5 is (omega arith)) ∙ ordered),
@@ -92,8 +91,7 @@ writes_back h bytes new size answer are read so =
     let class = from.0 in
     let order = from.1 in
     let names = from.2 in
-    let wrote = writes_there class order h bytes new answer names.1 names.2.1 from.5 so in
-    (
+    let wrote = writes_there class order h bytes new answer names.1 names.2.1 from.5 so in (
       wrote.0 ∙ ap (λ (n : ℕ). Ok n) (sym from.3),
       over_itself (header_size class) (header_image class order h) bytes new wrote.1 from.4,
     )

@@ -199,8 +199,8 @@ pub(crate) fn order_of(byte: u8) -> Option<Endian>
 
 // The identification at the start of the bytes.
 pub(crate) fn ident_of(bytes: &[u8]) -> [u8; SIZEOF_IDENT]
-    requires { 16 ≤ length bytes.now }
-    ensures { result ≡ take 16 bytes.now }
+    requires { SIZEOF_IDENT ≤ length bytes.now }
+    ensures { result ≡ take SIZEOF_IDENT bytes.now }
 {
     let mut ident = [0; SIZEOF_IDENT];
     ident.copy_from_slice(&bytes[..SIZEOF_IDENT]);
@@ -209,9 +209,9 @@ pub(crate) fn ident_of(bytes: &[u8]) -> [u8; SIZEOF_IDENT]
 
 // Puts an identification at the start of the bytes.
 pub(crate) fn put_ident(bytes: &mut [u8], ident: &[u8; SIZEOF_IDENT])
-    requires { 16 ≤ length bytes.old }
-    ensures front { bytes.new ≡ ident.now ++ drop 16 bytes.old }
-    ensures long { length ident.now ≡ 16 }
+    requires { SIZEOF_IDENT ≤ length bytes.old }
+    ensures front { bytes.new ≡ ident.now ++ drop SIZEOF_IDENT bytes.old }
+    ensures long { length ident.now ≡ SIZEOF_IDENT }
 {
     bytes[..SIZEOF_IDENT].copy_from_slice(ident);
 }

@@ -72,12 +72,14 @@ impl ProgramHeader {
     }
 
     /// The first `n` program headers of the bytes, read in little byte order. The bytes must hold so
-    /// many. Only want of memory is an error.
+    /// many. Only want of memory is an error, and a list of none takes no memory.
+    #[tactic(auto, using(goblin_base::specs::TableLaws::no_records))]
     pub fn from_bytes(alloc: Global, bytes: &[u8], n: usize) -> Result<Vec<ProgramHeader>>
         requires { n * SIZEOF_PHDR ≤ length bytes.now }
         ensures ok { IfOk result (λ v.
             v.items ≡ records SIZEOF_PHDR (program_header32_of endian.Little) n bytes.now) }
         ensures err { IfErr result (λ e. e ≡ Error.Memory alloc_error) }
+        ensures none { (n ≡ 0) → IsOk result }
     {
         Table::<ProgramHeader, Endian>::of(bytes, n, LE).to_vec(alloc)
     }

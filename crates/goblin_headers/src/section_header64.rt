@@ -1,5 +1,6 @@
 //! Section headers of the 64-bit class: System V gABI, "Section Header" (`Elf64_Shdr`).
-ghost use Rattle.std.specs.Prelude.{◌≡◌, ◌≤◌, ◌*◌, ◌++◌, [], ◌∷◌, length, drop, map, IfErr, IfOk, alloc_error};
+ghost use Rattle.std.specs.Prelude.{◌≡◌, ◌≤◌, ◌*◌, ◌++◌, [], ◌∷◌, length, drop, map, IfErr, IfOk, IsOk};
+ghost use Rattle.std.specs.Prelude.{alloc_error};
 ghost use Rattle.goblin_base.specs.declared.container.Endian.{Endian as ByteOrder};
 ghost use Rattle.goblin_base.specs.Layout.{IsOneImage};
 ghost use Rattle.goblin_base.specs.Record.{read_within, Writes};
@@ -53,12 +54,14 @@ impl SectionHeader {
     ghost use Rattle.goblin_base.specs.declared.container.Endian.TheVariants as endian;
 
     /// The first `n` section headers of the bytes, read in little byte order. The bytes must hold so
-    /// many. Only want of memory is an error.
+    /// many. Only want of memory is an error, and a list of none takes no memory.
+    #[tactic(auto, using(goblin_base::specs::TableLaws::no_records))]
     pub fn from_bytes(alloc: Global, bytes: &[u8], n: usize) -> Result<Vec<SectionHeader>>
         requires { n * SIZEOF_SHDR ≤ length bytes.now }
         ensures ok { IfOk result (λ v.
             v.items ≡ records SIZEOF_SHDR (section_header64_of endian.Little) n bytes.now) }
         ensures err { IfErr result (λ e. e ≡ Error.Memory alloc_error) }
+        ensures none { (n ≡ 0) → IsOk result }
     {
         Table::<SectionHeader, Endian>::of(bytes, n, LE).to_vec(alloc)
     }

@@ -64,9 +64,20 @@ pub(crate) fn says<T: Drop>(alloc: Global, answer: Answer<T>, text: &str) -> boo
     }
 }
 
+// Whether the answer is these records.
+pub(crate) fn gives<R: PartialEq + Drop>(answer: Answer<Vec<R>>, records: &[R]) -> bool {
+    match answer {
+        Ok(read) => read.as_slice() == records,
+        Err(_) => false,
+    }
+}
+
 // Whether these bytes stand in front, and all behind them is as before, 0xaa.
 pub(crate) fn stands(room: &[u8], bytes: &[u8]) -> bool {
-    room.starts_with(bytes) && room.iter().skip(bytes.len()).all(|byte| *byte == 0xaa)
+    match room.strip_prefix(bytes) {
+        Some(rest) => rest.iter().all(|byte| *byte == 0xaa),
+        None => false,
+    }
 }
 
 fn reads(bytes: &[u8], order: Endian, header: Header) -> bool {

@@ -4,12 +4,13 @@ use crate::section_header::{
     SHT_GNU_VERSYM, SHT_HIUSER, SHT_NOBITS, SHT_NUM, SHT_PROGBITS, SHT_REL, SHT_RELA,
     SHT_SUNW_MOVE, SHT_X86_64_UNWIND, SectionHeader, shf_to_str, sht_to_str,
 };
-use crate::tests::{BIG64, LITTLE32, says, stands};
+use crate::tests::{BIG64, LITTLE32, gives, says, stands};
 use crate::{section_header, section_header32, section_header64};
 use goblin_base::container::{BE, Ctx, LE};
 use goblin_base::error::Result as Answer;
 use goblin_base::scroll::{IntoCtx, SizeWith, TryFromCtx, TryIntoCtx};
 use std::alloc::Global;
+use std::ops::Range;
 
 // A section header of the 64-bit class in big byte order, each field with a number of its own.
 const BIG: &[u8; 64] = b"\x00\x00\x00\x07\x00\x00\x00\x01\x00\x00\x00\x00\x00\x00\x00\x06\
@@ -193,25 +194,23 @@ fn asks_for_relocations(rt: HostRuntime) {
     assert!(rt; !of_type(SHT_PROGBITS).is_relocation());
 }
 
+fn has_ranges(header: &SectionHeader, file: Option<Range<usize>>, memory: Range<usize>) -> bool {
+    header.file_range() == file && header.vm_range() == memory
+}
+
 #[test]
 fn tells_ranges(rt: HostRuntime) {
-    assert!(rt;
-        section()
-            .file_range()
-            .is_some_and(|range| range == (0x1000..0x1020))
-    );
-    assert!(rt; section().vm_range() == (0x401000..0x401020));
-    assert!(rt; of_type(SHT_NOBITS).file_range().is_none());
+    let memory = 0x401000..0x401020;
+    assert!(rt; has_ranges(&section(), Some(0x1000..0x1020), memory));
+    let memory = 0x401000..0x401020;
+    assert!(rt; has_ranges(&of_type(SHT_NOBITS), None, memory));
     let far = SectionHeader {
         sh_addr: u64::MAX - 1,
         sh_offset: u64::MAX,
         ..section()
     };
-    assert!(rt;
-        far.file_range()
-            .is_some_and(|range| range == (usize::MAX..usize::MAX))
-    );
-    assert!(rt; far.vm_range() == (usize::MAX - 1..usize::MAX));
+    let file = Some(usize::MAX..usize::MAX);
+    assert!(rt; has_ranges(&far, file, usize::MAX - 1..usize::MAX));
 }
 
 // A section of 50 bytes: its type, offset and address, and the text of its check against a file of
@@ -366,41 +365,27 @@ fn first() -> SectionHeader {
     }
 }
 
-fn gives(alloc: Global, count: usize, headers: &[SectionHeader]) -> bool {
-    match SectionHeader::parse(alloc, &file(), 16, count, BIG64) {
-        Ok(read) => read.as_slice() == headers,
-        Err(_) => false,
-    }
+fn read(alloc: Global, count: usize, headers: &[SectionHeader]) -> bool {
+    gives(
+        SectionHeader::parse(alloc, &file(), 16, count, BIG64),
+        headers,
+    )
 }
 
 // Where the count is 0, the first header's size is the count.
 #[test]
 fn reads_the_section_headers_of_a_file(rt: HostRuntime) {
-    assert!(rt; gives(rt.alloc(), 2, &[first(), section()]));
-    assert!(rt; gives(rt.alloc(), 1, &[first()]));
-    assert!(rt; gives(rt.alloc(), 0, &[first(), section()]));
+    assert!(rt; read(rt.alloc(), 2, &[first(), section()]));
+    assert!(rt; read(rt.alloc(), 1, &[first()]));
+    assert!(rt; read(rt.alloc(), 0, &[first(), section()]));
 }
 
 #[test]
 fn reads_one_section_header_of_zeros(rt: HostRuntime) {
     let one = SectionHeader::parse_from(rt.alloc(), &[0; 64], 0, 0, BIG64);
-    assert!(rt; one.is_ok_and(|read| read.as_slice() == [SectionHeader::default()].as_slice()));
+    assert!(rt; gives(one, &[SectionHeader::default()]));
     let one = SectionHeader::parse_from(rt.alloc(), &[0; 40], 0, 0, LITTLE32);
-    assert!(rt; one.is_ok_and(|read| read.as_slice() == [SectionHeader::default()].as_slice()));
-}
-
-fn gives32(alloc: Global, bytes: &[u8; 80], headers: &[section_header32::SectionHeader]) -> bool {
-    match section_header32::SectionHeader::from_bytes(alloc, bytes, 2) {
-        Ok(read) => read.as_slice() == headers,
-        Err(_) => false,
-    }
-}
-
-fn gives64(alloc: Global, bytes: &[u8; 128], headers: &[section_header64::SectionHeader]) -> bool {
-    match section_header64::SectionHeader::from_bytes(alloc, bytes, 2) {
-        Ok(read) => read.as_slice() == headers,
-        Err(_) => false,
-    }
+    assert!(rt; gives(one, &[SectionHeader::default()]));
 }
 
 // 40 zero bytes, and a section of four bytes of names at 52.
@@ -412,8 +397,6 @@ const NAMES: &[u8; 80] =
 #[test]
 fn reads_raw_section_headers_from_bytes(rt: HostRuntime) {
     let none = section_header32::SectionHeader::default();
-    assert!(rt; none == section_header32::default_is_zeros() && none.sh_size == 0);
-    assert!(rt; gives32(rt.alloc(), &[0; 80], &[none, none]));
     let names = section_header32::SectionHeader {
         sh_name: 1,
         sh_type: 3,
@@ -421,10 +404,24 @@ fn reads_raw_section_headers_from_bytes(rt: HostRuntime) {
         sh_size: 4,
         ..none
     };
-    assert!(rt; gives32(rt.alloc(), NAMES, &[none, names]));
-    let none = section_header64::SectionHeader::default();
-    assert!(rt; none == section_header64::default_is_zeros() && none.sh_size == 0);
-    assert!(rt; gives64(rt.alloc(), &[0; 128], &[none, none]));
+    let two = section_header32::SectionHeader::from_bytes(rt.alloc(), NAMES, 2);
+    assert!(rt; gives(two, &[none, names]));
+}
+
+#[test]
+fn reads_32_bit_section_headers_of_zeros(rt: HostRuntime) {
+    let zeros = section_header32::default_is_zeros();
+    assert!(rt; zeros == section_header32::SectionHeader::default() && zeros.sh_size == 0);
+    let two = section_header32::SectionHeader::from_bytes(rt.alloc(), &[0; 80], 2);
+    assert!(rt; gives(two, &[zeros, zeros]));
+}
+
+#[test]
+fn reads_64_bit_section_headers_of_zeros(rt: HostRuntime) {
+    let zeros = section_header64::default_is_zeros();
+    assert!(rt; zeros == section_header64::SectionHeader::default() && zeros.sh_size == 0);
+    let two = section_header64::SectionHeader::from_bytes(rt.alloc(), &[0; 128], 2);
+    assert!(rt; gives(two, &[zeros, zeros]));
 }
 
 static TYPES: [(u32, &str); 18] = [

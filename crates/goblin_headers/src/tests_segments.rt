@@ -3,11 +3,12 @@ use crate::program_header::{
     PF_R, PF_W, PF_X, PT_ARM_EXIDX, PT_GNU_EH_FRAME, PT_GNU_RELRO, PT_GNU_STACK, PT_HIOS, PT_LOAD,
     PT_SUNWBSS, ProgramHeader, pt_to_str,
 };
-use crate::tests::{BIG64, LITTLE32, says, stands};
+use crate::tests::{BIG64, LITTLE32, gives, says, stands};
 use crate::{program_header, program_header32, program_header64};
 use goblin_base::container::{BE, Container, Ctx, LE};
 use goblin_base::scroll::{SizeWith, TryFromCtx, TryIntoCtx};
 use std::alloc::Global;
+use std::ops::Range;
 
 // A program header of the 64-bit class in big byte order, each field with a number of its own.
 const BIG: &[u8; 56] = b"\x00\x00\x00\x01\x00\x00\x00\x05\x00\x00\x00\x00\x00\x00\x10\x00\
@@ -154,10 +155,13 @@ fn sets_and_asks_flags(rt: HostRuntime) {
     assert!(rt; allows(&header) == [true, false, true]);
 }
 
+fn has_ranges(header: &ProgramHeader, file: Range<usize>, memory: Range<usize>) -> bool {
+    header.file_range() == file && header.vm_range() == memory
+}
+
 #[test]
 fn tells_ranges(rt: HostRuntime) {
-    assert!(rt; segment().file_range() == (0x1000..0x1040));
-    assert!(rt; segment().vm_range() == (0x402000..0x402050));
+    assert!(rt; has_ranges(&segment(), 0x1000..0x1040, 0x402000..0x402050));
     let far = ProgramHeader {
         p_offset: u64::MAX - 1,
         p_filesz: 2,
@@ -165,8 +169,7 @@ fn tells_ranges(rt: HostRuntime) {
         p_memsz: u64::MAX,
         ..segment()
     };
-    assert!(rt; far.file_range() == (usize::MAX - 1..usize::MAX));
-    assert!(rt; far.vm_range() == (usize::MAX..usize::MAX));
+    assert!(rt; has_ranges(&far, usize::MAX - 1..usize::MAX, usize::MAX..usize::MAX));
 }
 
 // How many zero bytes there are, the offset, the count, how many headers are read, and the text.
@@ -209,52 +212,52 @@ fn file() -> [u8; 72] {
 #[test]
 fn reads_the_program_headers_of_a_file(rt: HostRuntime) {
     let one = ProgramHeader::parse(rt.alloc(), &file(), 16, 1, BIG64);
-    assert!(rt; one.is_ok_and(|read| read.as_slice() == [segment()].as_slice()));
-    let raw = program_header64::ProgramHeader::from(segment());
-    let one = program_header64::ProgramHeader::parse(rt.alloc(), &file(), 16, 1, BE);
-    assert!(rt; one.is_ok_and(|read| read.as_slice() == [raw].as_slice()));
+    assert!(rt; gives(one, &[segment()]));
 }
 
-fn gives32(alloc: Global, count: usize, text: &str) -> bool {
+#[test]
+fn reads_the_raw_program_headers_of_a_file(rt: HostRuntime) {
+    let raw = program_header64::ProgramHeader::from(segment());
+    let one = program_header64::ProgramHeader::parse(rt.alloc(), &file(), 16, 1, BE);
+    assert!(rt; gives(one, &[raw]));
+}
+
+fn says32(alloc: Global, count: usize, text: &str) -> bool {
     let answer = program_header32::ProgramHeader::parse(alloc, &[0; 64], 0, count, LE);
     says(alloc, answer, text)
 }
 
 #[test]
 fn refuses_raw_program_headers_past_the_end(rt: HostRuntime) {
-    assert!(rt; gives32(rt.alloc(), 2, "Ok"));
-    assert!(rt; gives32(rt.alloc(), 3, "bad offset 64"));
-    assert!(rt; gives32(rt.alloc(), usize::MAX, "bad offset 64"));
-    let none = program_header64::ProgramHeader::parse(rt.alloc(), &[0; 112], usize::MAX, 0, BE);
-    assert!(rt; none.is_ok_and(|read| read.is_empty()));
-}
-
-fn gives_zeros32(alloc: Global) -> bool {
-    let zeros = [program_header32::ProgramHeader::default(); 2];
-    program_header32::ProgramHeader::parse(alloc, &[0; 64], 0, 2, LE).is_ok_and(
-        |read| read.as_slice() == zeros.as_slice(),
-    ) && program_header32::ProgramHeader::from_bytes(alloc, &[0; 64], 2).is_ok_and(
-        |read| read.as_slice() == zeros.as_slice(),
-    )
-}
-
-fn gives_zeros64(alloc: Global) -> bool {
-    let zeros = [program_header64::ProgramHeader::default(); 2];
-    program_header64::ProgramHeader::parse(alloc, &[0; 112], 0, 2, BE).is_ok_and(
-        |read| read.as_slice() == zeros.as_slice(),
-    ) && program_header64::ProgramHeader::from_bytes(alloc, &[0; 112], 2).is_ok_and(
-        |read| read.as_slice() == zeros.as_slice(),
-    )
+    assert!(rt; says32(rt.alloc(), 2, "Ok"));
+    assert!(rt; says32(rt.alloc(), 3, "bad offset 64"));
+    assert!(rt; says32(rt.alloc(), usize::MAX, "bad offset 64"));
 }
 
 #[test]
-fn reads_raw_program_headers_at_once(rt: HostRuntime) {
-    assert!(rt; gives_zeros32(rt.alloc()));
-    assert!(rt; gives_zeros64(rt.alloc()));
-    let none = program_header32::ProgramHeader::default();
-    assert!(rt; none == program_header32::default_is_zeros() && none.p_align == 0);
-    let none = program_header64::ProgramHeader::default();
-    assert!(rt; none == program_header64::default_is_zeros() && none.p_align == 0);
+fn reads_no_raw_program_headers_anywhere(rt: HostRuntime) {
+    let none = program_header64::ProgramHeader::parse(rt.alloc(), &[0; 112], usize::MAX, 0, BE);
+    assert!(rt; gives(none, &[]));
+}
+
+#[test]
+fn reads_32_bit_program_headers_of_zeros(rt: HostRuntime) {
+    let zeros = program_header32::default_is_zeros();
+    assert!(rt; zeros == program_header32::ProgramHeader::default() && zeros.p_align == 0);
+    let two = program_header32::ProgramHeader::parse(rt.alloc(), &[0; 64], 0, 2, LE);
+    assert!(rt; gives(two, &[zeros, zeros]));
+    let two = program_header32::ProgramHeader::from_bytes(rt.alloc(), &[0; 64], 2);
+    assert!(rt; gives(two, &[zeros, zeros]));
+}
+
+#[test]
+fn reads_64_bit_program_headers_of_zeros(rt: HostRuntime) {
+    let zeros = program_header64::default_is_zeros();
+    assert!(rt; zeros == program_header64::ProgramHeader::default() && zeros.p_align == 0);
+    let two = program_header64::ProgramHeader::parse(rt.alloc(), &[0; 112], 0, 2, BE);
+    assert!(rt; gives(two, &[zeros, zeros]));
+    let two = program_header64::ProgramHeader::from_bytes(rt.alloc(), &[0; 112], 2);
+    assert!(rt; gives(two, &[zeros, zeros]));
 }
 
 static TYPES: [(u32, &str); 17] = [
@@ -281,7 +284,11 @@ static TYPES: [(u32, &str); 17] = [
 fn names_segment_types(rt: HostRuntime) {
     let wrong = TYPES.iter().position(|row| pt_to_str(row.0) != row.1);
     assert!(rt; wrong.is_none(), "row {wrong:?}");
-    // The function that the modules of the classes pass on is this one.
+}
+
+// The function that the modules of the classes pass on is this one.
+#[test]
+fn passes_on_the_names(rt: HostRuntime) {
     assert!(rt; program_header32::pt_to_str(2) == "PT_DYNAMIC");
     assert!(rt; program_header64::pt_to_str(2) == "PT_DYNAMIC");
 }

@@ -93,30 +93,44 @@ static REFUSED: [(u8, u8, usize, &str, &str); 7] = [
     (3, 1, 52, CLASS3, "Ok"),
 ];
 
-// What is refused writes nothing.
-fn refuses(alloc: Global, row: &(u8, u8, usize, &str, &str)) -> bool {
-    let (class, order, len, both, raw) = *row;
+// A new 32-bit header with this class byte and this data byte.
+fn header_with(class: u8, order: u8) -> Header {
     let mut header = Header::new(LITTLE32);
     header.e_ident[4] = class;
     header.e_ident[5] = order;
+    header
+}
+
+// What is refused writes nothing.
+fn refuses(alloc: Global, row: &(u8, u8, usize, &str, &str)) -> bool {
+    let (class, order, len, text, _) = *row;
     let mut room = [0xaa; 52];
     let room = &mut room[..len.min(52)];
-    let told = says(alloc, header.try_into_ctx(room, BE), both);
-    let untouched = room.iter().all(|byte| *byte == 0xaa);
+    says(
+        alloc,
+        header_with(class, order).try_into_ctx(room, BE),
+        text,
+    ) && room.iter().all(|byte| *byte == 0xaa) == (text != "Ok")
+}
+
+fn refuses32(alloc: Global, row: &(u8, u8, usize, &str, &str)) -> bool {
+    let (class, order, len, _, text) = *row;
     let mut room = [0xaa; 52];
     let room = &mut room[..len.min(52)];
-    told && untouched == (both != "Ok")
-        && says(
-            alloc,
-            header32::Header::from(header).try_into_ctx(room, BE),
-            raw,
-        )
-        && room.iter().all(|byte| *byte == 0xaa) == (raw != "Ok")
+    let raw = header32::Header::from(header_with(class, order));
+    says(alloc, raw.try_into_ctx(room, BE), text)
+        && room.iter().all(|byte| *byte == 0xaa) == (text != "Ok")
 }
 
 #[test]
 fn refuses_to_write_in_order(rt: HostRuntime) {
     let wrong = REFUSED.iter().position(|row| !refuses(rt.alloc(), row));
+    assert!(rt; wrong.is_none(), "row {wrong:?}");
+}
+
+#[test]
+fn refuses_to_write_a_raw_header_in_order(rt: HostRuntime) {
+    let wrong = REFUSED.iter().position(|row| !refuses32(rt.alloc(), row));
     assert!(rt; wrong.is_none(), "row {wrong:?}");
 }
 
