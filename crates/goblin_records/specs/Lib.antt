@@ -1,6 +1,8 @@
 pub mod Reloc
 pub mod Reloc32
+pub mod Reloc32Laws
 pub mod Reloc64
+pub mod Reloc64Laws
 pub mod RelocInfo
 pub mod RelocInfoLaws
 pub mod RelocLaws
