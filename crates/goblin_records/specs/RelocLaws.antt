@@ -37,26 +37,26 @@ joins_64 : (order : Endian) (bytes : List ℕ) → IsBytes bytes → 16 ≤ leng
 joins_64 order bytes are room = joins_its_parts Big (number_at order bytes 8 8) (number_at-lt order bytes 8 8 are room)
 
 -- the relocation of either class, with an addend or without, is a raw one through the conversions
-pub reloc_laws : (with_addend : Bool) (class : Container) (order : Endian) → IsRecord (reloc_size with_addend class) (reloc_of with_addend class order) (reloc_image with_addend class order) (reloc_low with_addend class) (RelocFits with_addend class)
+pub reloc_laws : (is_rela : Bool) (class : Container) (order : Endian) → IsRecord (reloc_size is_rela class) (reloc_of is_rela class order) (reloc_image is_rela class order) (reloc_low is_rela class) (RelocFits is_rela class)
 reloc_laws false Little order =
     converted_laws rel_widened32 rel_as32 (RelocFits false Little) (rel32_laws order)
-    (λ r fits. let parts = parts_of Little r.r_sym r.r_type fits.symbol fits.kind in ((fits.offset, (info_of-lt Little r.r_sym r.r_type, tt)), rw (parts.0, parts.1, ← fits.addend) refl))
+    (λ r fits. let parts = parts_of Little r.r_sym r.r_type fits.symbol fits.typ in ((fits.offset, (info_of-lt Little r.r_sym r.r_type, tt)), rw (parts.0, parts.1, ← fits.addend) refl))
     (λ bytes are room. rw (joins_32 order bytes are room) refl)
 reloc_laws true Little order =
     converted_laws rela_widened32 rela_as32 (RelocFits true Little) (rela32_laws order)
-    (λ r fits. let parts = parts_of Little r.r_sym r.r_type fits.symbol fits.kind in let some = some_fits 4 r.r_addend fits.addend in ((fits.offset, info_of-lt Little r.r_sym r.r_type, some.0), rw (parts.0, parts.1, some.1) refl))
+    (λ r fits. let parts = parts_of Little r.r_sym r.r_type fits.symbol fits.typ in let some = some_fits 4 r.r_addend fits.addend in ((fits.offset, info_of-lt Little r.r_sym r.r_type, some.0), rw (parts.0, parts.1, some.1) refl))
     (λ bytes are room. rw (joins_32 order bytes are (omega arith)) refl)
 reloc_laws false Big order =
     converted_laws rel_widened64 rel_as64 (RelocFits false Big) (rel64_laws order)
-    (λ r fits. let parts = parts_of Big r.r_sym r.r_type fits.symbol fits.kind in ((fits.offset, (info_of-lt Big r.r_sym r.r_type, tt)), rw (parts.0, parts.1, ← fits.addend) refl))
+    (λ r fits. let parts = parts_of Big r.r_sym r.r_type fits.symbol fits.typ in ((fits.offset, (info_of-lt Big r.r_sym r.r_type, tt)), rw (parts.0, parts.1, ← fits.addend) refl))
     (λ bytes are room. rw (joins_64 order bytes are room) refl)
 reloc_laws true Big order =
     converted_laws rela_widened64 rela_as64 (RelocFits true Big) (rela64_laws order)
-    (λ r fits. let parts = parts_of Big r.r_sym r.r_type fits.symbol fits.kind in let some = some_fits 8 r.r_addend fits.addend in ((fits.offset, info_of-lt Big r.r_sym r.r_type, some.0), rw (parts.0, parts.1, some.1) refl))
+    (λ r fits. let parts = parts_of Big r.r_sym r.r_type fits.symbol fits.typ in let some = some_fits 8 r.r_addend fits.addend in ((fits.offset, info_of-lt Big r.r_sym r.r_type, some.0), rw (parts.0, parts.1, some.1) refl))
     (λ bytes are room. rw (joins_64 order bytes are (omega arith)) refl)
 
 -- the symbol and the type that were read are words of 32 bits
-words : (with_addend : Bool) (class : Container) (order : Endian) (bytes : List ℕ) → IsBytes bytes → reloc_size with_addend class ≤ length bytes → ((reloc_of with_addend class order bytes).r_sym < 2 ^ 32) × ((reloc_of with_addend class order bytes).r_type < 2 ^ 32)
+words : (is_rela : Bool) (class : Container) (order : Endian) (bytes : List ℕ) → IsBytes bytes → reloc_size is_rela class ≤ length bytes → ((reloc_of is_rela class order bytes).r_sym < 2 ^ 32) × ((reloc_of is_rela class order bytes).r_type < 2 ^ 32)
 words false Little order bytes are room = let below = number_at-lt order bytes 4 4 are (omega arith) in (omega arith, omega arith)
 words true Little order bytes are room = let below = number_at-lt order bytes 4 4 are (omega arith) in (omega arith, omega arith)
 words false Big order bytes are room = let below = number_at-lt order bytes 8 8 are (omega arith) in (omega arith, omega arith)
@@ -71,12 +71,12 @@ stored-meant : (r : Reloc) → r.r_sym < 2 ^ 32 → r.r_type < 2 ^ 32 → as_sto
 stored-meant r s t = rw (mod-eq_of_lt t, reversed-reversed r.r_sym s) refl
 
 -- through the pair a relocation obeys the same laws
-stored_laws : (is_mips64el with_addend : Bool) (class : Container) (order : Endian) → let c = context with_addend class order is_mips64el in IsRecord (reloc_size with_addend class) (reloc_in c) (reloc_image_in c) (reloc_low_in c) (RelocFitsIn c)
-stored_laws false with_addend class order = reloc_laws with_addend class order
-stored_laws true with_addend class order =
-    converted_laws (as_meant true) (as_stored true) (StoredFits true with_addend class) (reloc_laws with_addend class order)
+stored_laws : (is_mips64el is_rela : Bool) (class : Container) (order : Endian) → let c = context is_rela class order is_mips64el in IsRecord (reloc_size is_rela class) (reloc_in c) (reloc_image_in c) (reloc_low_in c) (RelocFitsIn c)
+stored_laws false is_rela class order = reloc_laws is_rela class order
+stored_laws true is_rela class order =
+    converted_laws (as_meant true) (as_stored true) (StoredFits true is_rela class) (reloc_laws is_rela class order)
     (λ r fits. (fits.2, meant-stored r fits.0 fits.1))
-    (λ bytes are room. let w = words with_addend class order bytes are room in stored-meant (reloc_of with_addend class order bytes) w.0 w.1)
+    (λ bytes are room. let w = words is_rela class order bytes are room in stored-meant (reloc_of is_rela class order bytes) w.0 w.1)
 
 pub reloc_laws_in : (c : RelocCtx) → IsRecord (reloc_size c.is_rela c.ctx.container) (reloc_in c) (reloc_image_in c) (reloc_low_in c) (RelocFitsIn c)
 reloc_laws_in c = stored_laws c.is_mips64el c.is_rela c.ctx.container c.ctx.le
@@ -85,4 +85,4 @@ pub one_image_in : OneImage
 one_image_in c = one_image (reloc_laws_in c)
 
 pub same_in_classes : SameInEachClass
-same_in_classes with_addend is_mips64el = same_in_each_class (λ class order. stored_laws is_mips64el with_addend class order)
+same_in_classes is_rela is_mips64el = same_in_each_class (λ class order. stored_laws is_mips64el is_rela class order)

@@ -67,12 +67,12 @@ impl Reloc {
             Writes size image bytes.old result bytes.new }
     {
         let (is_rela, ctx) = ctx;
-        let ctx = RelocCtx {
+        let layout = RelocCtx {
             is_rela,
             ctx,
             is_mips64el,
         };
-        self.try_into_ctx(bytes, ctx)
+        self.try_into_ctx(bytes, layout)
     }
 
     // The relocation at the start of the bytes.
