@@ -17,7 +17,7 @@ use Rattle.goblin_base.specs.TableLaws.{no_records, first_record, records-agree}
 use Rattle.goblin_records.specs.declared.reloc.Reloc.{Reloc}
 use Rattle.goblin_records.specs.declared.reloc.RelocCtx.{RelocCtx}
 use Rattle.goblin_records.specs.Reloc.{reloc_size, reloc_in, reloc_image_in}
-use Rattle.goblin_records.specs.RelocLaws.{laws_in}
+use Rattle.goblin_records.specs.RelocLaws.{reloc_laws_in}
 use Rattle.goblin.specs.RelocSection.{relocs_of, DependsOnItsRange, WritesItsBytes}
 
 pub depends_on_its_range : DependsOnItsRange
@@ -54,7 +54,7 @@ some_written bytes offset filesz c relocs are is =
     let whole = div-mul-le_self filesz size in
     let same = records-agree size (reloc_in c) n part (drop offset bytes) (take-take (n * size) filesz (drop offset bytes) whole) in
     let long : n * size ≤ length (drop offset bytes) = omega (arith, length-drop offset bytes) in
-    ap (flat_map (reloc_image_in c)) (found.1 ∙ same) ∙ flat_map-records (laws_in c) n (drop offset bytes) (IsBytes-drop offset bytes are) long
+    ap (flat_map (reloc_image_in c)) (found.1 ∙ same) ∙ flat_map-records (reloc_laws_in c) n (drop offset bytes) (IsBytes-drop offset bytes are) long
 
 pub writes_its_bytes : WritesItsBytes
 writes_its_bytes bytes offset filesz is_rela ctx is_mips64el relocs are is =

@@ -2,7 +2,9 @@ pub mod Nhdr
 pub mod NhdrLaws
 pub mod Reloc
 pub mod Reloc32
+pub mod Reloc32Laws
 pub mod Reloc64
+pub mod Reloc64Laws
 pub mod RelocInfo
 pub mod RelocInfoLaws
 pub mod RelocLaws

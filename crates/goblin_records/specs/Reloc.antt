@@ -95,7 +95,7 @@ reloc_fields true Big r = rela64_fields (rela_as64 r)
 
 -- the bytes that a relocation is written as
 abbrev pub reloc_image : Bool → Container → Endian → Reloc → List ℕ
-reloc_image with_addend class order r = image_of_fields order (reloc_fields with_addend class r)
+reloc_image is_rela class order r = image_of_fields order (reloc_fields is_rela class r)
 
 -- the relocation with the low bits of each field, as many as there is room for
 abbrev pub reloc_low : Bool → Container → Reloc → Reloc
@@ -110,11 +110,11 @@ AddendFits false width addend = addend ≡ None
 AddendFits true width addend = IsSomeAnd addend (FitsSigned width)
 
 -- each field of a relocation is in the range that a class has for it
-pub record RelocFits (with_addend : Bool) (class : Container) (r : Reloc) : Type 0 where
+pub record RelocFits (is_rela : Bool) (class : Container) (r : Reloc) : Type 0 where
   pub offset : r.r_offset < 256 ^ word_size class
   pub symbol : r.r_sym < symbols class
-  pub kind : r.r_type < types class
-  pub addend : AddendFits with_addend (word_size class) r.r_addend
+  pub typ : r.r_type < types class
+  pub addend : AddendFits is_rela (word_size class) r.r_addend
 
 -- what a relocation that was read means: in a MIPS64 file of little order its symbol and type go through the pair
 abbrev pub as_meant : Bool → Reloc → Reloc
@@ -130,14 +130,14 @@ as_stored true r =
 
 -- what is stored for a relocation fits; of a pair each part is a word of 32 bits
 abbrev pub StoredFits : Bool → Bool → Container → Reloc → Type 0
-StoredFits false with_addend class r = RelocFits with_addend class r
-StoredFits true with_addend class r =
-    (r.r_sym < 2 ^ 32) × (r.r_type < 2 ^ 32) × RelocFits with_addend class (as_stored true r)
+StoredFits false is_rela class r = RelocFits is_rela class r
+StoredFits true is_rela class r =
+    (r.r_sym < 2 ^ 32) × (r.r_type < 2 ^ 32) × RelocFits is_rela class (as_stored true r)
 
 -- the context of these parts
 abbrev pub context : Bool → Container → Endian → Bool → RelocCtx
-context with_addend class order is_mips64el = record {
-  is_rela = with_addend;
+context is_rela class order is_mips64el = record {
+  is_rela = is_rela;
   ctx = record { container = class; le = order };
   is_mips64el = is_mips64el;
 }
@@ -167,8 +167,8 @@ OneImage =
 -- order as the same relocations; with addends and without, through the pair and not
 abbrev pub SameInEachClass : Type 0
 SameInEachClass =
-    (with_addend is_mips64el : Bool)
-    → IsSameInEachClass (reloc_size with_addend)
-    (λ class order. reloc_in (context with_addend class order is_mips64el))
-    (λ class order. reloc_image_in (context with_addend class order is_mips64el))
-    (StoredFits is_mips64el with_addend)
+    (is_rela is_mips64el : Bool)
+    → IsSameInEachClass (reloc_size is_rela)
+    (λ class order. reloc_in (context is_rela class order is_mips64el))
+    (λ class order. reloc_image_in (context is_rela class order is_mips64el))
+    (StoredFits is_mips64el is_rela)

@@ -1,12 +1,11 @@
 -- Relocations of the 32-bit class (System V gABI, "Relocation", Elf32_Rel and Elf32_Rela).
 use Rattle.std.specs.Prelude.{◌%◌, ◌^◌, ◌<◌, ℕ, List, [], ◌∷◌}
 use Rattle.goblin_base.specs.declared.container.Endian.{Endian}
-use Rattle.goblin_base.specs.Fields.{Field, field, image_of_fields}
-use Rattle.goblin_base.specs.Layout.{IsOneImage}
+use Rattle.goblin_base.specs.Fields.{Field, field, FieldsFit, image_of_fields}
 use Rattle.goblin_base.specs.Number.{number_at}
 use Rattle.goblin_records.specs.declared.reloc32.Rel.{Rel}
 use Rattle.goblin_records.specs.declared.reloc32.Rela.{Rela}
-use Rattle.goblin_base.specs.Signed.{signed_of, signed_number_at, complement, FitsSigned}
+use Rattle.goblin_base.specs.Signed.{signed_number_at, complement, signed_low, FitsSigned}
 
 -- how many bytes a relocation takes, without an addend and with one
 abbrev pub rel32_size : ℕ
@@ -52,19 +51,12 @@ abbrev pub rela32_low : Rela → Rela
 rela32_low r = record {
   r_offset = r.r_offset % 256 ^ 4;
   r_info = r.r_info % 256 ^ 4;
-  r_addend = signed_of 4 (complement 4 r.r_addend);
+  r_addend = signed_low 4 r.r_addend;
 }
 
 -- each field is in the range of its width
 abbrev pub Rel32Fits : Rel → Type 0
-Rel32Fits r = (r.r_offset < 256 ^ 4) × (r.r_info < 256 ^ 4)
+Rel32Fits r = FieldsFit (rel32_fields r)
 
 abbrev pub Rela32Fits : Rela → Type 0
 Rela32Fits r = (r.r_offset < 256 ^ 4) × (r.r_info < 256 ^ 4) × FitsSigned 4 r.r_addend
-
--- the image of a relocation is the one list of bytes of its size that reads as the low bits of its fields
-abbrev pub OneRelImage : Type 0
-OneRelImage = (order : Endian) → IsOneImage rel32_size (rel32_of order) (rel32_image order) rel32_low
-
-abbrev pub OneRelaImage : Type 0
-OneRelaImage = (order : Endian) → IsOneImage rela32_size (rela32_of order) (rela32_image order) rela32_low

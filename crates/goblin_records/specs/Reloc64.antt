@@ -1,12 +1,11 @@
 -- Relocations of the 64-bit class (System V gABI, "Relocation", Elf64_Rel and Elf64_Rela).
 use Rattle.std.specs.Prelude.{◌%◌, ◌^◌, ◌<◌, ℕ, List, [], ◌∷◌}
 use Rattle.goblin_base.specs.declared.container.Endian.{Endian}
-use Rattle.goblin_base.specs.Fields.{Field, field, image_of_fields}
-use Rattle.goblin_base.specs.Layout.{IsOneImage}
+use Rattle.goblin_base.specs.Fields.{Field, field, FieldsFit, image_of_fields}
 use Rattle.goblin_base.specs.Number.{number_at}
 use Rattle.goblin_records.specs.declared.reloc64.Rel.{Rel}
 use Rattle.goblin_records.specs.declared.reloc64.Rela.{Rela}
-use Rattle.goblin_base.specs.Signed.{signed_of, signed_number_at, complement, FitsSigned}
+use Rattle.goblin_base.specs.Signed.{signed_number_at, complement, signed_low, FitsSigned}
 
 -- how many bytes a relocation takes, without an addend and with one
 abbrev pub rel64_size : ℕ
@@ -52,19 +51,12 @@ abbrev pub rela64_low : Rela → Rela
 rela64_low r = record {
   r_offset = r.r_offset % 256 ^ 8;
   r_info = r.r_info % 256 ^ 8;
-  r_addend = signed_of 8 (complement 8 r.r_addend);
+  r_addend = signed_low 8 r.r_addend;
 }
 
 -- each field is in the range of its width
 abbrev pub Rel64Fits : Rel → Type 0
-Rel64Fits r = (r.r_offset < 256 ^ 8) × (r.r_info < 256 ^ 8)
+Rel64Fits r = FieldsFit (rel64_fields r)
 
 abbrev pub Rela64Fits : Rela → Type 0
 Rela64Fits r = (r.r_offset < 256 ^ 8) × (r.r_info < 256 ^ 8) × FitsSigned 8 r.r_addend
-
--- the image of a relocation is the one list of bytes of its size that reads as the low bits of its fields
-abbrev pub OneRelImage : Type 0
-OneRelImage = (order : Endian) → IsOneImage rel64_size (rel64_of order) (rel64_image order) rel64_low
-
-abbrev pub OneRelaImage : Type 0
-OneRelaImage = (order : Endian) → IsOneImage rela64_size (rela64_of order) (rela64_image order) rela64_low

@@ -1,94 +1,27 @@
--- Relocations are read back from what was written, and written back as they were read.
-use Rattle.std.proofs.Common.{◌≡◌, ◌<◌, ◌≤◌, ◌%◌, ◌^◌, ◌*◌, ◌/◌, ℕ, List, [], ◌∷◌, Bool, true, false, Option, Some, None, length, slice_index, refl, sym, ap, ◌∙◌, arith}
+-- Relocations of either class, with an addend or without, are read back from what was written, and written back as they
+-- were read; through the pair of MIPS64 too.
+use Rattle.std.proofs.Common.{◌≡◌, ◌<◌, ◌≤◌, ◌^◌, ℕ, List, Bool, true, false, Option, Some, None, length, refl, ◌∙◌, arith}
 use Rattle.std.specs.Prelude.{ℤ, pos, unwrap_or, IsSomeAnd}
 use Rattle.std.proofs.Math.Nat.{mod-eq_of_lt}
 use Rattle.goblin_base.specs.declared.container.Container.{Container}
 use Rattle.goblin_base.specs.declared.container.Container.TheVariants.{Little, Big}
 use Rattle.goblin_base.specs.declared.container.Endian.{Endian}
 use Rattle.goblin_base.specs.FieldLaws.{number_at-lt}
-use Rattle.goblin_base.specs.Fields.{Field, field}
-use Rattle.goblin_base.specs.Layout.{IsLayout, IsRecord}
-use Rattle.goblin_base.specs.LayoutLaws.{layout_laws, converted_laws, one_image, same_in_each_class}
+use Rattle.goblin_base.specs.Layout.{IsRecord}
+use Rattle.goblin_base.specs.LayoutLaws.{converted_laws, one_image, same_in_each_class}
 use Rattle.goblin_base.specs.Number.{IsBytes, number_at}
-use Rattle.goblin_base.specs.Signed.{signed_of, complement, FitsSigned}
-use Rattle.goblin_base.specs.SignedLaws.{signed_of-complement, complement-signed_of, complement-lt}
+use Rattle.goblin_base.specs.Signed.{FitsSigned}
 use Rattle.goblin_records.specs.declared.reloc.Reloc.{Reloc}
 use Rattle.goblin_records.specs.declared.reloc.RelocCtx.{RelocCtx}
-use Rattle.goblin_records.specs.declared.reloc32.Rela.{Rela as Rela32}
-use Rattle.goblin_records.specs.declared.reloc64.Rela.{Rela as Rela64}
-use Rattle.goblin_records.specs.Reloc32.{rel32_size, rel32_of, rel32_fields, rel32_image, rel32_low, Rel32Fits, rela32_size, rela32_of, rela32_fields, rela32_image, rela32_low, Rela32Fits}
-use Rattle.goblin_records.specs.Reloc64.{rel64_size, rel64_of, rel64_fields, rel64_image, rel64_low, Rel64Fits, rela64_size, rela64_of, rela64_fields, rela64_image, rela64_low, Rela64Fits}
-use Rattle.goblin_records.specs.RelocInfo.{symbols, types, symbol_in, type_in, info_of, reversed}
-use Rattle.goblin_records.specs.RelocInfoLaws.{info_of-lt, symbol_in-info_of, type_in-info_of, joins_its_parts, reversed-lt, reversed-reversed}
+use Rattle.goblin_records.specs.Reloc32Laws.{rel32_laws, rela32_laws}
+use Rattle.goblin_records.specs.Reloc64Laws.{rel64_laws, rela64_laws}
+use Rattle.goblin_records.specs.RelocInfo.{symbols, types, symbol_in, type_in, info_of}
+use Rattle.goblin_records.specs.RelocInfoLaws.{info_of-lt, symbol_in-info_of, type_in-info_of, joins_its_parts, reversed-reversed}
 use Rattle.goblin_records.specs.Reloc.{reloc_size, reloc_of, reloc_image, reloc_low, RelocFits, rel_widened32, rela_widened32, rel_widened64, rela_widened64, rel_as32, rela_as32, rel_as64, rela_as64, as_meant, as_stored, StoredFits, reloc_in, reloc_image_in, reloc_low_in, RelocFitsIn, context, OneImage, SameInEachClass}
 
--- the fields of the raw relocations are numbers that lie one after another; an addend's is its two's complement
-rel32_layout : IsLayout (4 ∷ 4 ∷ []) rel32_of rel32_fields rel32_low Rel32Fits
-rel32_layout = record {
-  of_values = λ vs. record { r_offset = slice_index vs 0; r_info = slice_index vs 1 };
-  reads = λ order bytes. refl;
-  has_widths = λ r. refl;
-  lows = λ r. refl;
-  fitting = λ r fits. ((fits.0, (fits.1, tt)), refl);
-  fields_read = λ order bytes are room. refl;
-}
-
-rel64_layout : IsLayout (8 ∷ 8 ∷ []) rel64_of rel64_fields rel64_low Rel64Fits
-rel64_layout = record {
-  of_values = λ vs. record { r_offset = slice_index vs 0; r_info = slice_index vs 1 };
-  reads = λ order bytes. refl;
-  has_widths = λ r. refl;
-  lows = λ r. refl;
-  fitting = λ r fits. ((fits.0, (fits.1, tt)), refl);
-  fields_read = λ order bytes are room. refl;
-}
-
-rela32_layout : IsLayout (4 ∷ 4 ∷ 4 ∷ []) rela32_of rela32_fields rela32_low Rela32Fits
-rela32_layout = record {
-  of_values = λ vs. record { r_offset = slice_index vs 0; r_info = slice_index vs 1; r_addend = signed_of 4 (slice_index vs 2) };
-  reads = λ order bytes. refl;
-  has_widths = λ r. refl;
-  lows = λ r. ap (λ (x : ℕ). let low : Rela32 = record (rela32_low r) { r_addend = signed_of 4 x } in low) (mod-eq_of_lt (complement-lt 4 r.r_addend));
-  fitting = λ r fits. (
-    (fits.0, (fits.1, (complement-lt 4 r.r_addend, tt))),
-    ap (λ (z : ℤ). let it : Rela32 = record r { r_addend = z } in it) (signed_of-complement 4 r.r_addend fits.2),
-  );
-  fields_read = λ order bytes are room.
-    ap (λ (x : ℕ). field 4 (number_at order bytes 0 4) ∷ field 4 (number_at order bytes 4 4) ∷ field 4 x ∷ [])
-    (complement-signed_of 4 (number_at order bytes 8 4) (number_at-lt order bytes 8 4 are room));
-}
-
-rela64_layout : IsLayout (8 ∷ 8 ∷ 8 ∷ []) rela64_of rela64_fields rela64_low Rela64Fits
-rela64_layout = record {
-  of_values = λ vs. record { r_offset = slice_index vs 0; r_info = slice_index vs 1; r_addend = signed_of 8 (slice_index vs 2) };
-  reads = λ order bytes. refl;
-  has_widths = λ r. refl;
-  lows = λ r. ap (λ (x : ℕ). let low : Rela64 = record (rela64_low r) { r_addend = signed_of 8 x } in low) (mod-eq_of_lt (complement-lt 8 r.r_addend));
-  fitting = λ r fits. (
-    (fits.0, (fits.1, (complement-lt 8 r.r_addend, tt))),
-    ap (λ (z : ℤ). let it : Rela64 = record r { r_addend = z } in it) (signed_of-complement 8 r.r_addend fits.2),
-  );
-  fields_read = λ order bytes are room.
-    ap (λ (x : ℕ). field 8 (number_at order bytes 0 8) ∷ field 8 (number_at order bytes 8 8) ∷ field 8 x ∷ [])
-    (complement-signed_of 8 (number_at order bytes 16 8) (number_at-lt order bytes 16 8 are room));
-}
-
--- so they obey the laws of records
-pub rel32_laws : (order : Endian) → IsRecord rel32_size (rel32_of order) (rel32_image order) rel32_low Rel32Fits
-rel32_laws order = layout_laws rel32_layout order (omega arith)
-
-pub rela32_laws : (order : Endian) → IsRecord rela32_size (rela32_of order) (rela32_image order) rela32_low Rela32Fits
-rela32_laws order = layout_laws rela32_layout order (omega arith)
-
-pub rel64_laws : (order : Endian) → IsRecord rel64_size (rel64_of order) (rel64_image order) rel64_low Rel64Fits
-rel64_laws order = layout_laws rel64_layout order (omega arith)
-
-pub rela64_laws : (order : Endian) → IsRecord rela64_size (rela64_of order) (rela64_image order) rela64_low Rela64Fits
-rela64_laws order = layout_laws rela64_layout order (omega arith)
-
--- what fits is its own low bits
-low_parts : (class : Container) (symbol typ : ℕ) → symbol < symbols class → typ < types class → (symbol_in class (info_of class symbol typ) ≡ symbol) × (type_in class (info_of class symbol typ) ≡ typ)
-low_parts class symbol typ s t =
+-- a symbol and a type that fit are the parts of their `r_info`
+parts_of : (class : Container) (symbol typ : ℕ) → symbol < symbols class → typ < types class → (symbol_in class (info_of class symbol typ) ≡ symbol) × (type_in class (info_of class symbol typ) ≡ typ)
+parts_of class symbol typ s t =
     (symbol_in-info_of class symbol typ ∙ mod-eq_of_lt s, type_in-info_of class symbol typ ∙ mod-eq_of_lt t)
 
 -- an addend that is there is the one that is written
@@ -104,26 +37,26 @@ joins_64 : (order : Endian) (bytes : List ℕ) → IsBytes bytes → 16 ≤ leng
 joins_64 order bytes are room = joins_its_parts Big (number_at order bytes 8 8) (number_at-lt order bytes 8 8 are room)
 
 -- the relocation of either class, with an addend or without, is a raw one through the conversions
-pub laws_of : (with_addend : Bool) (class : Container) (order : Endian) → IsRecord (reloc_size with_addend class) (reloc_of with_addend class order) (reloc_image with_addend class order) (reloc_low with_addend class) (RelocFits with_addend class)
-laws_of false Little order =
+pub reloc_laws : (is_rela : Bool) (class : Container) (order : Endian) → IsRecord (reloc_size is_rela class) (reloc_of is_rela class order) (reloc_image is_rela class order) (reloc_low is_rela class) (RelocFits is_rela class)
+reloc_laws false Little order =
     converted_laws rel_widened32 rel_as32 (RelocFits false Little) (rel32_laws order)
-    (λ r fits. let parts = low_parts Little r.r_sym r.r_type fits.symbol fits.kind in ((fits.offset, info_of-lt Little r.r_sym r.r_type), rw (parts.0, parts.1, ← fits.addend) refl))
+    (λ r fits. let parts = parts_of Little r.r_sym r.r_type fits.symbol fits.typ in ((fits.offset, (info_of-lt Little r.r_sym r.r_type, tt)), rw (parts.0, parts.1, ← fits.addend) refl))
     (λ bytes are room. rw (joins_32 order bytes are room) refl)
-laws_of true Little order =
+reloc_laws true Little order =
     converted_laws rela_widened32 rela_as32 (RelocFits true Little) (rela32_laws order)
-    (λ r fits. let parts = low_parts Little r.r_sym r.r_type fits.symbol fits.kind in let some = some_fits 4 r.r_addend fits.addend in ((fits.offset, info_of-lt Little r.r_sym r.r_type, some.0), rw (parts.0, parts.1, some.1) refl))
+    (λ r fits. let parts = parts_of Little r.r_sym r.r_type fits.symbol fits.typ in let some = some_fits 4 r.r_addend fits.addend in ((fits.offset, info_of-lt Little r.r_sym r.r_type, some.0), rw (parts.0, parts.1, some.1) refl))
     (λ bytes are room. rw (joins_32 order bytes are (omega arith)) refl)
-laws_of false Big order =
+reloc_laws false Big order =
     converted_laws rel_widened64 rel_as64 (RelocFits false Big) (rel64_laws order)
-    (λ r fits. let parts = low_parts Big r.r_sym r.r_type fits.symbol fits.kind in ((fits.offset, info_of-lt Big r.r_sym r.r_type), rw (parts.0, parts.1, ← fits.addend) refl))
+    (λ r fits. let parts = parts_of Big r.r_sym r.r_type fits.symbol fits.typ in ((fits.offset, (info_of-lt Big r.r_sym r.r_type, tt)), rw (parts.0, parts.1, ← fits.addend) refl))
     (λ bytes are room. rw (joins_64 order bytes are room) refl)
-laws_of true Big order =
+reloc_laws true Big order =
     converted_laws rela_widened64 rela_as64 (RelocFits true Big) (rela64_laws order)
-    (λ r fits. let parts = low_parts Big r.r_sym r.r_type fits.symbol fits.kind in let some = some_fits 8 r.r_addend fits.addend in ((fits.offset, info_of-lt Big r.r_sym r.r_type, some.0), rw (parts.0, parts.1, some.1) refl))
+    (λ r fits. let parts = parts_of Big r.r_sym r.r_type fits.symbol fits.typ in let some = some_fits 8 r.r_addend fits.addend in ((fits.offset, info_of-lt Big r.r_sym r.r_type, some.0), rw (parts.0, parts.1, some.1) refl))
     (λ bytes are room. rw (joins_64 order bytes are (omega arith)) refl)
 
 -- the symbol and the type that were read are words of 32 bits
-words : (with_addend : Bool) (class : Container) (order : Endian) (bytes : List ℕ) → IsBytes bytes → reloc_size with_addend class ≤ length bytes → ((reloc_of with_addend class order bytes).r_sym < 2 ^ 32) × ((reloc_of with_addend class order bytes).r_type < 2 ^ 32)
+words : (is_rela : Bool) (class : Container) (order : Endian) (bytes : List ℕ) → IsBytes bytes → reloc_size is_rela class ≤ length bytes → ((reloc_of is_rela class order bytes).r_sym < 2 ^ 32) × ((reloc_of is_rela class order bytes).r_type < 2 ^ 32)
 words false Little order bytes are room = let below = number_at-lt order bytes 4 4 are (omega arith) in (omega arith, omega arith)
 words true Little order bytes are room = let below = number_at-lt order bytes 4 4 are (omega arith) in (omega arith, omega arith)
 words false Big order bytes are room = let below = number_at-lt order bytes 8 8 are (omega arith) in (omega arith, omega arith)
@@ -138,18 +71,18 @@ stored-meant : (r : Reloc) → r.r_sym < 2 ^ 32 → r.r_type < 2 ^ 32 → as_sto
 stored-meant r s t = rw (mod-eq_of_lt t, reversed-reversed r.r_sym s) refl
 
 -- through the pair a relocation obeys the same laws
-stored_laws : (is_mips64el with_addend : Bool) (class : Container) (order : Endian) → let c = context with_addend class order is_mips64el in IsRecord (reloc_size with_addend class) (reloc_in c) (reloc_image_in c) (reloc_low_in c) (RelocFitsIn c)
-stored_laws false with_addend class order = laws_of with_addend class order
-stored_laws true with_addend class order =
-    converted_laws (as_meant true) (as_stored true) (StoredFits true with_addend class) (laws_of with_addend class order)
+stored_laws : (is_mips64el is_rela : Bool) (class : Container) (order : Endian) → let c = context is_rela class order is_mips64el in IsRecord (reloc_size is_rela class) (reloc_in c) (reloc_image_in c) (reloc_low_in c) (RelocFitsIn c)
+stored_laws false is_rela class order = reloc_laws is_rela class order
+stored_laws true is_rela class order =
+    converted_laws (as_meant true) (as_stored true) (StoredFits true is_rela class) (reloc_laws is_rela class order)
     (λ r fits. (fits.2, meant-stored r fits.0 fits.1))
-    (λ bytes are room. let w = words with_addend class order bytes are room in stored-meant (reloc_of with_addend class order bytes) w.0 w.1)
+    (λ bytes are room. let w = words is_rela class order bytes are room in stored-meant (reloc_of is_rela class order bytes) w.0 w.1)
 
-pub laws_in : (c : RelocCtx) → IsRecord (reloc_size c.is_rela c.ctx.container) (reloc_in c) (reloc_image_in c) (reloc_low_in c) (RelocFitsIn c)
-laws_in c = stored_laws c.is_mips64el c.is_rela c.ctx.container c.ctx.le
+pub reloc_laws_in : (c : RelocCtx) → IsRecord (reloc_size c.is_rela c.ctx.container) (reloc_in c) (reloc_image_in c) (reloc_low_in c) (RelocFitsIn c)
+reloc_laws_in c = stored_laws c.is_mips64el c.is_rela c.ctx.container c.ctx.le
 
 pub one_image_in : OneImage
-one_image_in c = one_image (laws_in c)
+one_image_in c = one_image (reloc_laws_in c)
 
 pub same_in_classes : SameInEachClass
-same_in_classes with_addend is_mips64el = same_in_each_class (λ class order. stored_laws is_mips64el with_addend class order)
+same_in_classes is_rela is_mips64el = same_in_each_class (λ class order. stored_laws is_mips64el is_rela class order)

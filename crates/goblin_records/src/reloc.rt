@@ -67,12 +67,12 @@ impl Reloc {
             Writes size image bytes.old result bytes.new }
     {
         let (is_rela, ctx) = ctx;
-        let ctx = RelocCtx {
+        let layout = RelocCtx {
             is_rela,
             ctx,
             is_mips64el,
         };
-        self.try_into_ctx(bytes, ctx)
+        self.try_into_ctx(bytes, layout)
     }
 
     // The relocation at the start of the bytes.
@@ -186,7 +186,7 @@ impl IntoCtx<(bool, Ctx)> for Reloc {
 
 impl Record<(bool, Ctx)> for Reloc {
     ghost use Rattle.goblin_records.specs.Reloc.{RelocFits};
-    ghost use Rattle.goblin_records.specs.RelocLaws.{laws_of};
+    ghost use Rattle.goblin_records.specs.RelocLaws.{reloc_laws};
 
     ghost read = { λ c. reloc_of c.0 c.1.container c.1.le };
 
@@ -200,19 +200,19 @@ impl Record<(bool, Ctx)> for Reloc {
         Ok(Reloc::at(bytes, ctx.0, ctx.1))
     }
 
-    ghost size_positive = { λ c. (laws_of c.0 c.1.container c.1.le).size_positive };
+    ghost size_positive = { λ c. (reloc_laws c.0 c.1.container c.1.le).size_positive };
 
-    ghost length_image = { λ c. (laws_of c.0 c.1.container c.1.le).length_image };
+    ghost length_image = { λ c. (reloc_laws c.0 c.1.container c.1.le).length_image };
 
-    ghost image_bytes = { λ c. (laws_of c.0 c.1.container c.1.le).image_bytes };
+    ghost image_bytes = { λ c. (reloc_laws c.0 c.1.container c.1.le).image_bytes };
 
     ghost writes_image = { λ c reloc old new answer h. h };
 
-    ghost reads_front = { λ c. (laws_of c.0 c.1.container c.1.le).reads_front };
+    ghost reads_front = { λ c. (reloc_laws c.0 c.1.container c.1.le).reads_front };
 
-    ghost reads_back = { λ c. (laws_of c.0 c.1.container c.1.le).reads_back };
+    ghost reads_back = { λ c. (reloc_laws c.0 c.1.container c.1.le).reads_back };
 
-    ghost writes_back = { λ c. (laws_of c.0 c.1.container c.1.le).writes_back };
+    ghost writes_back = { λ c. (reloc_laws c.0 c.1.container c.1.le).writes_back };
 }
 
 impl SizeWith<RelocCtx> for Reloc {
@@ -249,7 +249,7 @@ impl<'a> TryFromCtx<'a, RelocCtx> for Reloc {
 /// Where the context says so, symbol and type are read and written through the pair of MIPS64.
 impl Record<RelocCtx> for Reloc {
     ghost use Rattle.goblin_records.specs.Reloc.{RelocFitsIn};
-    ghost use Rattle.goblin_records.specs.RelocLaws.{laws_in};
+    ghost use Rattle.goblin_records.specs.RelocLaws.{reloc_laws_in};
 
     ghost read = { reloc_in };
 
@@ -264,19 +264,19 @@ impl Record<RelocCtx> for Reloc {
         Ok(read.meant(ctx.is_mips64el))
     }
 
-    ghost size_positive = { λ c. (laws_in c).size_positive };
+    ghost size_positive = { λ c. (reloc_laws_in c).size_positive };
 
-    ghost length_image = { λ c. (laws_in c).length_image };
+    ghost length_image = { λ c. (reloc_laws_in c).length_image };
 
-    ghost image_bytes = { λ c. (laws_in c).image_bytes };
+    ghost image_bytes = { λ c. (reloc_laws_in c).image_bytes };
 
     ghost writes_image = { λ c reloc old new answer h. h };
 
-    ghost reads_front = { λ c. (laws_in c).reads_front };
+    ghost reads_front = { λ c. (reloc_laws_in c).reads_front };
 
-    ghost reads_back = { λ c. (laws_in c).reads_back };
+    ghost reads_back = { λ c. (reloc_laws_in c).reads_back };
 
-    ghost writes_back = { λ c. (laws_in c).writes_back };
+    ghost writes_back = { λ c. (reloc_laws_in c).writes_back };
 }
 
 /// Laws: which bytes a relocation is written as, and that classes and byte orders keep lists of

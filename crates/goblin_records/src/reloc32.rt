@@ -1,11 +1,12 @@
 //! Relocations of the 32-bit class: System V gABI, "Relocation" (`Elf32_Rel` and `Elf32_Rela`).
 ghost use Rattle.std.specs.Prelude.{◌≡◌, ◌≤◌, ◌++◌, length, drop};
 ghost use Rattle.goblin_base.specs.declared.container.Container.TheVariants as class;
+ghost use Rattle.goblin_base.specs.declared.container.Endian.{Endian};
+ghost use Rattle.goblin_base.specs.Layout.{IsOneImage};
 ghost use Rattle.goblin_base.specs.Record.{read_within, Writes};
 ghost use Rattle.goblin_base.specs.Steps.{with_size};
-ghost use Rattle.goblin_records.specs.Reloc32.{rel32_size, rel32_of, rel32_image};
-ghost use Rattle.goblin_records.specs.Reloc32.{rela32_size, rela32_of, rela32_image};
-ghost use Rattle.goblin_records.specs.Reloc32.{OneRelImage, OneRelaImage};
+ghost use Rattle.goblin_records.specs.Reloc32.{rel32_size, rel32_of, rel32_image, rel32_low};
+ghost use Rattle.goblin_records.specs.Reloc32.{rela32_size, rela32_of, rela32_image, rela32_low};
 ghost use Rattle.goblin_records.specs.RelocInfo.{symbol_in, type_in, info_of, JoinsItsParts};
 
 use crate::reloc::Reloc;
@@ -143,7 +144,6 @@ impl From<Rel> for Reloc {
 /// Of each field the low bits are kept, as many as it has room for. A missing addend is 0.
 impl From<Reloc> for Rela {
     ghost use Rattle.goblin_records.specs.Reloc.{rela_as32};
-    ghost use Rattle.goblin_records.specs.Reloc32.{rela32_low};
 
     ghost from_gives = { λ reloc raw. raw ≡ rela32_low (rela_as32 reloc) };
 
@@ -160,7 +160,6 @@ impl From<Reloc> for Rela {
 /// Of each field the low bits are kept, as many as it has room for. The addend is dropped.
 impl From<Reloc> for Rel {
     ghost use Rattle.goblin_records.specs.Reloc.{rel_as32};
-    ghost use Rattle.goblin_records.specs.Reloc32.{rel32_low};
 
     ghost from_gives = { λ reloc raw. raw ≡ rel32_low (rel_as32 reloc) };
 
@@ -206,7 +205,7 @@ impl TryIntoCtx<Endian> for Rela {
 
 impl Record<Endian> for Rela {
     ghost use Rattle.goblin_records.specs.Reloc32.{Rela32Fits};
-    ghost use Rattle.goblin_records.specs.RelocLaws.{rela32_laws};
+    ghost use Rattle.goblin_records.specs.Reloc32Laws.{rela32_laws};
 
     ghost read = { rela32_of };
 
@@ -269,7 +268,7 @@ impl TryIntoCtx<Endian> for Rel {
 
 impl Record<Endian> for Rel {
     ghost use Rattle.goblin_records.specs.Reloc32.{Rel32Fits};
-    ghost use Rattle.goblin_records.specs.RelocLaws.{rel32_laws};
+    ghost use Rattle.goblin_records.specs.Reloc32Laws.{rel32_laws};
 
     ghost read = { rel32_of };
 
@@ -302,7 +301,9 @@ impl Record<Endian> for Rel {
 /// parts. A call does nothing.
 pub fn laws()
     ensures sizes { (SIZEOF_RELA ≡ rela32_size) × (SIZEOF_REL ≡ rel32_size) }
-    ensures rela_image { OneRelaImage }
-    ensures rel_image { OneRelImage }
+    ensures rela_image { (order : Endian) →
+        IsOneImage rela32_size (rela32_of order) (rela32_image order) rela32_low }
+    ensures rel_image { (order : Endian) →
+        IsOneImage rel32_size (rel32_of order) (rel32_image order) rel32_low }
     ensures joins { JoinsItsParts class.Little }
 {}

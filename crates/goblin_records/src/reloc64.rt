@@ -1,11 +1,12 @@
 //! Relocations of the 64-bit class: System V gABI, "Relocation" (`Elf64_Rel` and `Elf64_Rela`).
 ghost use Rattle.std.specs.Prelude.{◌≡◌, ◌<◌, ◌≤◌, ◌^◌, ◌++◌, length, drop};
 ghost use Rattle.goblin_base.specs.declared.container.Container.TheVariants as class;
+ghost use Rattle.goblin_base.specs.declared.container.Endian.{Endian};
+ghost use Rattle.goblin_base.specs.Layout.{IsOneImage};
 ghost use Rattle.goblin_base.specs.Record.{read_within, Writes};
 ghost use Rattle.goblin_base.specs.Steps.{with_size};
-ghost use Rattle.goblin_records.specs.Reloc64.{rel64_size, rel64_of, rel64_image};
-ghost use Rattle.goblin_records.specs.Reloc64.{rela64_size, rela64_of, rela64_image};
-ghost use Rattle.goblin_records.specs.Reloc64.{OneRelImage, OneRelaImage};
+ghost use Rattle.goblin_records.specs.Reloc64.{rel64_size, rel64_of, rel64_image, rel64_low};
+ghost use Rattle.goblin_records.specs.Reloc64.{rela64_size, rela64_of, rela64_image, rela64_low};
 ghost use Rattle.goblin_records.specs.RelocInfo.{symbol_in, type_in, info_of, JoinsItsParts};
 ghost use Rattle.goblin_records.specs.RelocInfo.{mips64el_info, mips64el_info_inverse};
 ghost use Rattle.goblin_records.specs.RelocInfo.{MipsInverse, MipsOneToOne, MipsFourTimes};
@@ -161,7 +162,6 @@ impl From<Rel> for Reloc {
 /// Of each field the low bits are kept, as many as it has room for. A missing addend is 0.
 impl From<Reloc> for Rela {
     ghost use Rattle.goblin_records.specs.Reloc.{rela_as64};
-    ghost use Rattle.goblin_records.specs.Reloc64.{rela64_low};
 
     ghost from_gives = { λ reloc raw. raw ≡ rela64_low (rela_as64 reloc) };
 
@@ -177,7 +177,6 @@ impl From<Reloc> for Rela {
 /// Of each field the low bits are kept, as many as it has room for. The addend is dropped.
 impl From<Reloc> for Rel {
     ghost use Rattle.goblin_records.specs.Reloc.{rel_as64};
-    ghost use Rattle.goblin_records.specs.Reloc64.{rel64_low};
 
     ghost from_gives = { λ reloc raw. raw ≡ rel64_low (rel_as64 reloc) };
 
@@ -223,7 +222,7 @@ impl TryIntoCtx<Endian> for Rela {
 
 impl Record<Endian> for Rela {
     ghost use Rattle.goblin_records.specs.Reloc64.{Rela64Fits};
-    ghost use Rattle.goblin_records.specs.RelocLaws.{rela64_laws};
+    ghost use Rattle.goblin_records.specs.Reloc64Laws.{rela64_laws};
 
     ghost read = { rela64_of };
 
@@ -286,7 +285,7 @@ impl TryIntoCtx<Endian> for Rel {
 
 impl Record<Endian> for Rel {
     ghost use Rattle.goblin_records.specs.Reloc64.{Rel64Fits};
-    ghost use Rattle.goblin_records.specs.RelocLaws.{rel64_laws};
+    ghost use Rattle.goblin_records.specs.Reloc64Laws.{rel64_laws};
 
     ghost read = { rel64_of };
 
@@ -319,8 +318,10 @@ impl Record<Endian> for Rel {
 /// back. A call does nothing.
 pub fn laws()
     ensures sizes { (SIZEOF_RELA ≡ rela64_size) × (SIZEOF_REL ≡ rel64_size) }
-    ensures rela_image { OneRelaImage }
-    ensures rel_image { OneRelImage }
+    ensures rela_image { (order : Endian) →
+        IsOneImage rela64_size (rela64_of order) (rela64_image order) rela64_low }
+    ensures rel_image { (order : Endian) →
+        IsOneImage rel64_size (rel64_of order) (rel64_image order) rel64_low }
     ensures joins { JoinsItsParts class.Big }
     ensures inverse { MipsInverse }
     ensures one_to_one { MipsOneToOne }

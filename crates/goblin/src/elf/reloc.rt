@@ -110,7 +110,7 @@ impl<'a> RelocSection<'a> {
 
     /// An iterator over the relocations, from the first one on.
     pub fn iter(&self) -> RelocIterator<'a>
-        ensures items { result ≡ self.now }
+        ensures exact { result ≡ self.now }
         ensures bound { length self.now < 2 ^ 64 }
     {
         RelocIterator {
@@ -147,7 +147,7 @@ impl<'a, 'b> IntoIterator for &'b RelocSection<'a> {
     ghost into_iter_gives = { λ s relocs. relocs ≡ s.now };
 
     fn into_iter(self) -> Self::IntoIter
-        ensures items { result ≡ self.now }
+        ensures exact { result ≡ self.now }
         ensures bound { length self.now < 2 ^ 64 }
     {
         self.iter()
