@@ -41,15 +41,15 @@ bytes_at bytes place size = do
   _ ← refuse_as misplaced (room_of (length bytes) place size)
   Ok (take size (drop place bytes))
 
--- bytes that are text, or else a refusal; so many bytes there are from where they begin
-abbrev pub as_text : ℕ → List ℕ → Result (List ℕ) Refusal
-as_text available bytes = if is_utf8 bytes then Ok bytes else Err (bad_input available (codes "invalid utf8"))
+-- the bytes, if they are text
+abbrev pub text_or_fault : List ℕ → ℕ → Result (List ℕ) Refusal
+text_or_fault bytes size = if is_utf8 bytes then Ok bytes else Err (bad_input size (codes "invalid utf8"))
 
--- so many bytes of text from a place on
+-- so many bytes of text from a place on, or else why there are none
 abbrev pub text_at : List ℕ → ℕ → ℕ → Result (List ℕ) Refusal
 text_at bytes place size = do
   text ← bytes_at bytes place size
-  as_text (length bytes - place) text
+  text_or_fault text (length bytes - place)
 
 -- The note at the start of some bytes, and how many bytes it takes. Behind its header lies its name, whose size counts
 -- one byte more, unless it is 0. The descriptor lies from the next multiple of the alignment on, and the note takes

@@ -1,28 +1,225 @@
-//! Cases with their answers: notes.
-ghost use Rattle.std.specs.Prelude.{◌≡◌, ◌<◌, ◌^◌, length};
-ghost use Rattle.goblin.specs.Notes.{items_left, most_left_in};
+//! Cases with their answers: notes, and loops over them as a user writes them.
+ghost use Rattle.std.specs.Prelude.{◌≡◌, length};
+ghost use Rattle.goblin.specs.Notes.{items_left};
 
-use crate::elf::note::{NT_GNU_BUILD_ID, Note, NoteDataIterator, NoteIterator};
+use crate::elf::note::{NT_GNU_BUILD_ID, NT_SIGINFO, Note, NoteDataIterator, NoteIterator};
+use crate::{elf32, elf64};
 use goblin_base::container::{BE, Container, Ctx, Endian, LE};
 use goblin_base::error::{Error, Fault, Result};
 use goblin_base::scroll;
-use goblin_base::scroll::TryFromCtx;
+use goblin_base::scroll::{SizeWith, TryFromCtx};
+use std::alloc::{AllocError, Global};
+use std::test::Fail;
 
-// A little file of the 64-bit class.
+// A file of the 64-bit class in little order.
 const LITTLE: Ctx = Ctx {
     container: Container::Big,
     le: LE,
 };
 
-// How many items a range has: a user's count.
+// A file of the 32-bit class in big order.
+const BIG: Ctx = Ctx {
+    container: Container::Little,
+    le: BE,
+};
+
+// A note "GNU" of type 3 with four bytes.
+const BUILD: &[u8] = b"\x04\0\0\0\x04\0\0\0\x03\0\0\0GNU\0\xAA\xBB\xCC\xDD";
+// The same in big order.
+const BUILD_BIG: &[u8] = b"\0\0\0\x04\0\0\0\x04\0\0\0\x03GNU\0\xAA\xBB\xCC\xDD";
+// A note "GNU" of type 1 without a descriptor.
+const BARE: &[u8] = b"\x04\0\0\0\0\0\0\0\x01\0\0\0GNU\0";
+// A note whose name lacks its last byte.
+const CUT_NAME: &[u8] = b"\x05\0\0\0\0\0\0\0\x01\0\0\0CORE";
+// A note of type 7 without name and descriptor.
+const EMPTY: &[u8] = b"\0\0\0\0\0\0\0\0\x07\0\0\0";
+// A note whose name is no text.
+const NO_TEXT: &[u8] = b"\x02\0\0\0\0\0\0\0\x01\0\0\0\xFF\0";
+// Notes whose name and whose descriptor are the longest that a header can ask for.
+const LONG_NAME: &[u8] = b"\xFF\xFF\xFF\xFF\0\0\0\0\x01\0\0\0GNU\0";
+const LONG_DESC: &[u8] = b"\x04\0\0\0\xFF\xFF\xFF\xFF\x01\0\0\0GNU\0\0\0\0\0";
+// The notes of a program: types 1, 3 and 5, at 0, 32 and 68.
+const THREE: &[u8] = b"\x04\0\0\0\x10\0\0\0\x01\0\0\0GNU\0\0\0\0\0\x02\0\0\0\x06\0\0\0\x20\0\0\0\
+    \x04\0\0\0\x14\0\0\0\x03\0\0\0GNU\0\xBC\xFC\x66\xCD\xC7\xD5\x14\x7B\x53\xB1\x10\x11\x94\x86\x8E\xF9\x4F\xE8\xDD\xDB\
+    \x04\0\0\0\x30\0\0\0\x05\0\0\0GNU\0\x02\x80\0\xC0\x04\0\0\0\x01\0\0\0\0\0\0\0\
+    \x01\0\x01\xC0\x04\0\0\0\x01\0\0\0\0\0\0\0\x02\0\x01\xC0\x04\0\0\0\0\0\0\0\0\0\0\0";
+
+// Whether a note is read as these parts, of which so many bytes are counted.
+fn reads(bytes: &[u8], ctx: (usize, Ctx), n_type: u32, name: &str, desc: &[u8], len: usize) -> bool {
+    match Note::try_from_ctx(bytes, ctx) {
+        Ok((note, counted)) => {
+            note.n_type == n_type && note.name == name && note.desc == desc && counted == len
+        }
+        Err(_) => false,
+    }
+}
+
+#[test]
+fn reads_notes(rt: HostRuntime) {
+    let desc = b"\xAA\xBB\xCC\xDD";
+    assert!(rt; reads(BUILD, (4, LITTLE), 3, "GNU", desc, 20));
+    assert!(rt; reads(BUILD, (8, LITTLE), 3, "GNU", desc, 24));
+    assert!(rt; reads(BUILD_BIG, (4, BIG), 3, "GNU", desc, 20));
+    assert!(rt; reads(BARE, (4, LITTLE), 1, "GNU", b"", 16));
+    assert!(rt; reads(EMPTY, (0, LITTLE), 7, "", b"", 12));
+}
+
+// Whether reading a note is refused with this text.
+fn refuses(alloc: Global, bytes: &[u8], alignment: usize, text: &str) -> bool {
+    match Note::try_from_ctx(bytes, (alignment, LITTLE)) {
+        Ok(_) => false,
+        Err(e) => match e.line(alloc) {
+            Ok(line) => line.as_str() == text,
+            Err(_) => false,
+        },
+    }
+}
+
+#[test]
+fn refuses_other_alignments(rt: HostRuntime) {
+    let sixteen = "Malformed entity: Notes has unimplemented alignment requirement: 0x10";
+    let five = "Malformed entity: Notes has unimplemented alignment requirement: 0x5";
+    let most = "Malformed entity: Notes has unimplemented alignment requirement: 0xffffffffffffffff";
+    assert!(rt; refuses(rt.alloc(), BUILD, 16, sixteen));
+    assert!(rt; refuses(rt.alloc(), BUILD, 5, five));
+    assert!(rt; refuses(rt.alloc(), b"", 5, five));
+    assert!(rt; refuses(rt.alloc(), BUILD, usize::MAX, most));
+}
+
+#[test]
+fn refuses_what_has_no_room_or_is_no_text(rt: HostRuntime) {
+    assert!(rt; refuses(rt.alloc(), &BUILD[..11], 4, "type is too big (12) for 11"));
+    assert!(rt; refuses(rt.alloc(), b"", 4, "bad offset 0"));
+    assert!(rt; refuses(rt.alloc(), CUT_NAME, 4, "bad offset 20"));
+    assert!(rt; refuses(rt.alloc(), NO_TEXT, 4, "bad input invalid utf8 (2)"));
+    assert!(rt; refuses(rt.alloc(), LONG_NAME, 4, "type is too big (4294967294) for 4"));
+    assert!(rt; refuses(rt.alloc(), LONG_DESC, 4, "type is too big (4294967295) for 4"));
+}
+
+// The range of these bytes from an offset up to an end.
+fn range(bytes: &[u8], offset: usize, size: usize, alignment: usize) -> NoteDataIterator<'_> {
+    NoteDataIterator {
+        bytes,
+        size,
+        offset,
+        ctx: (alignment, LITTLE),
+    }
+}
+
+// Whether a range gives notes of just these types.
+fn gives(mut notes: NoteDataIterator, types: &[u32]) -> bool {
+    for n_type in types {
+        match notes.next() {
+            Some(Ok(note)) if note.n_type == *n_type => {}
+            _ => return false,
+        }
+    }
+    match notes.next() {
+        None => true,
+        Some(_) => false,
+    }
+}
+
+// Whether ranges give notes of just these types, one range after another.
+fn all_give(mut notes: NoteIterator, types: &[u32]) -> bool {
+    for n_type in types {
+        match notes.next() {
+            Some(Ok(note)) if note.n_type == *n_type => {}
+            _ => return false,
+        }
+    }
+    match notes.next() {
+        None => true,
+        Some(_) => false,
+    }
+}
+
+// These ranges of a program's notes, from the range with an index on.
+fn ranges(
+    alloc: Global,
+    ends: &[(usize, usize)],
+    index: usize,
+) -> std::result::Result<NoteIterator<'static>, AllocError> {
+    let mut iters = Vec::new(alloc);
+    for (offset, size) in ends {
+        iters.push(range(THREE, *offset, *size, 4))?;
+    }
+    Ok(NoteIterator { iters, index })
+}
+
+#[test]
+fn gives_the_notes_of_ranges(rt: HostRuntime) -> std::result::Result<(), Fail> {
+    assert!(rt; gives(range(THREE, 0, 132, 4), &[1, 3, 5]));
+    assert!(rt; all_give(ranges(rt.alloc(), &[(0, 132)], 0)?, &[1, 3, 5]));
+    assert!(rt; all_give(ranges(rt.alloc(), &[(0, 32), (32, 68), (68, 132)], 0)?, &[1, 3, 5]));
+    assert!(rt; all_give(ranges(rt.alloc(), &[(0, 32), (0, 0), (32, 68)], 0)?, &[1, 3]));
+    assert!(rt; all_give(ranges(rt.alloc(), &[], 0)?, &[]));
+    Ok(())
+}
+
+#[test]
+fn begins_at_the_range_with_its_index(rt: HostRuntime) -> std::result::Result<(), Fail> {
+    assert!(rt; all_give(ranges(rt.alloc(), &[(0, 32), (32, 68), (68, 132)], 1)?, &[3, 5]));
+    assert!(rt; all_give(ranges(rt.alloc(), &[(0, 32), (32, 68)], 2)?, &[]));
+    assert!(rt; all_give(ranges(rt.alloc(), &[(0, 32)], usize::MAX)?, &[]));
+    Ok(())
+}
+
+// Whether the first item of a range is this fault of a place, the last one, and moves the offset to
+// the end.
+fn ends_with(mut notes: NoteDataIterator, fault: &scroll::Error) -> bool {
+    let told = match notes.next() {
+        Some(Err(Error::Scroll(e))) => is_same(&e, fault),
+        _ => false,
+    };
+    told && notes.next().is_none() && notes.offset == notes.size
+}
+
+// Whether two faults of places are the same.
+fn is_same(a: &scroll::Error, b: &scroll::Error) -> bool {
+    match (a, b) {
+        (
+            scroll::Error::TooBig { size, len },
+            scroll::Error::TooBig {
+                size: other_size,
+                len: other_len,
+            },
+        ) => size == other_size && len == other_len,
+        (scroll::Error::BadOffset(offset), scroll::Error::BadOffset(other)) => offset == other,
+        (
+            scroll::Error::BadInput { size, msg },
+            scroll::Error::BadInput {
+                size: other_size,
+                msg: other_msg,
+            },
+        ) => size == other_size && msg == other_msg,
+        _ => false,
+    }
+}
+
+#[test]
+fn ends_a_range_with_its_fault(rt: HostRuntime) {
+    let bad_offset = scroll::Error::BadOffset(20);
+    assert!(rt; ends_with(range(CUT_NAME, 0, 16, 4), &bad_offset));
+    let at_start = scroll::Error::BadOffset(0);
+    assert!(rt; ends_with(range(b"", 0, 5, 4), &at_start));
+    let too_big = scroll::Error::TooBig { size: 12, len: 8 };
+    assert!(rt; ends_with(range(&THREE[..8], 0, 132, 4), &too_big));
+    // At the end of the bytes the alignment isn't looked at.
+    let at_end = scroll::Error::BadOffset(132);
+    assert!(rt; ends_with(range(THREE, 132, 133, 5), &at_end));
+    let far = scroll::Error::BadOffset(usize::MAX - 1);
+    assert!(rt; ends_with(range(THREE, usize::MAX - 1, usize::MAX, 4), &far));
+}
+
+// How many items a range has.
 fn count(notes: NoteDataIterator) -> usize
     ensures { result ≡ length (items_left notes.entry) }
 {
     notes.count()
 }
 
-// The descriptor of the first note that tells a build, where each note before it can be read: a user's
-// loop.
+// The descriptor of the first note that tells a build, if each note before it can be read.
 fn build_of(notes: NoteDataIterator<'_>) -> Result<Option<&[u8]>> {
     for note in notes {
         let note = note?;
@@ -33,12 +230,56 @@ fn build_of(notes: NoteDataIterator<'_>) -> Result<Option<&[u8]>> {
     Ok(None)
 }
 
-// How many notes several ranges have, up to the first that can't be read.
-fn count_all(notes: NoteIterator) -> Result<u64> {
-    let mut count = 0u64;
+// How many bytes the descriptors of all notes take, if all can be read.
+fn bytes_in(notes: NoteIterator) -> Result<usize> {
+    let mut sum = 0usize;
     for note in notes {
-        let _ = note?;
-        count = count.saturating_add(1);
+        sum = sum.saturating_add(note?.desc.len());
     }
-    Ok(count)
+    Ok(sum)
+}
+
+// Whether the answer is this text of bytes.
+fn is_build(answer: Result<Option<&[u8]>>, build: &[u8]) -> bool {
+    match answer {
+        Ok(Some(desc)) => desc == build,
+        _ => false,
+    }
+}
+
+#[test]
+fn serves_a_loop_and_a_count(rt: HostRuntime) -> std::result::Result<(), Fail> {
+    assert!(rt; count(range(THREE, 0, 132, 4)) == 3);
+    assert!(rt; count(range(THREE, 0, usize::MAX, 4)) == 4);
+    assert!(rt; is_build(build_of(range(THREE, 0, 132, 4)), &THREE[48..68]));
+    assert!(rt; build_of(range(CUT_NAME, 0, 16, 4)).is_err());
+    assert!(rt; bytes_in(ranges(rt.alloc(), &[(0, 32), (32, 68)], 0)?)? == 36);
+    Ok(())
+}
+
+// Whether a note of this name and type has this name of its type.
+fn is_named(name: &str, n_type: u32, want: &str) -> bool {
+    let note = Note {
+        n_type,
+        name,
+        desc: b"",
+    };
+    note.type_to_str() == want
+}
+
+#[test]
+fn names_types(rt: HostRuntime) {
+    assert!(rt; is_named("CORE", 1, "NT_PRSTATUS") && is_named("CORE", 3, "NT_PRPSINFO"));
+    assert!(rt; is_named("CORE", 0x5349_4749, "NT_SIGINFO") && is_named("CORE", 2, "NT_UNKNOWN"));
+    assert!(rt; is_named("CORE", 0x4649_4c45, "NT_UNKNOWN"));
+    assert!(rt; is_named("GNU", 1, "NT_GNU_ABI_TAG") && is_named("", 2, "NT_GNU_HWCAP"));
+    assert!(rt; is_named("GNU", 3, "NT_GNU_BUILD_ID") && is_named("Go", 3, "NT_GNU_BUILD_ID"));
+    assert!(rt; is_named("GNU", 4, "NT_GNU_GOLD_VERSION"));
+    assert!(rt; is_named("GNU", 5, "NT_GNU_PROPERTY_0") && is_named("GNU", 6, "NT_UNKNOWN"));
+    assert!(rt; is_named("GNU", NT_SIGINFO, "NT_UNKNOWN") && is_named("CORE2", 1, "NT_GNU_ABI_TAG"));
+}
+
+#[test]
+fn leads_to_the_headers_of_notes(rt: HostRuntime) {
+    assert!(rt; elf32::Note::size_with(&LE) == 12 && elf64::Note::size_with(&LE) == 24);
 }

@@ -7,7 +7,7 @@ ghost use Rattle.std.specs.Iterator.SizeHint.{IsWithinCount};
 ghost use Rattle.goblin_base.specs.Refusal.{Answers};
 ghost use Rattle.goblin.specs.Notes.{NoteByNote, NotesAdvance, FewNotes};
 ghost use Rattle.goblin.specs.NoteType.{note_type_name};
-ghost use Rattle.goblin.specs.Note.{bytes_at, note_and_len, note_at, text_at};
+ghost use Rattle.goblin.specs.Note.{bytes_at, note_and_len, note_at, text_at, text_or_fault};
 
 use goblin_base::container::Ctx;
 use goblin_base::error::{Error, Fault, Result};
@@ -197,18 +197,26 @@ fn bytes_at(bytes: &[u8], place: usize, size: usize) -> Result<&[u8]>
     Ok(&bytes[place..place + size])
 }
 
-// So many bytes of text from a place on, or the fault of room, or of other bytes than text.
+// The bytes as a text. Where they are none, it is a `BadInput` of this size.
+#[tactic(auto, using(crate::proofs::TextTests::utf8_tests))]
+fn read_text(bytes: &[u8], size: usize) -> Result<&str>
+    ensures { Answers (λ text. text.now) result (text_or_fault bytes.now size) }
+{
+    match std::str::from_utf8(bytes) {
+        Ok(text) => Ok(text),
+        Err(_) => Err(Error::Scroll(scroll::Error::BadInput {
+            size,
+            msg: "invalid utf8",
+        })),
+    }
+}
+
+// So many bytes of text from a place on, or else why there are none.
 fn text_at(bytes: &[u8], place: usize, size: usize) -> Result<&str>
     ensures { Answers (λ text. text.now) result (text_at bytes.now place size) }
 {
     let part = bytes_at(bytes, place, size)?;
-    match std::str::from_utf8(part) {
-        Ok(text) => Ok(text),
-        Err(_) => Err(Error::Scroll(scroll::Error::BadInput {
-            size: bytes.len() - place,
-            msg: "invalid utf8",
-        })),
-    }
+    read_text(part, bytes.len() - place)
 }
 
 /// An alignment below 4 counts as 4, and any other than 4 and 8 is a `NoteAlign`, before a byte is
