@@ -33,7 +33,10 @@ pub fn push_relocations(
         let offset = reloc.r_offset;
         let symbol = reloc.r_sym;
         let addend = reloc.r_addend.unwrap_or(0);
-        write!(text, "{index} at 0x{offset:x}: symbol {symbol}, addend {addend}\n")?;
+        write!(
+            text,
+            "{index} at 0x{offset:x}: symbol {symbol}, addend {addend}\n"
+        )?;
     }
     Ok(())
 }
