@@ -38,25 +38,6 @@ pub unless_fault-err : {X : Type 0} (room : Result (Unit {0}) Misplaced) (e : Er
 unless_fault-err (Ok _) e y is = absurd (cc)
 unless_fault-err (Err d) e y is = (d, refl, cc)
 
--- the same of a reading
-pub read_within-is : {X : Type 0} (size : ℕ) (read : List ℕ → X) (bytes : List ℕ) (x : X) → Ok x ≡ read_within size read bytes → (size ≤ length bytes) × (x ≡ read bytes)
-unfolding read_within
-read_within-is size read bytes x e =
-    let is = unless_fault-is (room_of (length bytes) 0 size) x (read bytes) e in
-    let fits = fits-room_of (length bytes) 0 size tt is.0 in
-    (omega arith, is.1)
-
--- what holds of the record holds of what was read
-if_ok : {X : Type 0} (room : Result (Unit {0}) Misplaced) (x : X) (P : X → Type 0) → (room ≡ Ok tt → P x) → IfOk (unless_fault room x) P
-if_ok (Ok _) x P h = h refl
-if_ok (Err d) x P h = tt
-
--- the same of a reading
-pub IfOk-read_within : {X : Type 0} (size : ℕ) (read : List ℕ → X) (bytes : List ℕ) (P : X → Type 0) → (size ≤ length bytes → P (read bytes)) → IfOk (read_within size read bytes) P
-unfolding read_within
-IfOk-read_within size read bytes P h =
-    if_ok (room_of (length bytes) 0 size) (read bytes) P (λ is. let fits = fits-room_of (length bytes) 0 size tt is in h (omega arith))
-
 -- where there is room, the image stands in front
 pub Writes-ok : (size s : ℕ) (image old new : List ℕ) (u : Unit {0}) → s ≡ size → Ok u ≡ room_of (length old) 0 s → new ≡ image ++ drop size old → Writes size image old (Ok s) new
 unfolding Writes
@@ -66,16 +47,6 @@ Writes-ok size s image old new u same e h = rw (← same, ← e) (refl, rw same 
 pub Writes-err : (size s : ℕ) (image old : List ℕ) (e : Misplaced) → s ≡ size → Err e ≡ room_of (length old) 0 s → Writes size image old (Err (Scroll e)) old
 unfolding Writes
 Writes-err size s image old e same is = rw (← same, ← is) (refl, refl)
-
--- bytes that are written over themselves stay as they were
-unchanged : (room : Result (Unit {0}) Misplaced) (size : ℕ) (image old new : List ℕ) (answer : Result ℕ Error) → image ≡ take size old → WritesUnless room size image old answer new → new ≡ old
-unchanged (Ok _) size image old new answer e h = h.1 ∙ ap (λ (front : List ℕ). front ++ drop size old) e ∙ take-append-drop size old
-unchanged (Err d) size image old new answer e h = h.1
-
--- the same of a writing
-pub Writes-unchanged : (size : ℕ) (image old new : List ℕ) (answer : Result ℕ Error) → image ≡ take size old → Writes size image old answer new → new ≡ old
-unfolding Writes
-Writes-unchanged size image old new answer e h = unchanged (room_of (length old) 0 size) size image old new answer e h
 
 -- what reading and writing answer, for the goals of the functions that do it
 pub ruleset record_answers = (read_within-ok, read_within-err, Writes-ok, Writes-err)

@@ -73,18 +73,3 @@ signed_number_at-with_number order bytes place width z room fits =
     let x = complement width z in
     ap (signed_of width) (number_at-with_number order bytes place width x room ∙ complement-mod width z)
     ∙ signed_of-complement width z fits
-
--- the casts of the numbers of four and of eight bytes are two's complement
-pub signed_of-four : (x : ℕ) → x < 2 ^ 32 → cast_signed w32 x ≡ signed_of 4 x
-signed_of-four x h = grind (arith, nat_tests, ints)
-
-pub signed_of-eight : (x : ℕ) → x < 2 ^ 64 → cast_signed w64 x ≡ signed_of 8 x
-signed_of-eight x h = grind (arith, nat_tests, ints)
-
-pub complement-four : (z : ℤ) → FitsInt w32 z → cast_unsigned w32 z ≡ complement 4 z
-complement-four (pos x) fits = grind (arith, nat_tests, ints)
-complement-four (negsuc x) fits = grind (arith, nat_tests, ints)
-
-pub complement-eight : (z : ℤ) → FitsInt w64 z → cast_unsigned w64 z ≡ complement 8 z
-complement-eight (pos x) fits = grind (arith, nat_tests, ints)
-complement-eight (negsuc x) fits = grind (arith, nat_tests, ints)
