@@ -59,8 +59,8 @@ abbrev pub section_headers_of_tested : List ℕ → ℕ → ℕ → Ctx → Resu
 section_headers_of_tested bytes offset count ctx =
     if offset == 0 then Ok tt else section_headers_from_tested bytes offset count ctx
 
--- whether a section with bytes in the file (not of type 8) lies in a file of so many bytes, and its addresses below
--- 2 ^ 64
+-- whether a section with bytes in the file (not of type 8) lies in a file of so many bytes, and its addresses end
+-- below 2 ^ 64
 abbrev pub size_checked : ℕ → SectionHeader → Result (Unit {0}) Error
 size_checked len s =
     if s.sh_type == 8 || s.sh_size == 0 then Ok tt
