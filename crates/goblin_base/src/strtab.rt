@@ -189,15 +189,11 @@ impl<'a> Strtab<'a> {
     {
         match &self.entries {
             Some(entries) => texts(alloc, entries),
-            None => texts(
-                alloc,
-                &walk(
-                    alloc,
-                    &mut Looked::new(self.bytes),
-                    self.delim,
-                    ParseMode::Strict,
-                )?,
-            ),
+            None => {
+                let mut view = Looked::new(self.bytes);
+                let entries = walk(alloc, &mut view, self.delim, ParseMode::Strict)?;
+                texts(alloc, &entries)
+            }
         }
     }
 

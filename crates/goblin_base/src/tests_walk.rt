@@ -9,21 +9,15 @@ use crate::strtab::Strtab;
 use crate::walk::walk;
 use std::alloc::Global;
 
+// Whether an entry has this place and this text.
+fn is_entry(entries: &Entries<'_>, i: usize, want: (usize, &str)) -> bool {
+    let mut probes = Probes::of(&*entries);
+    i < entries.len() && i < probes.len() && probes.at(i) == want.0 && entries.text(i) == want.1
+}
+
 // Whether the entries are these.
 fn are_entries(entries: &Entries<'_>, want: &[(usize, &str)]) -> bool {
-    let mut probes = Probes::of(&*entries);
-    if entries.len() != want.len() || probes.len() != want.len() {
-        return false;
-    }
-    for i in 0..want.len() {
-        if i >= entries.len() || i >= probes.len() {
-            return false;
-        }
-        if probes.at(i) != want[i].0 || entries.text(i) != want[i].1 {
-            return false;
-        }
-    }
-    true
+    entries.len() == want.len() && (0..want.len()).all(|i| is_entry(entries, i, want[i]))
 }
 
 // Whether the permissive walk gives these entries within so many looks.
@@ -83,19 +77,9 @@ fn is_empty_at_each_byte(alloc: Global, bytes: &[u8]) -> bool {
     let Ok(entries) = walk(alloc, &mut view, 0, ParseMode::Permissive) else {
         return false;
     };
-    let mut probes = Probes::of(&entries);
-    if entries.len() != bytes.len() || probes.len() != bytes.len() {
-        return false;
-    }
-    for i in 0..bytes.len() {
-        if i >= entries.len() || i >= probes.len() {
-            return false;
-        }
-        if probes.at(i) != i || !entries.text(i).is_empty() {
-            return false;
-        }
-    }
-    view.count() <= 5 * bytes.len() as u128
+    entries.len() == bytes.len()
+        && (0..bytes.len()).all(|i| is_entry(&entries, i, (i, "")))
+        && view.count() <= 5 * bytes.len() as u128
 }
 
 // So many bytes of one number, and then another.
@@ -126,20 +110,28 @@ fn walks_two_million_bytes(rt: HostRuntime) {
     assert!(rt; walks_long(rt.alloc(), 0x61, 2097151, 0xFF));
 }
 
+// Whether a search among the entries finds one within so many probes.
+fn finds_one_within(entries: &Entries<'_>, offset: usize, most: u64) -> bool {
+    let mut probes = Probes::of(&*entries);
+    find(&mut probes, offset).is_some() && probes.count() <= most
+}
+
 // Whether a search for each offset up to the length takes at most so many probes.
 fn finds_within(alloc: Global, bytes: &[u8], delim: u8, most: u64) -> bool {
     let mut view = Looked::new(bytes);
-    let Ok(entries) = walk(alloc, &mut view, delim, ParseMode::Permissive) else {
-        return false;
-    };
-    for offset in 0..bytes.len() {
-        let mut probes = Probes::of(&entries);
-        if find(&mut probes, offset).is_none() || probes.count() > most {
-            return false;
-        }
+    match walk(alloc, &mut view, delim, ParseMode::Permissive) {
+        Ok(entries) => (0..=bytes.len()).all(|offset| finds_one_within(&entries, offset, most)),
+        Err(_) => false,
     }
-    let mut probes = Probes::of(&entries);
-    find(&mut probes, bytes.len()).is_some() == (bytes.len() > 0) && probes.count() <= most
+}
+
+// Whether a search among no entries finds none and takes no probe.
+fn finds_none(alloc: Global) -> bool {
+    let mut view = Looked::new(b"");
+    match walk(alloc, &mut view, 0, ParseMode::Permissive) {
+        Ok(entries) => finds_one_plainly(&entries, 0, &[]),
+        Err(_) => false,
+    }
 }
 
 // Whether a search among a thousand entries takes at most ten probes.
@@ -158,7 +150,7 @@ fn finds_within_the_digits(rt: HostRuntime) {
     let foo = b"\n\xC6\x92oo\nmemmove\n\xF0\x9F\x85\xB1\xEF\xB8\x8Fusta\n";
     assert!(rt; finds_within(a, foo, b'\n', 3));
     assert!(rt; finds_among_a_thousand(a));
-    assert!(rt; finds_within(a, b"", 0, 0));
+    assert!(rt; finds_none(a));
 }
 
 // Whether each offset of so many zero bytes looks up the empty text.
