@@ -9,7 +9,6 @@ use Rattle.goblin_base.specs.Fields.{Field, FieldsFit, size_of_fields, image_of_
 use Rattle.goblin_base.specs.FieldLaws.{values_at-image, lows_of-fits, image-fields_at, length-image_of_fields, IsBytes-image_of_fields}
 use Rattle.goblin_base.specs.Number.{IsBytes}
 use Rattle.goblin_base.specs.NumberLaws.{IsBytes-append}
-use Rattle.goblin_headers.specs.declared.header.Header.{Header}
 use Rattle.goblin_headers.specs.Header.{header_size, header_of, header_image, header_low, HeaderFits, as32, as64, widened32, widened64}
 use Rattle.goblin_headers.specs.Header32.{header32_size, header32_of, header32_fields, header32_image, header32_low, Header32Fits}
 use Rattle.goblin_headers.specs.Header64.{header64_size, header64_of, header64_fields, header64_image, header64_low, Header64Fits}

@@ -6,12 +6,11 @@ use Rattle.goblin_base.specs.declared.error.Error.{Error}
 use Rattle.goblin_base.specs.declared.error.Error.TheVariants.{Malformed}
 use Rattle.goblin_base.specs.declared.error.Fault.{Fault}
 use Rattle.goblin_base.specs.declared.scroll.Error.{Error as Misplaced}
-use Rattle.goblin_base.specs.Number.{IsBytes}
 use Rattle.goblin_base.specs.Record.{Writes}
 use Rattle.goblin_base.specs.RecordLaws.{room_of_fits, fits-room_of}
 use Rattle.goblin_base.specs.Room.{room_of}
 use Rattle.goblin_base.specs.Steps.{◌>>=◌, or_refuse, refuse_as}
-use Rattle.goblin_headers.specs.Header.{order_named, NamesOrder}
+use Rattle.goblin_headers.specs.Header.{order_named}
 use Rattle.goblin_headers.specs.HeaderTrips.{IsReadBack, IsWrittenAndReadBack, IsWrittenBack}
 use Rattle.goblin_headers.specs.ReadHeader.{needs, read_in_order}
 use Rattle.goblin_headers.specs.WriteHeader.{WritesInOrder}

@@ -16,7 +16,7 @@ use Rattle.goblin_headers.specs.declared.header64.Header.{Header as Raw64}
 use Rattle.goblin_headers.specs.Header.{header_size, header_of, magic, class_named, order_named, widened32, widened64}
 use Rattle.goblin_headers.specs.Header32.{header32_size, header32_of}
 use Rattle.goblin_headers.specs.Header64.{header64_size, header64_of}
-use Rattle.goblin_headers.specs.ReadHeader.{needs, read_header, read_in_order, read_header32, read_header64}
+use Rattle.goblin_headers.specs.ReadHeader.{needs, read_header, read_header32, read_header64}
 use Rattle.goblin_headers.proofs.RawTrips.{had_room, read_in_order-is}
 
 -- with the magic number, a class, a byte order and room for the header of the class it is read

@@ -10,11 +10,11 @@ use Rattle.goblin_base.specs.declared.container.Endian.TheVariants as endian
 use Rattle.goblin_base.specs.declared.error.Error.{Error}
 use Rattle.goblin_base.specs.Number.{IsBytes}
 use Rattle.goblin_headers.specs.declared.header.Header.{Header}
-use Rattle.goblin_headers.specs.Header.{header_size, header_of, header_image, header_low, HeaderFits, Identifies, NamesOrder, new_header, magic, class_named, order_named}
+use Rattle.goblin_headers.specs.Header.{header_size, header_image, HeaderFits, Identifies, new_header, magic, class_named, order_named}
 use Rattle.goblin_headers.specs.HeaderTrips.{OneImage, ReadsBack, WrittenAndReadBack, ImageOfRead, WritesBack, NewIsOfContext, NewIsReadBack}
 use Rattle.goblin_headers.specs.ReadHeader.{read_header}
-use Rattle.goblin_headers.specs.WriteHeader.{WritesInOrder, WritesHeader}
-use Rattle.goblin_headers.proofs.HeaderLaws.{IsHeader, header_laws, one_header_image, reads_fitting}
+use Rattle.goblin_headers.specs.WriteHeader.{WritesHeader}
+use Rattle.goblin_headers.proofs.HeaderLaws.{header_laws, one_header_image, reads_fitting}
 use Rattle.goblin_headers.proofs.RawTrips.{front_byte, ident_byte, over_itself, writes_in_order}
 use Rattle.goblin_headers.proofs.ReadHeaderLemmas.{read_header-ok, read_header-is}
 

@@ -2,8 +2,8 @@
 ghost use Rattle.std.specs.Prelude.{◌≡◌, ◌≤◌, ◌++◌, [], ◌∷◌, length, take, drop};
 ghost use Rattle.goblin_headers.specs.Header.{header_size, magic, order_named};
 ghost use Rattle.goblin_headers.specs.HeaderTrips.{OneImage, ReadsBack, WrittenAndReadBack};
-ghost use Rattle.goblin_headers.specs.HeaderTrips.{ImageOfRead, WritesBack};
-ghost use Rattle.goblin_headers.specs.HeaderTrips.{NewIsOfContext, NewIsReadBack};
+ghost use Rattle.goblin_headers.specs.HeaderTrips.{ImageOfRead, WritesBack, NewIsOfContext};
+ghost use Rattle.goblin_headers.specs.HeaderTrips.{NewIsReadBack};
 ghost use Rattle.goblin_headers.specs.Machines.{machine_numbers};
 ghost use Rattle.goblin_headers.specs.Names.{class_name, type_name};
 

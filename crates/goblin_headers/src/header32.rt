@@ -1,7 +1,7 @@
 //! The header of a 32-bit ELF file: System V gABI, "ELF Header", `Elf32_Ehdr`.
 ghost use Rattle.std.specs.Prelude.{◌≡◌, ◌≤◌, ◌++◌, [], ◌∷◌, length, drop, replicate};
-ghost use Rattle.goblin_headers.specs.Header.{magic};
 ghost use Rattle.goblin_base.specs.Fields.{values_of};
+ghost use Rattle.goblin_headers.specs.Header.{magic};
 ghost use Rattle.goblin_headers.specs.Header32.{header32_of, header32_image, header32_size};
 ghost use Rattle.goblin_headers.specs.Header32.{header32_fields, header32_low, Header32Fits};
 ghost use Rattle.goblin_headers.specs.HeaderTrips.{IsOneHeaderImage, IsReadBack};

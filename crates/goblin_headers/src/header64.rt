@@ -1,7 +1,7 @@
 //! The header of a 64-bit ELF file: System V gABI, "ELF Header", `Elf64_Ehdr`.
 ghost use Rattle.std.specs.Prelude.{◌≡◌, ◌≤◌, ◌++◌, [], ◌∷◌, length, drop, replicate};
-ghost use Rattle.goblin_headers.specs.Header.{magic};
 ghost use Rattle.goblin_base.specs.Fields.{values_of};
+ghost use Rattle.goblin_headers.specs.Header.{magic};
 ghost use Rattle.goblin_headers.specs.Header64.{header64_of, header64_image, header64_size};
 ghost use Rattle.goblin_headers.specs.Header64.{header64_fields, header64_low, Header64Fits};
 ghost use Rattle.goblin_headers.specs.HeaderTrips.{IsOneHeaderImage, IsReadBack};

@@ -1,24 +1,22 @@
 //! Program headers, which tell how a file is loaded: System V gABI, "Program Header".
-ghost use Rattle.std.specs.Prelude.{◌≡◌, ◌≤◌, ◌↔◌, ◌++◌, [], ◌∷◌, IsTrue, IfErr, IsOk};
-ghost use Rattle.std.specs.Prelude.{length, drop};
 ghost use Rattle.std.specs.Int.{IsBitSet};
 ghost use Rattle.std.specs.Int.Bits.{bit_or};
-ghost use Rattle.goblin_base.specs.Record.{read_within, Writes};
-ghost use Rattle.goblin_base.specs.Steps.{with_size};
-ghost use Rattle.goblin_base.specs.Refusal.{Gives, Refuses};
-ghost use Rattle.goblin_headers.specs.Ranges.{span};
-ghost use Rattle.std.specs.Prelude.{replicate};
-ghost use Rattle.goblin_base.specs.declared.container.Container.{Container as Class};
-ghost use Rattle.goblin_base.specs.declared.container.Endian.{Endian as ByteOrder};
-ghost use Rattle.goblin_base.specs.Layout.{IsOneImage, IsSameInEachClass};
+ghost use Rattle.std.specs.Prelude.{◌≡◌, ◌≤◌, ◌↔◌, ◌++◌, [], ◌∷◌, IsTrue, IfErr, IsOk, length};
+ghost use Rattle.std.specs.Prelude.{drop, replicate};
 ghost use Rattle.goblin_base.specs.Fields.{values_of};
-ghost use Rattle.goblin_headers.specs.ProgramHeader.{as64};
+ghost use Rattle.goblin_base.specs.Layout.{IsOneImage, IsSameInEachClass};
+ghost use Rattle.goblin_base.specs.Record.{read_within, Writes};
+ghost use Rattle.goblin_base.specs.Refusal.{Gives, Refuses};
+ghost use Rattle.goblin_base.specs.Steps.{with_size};
+ghost use Rattle.goblin_base.specs.declared.container.Container.{Container};
+ghost use Rattle.goblin_base.specs.declared.container.Endian.{Endian};
+ghost use Rattle.goblin_headers.specs.ProgramHeader.{as64, program_header_size, program_header_of};
+ghost use Rattle.goblin_headers.specs.ProgramHeader.{program_header_image, program_header_low};
+ghost use Rattle.goblin_headers.specs.ProgramHeader.{ProgramHeaderFits};
 ghost use Rattle.goblin_headers.specs.ProgramHeader64.{program_header64_fields};
-ghost use Rattle.goblin_headers.specs.ProgramHeader.{program_header_size, program_header_of};
-ghost use Rattle.goblin_headers.specs.ProgramHeader.{program_header_image, program_header_low, ProgramHeaderFits};
-ghost use Rattle.goblin_headers.specs.ProgramHeaders.{new_program_header};
-ghost use Rattle.goblin_headers.specs.ProgramHeaders.{program_headers_from};
+ghost use Rattle.goblin_headers.specs.ProgramHeaders.{new_program_header, program_headers_from};
 ghost use Rattle.goblin_headers.specs.ProgramHeaders.{program_headers_tested};
+ghost use Rattle.goblin_headers.specs.Ranges.{span};
 ghost use Rattle.goblin_headers.specs.SegmentNames.{segment_name};
 
 pub use crate::{program_header32, program_header64};
@@ -359,7 +357,7 @@ pub fn constants()
 /// Laws: which bytes a program header is written as, and that classes and byte orders keep lists of
 /// program headers the same. A call does nothing.
 pub fn laws()
-    ensures image { (class : Class) (order : ByteOrder) →
+    ensures image { (class : Container) (order : Endian) →
         IsOneImage (program_header_size class) (program_header_of class order) (program_header_image class order) (program_header_low class) }
     ensures same { IsSameInEachClass program_header_size program_header_of program_header_image ProgramHeaderFits }
 {}

@@ -1,15 +1,14 @@
 //! Program headers of the 64-bit class: System V gABI, "Program Header" (`Elf64_Phdr`).
 ghost use Rattle.std.specs.Prelude.{◌≡◌, ◌≤◌, ◌*◌, ◌++◌, [], ◌∷◌, length, drop, IfErr, IfOk, IsOk};
-ghost use Rattle.std.specs.Prelude.{alloc_error};
+ghost use Rattle.std.specs.Prelude.{alloc_error, replicate};
 ghost use Rattle.goblin_base.specs.Eager.{records_in, room_of_each};
-ghost use Rattle.goblin_base.specs.declared.container.Endian.{Endian as ByteOrder};
+ghost use Rattle.goblin_base.specs.Fields.{values_of};
 ghost use Rattle.goblin_base.specs.Layout.{IsOneImage};
 ghost use Rattle.goblin_base.specs.Record.{read_within, Writes};
-ghost use Rattle.goblin_base.specs.Steps.{with_size};
 ghost use Rattle.goblin_base.specs.Refusal.{Gives};
+ghost use Rattle.goblin_base.specs.Steps.{with_size};
 ghost use Rattle.goblin_base.specs.Table.{records};
-ghost use Rattle.std.specs.Prelude.{replicate};
-ghost use Rattle.goblin_base.specs.Fields.{values_of};
+ghost use Rattle.goblin_base.specs.declared.container.Endian.{Endian};
 ghost use Rattle.goblin_headers.specs.ProgramHeader64.{program_header64_fields};
 ghost use Rattle.goblin_headers.specs.ProgramHeader64.{program_header64_of, program_header64_image};
 ghost use Rattle.goblin_headers.specs.ProgramHeader64.{program_header64_size, program_header64_low};
@@ -239,7 +238,7 @@ pub fn constants()
 
 /// A law: which bytes a program header is written as. A call does nothing.
 pub fn laws()
-    ensures image { (order : ByteOrder) →
+    ensures image { (order : Endian) →
         IsOneImage program_header64_size (program_header64_of order) (program_header64_image order) program_header64_low }
 {}
 

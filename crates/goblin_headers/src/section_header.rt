@@ -1,26 +1,25 @@
 //! Section headers, which tell what a file holds: System V gABI, "Section Header".
-ghost use Rattle.std.specs.Prelude.{◌≡◌, ◌≤◌, ◌↔◌, ◌++◌, [], ◌∷◌, IsTrue, IfErr, IsNone, IsOk};
-ghost use Rattle.std.specs.Prelude.{IfSome, length, drop, map};
 ghost use Rattle.std.specs.Int.{IsBitSet};
-ghost use Rattle.goblin_base.specs.Record.{read_within, Writes};
-ghost use Rattle.goblin_base.specs.Steps.{with_size};
-ghost use Rattle.goblin_base.specs.Refusal.{Gives, Refuses};
-ghost use Rattle.goblin_headers.specs.Ranges.{span};
-ghost use Rattle.std.specs.Prelude.{replicate};
-ghost use Rattle.goblin_base.specs.declared.container.Container.{Container as Class};
-ghost use Rattle.goblin_base.specs.declared.container.Endian.{Endian as ByteOrder};
-ghost use Rattle.goblin_base.specs.Layout.{IsOneImage, IsSameInEachClass};
+ghost use Rattle.std.specs.Prelude.{◌≡◌, ◌≤◌, ◌↔◌, ◌++◌, [], ◌∷◌, IsTrue, IfErr, IsNone, IsOk};
+ghost use Rattle.std.specs.Prelude.{IfSome, length, drop, map, replicate};
 ghost use Rattle.goblin_base.specs.Fields.{values_of};
-ghost use Rattle.goblin_headers.specs.SectionHeader.{as64};
+ghost use Rattle.goblin_base.specs.Layout.{IsOneImage, IsSameInEachClass};
+ghost use Rattle.goblin_base.specs.Record.{read_within, Writes};
+ghost use Rattle.goblin_base.specs.Refusal.{Gives, Refuses};
+ghost use Rattle.goblin_base.specs.Steps.{with_size};
+ghost use Rattle.goblin_base.specs.declared.container.Container.{Container};
+ghost use Rattle.goblin_base.specs.declared.container.Endian.{Endian};
+ghost use Rattle.goblin_headers.specs.Ranges.{span};
+ghost use Rattle.goblin_headers.specs.SectionHeader.{as64, section_header_size, section_header_of};
+ghost use Rattle.goblin_headers.specs.SectionHeader.{section_header_image, section_header_low};
+ghost use Rattle.goblin_headers.specs.SectionHeader.{SectionHeaderFits};
 ghost use Rattle.goblin_headers.specs.SectionHeader64.{section_header64_fields};
-ghost use Rattle.goblin_headers.specs.SectionHeader.{section_header_size, section_header_of};
-ghost use Rattle.goblin_headers.specs.SectionHeader.{section_header_image, section_header_low, SectionHeaderFits};
 ghost use Rattle.goblin_headers.specs.SectionHeaders.{new_section_header, count_told};
 ghost use Rattle.goblin_headers.specs.SectionHeaders.{section_headers_from};
 ghost use Rattle.goblin_headers.specs.SectionHeaders.{section_headers_from_tested};
 ghost use Rattle.goblin_headers.specs.SectionHeaders.{section_headers_of};
-ghost use Rattle.goblin_headers.specs.SectionHeaders.{section_headers_of_tested};
-ghost use Rattle.goblin_headers.specs.SectionHeaders.{size_checked, size_checked_in};
+ghost use Rattle.goblin_headers.specs.SectionHeaders.{section_headers_of_tested, size_checked};
+ghost use Rattle.goblin_headers.specs.SectionHeaders.{size_checked_in};
 ghost use Rattle.goblin_headers.specs.SectionNames.{section_name, section_flag_name};
 ghost use Rattle.goblin_headers.specs.SectionNames.{section_flag_names};
 
@@ -601,7 +600,7 @@ pub fn constants()
 /// Laws: which bytes a section header is written as, and that classes and byte orders keep lists of
 /// section headers the same. A call does nothing.
 pub fn laws()
-    ensures image { (class : Class) (order : ByteOrder) →
+    ensures image { (class : Container) (order : Endian) →
         IsOneImage (section_header_size class) (section_header_of class order) (section_header_image class order) (section_header_low class) }
     ensures same { IsSameInEachClass section_header_size section_header_of section_header_image SectionHeaderFits }
 {}

@@ -1,13 +1,12 @@
 //! Section headers of the 64-bit class: System V gABI, "Section Header" (`Elf64_Shdr`).
-ghost use Rattle.std.specs.Prelude.{◌≡◌, ◌≤◌, ◌*◌, ◌++◌, [], ◌∷◌, length, drop, map, IfErr, IfOk, IsOk};
-ghost use Rattle.std.specs.Prelude.{alloc_error};
-ghost use Rattle.goblin_base.specs.declared.container.Endian.{Endian as ByteOrder};
+ghost use Rattle.std.specs.Prelude.{◌≡◌, ◌≤◌, ◌*◌, ◌++◌, [], ◌∷◌, length, drop, map, IfErr, IfOk};
+ghost use Rattle.std.specs.Prelude.{IsOk, alloc_error, replicate};
+ghost use Rattle.goblin_base.specs.Fields.{values_of};
 ghost use Rattle.goblin_base.specs.Layout.{IsOneImage};
 ghost use Rattle.goblin_base.specs.Record.{read_within, Writes};
 ghost use Rattle.goblin_base.specs.Steps.{with_size};
 ghost use Rattle.goblin_base.specs.Table.{records};
-ghost use Rattle.std.specs.Prelude.{replicate};
-ghost use Rattle.goblin_base.specs.Fields.{values_of};
+ghost use Rattle.goblin_base.specs.declared.container.Endian.{Endian};
 ghost use Rattle.goblin_headers.specs.SectionHeader64.{section_header64_fields};
 ghost use Rattle.goblin_headers.specs.SectionHeader64.{section_header64_of, section_header64_image};
 ghost use Rattle.goblin_headers.specs.SectionHeader64.{section_header64_size, section_header64_low};
@@ -246,7 +245,7 @@ pub fn constants()
 
 /// A law: which bytes a section header is written as. A call does nothing.
 pub fn laws()
-    ensures image { (order : ByteOrder) →
+    ensures image { (order : Endian) →
         IsOneImage section_header64_size (section_header64_of order) (section_header64_image order) section_header64_low }
 {}
 

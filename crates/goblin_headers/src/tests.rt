@@ -335,8 +335,7 @@ fn passes_on_the_names(rt: HostRuntime) {
     assert!(rt; header32::machine_to_str(3) == "386" && header64::machine_to_str(3) == "386");
     assert!(rt; header32::et_to_str(3) == "DYN" && header64::et_to_str(3) == "DYN");
     assert!(rt; header32::class_to_str(1) == "ELF32" && header64::class_to_str(1) == "ELF32");
-    assert!(rt; header::header32::machine_to_str(3) == "386");
-    assert!(rt; header::header64::class_to_str(2) == "ELF64");
+    assert!(rt; header::header32::SIZEOF_EHDR == 52 && header::header64::SIZEOF_EHDR == 64);
 }
 
 #[test]

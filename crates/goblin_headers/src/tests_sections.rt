@@ -478,6 +478,8 @@ fn passes_on_the_names(rt: HostRuntime) {
     assert!(rt; section_header64::sht_to_str(2) == "SHT_SYMTAB");
     assert!(rt; section_header32::shf_to_str(2) == "SHF_ALLOC");
     assert!(rt; section_header64::shf_to_str(2) == "SHF_ALLOC");
+    assert!(rt; section_header::section_header32::SIZEOF_SHDR == 40);
+    assert!(rt; section_header::section_header64::SIZEOF_SHDR == 64);
 }
 
 #[test]

@@ -291,6 +291,8 @@ fn names_segment_types(rt: HostRuntime) {
 fn passes_on_the_names(rt: HostRuntime) {
     assert!(rt; program_header32::pt_to_str(2) == "PT_DYNAMIC");
     assert!(rt; program_header64::pt_to_str(2) == "PT_DYNAMIC");
+    assert!(rt; program_header::program_header32::SIZEOF_PHDR == 32);
+    assert!(rt; program_header::program_header64::SIZEOF_PHDR == 56);
 }
 
 #[test]
