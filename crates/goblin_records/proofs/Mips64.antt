@@ -1,5 +1,5 @@
 -- The `r_info` of MIPS64 files of little order, as the functions make it.
-use Rattle.std.proofs.Common.{◌≡◌, ◌<◌, ◌+◌, ◌*◌, ◌/◌, ◌%◌, ◌^◌, ℕ, w32, refl, sym, ap, ◌∙◌, arith}
+use Rattle.std.proofs.Common.{◌≡◌, ◌<◌, ◌+◌, ◌*◌, ◌/◌, ◌%◌, ◌^◌, ℕ, w32, refl, ap, ◌∙◌, arith}
 use Rattle.std.specs.Int.{swap_bytes}
 use Rattle.goblin_base.specs.declared.container.Container.TheVariants.{Big}
 use Rattle.goblin_base.specs.declared.container.Endian.TheVariants as order

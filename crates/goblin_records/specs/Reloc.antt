@@ -1,5 +1,5 @@
 -- Relocations of either class, with an addend or without, and lists of them (System V gABI, "Relocation").
-use Rattle.std.specs.Prelude.{◌≡◌, ◌<◌, ◌%◌, ◌^◌, ℕ, ℤ, pos, List, Bool, false, true, Option, Some, None, unwrap_or, IsNone, IsSomeAnd}
+use Rattle.std.specs.Prelude.{◌≡◌, ◌<◌, ◌%◌, ◌^◌, ℕ, ℤ, pos, List, Bool, false, true, Option, Some, None, unwrap_or, IsSomeAnd}
 use Rattle.goblin_base.specs.declared.container.Container.{Container}
 use Rattle.goblin_base.specs.declared.container.Container.TheVariants.{Little, Big}
 use Rattle.goblin_base.specs.declared.container.Endian.{Endian}

@@ -1,12 +1,12 @@
 -- Laws of the parts of an `r_info`: they are joined again, and the pair of MIPS64 is turned back.
-use Rattle.std.proofs.Common.{◌≡◌, ◌<◌, ◌≤◌, ◌+◌, ◌*◌, ◌/◌, ◌%◌, ◌^◌, ℕ, List, length, reverse, refl, sym, ap, ◌∙◌, arith}
-use Rattle.std.proofs.lemmas.List.{length-reverse, reverse-reverse}
+use Rattle.std.proofs.Common.{◌≡◌, ◌<◌, ◌+◌, ◌*◌, ◌/◌, ◌%◌, ◌^◌, ℕ, List, reverse, refl, sym, ap, ◌∙◌, arith}
+use Rattle.std.proofs.lemmas.List.{reverse-reverse}
 use Rattle.goblin_base.specs.declared.container.Container.{Container}
 use Rattle.goblin_base.specs.declared.container.Container.TheVariants.{Little, Big}
 use Rattle.goblin_base.specs.declared.container.Endian.TheVariants as order
-use Rattle.goblin_base.specs.Number.{number, spelled, digits}
+use Rattle.goblin_base.specs.Number.{number, spelled}
 use Rattle.goblin_base.specs.NumberLaws.{IsBytes-spelled, number-lt, number-spelled, length-spelled, spelled-number}
-use Rattle.goblin_records.specs.RelocInfo.{symbols, types, symbol_in, type_in, info_of, JoinsItsParts, reversed, mips64el_info, mips64el_info_inverse, MipsInverse, MipsOneToOne, MipsFourTimes}
+use Rattle.goblin_records.specs.RelocInfo.{symbols, types, symbol_in, type_in, info_of, JoinsItsParts, reversed, mips64el_info_inverse, MipsInverse, MipsOneToOne, MipsFourTimes}
 
 -- an `r_info` of the low bits of a symbol and a type is in range, and is split into them
 pub info_of-lt : (class : Container) (symbol typ : ℕ) → info_of class symbol typ < symbols class * types class
@@ -81,5 +81,13 @@ mips_four_times info h =
     let alt = reversed-lt (info / 2 ^ 32) in
     let blt = reversed-lt (info % 2 ^ 32) in
     let whole : (info / 2 ^ 32) * 2 ^ 32 + info % 2 ^ 32 ≡ info = omega arith in
-    rw (high_of (info % 2 ^ 32) a alt, low_of (info % 2 ^ 32) a alt, high_of a b blt, low_of a b blt, high_of b (reversed a) (reversed-lt a), low_of b (reversed a) (reversed-lt a),
-    reversed-reversed (info / 2 ^ 32) high, reversed-reversed (info % 2 ^ 32) low) whole
+    rw (
+      high_of (info % 2 ^ 32) a alt,
+      low_of (info % 2 ^ 32) a alt,
+      high_of a b blt,
+      low_of a b blt,
+      high_of b (reversed a) (reversed-lt a),
+      low_of b (reversed a) (reversed-lt a),
+      reversed-reversed (info / 2 ^ 32) high,
+      reversed-reversed (info % 2 ^ 32) low,
+    ) whole

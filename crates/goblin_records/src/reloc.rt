@@ -56,12 +56,7 @@ impl Reloc {
     /// its symbol, of which the low 32 bits are kept, and its type go through the inverse of the pair.
     ///
     /// Refused is only what has no room, and then no byte is written.
-    pub fn write_inner(
-        self,
-        bytes: &mut [u8],
-        ctx: (bool, Ctx),
-        is_mips64el: bool,
-    ) -> Result<usize>
+    pub fn write_inner(self, bytes: &mut [u8], ctx: (bool, Ctx), is_mips64el: bool) -> Result<usize>
         ensures { let size = reloc_size ctx.0 ctx.1.container in
             let image = reloc_image ctx.0 ctx.1.container ctx.1.le (as_stored is_mips64el self) in
             Writes size image bytes.old result bytes.new }

@@ -108,10 +108,31 @@ fn refuses_to_read_where_there_are_no_bytes(rt: HostRuntime) {
 fn reads_through_the_pair_where_asked(rt: HostRuntime) {
     let little = Container::Little;
     assert!(rt; reads(REL, context(little, LE, false, false), &plain(0, 2, 1), 8));
-    assert!(rt; reads(REL, context(little, LE, false, true), &plain(0, 1, 33554432), 8));
+    assert!(rt;
+        reads(
+            REL,
+            context(little, LE, false, true),
+            &plain(0, 1, 33554432),
+            8
+        )
+    );
     let big = Container::Big;
-    assert!(rt; reads(REL_MIPS, context(big, LE, false, false), &plain(0x150f0, 51511296, 0), 16));
-    assert!(rt; reads(REL_MIPS, context(big, LE, false, true), &plain(0x150f0, 0, 0x1203), 16));
+    assert!(rt;
+        reads(
+            REL_MIPS,
+            context(big, LE, false, false),
+            &plain(0x150f0, 51511296, 0),
+            16
+        )
+    );
+    assert!(rt;
+        reads(
+            REL_MIPS,
+            context(big, LE, false, true),
+            &plain(0x150f0, 0, 0x1203),
+            16
+        )
+    );
 }
 
 #[test]
@@ -203,7 +224,9 @@ fn splits_and_joins_an_info(rt: HostRuntime) {
     reloc64::laws();
     assert!(rt; reloc32::r_info(0x123456, 0x1ff) == 0x123456ff);
     assert!(rt; reloc32::r_sym(0x123456ff) == 0x123456 && reloc32::r_type(0x123456ff) == 0xff);
-    assert!(rt; reloc64::r_sym(0x0000002A00000007) == 42 && reloc64::r_type(0x0000002A00000007) == 7);
+    assert!(rt;
+        reloc64::r_sym(0x0000002A00000007) == 42 && reloc64::r_type(0x0000002A00000007) == 7
+    );
     assert!(rt; reloc64::r_info(42, 7) == 0x0000002A00000007);
 }
 

@@ -1,4 +1,4 @@
-use Rattle.std.proofs.Common.{rules, ◌≡◌, ◌∙◌, ap, true, refl, arith}
+use Rattle.std.proofs.Common.{rules, ◌≡◌, true, refl, arith}
 use Rattle.goblin_records.proofs.Mips64.{meant_parts}
 use Rattle.goblin_records.proofs.reloc.Reloc.meant.Goals as goal
 

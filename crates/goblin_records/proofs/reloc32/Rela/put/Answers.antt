@@ -1,4 +1,4 @@
-use Rattle.std.proofs.Common.{rules, FitsSigned, w32, ℕ, ℤ, List, ap}
+use Rattle.std.proofs.Common.{rules, FitsSigned, w32}
 use Rattle.std.proofs.lemmas.Int.{to_z-of_z}
 use Rattle.goblin_base.specs.FieldLaws.{with_fields-image}
 use Rattle.goblin_records.specs.Reloc32.{rela32_fields}
