@@ -8,7 +8,7 @@ use Rattle.goblin_base.specs.Refusal.{Refusal}
 use Rattle.goblin.specs.declared.elf.note.NoteDataIterator.{NoteDataIterator}
 use Rattle.goblin.specs.Note.{NoteParts}
 use Rattle.goblin.specs.Notes.{items_left, most_left, most_left_in, spent, after_next, after_next_of_first}
-use Rattle.goblin.specs.NoteLaws.{note_items-past, note_items-some}
+use Rattle.goblin.proofs.NoteLemmas.{note_items-past, note_items-some}
 
 -- a range with an item has not come to its end
 pub unspent : (it : NoteDataIterator) (item : Result NoteParts Refusal) (rest : List (Result NoteParts Refusal)) → items_left it ≡ item ∷ rest → it.offset < it.size

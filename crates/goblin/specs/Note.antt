@@ -1,17 +1,14 @@
 -- Notes: what bytes are read as, and the notes of a range (System V gABI, "Note Section").
-use Rattle.std.specs.Prelude.{◌≡◌, ◌+◌, ◌-◌, ◌≤◌, ◌==◌, ◌||◌, not, max, ℕ, zero, suc, nat_le, if◌then◌else◌, List, [], ◌∷◌, codes, length, take, drop, flat_map, Result, Ok, Err}
-use Rattle.std.specs.Borrow.{Bor}
-use Rattle.std.specs.Int.{div_ceil, next_multiple_of}
-use Rattle.std.specs.Str.{bytes_eq, is_utf8}
+use Rattle.std.specs.Prelude.{◌+◌, ◌-◌, ◌==◌, ◌||◌, max, ℕ, zero, suc, nat_le, if◌then◌else◌, List, [], ◌∷◌, length, take, drop, Result, Ok, Err}
+use Rattle.std.specs.Int.{next_multiple_of}
 use Rattle.goblin_base.specs.declared.container.Ctx.{Ctx}
 use Rattle.goblin_base.specs.declared.container.Endian.{Endian}
-use Rattle.goblin_base.specs.declared.error.Error.{Error}
 use Rattle.goblin_base.specs.declared.error.Fault.TheVariants.{NoteAlign}
-use Rattle.goblin_base.specs.Names.{name_in}
 use Rattle.goblin_base.specs.Record.{read_within}
-use Rattle.goblin_base.specs.Refusal.{Refusal, bad_input, bad_offset, malformed, misplaced, refusal_of}
+use Rattle.goblin_base.specs.Refusal.{Refusal, bad_offset, malformed, misplaced, refusal_of}
 use Rattle.goblin_base.specs.Room.{room_of}
 use Rattle.goblin_base.specs.Steps.{◌>>=◌, refuse_if, refuse_as}
+use Rattle.goblin_base.specs.Utf8.{text_or_fault}
 use Rattle.goblin_records.specs.Nhdr.{nhdr32_of, nhdr32_size}
 use Rattle.goblin.specs.declared.elf.note.Note.{Note}
 
@@ -40,10 +37,6 @@ abbrev pub bytes_at : List ℕ → ℕ → ℕ → Result (List ℕ) Refusal
 bytes_at bytes place size = do
   _ ← refuse_as misplaced (room_of (length bytes) place size)
   Ok (take size (drop place bytes))
-
--- the bytes, if they are text
-abbrev pub text_or_fault : List ℕ → ℕ → Result (List ℕ) Refusal
-text_or_fault bytes size = if is_utf8 bytes then Ok bytes else Err (bad_input size (codes "invalid utf8"))
 
 -- so many bytes of text from a place on, or else why there are none
 abbrev pub text_at : List ℕ → ℕ → ℕ → Result (List ℕ) Refusal

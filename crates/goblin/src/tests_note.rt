@@ -9,6 +9,7 @@ use goblin_base::error::{Error, Fault, Result};
 use goblin_base::scroll;
 use goblin_base::scroll::{SizeWith, TryFromCtx};
 use std::alloc::{AllocError, Global};
+use std::result;
 use std::test::Fail;
 
 // A file of the 64-bit class in little order.
@@ -139,7 +140,7 @@ fn ranges(
     alloc: Global,
     ends: &[(usize, usize)],
     index: usize,
-) -> std::result::Result<NoteIterator<'static>, AllocError> {
+) -> result::Result<NoteIterator<'static>, AllocError> {
     let mut iters = Vec::new(alloc);
     for (offset, size) in ends {
         iters.push(range(THREE, *offset, *size, 4))?;
@@ -148,7 +149,7 @@ fn ranges(
 }
 
 #[test]
-fn gives_the_notes_of_ranges(rt: HostRuntime) -> std::result::Result<(), Fail> {
+fn gives_the_notes_of_ranges(rt: HostRuntime) -> result::Result<(), Fail> {
     assert!(rt; gives(range(THREE, 0, 132, 4), &[1, 3, 5]));
     assert!(rt; all_give(ranges(rt.alloc(), &[(0, 132)], 0)?, &[1, 3, 5]));
     assert!(rt; all_give(ranges(rt.alloc(), &[(0, 32), (32, 68), (68, 132)], 0)?, &[1, 3, 5]));
@@ -158,7 +159,7 @@ fn gives_the_notes_of_ranges(rt: HostRuntime) -> std::result::Result<(), Fail> {
 }
 
 #[test]
-fn begins_at_the_range_with_its_index(rt: HostRuntime) -> std::result::Result<(), Fail> {
+fn begins_at_the_range_with_its_index(rt: HostRuntime) -> result::Result<(), Fail> {
     assert!(rt; all_give(ranges(rt.alloc(), &[(0, 32), (32, 68), (68, 132)], 1)?, &[3, 5]));
     assert!(rt; all_give(ranges(rt.alloc(), &[(0, 32), (32, 68)], 2)?, &[]));
     assert!(rt; all_give(ranges(rt.alloc(), &[(0, 32)], usize::MAX)?, &[]));
@@ -248,7 +249,7 @@ fn is_build(answer: Result<Option<&[u8]>>, build: &[u8]) -> bool {
 }
 
 #[test]
-fn serves_a_loop_and_a_count(rt: HostRuntime) -> std::result::Result<(), Fail> {
+fn serves_a_loop_and_a_count(rt: HostRuntime) -> result::Result<(), Fail> {
     assert!(rt; count(range(THREE, 0, 132, 4)) == 3);
     assert!(rt; count(range(THREE, 0, usize::MAX, 4)) == 4);
     assert!(rt; is_build(build_of(range(THREE, 0, 132, 4)), &THREE[48..68]));
@@ -282,4 +283,186 @@ fn names_types(rt: HostRuntime) {
 #[test]
 fn leads_to_the_headers_of_notes(rt: HostRuntime) {
     assert!(rt; elf32::Note::size_with(&LE) == 12 && elf64::Note::size_with(&LE) == 24);
+}
+
+// A note as its layout says it, in numbers that no sum passes.
+struct PlainNote<'a> {
+    n_type: u128,
+    name: &'a [u8],
+    desc: &'a [u8],
+    len: u128,
+}
+
+// Why there is none.
+#[derive(Clone, Copy, PartialEq)]
+enum PlainFault {
+    Align(u128),
+    TooBig(u128, u128),
+    BadOffset(u128),
+    BadInput(u128),
+}
+
+// The number that the four bytes at a place stand for; bytes that there aren't are zeros.
+fn plain_number(bytes: &[u8], places: [usize; 4], order: Endian) -> u128 {
+    let [first, second, third, fourth] = places;
+    let ranked = match order {
+        Endian::Little => [fourth, third, second, first],
+        Endian::Big => [first, second, third, fourth],
+    };
+    let mut number = 0u128;
+    for place in ranked {
+        let byte = bytes.get(place).copied().unwrap_or(0);
+        number = number.wrapping_mul(256).wrapping_add(u128::from(byte));
+    }
+    number
+}
+
+// The bytes of a size at a place, or the fault of room.
+fn plain_part(bytes: &[u8], place: u128, size: u128) -> result::Result<&[u8], PlainFault> {
+    let len = bytes.len() as u128;
+    if place > len || (place == len && size > 0) {
+        return Err(PlainFault::BadOffset(place));
+    }
+    if size > len - place {
+        return Err(PlainFault::TooBig(size, len - place));
+    }
+    let start = place as usize;
+    let end = (place + size) as usize;
+    Ok(&bytes[start..end])
+}
+
+// The least multiple of 4, or of 8, from a place on.
+fn plain_multiple(place: u128, align: u128) -> u128 {
+    let mut up = place;
+    for _ in 0..8 {
+        if up % 4 == 0 && (align == 4 || up % 8 == 0) {
+            return up;
+        }
+        up = up.wrapping_add(1);
+    }
+    up
+}
+
+// The note at the start of the bytes.
+fn plain_note(
+    bytes: &[u8],
+    alignment: usize,
+    order: Endian,
+) -> result::Result<PlainNote<'_>, PlainFault> {
+    let align = if alignment < 4 { 4 } else { alignment as u128 };
+    if align != 4 && align != 8 {
+        return Err(PlainFault::Align(align));
+    }
+    let _ = plain_part(bytes, 0, 12)?;
+    let namesz = plain_number(bytes, [0, 1, 2, 3], order);
+    let descsz = plain_number(bytes, [4, 5, 6, 7], order);
+    let n_type = plain_number(bytes, [8, 9, 10, 11], order);
+    let name = plain_part(bytes, 12, namesz.max(1) - 1)?;
+    // The names of these cases are ASCII or no text at all.
+    if name.iter().any(|byte| *byte >= 0x80) {
+        return Err(PlainFault::BadInput(bytes.len() as u128 - 12));
+    }
+    let place = plain_multiple(namesz.wrapping_add(12), align);
+    let desc = plain_part(bytes, place, descsz)?;
+    Ok(PlainNote {
+        n_type,
+        name,
+        desc,
+        len: plain_multiple(place.wrapping_add(descsz), align),
+    })
+}
+
+// The note at an offset.
+fn plain_note_at(
+    bytes: &[u8],
+    offset: u128,
+    alignment: usize,
+    order: Endian,
+) -> result::Result<PlainNote<'_>, PlainFault> {
+    if offset >= bytes.len() as u128 {
+        return Err(PlainFault::BadOffset(offset));
+    }
+    plain_note(&bytes[offset as usize..], alignment, order)
+}
+
+// The fault that an error tells, if it is one of a note's.
+fn plain_fault(e: &Error) -> Option<PlainFault> {
+    match e {
+        Error::Malformed(Fault::NoteAlign(align)) => Some(PlainFault::Align(*align as u128)),
+        Error::Scroll(scroll::Error::TooBig { size, len }) => {
+            Some(PlainFault::TooBig(*size as u128, *len as u128))
+        }
+        Error::Scroll(scroll::Error::BadOffset(offset)) => {
+            Some(PlainFault::BadOffset(*offset as u128))
+        }
+        Error::Scroll(scroll::Error::BadInput { size, msg }) if *msg == "invalid utf8" => {
+            Some(PlainFault::BadInput(*size as u128))
+        }
+        _ => None,
+    }
+}
+
+// Whether a note has the parts of a plain one.
+fn is_plain(note: &Note, plain: &PlainNote) -> bool {
+    note.n_type as u128 == plain.n_type
+        && note.name.as_bytes() == plain.name
+        && note.desc == plain.desc
+}
+
+// Whether the items of a range, and where its offset is after each, are the plain ones.
+fn agrees(mut notes: NoteDataIterator) -> bool {
+    let (alignment, ctx) = notes.ctx;
+    for _ in 0..8 {
+        let offset = notes.offset as u128;
+        let item = notes.next();
+        if offset >= notes.size as u128 {
+            return item.is_none() && notes.offset as u128 == offset;
+        }
+        let (agrees, next) = match (item, plain_note_at(notes.bytes, offset, alignment, ctx.le)) {
+            (Some(Ok(note)), Ok(plain)) => {
+                (is_plain(&note, &plain), offset.wrapping_add(plain.len))
+            }
+            (Some(Err(e)), Err(fault)) => {
+                (plain_fault(&e) == Some(fault), notes.size as u128)
+            }
+            _ => (false, 0),
+        };
+        if !agrees || notes.offset as u128 != next {
+            return false;
+        }
+    }
+    false
+}
+
+const ALIGNMENTS: [usize; 12] = [0, 1, 2, 3, 4, 5, 6, 7, 8, 9, 16, usize::MAX];
+
+// Whether the notes of these bytes agree in each context, from each of some offsets up to each of some
+// sizes, by each alignment.
+fn agree(bytes: &[u8], ctx: Ctx) -> bool {
+    let len = bytes.len();
+    let ends = [0, 1, len.saturating_sub(1), len, len.saturating_add(1), usize::MAX];
+    for offset in ends {
+        for size in ends {
+            for alignment in ALIGNMENTS {
+                let notes = NoteDataIterator {
+                    bytes,
+                    size,
+                    offset,
+                    ctx: (alignment, ctx),
+                };
+                if !agrees(notes) {
+                    return false;
+                }
+            }
+        }
+    }
+    true
+}
+
+#[test]
+fn gives_the_plain_notes_of_hostile_ranges(rt: HostRuntime) {
+    assert!(rt; agree(b"", LITTLE) && agree(BUILD, LITTLE) && agree(BUILD_BIG, BIG));
+    assert!(rt; agree(BARE, LITTLE) && agree(CUT_NAME, LITTLE) && agree(EMPTY, LITTLE));
+    assert!(rt; agree(NO_TEXT, LITTLE) && agree(LONG_NAME, LITTLE) && agree(LONG_DESC, LITTLE));
+    assert!(rt; agree(THREE, LITTLE) && agree(&THREE[..8], LITTLE) && agree(THREE, BIG));
 }

@@ -11,4 +11,6 @@ pub mod sym64;
 #[cfg(test)]
 mod tests;
 #[cfg(test)]
+mod tests_note;
+#[cfg(test)]
 mod tests_reloc;

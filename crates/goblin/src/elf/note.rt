@@ -7,13 +7,14 @@ ghost use Rattle.std.specs.Iterator.SizeHint.{IsWithinCount};
 ghost use Rattle.goblin_base.specs.Refusal.{Answers};
 ghost use Rattle.goblin.specs.Notes.{NoteByNote, NotesAdvance, FewNotes};
 ghost use Rattle.goblin.specs.NoteType.{note_type_name};
-ghost use Rattle.goblin.specs.Note.{bytes_at, note_and_len, note_at, text_at, text_or_fault};
+ghost use Rattle.goblin.specs.Note.{bytes_at, note_and_len, note_at, text_at};
 
 use goblin_base::container::Ctx;
 use goblin_base::error::{Error, Fault, Result};
 use goblin_base::number::room;
 use goblin_base::scroll;
 use goblin_base::scroll::{SizeWith, TryFromCtx};
+use goblin_base::utf8::read_text;
 pub use goblin_records::note::{
     ELF_NOTE_ABI, ELF_NOTE_OS_FREEBSD, ELF_NOTE_OS_GNU, ELF_NOTE_OS_LINUX, ELF_NOTE_OS_SOLARIS2,
     NT_FILE, NT_GNU_ABI_TAG, NT_GNU_BUILD_ID, NT_GNU_GOLD_VERSION, NT_GNU_HWCAP,
@@ -195,20 +196,6 @@ fn bytes_at(bytes: &[u8], place: usize, size: usize) -> Result<&[u8]>
 {
     room(bytes.len(), place, size)?;
     Ok(&bytes[place..place + size])
-}
-
-// The bytes as a text. Where they are none, it is a `BadInput` of this size.
-#[tactic(auto, using(crate::proofs::TextTests::utf8_tests))]
-fn read_text(bytes: &[u8], size: usize) -> Result<&str>
-    ensures { Answers (λ text. text.now) result (text_or_fault bytes.now size) }
-{
-    match std::str::from_utf8(bytes) {
-        Ok(text) => Ok(text),
-        Err(_) => Err(Error::Scroll(scroll::Error::BadInput {
-            size,
-            msg: "invalid utf8",
-        })),
-    }
 }
 
 // So many bytes of text from a place on, or else why there are none.

@@ -1,5 +1,5 @@
 use Rattle.std.proofs.Common.{◌<◌, ◌^◌, length, sym, ◌∙◌, rules, arith}
-use Rattle.goblin.specs.NoteLaws.{note_at-before, note_at-past, note_at-fits}
+use Rattle.goblin.proofs.NoteLemmas.{note_at-before, note_at-past, note_at-fits}
 use Rattle.goblin.proofs.elf.note.note_at.Goals as goal
 
 pub returns-then-offset-bytes-clause-given : goal.returns-then-offset-bytes-clause-given

@@ -1,5 +1,6 @@
 use Rattle.std.proofs.Common.{arith}
-use Rattle.goblin.specs.NoteLaws.{at_ok, notes_advance, note_items-past, note_items-note, note_items-refusal}
+use Rattle.goblin.specs.NoteLaws.{at_ok, notes_advance}
+use Rattle.goblin.proofs.NoteLemmas.{note_items-past, note_items-note, note_items-refusal}
 use Rattle.goblin.proofs.elf.note.NoteDataIterator.advance.Goals as goal
 
 pub returns-then-self-clause-steps : goal.returns-then-self-clause-steps

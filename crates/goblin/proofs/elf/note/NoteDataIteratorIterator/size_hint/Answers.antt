@@ -1,5 +1,5 @@
 use Rattle.std.proofs.Math.Nat.{min_comm}
-use Rattle.goblin.specs.NoteLaws.{few_left, some_left}
+use Rattle.goblin.proofs.NoteLemmas.{few_left, some_left}
 use Rattle.goblin.proofs.elf.note.NoteDataIteratorIterator.size_hint.Goals as goal
 
 pub returns-clause-least : goal.returns-clause-least

@@ -1,0 +1,62 @@
+-- What the proofs of notes' readers and iterators cite.
+use Rattle.std.proofs.Common.{◌≡◌, ◌+◌, ◌-◌, ◌<◌, ◌≤◌, ◌^◌, ℕ, min, List, [], ◌∷◌, length, take, drop, Result, Ok, Err, IfOk, inl, inr, refl, ◌∙◌, arith}
+use Rattle.std.proofs.lemmas.Bool.{cases_lt, le-leb, lt-leb}
+use Rattle.std.proofs.lemmas.List.{length-drop, take_all}
+use Rattle.goblin_base.specs.declared.container.Ctx.{Ctx}
+use Rattle.goblin_base.specs.declared.error.Error.{Error}
+use Rattle.goblin_base.specs.Refusal.{Answers, Refusal, bad_offset}
+use Rattle.goblin.specs.declared.elf.note.Note.{Note}
+use Rattle.goblin.specs.declared.elf.note.NoteDataIterator.{NoteDataIterator}
+use Rattle.goblin.specs.Note.{NoteParts, note_and_len, read_note, note_at, item_and_rest, note_items}
+use Rattle.goblin.specs.Notes.{items_left, most_left}
+use Rattle.goblin.specs.NoteLaws.{at_ok, note_by_note, notes_advance, few_notes}
+
+-- before the end of the bytes a note is read from those that are left
+pub note_at-before : (bytes : List ℕ) (offset : ℕ) (ctx : ℕ × Ctx) → offset < length bytes → note_at bytes offset ctx ≡ read_note ctx.0 ctx.1.le (take (length bytes - offset) (drop offset bytes))
+unfolding note_at
+note_at-before bytes offset ctx before =
+    let all = take_all (length bytes - offset) (drop offset bytes) (omega (arith, length-drop offset bytes)) in
+    rw (lt-leb (length bytes) offset before, all) refl
+
+-- from the end of the bytes on there is none
+pub note_at-past : (bytes : List ℕ) (offset : ℕ) (ctx : ℕ × Ctx) → length bytes ≤ offset → note_at bytes offset ctx ≡ Err (bad_offset offset)
+unfolding note_at
+note_at-past bytes offset ctx past = rw (le-leb (length bytes) offset past) refl
+
+-- the end of a note that was answered fits a machine word
+pub note_at-fits : (answer : Result (Note × ℕ) Error) (bytes : List ℕ) (offset : ℕ) (ctx : ℕ × Ctx) → length bytes < 2 ^ 63 → Answers note_and_len answer (note_at bytes offset ctx) → IfOk answer (λ note. offset + note.1 < 2 ^ 64)
+note_at-fits (Ok note) bytes offset ctx long is = let range = at_ok (note_at bytes offset ctx) (note_and_len note) _ is (notes_advance bytes offset ctx) in omega arith
+note_at-fits (Err e) bytes offset ctx long is = tt
+
+-- no item is left from the end of a range on
+pub note_items-past : (bytes : List ℕ) (size offset : ℕ) (ctx : ℕ × Ctx) → size ≤ offset → note_items bytes size offset ctx ≡ []
+note_items-past bytes size offset ctx past = note_by_note bytes size offset ctx ∙ rw (le-leb size offset past) refl
+
+-- a note, and the items behind it
+pub note_items-note : (bytes : List ℕ) (size offset : ℕ) (ctx : ℕ × Ctx) (note : NoteParts × ℕ) → offset < size → note_at bytes offset ctx ≡ Ok note → note_items bytes size offset ctx ≡ Ok note.0 ∷ note_items bytes size (offset + note.1) ctx
+note_items-note bytes size offset ctx note before is = note_by_note bytes size offset ctx ∙ rw (lt-leb size offset before, is) refl
+
+-- a refusal, and nothing behind it
+pub note_items-refusal : (bytes : List ℕ) (size offset : ℕ) (ctx : ℕ × Ctx) (refusal : Refusal) → offset < size → note_at bytes offset ctx ≡ Err refusal → note_items bytes size offset ctx ≡ Err refusal ∷ note_items bytes size size ctx
+note_items-refusal bytes size offset ctx refusal before is =
+    note_by_note bytes size offset ctx ∙ rw (lt-leb size offset before, is, note_items-past bytes size size ctx (omega arith)) refl
+
+-- before the end of a range there is an item
+pub note_items-some : (bytes : List ℕ) (size offset : ℕ) (ctx : ℕ × Ctx) → offset < size → 0 < length (note_items bytes size offset ctx)
+note_items-some bytes size offset ctx before = rw (note_by_note bytes size offset ctx, lt-leb size offset before) (one_at_least (note_at bytes offset ctx) _)
+  where
+    one_at_least : (answer : Result (NoteParts × ℕ) Refusal) (rest : ℕ → List (Result NoteParts Refusal)) → 0 < length (item_and_rest answer rest)
+    one_at_least (Ok note) rest = omega arith
+    one_at_least (Err e) rest = omega arith
+
+-- a range has no more items left than headers begin in it
+pub few_left : (it : NoteDataIterator) → length (items_left it) ≤ most_left it
+few_left it = few_notes it.bytes.now it.size it.offset it.ctx
+
+-- and one at least, before its end
+pub some_left : (it : NoteDataIterator) → min 1 (most_left it) ≤ length (items_left it)
+some_left it =
+    elim (cases_lt it.offset it.size) [
+      | inl before ↦ let some = note_items-some it.bytes.now it.size it.offset it.ctx before in omega arith
+      | inr past ↦ let none : most_left it ≡ 0 = omega arith in omega arith
+    ]
