@@ -1,1 +1,3 @@
+mod Printed
 mod Reading
+mod Shows

@@ -1,4 +1,5 @@
 pub mod Counted
+pub mod Lines
 pub mod Marks
 pub mod Options
 pub mod Ran

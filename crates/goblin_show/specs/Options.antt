@@ -1,13 +1,17 @@
 -- The options that the program's words ask for.
-use Rattle.std.specs.Prelude.{◌≡◌, ℕ, List, [], ◌∷◌, Option, None, Some}
-use Rattle.goblin.specs.declared.options.ParseMode.TheVariants.{Strict}
+use Rattle.std.specs.Prelude.{ℕ, Bool, true, false, if◌then◌else◌, List, [], ◌∷◌, Option, None, Some, codes}
+use Rattle.std.specs.Str.{bytes_eq}
+use Rattle.goblin.specs.declared.options.ParseMode.{ParseMode}
+use Rattle.goblin.specs.declared.options.ParseMode.TheVariants.{Strict, Permissive}
 use Rattle.goblin.specs.declared.options.ParseOptions.{ParseOptions}
 
--- damaged parts of a file are refused
-abbrev pub IsStrict : ParseOptions → Type 0
-IsStrict opts = opts.parse_mode ≡ Strict
+-- damaged parts of a file are passed over
+abbrev pub is_permissive : ParseMode → Bool
+is_permissive Strict = false
+is_permissive Permissive = true
 
--- the options that words ask for: strict ones for no word
+-- the options that words ask for: strict ones for no word, permissive ones for the one word `permissive`
 abbrev pub asked : List (List ℕ) → Option ParseOptions
 asked [] = Some (record { parse_mode = Strict })
-asked (word ∷ words) = None
+asked (word ∷ []) = if bytes_eq word (codes "permissive") then Some (record { parse_mode = Permissive }) else None
+asked (word ∷ (other ∷ words)) = None

@@ -4,8 +4,10 @@ use Rattle.std.specs.Io.KnownBytes.{Appends, Consumes, IsAtEnd}
 use Rattle.goblin.specs.Refusal.{Refusal, out_of_memory, refusal_of}
 use Rattle.goblin.specs.Texts.{◌&◌, refusal_text}
 use Rattle.goblin.specs.declared.error.Error.{Error}
+use Rattle.goblin.specs.declared.options.ParseMode.{ParseMode}
+use Rattle.goblin_show.specs.Lines.{newline}
 use Rattle.goblin_show.specs.Marks.{Marks}
-use Rattle.goblin_show.specs.Shown.{shown, newline}
+use Rattle.goblin_show.specs.Shown.{shown}
 use Rattle.goblin_show.specs.declared.input.Input.{Input}
 use Rattle.goblin_show.specs.declared.input.Input.TheVariants as inputs
 use Rattle.goblin_show.specs.declared.run.Outcome.{Outcome}
@@ -53,9 +55,10 @@ IsInput inputs.OutOfMemory old new before after = Unit {0}
 IsInput inputs.Failed old new before after = FailsToRead before after
 
 -- the writer holds the text of all bytes more, and no other
-abbrev pub IsShown : (old new : Option (List ℕ)) → Marks → (held holds : Option (List ℕ)) → Type 0
-IsShown old new marks held holds =
-    (bytes : List ℕ) × ReadsAll old new marks bytes × (text : List ℕ) × (shown bytes ≡ Ok text) × Appends held holds text
+abbrev pub IsShown : ParseMode → (old new : Option (List ℕ)) → Marks → (held holds : Option (List ℕ)) → Type 0
+IsShown mode old new marks held holds =
+    (bytes : List ℕ) × ReadsAll old new marks bytes × (text : List ℕ) × (shown mode bytes ≡ Ok text)
+    × Appends held holds text
 
 -- the writer holds `refused: `, this line and a newline more, and no other
 abbrev pub WritesRefusal : Option (List ℕ) → Option (List ℕ) → List ℕ → Type 0
@@ -75,9 +78,9 @@ TellsError e line =
     ((refusal_of e ≢ out_of_memory) × (line ≡ refusal_text (refusal_of e))) ⊎ (line ≡ codes "Out of memory")
 
 -- why a line is written in place of a text: all bytes were read and are refused, or they are too many, or memory ran out
-abbrev pub IsReason : (old new : Option (List ℕ)) → Marks → List ℕ → Type 0
-IsReason old new marks line =
-    ((bytes : List ℕ) × ReadsAll old new marks bytes × (r : Refusal) × (shown bytes ≡ Err r) × (line ≡ refusal_text r))
+abbrev pub IsReason : ParseMode → (old new : Option (List ℕ)) → Marks → List ℕ → Type 0
+IsReason mode old new marks line =
+    ((bytes : List ℕ) × ReadsAll old new marks bytes × (r : Refusal) × (shown mode bytes ≡ Err r) × (line ≡ refusal_text r))
     ⊎ (((bytes : List ℕ) × ReadsTooMuch old new bytes × (line ≡ codes "input is longer than 16777216 bytes"))
     ⊎ (line ≡ codes "Out of memory"))
 

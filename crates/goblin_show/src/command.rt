@@ -1,5 +1,6 @@
 //! What the program does: from its words, a reader and a writer to its exit status.
 ghost use Rattle.std.specs.Prelude.{◌≡◌, ◌≢◌, ◌+◌, ◌<◌, ◌≤◌, ◌⊎◌, ℕ, List, IsTrue, None, Some, map, string_bytes};
+ghost use Rattle.goblin.specs.declared.options.ParseOptions.{ParseOptions};
 ghost use Rattle.goblin_show.specs.Options.{asked};
 ghost use Rattle.goblin_show.specs.Ran.{FailsToRead, IsReason, IsShown, ReadsAtMostOneMore, TellsUsage, WritesRefusal, read_limit};
 
@@ -42,14 +43,18 @@ pub fn show<R: Source, W: Sink>(
         × (reader.new ≡ reader.old)
         × TellsUsage (W.contents writer.old) (W.contents writer.new) (W.marks writer.new) }
 
-    // The reader told its end, and the text of all its bytes was written.
-    ensures shown { result ≡ 0 →
-        IsShown (R.remaining reader.old) (R.remaining reader.new) (R.marks reader.new)
-        (W.contents writer.old) (W.contents writer.new) }
+    // The reader told its end, and the text of all its bytes was written, by the options that the
+    // words ask for.
+    ensures shown { result ≡ 0 → (opts : ParseOptions)
+        × (asked (map string_bytes words.now) ≡ Some opts)
+        × IsShown opts.parse_mode (R.remaining reader.old) (R.remaining reader.new)
+            (R.marks reader.new) (W.contents writer.old) (W.contents writer.new) }
 
     // One line with the reason was written.
-    ensures refused { result ≡ 1 → (line : List ℕ)
-        × IsReason (R.remaining reader.old) (R.remaining reader.new) (R.marks reader.new) line
+    ensures refused { result ≡ 1 → (opts : ParseOptions) × (line : List ℕ)
+        × (asked (map string_bytes words.now) ≡ Some opts)
+        × IsReason opts.parse_mode (R.remaining reader.old) (R.remaining reader.new)
+            (R.marks reader.new) line
         × WritesRefusal (W.contents writer.old) (W.contents writer.new) line }
 
     // The words ask for nothing, or reading failed, or the writer told an error.

@@ -5,6 +5,7 @@
 mod command;
 mod counted;
 mod input;
+mod lines;
 mod options;
 mod run;
 mod streams;

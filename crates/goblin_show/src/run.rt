@@ -1,7 +1,6 @@
 //! A run: from the bytes that a reader gives to the text that a writer holds.
 ghost use Rattle.std.specs.Prelude.{◌≡◌, ◌≢◌, ℕ, ◌+◌, ◌≤◌, ◌⊎◌, List, IsTrue, OnOk, OnErr};
 ghost use Rattle.std.specs.Io.KnownBytes.{Appends};
-ghost use Rattle.goblin_show.specs.Options.{IsStrict};
 ghost use Rattle.goblin_show.specs.Ran.{FailsToRead, IsReason, IsShown, ReadsAtMostOneMore, TellsError, WritesRefusal, read_limit, status_of};
 
 use crate::input::{Input, input_of};
@@ -108,16 +107,15 @@ pub fn run<R: Source, W: Sink>(
     writer: &mut W,
     opts: &ParseOptions,
 ) -> Outcome
-    requires { IsStrict opts.now }
-
     // The reader told its end, and the text of all its bytes was written.
     ensures shown { result ≡ Outcome.Shown →
-        IsShown (R.remaining reader.old) (R.remaining reader.new) (R.marks reader.new)
+        IsShown opts.now.parse_mode (R.remaining reader.old) (R.remaining reader.new) (R.marks reader.new)
         (W.contents writer.old) (W.contents writer.new) }
 
     // One line with the reason was written.
     ensures refused { result ≡ Outcome.Refused → (line : List ℕ)
-        × IsReason (R.remaining reader.old) (R.remaining reader.new) (R.marks reader.new) line
+        × IsReason opts.now.parse_mode (R.remaining reader.old) (R.remaining reader.new)
+            (R.marks reader.new) line
         × WritesRefusal (W.contents writer.old) (W.contents writer.new) line }
 
     // The reader told an error that was no interruption, or was asked as often as it is and told

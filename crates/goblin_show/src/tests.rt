@@ -13,11 +13,30 @@ const STRICT: ParseOptions = ParseOptions {
     parse_mode: ParseMode::Strict,
 };
 
+const PERMISSIVE: ParseOptions = ParseOptions {
+    parse_mode: ParseMode::Permissive,
+};
+
 // A 64-bit header in big byte order.
 const BIG: &str = "7F454C46 02020100 0000000000000000 0002 003E 00000001 0000000000401000
     0000000000000000 0000000000000000 00000000 0040 0038 000D 0040 0000 0000";
 
 const BIG_TEXT: &str = "header ELF64 big EXEC X86_64 entry 0x401000 phnum 13 shnum 0\n";
+
+// A 32-bit file of 136 bytes: a header, the section names' table and two section headers.
+const NAMES: &str = "7F454C46 01010100 0000000000000000 0300 0000 01000000 00000000 00000000
+    38000000 00000000 3400 2000 0000 2800 0200 0100
+    002E7300
+    0000000000000000000000000000000000000000 0000000000000000000000000000000000000000
+    01000000 03000000 00000000 00000000 34000000 04000000 00000000 00000000 00000000 00000000";
+
+const NAMES_TEXT: &str = "header ELF32 little DYN EM_UNKNOWN entry 0x0 phnum 0 shnum 2\n\
+    section 0 SHT_NULL offset 0x0 size 0 name=\n\
+    section 1 SHT_STRTAB offset 0x34 size 4 name=.s\n";
+
+const NO_NAMES_TEXT: &str = "header ELF32 little DYN EM_UNKNOWN entry 0x0 phnum 0 shnum 2\n\
+    section 0 SHT_NULL offset 0x0 size 0 name=\n\
+    section 1 SHT_STRTAB offset 0x34 size 4 name=\n";
 
 // A 32-bit file of 208 bytes: a header, a string table, a symbol table and three section headers.
 const SYMBOLS: &str = "7F454C46 01010100 0000000000000000 0300 0000 01000000 00000000 00000000
@@ -31,16 +50,35 @@ const SYMBOLS: &str = "7F454C46 01010100 0000000000000000 0300 0000 01000000 000
 const SYMBOLS_TEXT: &str = "header ELF32 little DYN EM_UNKNOWN entry 0x0 phnum 0 shnum 3\n\
     section 0 SHT_NULL offset 0x0 size 0 name=\n\
     section 1 SHT_STRTAB offset 0x34 size 4 name=\n\
-    section 2 SHT_SYMTAB offset 0x38 size 32 name=\n";
+    section 2 SHT_SYMTAB offset 0x38 size 32 name=\n\
+    symbol 2 0 NOTYPE LOCAL DEFAULT value 0x0 size 0 name=\n\
+    symbol 2 1 FUNC GLOBAL DEFAULT value 0x1000 size 5 name=f\n";
 
-// A 64-bit file of 208 bytes: a header, 16 bytes of relocations and two section headers.
-const RELOCATIONS: &str = "7F454C46 02010100 0000000000000000 0300 0800 01000000 0000000000000000
+// A 32-bit file of 144 bytes: a header, a relocation with an addend, 40 zeros and a section header.
+const ADDEND: &str = "7F454C46 01010100 0000000000000000 0300 0000 01000000 00000000 00000000
+    40000000 00000000 3400 2000 0000 2800 0200 0000
+    10000000 01020000 FCFFFFFF
+    0000000000000000000000000000000000000000 0000000000000000000000000000000000000000
+    00000000 04000000 00000000 00000000 34000000 0C000000 00000000 00000000 00000000 00000000";
+
+const ADDEND_TEXT: &str = "header ELF32 little DYN EM_UNKNOWN entry 0x0 phnum 0 shnum 2\n\
+    section 0 SHT_NULL offset 0x0 size 0 name=\n\
+    section 1 SHT_RELA offset 0x34 size 12 name=\n\
+    reloc 1 0 offset 0x10 sym 2 type 1 addend -4\n";
+
+// A 64-bit file of 208 bytes: a header, a relocation of MIPS64 and two section headers.
+const PAIR: &str = "7F454C46 02010100 0000000000000000 0300 0800 01000000 0000000000000000
     0000000000000000 5000000000000000 00000000 4000 3800 0000 4000 0200 0000
-    F050010000000000 0000000000000012
+    F050010000000000 0000000000001203
     00000000 00000000 0000000000000000 0000000000000000 0000000000000000
     0000000000000000 00000000 00000000 0000000000000000 0000000000000000
     00000000 09000000 0000000000000000 0000000000000000 4000000000000000
     1000000000000000 00000000 00000000 0000000000000000 0000000000000000";
+
+const PAIR_TEXT: &str = "header ELF64 little DYN MIPS entry 0x0 phnum 0 shnum 2\n\
+    section 0 SHT_NULL offset 0x0 size 0 name=\n\
+    section 1 SHT_REL offset 0x40 size 16 name=\n\
+    reloc 1 0 offset 0x150f0 sym 0 type 4611 addend -\n";
 
 // The digit that a character of a hexadecimal text stands for, if it is one.
 fn digit_of(c: u8) -> Option<u8> {
@@ -77,60 +115,185 @@ fn changed(alloc: Global, text: &str, changes: &[(usize, u8)]) -> Option<Vec<u8>
 }
 
 // Whether a run over this reader ends so, and writes this text.
-fn ends<R: Read + Drop>(alloc: Global, reader: R, outcome: Outcome, text: &str) -> bool {
+fn ends<R: Read + Drop>(
+    alloc: Global,
+    opts: &ParseOptions,
+    reader: R,
+    outcome: Outcome,
+    text: &str,
+) -> bool {
     let mut reader = Counted::new(reader);
     let mut writer = Counted::new(Vec::new(alloc));
-    run(alloc, &mut reader, &mut writer, &STRICT) == outcome
+    run(alloc, &mut reader, &mut writer, opts) == outcome
         && writer.into_inner().as_slice() == text.as_bytes()
 }
 
 // Whether this text is shown of a file with these changes.
-fn shows(alloc: Global, file: &str, changes: &[(usize, u8)], text: &str) -> bool {
-    match changed(alloc, file, changes) {
-        Some(bytes) => ends(alloc, Cursor::new(bytes.as_slice()), Outcome::Shown, text),
-        None => false,
-    }
+fn shows(
+    alloc: Global,
+    opts: &ParseOptions,
+    file: &str,
+    changes: &[(usize, u8)],
+    text: &str,
+) -> bool {
+    changed(alloc, file, changes).is_some_and(|bytes| {
+        let reader = Cursor::new(bytes.as_slice());
+        ends(alloc, opts, reader, Outcome::Shown, text)
+    })
 }
 
 // Whether a file with these changes is refused with this line.
-fn refuses(alloc: Global, file: &str, changes: &[(usize, u8)], line: &str) -> bool {
-    match changed(alloc, file, changes) {
-        Some(bytes) => ends(alloc, Cursor::new(bytes.as_slice()), Outcome::Refused, line),
-        None => false,
-    }
+fn refuses(
+    alloc: Global,
+    opts: &ParseOptions,
+    file: &str,
+    changes: &[(usize, u8)],
+    line: &str,
+) -> bool {
+    changed(alloc, file, changes).is_some_and(|bytes| {
+        let reader = Cursor::new(bytes.as_slice());
+        ends(alloc, opts, reader, Outcome::Refused, line)
+    })
 }
 
 #[test]
-fn shows_a_header_and_sections(rt: HostRuntime) {
-    assert!(rt; shows(rt.alloc(), BIG, &[], BIG_TEXT));
-    assert!(rt; shows(rt.alloc(), SYMBOLS, &[], SYMBOLS_TEXT));
+fn shows_a_header(rt: HostRuntime) {
+    assert!(rt; shows(rt.alloc(), &STRICT, BIG, &[], BIG_TEXT));
+}
+
+#[test]
+fn shows_names_of_sections(rt: HostRuntime) {
+    assert!(rt; shows(rt.alloc(), &STRICT, NAMES, &[], NAMES_TEXT));
+    // An index past the sections.
+    assert!(rt; shows(rt.alloc(), &STRICT, NAMES, &[(50, 2)], NO_NAMES_TEXT));
+    // The index is told by the first section's sh_link, and without one there is no table.
+    let linked = [(50, 0xff), (51, 0xff), (80, 1)];
+    assert!(rt; shows(rt.alloc(), &STRICT, NAMES, &linked, NAMES_TEXT));
+    let unlinked = [(50, 0xff), (51, 0xff)];
+    assert!(rt; shows(rt.alloc(), &STRICT, NAMES, &unlinked, NO_NAMES_TEXT));
+    // A table without bytes in the file.
+    let text = "header ELF32 little DYN EM_UNKNOWN entry 0x0 phnum 0 shnum 2\n\
+        section 0 SHT_NULL offset 0x0 size 0 name=\n\
+        section 1 SHT_NOBITS offset 0x34 size 4 name=\n";
+    assert!(rt; shows(rt.alloc(), &STRICT, NAMES, &[(100, 8)], text));
+}
+
+#[test]
+fn shows_control_characters_as_question_marks(rt: HostRuntime) {
+    let text = "header ELF32 little DYN EM_UNKNOWN entry 0x0 phnum 0 shnum 2\n\
+        section 0 SHT_NULL offset 0x0 size 0 name=\n\
+        section 1 SHT_STRTAB offset 0x34 size 4 name=?s\n";
+    assert!(rt; shows(rt.alloc(), &STRICT, NAMES, &[(53, 0x09)], text));
+    assert!(rt; shows(rt.alloc(), &STRICT, NAMES, &[(53, 0x1f)], text));
+    assert!(rt; shows(rt.alloc(), &STRICT, NAMES, &[(53, 0x7f)], text));
+}
+
+#[test]
+fn shows_symbols(rt: HostRuntime) {
+    assert!(rt; shows(rt.alloc(), &STRICT, SYMBOLS, &[], SYMBOLS_TEXT));
+    let text = "header ELF32 little DYN EM_UNKNOWN entry 0x0 phnum 0 shnum 3\n\
+        section 0 SHT_NULL offset 0x0 size 0 name=\n\
+        section 1 SHT_STRTAB offset 0x34 size 4 name=\n\
+        section 2 SHT_DYNSYM offset 0x38 size 32 name=\n\
+        symbol 2 0 NOTYPE LOCAL DEFAULT value 0x0 size 0 name=\n\
+        symbol 2 1 FUNC GLOBAL DEFAULT value 0x1000 size 5 name=f\n";
+    assert!(rt; shows(rt.alloc(), &STRICT, SYMBOLS, &[(172, 11)], text));
+    // An sh_link of 0xffff is an index like any other, though the first section links to the table.
+    let text = "header ELF32 little DYN EM_UNKNOWN entry 0x0 phnum 0 shnum 3\n\
+        section 0 SHT_NULL offset 0x0 size 0 name=\n\
+        section 1 SHT_STRTAB offset 0x34 size 4 name=\n\
+        section 2 SHT_SYMTAB offset 0x38 size 32 name=\n\
+        symbol 2 0 NOTYPE LOCAL DEFAULT value 0x0 size 0 name=\n\
+        symbol 2 1 FUNC GLOBAL DEFAULT value 0x1000 size 5 name=\n";
+    let changes = [(192, 0xff), (193, 0xff), (112, 1)];
+    assert!(rt; shows(rt.alloc(), &STRICT, SYMBOLS, &changes, text));
+}
+
+#[test]
+fn passes_over_empty_symbol_tables(rt: HostRuntime) {
+    // The strings are no text, which shows where the symbol table has a byte.
+    let text = "header ELF32 little DYN EM_UNKNOWN entry 0x0 phnum 0 shnum 3\n\
+        section 0 SHT_NULL offset 0x0 size 0 name=\n\
+        section 1 SHT_STRTAB offset 0x34 size 4 name=\n\
+        section 2 SHT_SYMTAB offset 0x38 size 0 name=\n";
+    let changes = [(53, 0xff), (188, 0)];
+    assert!(rt; shows(rt.alloc(), &STRICT, SYMBOLS, &changes, text));
+    let line = "refused: bad input invalid utf8 (3)\n";
+    let changes = [(53, 0xff), (188, 1)];
+    assert!(rt; refuses(rt.alloc(), &STRICT, SYMBOLS, &changes, line));
+}
+
+#[test]
+fn shows_relocations(rt: HostRuntime) {
+    assert!(rt; shows(rt.alloc(), &STRICT, ADDEND, &[], ADDEND_TEXT));
+    assert!(rt; shows(rt.alloc(), &STRICT, PAIR, &[], PAIR_TEXT));
+    let text = "header ELF64 little DYN EM_UNKNOWN entry 0x0 phnum 0 shnum 2\n\
+        section 0 SHT_NULL offset 0x0 size 0 name=\n\
+        section 1 SHT_REL offset 0x40 size 16 name=\n\
+        reloc 1 0 offset 0x150f0 sym 51511296 type 0 addend -\n";
+    assert!(rt; shows(rt.alloc(), &STRICT, PAIR, &[(18, 0)], text));
+}
+
+#[test]
+fn passes_over_damaged_parts(rt: HostRuntime) {
+    let line = "refused: bad input invalid utf8 (3)\n";
+    assert!(rt; refuses(rt.alloc(), &STRICT, NAMES, &[(53, 0xff)], line));
+    assert!(rt; shows(rt.alloc(), &PERMISSIVE, NAMES, &[(53, 0xff)], NO_NAMES_TEXT));
+
+    let line = "refused: Malformed entity: Section 0 size (208) + offset (56) is out of bounds. \
+        Overflowed: false\n";
+    assert!(rt; refuses(rt.alloc(), &STRICT, SYMBOLS, &[(188, 208)], line));
+    let text = "header ELF32 little DYN EM_UNKNOWN entry 0x0 phnum 0 shnum 3\n\
+        section 0 SHT_NULL offset 0x0 size 0 name=\n\
+        section 1 SHT_STRTAB offset 0x34 size 4 name=\n\
+        section 2 SHT_SYMTAB offset 0x38 size 208 name=\n\
+        symbol 2 0 NOTYPE LOCAL DEFAULT value 0x0 size 0 name=\n\
+        symbol 2 1 FUNC GLOBAL DEFAULT value 0x1000 size 5 name=f\n\
+        symbol 2 2 NOTYPE LOCAL DEFAULT value 0x0 size 0 name=\n\
+        symbol 2 3 NOTYPE LOCAL DEFAULT value 0x0 size 0 name=\n\
+        symbol 2 4 SECTION LOCAL DEFAULT value 0x0 size 0 name=\n\
+        symbol 2 5 FILE LOCAL DEFAULT value 0x0 size 52 name=\n\
+        symbol 2 6 NOTYPE LOCAL DEFAULT value 0x0 size 0 name=\n\
+        symbol 2 7 NOTYPE LOCAL DEFAULT value 0x2 size 0 name=\n\
+        symbol 2 8 NOTYPE LOCAL DEFAULT value 0xd0 size 1 name=\n";
+    assert!(rt; shows(rt.alloc(), &PERMISSIVE, SYMBOLS, &[(188, 208)], text));
+}
+
+#[test]
+fn refuses_relocations_in_both_modes(rt: HostRuntime) {
+    // 208 bytes of relocations at offset 64, and 16 at offset 208.
+    let line = "refused: Malformed entity: Section 0 size (208) + offset (64) is out of bounds. \
+        Overflowed: false\n";
+    assert!(rt; refuses(rt.alloc(), &STRICT, PAIR, &[(176, 208)], line));
+    let line = "refused: type is too big (208) for 144\n";
+    assert!(rt; refuses(rt.alloc(), &PERMISSIVE, PAIR, &[(176, 208)], line));
+    let line = "refused: bad offset 208\n";
+    assert!(rt; refuses(rt.alloc(), &PERMISSIVE, PAIR, &[(168, 208)], line));
 }
 
 #[test]
 fn tells_why_a_header_is_refused(rt: HostRuntime) {
     let line = "refused: Malformed entity: Too small\n";
-    assert!(rt; refuses(rt.alloc(), "", &[], line));
+    assert!(rt; refuses(rt.alloc(), &STRICT, "", &[], line));
     let line = "refused: Invalid magic number: 0x3736353433323130\n";
-    assert!(rt; refuses(rt.alloc(), "30313233343536373839616263646566", &[], line));
+    let digits = "30313233343536373839616263646566";
+    assert!(rt; refuses(rt.alloc(), &STRICT, digits, &[], line));
     let line = "refused: Malformed entity: invalid ELF class 3\n";
-    assert!(rt; refuses(rt.alloc(), BIG, &[(4, 3), (5, 0)], line));
+    assert!(rt; refuses(rt.alloc(), &PERMISSIVE, BIG, &[(4, 3), (5, 0)], line));
     let line = "refused: Malformed entity: invalid ELF endianness DATA type 0\n";
-    assert!(rt; refuses(rt.alloc(), BIG, &[(5, 0)], line));
+    assert!(rt; refuses(rt.alloc(), &STRICT, BIG, &[(5, 0)], line));
 }
 
 #[test]
 fn tells_why_sections_are_refused(rt: HostRuntime) {
     // A fourth section header, of which there is no byte.
     let line = "refused: bad offset 208\n";
-    assert!(rt; refuses(rt.alloc(), SYMBOLS, &[(48, 4)], line));
+    assert!(rt; refuses(rt.alloc(), &STRICT, SYMBOLS, &[(48, 4)], line));
     let line = "refused: Buffer is too short for 6 section headers\n";
-    assert!(rt; refuses(rt.alloc(), SYMBOLS, &[(48, 6)], line));
+    assert!(rt; refuses(rt.alloc(), &PERMISSIVE, SYMBOLS, &[(48, 6)], line));
     // The section headers start 8 bytes late.
     let line = "refused: type is too big (40) for 32\n";
-    assert!(rt; refuses(rt.alloc(), SYMBOLS, &[(32, 96)], line));
-    let line = "refused: Malformed entity: Section 0 size (208) + offset (56) is out of bounds. \
-        Overflowed: false\n";
-    assert!(rt; refuses(rt.alloc(), SYMBOLS, &[(188, 208)], line));
+    assert!(rt; refuses(rt.alloc(), &STRICT, SYMBOLS, &[(32, 96)], line));
 }
 
 // sh_addr of the second section is the greatest u64.
@@ -149,7 +312,8 @@ const GREATEST_ADDRESS: &[(usize, u8)] = &[
 fn tells_why_an_address_is_refused(rt: HostRuntime) {
     let line = "refused: Malformed entity: Section 0 size (16) + addr (18446744073709551615) is \
         out of bounds. Overflowed: true\n";
-    assert!(rt; refuses(rt.alloc(), RELOCATIONS, GREATEST_ADDRESS, line));
+    assert!(rt; refuses(rt.alloc(), &STRICT, PAIR, GREATEST_ADDRESS, line));
+    assert!(rt; shows(rt.alloc(), &PERMISSIVE, PAIR, GREATEST_ADDRESS, PAIR_TEXT));
 }
 
 fn makes(alloc: Global, file: &str, text: &str) -> bool {
@@ -207,16 +371,16 @@ const NO_MAGIC: &str = "refused: Invalid magic number: 0x0\n";
 #[test]
 fn takes_as_many_bytes_as_the_limit(rt: HostRuntime) {
     let reader = Zeros::new(16_777_216, 0, ErrorKind::Other);
-    assert!(rt; ends(rt.alloc(), reader, Outcome::Refused, NO_MAGIC));
+    assert!(rt; ends(rt.alloc(), &STRICT, reader, Outcome::Refused, NO_MAGIC));
     let reader = Zeros::new(16_777_217, 0, ErrorKind::Other);
     let line = "refused: input is longer than 16777216 bytes\n";
-    assert!(rt; ends(rt.alloc(), reader, Outcome::Refused, line));
+    assert!(rt; ends(rt.alloc(), &STRICT, reader, Outcome::Refused, line));
 }
 
 // Whether a run over 100,000 zeros, which takes three read calls, fails and writes nothing where
 // any of the calls answers this error.
 fn fails_at_each_call(alloc: Global, error: ErrorKind) -> bool {
-    (1..4).all(|call| ends(alloc, Zeros::new(100_000, call, error), Outcome::Failed, ""))
+    (1..4).all(|call| ends(alloc, &STRICT, Zeros::new(100_000, call, error), Outcome::Failed, ""))
 }
 
 #[test]
@@ -232,7 +396,7 @@ fn tries_an_interrupted_read_again(rt: HostRuntime) {
     assert!(rt;
         (1..5).all(|call| {
             let reader = Zeros::new(100_000, call, ErrorKind::Interrupted);
-            ends(rt.alloc(), reader, Outcome::Refused, NO_MAGIC)
+            ends(rt.alloc(), &STRICT, reader, Outcome::Refused, NO_MAGIC)
         })
     );
 }
@@ -360,9 +524,9 @@ fn asks(alloc: Global, texts: &[&str], opts: Option<ParseOptions>) -> bool {
 }
 
 #[test]
-fn takes_no_word(rt: HostRuntime) {
+fn takes_one_word(rt: HostRuntime) {
     assert!(rt; asks(rt.alloc(), &[], Some(STRICT)));
-    assert!(rt; asks(rt.alloc(), &["permissive"], None));
+    assert!(rt; asks(rt.alloc(), &["permissive"], Some(PERMISSIVE)));
     assert!(rt; asks(rt.alloc(), &["strict"], None));
     assert!(rt; asks(rt.alloc(), &[""], None));
     assert!(rt; asks(rt.alloc(), &["permissive", "permissive"], None));
@@ -386,6 +550,8 @@ fn ends_with_a_status(rt: HostRuntime) {
     let usage = "usage: goblin_show [permissive]\n";
     assert!(rt; answers(rt.alloc(), &[], BIG, 0, BIG_TEXT));
     assert!(rt; answers(rt.alloc(), &[], "", 1, line));
+    assert!(rt; answers(rt.alloc(), &["permissive"], BIG, 0, BIG_TEXT));
+    assert!(rt; answers(rt.alloc(), &["permissive"], "", 1, line));
     assert!(rt; answers(rt.alloc(), &["strict"], BIG, 2, usage));
     assert!(rt; answers(rt.alloc(), &["permissive", "permissive"], BIG, 2, usage));
 }

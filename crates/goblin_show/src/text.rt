@@ -1,73 +1,23 @@
 //! The text that is shown of a file.
 ghost use Rattle.std.specs.Prelude.{◌≡◌, ◌++◌, OnOk, IfErr, string_bytes};
-ghost use Rattle.goblin.specs.ReadHeader.{read_header};
-ghost use Rattle.goblin.specs.Refusal.{Gives};
-ghost use Rattle.goblin_show.specs.Options.{IsStrict};
-ghost use Rattle.goblin_show.specs.Shown.{ctx_of, header_line, section_line, section_lines};
-ghost use Rattle.goblin_show.specs.Shown.{sections_of, shown, sizes_checked};
+ghost use Rattle.goblin.specs.Refusal.{Gives, Refuses};
+ghost use Rattle.goblin.specs.SectionHeaders.{section_headers_of_tested};
+ghost use Rattle.goblin_show.specs.Shown.{Adds, ctx_of, each_shown, file_shown, has_relocs, has_symbols, name_at, names_index, section_lines};
+ghost use Rattle.goblin_show.specs.Shown.{reloc_lines, relocs_shown, sections_of, shown, sizes_checked, strings_at, strings_of, symbol_lines, symbols_shown, tested};
 
+use crate::lines::{push_header, push_reloc, push_section, push_symbol};
 use goblin::container::Ctx;
-use goblin::elf::header::{
-    EI_CLASS, EI_DATA, ELFDATA2LSB, Header, class_to_str, et_to_str, machine_to_str,
+use goblin::elf::header::Header;
+use goblin::elf::reloc::{RelocSection, is_mips64el};
+use goblin::elf::section_header::{
+    SHT_DYNSYM, SHT_NOBITS, SHT_REL, SHT_RELA, SHT_SYMTAB, SectionHeader,
 };
-use goblin::elf::section_header::{SectionHeader, sht_to_str};
+use goblin::elf::sym::{Sym, Symtab};
 use goblin::error::Result;
 use goblin::options::ParseOptions;
 use goblin::scroll::{LE, TryFromCtx};
+use goblin::strtab::Strtab;
 use std::alloc::{AllocError, Global};
-
-// Adds the line of a header to a text.
-fn push_header(text: &mut String, header: &Header) -> std::result::Result<(), AllocError>
-    ensures { OnOk result (string_bytes text.new ≡ string_bytes text.old ++ header_line header.now) }
-{
-    let class = class_to_str(header.e_ident[EI_CLASS]);
-    let order = if header.e_ident[EI_DATA] == ELFDATA2LSB {
-        "little"
-    } else {
-        "big"
-    };
-    let e_type = et_to_str(header.e_type);
-    let machine = machine_to_str(header.e_machine);
-    let entry = header.e_entry;
-    let phnum = header.e_phnum;
-    let shnum = header.e_shnum;
-    write!(
-        text,
-        "header {class} {order} {e_type} {machine} entry 0x{entry:x} phnum {phnum} shnum {shnum}\n"
-    )
-}
-
-// Adds the line of the section with a number to a text.
-fn push_section(
-    text: &mut String,
-    number: usize,
-    section: &SectionHeader,
-) -> std::result::Result<(), AllocError>
-    ensures { OnOk result
-        (string_bytes text.new ≡ string_bytes text.old ++ section_line number section.now) }
-{
-    let sh_type = sht_to_str(section.sh_type);
-    let offset = section.sh_offset;
-    let size = section.sh_size;
-    write!(
-        text,
-        "section {number} {sh_type} offset 0x{offset:x} size {size} name=\n"
-    )
-}
-
-// Adds the lines of all sections to a text.
-fn push_sections(
-    text: &mut String,
-    sections: &[SectionHeader],
-) -> std::result::Result<(), AllocError>
-    ensures { OnOk result
-        (string_bytes text.new ≡ string_bytes text.old ++ section_lines 0 sections.now) }
-{
-    for (number, section) in sections.iter().enumerate() {
-        push_section(text, number, section)?;
-    }
-    Ok(())
-}
 
 // The class and the byte order that a header tells.
 fn ctx_of(header: &Header) -> Result<Ctx>
@@ -76,47 +26,273 @@ fn ctx_of(header: &Header) -> Result<Ctx>
     Ok(Ctx::new(header.container()?, header.endianness()?))
 }
 
-// Whether each section lies in a file of `len` bytes.
-fn check_sizes(sections: &[SectionHeader], len: usize) -> Result<()>
-    ensures { result ≡ sizes_checked len sections.now }
+// Whether each section lies in a file of `len` bytes, which permissive options don't ask.
+fn check_sizes(sections: &[SectionHeader], len: usize, opts: &ParseOptions) -> Result<()>
+    ensures { result ≡ sizes_checked opts.now.parse_mode len sections.now }
 {
     for section in sections {
-        section.check_size(len)?;
+        section.check_size_with_opts(len, opts.parse_mode.is_permissive())?;
     }
     Ok(())
 }
 
-// The section headers of a file with this header, each of which lies in the file.
+// The section headers of a file with this header, each of which is checked.
 #[tactic(auto, unfolding(crate::specs::Shown::sections_of))]
-fn sections_of(alloc: Global, bytes: &[u8], header: &Header) -> Result<Vec<SectionHeader>>
-    ensures { Gives (λ v. v.items) result (sections_of bytes.now header.now) }
+fn sections_of(
+    alloc: Global,
+    bytes: &[u8],
+    header: &Header,
+    ctx: Ctx,
+    opts: &ParseOptions,
+) -> Result<Vec<SectionHeader>>
+    ensures given { let right = sections_of opts.now.parse_mode bytes.now header.now ctx in
+        Gives (λ v. v.items) result right }
+    ensures tested { let tested = section_headers_of_tested bytes.now header.now.e_shoff
+        header.now.e_shnum ctx in IfErr tested (λ refusal. Refuses result refusal) }
 {
-    let ctx = ctx_of(header)?;
     let offset = header.e_shoff as usize;
     let count = usize::from(header.e_shnum);
     let sections = SectionHeader::parse(alloc, bytes, offset, count, ctx)?;
-    check_sizes(sections.as_slice(), bytes.len())?;
+    check_sizes(sections.as_slice(), bytes.len(), opts)?;
     Ok(sections)
 }
 
-/// The text of a file with these bytes: the line of its header, and a line for each section.
-///
-/// The errors, of which the first that applies is the answer: those of reading a header; those of
-/// reading the section headers from the offset and of the number that the header tells; a section
-/// that does not lie in the file. Or memory is wanting.
-#[tactic(auto, unfolding(crate::specs::Shown::shown))]
-pub fn text_of(alloc: Global, bytes: &[u8], opts: &ParseOptions) -> Result<String>
-    requires { IsStrict opts.now }
-    ensures text { Gives string_bytes result (shown bytes.now) }
-
-    // Want of memory hides no refusal of the header.
-    ensures header { IfErr (read_header bytes.now) (λ e. result ≡ Err e) }
+// The string at an offset of a table, or an empty one where it has none.
+fn name_at<'a>(strings: &Strtab<'a>, offset: usize) -> &'a str
+    ensures { result.now ≡ name_at strings.now offset }
 {
-    let _ = opts;
+    strings.get_at(offset).unwrap_or("")
+}
+
+// The index of the section names' table.
+fn names_index(header: &Header, sections: &[SectionHeader]) -> usize
+    ensures { result ≡ names_index header.now sections.now }
+{
+    if header.e_shstrndx != SHN_XINDEX {
+        return usize::from(header.e_shstrndx);
+    }
+    match sections {
+        [first, ..] => first.sh_link as usize,
+        [] => 0,
+    }
+}
+
+// Says that the section names' table is told by the first section.
+const SHN_XINDEX: u16 = 0xffff;
+
+// Adds the lines of all sections to a text.
+fn push_sections(
+    text: &mut String,
+    sections: &[SectionHeader],
+    names: &Strtab<'_>,
+) -> std::result::Result<(), AllocError>
+    ensures { OnOk result (string_bytes text.new
+        ≡ string_bytes text.old ++ section_lines names.now 0 sections.now) }
+{
+    for (number, section) in sections.iter().enumerate() {
+        push_section(text, number, section, name_at(names, section.sh_name))?;
+    }
+    Ok(())
+}
+
+// Adds the lines of the symbols of the section with a number to a text.
+fn push_symbols(
+    text: &mut String,
+    section: usize,
+    table: &Symtab<'_>,
+    names: &Strtab<'_>,
+) -> std::result::Result<(), AllocError>
+    ensures { OnOk result (string_bytes text.new
+        ≡ string_bytes text.old ++ symbol_lines names.now section 0 table.now.symbols) }
+{
+    for (number, symbol) in table.iter().enumerate() {
+        push_symbol(text, section, number, &symbol, name_at(names, symbol.st_name))?;
+    }
+    Ok(())
+}
+
+// Whether a section holds symbols.
+fn has_symbols(section: &SectionHeader) -> bool
+    ensures { result ≡ has_symbols section.now }
+{
+    (section.sh_type == SHT_SYMTAB || section.sh_type == SHT_DYNSYM) && section.sh_size > 0
+}
+
+// Adds the lines of the relocations of the section with a number to a text.
+fn push_relocs(
+    text: &mut String,
+    section: usize,
+    relocs: &RelocSection<'_>,
+) -> std::result::Result<(), AllocError>
+    ensures { OnOk result (string_bytes text.new
+        ≡ string_bytes text.old ++ reloc_lines section 0 relocs.now) }
+{
+    for (number, reloc) in relocs.iter().enumerate() {
+        push_reloc(text, section, number, &reloc)?;
+    }
+    Ok(())
+}
+
+// Whether a section holds relocations.
+fn has_relocs(section: &SectionHeader) -> bool
+    ensures { result ≡ has_relocs section.now }
+{
+    (section.sh_type == SHT_REL || section.sh_type == SHT_RELA) && section.sh_size > 0
+}
+
+// A file whose section headers are read.
+#[derive(Clone, Copy)]
+struct File<'a> {
+    bytes: &'a [u8],
+    header: &'a Header,
+    ctx: Ctx,
+    sections: &'a [SectionHeader],
+    opts: &'a ParseOptions,
+}
+
+impl<'a> File<'a> {
+    // The string table that a section is.
+    fn strings_of(&self, alloc: Global, section: &SectionHeader) -> Result<Strtab<'a>>
+        ensures { let right = strings_of self.now.opts.now.parse_mode self.now.bytes.now
+            (Some section.now) in Gives (λ table. table) result right }
+    {
+        if section.sh_type == SHT_NOBITS {
+            return Ok(Strtab::default());
+        }
+        let offset = section.sh_offset as usize;
+        let size = section.sh_size as usize;
+        Strtab::parse_with_opts(alloc, self.bytes, offset, size, 0, self.opts)
+    }
+
+    // The string table that is the section with an index: index 0 is no section.
+    #[tactic(auto, unfolding(crate::specs::Shown::strings_at))]
+    fn strings_at(&self, alloc: Global, index: usize) -> Result<Strtab<'a>>
+        ensures { let right = strings_at self.now.opts.now.parse_mode self.now.bytes.now
+            self.now.sections.now index in Gives (λ table. table) result right }
+    {
+        if index == 0 {
+            return Ok(Strtab::default());
+        }
+        match self.sections.get(index) {
+            Some(section) => self.strings_of(alloc, section),
+            None => Ok(Strtab::default()),
+        }
+    }
+
+    // Adds the lines of the symbols of the section with a number to a text: none where it holds no
+    // symbols.
+    #[tactic(auto, unfolding(crate::specs::Shown::symbols_shown))]
+    fn push_symbols_of(
+        &self,
+        alloc: Global,
+        text: &mut String,
+        number: usize,
+        section: &SectionHeader,
+    ) -> Result<()>
+        ensures { let right = symbols_shown self.now.opts.now.parse_mode self.now.bytes.now
+            self.now.ctx self.now.sections.now number section.now in
+            Adds (string_bytes text.old) (string_bytes text.new) result right }
+    {
+        if !has_symbols(section) {
+            return Ok(());
+        }
+        let offset = section.sh_offset as usize;
+        let count = section.sh_size as usize / Sym::size(self.ctx.container);
+        let table = Symtab::parse_with_opts(self.bytes, offset, count, self.ctx, self.opts)?;
+        let names = self.strings_at(alloc, section.sh_link as usize)?;
+        Ok(push_symbols(text, number, &table, &names)?)
+    }
+
+    // Adds the lines of all symbols to a text.
+    fn push_all_symbols(&self, alloc: Global, text: &mut String) -> Result<()>
+        ensures { let shows = symbols_shown self.now.opts.now.parse_mode self.now.bytes.now
+            self.now.ctx self.now.sections.now in
+            Adds (string_bytes text.old) (string_bytes text.new) result
+            (each_shown shows 0 self.now.sections.now) }
+    {
+        for (number, section) in self.sections.iter().enumerate() {
+            self.push_symbols_of(alloc, text, number, section)?;
+        }
+        Ok(())
+    }
+
+    // Adds the lines of the relocations of the section with a number to a text: none where it holds
+    // no relocations.
+    #[tactic(auto, unfolding(crate::specs::Shown::relocs_shown))]
+    fn push_relocs_of(
+        &self,
+        text: &mut String,
+        is_mips64el: bool,
+        number: usize,
+        section: &SectionHeader,
+    ) -> Result<()>
+        ensures { let right = relocs_shown self.now.bytes.now self.now.ctx is_mips64el number
+            section.now in Adds (string_bytes text.old) (string_bytes text.new) result right }
+    {
+        if !has_relocs(section) {
+            return Ok(());
+        }
+        let offset = section.sh_offset as usize;
+        let size = section.sh_size as usize;
+        let is_rela = section.sh_type == SHT_RELA;
+        let relocs =
+            RelocSection::parse_inner(self.bytes, offset, size, is_rela, self.ctx, is_mips64el)?;
+        Ok(push_relocs(text, number, &relocs)?)
+    }
+
+    // Adds the lines of all relocations to a text.
+    fn push_all_relocs(&self, text: &mut String, is_mips64el: bool) -> Result<()>
+        ensures { let shows = relocs_shown self.now.bytes.now self.now.ctx is_mips64el in
+            Adds (string_bytes text.old) (string_bytes text.new) result
+            (each_shown shows 0 self.now.sections.now) }
+    {
+        for (number, section) in self.sections.iter().enumerate() {
+            self.push_relocs_of(text, is_mips64el, number, section)?;
+        }
+        Ok(())
+    }
+
+    // The text of the file.
+    #[tactic(auto, unfolding(crate::specs::Shown::file_shown))]
+    fn text(&self, alloc: Global) -> Result<String>
+        ensures { let right = file_shown self.now.opts.now.parse_mode self.now.bytes.now
+            self.now.header.now self.now.ctx self.now.sections.now in
+            Gives string_bytes result right }
+    {
+        let names = self.strings_at(alloc, names_index(self.header, self.sections))?;
+        let mut text = String::new(alloc);
+        push_header(&mut text, self.header)?;
+        push_sections(&mut text, self.sections, &names)?;
+        self.push_all_symbols(alloc, &mut text)?;
+        self.push_all_relocs(&mut text, is_mips64el(self.header))?;
+        Ok(text)
+    }
+}
+
+/// The text of a file with these bytes: the line of its header, one for each section, and after these
+/// one for each symbol and then one for each relocation.
+///
+/// The errors, of which the first that applies is the answer: those of reading the header; those of
+/// reading the section headers from the offset and of the number that the header tells; where the
+/// options are strict, a section that does not lie in the file; those of the section names' table;
+/// for each section of symbols those of its symbol table and then of its string table; for each
+/// section of relocations those of reading it. Or memory is wanting.
+#[tactic(auto, unfolding(crate::specs::Shown::shown, crate::specs::Shown::tested))]
+pub fn text_of(alloc: Global, bytes: &[u8], opts: &ParseOptions) -> Result<String>
+    ensures text { Gives string_bytes result (shown opts.now.parse_mode bytes.now) }
+
+    // Want of memory hides no refusal of the header, and none of the section headers' first tests.
+    ensures tested { IfErr (tested bytes.now) (λ refusal. Refuses result refusal) }
+{
     let (header, _) = Header::try_from_ctx(bytes, LE)?;
-    let sections = sections_of(alloc, bytes, &header)?;
-    let mut text = String::new(alloc);
-    push_header(&mut text, &header)?;
-    push_sections(&mut text, sections.as_slice())?;
-    Ok(text)
+    let ctx = ctx_of(&header)?;
+    let sections = sections_of(alloc, bytes, &header, ctx, opts)?;
+    let file = File {
+        bytes,
+        header: &header,
+        ctx,
+        sections: sections.as_slice(),
+        opts,
+    };
+    file.text(alloc)
 }
