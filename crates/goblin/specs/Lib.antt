@@ -2,6 +2,7 @@ pub use Rattle.goblin_base.specs.Container
 pub use Rattle.goblin_base.specs.Eager
 pub use Rattle.goblin_base.specs.Fields
 pub use Rattle.goblin_base.specs.Layout
+pub use Rattle.goblin_base.specs.Names
 pub use Rattle.goblin_base.specs.Number
 pub use Rattle.goblin_base.specs.Pieces
 pub use Rattle.goblin_base.specs.Record
@@ -18,9 +19,9 @@ pub use Rattle.goblin_base.specs.Utf8
 pub use Rattle.goblin_headers.specs.Header
 pub use Rattle.goblin_headers.specs.Header32
 pub use Rattle.goblin_headers.specs.Header64
+pub use Rattle.goblin_headers.specs.HeaderNames
 pub use Rattle.goblin_headers.specs.HeaderTrips
 pub use Rattle.goblin_headers.specs.Machines
-pub use Rattle.goblin_headers.specs.Names
 pub use Rattle.goblin_headers.specs.ProgramHeader
 pub use Rattle.goblin_headers.specs.ProgramHeader32
 pub use Rattle.goblin_headers.specs.ProgramHeader64

@@ -1,9 +1,9 @@
 pub mod Header
 pub mod Header32
 pub mod Header64
+pub mod HeaderNames
 pub mod HeaderTrips
 pub mod Machines
-pub mod Names
 pub mod ProgramHeader
 pub mod ProgramHeader32
 pub mod ProgramHeader32Laws

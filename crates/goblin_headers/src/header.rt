@@ -5,7 +5,7 @@ ghost use Rattle.goblin_headers.specs.HeaderTrips.{OneImage, ReadsBack, WrittenA
 ghost use Rattle.goblin_headers.specs.HeaderTrips.{ImageOfRead, WritesBack, NewIsOfContext};
 ghost use Rattle.goblin_headers.specs.HeaderTrips.{NewIsReadBack};
 ghost use Rattle.goblin_headers.specs.Machines.{machine_numbers};
-ghost use Rattle.goblin_headers.specs.Names.{class_name, type_name};
+ghost use Rattle.goblin_headers.specs.HeaderNames.{class_name, type_name};
 
 pub use crate::{header32, header64};
 use crate::{program_header32, program_header64, section_header32, section_header64};
@@ -158,7 +158,7 @@ pub fn constants()
 {}
 
 /// The name of a class byte: `NONE`, `ELF32`, `ELF64`, or `UNKNOWN_CLASS`.
-#[tactic(auto, unfolding(crate::specs::Names::class_name))]
+#[tactic(auto, unfolding(crate::specs::HeaderNames::class_name))]
 pub fn class_to_str(class: u8) -> &'static str
     ensures { result.now ≡ class_name class }
 {
@@ -171,7 +171,7 @@ pub fn class_to_str(class: u8) -> &'static str
 }
 
 /// The name of a file type, without its prefix `ET_`, or `UNKNOWN_ET` from 6 on.
-#[tactic(auto, unfolding(crate::specs::Names::type_name))]
+#[tactic(auto, unfolding(crate::specs::HeaderNames::type_name))]
 pub fn et_to_str(et: u16) -> &'static str
     ensures { result.now ≡ type_name et }
 {

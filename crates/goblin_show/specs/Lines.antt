@@ -6,7 +6,7 @@ use Rattle.goblin.specs.declared.elf.section_header.SectionHeader.{SectionHeader
 use Rattle.goblin.specs.declared.elf.reloc.Reloc.{Reloc}
 use Rattle.goblin.specs.declared.elf.sym.Sym.{Sym}
 use Rattle.goblin.specs.Machines.{machine_name}
-use Rattle.goblin.specs.Names.{class_name, type_name as file_type_name}
+use Rattle.goblin.specs.HeaderNames.{class_name, type_name as file_type_name}
 use Rattle.goblin.specs.SectionNames.{section_name}
 use Rattle.goblin.specs.SymParts.{bind_of, type_of, visibility_of, bind_name, type_name, visibility_name}
 use Rattle.goblin.specs.Texts.{◌&◌, hexadecimal}
