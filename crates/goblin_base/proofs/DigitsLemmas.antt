@@ -1,5 +1,6 @@
 -- Halving a number takes one binary digit off it.
-use Rattle.std.proofs.Common.{◌≡◌, ℕ, zero, suc, ◌+◌, ◌/◌, ◌≤◌, ◌<◌, refl, sym, ap, arith}
+use Rattle.std.proofs.Math.Nat.{pow-suc}
+use Rattle.std.proofs.Common.{◌*◌, ◌^◌, ◌↔◌, ◌≡◌, ℕ, zero, suc, ◌+◌, ◌/◌, ◌≤◌, ◌<◌, refl, sym, ap, arith}
 use Rattle.goblin_base.specs.Search.{digits, digits_within}
 
 within_zero : (n : ℕ) → digits_within n 0 ≡ 0
@@ -18,7 +19,7 @@ unfolding digits
 digits_half zero h = absurd (omega arith)
 digits_half (suc k) h = ap (λ x. x + 1) (within_more k (suc k / 2) (suc k / 2) (omega arith) (omega arith))
 
-pub digits-zero : digits 0 ≡ 0
+digits-zero : digits 0 ≡ 0
 unfolding digits
 digits-zero = refl
 
@@ -35,3 +36,19 @@ digits_mono a b h = omega (arith, within_more a b a (omega arith) h, within_mono
 -- what is left after one probe, on either side, has a digit less
 pub digits_step : (s t : ℕ) → 0 < s → t ≤ s / 2 → digits t + 1 ≤ digits s
 digits_step s t h l = omega (arith, digits_half s h, digits_mono t (s / 2) l)
+
+pow_positive : (n : ℕ) → 0 < 2 ^ n
+pow_positive zero = omega arith
+pow_positive (suc n) = omega (arith, pow-suc 2 n, pow_positive n)
+
+-- k has at most n binary digits exactly if it is below 2 ^ n
+pub digits_count : (k n : ℕ) → (digits k ≤ n) ↔ (k < 2 ^ n)
+digits_count zero n = (λ h. pow_positive n, λ h. omega (arith, digits-zero))
+digits_count (suc k) zero = (λ h. absurd (omega (arith, digits_half (suc k) (omega arith))), λ h. absurd (omega (arith, h)))
+digits_count (suc k) (suc n) =
+    let half = digits_half (suc k) (omega arith) in
+    let deeper = digits_count (suc k / 2) n in
+    let two : 2 ^ suc n ≡ 2 ^ n * 2 = pow-suc 2 n in (
+      λ h. let l = deeper.0 (omega (arith, half)) in omega (arith, two, l),
+      λ h. let l = deeper.1 (omega (arith, two, h)) in omega (arith, half, l),
+    )

@@ -1,7 +1,7 @@
 -- Where pieces begin and end.
 use Rattle.std.proofs.Common.{◌≡◌, ℕ, zero, suc, ◌+◌, ◌-◌, ◌<◌, ◌≤◌, Bool, true, false, cond, not, eqb, List, [], ◌∷◌, length, get_or, take, drop, refl, sym, ap, ◌∙◌, arith}
 use Rattle.std.proofs.lemmas.Bool.{cond-true, cond-false}
-use Rattle.std.proofs.lemmas.List.{get_or-drop, length-drop, length-take-le, drop_more, drop_all}
+use Rattle.std.proofs.lemmas.List.{get_or-drop, length-drop, length-take-le, drop_more}
 use Rattle.std.proofs.lemmas.List.Sums.{prefix_len-le-length, fails_before_first, passes_at_first, position_or_len_is}
 use Rattle.std.specs.List.{slice_range, position_or_len}
 use Rattle.goblin_base.specs.Pieces.{piece_end, piece, piece_start}
@@ -70,10 +70,6 @@ module _ (bytes : List ℕ) (d : ℕ) where
       let e : piece_end bytes d o - o ≡ suc (piece_end bytes d o - (o + 1)) = omega arith in
       piece_is_range o ∙ ap (λ n. take n (drop o bytes)) e ∙ ap (take (suc (piece_end bytes d o - (o + 1)))) (drop_more bytes o 0 l)
       ∙ ap (λ n. get_or bytes o 0 ∷ take (n - (o + 1)) (drop (o + 1) bytes)) (sym same) ∙ ap (λ xs. get_or bytes o 0 ∷ xs) (sym (piece_is_range (o + 1)))
-
-  pub piece_past : (o : ℕ) → length bytes ≤ o → piece bytes d o ≡ []
-  unfolding piece
-  piece_past o h = ap (λ xs. take (position_or_len (is_delim d) xs) xs) (drop_all o bytes h)
 
   -- ---- where a whole piece begins
   pub start_to : (o : ℕ) → piece_start bytes d o ≤ o

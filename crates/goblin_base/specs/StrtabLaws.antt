@@ -1,5 +1,5 @@
 -- Laws of string tables, over their definitions alone.
-use Rattle.std.specs.Prelude.{◌≡◌, ◌↔◌, ℕ, ◌-◌, ◌<◌, ◌==◌, ◌&&◌, Bool, true, List, [], ◌∷◌, ◌++◌, map, length, take, drop, nat_lt, slice_index, if◌then◌else◌, IsTrue, IsOk, Some, Ok}
+use Rattle.std.specs.Prelude.{◌≡◌, ◌↔◌, ℕ, ◌-◌, ◌^◌, ◌<◌, ◌≤◌, ◌==◌, ◌&&◌, Bool, true, List, [], ◌∷◌, ◌++◌, map, length, take, drop, nat_lt, slice_index, if◌then◌else◌, IsTrue, IsOk, Some, Ok}
 use Rattle.std.specs.List.{join_with_byte}
 use Rattle.std.specs.Result.{result_ok}
 use Rattle.std.specs.Str.{IsUtf8, is_utf8}
@@ -7,6 +7,7 @@ use Rattle.goblin_base.specs.declared.options.ParseMode.{ParseMode}
 use Rattle.goblin_base.specs.declared.options.ParseMode.TheVariants.{Strict, Permissive}
 use Rattle.goblin_base.specs.Entries.{text_of}
 use Rattle.goblin_base.specs.Pieces.{entries, entries_by_place}
+use Rattle.goblin_base.specs.Search.{digits}
 use Rattle.goblin_base.specs.Strtab.{StringTable, walked, strtab_of, plain, look_up}
 
 -- the test for text passes exactly where some scalar values have the bytes as their joined shortest spellings
@@ -56,3 +57,7 @@ abbrev pub DependsOnRange : Type 0
 DependsOnRange = (mode : ParseMode) (a b : List ℕ) (offset size delim : ℕ)
     → length a ≡ length b → take size (drop offset a) ≡ take size (drop offset b)
     → strtab_of mode a offset size delim ≡ strtab_of mode b offset size delim
+
+-- a number has at most n binary digits exactly if it is below 2 ^ n
+abbrev pub DigitsCount : Type 0
+DigitsCount = (k n : ℕ) → (digits k ≤ n) ↔ (k < 2 ^ n)

@@ -9,7 +9,7 @@ ghost use Rattle.goblin_base.specs.Pieces.{piece};
 ghost use Rattle.goblin_base.specs.Refusal.{Answers, Gives};
 ghost use Rattle.goblin_base.specs.Search.{IsLastUpTo};
 ghost use Rattle.goblin_base.specs.Strtab.{look_up, plain, range_in, strings_of, strtab_of, table_of, texts_of};
-ghost use Rattle.goblin_base.specs.StrtabLaws.{ClosedForm, DependsOnRange, JoinsAgain, LookUpHasPlain, PermissiveAccepts, StrictIsPermissive, StrictLookUpIsPlain, TextIsUtf8};
+ghost use Rattle.goblin_base.specs.StrtabLaws.{ClosedForm, DependsOnRange, DigitsCount, JoinsAgain, LookUpHasPlain, PermissiveAccepts, StrictIsPermissive, StrictLookUpIsPlain, TextIsUtf8};
 
 use crate::entries::{Entries, Looked, Probes};
 use crate::error::{Error, Fault, Result};
@@ -325,4 +325,5 @@ pub fn laws()
     ensures look_up_has_plain { LookUpHasPlain }
     ensures strict_look_up_is_plain { StrictLookUpIsPlain }
     ensures depends_on_range { DependsOnRange }
+    ensures digits_count { DigitsCount }
 {}
