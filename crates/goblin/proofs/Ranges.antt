@@ -54,8 +54,7 @@ pub passed : (old : List NoteDataIterator) (i : ℕ) (x : NoteDataIterator) → 
 passed old i x h is none =
     let past = at_end x none in
     let same : after_next x ≡ x = rw (le-leb x.size x.offset past) refl in
-    let few : most_left x ≡ 0 = omega arith in
-    (
+    let few : most_left x ≡ 0 = omega arith in (
       rw same (set_same old i x h is),
       rw (drop_is old i x h is, none) refl,
       rw (drop_is old i x h is, sum_by-cons most_left x (drop (i + 1) old)) (omega arith),

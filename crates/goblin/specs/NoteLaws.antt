@@ -126,8 +126,8 @@ note_by_note bytes size offset ctx =
       | inl before ↦
           items_enough (size - offset) (suc (size - offset)) bytes size offset ctx (omega arith) (omega arith)
           ∙ rw (lt-leb size offset before) (same_items (note_at bytes offset ctx) _ _ λ note is.
-            let moved = at_ok (note_at bytes offset ctx) note _ is (notes_advance bytes offset ctx) in
-            items_enough (size - offset) (size - (offset + note.1)) bytes size (offset + note.1) ctx (omega arith) (omega arith))
+          let moved = at_ok (note_at bytes offset ctx) note _ is (notes_advance bytes offset ctx) in
+          items_enough (size - offset) (size - (offset + note.1)) bytes size (offset + note.1) ctx (omega arith) (omega arith))
     ]
 
 -- an item and what comes behind it are few, if what comes behind each note is

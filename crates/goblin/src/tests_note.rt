@@ -38,6 +38,7 @@ const EMPTY: &[u8] = b"\0\0\0\0\0\0\0\0\x07\0\0\0";
 const NO_TEXT: &[u8] = b"\x02\0\0\0\0\0\0\0\x01\0\0\0\xFF\0";
 // Notes whose name and whose descriptor are the longest that a header can ask for.
 const LONG_NAME: &[u8] = b"\xFF\xFF\xFF\xFF\0\0\0\0\x01\0\0\0GNU\0";
+
 const LONG_DESC: &[u8] = b"\x04\0\0\0\xFF\xFF\xFF\xFF\x01\0\0\0GNU\0\0\0\0\0";
 // The notes of a program: types 1, 3 and 5, at 0, 32 and 68.
 const THREE: &[u8] = b"\x04\0\0\0\x10\0\0\0\x01\0\0\0GNU\0\0\0\0\0\x02\0\0\0\x06\0\0\0\x20\0\0\0\
@@ -46,7 +47,14 @@ const THREE: &[u8] = b"\x04\0\0\0\x10\0\0\0\x01\0\0\0GNU\0\0\0\0\0\x02\0\0\0\x06
     \x01\0\x01\xC0\x04\0\0\0\x01\0\0\0\0\0\0\0\x02\0\x01\xC0\x04\0\0\0\0\0\0\0\0\0\0\0";
 
 // Whether a note is read as these parts, of which so many bytes are counted.
-fn reads(bytes: &[u8], ctx: (usize, Ctx), n_type: u32, name: &str, desc: &[u8], len: usize) -> bool {
+fn reads(
+    bytes: &[u8],
+    ctx: (usize, Ctx),
+    n_type: u32,
+    name: &str,
+    desc: &[u8],
+    len: usize,
+) -> bool {
     match Note::try_from_ctx(bytes, ctx) {
         Ok((note, counted)) => {
             note.n_type == n_type && note.name == name && note.desc == desc && counted == len
@@ -80,7 +88,8 @@ fn refuses(alloc: Global, bytes: &[u8], alignment: usize, text: &str) -> bool {
 fn refuses_other_alignments(rt: HostRuntime) {
     let sixteen = "Malformed entity: Notes has unimplemented alignment requirement: 0x10";
     let five = "Malformed entity: Notes has unimplemented alignment requirement: 0x5";
-    let most = "Malformed entity: Notes has unimplemented alignment requirement: 0xffffffffffffffff";
+    let most =
+        "Malformed entity: Notes has unimplemented alignment requirement: 0xffffffffffffffff";
     assert!(rt; refuses(rt.alloc(), BUILD, 16, sixteen));
     assert!(rt; refuses(rt.alloc(), BUILD, 5, five));
     assert!(rt; refuses(rt.alloc(), b"", 5, five));
@@ -93,8 +102,10 @@ fn refuses_what_has_no_room_or_is_no_text(rt: HostRuntime) {
     assert!(rt; refuses(rt.alloc(), b"", 4, "bad offset 0"));
     assert!(rt; refuses(rt.alloc(), CUT_NAME, 4, "bad offset 20"));
     assert!(rt; refuses(rt.alloc(), NO_TEXT, 4, "bad input invalid utf8 (2)"));
-    assert!(rt; refuses(rt.alloc(), LONG_NAME, 4, "type is too big (4294967294) for 4"));
-    assert!(rt; refuses(rt.alloc(), LONG_DESC, 4, "type is too big (4294967295) for 4"));
+    let long_name = "type is too big (4294967294) for 4";
+    let long_desc = "type is too big (4294967295) for 4";
+    assert!(rt; refuses(rt.alloc(), LONG_NAME, 4, long_name));
+    assert!(rt; refuses(rt.alloc(), LONG_DESC, 4, long_desc));
 }
 
 // The range of these bytes from an offset up to an end.
@@ -135,6 +146,11 @@ fn all_give(mut notes: NoteIterator, types: &[u32]) -> bool {
     }
 }
 
+// The three notes of a program in three ranges, and two of them around a range of none.
+const PARTS: &[(usize, usize)] = &[(0, 32), (32, 68), (68, 132)];
+
+const WITH_NONE: &[(usize, usize)] = &[(0, 32), (0, 0), (32, 68)];
+
 // These ranges of a program's notes, from the range with an index on.
 fn ranges(
     alloc: Global,
@@ -152,15 +168,15 @@ fn ranges(
 fn gives_the_notes_of_ranges(rt: HostRuntime) -> result::Result<(), Fail> {
     assert!(rt; gives(range(THREE, 0, 132, 4), &[1, 3, 5]));
     assert!(rt; all_give(ranges(rt.alloc(), &[(0, 132)], 0)?, &[1, 3, 5]));
-    assert!(rt; all_give(ranges(rt.alloc(), &[(0, 32), (32, 68), (68, 132)], 0)?, &[1, 3, 5]));
-    assert!(rt; all_give(ranges(rt.alloc(), &[(0, 32), (0, 0), (32, 68)], 0)?, &[1, 3]));
+    assert!(rt; all_give(ranges(rt.alloc(), PARTS, 0)?, &[1, 3, 5]));
+    assert!(rt; all_give(ranges(rt.alloc(), WITH_NONE, 0)?, &[1, 3]));
     assert!(rt; all_give(ranges(rt.alloc(), &[], 0)?, &[]));
     Ok(())
 }
 
 #[test]
 fn begins_at_the_range_with_its_index(rt: HostRuntime) -> result::Result<(), Fail> {
-    assert!(rt; all_give(ranges(rt.alloc(), &[(0, 32), (32, 68), (68, 132)], 1)?, &[3, 5]));
+    assert!(rt; all_give(ranges(rt.alloc(), PARTS, 1)?, &[3, 5]));
     assert!(rt; all_give(ranges(rt.alloc(), &[(0, 32), (32, 68)], 2)?, &[]));
     assert!(rt; all_give(ranges(rt.alloc(), &[(0, 32)], usize::MAX)?, &[]));
     Ok(())
@@ -277,7 +293,8 @@ fn names_types(rt: HostRuntime) {
     assert!(rt; is_named("GNU", 3, "NT_GNU_BUILD_ID") && is_named("Go", 3, "NT_GNU_BUILD_ID"));
     assert!(rt; is_named("GNU", 4, "NT_GNU_GOLD_VERSION"));
     assert!(rt; is_named("GNU", 5, "NT_GNU_PROPERTY_0") && is_named("GNU", 6, "NT_UNKNOWN"));
-    assert!(rt; is_named("GNU", NT_SIGINFO, "NT_UNKNOWN") && is_named("CORE2", 1, "NT_GNU_ABI_TAG"));
+    assert!(rt; is_named("GNU", NT_SIGINFO, "NT_UNKNOWN"));
+    assert!(rt; is_named("CORE2", 1, "NT_GNU_ABI_TAG"));
 }
 
 #[test]
@@ -422,9 +439,7 @@ fn agrees(mut notes: NoteDataIterator) -> bool {
             (Some(Ok(note)), Ok(plain)) => {
                 (is_plain(&note, &plain), offset.wrapping_add(plain.len))
             }
-            (Some(Err(e)), Err(fault)) => {
-                (plain_fault(&e) == Some(fault), notes.size as u128)
-            }
+            (Some(Err(e)), Err(fault)) => { (plain_fault(&e) == Some(fault), notes.size as u128) }
             _ => (false, 0),
         };
         if !agrees || notes.offset as u128 != next {
@@ -440,7 +455,14 @@ const ALIGNMENTS: [usize; 12] = [0, 1, 2, 3, 4, 5, 6, 7, 8, 9, 16, usize::MAX];
 // sizes, by each alignment.
 fn agree(bytes: &[u8], ctx: Ctx) -> bool {
     let len = bytes.len();
-    let ends = [0, 1, len.saturating_sub(1), len, len.saturating_add(1), usize::MAX];
+    let ends = [
+        0,
+        1,
+        len.saturating_sub(1),
+        len,
+        len.saturating_add(1),
+        usize::MAX,
+    ];
     for offset in ends {
         for size in ends {
             for alignment in ALIGNMENTS {

@@ -6,8 +6,11 @@ use goblin_base::scroll;
 use goblin_base::scroll::{TryFromCtx, TryIntoCtx};
 
 const LITTLE32: &[u8] = b"\x04\0\0\0\x14\0\0\0\x03\0\0\0";
+
 const BIG32: &[u8] = b"\0\0\0\x04\0\0\0\x14\0\0\0\x03";
+
 const LITTLE64: &[u8] = b"\x04\0\0\0\0\0\0\0\x14\0\0\0\0\0\0\0\x03\0\0\0\0\0\0\0";
+
 const BIG64: &[u8] = b"\0\0\0\0\0\0\0\x04\0\0\0\0\0\0\0\x14\0\0\0\0\0\0\0\x03";
 
 // Whether the bytes are read as the header of a note with a name of 4 bytes, a descriptor of 20 and

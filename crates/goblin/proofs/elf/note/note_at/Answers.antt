@@ -11,4 +11,4 @@ returns-clause-given c = rw (note_at-before c.args.bytes.now c.args.offset c.arg
 pub returns-clause-fits : goal.returns-clause-fits
 returns-clause-fits c =
     note_at-fits c.try_from_ctx.result c.args.bytes.now c.args.offset c.args.ctx (omega arith)
-        (rw (note_at-before c.args.bytes.now c.args.offset c.args.ctx (omega arith)) c.try_from_ctx.ensures)
+    (rw (note_at-before c.args.bytes.now c.args.offset c.args.ctx (omega arith)) c.try_from_ctx.ensures)

@@ -12,7 +12,7 @@ returns-in-Some-clause-ranges c =
     let next = next_is it.iters.items it.index range (omega arith) there some in
     let at : index_of_next c.args.self.now ≡ it.index = omega (arith, c.loop-self.invariant.next) in
     moved c.args.self.now.iters.items it.iters.items (index_of_next c.args.self.now) it.index range _
-        c.loop-self.invariant.ranges (omega arith) there at c.in-Some.ensures.moves
+    c.loop-self.invariant.ranges (omega arith) there at c.in-Some.ensures.moves
 
 pub loop-self-preserved : goal.loop-self-preserved
 loop-self-preserved c =
