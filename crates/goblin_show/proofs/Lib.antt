@@ -1,3 +1,4 @@
+mod Modes
 mod Printed
 mod Reading
 mod Shows

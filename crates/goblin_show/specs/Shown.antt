@@ -8,6 +8,7 @@ use Rattle.goblin.specs.declared.elf.sym.Sym.{Sym}
 use Rattle.goblin.specs.declared.error.Error.{Error}
 use Rattle.goblin.specs.declared.error.Fault.TheVariants.{InvalidClass, InvalidEndianness}
 use Rattle.goblin.specs.declared.options.ParseMode.{ParseMode}
+use Rattle.goblin.specs.declared.options.ParseMode.TheVariants.{Strict, Permissive}
 use Rattle.goblin.specs.Header.{class_of, order_of}
 use Rattle.goblin.specs.ReadHeader.{read_header}
 use Rattle.goblin.specs.Refusal.{Refusal, out_of_memory, refusal_of}
@@ -142,3 +143,7 @@ tested bytes = do
 abbrev pub Adds : List ℕ → List ℕ → Result (Unit {0}) Error → Result (List ℕ) Refusal → Type 0
 Adds old new (Ok done) right = (lines : List ℕ) × (right ≡ Ok lines) × (new ≡ old ++ lines)
 Adds old new (Err e) right = refusal_of e ≢ out_of_memory → right ≡ Err (refusal_of e)
+
+-- where the text is shown strictly, the same is shown permissively
+abbrev pub PermissiveShowsStrict : Type 0
+PermissiveShowsStrict = (bytes text : List ℕ) → shown Strict bytes ≡ Ok text → shown Permissive bytes ≡ Ok text

@@ -2,7 +2,7 @@
 ghost use Rattle.std.specs.Prelude.{◌≡◌, ◌++◌, OnOk, IfErr, string_bytes};
 ghost use Rattle.goblin.specs.Refusal.{Gives, Refuses};
 ghost use Rattle.goblin.specs.SectionHeaders.{section_headers_of_tested};
-ghost use Rattle.goblin_show.specs.Shown.{Adds, ctx_of, each_shown, file_shown, has_relocs, has_symbols, name_at, names_index, section_lines};
+ghost use Rattle.goblin_show.specs.Shown.{Adds, PermissiveShowsStrict, ctx_of, each_shown, file_shown, has_relocs, has_symbols, name_at, names_index, section_lines};
 ghost use Rattle.goblin_show.specs.Shown.{reloc_lines, relocs_shown, sections_of, shown, sizes_checked, strings_at, strings_of, symbol_lines, symbols_shown, tested};
 
 use crate::lines::{push_header, push_reloc, push_section, push_symbol};
@@ -295,4 +295,12 @@ pub fn text_of(alloc: Global, bytes: &[u8], opts: &ParseOptions) -> Result<Strin
         opts,
     };
     file.text(alloc)
+}
+
+/// Law: where the text is shown by strict options, the same is shown by permissive ones. A call does
+/// nothing.
+pub fn laws()
+    ensures { PermissiveShowsStrict }
+{
+    goblin::strtab::laws();
 }
