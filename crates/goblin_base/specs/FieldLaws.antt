@@ -94,10 +94,6 @@ values_at-image order (f ∷ fields) front rest place at =
 pub values_at-image_low : (order : Endian) (fields : List Field) → values_at order (image_of_fields order fields) 0 (widths_of fields) ≡ lows_of fields
 values_at-image_low order fields = rw append-nil at (values_at-image order fields [] [] 0 refl)
 
--- fields that fit are read back
-pub values_at-image_alone : (order : Endian) (fields : List Field) → FieldsFit fields → values_at order (image_of_fields order fields) 0 (widths_of fields) ≡ values_of fields
-values_at-image_alone order fields fits = values_at-image_low order fields ∙ lows_of-fits fields fits
-
 -- a part of bytes is bytes
 IsBytes-part : (bytes : List ℕ) (place w : ℕ) → IsBytes bytes → IsBytes (take w (drop place bytes))
 IsBytes-part bytes place w h i =
