@@ -303,6 +303,7 @@ fn leads_to_the_headers_of_notes(rt: HostRuntime) {
 }
 
 // A note as its layout says it, in numbers that no sum passes.
+#[derive(Drop)]
 struct PlainNote<'a> {
     n_type: u128,
     name: &'a [u8],

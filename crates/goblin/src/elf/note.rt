@@ -1,8 +1,7 @@
 //! Notes: System V gABI, "Note Section".
 ghost use Rattle.std.specs.Prelude.{⊤, ◌≡◌, ◌+◌, ◌≤◌, ◌<◌, ◌^◌, ◌++◌, IfOk, IfSome, length, min};
 ghost use Rattle.std.specs.Prelude.{[], ◌∷◌, take, drop};
-ghost use Rattle.std.specs.Int.{next_multiple_of};
-ghost use Rattle.std.specs.Iterator.{MakesProgress, UpTo, YieldsFirstBy, at_most, item_count};
+ghost use Rattle.std.specs.Iterator.{MakesProgress, UpTo, YieldsFirstBy, at_most};
 ghost use Rattle.std.specs.Iterator.SizeHint.{IsWithinCount};
 ghost use Rattle.goblin_base.specs.Refusal.{Answers};
 ghost use Rattle.goblin.specs.Notes.{NoteByNote, NotesAdvance, FewNotes};
@@ -26,7 +25,8 @@ pub use goblin_records::note::{
 pub struct NoteDataIterator<'a> {
     /// The bytes that the notes lie in.
     pub bytes: &'a [u8],
-    /// The offset at which the range ends: no note begins there or behind it.
+    /// The offset at which the range ends: no note begins there or behind it, though one may reach
+    /// behind it.
     pub size: usize,
     /// The offset of the next note.
     pub offset: usize,
@@ -137,8 +137,8 @@ impl<'a> NoteIterator<'a> {
 }
 
 /// The items of the ranges from the index on, one range after another. The index moves to the range
-/// that gives the item, or behind the last range where none has an item left. Of the ranges only that
-/// one moves, and no item needs memory.
+/// that gives the item, or to the end of the ranges where none has an item left. Of the ranges only
+/// that one moves, and no item needs memory.
 impl<'a> Iterator for NoteIterator<'a> {
     ghost use Rattle.goblin.specs.Notes.{all_items_left, item_of, most_left_in};
 
