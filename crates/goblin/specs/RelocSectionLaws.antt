@@ -63,8 +63,8 @@ writes_its_bytes bytes offset filesz is_rela ctx is_mips64el relocs are is =
     elim (cases_lt 0 filesz) [
       | inl p ↦ let some : (filesz == 0) ≡ false = grind (arith, nat_tests) in some_written bytes offset filesz c relocs are (rw some at is)
       | inr p ↦
-        let none : filesz ≡ 0 = omega arith in
-        let empty : relocs ≡ [] = let at_none = rw none at is in cc in
-        let short : filesz / size * size ≡ 0 = omega (arith, div-mul-le_self filesz size) in
-        rw (empty, short) refl
+          let none : filesz ≡ 0 = omega arith in
+          let empty : relocs ≡ [] = let at_none = rw none at is in cc in
+          let short : filesz / size * size ≡ 0 = omega (arith, div-mul-le_self filesz size) in
+          rw (empty, short) refl
     ]

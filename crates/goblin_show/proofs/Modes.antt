@@ -48,7 +48,7 @@ unfolding sections_of
 sections bytes h ctx =
     steps (section_headers_of bytes h.e_shoff h.e_shnum ctx) _ _ _ (same _) λ found.
     steps (refuse_as refusal_of (sizes_checked Strict (length bytes) found)) _ _ _
-      (within refusal_of _ _ λ done h. passes (length bytes) found) λ done. same (Ok found)
+    (within refusal_of _ _ λ done h. passes (length bytes) found) λ done. same (Ok found)
 
 strings_here : StrictIsPermissive → (bytes : List ℕ) (s : Option SectionHeader) → Keeps (strings_of Strict bytes s) (strings_of Permissive bytes s)
 strings_here strtabs bytes None = same _
@@ -65,9 +65,9 @@ unfolding symbols_shown
 symbols strtabs bytes ctx found number s =
     let count = s.sh_size / sym_size ctx.container in
     otherwise (not (has_symbols s)) _ _ _
-      (steps (refuse_as refusal_of (symtab_by Strict bytes s.sh_offset count ctx)) _ _ _
-        (within refusal_of _ _ (permissive_keeps_strict bytes s.sh_offset count ctx)) λ table.
-      steps (strings_at Strict bytes found s.sh_link) _ _ _ (strings strtabs bytes found s.sh_link) λ names. same _)
+    (steps (refuse_as refusal_of (symtab_by Strict bytes s.sh_offset count ctx)) _ _ _
+    (within refusal_of _ _ (permissive_keeps_strict bytes s.sh_offset count ctx)) λ table.
+    steps (strings_at Strict bytes found s.sh_link) _ _ _ (strings strtabs bytes found s.sh_link) λ names. same _)
 
 each : (f g : ℕ → SectionHeader → Result (List ℕ) Refusal) → ((number : ℕ) (s : SectionHeader) → Keeps (f number s) (g number s))
     → (number : ℕ) (found : List SectionHeader) → Keeps (each_shown f number found) (each_shown g number found)
@@ -82,7 +82,7 @@ unfolding file_shown
 file strtabs bytes h ctx found =
     steps (strings_at Strict bytes found (names_index h found)) _ _ _ (strings strtabs bytes found (names_index h found)) λ names.
     steps (each_shown (symbols_shown Strict bytes ctx found) 0 found) _ _ _
-      (each _ _ (symbols strtabs bytes ctx found) 0 found) λ symbols. same _
+    (each _ _ (symbols strtabs bytes ctx found) 0 found) λ symbols. same _
 
 -- where the strict text is there, the permissive one is the same
 pub permissive_shows_strict : StrictIsPermissive → PermissiveShowsStrict

@@ -48,13 +48,13 @@ pub fn show<R: Source, W: Sink>(
     ensures shown { result ≡ 0 → (opts : ParseOptions)
         × (asked (map string_bytes words.now) ≡ Some opts)
         × IsShown opts.parse_mode (R.remaining reader.old) (R.remaining reader.new)
-            (R.marks reader.new) (W.contents writer.old) (W.contents writer.new) }
+        (R.marks reader.new) (W.contents writer.old) (W.contents writer.new) }
 
     // One line with the reason was written.
     ensures refused { result ≡ 1 → (opts : ParseOptions) × (line : List ℕ)
         × (asked (map string_bytes words.now) ≡ Some opts)
         × IsReason opts.parse_mode (R.remaining reader.old) (R.remaining reader.new)
-            (R.marks reader.new) line
+        (R.marks reader.new) line
         × WritesRefusal (W.contents writer.old) (W.contents writer.new) line }
 
     // The words ask for nothing, or reading failed, or the writer told an error.

@@ -115,7 +115,7 @@ pub fn run<R: Source, W: Sink>(
     // One line with the reason was written.
     ensures refused { result ≡ Outcome.Refused → (line : List ℕ)
         × IsReason opts.now.parse_mode (R.remaining reader.old) (R.remaining reader.new)
-            (R.marks reader.new) line
+        (R.marks reader.new) line
         × WritesRefusal (W.contents writer.old) (W.contents writer.new) line }
 
     // The reader told an error that was no interruption, or was asked as often as it is and told

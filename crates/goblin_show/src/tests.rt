@@ -380,7 +380,13 @@ fn takes_as_many_bytes_as_the_limit(rt: HostRuntime) {
 // Whether a run over 100,000 zeros, which takes three read calls, fails and writes nothing where
 // any of the calls answers this error.
 fn fails_at_each_call(alloc: Global, error: ErrorKind) -> bool {
-    (1..4).all(|call| ends(alloc, &STRICT, Zeros::new(100_000, call, error), Outcome::Failed, ""))
+    (1..4).all(|call| ends(
+        alloc,
+        &STRICT,
+        Zeros::new(100_000, call, error),
+        Outcome::Failed,
+        "",
+    ))
 }
 
 #[test]

@@ -106,7 +106,13 @@ fn push_symbols(
         ≡ string_bytes text.old ++ symbol_lines names.now section 0 table.now.symbols) }
 {
     for (number, symbol) in table.iter().enumerate() {
-        push_symbol(text, section, number, &symbol, name_at(names, symbol.st_name))?;
+        push_symbol(
+            text,
+            section,
+            number,
+            &symbol,
+            name_at(names, symbol.st_name),
+        )?;
     }
     Ok(())
 }
@@ -235,8 +241,14 @@ impl<'a> File<'a> {
         let offset = section.sh_offset as usize;
         let size = section.sh_size as usize;
         let is_rela = section.sh_type == SHT_RELA;
-        let relocs =
-            RelocSection::parse_inner(self.bytes, offset, size, is_rela, self.ctx, is_mips64el)?;
+        let relocs = RelocSection::parse_inner(
+            self.bytes,
+            offset,
+            size,
+            is_rela,
+            self.ctx,
+            is_mips64el,
+        )?;
         Ok(push_relocs(text, number, &relocs)?)
     }
 

@@ -10,9 +10,7 @@ use goblin_base::container::Ctx;
 use goblin_base::error::{Error, Result};
 use goblin_base::number::room;
 use goblin_base::table::{Table, TableIter};
-use goblin_headers::header::{
-    EI_CLASS, EI_DATA, ELFCLASS64, ELFDATA2LSB, EM_MIPS, Header,
-};
+use goblin_headers::header::{EI_CLASS, EI_DATA, ELFCLASS64, ELFDATA2LSB, EM_MIPS, Header};
 pub use goblin_records::reloc::{Reloc, RelocCtx, reloc32, reloc64};
 use std::alloc::Global;
 use std::marker::Model;
