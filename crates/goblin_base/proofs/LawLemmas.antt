@@ -1,5 +1,5 @@
 -- The laws of string tables.
-use Rattle.std.proofs.Common.{◌≡◌, ℕ, zero, suc, ◌+◌, ◌-◌, ◌^◌, ◌<◌, ◌≤◌, ⊎_elim, Bool, true, false, cond, not, eqb, ltb, leb, List, [], length, get_or, take, drop, map, refl, sym, ap, ◌∙◌, arith, Some, None, Result, Ok, Err}
+use Rattle.std.proofs.Common.{◌≡◌, ℕ, zero, suc, ◌+◌, ◌-◌, ◌^◌, ◌<◌, ◌≤◌, ⊎_elim, Bool, true, false, cond, not, eqb, ltb, leb, List, [], length, get_or, take, drop, map, refl, sym, ap, ◌∙◌, arith, Some, Result, Ok, Err}
 use Rattle.std.proofs.lemmas.Bool.{cases_lt, cases_Bool, cond-true, cond-false, lt-ltb, le-ltb, both_ways}
 use Rattle.std.proofs.lemmas.List.{length-drop, take_all}
 use Rattle.std.proofs.lemmas.List.FromFn.{length-range_with_len}
@@ -18,7 +18,7 @@ use Rattle.goblin_base.specs.Refusal.{Refusal, malformed}
 use Rattle.goblin_base.specs.Steps.{◌>>=◌, refuse_as}
 use Rattle.goblin_base.specs.Strtab.{StringTable, or_cut, range_in, strtab_of, table_of, walked, plain, look_up}
 use Rattle.goblin_base.specs.StrtabLaws.{TextIsUtf8, ClosedForm, JoinsAgain, PermissiveAccepts, StrictIsPermissive, LookUpHasPlain, StrictLookUpIsPlain, DependsOnRange, joined}
-use Rattle.goblin_base.specs.Utf8.{invalid_utf8, text_or_fault}
+use Rattle.goblin_base.specs.Utf8.{invalid_utf8}
 use Rattle.goblin_base.proofs.PiecesLemmas.{start_to, start_after_delim, start_more}
 use Rattle.goblin_base.proofs.WalkLemmas.{entries_closed, no_entry_place}
 use Rattle.goblin_base.proofs.LookUpLemmas.{text_at_readable, text_at_inside}

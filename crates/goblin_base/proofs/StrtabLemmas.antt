@@ -1,5 +1,5 @@
 -- From ranges and walks to string tables.
-use Rattle.std.proofs.Common.{◌≡◌, ℕ, ◌+◌, ◌-◌, ◌≤◌, Bool, true, false, cond, ltb, take, drop, List, [], map, length, get_or, refl, sym, ap, subst, ◌∙◌, ◌<◌, ⊎_elim, not, arith, Option, Some, None, Result, Ok, Err}
+use Rattle.std.proofs.Common.{◌≡◌, ℕ, ◌+◌, ◌-◌, ◌≤◌, Bool, true, false, cond, ltb, take, drop, List, [], length, get_or, refl, sym, ap, subst, ◌∙◌, ◌<◌, ⊎_elim, not, arith, Option, None, Result, Ok, Err}
 use Rattle.std.proofs.lemmas.Bool.{cases_lt, cond-true, cond-false, lt-ltb, le-ltb}
 use Rattle.std.proofs.lemmas.List.{length-drop, take_all}
 use Rattle.std.proofs.lemmas.List.Sums.{prefix_len-le-length}
@@ -11,13 +11,13 @@ use Rattle.std.specs.Prelude.{◌==◌}
 use Rattle.goblin_base.specs.declared.error.Fault.{Fault}
 use Rattle.goblin_base.specs.declared.options.ParseMode.{ParseMode}
 use Rattle.goblin_base.specs.declared.options.ParseMode.TheVariants.{Strict, Permissive}
-use Rattle.goblin_base.specs.Pieces.{piece, entry_text, entries, entries_from, first_bad, text_at}
+use Rattle.goblin_base.specs.Pieces.{piece, entry_text, entries, first_bad, text_at}
 use Rattle.goblin_base.specs.Entries.{places_of, text_of}
 use Rattle.goblin_base.specs.Search.{IsLastUpTo}
 use Rattle.goblin_base.specs.Refusal.{Refusal, malformed}
 use Rattle.goblin_base.specs.Steps.{◌>>=◌, refuse_as}
 use Rattle.goblin_base.specs.Strtab.{StringTable, look_up, range_in, strtab_of, table_of, walked, plain}
-use Rattle.goblin_base.specs.Utf8.{invalid_utf8, text_or_fault}
+use Rattle.goblin_base.specs.Utf8.{text_or_fault}
 use Rattle.goblin_base.proofs.LookUpLemmas.{IsLookUp, text_at_past, found_look_up, not_all_after, answered, entry_text_at}
 use Rattle.goblin_base.proofs.WalkLemmas.{entries_past}
 

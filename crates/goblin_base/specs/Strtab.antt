@@ -1,5 +1,5 @@
 -- A string table: which bytes it has, and what its calls answer (System V gABI, "String Table").
-use Rattle.std.specs.Prelude.{ℕ, ◌+◌, ◌-◌, ◌^◌, Bool, true, List, [], map, length, take, drop, nat_lt, nat_le, if◌then◌else◌, Option, Some, None, Result, Ok, Err}
+use Rattle.std.specs.Prelude.{ℕ, ◌+◌, ◌-◌, ◌^◌, Bool, true, List, [], map, length, take, drop, nat_lt, nat_le, if◌then◌else◌, Option, None, Result, Ok, Err}
 use Rattle.goblin_base.specs.declared.error.Fault.{Fault}
 use Rattle.goblin_base.specs.declared.error.Fault.TheVariants.{StrtabOffset, StrtabRange}
 use Rattle.goblin_base.specs.declared.options.ParseMode.{ParseMode}

@@ -1,4 +1,3 @@
-use Rattle.std.proofs.Common.{ap, ◌∙◌, sym}
 use Rattle.goblin_base.proofs.EntriesLemmas.{none_between}
 use Rattle.goblin_base.proofs.entries.Entries.is_empty.Goals as goal
 
