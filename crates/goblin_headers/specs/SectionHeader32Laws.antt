@@ -1,5 +1,5 @@
 -- Section headers of the 32-bit class are read back from what was written, and written back as they were read.
-use Rattle.std.proofs.Common.{List, [], ◌∷◌, slice_index, refl, lit<}
+use Rattle.std.proofs.Common.{[], ◌∷◌, slice_index, refl, lit<}
 use Rattle.goblin_base.specs.declared.container.Endian.{Endian}
 use Rattle.goblin_base.specs.Layout.{IsLayout, IsRecord}
 use Rattle.goblin_base.specs.LayoutLaws.{layout_laws}
