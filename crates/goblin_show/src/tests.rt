@@ -429,6 +429,7 @@ fn reads_on_through_many_interruptions(rt: HostRuntime) {
     assert!(rt;
         ends(
             rt.alloc(),
+            &STRICT,
             Interrupted { left: 100_000 },
             Outcome::Refused,
             line
