@@ -14,7 +14,8 @@ use goblin_base::strtab::Strtab;
 use std::alloc::Global;
 
 // Bytes of which no two are equal, so that each place is told from the others.
-const BYTES: &[u8] = b"\x01\x02\x03\x04\x05\x06\x07\x08\x09\x0a\x0b\x0c\x0d\x0e\x0f\x10\x11\x12\x13\x14\x15\x16\
+const BYTES: &[u8] =
+    b"\x01\x02\x03\x04\x05\x06\x07\x08\x09\x0a\x0b\x0c\x0d\x0e\x0f\x10\x11\x12\x13\x14\x15\x16\
     \x17\x18\x19\x1a\x1b\x1c\x1d\x1e\x1f\x20\x21\x22\x23\x24\x25\x26\x27\x28\x29\x2a\x2b\x2c\
     \x2d\x2e\x2f\x30\x31\x32\x33\x34\x35\x36\x37\x38\x39\x3a\x3b\x3c\x3d\x3e\x3f\x40\x41\x42\
     \x43\x44\x45\x46\x47\x48\x49\x4a\x4b\x4c\x4d\x4e\x4f\x50\x51\x52\x53\x54\x55\x56\x57\x58\
@@ -44,7 +45,15 @@ const CONTEXTS: &[Ctx] = &[
 
 // The offsets, counts and sizes that are tried with so many bytes.
 fn ends_of(len: usize) -> [usize; 7] {
-    [0, 1, 2, len.wrapping_sub(1), len, len.wrapping_add(1), usize::MAX]
+    [
+        0,
+        1,
+        2,
+        len.wrapping_sub(1),
+        len,
+        len.wrapping_add(1),
+        usize::MAX,
+    ]
 }
 
 // What a table answers: so many records, or a refusal with its numbers.
@@ -426,7 +435,14 @@ fn agrees(
         Table::SectionsFrom => sections_from(alloc, bytes, offset, count, ctx),
         Table::Symbols => symbols(alloc, bytes, offset, count, ctx),
         Table::StrictSymtab => symtab(alloc, bytes, offset, count, ctx, &ParseOptions::strict()),
-        Table::CutSymtab => symtab(alloc, bytes, offset, count, ctx, &ParseOptions::permissive()),
+        Table::CutSymtab => symtab(
+            alloc,
+            bytes,
+            offset,
+            count,
+            ctx,
+            &ParseOptions::permissive(),
+        ),
         Table::Relocs => relocs(alloc, bytes, offset, count, ctx, false),
         Table::RelocsWithAddends => relocs(alloc, bytes, offset, count, ctx, true),
     }
@@ -530,9 +546,7 @@ fn strtab(alloc: Global, bytes: &[u8], offset: usize, len: usize, opts: &ParseOp
         Answer::Records(range.len() as u128)
     };
     match Strtab::parse_with_opts(alloc, bytes, offset, len, 0, opts) {
-        Ok(table) => {
-            rule == Answer::Records(table.len() as u128) && is_table_of(&table, range)
-        }
+        Ok(table) => { rule == Answer::Records(table.len() as u128) && is_table_of(&table, range) }
         Err(e) => refusal(&e) == rule,
     }
 }
