@@ -375,10 +375,11 @@ fn plain_note(
     let namesz = plain_number(bytes, [0, 1, 2, 3], order);
     let descsz = plain_number(bytes, [4, 5, 6, 7], order);
     let n_type = plain_number(bytes, [8, 9, 10, 11], order);
-    let name = plain_part(bytes, 12, namesz.max(1) - 1)?;
+    let named = if namesz > 0 { namesz - 1 } else { 0 };
+    let name = plain_part(bytes, 12, named)?;
     // The names of these cases are ASCII or no text at all.
     if name.iter().any(|byte| *byte >= 0x80) {
-        return Err(PlainFault::BadInput(bytes.len() as u128 - 12));
+        return Err(PlainFault::BadInput(bytes.len().saturating_sub(12) as u128));
     }
     let place = plain_multiple(namesz.wrapping_add(12), align);
     let desc = plain_part(bytes, place, descsz)?;
@@ -420,11 +421,17 @@ fn plain_fault(e: &Error) -> Option<PlainFault> {
     }
 }
 
+// Whether these are the same bytes.
+fn same(bytes: &[u8], others: &[u8]) -> bool {
+    bytes == others
+}
+
 // Whether a note has the parts of a plain one.
 fn is_plain(note: &Note, plain: &PlainNote) -> bool {
-    note.n_type as u128 == plain.n_type
-        && note.name.as_bytes() == plain.name
-        && note.desc == plain.desc
+    let typed = note.n_type as u128 == plain.n_type;
+    let named = same(note.name.as_bytes(), plain.name);
+    let described = same(note.desc, plain.desc);
+    typed && named && described
 }
 
 // Whether the items of a range, and where its offset is after each, are the plain ones.
