@@ -1,12 +1,13 @@
 -- A string table: which bytes it has, and what its calls answer (System V gABI, "String Table").
-use Rattle.std.specs.Prelude.{ℕ, ◌+◌, ◌-◌, ◌^◌, Bool, true, List, [], map, length, take, drop, nat_lt, nat_le, if◌then◌else◌, Option, None, Result, Ok, Err}
+use Rattle.std.specs.Prelude.{◌≡◌, ℕ, ◌+◌, ◌-◌, ◌^◌, Bool, true, false, List, [], map, length, take, drop, nat_lt, nat_le, if◌then◌else◌, Option, None, Result, Ok, Err}
+use Rattle.goblin_base.specs.declared.error.Error.{Error}
 use Rattle.goblin_base.specs.declared.error.Fault.{Fault}
 use Rattle.goblin_base.specs.declared.error.Fault.TheVariants.{StrtabOffset, StrtabRange}
 use Rattle.goblin_base.specs.declared.options.ParseMode.{ParseMode}
 use Rattle.goblin_base.specs.declared.options.ParseMode.TheVariants.{Strict, Permissive}
 use Rattle.goblin_base.specs.Entries.{text_of}
-use Rattle.goblin_base.specs.Pieces.{piece, entries, first_bad, text_at}
-use Rattle.goblin_base.specs.Refusal.{Refusal, malformed}
+use Rattle.goblin_base.specs.Pieces.{piece, entries, first_bad, is_readable, text_at}
+use Rattle.goblin_base.specs.Refusal.{Refusal, Refuses, malformed}
 use Rattle.goblin_base.specs.Steps.{◌>>=◌, refuse_as}
 use Rattle.goblin_base.specs.Utf8.{invalid_utf8, text_or_fault}
 
@@ -35,6 +36,11 @@ walked Permissive bytes delim = Ok (entries bytes delim)
 walked Strict bytes delim =
     if nat_lt (first_bad bytes delim) (length bytes) then Err (invalid_utf8 (length bytes - first_bad bytes delim))
     else Ok (entries bytes delim)
+
+-- in strict mode a first piece that is no text is refused, whatever the memory
+abbrev pub RefusesFirst : {X : Type 0} → ParseMode → List ℕ → ℕ → Result X Error → Type 0
+RefusesFirst mode bytes delim result =
+    (mode ≡ Strict) → is_readable bytes delim 0 ≡ false → Refuses result (invalid_utf8 (length bytes))
 
 -- the table of all these bytes
 abbrev pub table_of : ParseMode → List ℕ → ℕ → Result StringTable Refusal

@@ -8,7 +8,7 @@ ghost use Rattle.goblin_base.specs.Entries.{places_of, text_of};
 ghost use Rattle.goblin_base.specs.Pieces.{piece};
 ghost use Rattle.goblin_base.specs.Refusal.{Answers, Gives};
 ghost use Rattle.goblin_base.specs.Search.{IsLastUpTo};
-ghost use Rattle.goblin_base.specs.Strtab.{look_up, plain, range_in, strings_of, strtab_of, table_of, texts_of};
+ghost use Rattle.goblin_base.specs.Strtab.{RefusesFirst, look_up, plain, range_in, strings_of, strtab_of, table_of, texts_of};
 ghost use Rattle.goblin_base.specs.StrtabLaws.{ClosedForm, DependsOnRange, DigitsCount, JoinsAgain, LookUpHasPlain, PermissiveAccepts, StrictIsPermissive, StrictLookUpIsPlain, TextIsUtf8};
 
 use crate::entries::{Entries, Looked, Probes};
@@ -124,6 +124,8 @@ impl<'a> Strtab<'a> {
             Gives (λ table. table) result right }
         ensures range { IfErr (range_in ParseMode.Strict bytes.now offset len)
             (λ fault. result ≡ Err (Error.Malformed fault)) }
+        ensures first { IfOk (range_in ParseMode.Strict bytes.now offset len)
+            (λ range. RefusesFirst ParseMode.Strict range delim result) }
         ensures none { (range_in ParseMode.Strict bytes.now offset len ≡ Ok []) → IsOk result }
     {
         Self::parse_with_opts(alloc, bytes, offset, len, delim, &ParseOptions::strict())
@@ -137,8 +139,8 @@ impl<'a> Strtab<'a> {
     /// refused: the range is cut to the file, and where a piece is no text the bytes are entries with no
     /// text, up to where a text begins.
     ///
-    /// The range is tested before memory is taken, and a table of no bytes takes none. Want of memory for
-    /// an entry comes before a later piece's fault.
+    /// The range and the first piece are tested before memory is taken, and a table of no bytes takes none.
+    /// Want of memory for an entry comes before a later piece's fault.
     pub fn parse_with_opts(
         alloc: Global,
         bytes: &'a [u8],
@@ -151,6 +153,8 @@ impl<'a> Strtab<'a> {
             Gives (λ table. table) result right }
         ensures range { IfErr (range_in opts.now.parse_mode bytes.now offset len)
             (λ fault. result ≡ Err (Error.Malformed fault)) }
+        ensures first { IfOk (range_in opts.now.parse_mode bytes.now offset len)
+            (λ range. RefusesFirst opts.now.parse_mode range delim result) }
         ensures none { (range_in opts.now.parse_mode bytes.now offset len ≡ Ok []) → IsOk result }
     {
         match range(bytes, offset, len, opts.parse_mode) {
@@ -162,6 +166,7 @@ impl<'a> Strtab<'a> {
     // The parsed table of all the bytes.
     fn of_bytes(alloc: Global, bytes: &'a [u8], delim: u8, mode: ParseMode) -> Result<Self>
         ensures given { Gives (λ table. table) result (table_of mode bytes.now delim) }
+        ensures first { RefusesFirst mode bytes.now delim result }
         ensures none { (bytes.now ≡ []) → IsOk result }
     {
         let entries = walk(alloc, &mut Looked::new(bytes), delim, mode)?;
@@ -176,6 +181,7 @@ impl<'a> Strtab<'a> {
     pub fn new_preparsed(alloc: Global, bytes: &'a [u8], delim: u8) -> Result<Self>
         ensures given { let right = table_of ParseMode.Strict bytes.now delim in
             Gives (λ table. table) result right }
+        ensures first { RefusesFirst ParseMode.Strict bytes.now delim result }
         ensures none { (bytes.now ≡ []) → IsOk result }
     {
         Self::parse(alloc, bytes, 0, bytes.len(), delim)
@@ -185,6 +191,8 @@ impl<'a> Strtab<'a> {
     /// walk, whose fault is a `BadInput`.
     pub fn to_vec(&self, alloc: Global) -> Result<Vec<&'a str>>
         ensures given { Gives (λ v. map (λ text. text.now) v.items) result (strings_of self.now) }
+        ensures first { (self.now.is_parsed ≡ false)
+            → RefusesFirst ParseMode.Strict self.now.bytes self.now.delim result }
         ensures none { (self.now.bytes ≡ []) → IsOk result }
     {
         match &self.entries {

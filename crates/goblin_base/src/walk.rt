@@ -1,9 +1,9 @@
 //! The walk that makes the entries of a string table, within five looks at each byte.
 ghost use Rattle.std.specs.Prelude.{◌≡◌, ◌+◌, ◌-◌, ◌*◌, ◌<◌, ◌≤◌, [], false, min, length, IfOk, IsOk};
-ghost use Rattle.goblin_base.specs.Pieces.{first_bad, is_readable, piece_end};
-ghost use Rattle.goblin_base.specs.Refusal.{Gives, Refuses};
+ghost use Rattle.goblin_base.specs.Pieces.{first_bad, piece_end};
+ghost use Rattle.goblin_base.specs.Refusal.{Gives};
 ghost use Rattle.goblin_base.specs.Scan.{IsScan, IsWalkedTo, looks_of, scan_end};
-ghost use Rattle.goblin_base.specs.Strtab.{walked};
+ghost use Rattle.goblin_base.specs.Strtab.{RefusesFirst, walked};
 ghost use Rattle.goblin_base.specs.Utf8.{invalid_utf8};
 
 use crate::entries::{Entries, Looked};
@@ -31,8 +31,7 @@ pub fn walk<'a>(
     ensures looks { view.new.count ≤ view.old.count + 5 * length view.old.bytes }
 
     // Where memory has not been taken yet it is not wanted.
-    ensures first { (mode ≡ ParseMode.Strict) → is_readable view.old.bytes delim 0 ≡ false
-        → Refuses result (invalid_utf8 (length view.old.bytes)) }
+    ensures first { RefusesFirst mode view.old.bytes delim result }
     ensures none { (view.old.bytes ≡ []) → IsOk result }
 {
     let mut places = Vec::new(alloc);

@@ -172,3 +172,7 @@ SameInEachClass =
     (λ class order. reloc_in (context is_rela class order is_mips64el))
     (λ class order. reloc_image_in (context is_rela class order is_mips64el))
     (StoredFits is_mips64el is_rela)
+
+-- the relocation of zeros, without an addend, as the default has it
+abbrev pub reloc_zero : Reloc
+reloc_zero = record { r_offset = 0; r_addend = None; r_sym = 0; r_type = 0 }

@@ -1,5 +1,5 @@
 -- Relocations of the 32-bit class (System V gABI, "Relocation", Elf32_Rel and Elf32_Rela).
-use Rattle.std.specs.Prelude.{◌%◌, ◌^◌, ◌<◌, ℕ, List, [], ◌∷◌}
+use Rattle.std.specs.Prelude.{◌%◌, ◌^◌, ◌<◌, ℕ, pos, List, [], ◌∷◌}
 use Rattle.goblin_base.specs.declared.container.Endian.{Endian}
 use Rattle.goblin_base.specs.Fields.{Field, field, FieldsFit, image_of_fields}
 use Rattle.goblin_base.specs.Number.{number_at}
@@ -60,3 +60,10 @@ Rel32Fits r = FieldsFit (rel32_fields r)
 
 abbrev pub Rela32Fits : Rela → Type 0
 Rela32Fits r = (r.r_offset < 256 ^ 4) × (r.r_info < 256 ^ 4) × FitsSigned 4 r.r_addend
+
+-- the relocations of zeros, as the default has them
+abbrev pub rel32_zero : Rel
+rel32_zero = record { r_offset = 0; r_info = 0 }
+
+abbrev pub rela32_zero : Rela
+rela32_zero = record { r_offset = 0; r_info = 0; r_addend = pos 0 }

@@ -1,5 +1,5 @@
 -- Relocations of the 64-bit class (System V gABI, "Relocation", Elf64_Rel and Elf64_Rela).
-use Rattle.std.specs.Prelude.{◌%◌, ◌^◌, ◌<◌, ℕ, List, [], ◌∷◌}
+use Rattle.std.specs.Prelude.{◌%◌, ◌^◌, ◌<◌, ℕ, pos, List, [], ◌∷◌}
 use Rattle.goblin_base.specs.declared.container.Endian.{Endian}
 use Rattle.goblin_base.specs.Fields.{Field, field, FieldsFit, image_of_fields}
 use Rattle.goblin_base.specs.Number.{number_at}
@@ -60,3 +60,10 @@ Rel64Fits r = FieldsFit (rel64_fields r)
 
 abbrev pub Rela64Fits : Rela → Type 0
 Rela64Fits r = (r.r_offset < 256 ^ 8) × (r.r_info < 256 ^ 8) × FitsSigned 8 r.r_addend
+
+-- the relocations of zeros, as the default has them
+abbrev pub rel64_zero : Rel
+rel64_zero = record { r_offset = 0; r_info = 0 }
+
+abbrev pub rela64_zero : Rela
+rela64_zero = record { r_offset = 0; r_info = 0; r_addend = pos 0 }

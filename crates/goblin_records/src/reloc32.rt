@@ -5,8 +5,8 @@ ghost use Rattle.goblin_base.specs.declared.container.Endian.{Endian};
 ghost use Rattle.goblin_base.specs.Layout.{IsOneImage};
 ghost use Rattle.goblin_base.specs.Record.{read_within, Writes};
 ghost use Rattle.goblin_base.specs.Steps.{with_size};
-ghost use Rattle.goblin_records.specs.Reloc32.{rel32_size, rel32_of, rel32_image, rel32_low};
-ghost use Rattle.goblin_records.specs.Reloc32.{rela32_size, rela32_of, rela32_image, rela32_low};
+ghost use Rattle.goblin_records.specs.Reloc32.{rel32_size, rel32_of, rel32_image, rel32_low, rel32_zero};
+ghost use Rattle.goblin_records.specs.Reloc32.{rela32_size, rela32_of, rela32_image, rela32_low, rela32_zero};
 ghost use Rattle.goblin_records.specs.RelocInfo.{symbol_in, type_in, info_of, JoinsItsParts};
 
 use crate::reloc::Reloc;
@@ -297,13 +297,15 @@ impl Record<Endian> for Rel {
     ghost writes_back = { λ order. (rel32_laws order).writes_back };
 }
 
-/// Laws: how many bytes relocations take, and which they are; that an `r_info` is joined again from its
-/// parts. A call does nothing.
+/// Laws: how many bytes relocations take, and which they are; that the default ones are those of zeros;
+/// that an `r_info` is joined again from its parts. A call does nothing.
 pub fn laws()
     ensures sizes { (SIZEOF_RELA ≡ rela32_size) × (SIZEOF_REL ≡ rel32_size) }
     ensures rela_image { (order : Endian) →
         IsOneImage rela32_size (rela32_of order) (rela32_image order) rela32_low }
     ensures rel_image { (order : Endian) →
         IsOneImage rel32_size (rel32_of order) (rel32_image order) rel32_low }
+    ensures rela_zeros { (rela : Rela) → ⟦<Rela as Default>⟧.is_default rela → rela ≡ rela32_zero }
+    ensures rel_zeros { (rel : Rel) → ⟦<Rel as Default>⟧.is_default rel → rel ≡ rel32_zero }
     ensures joins { JoinsItsParts class.Little }
 {}

@@ -5,8 +5,8 @@ ghost use Rattle.goblin_base.specs.declared.container.Endian.{Endian};
 ghost use Rattle.goblin_base.specs.Layout.{IsOneImage};
 ghost use Rattle.goblin_base.specs.Record.{read_within, Writes};
 ghost use Rattle.goblin_base.specs.Steps.{with_size};
-ghost use Rattle.goblin_records.specs.Reloc64.{rel64_size, rel64_of, rel64_image, rel64_low};
-ghost use Rattle.goblin_records.specs.Reloc64.{rela64_size, rela64_of, rela64_image, rela64_low};
+ghost use Rattle.goblin_records.specs.Reloc64.{rel64_size, rel64_of, rel64_image, rel64_low, rel64_zero};
+ghost use Rattle.goblin_records.specs.Reloc64.{rela64_size, rela64_of, rela64_image, rela64_low, rela64_zero};
 ghost use Rattle.goblin_records.specs.RelocInfo.{symbol_in, type_in, info_of, JoinsItsParts};
 ghost use Rattle.goblin_records.specs.RelocInfo.{mips64el_info, mips64el_info_inverse};
 ghost use Rattle.goblin_records.specs.RelocInfo.{MipsInverse, MipsOneToOne, MipsFourTimes};
@@ -314,14 +314,17 @@ impl Record<Endian> for Rel {
     ghost writes_back = { λ order. (rel64_laws order).writes_back };
 }
 
-/// Laws: how many bytes relocations take, and which they are; that an `r_info` is joined again from its parts; that the `r_info` of MIPS64 files can be had
-/// back. A call does nothing.
+/// Laws: how many bytes relocations take, and which they are; that the default ones are those of zeros;
+/// that an `r_info` is joined again from its parts; that the `r_info` of MIPS64 files can be had back. A
+/// call does nothing.
 pub fn laws()
     ensures sizes { (SIZEOF_RELA ≡ rela64_size) × (SIZEOF_REL ≡ rel64_size) }
     ensures rela_image { (order : Endian) →
         IsOneImage rela64_size (rela64_of order) (rela64_image order) rela64_low }
     ensures rel_image { (order : Endian) →
         IsOneImage rel64_size (rel64_of order) (rel64_image order) rel64_low }
+    ensures rela_zeros { (rela : Rela) → ⟦<Rela as Default>⟧.is_default rela → rela ≡ rela64_zero }
+    ensures rel_zeros { (rel : Rel) → ⟦<Rel as Default>⟧.is_default rel → rel ≡ rel64_zero }
     ensures joins { JoinsItsParts class.Big }
     ensures inverse { MipsInverse }
     ensures one_to_one { MipsOneToOne }
