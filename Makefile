@@ -8,10 +8,11 @@ show:
 	@(cd crates/goblin_show && exec rt run) < '$(FILE)' \
 	|| { test $$? -eq 1 && test -e crates/goblin_show/out/goblin_show.stamp; }
 
-# The whole gate: the pages' quotations, every proof from nothing, the edits that must fail, the tests, and the
-# stored runs.
+# The whole gate: the pages' quotations, growths that are refused, every proof from nothing, the edits that must fail,
+# the tests, and the stored runs.
 test:
 	sh docs/check_quotes.sh
+	sh docs/check_refused.sh
 	rt ci
 
 .PHONY: show test

@@ -1,7 +1,7 @@
 #!/bin/sh
 # Whether each call that takes memory answers want of memory, or what it answers with ample memory, whichever one of its
-# growths is refused: of the calls that crates/goblin_refused lists in its stdin, and of the program goblin_show. Nothing
-# is proved here. Run from the repository's root.
+# growths is refused: each call that crates/goblin_refused lists in its stdin, and the program goblin_show. Nothing is
+# proved here. Run from the repository's root.
 set -eu
 export LC_ALL=C
 folder=$(mktemp -d)
@@ -9,49 +9,86 @@ trap 'rm -rf "$folder"' EXIT
 trap 'exit 1' HUP INT TERM
 mkdir "$folder/calls" "$folder/files"
 
-# Runs the program of a crate with a growth refused, once for each file of a folder.
+# Runs the program of a crate with one allocation refused, once for each file of a folder.
 run_refused() {
-    (cd "crates/$1" && rt try --fail-alloc "$2" --cases "$folder/$3") > "$folder/out" 2> "$folder/err" \
-    || { cat "$folder/out" "$folder/err"; exit 1; }
+    if ! (cd "crates/$1" && rt try --fail-alloc "$2" --cases "$3") > "$folder/out" 2> "$folder/err"; then
+        cat "$folder/out" "$folder/err"
+        exit 1
+    fi
 }
 
-# The calls that refuse before memory is taken, and those that go on by smaller growths where their first is refused. All
-# others answer want of memory to that.
+# The calls that refuse before they take memory, and those that go on by smaller growths where the first is refused. All
+# others answer want of memory to the first.
 takes_none='segments-many segments-late64 sections-outside sections-many symbols-many strings-outside strings-early'
-goes_on='segments-parse32 segments-parse64 segments-bytes32 segments-bytes64 sections-bytes32 sections-bytes64
-symbols-vector symbols-table symbols-relocs'
+goes_on='segments-parse32 segments-parse64 segments-bytes32 segments-bytes64 sections-bytes32 sections-bytes64'
+goes_on="$goes_on symbols-vector symbols-table symbols-relocs"
 
-# Each call with its first growth refused, its second, and so on, up to one that it doesn't ask for.
+# Each call with its first growth refused, with its second, and so on, up to one that it doesn't ask for.
 awk -v folder="$folder/calls" '{
-    last = $1 ~ /^(segments|sections|symbols)-/ ? 3 : 8
-    for (n = 1; n <= last; n++) { print $1, n > (folder "/" $1 "." n); close(folder "/" $1 "." n) }
+    last = 4
+    if ($1 ~ /^(segments|sections|symbols)-/) last = 2
+    if ($1 ~ /^line-|parsed$/) last = 8
+    for (n = 1; n <= last; n++) { file = folder "/" $1 "." n; print $1, n > file; close(file) }
 }' crates/goblin_refused/stdin
-run_refused goblin_refused 100 calls
-awk -v takes_none="$takes_none" -v goes_on="$goes_on" '
-function fail(what) { print "goblin_refused: " name " " n ": " what; bad = 1 }
+calls=$(ls "$folder/calls" | wc -l)
+run_refused goblin_refused 100 "$folder/calls"
+awk -v calls="$calls" -v takes_none="$takes_none" -v goes_on="$goes_on" '
+function fail(what) { print "goblin_refused: " name ", growth " n ": " what; bad = 1 }
 BEGIN {
-    count = split(takes_none, names, /[ \n]/); for (i = 1; i <= count; i++) first[names[i]] = "none"
-    count = split(goes_on, names, /[ \n]/); for (i = 1; i <= count; i++) first[names[i]] = "goes on"
+    split(takes_none, names, " "); for (i in names) starts[names[i]] = "takes none"
+    split(goes_on, names, " "); for (i in names) starts[names[i]] = "goes on"
 }
-FILENAME ~ /stdin$/ { last[$1] = $1 ~ /^(segments|sections|symbols)-/ ? 3 : 8; wanted += last[$1]; next }
-FILENAME ~ /stdout$/ { split($0, names, ":"); ample[names[1]] = $0; next }
-FILENAME ~ /err$/ { if (/^case=/ && / run=ended status=0 runners=2 /) ended++; next }
-/^== / { split($2, names, "."); name = names[1]; n = names[2]; row = 0; cases++; next }
+FILENAME ~ /stdout$/ { name = $1; sub(/:$/, "", name); ample[name] = $0; next }
+FILENAME ~ /err$/ { ended += / run=ended status=0 runners=2 /; next }
+/^== / { split($2, names, "."); name = names[1]; n = names[2]; row = 0; tried++; next }
 { row++ }
-row == 1 { answer = $0; if (!(name in ample)) fail("no such line in stdout"); next }
-row == 2 {
-    is_met = $0 == "growth " n " was refused"
-    if (!is_met && $0 != "growth " n " was not asked for") fail($0)
-    wants = answer == name ": refused: Out of memory"
+row == 1 { answer = $0; wants = answer == name ": refused: Out of memory"; next }
+row == 2 && ($0 == "growth " n " was refused" || $0 == "growth " n " was not asked for") {
+    is_met = / was refused$/
+    if (n >= last[name]) { last[name] = n; is_open[name] = is_met }
     if (wants ? !is_met : answer != ample[name]) fail(answer)
-    if (n == 1 && is_met != (first[name] != "none")) fail($0)
-    if (n == 1 && first[name] == "" && !wants) fail("no want of memory, but " answer)
-    if (n == last[name] && is_met) fail("one more is to be tried")
+    if (n == 1 && is_met != (starts[name] != "takes none")) fail($0)
+    if (n == 1 && !(name in starts) && !wants) fail("no want of memory: " answer)
     next
 }
 { fail($0) }
 END {
-    if (!bad && (cases != wanted || ended != wanted)) { print "goblin_refused: not all " wanted " cases ended"; bad = 1 }
-    if (!bad) print cases > "/dev/stderr"
+    for (name in is_open) { n = last[name]; if (is_open[name]) fail("was refused, and no later one was tried") }
+    if (tried != calls || ended != calls) { print "goblin_refused: not all of " calls " cases ended"; bad = 1 }
     exit bad
-}' crates/goblin_refused/stdin crates/goblin_refused/stdout "$folder/err" "$folder/out"
+}' crates/goblin_refused/stdout "$folder/err" "$folder/out"
+
+# A file that is shown, so long that reading it takes one growth, two, and so on: what lies behind its sections is not
+# looked at. And zeros, which are refused. Three allocations come before reading, so that the fourth is the first of
+# reading, and the thirteenth is one behind the last that the shortest file asks for.
+reading=1
+for size in 136 65537 131073 262145 524289 1048577; do
+    cp crates/goblin_show/stdin "$folder/files/shown.$reading"
+    truncate -s "$size" "$folder/files/shown.$reading"
+    case $reading in [234]) truncate -s "$size" "$folder/files/zeros.$reading" ;; esac
+    reading=$((reading + 1))
+done
+for refused in 4 8 13; do
+    run_refused goblin_show "$refused" "$folder/files"
+    awk -v refused="$refused" '
+    function fail(what) { print "goblin_show: allocation " refused ", " name ": " what; bad = 1 }
+    function end_file(    is_shown) {
+        if (name == "") return
+        is_shown = name ~ /^shown/ && text == shown
+        if (name ~ /^zeros/ && text == "refused: Invalid magic number: 0x0\n") zeros++
+        else if (!is_shown && text != "refused: Out of memory\n") fail(text)
+        if (status[name] != (is_shown ? 0 : 1)) fail("status " status[name])
+        if (name == "shown.1" && is_shown != (refused == 13)) fail("not the answer to this allocation: " text)
+    }
+    FILENAME ~ /stdout$/ { shown = shown $0 "\n"; next }
+    FILENAME ~ /err$/ { if (/^case=.* run=ended /) { split($0, words, /[= ]/); status[words[2]] = words[6] } next }
+    /^== / { end_file(); name = $2; text = ""; tried++; next }
+    { text = text $0 "\n" }
+    END {
+        end_file()
+        if (refused > 4 && zeros == 0) fail("no other file was refused for what it holds")
+        if (tried != 9) fail("only " tried " files were tried")
+        exit bad
+    }' crates/goblin_show/stdout "$folder/err" "$folder/out"
+done
+echo "$((calls + 27)) answers with a growth refused are want of memory or unchanged"
