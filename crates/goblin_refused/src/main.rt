@@ -1,8 +1,8 @@
 //! What each call that takes memory answers where a growth is refused.
 //!
-//! A line `NAME N` of standard input names a call and which of its growths is refused, by a runner that
-//! refuses the hundredth allocation of the program: as many come before the call as then are left. With 0
-//! none comes before, and none is refused. `docs/check_refused.sh` goes over all calls and growths.
+//! A line `NAME N` of standard input names a call and which of its growths is refused. The runner refuses
+//! the hundredth allocation of the program, so 100 - N come before the call. With 0 none comes before,
+//! and none is refused. `docs/check_refused.sh` goes over all calls and growths.
 #![tactic(auto)]
 
 ghost use Rattle.std.specs.Prelude.{◌≤◌, IfOk};
@@ -16,7 +16,7 @@ mod strings;
 
 use answer::print_answer;
 use calls::answer_to;
-use growths::{is_met, takes_all_before};
+use growths::{takes_all_before, was_met};
 use std::io;
 use std::io::Read;
 
@@ -51,7 +51,7 @@ fn named(line: &str) -> Option<(&str, u64)> {
 fn tell(rt: &HostRuntime, name: &str, growth: u64) -> io::Result<()> {
     let takes_all = takes_all_before(rt.alloc(), growth);
     let answer = answer_to(rt.alloc(), name);
-    let is_met = is_met(rt.alloc(), growth);
+    let is_met = was_met(rt.alloc(), growth);
     print!(rt; "{name}: ")?;
     print_answer(rt, &answer)?;
     if growth == 0 {

@@ -41,15 +41,14 @@ fn parsed_vector(alloc: Global) -> Result<Vec<&'static str>> {
 /// Walks over the bytes of string tables.
 pub fn walks(alloc: Global, form: &str) -> Option<Result<Answer>> {
     match form {
-        "strict" => Some(walk(alloc, &mut Looked::new(NINE), 0, ParseMode::Strict).map(
-            Answer::Entries,
-        )),
-        "damaged" => Some(walk(alloc, &mut Looked::new(DAMAGED), 0, ParseMode::Permissive).map(
-            Answer::Entries,
-        )),
-        "resumed" => Some(walk(alloc, &mut Looked::new(RESUMED), 0, ParseMode::Permissive).map(
-            Answer::Entries,
-        )),
+        "strict" => Some(walked(alloc, NINE, ParseMode::Strict)),
+        "damaged" => Some(walked(alloc, DAMAGED, ParseMode::Permissive)),
+        "resumed" => Some(walked(alloc, RESUMED, ParseMode::Permissive)),
         _ => None,
     }
+}
+
+fn walked(alloc: Global, bytes: &'static [u8], mode: ParseMode) -> Result<Answer> {
+    let entries = walk(alloc, &mut Looked::new(bytes), 0, mode)?;
+    Ok(Answer::Entries(entries))
 }
