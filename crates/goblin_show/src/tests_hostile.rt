@@ -289,6 +289,8 @@ fn leaves(alloc: Global, times: u32, outcome: Outcome, text: &str, left: u32) ->
         && writer.into_inner().as_slice() == text.as_bytes()
 }
 
+// This and the next test ask a reader some 50,000,000 times: to be tried with checks they need
+// `--seconds 300`.
 #[test]
 fn gives_up_after_33554432_reads(rt: HostRuntime) {
     assert!(rt;
@@ -300,7 +302,6 @@ fn gives_up_after_33554432_reads(rt: HostRuntime) {
             4_261_412_863
         )
     );
-    assert!(rt; leaves(rt.alloc(), 33_554_432, Outcome::Failed, "", 0));
     // The last call tells the end.
     let line = "refused: Malformed entity: Too small\n";
     assert!(rt; leaves(rt.alloc(), 33_554_431, Outcome::Refused, line, 0));
@@ -333,14 +334,14 @@ fn is_too_long(alloc: Global) -> bool {
         && writer.into_inner().as_slice() == line.as_bytes()
 }
 
-// Whether a run over such a reader fails where each other call is an interruption: by call
-// 33,554,432 it has given as many bytes as the limit, and told no end.
-fn comes_to_no_end(alloc: Global, is_next: bool) -> bool {
+// Whether a run over such a reader fails where each other call is an interruption: call 33,554,432
+// gives the last byte within the limit, and tells no end.
+fn comes_to_no_end(alloc: Global) -> bool {
     let inner = Drops { given: 0 };
     let error = Told::Kind(ErrorKind::Interrupted);
     let mut reader = Counted::new(Halting {
         inner,
-        is_next,
+        is_next: true,
         error,
     });
     let mut writer = Counted::new(Vec::new(alloc));
@@ -352,8 +353,7 @@ fn comes_to_no_end(alloc: Global, is_next: bool) -> bool {
 #[test]
 fn takes_no_zeros_without_end(rt: HostRuntime) {
     assert!(rt; is_too_long(rt.alloc()));
-    assert!(rt; comes_to_no_end(rt.alloc(), true));
-    assert!(rt; comes_to_no_end(rt.alloc(), false));
+    assert!(rt; comes_to_no_end(rt.alloc()));
 }
 
 // What a writer does in the place of taking some bytes.
@@ -361,15 +361,6 @@ fn takes_no_zeros_without_end(rt: HostRuntime) {
 enum Balk {
     Tells(Told),
     TakesNone,
-}
-
-impl Balk {
-    fn answer(self) -> io::Result<usize> {
-        match self {
-            Balk::Tells(error) => Err(error.error()),
-            Balk::TakesNone => Ok(0),
-        }
-    }
 }
 
 // A writer that takes few bytes at once, and balks at one write.
@@ -385,7 +376,10 @@ impl Write for Balking {
     fn write(&mut self, buf: &[u8]) -> io::Result<usize> {
         self.writes = self.writes.saturating_add(1);
         if self.writes == self.balk_at {
-            return self.balk.answer();
+            return match self.balk {
+                Balk::Tells(error) => Err(error.error()),
+                Balk::TakesNone => Ok(0),
+            };
         }
         let count = buf.len().min(7);
         self.held.extend_from_slice(&buf[..count])?;
