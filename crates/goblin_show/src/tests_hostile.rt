@@ -153,6 +153,7 @@ const FAILURES: [Told; 15] = [
     Told::Number(21),
 ];
 
+// Interruptions, by kind and by the system's number.
 const INTERRUPTIONS: [Told; 2] = [Told::Kind(ErrorKind::Interrupted), Told::Number(4)];
 
 // A reader that gives few bytes at once, and this error at one call.
