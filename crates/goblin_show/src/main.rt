@@ -11,6 +11,8 @@ mod run;
 mod streams;
 #[cfg(test)]
 mod tests;
+#[cfg(test)]
+mod tests_hostile;
 mod text;
 
 use command::{NOT_RUN, show};

@@ -9,11 +9,11 @@ use std::alloc::Global;
 use std::io;
 use std::io::{Cursor, ErrorKind, Read, Write};
 
-const STRICT: ParseOptions = ParseOptions {
+pub(crate) const STRICT: ParseOptions = ParseOptions {
     parse_mode: ParseMode::Strict,
 };
 
-const PERMISSIVE: ParseOptions = ParseOptions {
+pub(crate) const PERMISSIVE: ParseOptions = ParseOptions {
     parse_mode: ParseMode::Permissive,
 };
 
@@ -39,7 +39,8 @@ const NO_NAMES_TEXT: &str = "header ELF32 little DYN EM_UNKNOWN entry 0x0 phnum 
     section 1 SHT_STRTAB offset 0x34 size 4 name=\n";
 
 // A 32-bit file of 208 bytes: a header, a string table, a symbol table and three section headers.
-const SYMBOLS: &str = "7F454C46 01010100 0000000000000000 0300 0000 01000000 00000000 00000000
+pub(crate) const SYMBOLS: &str =
+    "7F454C46 01010100 0000000000000000 0300 0000 01000000 00000000 00000000
     58000000 00000000 3400 2000 0000 2800 0300 0000
     00660000
     00000000000000000000000000000000 01000000 00100000 05000000 12 00 0100
@@ -47,7 +48,8 @@ const SYMBOLS: &str = "7F454C46 01010100 0000000000000000 0300 0000 01000000 000
     00000000 03000000 00000000 00000000 34000000 04000000 00000000 00000000 00000000 00000000
     00000000 02000000 00000000 00000000 38000000 20000000 01000000 00000000 00000000 00000000";
 
-const SYMBOLS_TEXT: &str = "header ELF32 little DYN EM_UNKNOWN entry 0x0 phnum 0 shnum 3\n\
+pub(crate) const SYMBOLS_TEXT: &str =
+    "header ELF32 little DYN EM_UNKNOWN entry 0x0 phnum 0 shnum 3\n\
     section 0 SHT_NULL offset 0x0 size 0 name=\n\
     section 1 SHT_STRTAB offset 0x34 size 4 name=\n\
     section 2 SHT_SYMTAB offset 0x38 size 32 name=\n\
@@ -90,7 +92,7 @@ fn digit_of(c: u8) -> Option<u8> {
 }
 
 // The bytes that a hexadecimal text spells, where there is memory.
-fn bytes_of(alloc: Global, text: &str) -> Option<Vec<u8>> {
+pub(crate) fn bytes_of(alloc: Global, text: &str) -> Option<Vec<u8>> {
     let mut bytes = Vec::new(alloc);
     let mut high = None;
     for digit in text.as_bytes().iter().copied().filter_map(digit_of) {
@@ -115,7 +117,7 @@ fn changed(alloc: Global, text: &str, changes: &[(usize, u8)]) -> Option<Vec<u8>
 }
 
 // Whether a run over this reader ends so, and writes this text.
-fn ends<R: Read + Drop>(
+pub(crate) fn ends<R: Read + Drop>(
     alloc: Global,
     opts: &ParseOptions,
     reader: R,
@@ -409,8 +411,8 @@ fn tries_an_interrupted_read_again(rt: HostRuntime) {
 
 // A reader that is interrupted so many times before it tells its end.
 #[derive(Drop)]
-struct Interrupted {
-    left: u32,
+pub(crate) struct Interrupted {
+    pub(crate) left: u32,
 }
 
 impl Read for Interrupted {

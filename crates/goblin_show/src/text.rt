@@ -10,7 +10,7 @@ use goblin::container::Ctx;
 use goblin::elf::header::Header;
 use goblin::elf::reloc::{RelocSection, is_mips64el};
 use goblin::elf::section_header::{
-    SHT_DYNSYM, SHT_NOBITS, SHT_REL, SHT_RELA, SHT_SYMTAB, SectionHeader,
+    SHN_XINDEX, SHT_DYNSYM, SHT_NOBITS, SHT_REL, SHT_RELA, SHT_SYMTAB, SectionHeader,
 };
 use goblin::elf::sym::{Sym, Symtab};
 use goblin::error::Result;
@@ -68,7 +68,7 @@ fn name_at<'a>(strings: &Strtab<'a>, offset: usize) -> &'a str
 fn names_index(header: &Header, sections: &[SectionHeader]) -> usize
     ensures { result ≡ names_index header.now sections.now }
 {
-    if header.e_shstrndx != SHN_XINDEX {
+    if u32::from(header.e_shstrndx) != SHN_XINDEX {
         return usize::from(header.e_shstrndx);
     }
     match sections {
@@ -76,9 +76,6 @@ fn names_index(header: &Header, sections: &[SectionHeader]) -> usize
         [] => 0,
     }
 }
-
-// Says that the section names' table is told by the first section.
-const SHN_XINDEX: u16 = 0xffff;
 
 // Adds the lines of all sections to a text.
 fn push_sections(

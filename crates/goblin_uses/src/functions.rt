@@ -1,5 +1,5 @@
 //! The functions among a file's symbols.
-ghost use Rattle.std.specs.Prelude.{◌≡◌, ◌==◌, ◌%◌, count_by};
+ghost use Rattle.std.specs.Prelude.{◌≡◌, ◌==◌, ◌%◌, IfOk, IsPermutation, count_by, filter};
 
 use goblin::container::Ctx;
 use goblin::elf::section_header::SectionHeader;
@@ -17,7 +17,10 @@ pub fn count_functions(symbols: &Symtab) -> usize
 }
 
 /// The functions, the largest first.
-pub fn functions_by_size(alloc: Global, symbols: &Symtab) -> Result<Vec<Sym>> {
+pub fn functions_by_size(alloc: Global, symbols: &Symtab) -> Result<Vec<Sym>>
+    ensures { let functions = filter (λ s. s.st_info % 16 == 2) symbols.now.symbols in
+        IfOk result (λ sorted. IsPermutation functions sorted.items) }
+{
     let mut functions = Vec::new(alloc);
     for symbol in symbols {
         if symbol.is_function() {

@@ -1,4 +1,6 @@
 //! The relocations of a file.
+ghost use Rattle.std.specs.Prelude.{◌≡◌, ◌==◌, count_by, not};
+
 use goblin::container::Ctx;
 use goblin::elf::header::Header;
 use goblin::elf::reloc::{RelocSection, is_mips64el};
@@ -6,7 +8,9 @@ use goblin::elf::section_header::{SHT_RELA, SectionHeader};
 use goblin::error::Result;
 
 /// How many relocations of a section name a symbol.
-pub fn count_named(relocations: &RelocSection) -> usize {
+pub fn count_named(relocations: &RelocSection) -> usize
+    ensures { result ≡ count_by (λ r. not (r.r_sym == 0)) relocations.now }
+{
     relocations.iter().filter(|reloc| reloc.r_sym != 0).count()
 }
 
