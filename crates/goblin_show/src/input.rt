@@ -15,8 +15,8 @@ const INPUT_LIMIT: usize = 16_777_216;
 // How many times the reader is asked.
 const READ_LIMIT: u64 = 33_554_432;
 
-// How many bytes there is room for at first.
-const FIRST_ROOM: usize = 65_536;
+// For how many bytes room is made at once.
+const ROOM: usize = 65_536;
 
 /// What was read.
 #[derive(Drop)]
@@ -43,7 +43,7 @@ fn make_room(bytes: &mut Vec<u8>, filled: usize) -> Result<(), AllocError>
     if filled < bytes.len() {
         return Ok(());
     }
-    bytes.resize((2 * filled).max(FIRST_ROOM).min(INPUT_LIMIT + 1), 0)
+    bytes.resize((filled + ROOM).min(INPUT_LIMIT + 1), 0)
 }
 
 // Reads into the room behind the first `filled` bytes.
