@@ -30,6 +30,14 @@ static LENGTHS: [usize; 18] = [
     0, 1, 8, 15, 16, 17, 24, 31, 32, 33, 48, 56, 64, 80, 112, 113, 128, 130,
 ];
 
+// The options of a reading that cuts tables to the file, and of one that refuses them.
+fn opts(is_cut: bool) -> ParseOptions {
+    match is_cut {
+        true => ParseOptions::permissive(),
+        false => ParseOptions::strict(),
+    }
+}
+
 // The offsets, counts and sizes that are tried with so many bytes.
 fn ends_of(len: usize) -> [usize; 7] {
     let less = len.saturating_sub(1);
@@ -86,7 +94,10 @@ enum Expected {
     Other,
 }
 
-use Expected::{BadOffset, Records, TooBig, TooShort};
+use Expected::{
+    BadOffset, Other, Records, StrtabOffset, StrtabRange, SymtabOffset, SymtabPast, TooBig,
+    TooManySymbols, TooShort,
+};
 
 // What an error tells.
 fn told(e: &Error) -> Expected {
@@ -95,32 +106,26 @@ fn told(e: &Error) -> Expected {
         Error::Scroll(scroll::Error::BadOffset(offset)) => BadOffset(*offset as u128),
         Error::BufferTooShort(count, items) => TooShort(*count as u128, *items),
         Error::Malformed(fault) => told_by_fault(fault),
-        _ => Expected::Other,
+        _ => Other,
     }
 }
 
 fn told_by_fault(fault: &Fault) -> Expected {
     match fault {
-        Fault::SymtabOffset { offset, len } => {
-            Expected::SymtabOffset(*offset as u128, *len as u128)
-        }
-        Fault::TooManySymbols { offset, count } => {
-            Expected::TooManySymbols(*offset as u128, *count as u128)
-        }
+        Fault::SymtabOffset { offset, len } => SymtabOffset(*offset as u128, *len as u128),
+        Fault::TooManySymbols { offset, count } => TooManySymbols(*offset as u128, *count as u128),
         Fault::SymtabPast {
             requested,
             available,
-        } => { Expected::SymtabPast(*requested as u128, *available as u128) }
-        Fault::StrtabOffset { offset, len } => {
-            Expected::StrtabOffset(*offset as u128, *len as u128)
-        }
+        } => SymtabPast(*requested as u128, *available as u128),
+        Fault::StrtabOffset { offset, len } => StrtabOffset(*offset as u128, *len as u128),
         Fault::StrtabRange {
             size,
             offset,
             len,
             overflow,
-        } => { Expected::StrtabRange(*size as u128, *offset as u128, *len as u128, *overflow) }
-        _ => Expected::Other,
+        } => StrtabRange(*size as u128, *offset as u128, *len as u128, *overflow),
+        _ => Other,
     }
 }
 
@@ -180,15 +185,15 @@ fn symbol_table(asked: &Asked, is_cut: bool) -> Expected {
     if asked.offset >= asked.len && is_cut {
         Records(0)
     } else if asked.offset >= asked.len {
-        Expected::SymtabOffset(asked.offset, asked.len)
+        SymtabOffset(asked.offset, asked.len)
     } else if requested > usize::MAX as u128 {
-        Expected::TooManySymbols(asked.offset, asked.count)
+        TooManySymbols(asked.offset, asked.count)
     } else if requested <= rest(asked) {
         Records(asked.count)
     } else if is_cut {
         Records(whole(rest(asked), asked.size))
     } else {
-        Expected::SymtabPast(requested, rest(asked))
+        SymtabPast(requested, rest(asked))
     }
 }
 
@@ -209,10 +214,10 @@ fn string_table(asked: &Asked, is_cut: bool) -> Expected {
     } else if is_cut {
         Records(rest(asked))
     } else if asked.offset > asked.len {
-        Expected::StrtabOffset(asked.offset, asked.len)
+        StrtabOffset(asked.offset, asked.len)
     } else {
         let overflow = end > usize::MAX as u128;
-        Expected::StrtabRange(asked.count, asked.offset, asked.len, overflow)
+        StrtabRange(asked.count, asked.offset, asked.len, overflow)
     }
 }
 
@@ -315,11 +320,19 @@ fn symtab(alloc: Global, case: &Case, table: Result<Symtab<'_>>, is_cut: bool) -
     is_as_expected(answer, expected, case, size, case.ctx)
 }
 
-fn symtab_by<'a>(case: &Case<'a>, opts: &ParseOptions) -> Result<Symtab<'a>> {
-    Symtab::parse_with_opts(case.bytes, case.offset, case.count, case.ctx, opts)
+fn symtab_of<'a>(case: &Case<'a>) -> Result<Symtab<'a>> {
+    Symtab::parse(case.bytes, case.offset, case.count, case.ctx)
 }
 
-fn relocs(alloc: Global, case: &Case, is_rela: bool, size: usize) -> bool {
+fn symtab_by<'a>(case: &Case<'a>, is_cut: bool) -> Result<Symtab<'a>> {
+    Symtab::parse_with_opts(case.bytes, case.offset, case.count, case.ctx, &opts(is_cut))
+}
+
+fn relocs(alloc: Global, case: &Case, is_rela: bool) -> bool {
+    let size = match is_rela {
+        true => size_in(case, 12, 24),
+        false => size_in(case, 8, 16),
+    };
     let expected = relocation_section(&in_numbers(case, size));
     let answer = relocs_of(alloc, case, is_rela);
     is_as_expected(answer, expected, case, size, (is_rela, case.ctx))
@@ -329,27 +342,18 @@ fn relocs_of(alloc: Global, case: &Case, is_rela: bool) -> Result<Vec<Reloc>> {
     RelocSection::parse(case.bytes, case.offset, case.count, is_rela, case.ctx)?.to_vec(alloc)
 }
 
-// Whether a string stands at the start of these bytes, up to the first delimiter or the end.
-fn is_piece(text: &[u8], bytes: &[u8]) -> bool {
-    let ends = match bytes.get(text.len()) {
-        Some(byte) => *byte == 0,
-        None => true,
-    };
-    ends && bytes.starts_with(text) && !text.contains(&0)
-}
-
-// Whether a string table gives at each place the piece of these bytes, and no more.
+// Whether a string table gives at each place the bytes from there up to a delimiter or the end.
 fn gives_pieces(table: &Strtab<'_>, bytes: &[u8]) -> bool {
-    for place in 0..table.len() {
-        let here = bytes.get(place..).unwrap_or(b"");
-        let Some(text) = table.get_at(place) else {
-            return false;
-        };
-        if !is_piece(text.as_bytes(), here) {
+    for place in 0..bytes.len() {
+        let here = &bytes[place..];
+        let end = here.iter().position(|byte| *byte == 0);
+        let piece = here.get(..end.unwrap_or(here.len())).unwrap_or(here);
+        let text = table.get_at(place);
+        if text.is_none() || text.unwrap_or("").as_bytes() != piece {
             return false;
         }
     }
-    table.get_at(table.len()).is_none()
+    table.get_at(bytes.len()).is_none()
 }
 
 // The bytes of the range, as far as there are any.
@@ -358,53 +362,40 @@ fn cut<'a>(case: &Case<'a>) -> &'a [u8] {
     rest.get(..case.count).unwrap_or(rest)
 }
 
-fn strtab(alloc: Global, case: &Case, opts: &ParseOptions, is_cut: bool) -> bool {
+fn strtab(alloc: Global, case: &Case, is_cut: bool) -> bool {
     let expected = string_table(&in_numbers(case, 1), is_cut);
-    match Strtab::parse_with_opts(alloc, case.bytes, case.offset, case.count, 0, opts) {
+    match Strtab::parse_with_opts(alloc, case.bytes, case.offset, case.count, 0, &opts(is_cut)) {
         Ok(table) => expected == Records(table.len() as u128) && gives_pieces(&table, cut(case)),
         Err(e) => told(&e) == expected,
     }
 }
 
-// The tables.
+// The tables: section headers by `parse` or not, symbols and strings cut or not, relocations with addends or not.
 #[derive(Clone, Copy)]
 enum Table {
     Segments,
     Segments32,
     Segments64,
-    Sections,
-    SectionsFrom,
+    Sections(bool),
     Symbols,
     Symtab,
-    SymtabStrict,
-    SymtabCut,
-    Relocs,
-    RelocsWithAddends,
-    Strtab,
-    StrtabCut,
+    SymtabBy(bool),
+    Relocs(bool),
+    Strtab(bool),
 }
 
 // Whether a table answers as its rule says.
 fn agrees(alloc: Global, table: Table, case: &Case) -> bool {
-    let strict = ParseOptions::strict();
-    let permissive = ParseOptions::permissive();
     match table {
         Table::Segments => segments(alloc, case),
         Table::Segments32 => segments32(alloc, case),
         Table::Segments64 => segments64(alloc, case),
-        Table::Sections => sections(alloc, case, true),
-        Table::SectionsFrom => sections(alloc, case, false),
+        Table::Sections(is_parse) => sections(alloc, case, is_parse),
         Table::Symbols => symbols(alloc, case),
-        Table::Symtab => {
-            let table = Symtab::parse(case.bytes, case.offset, case.count, case.ctx);
-            symtab(alloc, case, table, false)
-        }
-        Table::SymtabStrict => symtab(alloc, case, symtab_by(case, &strict), false),
-        Table::SymtabCut => symtab(alloc, case, symtab_by(case, &permissive), true),
-        Table::Relocs => relocs(alloc, case, false, size_in(case, 8, 16)),
-        Table::RelocsWithAddends => relocs(alloc, case, true, size_in(case, 12, 24)),
-        Table::Strtab => strtab(alloc, case, &strict, false),
-        Table::StrtabCut => strtab(alloc, case, &permissive, true),
+        Table::Symtab => symtab(alloc, case, symtab_of(case), false),
+        Table::SymtabBy(is_cut) => symtab(alloc, case, symtab_by(case, is_cut), is_cut),
+        Table::Relocs(is_rela) => relocs(alloc, case, is_rela),
+        Table::Strtab(is_cut) => strtab(alloc, case, is_cut),
     }
 }
 
@@ -442,21 +433,16 @@ fn keeps_its_rule(alloc: Global, table: Table, class: Container) -> bool {
 }
 
 #[test]
-fn program_headers_keep_their_rules(rt: HostRuntime) {
+fn headers_keep_their_rules(rt: HostRuntime) {
     let (a, little, big) = (rt.alloc(), Container::Little, Container::Big);
     assert!(rt; keeps_its_rule(a, Table::Segments, little));
     assert!(rt; keeps_its_rule(a, Table::Segments, big));
     assert!(rt; keeps_its_rule(a, Table::Segments32, little));
     assert!(rt; keeps_its_rule(a, Table::Segments64, big));
-}
-
-#[test]
-fn section_headers_keep_their_rules(rt: HostRuntime) {
-    let (a, little, big) = (rt.alloc(), Container::Little, Container::Big);
-    assert!(rt; keeps_its_rule(a, Table::Sections, little));
-    assert!(rt; keeps_its_rule(a, Table::Sections, big));
-    assert!(rt; keeps_its_rule(a, Table::SectionsFrom, little));
-    assert!(rt; keeps_its_rule(a, Table::SectionsFrom, big));
+    assert!(rt; keeps_its_rule(a, Table::Sections(true), little));
+    assert!(rt; keeps_its_rule(a, Table::Sections(true), big));
+    assert!(rt; keeps_its_rule(a, Table::Sections(false), little));
+    assert!(rt; keeps_its_rule(a, Table::Sections(false), big));
 }
 
 #[test]
@@ -466,36 +452,27 @@ fn symbol_tables_keep_their_rules(rt: HostRuntime) {
     assert!(rt; keeps_its_rule(a, Table::Symbols, big));
     assert!(rt; keeps_its_rule(a, Table::Symtab, little));
     assert!(rt; keeps_its_rule(a, Table::Symtab, big));
-    assert!(rt; keeps_its_rule(a, Table::SymtabStrict, little));
-    assert!(rt; keeps_its_rule(a, Table::SymtabStrict, big));
-    assert!(rt; keeps_its_rule(a, Table::SymtabCut, little));
-    assert!(rt; keeps_its_rule(a, Table::SymtabCut, big));
+    assert!(rt; keeps_its_rule(a, Table::SymtabBy(false), little));
+    assert!(rt; keeps_its_rule(a, Table::SymtabBy(false), big));
+    assert!(rt; keeps_its_rule(a, Table::SymtabBy(true), little));
+    assert!(rt; keeps_its_rule(a, Table::SymtabBy(true), big));
 }
 
 #[test]
-fn relocation_sections_and_string_tables_keep_their_rules(rt: HostRuntime) {
+fn relocations_and_strings_keep_their_rules(rt: HostRuntime) {
     let (a, little, big) = (rt.alloc(), Container::Little, Container::Big);
-    assert!(rt; keeps_its_rule(a, Table::Relocs, little));
-    assert!(rt; keeps_its_rule(a, Table::Relocs, big));
-    assert!(rt; keeps_its_rule(a, Table::RelocsWithAddends, little));
-    assert!(rt; keeps_its_rule(a, Table::RelocsWithAddends, big));
-    assert!(rt; keeps_its_rule(a, Table::Strtab, big));
-    assert!(rt; keeps_its_rule(a, Table::StrtabCut, big));
+    assert!(rt; keeps_its_rule(a, Table::Relocs(false), little));
+    assert!(rt; keeps_its_rule(a, Table::Relocs(false), big));
+    assert!(rt; keeps_its_rule(a, Table::Relocs(true), little));
+    assert!(rt; keeps_its_rule(a, Table::Relocs(true), big));
+    assert!(rt; keeps_its_rule(a, Table::Strtab(false), big));
+    assert!(rt; keeps_its_rule(a, Table::Strtab(true), big));
 }
 
 static ZEROS: [u8; 64] = [0; 64];
 
-// Whether a symbol table over 48 zeros is refused so.
-fn refuses_symbols(offset: usize, count: usize, expected: Expected) -> bool {
-    match Symtab::parse(&ZEROS[..48], offset, count, Ctx::new(Container::Big, LE)) {
-        Ok(_) => false,
-        Err(e) => told(&e) == expected,
-    }
-}
-
-// Whether a program header is refused so where it is to begin at a place of 64 zeros.
-fn refuses_segment(alloc: Global, offset: usize, expected: Expected) -> bool {
-    match ProgramHeader::parse(alloc, &ZEROS, offset, 1, Ctx::new(Container::Big, LE)) {
+fn refuses<T: Drop>(answer: Result<T>, expected: Expected) -> bool {
+    match answer {
         Ok(_) => false,
         Err(e) => told(&e) == expected,
     }
@@ -503,10 +480,12 @@ fn refuses_segment(alloc: Global, offset: usize, expected: Expected) -> bool {
 
 #[test]
 fn refuses_with_the_numbers_of_the_ends(rt: HostRuntime) {
-    let max = usize::MAX;
-    assert!(rt; refuses_symbols(0, 47, Expected::SymtabPast(1128, 48)));
-    assert!(rt; refuses_symbols(47, max, Expected::TooManySymbols(47, 18446744073709551615)));
-    assert!(rt; refuses_symbols(48, max, Expected::SymtabOffset(48, 48)));
-    assert!(rt; refuses_symbols(49, 0, Expected::SymtabOffset(49, 48)));
-    assert!(rt; refuses_segment(rt.alloc(), 9, TooBig(56, 55)));
+    let (zeros, max, big) = (&ZEROS[..48], usize::MAX, Ctx::new(Container::Big, LE));
+    let many = TooManySymbols(47, 18446744073709551615);
+    assert!(rt; refuses(Symtab::parse(zeros, 0, 47, big), SymtabPast(1128, 48)));
+    assert!(rt; refuses(Symtab::parse(zeros, 47, max, big), many));
+    assert!(rt; refuses(Symtab::parse(zeros, 48, max, big), SymtabOffset(48, 48)));
+    assert!(rt; refuses(Symtab::parse(zeros, 49, 0, big), SymtabOffset(49, 48)));
+    let one = ProgramHeader::parse(rt.alloc(), &ZEROS, 9, 1, big);
+    assert!(rt; refuses(one, TooBig(56, 55)));
 }
