@@ -53,22 +53,10 @@ struct Case<'a> {
     ctx: Ctx,
 }
 
-// The same, with the size of a record, in numbers that no sum passes.
-#[derive(Clone, Copy)]
-struct Asked {
-    len: u128,
-    offset: u128,
-    count: u128,
-    size: u128,
-}
-
-fn in_numbers(case: &Case, size: usize) -> Asked {
-    Asked {
-        len: case.bytes.len() as u128,
-        offset: case.offset as u128,
-        count: case.count as u128,
-        size: size as u128,
-    }
+// The length, the offset, the count and the size of a record, in numbers that no sum passes.
+fn numbers(case: &Case, size: usize) -> [u128; 4] {
+    let len = case.bytes.len() as u128;
+    [len, case.offset as u128, case.count as u128, size as u128]
 }
 
 // The size of a record in the class of a case.
@@ -126,11 +114,6 @@ fn told_by_fault(fault: &Fault) -> Expected {
     }
 }
 
-// How many bytes there are from the offset on.
-fn rest(asked: &Asked) -> u128 {
-    asked.len.saturating_sub(asked.offset)
-}
-
 // How many whole records so many bytes hold.
 fn whole(bytes: u128, size: u128) -> u128 {
     bytes.checked_div(size).unwrap_or(0)
@@ -146,75 +129,89 @@ fn no_room(len: u128, place: u128, size: u128) -> Expected {
 }
 
 // Records that are read one after another: the first one without room gives its fault.
-fn in_turn(asked: &Asked) -> Expected {
-    let held = whole(rest(asked), asked.size);
-    if asked.count <= held {
-        return Records(asked.count);
+fn in_turn(case: &Case, size: usize) -> Expected {
+    let [len, offset, count, size] = numbers(case, size);
+    let held = whole(len.saturating_sub(offset), size);
+    if count <= held {
+        return Records(count);
     }
-    let place = asked.offset.saturating_add(held.saturating_mul(asked.size));
-    no_room(asked.len, place, asked.size)
+    no_room(len, offset.saturating_add(held.saturating_mul(size)), size)
 }
 
 // The same, where more records than the bytes could hold anywhere are refused before.
-fn counted(asked: &Asked, items: &'static str) -> Expected {
-    if asked.count > whole(asked.len, asked.size) {
-        TooShort(asked.count, items)
+fn counted(case: &Case, size: usize, items: &'static str) -> Expected {
+    let [len, _, count, wide] = numbers(case, size);
+    if count > whole(len, wide) {
+        TooShort(count, items)
     } else {
-        in_turn(asked)
+        in_turn(case, size)
     }
 }
 
-// Section headers: the first must have room, and in place of a count of 0 stands what it tells.
-fn section_headers(asked: &Asked, first_tells: u128) -> Expected {
-    if asked.offset.saturating_add(asked.size) > asked.len {
-        return no_room(asked.len, asked.offset, asked.size);
+// What the sh_size of the section header at the offset tells, if there is one.
+fn first_tells(case: &Case) -> usize {
+    let here = case.bytes.get(case.offset..).unwrap_or(b"");
+    match SectionHeader::try_from_ctx(here, case.ctx) {
+        Ok((first, _)) => first.sh_size as usize,
+        Err(_) => 0,
     }
-    let mut meant = *asked;
-    if asked.count == 0 {
-        meant.count = first_tells.max(1);
+}
+
+// Section headers: the first must have room, and what it tells stands for a count of 0.
+fn section_headers(case: &Case, size: usize) -> Expected {
+    let [len, offset, count, wide] = numbers(case, size);
+    if offset.saturating_add(wide) > len {
+        return no_room(len, offset, wide);
     }
-    counted(&meant, "section headers")
+    let mut meant = *case;
+    if count == 0 {
+        meant.count = first_tells(case).max(1);
+    }
+    counted(&meant, size, "section headers")
 }
 
 // A symbol table, which is cut to the bytes or must lie in them.
-fn symbol_table(asked: &Asked, is_cut: bool) -> Expected {
-    let requested = asked.count.saturating_mul(asked.size);
-    if asked.offset >= asked.len && is_cut {
+fn symbol_table(case: &Case, size: usize, is_cut: bool) -> Expected {
+    let [len, offset, count, size] = numbers(case, size);
+    let requested = count.saturating_mul(size);
+    let rest = len.saturating_sub(offset);
+    if offset >= len && is_cut {
         Records(0)
-    } else if asked.offset >= asked.len {
-        SymtabOffset(asked.offset, asked.len)
+    } else if offset >= len {
+        SymtabOffset(offset, len)
     } else if requested > usize::MAX as u128 {
-        TooManySymbols(asked.offset, asked.count)
-    } else if requested <= rest(asked) {
-        Records(asked.count)
+        TooManySymbols(offset, count)
+    } else if requested <= rest {
+        Records(count)
     } else if is_cut {
-        Records(whole(rest(asked), asked.size))
+        Records(whole(rest, size))
     } else {
-        SymtabPast(requested, rest(asked))
+        SymtabPast(requested, rest)
     }
 }
 
 // A relocation section, which is asked for by its bytes.
-fn relocation_section(asked: &Asked) -> Expected {
-    if asked.count > 0 && asked.offset.saturating_add(asked.count) > asked.len {
-        no_room(asked.len, asked.offset, asked.count)
+fn relocation_section(case: &Case, size: usize) -> Expected {
+    let [len, offset, filesz, size] = numbers(case, size);
+    if filesz > 0 && offset.saturating_add(filesz) > len {
+        no_room(len, offset, filesz)
     } else {
-        Records(whole(asked.count, asked.size))
+        Records(whole(filesz, size))
     }
 }
 
 // A string table, which is asked for by its bytes, and is cut to the file or must lie in it.
-fn string_table(asked: &Asked, is_cut: bool) -> Expected {
-    let end = asked.offset.saturating_add(asked.count);
-    if asked.offset <= asked.len && end <= asked.len {
-        Records(asked.count)
+fn string_table(case: &Case, is_cut: bool) -> Expected {
+    let [len, offset, size, _] = numbers(case, 1);
+    let end = offset.saturating_add(size);
+    if offset <= len && end <= len {
+        Records(size)
     } else if is_cut {
-        Records(rest(asked))
-    } else if asked.offset > asked.len {
-        StrtabOffset(asked.offset, asked.len)
+        Records(len.saturating_sub(offset))
+    } else if offset > len {
+        StrtabOffset(offset, len)
     } else {
-        let overflow = end > usize::MAX as u128;
-        StrtabRange(asked.count, asked.offset, asked.len, overflow)
+        StrtabRange(size, offset, len, end > usize::MAX as u128)
     }
 }
 
@@ -254,61 +251,51 @@ fn is_as_expected<R: Record<C> + PartialEq + Drop, C: Copy>(
 
 fn segments(alloc: Global, case: &Case) -> bool {
     let size = size_in(case, 32, 56);
-    let expected = counted(&in_numbers(case, size), "program headers");
     let answer = ProgramHeader::parse(alloc, case.bytes, case.offset, case.count, case.ctx);
+    let expected = counted(case, size, "program headers");
     is_as_expected(answer, expected, case, size, case.ctx)
 }
 
 fn segments32(alloc: Global, case: &Case) -> bool {
-    let order = case.ctx.le;
-    let answer = ProgramHeader32::parse(alloc, case.bytes, case.offset, case.count, order);
-    is_as_expected(answer, in_turn(&in_numbers(case, 32)), case, 32, order)
+    let answer = ProgramHeader32::parse(alloc, case.bytes, case.offset, case.count, case.ctx.le);
+    is_as_expected(answer, in_turn(case, 32), case, 32, case.ctx.le)
 }
 
 fn segments64(alloc: Global, case: &Case) -> bool {
-    let order = case.ctx.le;
-    let answer = ProgramHeader64::parse(alloc, case.bytes, case.offset, case.count, order);
-    is_as_expected(answer, in_turn(&in_numbers(case, 56)), case, 56, order)
+    let answer = ProgramHeader64::parse(alloc, case.bytes, case.offset, case.count, case.ctx.le);
+    is_as_expected(answer, in_turn(case, 56), case, 56, case.ctx.le)
 }
 
-// What the sh_size of the section header at the offset tells, if there is one.
-fn first_tells(case: &Case) -> u128 {
-    let here = case.bytes.get(case.offset..).unwrap_or(b"");
-    match SectionHeader::try_from_ctx(here, case.ctx) {
-        Ok((first, _)) => first.sh_size as u128,
-        Err(_) => 0,
-    }
-}
-
-fn sections(alloc: Global, case: &Case, is_parse: bool) -> bool {
+// At offset 0 there are none.
+fn sections(alloc: Global, case: &Case) -> bool {
     let size = size_in(case, 40, 64);
-    if is_parse && case.offset == 0 {
-        let answer = SectionHeader::parse(alloc, case.bytes, 0, case.count, case.ctx);
-        return is_as_expected(answer, Records(0), case, size, case.ctx);
-    }
-    let expected = section_headers(&in_numbers(case, size), first_tells(case));
-    let answer = if is_parse {
-        SectionHeader::parse(alloc, case.bytes, case.offset, case.count, case.ctx)
-    } else {
-        SectionHeader::parse_from(alloc, case.bytes, case.offset, case.count, case.ctx)
+    let expected = match case.offset {
+        0 => Records(0),
+        _ => section_headers(case, size),
     };
+    let answer = SectionHeader::parse(alloc, case.bytes, case.offset, case.count, case.ctx);
     is_as_expected(answer, expected, case, size, case.ctx)
+}
+
+fn sections_from(alloc: Global, case: &Case) -> bool {
+    let size = size_in(case, 40, 64);
+    let answer = SectionHeader::parse_from(alloc, case.bytes, case.offset, case.count, case.ctx);
+    is_as_expected(answer, section_headers(case, size), case, size, case.ctx)
 }
 
 fn symbols(alloc: Global, case: &Case) -> bool {
     let size = size_in(case, 16, 24);
-    let expected = counted(&in_numbers(case, size), "symbols");
     let answer = Sym::parse(alloc, case.bytes, case.offset, case.count, case.ctx);
-    is_as_expected(answer, expected, case, size, case.ctx)
+    is_as_expected(answer, counted(case, size, "symbols"), case, size, case.ctx)
 }
 
 fn symtab(alloc: Global, case: &Case, table: Result<Symtab<'_>>, is_cut: bool) -> bool {
     let size = size_in(case, 16, 24);
-    let expected = symbol_table(&in_numbers(case, size), is_cut);
     let answer = match table {
         Ok(table) => table.to_vec(alloc),
         Err(e) => Err(e),
     };
+    let expected = symbol_table(case, size, is_cut);
     is_as_expected(answer, expected, case, size, case.ctx)
 }
 
@@ -325,8 +312,8 @@ fn relocs(alloc: Global, case: &Case, is_rela: bool) -> bool {
         true => size_in(case, 12, 24),
         false => size_in(case, 8, 16),
     };
-    let expected = relocation_section(&in_numbers(case, size));
     let answer = relocs_of(alloc, case, is_rela);
+    let expected = relocation_section(case, size);
     is_as_expected(answer, expected, case, size, (is_rela, case.ctx))
 }
 
@@ -355,20 +342,21 @@ fn cut<'a>(case: &Case<'a>) -> &'a [u8] {
 }
 
 fn strtab(alloc: Global, case: &Case, is_cut: bool) -> bool {
-    let expected = string_table(&in_numbers(case, 1), is_cut);
+    let expected = string_table(case, is_cut);
     match Strtab::parse_with_opts(alloc, case.bytes, case.offset, case.count, 0, &opts(is_cut)) {
         Ok(table) => expected == Records(table.len() as u128) && gives_pieces(&table, cut(case)),
         Err(e) => told(&e) == expected,
     }
 }
 
-// The tables: section headers by `parse` or not, symbols and strings cut or not, relocations with addends or not.
+// The tables: symbols and strings that are cut to the file or not, relocations with addends or not.
 #[derive(Clone, Copy)]
 enum Table {
     Segments,
     Segments32,
     Segments64,
-    Sections(bool),
+    Sections,
+    SectionsFrom,
     Symbols,
     Symtab,
     SymtabBy(bool),
@@ -382,7 +370,8 @@ fn agrees(alloc: Global, table: Table, case: &Case) -> bool {
         Table::Segments => segments(alloc, case),
         Table::Segments32 => segments32(alloc, case),
         Table::Segments64 => segments64(alloc, case),
-        Table::Sections(is_parse) => sections(alloc, case, is_parse),
+        Table::Sections => sections(alloc, case),
+        Table::SectionsFrom => sections_from(alloc, case),
         Table::Symbols => symbols(alloc, case),
         Table::Symtab => symtab(alloc, case, symtab_of(case), false),
         Table::SymtabBy(is_cut) => symtab(alloc, case, symtab_by(case, is_cut), is_cut),
@@ -431,10 +420,10 @@ fn headers_keep_their_rules(rt: HostRuntime) {
     assert!(rt; keeps_its_rule(a, Table::Segments, big));
     assert!(rt; keeps_its_rule(a, Table::Segments32, little));
     assert!(rt; keeps_its_rule(a, Table::Segments64, big));
-    assert!(rt; keeps_its_rule(a, Table::Sections(true), little));
-    assert!(rt; keeps_its_rule(a, Table::Sections(true), big));
-    assert!(rt; keeps_its_rule(a, Table::Sections(false), little));
-    assert!(rt; keeps_its_rule(a, Table::Sections(false), big));
+    assert!(rt; keeps_its_rule(a, Table::Sections, little));
+    assert!(rt; keeps_its_rule(a, Table::Sections, big));
+    assert!(rt; keeps_its_rule(a, Table::SectionsFrom, little));
+    assert!(rt; keeps_its_rule(a, Table::SectionsFrom, big));
 }
 
 #[test]
@@ -463,6 +452,7 @@ fn relocations_and_strings_keep_their_rules(rt: HostRuntime) {
 
 static ZEROS: [u8; 64] = [0; 64];
 
+// Whether an answer is this refusal.
 fn refuses<T: Drop>(answer: Result<T>, expected: Expected) -> bool {
     match answer {
         Ok(_) => false,
