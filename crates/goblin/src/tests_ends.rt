@@ -25,9 +25,11 @@ static BYTES: &[u8] =
     \x61\x62\x63\x64\x65\x66\x67\x68\x69\x6a\x6b\x6c\x6d\x6e\x6f\x70\x71\x72\x73\x74\x75\x76\x77\
     \x78\x79\x7a\x7b\x7c\x7d\x7e\x7f\x16\x17\x18";
 
-// No byte, one, and one less, as many and one more than one record or two of some table take.
-static LENGTHS: [usize; 18] = [
-    0, 1, 8, 15, 16, 17, 24, 31, 32, 33, 48, 56, 64, 80, 112, 113, 128, 130,
+// No byte, one, and of each table one less than a record takes, as many, one more, and as many and one
+// more as two records take.
+static LENGTHS: [usize; 35] = [
+    0, 1, 7, 8, 9, 11, 12, 13, 15, 16, 17, 23, 24, 25, 31, 32, 33, 39, 40, 41, 48, 49, 55, 56, 57,
+    63, 64, 65, 80, 81, 112, 113, 128, 129, 130,
 ];
 
 // The options of a reading that cuts tables to the file, and of one that refuses them.
