@@ -323,14 +323,18 @@ fn relocs_of(alloc: Global, case: &Case, is_rela: bool) -> Result<Vec<Reloc>> {
     RelocSection::parse(case.bytes, case.offset, case.count, is_rela, case.ctx)?.to_vec(alloc)
 }
 
-// Whether a string table gives at each place the bytes from there up to a delimiter or the end.
+// The bytes from a place up to a delimiter or the end.
+fn piece(bytes: &[u8], place: usize) -> &[u8] {
+    let here = bytes.get(place..).unwrap_or(b"");
+    let end = here.iter().position(|byte| *byte == 0);
+    here.get(..end.unwrap_or(here.len())).unwrap_or(here)
+}
+
+// Whether a string table gives the piece at each place of these bytes, and none behind them.
 fn gives_pieces(table: &Strtab<'_>, bytes: &[u8]) -> bool {
     for place in 0..bytes.len() {
-        let here = &bytes[place..];
-        let end = here.iter().position(|byte| *byte == 0);
-        let piece = here.get(..end.unwrap_or(here.len())).unwrap_or(here);
         let text = table.get_at(place);
-        if text.is_none() || text.unwrap_or("").as_bytes() != piece {
+        if text.is_none() || text.unwrap_or("").as_bytes() != piece(bytes, place) {
             return false;
         }
     }
