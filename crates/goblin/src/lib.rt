@@ -5,6 +5,8 @@ pub mod elf;
 pub mod elf32;
 pub mod elf64;
 #[cfg(test)]
+mod tests_ends;
+#[cfg(test)]
 mod tests_note;
 #[cfg(test)]
 mod tests_paths;
