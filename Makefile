@@ -9,10 +9,11 @@ show:
 	|| { test $$? -eq 1 && test -e crates/goblin_show/out/goblin_show.stamp; }
 
 # The whole gate: the pages' quotations, growths that are refused, every proof from nothing, the edits that must fail,
-# the tests, and the stored runs.
+# the tests, the stored runs, and the program's words.
 test:
 	sh docs/check_quotes.sh
 	sh docs/check_refused.sh
 	rt ci
+	sh docs/check_words.sh
 
 .PHONY: show test

@@ -1,5 +1,5 @@
-//! Shows the header and the sections of an ELF file: its bytes come on standard input, and the text
-//! goes to standard output.
+//! Shows what an ELF file holds: its header, sections, symbols and relocations. The bytes come on
+//! standard input, and the text goes to standard output.
 #![tactic(auto)]
 
 mod command;
