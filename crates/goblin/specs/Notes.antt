@@ -1,5 +1,5 @@
 -- The notes that iterators give.
-use Rattle.std.specs.Prelude.{◌≡◌, ◌+◌, ◌-◌, ◌<◌, ◌≤◌, ℕ, nat_le, nat_lt, sum_by, if◌then◌else◌, List, [], ◌∷◌, ◌++◌, length, drop, flat_map, Result, Ok, Err, IfOk}
+use Rattle.std.specs.Prelude.{◌≡◌, ◌+◌, ◌-◌, ◌≤◌, ℕ, nat_le, nat_lt, sum_by, if◌then◌else◌, List, [], ◌∷◌, length, drop, flat_map, Result, Ok, Err, IfOk}
 use Rattle.std.specs.Int.{div_ceil}
 use Rattle.std.specs.List.{position_or_len}
 use Rattle.goblin_base.specs.declared.container.Ctx.{Ctx}

@@ -1,12 +1,11 @@
 -- Laws of relocation sections: they depend on their own bytes alone, and are written as them.
-use Rattle.std.proofs.Common.{◌≡◌, ◌<◌, ◌≤◌, ◌+◌, ◌-◌, ◌*◌, ◌/◌, ◌==◌, ℕ, zero, suc, List, [], ◌∷◌, ◌++◌, Bool, true, false, length, take, drop, Result, Ok, Err, inl, inr, refl, sym, ap, ◌∙◌, arith}
+use Rattle.std.proofs.Common.{◌≡◌, ◌≤◌, ◌+◌, ◌-◌, ◌*◌, ◌/◌, ◌==◌, ℕ, zero, suc, List, [], false, length, take, drop, Ok, inl, inr, refl, sym, ap, ◌∙◌, arith}
 use Rattle.std.specs.List.{flat_map}
 use Rattle.std.proofs.Math.Nat.{div-mul-le_self}
 use Rattle.std.proofs.Math.Seq.{take-add}
 use Rattle.std.proofs.lemmas.Bool.{cases_lt}
 use Rattle.std.proofs.lemmas.Bool.Decides.{nat_tests}
 use Rattle.std.proofs.lemmas.List.{get_or-drop, length-drop, length-take-le, take-append-drop, take-take}
-use Rattle.goblin_base.specs.declared.container.Ctx.{Ctx}
 use Rattle.goblin_base.specs.Layout.{IsRecord}
 use Rattle.goblin_base.specs.Number.{IsBytes}
 use Rattle.goblin_base.specs.Record.{unless_fault}
@@ -18,7 +17,7 @@ use Rattle.goblin_records.specs.declared.reloc.Reloc.{Reloc}
 use Rattle.goblin_records.specs.declared.reloc.RelocCtx.{RelocCtx}
 use Rattle.goblin_records.specs.Reloc.{reloc_size, reloc_in, reloc_image_in}
 use Rattle.goblin_records.specs.RelocLaws.{reloc_laws_in}
-use Rattle.goblin.specs.RelocSection.{relocs_of, DependsOnItsRange, WritesItsBytes}
+use Rattle.goblin.specs.RelocSection.{DependsOnItsRange, WritesItsBytes}
 
 pub depends_on_its_range : DependsOnItsRange
 depends_on_its_range bytes others offset filesz is_rela ctx is_mips64el long same = rw (long, same) refl

@@ -4,13 +4,11 @@ use Rattle.std.proofs.Math.Nat.{le-div_iff_mul-le, min-eq_left}
 use Rattle.std.proofs.lemmas.Bool.Decides.{nat_tests}
 use Rattle.goblin_base.specs.declared.container.Ctx.{Ctx}
 use Rattle.goblin_base.specs.declared.error.Error.{Error}
-use Rattle.goblin_base.specs.declared.options.ParseMode.{ParseMode}
 use Rattle.goblin_base.specs.declared.options.ParseMode.TheVariants.{Strict, Permissive}
-use Rattle.goblin_base.specs.Table.{records}
 use Rattle.goblin_base.specs.TableLaws.{records-agree}
 use Rattle.goblin_records.specs.Sym.{sym_size, sym_of}
 use Rattle.goblin_records.specs.SymLaws.{sym_laws}
-use Rattle.goblin.specs.Symtab.{Symbols, symbols_at, symtab_of, permissive_symtab_of, symtab_by, PermissiveKeepsStrict, DependsOnItsRange}
+use Rattle.goblin.specs.Symtab.{Symbols, symbols_at, PermissiveKeepsStrict, DependsOnItsRange}
 
 -- a symbol takes some bytes
 positive : (ctx : Ctx) → 0 < sym_size ctx.container

@@ -1,12 +1,11 @@
 -- Laws of reading and writing a record at the start of some bytes.
-use Rattle.std.proofs.Common.{IfOk, ◌≡◌, ◌≤◌, ◌+◌, ℕ, List, ◌++◌, length, take, drop, Result, Ok, Err, refl, ap, ◌∙◌, arith}
+use Rattle.std.proofs.Common.{◌≡◌, ◌≤◌, ◌+◌, ℕ, List, ◌++◌, length, drop, Result, Ok, Err, refl, ap, arith}
 use Rattle.std.proofs.lemmas.Bool.Decides.{nat_tests}
-use Rattle.std.proofs.lemmas.List.{take-append-drop}
 use Rattle.goblin_base.specs.declared.error.Error.{Error}
 use Rattle.goblin_base.specs.declared.error.Error.TheVariants.{Scroll}
 use Rattle.goblin_base.specs.declared.scroll.Error.{Error as Misplaced}
 use Rattle.goblin_base.specs.Room.{room_of}
-use Rattle.goblin_base.specs.Record.{unless_fault, read_within, WritesUnless, Writes}
+use Rattle.goblin_base.specs.Record.{unless_fault, read_within, Writes}
 
 -- where there is room, the room rule says so
 pub room_of_fits : (len offset size : ℕ) → offset + size ≤ len → room_of len offset size ≡ Ok tt

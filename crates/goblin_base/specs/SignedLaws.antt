@@ -1,8 +1,6 @@
 -- Laws of signed numbers: each that fits a width has one spelling in two's complement.
 use Rattle.std.proofs.Common.{◌≡◌, ◌<◌, ◌≤◌, ◌+◌, ◌*◌, ◌-◌, ◌%◌, ◌^◌, ℕ, List, length, take, drop, inl, inr, sym, ap, ◌∙◌, arith}
 use Rattle.std.specs.Prelude.{ℤ, pos, negsuc}
-use Rattle.std.specs.Int.{cast_signed, cast_unsigned, w32, w64}
-use Rattle.std.specs.Int.RustNames.{FitsSigned as FitsInt}
 use Rattle.std.proofs.Math.Nat.{one-le-pow, mod-lt, mod-eq_of_lt}
 use Rattle.std.proofs.lemmas.Bool.{cases_lt}
 use Rattle.std.proofs.lemmas.Bool.Decides.{nat_tests}

@@ -5,18 +5,14 @@ use Rattle.goblin.specs.declared.elf.header.Header.{Header}
 use Rattle.goblin.specs.declared.elf.section_header.SectionHeader.{SectionHeader}
 use Rattle.goblin.specs.declared.options.ParseMode.TheVariants.{Strict, Permissive}
 use Rattle.goblin.specs.ReadHeader.{read_header}
-use Rattle.goblin.specs.RelocSection.{is_of_mips64el}
 use Rattle.goblin.specs.Refusal.{Refusal, refusal_of}
 use Rattle.goblin.specs.SectionHeaders.{section_headers_of}
 use Rattle.goblin.specs.Steps.{◌>>=◌, refuse_as}
-use Rattle.goblin.specs.Strtab.{StringTable, strtab_of}
 use Rattle.goblin.specs.StrtabLaws.{StrictIsPermissive}
 use Rattle.goblin.specs.Sym.{sym_size}
-use Rattle.goblin.specs.Symtab.{Symbols, symtab_by}
+use Rattle.goblin.specs.Symtab.{symtab_by}
 use Rattle.goblin.specs.SymtabLaws.{permissive_keeps_strict}
-use Rattle.goblin.specs.Texts.{◌&◌}
-use Rattle.goblin_show.specs.Lines.{header_line}
-use Rattle.goblin_show.specs.Shown.{ctx_of, each_shown, file_shown, has_symbols, names_index, relocs_shown, section_lines, sections_of, shown, sizes_checked, strings_at, strings_of, symbol_lines, symbols_shown, PermissiveShowsStrict}
+use Rattle.goblin_show.specs.Shown.{ctx_of, each_shown, file_shown, has_symbols, names_index, sections_of, shown, sizes_checked, strings_at, strings_of, symbols_shown, PermissiveShowsStrict}
 
 -- the second answer is the first one, where that is a value
 abbrev pub Keeps : {A E : Type 0} → Result A E → Result A E → Type 0

@@ -1,5 +1,5 @@
 -- What is shown of sections one after another.
-use Rattle.std.proofs.Common.{◌≡◌, ◌∙◌, ◌+◌, ◌++◌, ℕ, List, [], ◌∷◌, Result, Ok, Err, ap, append-nil, append_assoc, refl, sym}
+use Rattle.std.proofs.Common.{◌≡◌, ◌+◌, ◌++◌, ℕ, List, ◌∷◌, Result, Ok, Err, ap, append_assoc, refl, sym}
 use Rattle.goblin.specs.declared.elf.section_header.SectionHeader.{SectionHeader}
 use Rattle.goblin.specs.Refusal.{Refusal}
 use Rattle.goblin.specs.Steps.{◌>>=◌}

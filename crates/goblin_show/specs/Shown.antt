@@ -1,5 +1,5 @@
 -- What is shown of the bytes of a file.
-use Rattle.std.specs.Prelude.{◌≡◌, ◌≢◌, ℕ, ◌+◌, ◌++◌, ◌/◌, ◌==◌, ◌&&◌, ◌||◌, nat_lt, not, Bool, false, if◌then◌else◌, List, [], ◌∷◌, length, slice_get, Option, None, Some, Result, Ok, Err, option_and_then, unwrap_or}
+use Rattle.std.specs.Prelude.{◌≡◌, ◌≢◌, ℕ, ◌+◌, ◌++◌, ◌/◌, ◌==◌, ◌&&◌, ◌||◌, nat_lt, not, Bool, false, if◌then◌else◌, List, [], ◌∷◌, length, slice_get, Option, None, Some, Result, Ok, Err, unwrap_or}
 use Rattle.goblin.specs.declared.container.Ctx.{Ctx}
 use Rattle.goblin.specs.declared.elf.header.Header.{Header}
 use Rattle.goblin.specs.declared.elf.section_header.SectionHeader.{SectionHeader}

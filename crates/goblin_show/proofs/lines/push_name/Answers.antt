@@ -1,4 +1,4 @@
-use Rattle.std.proofs.Common.{arith, append_assoc}
+use Rattle.std.proofs.Common.{arith}
 use Rattle.std.proofs.lemmas.Grind.{common_steps}
 use Rattle.std.proofs.lemmas.Str.{encodes-append}
 use Rattle.goblin_show.proofs.Printed.{encode-printable}

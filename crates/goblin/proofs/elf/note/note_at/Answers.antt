@@ -1,4 +1,4 @@
-use Rattle.std.proofs.Common.{◌<◌, ◌^◌, length, sym, ◌∙◌, rules, arith}
+use Rattle.std.proofs.Common.{arith}
 use Rattle.goblin.proofs.NoteLemmas.{note_at-before, note_at-past, note_at-fits}
 use Rattle.goblin.proofs.elf.note.note_at.Goals as goal
 

@@ -1,4 +1,4 @@
-use Rattle.std.proofs.Common.{◌≡◌, ◌<◌, get_or, length, rules, arith, ap, sym, ◌∙◌}
+use Rattle.std.proofs.Common.{◌≡◌, arith, ◌∙◌}
 use Rattle.goblin.specs.Notes.{index_of_next}
 use Rattle.goblin.proofs.Ranges.{unspent, moved, next_is, passed}
 use Rattle.goblin.proofs.elf.note.NoteIterator.advance.Goals as goal

@@ -1,4 +1,4 @@
-use Rattle.std.proofs.Common.{◌≡◌, ◌+◌, ◌-◌, ◌≤◌, drop, length}
+use Rattle.std.proofs.Common.{◌≡◌, ◌+◌, ◌-◌, drop, length}
 use Rattle.std.specs.Prelude.{flat_map}
 use Rattle.goblin.specs.Notes.{items_left, most_left_in, spent}
 use Rattle.goblin.proofs.elf.note.NoteIterator.advance.Given as goal
