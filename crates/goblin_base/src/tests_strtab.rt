@@ -30,7 +30,6 @@ fn has_strings(alloc: Global, table: Result<Strtab<'_>>, strings: &[&str]) -> bo
 
 #[test]
 fn tells_the_strings(rt: HostRuntime) {
-    laws();
     let a = rt.alloc();
     let names = ["", ".text", ".data"];
     assert!(rt; has_strings(a, Strtab::new_preparsed(a, NAMES, 0), &names));
@@ -39,6 +38,16 @@ fn tells_the_strings(rt: HostRuntime) {
     assert!(rt; has_strings(a, table, &BUSTA));
     let table = Strtab::new_preparsed(a, b"printf\0memmove\0busta", 0);
     assert!(rt; has_strings(a, table, &BUSTA[1..]));
+}
+
+#[test]
+fn calls_the_laws_of_string_tables() {
+    laws();
+}
+
+#[test]
+fn tells_the_strings_between_delimiters(rt: HostRuntime) {
+    let a = rt.alloc();
     let table = Strtab::new_preparsed(a, b"\0printf\0memmove\0busta\0", 0);
     assert!(rt; has_strings(a, table, &BUSTA));
     let table = Strtab::new_preparsed(a, b"\nprintf\nmemmove\nbusta\n", b'\n');
@@ -114,6 +123,10 @@ fn reads_plainly(rt: HostRuntime) {
     assert!(rt; table.len() == 13 && reads(&table, 3, "ext"));
     assert!(rt; table.get(13).is_none() && table.get_unsafe(13).is_none());
     assert!(rt; cannot_read(&Strtab::new(b"a\x80\0b", 0), 1, 3));
+}
+
+#[test]
+fn reads_a_part_plainly(rt: HostRuntime) {
     let part = Strtab::from_slice_unparsed(NAMES, 7, 3, 0);
     assert!(rt; part.len() == 3 && reads(&part, 1, "da"));
     let none = Strtab::default();

@@ -319,13 +319,18 @@ const ALPHABET: [u8; 13] = [
     0x00, 0x20, 0x61, 0x80, 0x82, 0x90, 0xA0, 0xC2, 0xE2, 0xED, 0xF0, 0xF4, 0xFF,
 ];
 
+// The byte of the alphabet that the last digit of a number to the base 13 stands for.
+fn letter(number: usize) -> u8 {
+    ALPHABET[number % 13]
+}
+
 // The four bytes of the alphabet that a number below 13 ^ 4 spells.
 fn spelled(number: usize) -> [u8; 4] {
     [
-        ALPHABET[number % 13],
-        ALPHABET[number / 13 % 13],
-        ALPHABET[number / 169 % 13],
-        ALPHABET[number / 2197 % 13],
+        letter(number),
+        letter(number / 13),
+        letter(number / 169),
+        letter(number / 2197),
     ]
 }
 

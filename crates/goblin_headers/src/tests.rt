@@ -334,6 +334,10 @@ fn names_classes(rt: HostRuntime) {
 fn passes_on_the_names(rt: HostRuntime) {
     assert!(rt; header32::machine_to_str(3) == "386" && header64::machine_to_str(3) == "386");
     assert!(rt; header32::et_to_str(3) == "DYN" && header64::et_to_str(3) == "DYN");
+}
+
+#[test]
+fn passes_on_the_classes_and_sizes(rt: HostRuntime) {
     assert!(rt; header32::class_to_str(1) == "ELF32" && header64::class_to_str(1) == "ELF32");
     assert!(rt; header::header32::SIZEOF_EHDR == 52 && header::header64::SIZEOF_EHDR == 64);
 }
