@@ -28,7 +28,7 @@ pub enum Answer {
 }
 
 /// The answer that a list of records is, by the first field of each.
-pub fn listed<T: Drop, F: Fn(&T) -> u64>(list: Result<Vec<T>>, first: &F) -> Result<Answer>
+pub(crate) fn listed<T: Drop, F: Fn(&T) -> u64>(list: Result<Vec<T>>, first: &F) -> Result<Answer>
     requires { F.IsAlwaysCallable first.now }
 {
     let list = list?;
@@ -79,7 +79,7 @@ fn print_refusal(rt: &HostRuntime, e: &Error) -> io::Result<()> {
 }
 
 /// Prints an answer as a line.
-pub fn print_answer(rt: &HostRuntime, answer: &Option<Result<Answer>>) -> io::Result<()> {
+pub(crate) fn print_answer(rt: &HostRuntime, answer: &Option<Result<Answer>>) -> io::Result<()> {
     match answer {
         Some(Ok(Answer::Records(records))) => print_records(rt, records),
         Some(Ok(Answer::Table(table))) => print_table(rt, table),

@@ -5,7 +5,7 @@ use goblin::error::Result;
 use std::alloc::Global;
 
 /// What the call with this name answers, if there is one.
-pub fn answer_to(alloc: Global, name: &str) -> Option<Result<Answer>> {
+pub(crate) fn answer_to(alloc: Global, name: &str) -> Option<Result<Answer>> {
     match name.split_once('-') {
         Some(("segments", form)) => records::segments(alloc, form),
         Some(("sections", form)) => records::sections(alloc, form),

@@ -5,7 +5,7 @@ use goblin::scroll;
 use std::alloc::{AllocError, Global};
 
 /// The text of an error of a kind.
-pub fn line(alloc: Global, kind: &str) -> Option<Result<Answer>> {
+pub(crate) fn line(alloc: Global, kind: &str) -> Option<Result<Answer>> {
     let error = error_of(kind)?;
     Some(error.line(alloc).map(Answer::Line).map_err(Error::Memory))
 }

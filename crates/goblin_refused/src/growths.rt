@@ -12,7 +12,7 @@ fn is_refused(alloc: Global) -> bool {
 
 /// Takes as much memory before a call as makes its growth with this number the hundredth: for 0 none.
 /// Answers whether none of it was refused.
-pub fn takes_all_before(alloc: Global, growth: u64) -> bool {
+pub(crate) fn takes_all_before(alloc: Global, growth: u64) -> bool {
     if growth == 0 {
         return true;
     }
@@ -25,7 +25,7 @@ pub fn takes_all_before(alloc: Global, growth: u64) -> bool {
 
 /// Whether a call met the refusal of its growth with this number. Where it didn't, the refusal is met
 /// here, so that none is left from here on.
-pub fn was_met(alloc: Global, growth: u64) -> bool {
+pub(crate) fn was_met(alloc: Global, growth: u64) -> bool {
     let mut is_met = true;
     for _ in 0..growth {
         is_met = !is_refused(alloc) && is_met;

@@ -30,7 +30,7 @@ fn numbered(size: usize) -> [u8; 640] {
 }
 
 /// Lists of program headers.
-pub fn segments(alloc: Global, form: &str) -> Option<Result<Answer>> {
+pub(crate) fn segments(alloc: Global, form: &str) -> Option<Result<Answer>> {
     let small = numbered(32);
     let large = numbered(56);
     let short = [0; 64];
@@ -66,7 +66,7 @@ pub fn segments(alloc: Global, form: &str) -> Option<Result<Answer>> {
 }
 
 /// Lists of section headers.
-pub fn sections(alloc: Global, form: &str) -> Option<Result<Answer>> {
+pub(crate) fn sections(alloc: Global, form: &str) -> Option<Result<Answer>> {
     let small = numbered(40);
     let large = numbered(64);
     let first = |header: &SectionHeader| header.sh_name as u64;
@@ -97,7 +97,7 @@ pub fn sections(alloc: Global, form: &str) -> Option<Result<Answer>> {
 }
 
 /// Lists of symbols and relocations.
-pub fn symbols(alloc: Global, form: &str) -> Option<Result<Answer>> {
+pub(crate) fn symbols(alloc: Global, form: &str) -> Option<Result<Answer>> {
     let bytes = numbered(24);
     let first = |symbol: &Sym| symbol.st_name as u64;
     match form {

@@ -15,7 +15,7 @@ const DAMAGED: &[u8] = b"a\0\xff\xff\xff\xff\xff\xff\xff\xffb\0c";
 const RESUMED: &[u8] = b"a\0b\0c\0\xffd\0\xff\xff\xffe\0f";
 
 /// String tables and their strings.
-pub fn tables(alloc: Global, form: &str) -> Option<Result<Answer>> {
+pub(crate) fn tables(alloc: Global, form: &str) -> Option<Result<Answer>> {
     match form {
         "parse" => Some(Strtab::parse(alloc, NINE, 0, 17, 0).map(Answer::Table)),
         "outside" => Some(Strtab::parse(alloc, NINE, 18, 1, 0).map(Answer::Table)),
@@ -39,7 +39,7 @@ fn parsed_vector(alloc: Global) -> Result<Vec<&'static str>> {
 }
 
 /// Walks over the bytes of string tables.
-pub fn walks(alloc: Global, form: &str) -> Option<Result<Answer>> {
+pub(crate) fn walks(alloc: Global, form: &str) -> Option<Result<Answer>> {
     match form {
         "strict" => Some(walked(alloc, NINE, ParseMode::Strict)),
         "damaged" => Some(walked(alloc, DAMAGED, ParseMode::Permissive)),
