@@ -564,3 +564,17 @@ fn ends_with_a_status(rt: HostRuntime) {
     assert!(rt; answers(rt.alloc(), &["strict"], BIG, 2, usage));
     assert!(rt; answers(rt.alloc(), &["permissive", "permissive"], BIG, 2, usage));
 }
+
+// How many write calls and flushes the line on how the program is called takes.
+fn calls_for_usage(alloc: Global) -> Option<u32> {
+    let words = words_of(alloc, &["strict"])?;
+    let mut reader = Counted::new(Cursor::new(b""));
+    let mut writer = Counted::new(Slow::new(alloc, 1000, 0));
+    let _ = show(alloc, words.as_slice(), &mut reader, &mut writer);
+    Some(writer.into_inner().calls)
+}
+
+#[test]
+fn flushes_how_it_is_called(rt: HostRuntime) {
+    assert!(rt; calls_for_usage(rt.alloc()) == Some(2));
+}
