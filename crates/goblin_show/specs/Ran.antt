@@ -37,15 +37,15 @@ pub record ReadsTooMuch (old new : Option (List ℕ)) (bytes : List ℕ) : Type 
 abbrev pub ReadsAtMostOneMore : Option (List ℕ) → Option (List ℕ) → Type 0
 ReadsAtMostOneMore old new = (bytes : List ℕ) × Consumes old new bytes × (length bytes ≤ input_limit + 1)
 
--- The reader was asked as often as it is, and told no end.
-pub record ReadsInVain (before after : Marks) : Type 0 where
-  pub calls : min (before.read_calls + read_limit) (2 ^ 64 - 1) ≤ after.read_calls
+-- The reader was asked this often, and told no end.
+pub record ReadsInVain (limit : ℕ) (before after : Marks) : Type 0 where
+  pub calls : min (before.read_calls + limit) (2 ^ 64 - 1) ≤ after.read_calls
   pub endless : after.told_end ≡ before.told_end
 
--- The reader told an error, which was no interruption, or it was asked in vain.
+-- The reader told an error, which was no interruption, or it was asked as often as it is in vain.
 pub record FailsToRead (before after : Marks) : Type 0 where
   pub error : IsTrue after.told_error
-  pub reason : IsTrue after.told_failure ⊎ ReadsInVain before after
+  pub reason : IsTrue after.told_failure ⊎ ReadsInVain read_limit before after
 
 -- what was read
 abbrev pub IsInput : Input → Option (List ℕ) → Option (List ℕ) → Marks → Marks → Type 0
@@ -53,6 +53,14 @@ IsInput (inputs.Whole v) old new before after = ReadsAll old new after (vec_item
 IsInput inputs.TooLong old new before after = (bytes : List ℕ) × ReadsTooMuch old new bytes
 IsInput inputs.OutOfMemory old new before after = Unit {0}
 IsInput inputs.Failed old new before after = FailsToRead before after
+
+-- what was read, where the reader is asked this often: asked less often than there may be bytes, it may tell no error
+abbrev pub IsInputWithin : (limit : ℕ) → Input → Option (List ℕ) → Option (List ℕ) → Marks → Marks → Type 0
+IsInputWithin limit (inputs.Whole v) old new before after = ReadsAll old new after (vec_items v)
+IsInputWithin limit inputs.TooLong old new before after = (bytes : List ℕ) × ReadsTooMuch old new bytes
+IsInputWithin limit inputs.OutOfMemory old new before after = Unit {0}
+IsInputWithin limit inputs.Failed old new before after =
+    (IsTrue after.told_failure ⊎ ReadsInVain limit before after) × (input_limit < limit → IsTrue after.told_error)
 
 -- the writer holds the text of all bytes more, and no other
 abbrev pub IsShown : ParseMode → (old new : Option (List ℕ)) → Marks → (held holds : Option (List ℕ)) → Type 0

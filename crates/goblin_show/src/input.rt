@@ -3,7 +3,7 @@ ghost use Rattle.std.specs.Prelude.{◌≡◌, ◌≢◌, ◌+◌, ◌<◌, ◌�
 ghost use Rattle.std.specs.Io.{ReadsAtMost};
 ghost use Rattle.std.specs.Io.KnownBytes.{ReadConsumes};
 ghost use Rattle.goblin_show.specs.Marks.{after_read};
-ghost use Rattle.goblin_show.specs.Ran.{IsInput, ReadsAtMostOneMore, read_limit};
+ghost use Rattle.goblin_show.specs.Ran.{IsInput, IsInputWithin, ReadsAtMostOneMore, read_limit};
 
 use crate::streams::{Source, is_interruption};
 use std::alloc::{AllocError, Global};
@@ -17,6 +17,12 @@ const READ_LIMIT: u64 = 33_554_432;
 
 // For how many bytes room is made at once.
 const ROOM: usize = 65_536;
+
+// How many times as much memory is asked for where it runs short.
+const GROWTH: usize = 4;
+
+// How many of them are filled with zeros at once: filling more takes longer.
+const PIECE: usize = 1_024;
 
 /// What was read.
 #[derive(Drop)]
@@ -43,7 +49,15 @@ fn make_room(bytes: &mut Vec<u8>, filled: usize) -> Result<(), AllocError>
     if filled < bytes.len() {
         return Ok(());
     }
-    bytes.resize((filled + ROOM).min(INPUT_LIMIT + 1), 0)
+    let end = (filled + ROOM).min(INPUT_LIMIT + 1);
+    if bytes.capacity() < end {
+        let most = (GROWTH * end).min(INPUT_LIMIT + 1);
+        bytes.reserve_exact(most - filled)?;
+    }
+    while bytes.len() < end {
+        bytes.resize((bytes.len() + PIECE).min(end), 0)?;
+    }
+    Ok(())
 }
 
 // Reads into the room behind the first `filled` bytes.
@@ -69,9 +83,21 @@ pub fn input_of<R: Source>(alloc: Global, reader: &mut R) -> Input
     ensures heeded { result ≢ Input.Failed →
         (R.marks reader.new).told_failure ≡ (R.marks reader.old).told_failure }
 {
+    input_within(alloc, reader, READ_LIMIT)
+}
+
+// Reads up to the end, in so many read calls at most.
+pub(crate) fn input_within<R: Source>(alloc: Global, reader: &mut R, limit: u64) -> Input
+    ensures input { IsInputWithin limit result (R.remaining reader.old) (R.remaining reader.new)
+        (R.marks reader.old) (R.marks reader.new) }
+    ensures most { ReadsAtMostOneMore (R.remaining reader.old) (R.remaining reader.new) }
+    ensures calls { (R.marks reader.new).read_calls ≤ (R.marks reader.old).read_calls + limit }
+    ensures heeded { result ≢ Input.Failed →
+        (R.marks reader.new).told_failure ≡ (R.marks reader.old).told_failure }
+{
     let mut bytes = Vec::new(alloc);
     let mut filled = 0;
-    for _ in 0..READ_LIMIT {
+    for _ in 0..limit {
         if make_room(&mut bytes, filled).is_err() {
             return Input::OutOfMemory;
         }

@@ -1,5 +1,6 @@
 //! Runs over cut files, and over readers and writers that fail at each of their calls.
 use crate::counted::Counted;
+use crate::input::{Input, input_within};
 use crate::run::{Outcome, run};
 use crate::tests::{Interrupted, PERMISSIVE, STRICT, SYMBOLS, SYMBOLS_TEXT, bytes_of, ends};
 use goblin::options::ParseOptions;
@@ -280,32 +281,46 @@ fn reads_on_after_each_other_call(rt: HostRuntime) {
     assert!(rt; goes_on_over(rt.alloc(), "", Outcome::Refused, line));
 }
 
-// Whether a run over a reader that is interrupted so many times ends so, writes this text, and
-// leaves so many interruptions.
-fn leaves(alloc: Global, times: u32, outcome: Outcome, text: &str, left: u32) -> bool {
-    let mut reader = Counted::new(Interrupted { left: times });
-    let mut writer = Counted::new(Vec::new(alloc));
-    run(alloc, &mut reader, &mut writer, &STRICT) == outcome
-        && reader.into_inner().left == left
-        && writer.into_inner().as_slice() == text.as_bytes()
+// Whether a reader that is interrupted at each of its first calls is asked as often as the limit
+// says, and no more, and whether its end is heeded where the last of these calls tells it.
+fn asks_as_often(alloc: Global, limit: u32) -> bool {
+    let mut reader = Counted::new(Interrupted { left: 1_000 });
+    let input = input_within(alloc, &mut reader, u64::from(limit));
+    if !matches!(input, Input::Failed)
+        || reader.into_inner().left != 1_000_u32.saturating_sub(limit)
+    {
+        return false;
+    }
+    let Some(left) = limit.checked_sub(1) else {
+        return true;
+    };
+    let mut reader = Counted::new(Interrupted { left });
+    matches!(
+        input_within(alloc, &mut reader, u64::from(limit)),
+        Input::Whole(bytes) if bytes.is_empty()
+    )
 }
 
-// This and the next test ask a reader some 50,000,000 times: to be tried with checks they need
-// `--seconds 300`.
+#[test]
+fn asks_as_many_times_as_the_limit(rt: HostRuntime) {
+    for limit in [0, 1, 2, 3, 999, 1_000] {
+        assert!(rt; asks_as_often(rt.alloc(), limit), "{limit}");
+    }
+}
+
+// Whether a run over a reader that is interrupted without end fails after as many calls as it makes.
+fn gives_up(alloc: Global) -> bool {
+    let mut reader = Counted::new(Interrupted { left: u32::MAX });
+    let mut writer = Counted::new(Vec::new(alloc));
+    run(alloc, &mut reader, &mut writer, &STRICT) == Outcome::Failed
+        && u32::MAX.saturating_sub(reader.into_inner().left) == 33_554_432
+        && writer.into_inner().is_empty()
+}
+
+// (`rt try` takes some 90 seconds for it: `--seconds 300`.)
 #[test]
 fn gives_up_after_33554432_reads(rt: HostRuntime) {
-    assert!(rt;
-        leaves(
-            rt.alloc(),
-            4_294_967_295,
-            Outcome::Failed,
-            "",
-            4_261_412_863
-        )
-    );
-    // The last call tells the end.
-    let line = "refused: Malformed entity: Too small\n";
-    assert!(rt; leaves(rt.alloc(), 33_554_431, Outcome::Refused, line, 0));
+    assert!(rt; gives_up(rt.alloc()));
 }
 
 // A reader that gives a zero at each call.
@@ -335,9 +350,9 @@ fn is_too_long(alloc: Global) -> bool {
         && writer.into_inner().as_slice() == line.as_bytes()
 }
 
-// Whether a run over such a reader fails where each other call is an interruption: call 33,554,432
-// gives the last byte within the limit, and tells no end.
-fn comes_to_no_end(alloc: Global) -> bool {
+// Whether reading such a reader is in vain where each other call is an interruption, and the last
+// call gives a zero: whether it gave so many.
+fn comes_to_no_end(alloc: Global, limit: u64, given: u32) -> bool {
     let inner = Drops { given: 0 };
     let error = Told::Kind(ErrorKind::Interrupted);
     let mut reader = Counted::new(Halting {
@@ -345,16 +360,15 @@ fn comes_to_no_end(alloc: Global) -> bool {
         is_next: true,
         error,
     });
-    let mut writer = Counted::new(Vec::new(alloc));
-    run(alloc, &mut reader, &mut writer, &STRICT) == Outcome::Failed
-        && reader.into_inner().inner.given == 16_777_216
-        && writer.into_inner().is_empty()
+    matches!(input_within(alloc, &mut reader, limit), Input::Failed)
+        && reader.into_inner().inner.given == given
 }
 
 #[test]
 fn takes_no_zeros_without_end(rt: HostRuntime) {
     assert!(rt; is_too_long(rt.alloc()));
-    assert!(rt; comes_to_no_end(rt.alloc()));
+    assert!(rt; comes_to_no_end(rt.alloc(), 2, 1));
+    assert!(rt; comes_to_no_end(rt.alloc(), 200_000, 100_000));
 }
 
 // What a writer does in the place of taking some bytes.

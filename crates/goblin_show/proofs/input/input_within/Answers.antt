@@ -2,7 +2,7 @@ use Rattle.std.proofs.Common.{arith}
 use Rattle.std.proofs.lemmas.Grind.{common_steps}
 use Rattle.std.proofs.KnownBytes.{Consumes-kept}
 use Rattle.goblin_show.proofs.Reading.{Consumes-behind}
-use Rattle.goblin_show.proofs.input.input_of.Goals as goal
+use Rattle.goblin_show.proofs.input.input_within.Goals as goal
 
 pub returns-then-filled-gt-INPUT_LIMIT-clause-input :
     goal.returns-then-filled-gt-INPUT_LIMIT-clause-input

@@ -1,7 +1,7 @@
 use Rattle.std.proofs.Common.{◌≡◌, ◌+◌, ◌-◌, ◌^◌, ◌≤◌, min, false, take, vec_len}
 use Rattle.std.specs.Io.KnownBytes.{Consumes}
 use Rattle.goblin_show.specs.Ran.{input_limit}
-use Rattle.goblin_show.proofs.input.input_of.Given as goal
+use Rattle.goblin_show.proofs.input.input_within.Given as goal
 
 -- The filled bytes are those that were taken. Where no error was told, each call gave a byte.
 abbrev pub invariant-loop : goal.invariant-loop
