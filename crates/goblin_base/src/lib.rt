@@ -13,11 +13,5 @@ pub mod record;
 pub mod scroll;
 pub mod strtab;
 pub mod table;
-#[cfg(test)]
-mod tests;
-#[cfg(test)]
-mod tests_strtab;
-#[cfg(test)]
-mod tests_walk;
 pub mod utf8;
 pub mod walk;

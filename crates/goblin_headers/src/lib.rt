@@ -11,11 +11,3 @@ pub mod program_header64;
 pub mod section_header;
 pub mod section_header32;
 pub mod section_header64;
-#[cfg(test)]
-mod tests;
-#[cfg(test)]
-mod tests_sections;
-#[cfg(test)]
-mod tests_segments;
-#[cfg(test)]
-mod tests_writing;

@@ -8,9 +8,3 @@ pub mod reloc64;
 pub mod sym;
 pub mod sym32;
 pub mod sym64;
-#[cfg(test)]
-mod tests;
-#[cfg(test)]
-mod tests_note;
-#[cfg(test)]
-mod tests_reloc;

@@ -1,11 +1,11 @@
 //! Cases of string tables with their answers, and all short strings against plain readings.
-use crate::entries::{Entries, Looked, Probes};
-use crate::error::{Error, Result};
-use crate::find::find;
-use crate::options::{ParseMode, ParseOptions};
-use crate::scroll;
-use crate::strtab::{Strtab, laws};
-use crate::walk::walk;
+use goblin_base::entries::{Entries, Looked, Probes};
+use goblin_base::error::{Error, Result};
+use goblin_base::find::find;
+use goblin_base::options::{ParseMode, ParseOptions};
+use goblin_base::scroll;
+use goblin_base::strtab::{Strtab, laws};
+use goblin_base::walk::walk;
 use std::alloc::Global;
 
 // "\nƒoo\nmemmove\n🅱️usta\n"

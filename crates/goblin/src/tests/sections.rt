@@ -1,14 +1,14 @@
 //! Cases with their answers: section headers.
-use crate::section_header::{
+use crate::tests::header::{BIG64, LITTLE32, gives, says, stands};
+use goblin_base::container::{BE, Ctx, LE};
+use goblin_base::error::Result as Answer;
+use goblin_base::scroll::{IntoCtx, SizeWith, TryFromCtx, TryIntoCtx};
+use goblin_headers::section_header::{
     SHF_ALLOC, SHF_EXCLUDE, SHF_EXECINSTR, SHF_FLAGS, SHF_ORDERED, SHF_WRITE, SHT_DYNSYM,
     SHT_GNU_VERSYM, SHT_HIUSER, SHT_NOBITS, SHT_NUM, SHT_PROGBITS, SHT_REL, SHT_RELA,
     SHT_SUNW_MOVE, SHT_X86_64_UNWIND, SectionHeader, shf_to_str, sht_to_str,
 };
-use crate::tests::{BIG64, LITTLE32, gives, says, stands};
-use crate::{section_header, section_header32, section_header64};
-use goblin_base::container::{BE, Ctx, LE};
-use goblin_base::error::Result as Answer;
-use goblin_base::scroll::{IntoCtx, SizeWith, TryFromCtx, TryIntoCtx};
+use goblin_headers::{section_header, section_header32, section_header64};
 use std::alloc::Global;
 use std::ops::Range;
 

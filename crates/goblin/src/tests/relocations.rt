@@ -1,10 +1,10 @@
 //! Cases with their answers: relocations read and written in their forms, and the parts of an `r_info`.
-use crate::reloc::{Reloc, RelocCtx};
-use crate::{reloc, reloc32, reloc64};
 use goblin_base::container::{BE, Container, Ctx, Endian, LE};
 use goblin_base::error::Error;
 use goblin_base::scroll;
 use goblin_base::scroll::{IntoCtx, SizeWith, TryFromCtx, TryIntoCtx};
+use goblin_records::reloc::{Reloc, RelocCtx};
+use goblin_records::{reloc, reloc32, reloc64};
 
 // A relocation with an addend, of the 32-bit class in little order.
 const RELA_LITTLE: &[u8] = b"\x10\0\0\0\x01\x02\0\0\xfc\xff\xff\xff";

@@ -1,12 +1,12 @@
 //! Cases with their answers: program headers.
-use crate::program_header::{
+use crate::tests::header::{BIG64, LITTLE32, gives, says, stands};
+use goblin_base::container::{BE, Container, Ctx, LE};
+use goblin_base::scroll::{SizeWith, TryFromCtx, TryIntoCtx};
+use goblin_headers::program_header::{
     PF_R, PF_W, PF_X, PT_ARM_EXIDX, PT_GNU_EH_FRAME, PT_GNU_RELRO, PT_GNU_STACK, PT_HIOS, PT_LOAD,
     PT_SUNWBSS, ProgramHeader, pt_to_str,
 };
-use crate::tests::{BIG64, LITTLE32, gives, says, stands};
-use crate::{program_header, program_header32, program_header64};
-use goblin_base::container::{BE, Container, Ctx, LE};
-use goblin_base::scroll::{SizeWith, TryFromCtx, TryIntoCtx};
+use goblin_headers::{program_header, program_header32, program_header64};
 use std::alloc::Global;
 use std::ops::Range;
 

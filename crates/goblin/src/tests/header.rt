@@ -1,12 +1,12 @@
 //! Cases with their answers: reading headers in their three forms, new headers, and names.
-use crate::header::{
-    EM_386, EM_AARCH64, EM_CSKY, EM_INTELGT, EM_LOONGARCH, EM_M32, EM_NONE, EM_NUM, EM_X86_64,
-    Header, class_to_str, et_to_str, machine_to_str,
-};
-use crate::{header, header32, header64};
 use goblin_base::container::{BE, Container, Ctx, Endian, LE};
 use goblin_base::error::Result as Answer;
 use goblin_base::scroll::{SizeWith, TryFromCtx};
+use goblin_headers::header::{
+    EM_386, EM_AARCH64, EM_CSKY, EM_INTELGT, EM_LOONGARCH, EM_M32, EM_NONE, EM_NUM, EM_X86_64,
+    Header, class_to_str, et_to_str, machine_to_str,
+};
+use goblin_headers::{header, header32, header64};
 use std::alloc::Global;
 
 // The context of 32-bit files in little byte order, and that of 64-bit files in big byte order.

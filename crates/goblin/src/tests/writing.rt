@@ -1,9 +1,9 @@
 //! Cases with their answers: writing headers.
-use crate::header::Header;
-use crate::tests::{BIG64, LITTLE32, NEW32, NEW64, says, stands};
-use crate::{header32, header64};
+use crate::tests::header::{BIG64, LITTLE32, NEW32, NEW64, says, stands};
 use goblin_base::container::{BE, Container, Ctx, Endian, LE};
 use goblin_base::scroll::{IntoCtx, TryFromCtx, TryIntoCtx};
+use goblin_headers::header::Header;
+use goblin_headers::{header32, header64};
 use std::alloc::Global;
 
 fn writes(ctx: Ctx, order: Endian, bytes: &[u8]) -> bool {

@@ -1,9 +1,9 @@
 //! Cases with their answers: note headers read and written in each byte order.
-use crate::note::{Nhdr32, Nhdr64};
 use goblin_base::container::{BE, Endian, LE};
 use goblin_base::error::{Error, Result};
 use goblin_base::scroll;
 use goblin_base::scroll::{TryFromCtx, TryIntoCtx};
+use goblin_records::note::{Nhdr32, Nhdr64};
 
 const LITTLE32: &[u8] = b"\x04\0\0\0\x14\0\0\0\x03\0\0\0";
 

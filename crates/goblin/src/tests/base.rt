@@ -1,13 +1,13 @@
 //! Cases with their answers: texts of errors, room, numbers, contexts, options and names.
-use crate::container::{BE, CONTAINER, Container, Ctx, Endian, LE, constants};
-use crate::error::{Error, Fault};
-use crate::names::name_of;
-use crate::number::{
+use goblin_base::container::{BE, CONTAINER, Container, Ctx, Endian, LE, constants};
+use goblin_base::error::{Error, Fault};
+use goblin_base::names::name_of;
+use goblin_base::number::{
     get_i32, get_i64, get_u8, get_u16, get_u32, get_u64, put_i32, put_i64, put_u8, put_u16,
     put_u32, put_u64, room, signed_spellings, spellings,
 };
-use crate::options::{ParseMode, ParseOptions};
-use crate::scroll;
+use goblin_base::options::{ParseMode, ParseOptions};
+use goblin_base::scroll;
 use std::alloc::{AllocError, AllocFailed, Global};
 use std::num::TryFromIntError;
 

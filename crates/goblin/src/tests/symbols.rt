@@ -1,15 +1,15 @@
 //! Cases with their answers: symbols read and written in each class and byte order, lists and tables
 //! of them, and their names.
-use crate::sym::{
-    STB_GLOBAL, STB_WEAK, STT_FUNC, Sym, bind_to_str, get_type, is_import, st_bind, st_type,
-    st_visibility, type_to_str, visibility_to_str,
-};
-use crate::{sym, sym32, sym64};
 use goblin_base::container::{BE, Container, Ctx, Endian, LE};
 use goblin_base::error::{Error, Result};
 use goblin_base::scroll;
 use goblin_base::scroll::{IntoCtx, SizeWith, TryFromCtx, TryIntoCtx};
 use goblin_base::table::Table;
+use goblin_records::sym::{
+    STB_GLOBAL, STB_WEAK, STT_FUNC, Sym, bind_to_str, get_type, is_import, st_bind, st_type,
+    st_visibility, type_to_str, visibility_to_str,
+};
+use goblin_records::{sym, sym32, sym64};
 use std::alloc::Global;
 
 // The 32-bit class in little order.

@@ -1,12 +1,12 @@
 //! Cases of the walk and the search with their counts, and all short strings against a plain walk that tries
 //! the whole piece at every byte.
-use crate::entries::{Entries, Looked, Probes};
-use crate::error::{Error, Result};
-use crate::find::find;
-use crate::options::{ParseMode, ParseOptions};
-use crate::scroll;
-use crate::strtab::Strtab;
-use crate::walk::walk;
+use goblin_base::entries::{Entries, Looked, Probes};
+use goblin_base::error::{Error, Result};
+use goblin_base::find::find;
+use goblin_base::options::{ParseMode, ParseOptions};
+use goblin_base::scroll;
+use goblin_base::strtab::Strtab;
+use goblin_base::walk::walk;
 use std::alloc::Global;
 
 // Whether an entry has this place and this text.
