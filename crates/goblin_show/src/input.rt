@@ -18,11 +18,12 @@ const READ_LIMIT: u64 = 33_554_432;
 // For how many bytes room is made at once.
 const ROOM: usize = 65_536;
 
+// How many bytes are filled with zeros at once: from 2 KiB on the C library fills fresh memory in a
+// way that takes longer.
+const PIECE: usize = 1_984;
+
 // How many times as much memory is asked for where it runs short.
 const GROWTH: usize = 4;
-
-// How many of them are filled with zeros at once: filling more takes longer.
-const PIECE: usize = 1_024;
 
 /// What was read.
 #[derive(Drop)]
