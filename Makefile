@@ -8,12 +8,17 @@ show:
 	@(cd crates/goblin_show && exec rt run) < '$(FILE)' \
 	|| { test $$? -eq 1 && test -e crates/goblin_show/out/goblin_show.stamp; }
 
-# The whole gate: the pages' quotations, growths that are refused, every proof from nothing, the edits that must fail,
-# the tests, the stored runs, and the program's words.
+# The whole gate: the pages' quotations; growths that are refused, beside every proof from nothing, the edits that must
+# fail, the tests and the stored runs; then the program's words.
 test:
 	sh docs/check_quotes.sh
-	sh docs/check_refused.sh
-	rt ci
+	@$(MAKE) --no-print-directory -j2 refused proved
 	sh docs/check_words.sh
 
-.PHONY: show test
+refused:
+	sh docs/check_refused.sh
+
+proved:
+	rt ci
+
+.PHONY: show test refused proved
