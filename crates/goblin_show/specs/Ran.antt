@@ -47,18 +47,18 @@ pub record FailsToRead (before after : Marks) : Type 0 where
   pub error : IsTrue after.told_error
   pub reason : IsTrue after.told_failure ⊎ ReadsInVain read_limit before after
 
--- what was read
+-- what was read: memory runs out before a call that was still to be made
 abbrev pub IsInput : Input → Option (List ℕ) → Option (List ℕ) → Marks → Marks → Type 0
 IsInput (inputs.Whole v) old new before after = ReadsAll old new after (vec_items v)
 IsInput inputs.TooLong old new before after = (bytes : List ℕ) × ReadsTooMuch old new bytes
-IsInput inputs.OutOfMemory old new before after = Unit {0}
+IsInput inputs.OutOfMemory old new before after = after.read_calls < before.read_calls + read_limit
 IsInput inputs.Failed old new before after = FailsToRead before after
 
 -- what was read, where the reader is asked this often: asked less often than there may be bytes, it may tell no error
 abbrev pub IsInputWithin : (limit : ℕ) → Input → Option (List ℕ) → Option (List ℕ) → Marks → Marks → Type 0
 IsInputWithin limit (inputs.Whole v) old new before after = ReadsAll old new after (vec_items v)
 IsInputWithin limit inputs.TooLong old new before after = (bytes : List ℕ) × ReadsTooMuch old new bytes
-IsInputWithin limit inputs.OutOfMemory old new before after = Unit {0}
+IsInputWithin limit inputs.OutOfMemory old new before after = after.read_calls < before.read_calls + limit
 IsInputWithin limit inputs.Failed old new before after =
     (IsTrue after.told_failure ⊎ ReadsInVain limit before after) × (input_limit < limit → IsTrue after.told_error)
 
