@@ -11,12 +11,12 @@ show:
 # The whole gate: the pages' quotations; growths that are refused, beside every proof from nothing, the edits that must
 # fail, the tests and the stored runs; then the program's words.
 test:
-	sh docs/check_quotes.sh
+	sh checks/quotes.sh
 	@$(MAKE) --no-print-directory -j2 refused proved
-	sh docs/check_words.sh
+	sh checks/words.sh
 
 refused:
-	sh docs/check_refused.sh
+	sh checks/refused.sh
 
 proved:
 	rt ci

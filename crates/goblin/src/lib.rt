@@ -4,7 +4,5 @@
 pub mod elf;
 pub mod elf32;
 pub mod elf64;
-#[cfg(test)]
-mod tests;
 
 pub use goblin_base::{container, error, options, scroll, strtab};

@@ -2,7 +2,7 @@
 //!
 //! A line `NAME N` of standard input names a call and which of its growths is refused. The runner refuses
 //! the hundredth allocation of the program, so 100 - N come before the call. With 0 none comes before,
-//! and none is refused. `docs/check_refused.sh` goes over all calls and growths.
+//! and none is refused. `checks/refused.sh` goes over all calls and growths.
 #![tactic(auto)]
 
 ghost use Rattle.std.specs.Prelude.{◌≤◌, IfOk};

@@ -1,5 +1,5 @@
 //! Cases with their answers: writing headers.
-use crate::tests::header::{BIG64, LITTLE32, NEW32, NEW64, says, stands};
+use crate::header::{BIG64, LITTLE32, NEW32, NEW64, says, stands};
 use goblin_base::container::{BE, Container, Ctx, Endian, LE};
 use goblin_base::scroll::{IntoCtx, TryFromCtx, TryIntoCtx};
 use goblin_headers::header::Header;

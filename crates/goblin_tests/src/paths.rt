@@ -1,10 +1,10 @@
 //! What goblin's paths lead to: each public item is reached once by its path, with its type.
-use crate::container::{BE, CONTAINER, Container, Ctx, Endian, LE};
-use crate::error::{Error, Fault};
-use crate::options::{ParseMode, ParseOptions};
-use crate::scroll::{IntoCtx, SizeWith, TryFromCtx, TryIntoCtx};
-use crate::strtab::Strtab;
-use crate::{elf, elf32, elf64, scroll};
+use goblin::container::{BE, CONTAINER, Container, Ctx, Endian, LE};
+use goblin::error::{Error, Fault};
+use goblin::options::{ParseMode, ParseOptions};
+use goblin::scroll::{IntoCtx, SizeWith, TryFromCtx, TryIntoCtx};
+use goblin::strtab::Strtab;
+use goblin::{elf, elf32, elf64, scroll};
 
 // Whether a type's records take so many bytes by the path that it was named by.
 fn takes<R: SizeWith<Endian>>(size: usize) -> bool {

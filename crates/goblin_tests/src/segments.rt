@@ -1,5 +1,5 @@
 //! Cases with their answers: program headers.
-use crate::tests::header::{BIG64, LITTLE32, gives, says, stands};
+use crate::header::{BIG64, LITTLE32, gives, says, stands};
 use goblin_base::container::{BE, Container, Ctx, LE};
 use goblin_base::scroll::{SizeWith, TryFromCtx, TryIntoCtx};
 use goblin_headers::program_header::{

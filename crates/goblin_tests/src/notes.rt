@@ -2,8 +2,8 @@
 ghost use Rattle.std.specs.Prelude.{◌≡◌, length};
 ghost use Rattle.goblin.specs.Notes.{items_left};
 
-use crate::elf::note::{NT_GNU_BUILD_ID, NT_SIGINFO, Note, NoteDataIterator, NoteIterator};
-use crate::{elf32, elf64};
+use goblin::elf::note::{NT_GNU_BUILD_ID, NT_SIGINFO, Note, NoteDataIterator, NoteIterator};
+use goblin::{elf32, elf64};
 use goblin_base::container::{BE, Container, Ctx, Endian, LE};
 use goblin_base::error::{Error, Fault, Result};
 use goblin_base::scroll;

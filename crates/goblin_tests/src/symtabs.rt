@@ -1,5 +1,5 @@
 //! Symbol tables: what is accepted, what is refused and how, and the symbols in each way of asking.
-use crate::elf::sym::{Sym, SymIterator, Symtab};
+use goblin::elf::sym::{Sym, SymIterator, Symtab};
 use goblin_base::container::{BE, Container, Ctx, LE};
 use goblin_base::options::ParseOptions;
 use goblin_base::scroll::TryIntoCtx;

@@ -1,5 +1,5 @@
 //! Cases with their answers: section headers.
-use crate::tests::header::{BIG64, LITTLE32, gives, says, stands};
+use crate::header::{BIG64, LITTLE32, gives, says, stands};
 use goblin_base::container::{BE, Ctx, LE};
 use goblin_base::error::Result as Answer;
 use goblin_base::scroll::{IntoCtx, SizeWith, TryFromCtx, TryIntoCtx};

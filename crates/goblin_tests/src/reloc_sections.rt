@@ -1,8 +1,8 @@
 //! Cases with their answers: relocation sections.
-use crate::elf::header::{EM_MIPS, EM_MIPS_RS3_LE, Header};
-use crate::elf::reloc;
-use crate::elf::reloc::{Reloc, RelocIterator, RelocSection, is_mips64el};
-use crate::{elf32, elf64};
+use goblin::elf::header::{EM_MIPS, EM_MIPS_RS3_LE, Header};
+use goblin::elf::reloc;
+use goblin::elf::reloc::{Reloc, RelocIterator, RelocSection, is_mips64el};
+use goblin::{elf32, elf64};
 use goblin_base::container::{BE, Container, Ctx, Endian, LE};
 use goblin_base::error::Error;
 use goblin_base::scroll;

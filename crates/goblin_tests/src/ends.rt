@@ -1,11 +1,11 @@
 //! Tables at the ends of their bytes and of `usize`: each answer against its rule, which is written
 //! plainly over u128.
-use crate::elf::program_header::ProgramHeader;
-use crate::elf::reloc::{Reloc, RelocSection};
-use crate::elf::section_header::SectionHeader;
-use crate::elf::sym::{Sym, Symtab};
-use crate::elf32::program_header::ProgramHeader as ProgramHeader32;
-use crate::elf64::program_header::ProgramHeader as ProgramHeader64;
+use goblin::elf::program_header::ProgramHeader;
+use goblin::elf::reloc::{Reloc, RelocSection};
+use goblin::elf::section_header::SectionHeader;
+use goblin::elf::sym::{Sym, Symtab};
+use goblin::elf32::program_header::ProgramHeader as ProgramHeader32;
+use goblin::elf64::program_header::ProgramHeader as ProgramHeader64;
 use goblin_base::container::{BE, Container, Ctx, LE};
 use goblin_base::error::{Error, Fault, Result};
 use goblin_base::options::ParseOptions;

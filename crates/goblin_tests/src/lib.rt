@@ -1,0 +1,34 @@
+//! Tests of `goblin` and of the three crates below it, by subject: each reaches its subject by the paths of the
+//! crate that it lies in.
+#![tactic(auto)]
+
+#[cfg(test)]
+mod base;
+#[cfg(test)]
+mod ends;
+#[cfg(test)]
+mod header;
+#[cfg(test)]
+mod note_headers;
+#[cfg(test)]
+mod notes;
+#[cfg(test)]
+mod paths;
+#[cfg(test)]
+mod reloc_sections;
+#[cfg(test)]
+mod relocations;
+#[cfg(test)]
+mod sections;
+#[cfg(test)]
+mod segments;
+#[cfg(test)]
+mod strtab;
+#[cfg(test)]
+mod symbols;
+#[cfg(test)]
+mod symtabs;
+#[cfg(test)]
+mod walk;
+#[cfg(test)]
+mod writing;
