@@ -1,11 +1,15 @@
 -- The entries of a string table, kept as places in its bytes and one closing place; bytes and places read under a count.
-use Rattle.std.specs.Prelude.{◌≡◌, ℕ, ◌+◌, ◌-◌, ◌<◌, ◌≤◌, true, List, [], ◌∷◌, length, map, slice_range}
+use Rattle.std.specs.Prelude.{◌≡◌, ℕ, ◌+◌, ◌-◌, ◌^◌, ◌<◌, ◌≤◌, true, List, [], ◌∷◌, length, map, min, slice_range}
 use Rattle.std.specs.Str.{is_utf8}
 
 -- bytes, and how many looks were taken at them
 pub record Seen : Type 0 where
   pub bytes : List ℕ
   pub count : ℕ
+
+-- at least so many looks were taken since: a count stays at the greatest number once it is there
+abbrev pub CountsAtLeast : ℕ → ℕ → ℕ → Type 0
+CountsAtLeast before looks after = min (before + looks) (2 ^ 128 - 1) ≤ after
 
 -- places, and how many of them were read
 pub record Probed : Type 0 where

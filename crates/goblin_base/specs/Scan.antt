@@ -21,6 +21,11 @@ abbrev pub looks_of : ℕ → Found → ℕ
 looks_of o (Whole end) = end + 1 - o
 looks_of o (Fault next) = 2 * (next - o)
 
+-- where what an attempt found ends
+abbrev pub found_end : Found → ℕ
+found_end (Whole end) = end
+found_end (Fault next) = next
+
 -- what an attempt found that came to the end of its piece
 abbrev pub scan_end : Awaited → ℕ → Found
 scan_end awaited at = if awaited.more == 0 then Whole at else Fault at

@@ -2,20 +2,79 @@
 //!
 //! The types here keep their fields to themselves and can't be copied, so that whoever reads through them
 //! can't read uncounted.
-ghost use Rattle.std.specs.Prelude.{◌≡◌, ◌↔◌, ◌+◌, ◌-◌, ◌<◌, ◌≤◌, [], min, length, IsTrue};
+ghost use Rattle.std.specs.Prelude.{◌≡◌, ◌↔◌, ◌+◌, ◌-◌, ◌*◌, ◌^◌, ◌<◌, ◌≤◌, [], min, length, IsTrue};
 ghost use Rattle.std.specs.Prelude.{slice_index, slice_index_or, slice_range};
 ghost use Rattle.std.specs.Str.{IsUtf8};
 ghost use Rattle.goblin_base.specs.Entries.{AreKept, IsKeptEntry, entries_between, places_of, text_of};
 ghost use Rattle.goblin_base.specs.Search.{IsRising};
 
 use std::alloc::Global;
+use std::fmt;
 use std::marker::Model;
 
+// A number up to `u128::MAX`, in two halves: so adding to it is one addition and a branch that is hardly
+// ever taken.
+#[derive(Drop)]
+struct Count {
+    low: u64,
+    high: u64,
+}
+
+// It is seen as the number.
+impl Model for Count {
+    ghost use Rattle.std.specs.Prelude.{◌+◌, ◌*◌, ◌^◌, ◌<◌, ℕ};
+
+    ghost Value = { ℕ };
+
+    ghost view = { λ c. c.low + 2 ^ 64 * c.high };
+
+    ghost invariant = { λ c. (c.low < 2 ^ 64) × (c.high < 2 ^ 64) };
+}
+
+impl Count {
+    // Adds a number, or stays at the greatest where the sum would pass it.
+    #[inline]
+    fn add(&mut self, more: u64)
+        ensures { self.new ≡ min (self.old + more) u128.MAX }
+    {
+        match self.low.checked_add(more) {
+            Some(low) => self.low = low,
+            None => *self = carried(self.low, self.high, more),
+        }
+    }
+
+    // The number.
+    fn value(&self) -> u128
+        ensures { result ≡ self.now }
+    {
+        u128::from(self.high) * (1 << 64) + u128::from(self.low)
+    }
+}
+
+// The sum of a number in two halves and one more, where the low half is too small for it.
+#[cold]
+#[inline(never)]
+fn carried(low: u64, high: u64, more: u64) -> Count
+    requires { 2 ^ 64 ≤ low + more }
+    ensures { result ≡ min (low + 2 ^ 64 * high + more) u128.MAX }
+{
+    match high.checked_add(1) {
+        Some(high) => Count {
+            low: low.wrapping_add(more),
+            high,
+        },
+        None => Count {
+            low: u64::MAX,
+            high,
+        },
+    }
+}
+
 /// Bytes that can be looked at only under a count of the bytes looked at.
-#[derive(Debug, Drop)]
+#[derive(Drop)]
 pub struct Looked<'a> {
     bytes: &'a [u8],
-    count: u128,
+    count: Count,
 }
 
 // It is seen as its bytes and the count.
@@ -32,7 +91,10 @@ impl<'a> Looked<'a> {
     pub fn new(bytes: &'a [u8]) -> Looked<'a>
         ensures { result ≡ record { bytes = bytes.now; count = 0 } }
     {
-        Looked { bytes, count: 0 }
+        Looked {
+            bytes,
+            count: Count { low: 0, high: 0 },
+        }
     }
 
     /// How many bytes there are.
@@ -48,8 +110,9 @@ impl<'a> Looked<'a> {
         requires { i < length self.old.bytes }
         ensures value { result ≡ slice_index self.old.bytes i }
         ensures counted { self.new ≡ record self.old { count = min (self.old.count + 1) u128.MAX } }
+        ensures unchanged { self.new.bytes ≡ self.old.bytes }
     {
-        self.count = self.count.saturating_add(1);
+        self.count.add(1);
         self.bytes[i]
     }
 
@@ -59,8 +122,9 @@ impl<'a> Looked<'a> {
         requires within { to ≤ length self.old.bytes }
         ensures value { IsTrue result ↔ IsUtf8 (slice_range self.old.bytes from to) }
         ensures counted { self.new ≡ record self.old { count = min (self.old.count + (to - from)) u128.MAX } }
+        ensures unchanged { self.new.bytes ≡ self.old.bytes }
     {
-        self.count = self.count.saturating_add((to - from) as u128);
+        self.count.add((to - from) as u64);
         std::str::from_utf8(&self.bytes[from..to]).is_ok()
     }
 
@@ -80,7 +144,17 @@ impl<'a> Looked<'a> {
     pub fn count(&self) -> u128
         ensures { result ≡ self.now.count }
     {
-        self.count
+        self.count.value()
+    }
+}
+
+/// How many bytes there are and how many looks were taken: the bytes themselves would be uncounted looks.
+impl fmt::Debug for Looked<'_> {
+    fn fmt<W: fmt::Write>(&self, f: &mut fmt::Formatter<W>) -> fmt::Result {
+        f.debug_struct("Looked")
+            .field("len", &self.len())
+            .field("count", &self.count())
+            .finish()
     }
 }
 
@@ -88,7 +162,7 @@ impl<'a> Looked<'a> {
 ///
 /// It keeps the places and no text: a text is cut from the bytes when it is asked for, and ends one before
 /// the next place.
-#[derive(Debug, Drop)]
+#[derive(Drop)]
 pub struct Entries<'a> {
     bytes: &'a [u8],
     places: Vec<usize>,
@@ -111,7 +185,8 @@ impl<'a> Model for Entries<'a> {
 impl<'a> Entries<'a> {
     /// How many entries there are.
     pub fn len(&self) -> usize
-        ensures { result ≡ length self.now }
+        ensures value { result ≡ length self.now }
+        ensures bound { result < usize.MAX }
     {
         self.places.len()
     }
@@ -130,6 +205,13 @@ impl<'a> Entries<'a> {
     {
         let (from, next) = ends(&self.places, self.closing, i);
         text_before(self.bytes, from, next)
+    }
+}
+
+/// How many entries there are: their texts would be uncounted looks.
+impl fmt::Debug for Entries<'_> {
+    fn fmt<W: fmt::Write>(&self, f: &mut fmt::Formatter<W>) -> fmt::Result {
+        f.debug_struct("Entries").field("len", &self.len()).finish()
     }
 }
 
@@ -156,7 +238,7 @@ fn text_before(bytes: &[u8], from: usize, next: usize) -> &str
 }
 
 /// The places of entries, which can be read only under a count of the places read.
-#[derive(Debug, Drop)]
+#[derive(Drop)]
 pub struct Probes<'e> {
     entries: &'e Entries<'e>,
     count: u64,
@@ -186,6 +268,7 @@ impl<'e> Probes<'e> {
     /// How many places there are.
     pub fn len(&self) -> usize
         ensures value { result ≡ length self.now.places }
+        ensures bound { result < usize.MAX }
         ensures rising { IsRising self.now.places }
     {
         self.entries.len()
@@ -196,6 +279,8 @@ impl<'e> Probes<'e> {
         requires { i < length self.old.places }
         ensures value { result ≡ slice_index self.old.places i }
         ensures counted { self.new ≡ record self.old { count = min (self.old.count + 1) u64.MAX } }
+        ensures unchanged { self.new.places ≡ self.old.places }
+        ensures rising { self.old.count ≤ self.new.count }
     {
         self.count = self.count.saturating_add(1);
         let entries: &Entries<'e> = self.entries;
@@ -207,5 +292,15 @@ impl<'e> Probes<'e> {
         ensures { result ≡ self.now.count }
     {
         self.count
+    }
+}
+
+/// How many places there are and how many probes were taken: the places themselves would be uncounted probes.
+impl fmt::Debug for Probes<'_> {
+    fn fmt<W: fmt::Write>(&self, f: &mut fmt::Formatter<W>) -> fmt::Result {
+        f.debug_struct("Probes")
+            .field("len", &self.len())
+            .field("count", &self.count())
+            .finish()
     }
 }

@@ -11,6 +11,7 @@ pub fn find(view: &mut Probes<'_>, offset: usize) -> Option<usize>
     ensures found { FindsLast view.old.places offset result }
     ensures unchanged { view.new.places ≡ view.old.places }
     ensures probes { view.new.count ≤ view.old.count + digits (length view.old.places) }
+    ensures rising { view.old.count ≤ view.new.count }
 {
     let mut low = 0;
     let mut high = view.len();

@@ -72,7 +72,8 @@ impl<'a> Strtab<'a> {
 
     /// How many bytes there are.
     pub fn len(&self) -> usize
-        ensures { result ≡ length self.now.bytes }
+        ensures value { result ≡ length self.now.bytes }
+        ensures bound { result < usize.MAX }
     {
         self.bytes.len()
     }

@@ -59,7 +59,8 @@ impl<'a, R: Record<C>, C: Copy> Table<'a, R, C> {
     /// How many records there are.
     #[tactic(auto, using(crate::proofs::Records::record_steps))]
     pub fn len(&self) -> usize
-        ensures { result ≡ length self.now }
+        ensures value { result ≡ length self.now }
+        ensures bound { result < usize.MAX }
     {
         self.count
     }

@@ -3,6 +3,7 @@ use Rattle.std.specs.Prelude.{◌≡◌, ◌<◌, ◌%◌, ◌^◌, ℕ, ℤ, po
 use Rattle.goblin_base.specs.declared.container.Container.{Container}
 use Rattle.goblin_base.specs.declared.container.Container.TheVariants.{Little, Big}
 use Rattle.goblin_base.specs.declared.container.Endian.{Endian}
+use Rattle.goblin_base.specs.declared.container.Endian.TheVariants as order
 use Rattle.goblin_base.specs.Container.{word_size}
 use Rattle.goblin_base.specs.Fields.{Field, image_of_fields}
 use Rattle.goblin_base.specs.Layout.{IsOneImage, IsSameInEachClass}
@@ -176,3 +177,7 @@ SameInEachClass =
 -- the relocation of zeros, without an addend, as the default has it
 abbrev pub reloc_zero : Reloc
 reloc_zero = record { r_offset = 0; r_addend = None; r_sym = 0; r_type = 0 }
+
+-- no addends, and no pair, in the class of 64 bits and little byte order
+abbrev pub reloc_ctx_plain : RelocCtx
+reloc_ctx_plain = record { is_rela = false; ctx = record { container = Big; le = order.Little }; is_mips64el = false }

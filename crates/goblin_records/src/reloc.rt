@@ -4,7 +4,7 @@ ghost use Rattle.goblin_base.specs.Record.{read_within, Writes};
 ghost use Rattle.goblin_base.specs.Steps.{with_size};
 ghost use Rattle.goblin_records.specs.Reloc.{reloc_size, reloc_of, reloc_image};
 ghost use Rattle.goblin_records.specs.Reloc.{as_meant, as_stored, reloc_in, reloc_image_in};
-ghost use Rattle.goblin_records.specs.Reloc.{OneImage, SameInEachClass, reloc_zero};
+ghost use Rattle.goblin_records.specs.Reloc.{OneImage, SameInEachClass, reloc_ctx_plain, reloc_zero};
 
 pub use crate::{reloc32, reloc64};
 use goblin_base::container::{Container, Ctx};
@@ -275,9 +275,11 @@ impl Record<RelocCtx> for Reloc {
 }
 
 /// Laws: which bytes a relocation is written as, that classes and byte orders keep lists of relocations the
-/// same, and that the default relocation is that of zeros, without an addend. A call does nothing.
+/// same, that the default relocation is that of zeros, without an addend, and that the default context is
+/// without addends and without the pair, in the default class and order. A call does nothing.
 pub fn laws()
     ensures image { OneImage }
     ensures same { SameInEachClass }
     ensures zeros { (reloc : Reloc) → ⟦<Reloc as Default>⟧.is_default reloc → reloc ≡ reloc_zero }
+    ensures plain { (ctx : RelocCtx) → ⟦<RelocCtx as Default>⟧.is_default ctx → ctx ≡ reloc_ctx_plain }
 {}

@@ -1,6 +1,6 @@
 //! Relocations and relocation sections: System V gABI, "Relocation".
 ghost use Rattle.std.specs.Prelude.{◌≡◌, ◌<◌, ◌^◌, ◌↔◌, [], false, length, slice_get, IsTrue, IfOk};
-ghost use Rattle.std.specs.Prelude.{IfErr, IfSome, alloc_error};
+ghost use Rattle.std.specs.Prelude.{IfErr, IfSome, IsOk, alloc_error};
 ghost use Rattle.std.specs.Iterator.{UpTo, YieldsFirst, item_count};
 ghost use Rattle.std.specs.Iterator.SizeHint.{IsWithinCount};
 ghost use Rattle.goblin.specs.RelocSection.{relocs_of, is_of_mips64el};
@@ -94,7 +94,8 @@ impl<'a> RelocSection<'a> {
 
     /// How many relocations there are.
     pub fn len(&self) -> usize
-        ensures { result ≡ length self.now }
+        ensures value { result ≡ length self.now }
+        ensures bound { result < usize.MAX }
     {
         self.table.len()
     }
@@ -116,10 +117,11 @@ impl<'a> RelocSection<'a> {
         }
     }
 
-    /// The relocations as a vector. Only want of memory is an error.
+    /// The relocations as a vector. Only want of memory is an error, and an empty section takes none.
     pub fn to_vec(&self, alloc: Global) -> Result<Vec<Reloc>>
         ensures ok { IfOk result (λ v. v.items ≡ self.now) }
         ensures err { IfErr result (λ e. e ≡ Error.Memory alloc_error) }
+        ensures none { (self.now ≡ []) → IsOk result }
     {
         self.table.to_vec(alloc)
     }

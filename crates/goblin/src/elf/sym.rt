@@ -1,5 +1,5 @@
 //! Symbols and symbol tables: System V gABI, "Symbol Table".
-ghost use Rattle.std.specs.Prelude.{◌≡◌, ◌≤◌, ◌<◌, ◌-◌, ◌*◌, ◌^◌, ◌↔◌, [], ◌∷◌, length, slice_get, IsTrue, IfOk, IfErr};
+ghost use Rattle.std.specs.Prelude.{◌≡◌, ◌≤◌, ◌<◌, ◌-◌, ◌*◌, ◌^◌, ◌↔◌, [], ◌∷◌, length, slice_get, IsTrue, IfOk, IfErr, IsOk};
 ghost use Rattle.std.specs.Prelude.{IfSome, alloc_error};
 ghost use Rattle.std.specs.Iterator.{UpTo, YieldsFirst, item_count};
 ghost use Rattle.std.specs.Iterator.SizeHint.{IsWithinCount};
@@ -121,7 +121,8 @@ impl<'a> Symtab<'a> {
 
     /// How many symbols there are.
     pub fn len(&self) -> usize
-        ensures { result ≡ length self.now.symbols }
+        ensures value { result ≡ length self.now.symbols }
+        ensures bound { result < usize.MAX }
     {
         self.table.len()
     }
@@ -157,10 +158,11 @@ impl<'a> Symtab<'a> {
         }
     }
 
-    /// The symbols as a vector. Only want of memory is an error.
+    /// The symbols as a vector. Only want of memory is an error, and an empty table takes none.
     pub fn to_vec(&self, alloc: Global) -> Result<Vec<Sym>>
         ensures ok { IfOk result (λ v. v.items ≡ self.now.symbols) }
         ensures err { IfErr result (λ e. e ≡ Error.Memory alloc_error) }
+        ensures none { (self.now.symbols ≡ []) → IsOk result }
     {
         self.table.to_vec(alloc)
     }

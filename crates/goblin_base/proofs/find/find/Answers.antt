@@ -32,6 +32,7 @@ loop-low-preserved-then-at-offset c =
       within = omega (arith, ap length e);
       before = subst (λ ps. (k : ℕ) → k < m + 1 → slice_index ps k ≤ c.args.offset) (sym e) (to_the_left s.view.places m c.args.offset rising inside here);
       after = subst (λ ps. (k : ℕ) → s.high ≤ k → k < length ps → c.args.offset < slice_index ps k) (sym e) s.invariant.after;
+      rising = omega arith;
       probes = omega (arith, n, ap length e, digits_step (s.high - s.low) (s.high - (m + 1)) (omega arith) (omega arith), s.invariant.probes, ap (λ ps. digits (length ps)) e);
     }
 
@@ -49,5 +50,6 @@ loop-low-preserved c =
       within = omega (arith, ap length e);
       before = subst (λ ps. (k : ℕ) → k < s.low → slice_index ps k ≤ c.args.offset) (sym e) s.invariant.before;
       after = subst (λ ps. (k : ℕ) → m ≤ k → k < length ps → c.args.offset < slice_index ps k) (sym e) (to_the_right s.view.places m c.args.offset rising here);
+      rising = omega arith;
       probes = omega (arith, n, ap length e, digits_step (s.high - s.low) (m - s.low) (omega arith) (omega arith), s.invariant.probes, ap (λ ps. digits (length ps)) e);
     }

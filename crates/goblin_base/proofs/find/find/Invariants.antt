@@ -9,6 +9,7 @@ invariant-loop-low l = record {
   within : l.high ≤ length l.view.places;
   before : (k : ℕ) → k < l.low → slice_index l.view.places k ≤ l.offset;
   after : (k : ℕ) → l.high ≤ k → k < length l.view.places → l.offset < slice_index l.view.places k;
+  rising : l.fn.view.count ≤ l.view.count;
   probes : l.view.count + digits (l.high - l.low) ≤ l.fn.view.count + digits (length l.view.places);
 }
 

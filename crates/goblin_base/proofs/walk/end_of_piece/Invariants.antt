@@ -1,4 +1,5 @@
 use Rattle.std.proofs.Common.{◌≡◌, ℕ, ◌+◌, ◌-◌, ◌<◌, ◌≤◌, false, eqb, length, get_or}
+use Rattle.goblin_base.specs.Entries.{CountsAtLeast}
 use Rattle.goblin_base.proofs.walk.end_of_piece.Given as goal
 
 abbrev pub invariant-loop-end : goal.invariant-loop-end
@@ -8,6 +9,7 @@ invariant-loop-end l = record {
   within : l.end ≤ length l.fn.view.bytes;
   none : (k : ℕ) → l.from ≤ k → k < l.end → eqb (get_or l.fn.view.bytes k 0) l.delim ≡ false;
   looks : l.view.count ≤ l.fn.view.count + (l.end - l.from);
+  least : CountsAtLeast l.fn.view.count (l.end - l.from) l.view.count;
 }
 
 abbrev pub decreases-loop-end : goal.decreases-loop-end

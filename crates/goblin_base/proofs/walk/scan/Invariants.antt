@@ -1,4 +1,5 @@
 use Rattle.std.proofs.Common.{◌≡◌, ◌+◌, ◌-◌, ◌≤◌, length}
+use Rattle.goblin_base.specs.Entries.{CountsAtLeast}
 use Rattle.goblin_base.proofs.ScanLemmas.{IsScanned}
 use Rattle.goblin_base.proofs.walk.scan.Given as goal
 
@@ -6,6 +7,7 @@ abbrev pub invariant-loop-at : goal.invariant-loop-at
 invariant-loop-at l = record {
   same : l.view.bytes ≡ l.fn.view.bytes;
   looks : l.view.count ≤ l.fn.view.count + (l.at - l.from);
+  least : CountsAtLeast l.fn.view.count (l.at - l.from) l.view.count;
   scanned : IsScanned l.fn.view.bytes l.delim l.from l.at l.awaited;
 }
 

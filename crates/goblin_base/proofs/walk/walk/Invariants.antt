@@ -1,4 +1,5 @@
 use Rattle.std.proofs.Common.{◌≡◌, ◌+◌, ◌-◌, ◌*◌, ◌≤◌, length, min}
+use Rattle.goblin_base.specs.Entries.{CountsAtLeast}
 use Rattle.goblin_base.specs.Scan.{IsWalkedTo}
 use Rattle.goblin_base.specs.declared.options.ParseMode.TheVariants.{Strict}
 use Rattle.goblin_base.proofs.SoFarLemmas.{IsTextSoFar}
@@ -12,6 +13,8 @@ invariant-loop-i l = record {
   strict : l.mode ≡ Strict → IsTextSoFar l.fn.view.bytes l.delim l.i;
   -- five looks for each byte before i
   looks : l.view.count ≤ l.fn.view.count + 5 * min l.i (length l.fn.view.bytes);
+  -- and one at least
+  least : CountsAtLeast l.fn.view.count (min l.i (length l.fn.view.bytes)) l.view.count;
 }
 
 abbrev pub decreases-loop-i : goal.decreases-loop-i

@@ -1,4 +1,5 @@
 use Rattle.std.proofs.Common.{◌≡◌, ◌+◌, ◌-◌, ◌*◌, ◌≤◌}
+use Rattle.goblin_base.specs.Entries.{CountsAtLeast}
 use Rattle.goblin_base.specs.Scan.{IsWalkedTo}
 use Rattle.goblin_base.proofs.walk.walk_damaged.Given as goal
 
@@ -9,6 +10,7 @@ invariant-loop-i l = record {
   within : l.i ≤ l.end;
   walked : IsWalkedTo l.fn.view.bytes l.delim l.places.items l.i;
   looks : l.view.count ≤ l.fn.view.count + 2 * (l.i - l.from);
+  least : CountsAtLeast l.fn.view.count (l.i - l.from) l.view.count;
 }
 
 abbrev pub decreases-loop-i : goal.decreases-loop-i
