@@ -1,5 +1,6 @@
 -- The notes that iterators give.
-use Rattle.std.specs.Prelude.{◌≡◌, ◌+◌, ◌-◌, ◌≤◌, ℕ, nat_le, nat_lt, sum_by, if◌then◌else◌, List, [], ◌∷◌, length, drop, flat_map, Result, Ok, Err, IfOk}
+use Rattle.std.specs.Prelude.{◌≡◌, ◌+◌, ◌-◌, ◌≤◌, ℕ, nat_le, nat_lt, sum_by, if◌then◌else◌, List, [], ◌∷◌, ◌++◌, length, take, drop, flat_map, Option, Result, Ok, Err, IfOk}
+use Rattle.std.specs.Iterator.{YieldsFirstBy}
 use Rattle.std.specs.Int.{div_ceil}
 use Rattle.std.specs.List.{position_or_len}
 use Rattle.goblin_base.specs.declared.container.Ctx.{Ctx}
@@ -55,6 +56,17 @@ index_of_next it = it.index + spent (drop it.index it.iters.items)
 abbrev pub after_next_of_first : List NoteDataIterator → List NoteDataIterator
 after_next_of_first [] = []
 after_next_of_first (range ∷ ranges) = after_next range ∷ ranges
+
+-- the next item of a range was taken: the first that is left, and nothing else moved
+abbrev pub TakesNote : NoteDataIterator → Option (Result Note Error) → NoteDataIterator → Type 0
+TakesNote it item after = YieldsFirstBy item_of items_left it item after × (after ≡ after_next it)
+
+-- the next item of ranges was taken: the first that is left, and of the ranges only the one that gave it moved
+abbrev pub TakesNoteOfRanges : NoteIterator → Option (Result Note Error) → NoteIterator → Type 0
+TakesNoteOfRanges it item after =
+    YieldsFirstBy item_of all_items_left it item after
+    × (after.index ≡ index_of_next it)
+    × (after.iters.items ≡ take (index_of_next it) it.iters.items ++ after_next_of_first (drop (index_of_next it) it.iters.items))
 
 -- the items of a range are none from its end on; else the note at its offset and the items from the note's end on, or
 -- the refusal alone

@@ -1,6 +1,7 @@
 //! The functions among a file's symbols.
 ghost use Rattle.std.specs.Prelude.{◌≡◌, ◌==◌, ◌%◌, IfOk, IsPermutation, count_by, filter};
 
+use crate::names::push_names;
 use goblin::container::Ctx;
 use goblin::elf::section_header::SectionHeader;
 use goblin::elf::sym::{Sym, Symtab};
@@ -31,18 +32,11 @@ pub fn functions_by_size(alloc: Global, symbols: &Symtab) -> Result<Vec<Sym>>
     Ok(functions)
 }
 
-// The table of the names that a section of strings holds; without one there are none.
-fn names_of<'a>(
-    alloc: Global,
-    bytes: &'a [u8],
-    strings: Option<&SectionHeader>,
-) -> Result<Strtab<'a>> {
-    match strings {
-        Some(section) => {
-            let offset = section.sh_offset as usize;
-            Strtab::parse(alloc, bytes, offset, section.sh_size as usize, 0)
-        }
-        None => Ok(Strtab::default()),
+// The bytes of a section in the file, or none where it has none there.
+fn bytes_of<'a>(bytes: &'a [u8], section: Option<&SectionHeader>) -> &'a [u8] {
+    match section.and_then(|section| section.file_range()) {
+        Some(range) => bytes.get(range).unwrap_or(&[]),
+        None => &[],
     }
 }
 
@@ -57,10 +51,11 @@ pub fn push_functions(
 ) -> Result<()> {
     let count = section.sh_size as usize / Sym::size(ctx.container);
     let symbols = Symtab::parse(bytes, section.sh_offset as usize, count, ctx)?;
-    let names = names_of(alloc, bytes, strings)?;
+    let names = Strtab::new_preparsed(alloc, bytes_of(bytes, strings), 0)?;
     let functions = count_functions(&symbols);
     let all = symbols.len();
     write!(text, "{functions} functions of {all} symbols\n")?;
+    push_names(alloc, text, bytes_of(bytes, strings), 13)?;
     for (index, function) in functions_by_size(alloc, &symbols)?.iter().enumerate() {
         let name = names.get_at(function.st_name).unwrap_or("?");
         let value = function.st_value;

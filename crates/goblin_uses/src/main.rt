@@ -3,6 +3,7 @@
 #![tactic(auto)]
 
 mod functions;
+mod names;
 mod notes;
 mod relocations;
 

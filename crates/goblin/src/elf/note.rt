@@ -75,20 +75,15 @@ impl<'a> NoteDataIterator<'a> {
 /// count from there. A note moves the offset behind it, and an error to `size`, so that it is the last
 /// item. No other field moves, and no item needs memory.
 impl<'a> Iterator for NoteDataIterator<'a> {
-    ghost use Rattle.goblin.specs.Notes.{after_next, item_of, items_left, most_left};
+    ghost use Rattle.goblin.specs.Notes.{TakesNote, item_of, items_left, most_left};
 
     type Item = Result<Note<'a>>;
 
-    ghost next_gives = { YieldsFirstBy item_of items_left };
+    ghost next_gives = { TakesNote };
 
     ghost remaining = { λ it. at_most (most_left it) };
 
-    fn next(&mut self) -> Option<Self::Item>
-        ensures steps { YieldsFirstBy item_of items_left self.old result self.new }
-        ensures goes { MakesProgress (λ _. ⊤) (λ it. at_most (most_left it)) self.old result self.new }
-        // Where the fields are then.
-        ensures moves { self.new ≡ after_next self.old }
-    {
+    fn next(&mut self) -> Option<Self::Item> {
         self.advance()
     }
 
@@ -145,25 +140,15 @@ impl<'a> NoteIterator<'a> {
 /// that gives the item, or to the end of the ranges where none has an item left. Of the ranges only
 /// that one moves, and no item needs memory.
 impl<'a> Iterator for NoteIterator<'a> {
-    ghost use Rattle.goblin.specs.Notes.{after_next_of_first, all_items_left, index_of_next};
-    ghost use Rattle.goblin.specs.Notes.{item_of, most_left_in};
+    ghost use Rattle.goblin.specs.Notes.{TakesNoteOfRanges, most_left_in};
 
     type Item = Result<Note<'a>>;
 
-    ghost next_gives = { YieldsFirstBy item_of all_items_left };
+    ghost next_gives = { TakesNoteOfRanges };
 
     ghost remaining = { λ it. at_most (most_left_in (drop it.index it.iters.items)) };
 
-    fn next(&mut self) -> Option<Self::Item>
-        ensures steps { YieldsFirstBy item_of all_items_left self.old result self.new }
-        ensures goes { MakesProgress (λ _. ⊤)
-            (λ it. at_most (most_left_in (drop it.index it.iters.items))) self.old result self.new }
-        ensures index { self.new.index ≡ index_of_next self.old }
-        // Of the ranges only the one that gave the item has moved.
-        ensures ranges { let at = index_of_next self.old in
-            let old = self.old.iters.items in
-            self.new.iters.items ≡ take at old ++ after_next_of_first (drop at old) }
-    {
+    fn next(&mut self) -> Option<Self::Item> {
         self.advance()
     }
 }

@@ -1,0 +1,62 @@
+//! The names of a file's symbols, read under a count of the bytes and places read.
+ghost use Rattle.std.specs.Prelude.{◌≡◌};
+
+use goblin::error::Result;
+use goblin::options::ParseMode;
+use goblin_base::entries::{Looked, Probes};
+use goblin_base::find::find;
+use goblin_base::walk::walk;
+use std::alloc::Global;
+
+/// The place of the last zero byte, which closes the last name.
+pub fn last_zero(view: &mut Looked<'_>) -> Option<usize>
+    ensures { view.new.bytes ≡ view.old.bytes }
+{
+    let mut last = None;
+    for i in 0..view.len() {
+        if view.at(i) == 0 {
+            last = Some(i);
+        }
+    }
+    last
+}
+
+/// How many bytes the longest name takes, with the zero that closes it, of all but the last.
+pub fn longest(probes: &mut Probes<'_>) -> usize
+    ensures { probes.new.places ≡ probes.old.places }
+{
+    let mut longest = 0;
+    let mut before = 0;
+    for i in 0..probes.len() {
+        let place = probes.at(i);
+        longest = longest.max(place.saturating_sub(before));
+        before = place;
+    }
+    longest
+}
+
+/// How many places the search for an offset reads.
+pub fn probes_of(probes: &mut Probes<'_>, offset: usize) -> u64 {
+    let before = probes.count();
+    let _ = find(probes, offset);
+    probes.count() - before
+}
+
+/// Adds a line on the names in these bytes, of which the one at an offset is looked for.
+pub fn push_names(alloc: Global, text: &mut String, bytes: &[u8], offset: usize) -> Result<()> {
+    let mut view = Looked::new(bytes);
+    let entries = walk(alloc, &mut view, 0, ParseMode::Strict)?;
+    let mut probes = Probes::of(&entries);
+    let count = entries.len();
+    let longest = longest(&mut probes);
+    let looked = probes_of(&mut probes, offset);
+    match last_zero(&mut view) {
+        Some(end) => write!(text, "{count} names up to byte {end}, ")?,
+        None => write!(text, "{count} names, none closed, ")?,
+    }
+    write!(
+        text,
+        "the longest of {longest} bytes, {looked} probes to find one\n"
+    )?;
+    Ok(())
+}
