@@ -4,6 +4,7 @@ ghost use Rattle.std.specs.Prelude.{alloc_error, replicate};
 ghost use Rattle.goblin_base.specs.Eager.{records_in, room_of_each};
 ghost use Rattle.goblin_base.specs.Fields.{values_of};
 ghost use Rattle.goblin_base.specs.Layout.{IsOneImage};
+ghost use Rattle.goblin_base.specs.LayoutLaws.{obeys};
 ghost use Rattle.goblin_base.specs.Record.{read_within, Writes};
 ghost use Rattle.goblin_base.specs.Refusal.{Gives};
 ghost use Rattle.goblin_base.specs.Steps.{with_size};
@@ -202,19 +203,7 @@ impl Record<Endian> for ProgramHeader {
         Ok(ProgramHeader::at(bytes, order))
     }
 
-    ghost size_positive = { λ order. (program_header64_laws order).size_positive };
-
-    ghost length_image = { λ order. (program_header64_laws order).length_image };
-
-    ghost image_bytes = { λ order. (program_header64_laws order).image_bytes };
-
-    ghost writes_image = { λ order header old new answer so. so };
-
-    ghost reads_front = { λ order. (program_header64_laws order).reads_front };
-
-    ghost reads_back = { λ order. (program_header64_laws order).reads_back };
-
-    ghost writes_back = { λ order. (program_header64_laws order).writes_back };
+    ghost laws = { λ order. obeys (program_header64_laws order) };
 }
 
 /// Laws: the numbers of this module's own constants, and of those that it passes on, under the names

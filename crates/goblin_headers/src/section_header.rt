@@ -4,6 +4,7 @@ ghost use Rattle.std.specs.Prelude.{◌≡◌, ◌≤◌, ◌↔◌, ◌++◌, [
 ghost use Rattle.std.specs.Prelude.{IfSome, length, drop, map, replicate};
 ghost use Rattle.goblin_base.specs.Fields.{values_of};
 ghost use Rattle.goblin_base.specs.Layout.{IsOneImage, IsSameInEachClass};
+ghost use Rattle.goblin_base.specs.LayoutLaws.{obeys};
 ghost use Rattle.goblin_base.specs.Record.{read_within, Writes};
 ghost use Rattle.goblin_base.specs.Refusal.{Gives, Refuses};
 ghost use Rattle.goblin_base.specs.Steps.{with_size};
@@ -550,19 +551,7 @@ impl Record<Ctx> for SectionHeader {
         Ok(SectionHeader::at(bytes, ctx))
     }
 
-    ghost size_positive = { λ ctx. (section_header_laws ctx.container ctx.le).size_positive };
-
-    ghost length_image = { λ ctx. (section_header_laws ctx.container ctx.le).length_image };
-
-    ghost image_bytes = { λ ctx. (section_header_laws ctx.container ctx.le).image_bytes };
-
-    ghost writes_image = { λ ctx header old new answer so. so };
-
-    ghost reads_front = { λ ctx. (section_header_laws ctx.container ctx.le).reads_front };
-
-    ghost reads_back = { λ ctx. (section_header_laws ctx.container ctx.le).reads_back };
-
-    ghost writes_back = { λ ctx. (section_header_laws ctx.container ctx.le).writes_back };
+    ghost laws = { λ ctx. obeys (section_header_laws ctx.container ctx.le) };
 }
 
 /// Laws: the numbers of this module's constants. A call does nothing.

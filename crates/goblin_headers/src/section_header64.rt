@@ -3,6 +3,7 @@ ghost use Rattle.std.specs.Prelude.{◌≡◌, ◌≤◌, ◌*◌, ◌++◌, [],
 ghost use Rattle.std.specs.Prelude.{IsOk, alloc_error, replicate};
 ghost use Rattle.goblin_base.specs.Fields.{values_of};
 ghost use Rattle.goblin_base.specs.Layout.{IsOneImage};
+ghost use Rattle.goblin_base.specs.LayoutLaws.{obeys};
 ghost use Rattle.goblin_base.specs.Record.{read_within, Writes};
 ghost use Rattle.goblin_base.specs.Steps.{with_size};
 ghost use Rattle.goblin_base.specs.Table.{records};
@@ -193,19 +194,7 @@ impl Record<Endian> for SectionHeader {
         Ok(SectionHeader::at(bytes, order))
     }
 
-    ghost size_positive = { λ order. (section_header64_laws order).size_positive };
-
-    ghost length_image = { λ order. (section_header64_laws order).length_image };
-
-    ghost image_bytes = { λ order. (section_header64_laws order).image_bytes };
-
-    ghost writes_image = { λ order header old new answer so. so };
-
-    ghost reads_front = { λ order. (section_header64_laws order).reads_front };
-
-    ghost reads_back = { λ order. (section_header64_laws order).reads_back };
-
-    ghost writes_back = { λ order. (section_header64_laws order).writes_back };
+    ghost laws = { λ order. obeys (section_header64_laws order) };
 }
 
 /// Laws: the numbers of this module's own constants, and of those that it passes on, under the names

@@ -1,6 +1,7 @@
 //! Note headers of both classes, and the types of notes: System V gABI, "Note Section".
 ghost use Rattle.std.specs.Prelude.{◌≡◌, ◌≤◌, ◌++◌, [], ◌∷◌, length, drop};
 ghost use Rattle.goblin_base.specs.Layout.{IsOneImage};
+ghost use Rattle.goblin_base.specs.LayoutLaws.{obeys};
 ghost use Rattle.goblin_base.specs.Record.{read_within, Writes};
 ghost use Rattle.goblin_base.specs.Steps.{with_size};
 ghost use Rattle.goblin_records.specs.Nhdr.{nhdr32_of, nhdr32_image, nhdr32_low, nhdr32_size};
@@ -132,19 +133,7 @@ impl Record<Endian> for Nhdr32 {
         Ok(Nhdr32::at(bytes, order))
     }
 
-    ghost size_positive = { λ order. (nhdr32_laws order).size_positive };
-
-    ghost length_image = { λ order. (nhdr32_laws order).length_image };
-
-    ghost image_bytes = { λ order. (nhdr32_laws order).image_bytes };
-
-    ghost writes_image = { λ order header old new answer h. h };
-
-    ghost reads_front = { λ order. (nhdr32_laws order).reads_front };
-
-    ghost reads_back = { λ order. (nhdr32_laws order).reads_back };
-
-    ghost writes_back = { λ order. (nhdr32_laws order).writes_back };
+    ghost laws = { λ order. obeys (nhdr32_laws order) };
 }
 
 /// The header of a note, in words of 8 bytes.
@@ -233,19 +222,7 @@ impl Record<Endian> for Nhdr64 {
         Ok(Nhdr64::at(bytes, order))
     }
 
-    ghost size_positive = { λ order. (nhdr64_laws order).size_positive };
-
-    ghost length_image = { λ order. (nhdr64_laws order).length_image };
-
-    ghost image_bytes = { λ order. (nhdr64_laws order).image_bytes };
-
-    ghost writes_image = { λ order header old new answer h. h };
-
-    ghost reads_front = { λ order. (nhdr64_laws order).reads_front };
-
-    ghost reads_back = { λ order. (nhdr64_laws order).reads_back };
-
-    ghost writes_back = { λ order. (nhdr64_laws order).writes_back };
+    ghost laws = { λ order. obeys (nhdr64_laws order) };
 }
 
 /// Laws: what the constants of this module stand for. A call does nothing.

@@ -3,6 +3,7 @@ ghost use Rattle.std.specs.Prelude.{◌≡◌, ◌<◌, ◌≤◌, ◌^◌, ◌+
 ghost use Rattle.goblin_base.specs.declared.container.Container.TheVariants as class;
 ghost use Rattle.goblin_base.specs.declared.container.Endian.{Endian};
 ghost use Rattle.goblin_base.specs.Layout.{IsOneImage};
+ghost use Rattle.goblin_base.specs.LayoutLaws.{obeys};
 ghost use Rattle.goblin_base.specs.Record.{read_within, Writes};
 ghost use Rattle.goblin_base.specs.Steps.{with_size};
 ghost use Rattle.goblin_records.specs.Reloc64.{rel64_size, rel64_of, rel64_image, rel64_low, rel64_zero};
@@ -236,19 +237,7 @@ impl Record<Endian> for Rela {
         Ok(Rela::at(bytes, order))
     }
 
-    ghost size_positive = { λ order. (rela64_laws order).size_positive };
-
-    ghost length_image = { λ order. (rela64_laws order).length_image };
-
-    ghost image_bytes = { λ order. (rela64_laws order).image_bytes };
-
-    ghost writes_image = { λ order rela old new answer h. h };
-
-    ghost reads_front = { λ order. (rela64_laws order).reads_front };
-
-    ghost reads_back = { λ order. (rela64_laws order).reads_back };
-
-    ghost writes_back = { λ order. (rela64_laws order).writes_back };
+    ghost laws = { λ order. obeys (rela64_laws order) };
 }
 
 impl SizeWith<Endian> for Rel {
@@ -299,19 +288,7 @@ impl Record<Endian> for Rel {
         Ok(Rel::at(bytes, order))
     }
 
-    ghost size_positive = { λ order. (rel64_laws order).size_positive };
-
-    ghost length_image = { λ order. (rel64_laws order).length_image };
-
-    ghost image_bytes = { λ order. (rel64_laws order).image_bytes };
-
-    ghost writes_image = { λ order rel old new answer h. h };
-
-    ghost reads_front = { λ order. (rel64_laws order).reads_front };
-
-    ghost reads_back = { λ order. (rel64_laws order).reads_back };
-
-    ghost writes_back = { λ order. (rel64_laws order).writes_back };
+    ghost laws = { λ order. obeys (rel64_laws order) };
 }
 
 /// Laws: how many bytes relocations take, and which they are; that the default ones are those of zeros;

@@ -4,6 +4,7 @@ ghost use Rattle.std.specs.Prelude.{codes, IsOk};
 ghost use Rattle.goblin_base.specs.declared.container.Container.{Container};
 ghost use Rattle.goblin_base.specs.declared.container.Endian.{Endian};
 ghost use Rattle.goblin_base.specs.Layout.{IsOneImage, IsSameInEachClass};
+ghost use Rattle.goblin_base.specs.LayoutLaws.{obeys};
 ghost use Rattle.goblin_base.specs.Record.{read_within, Writes};
 ghost use Rattle.goblin_base.specs.Steps.{with_size};
 ghost use Rattle.goblin_base.specs.Refusal.{buffer_too_short, Gives, Refuses};
@@ -354,19 +355,7 @@ impl Record<Ctx> for Sym {
         Ok(Sym::at(bytes, ctx))
     }
 
-    ghost size_positive = { λ ctx. (sym_laws ctx.container ctx.le).size_positive };
-
-    ghost length_image = { λ ctx. (sym_laws ctx.container ctx.le).length_image };
-
-    ghost image_bytes = { λ ctx. (sym_laws ctx.container ctx.le).image_bytes };
-
-    ghost writes_image = { λ ctx sym old new answer h. h };
-
-    ghost reads_front = { λ ctx. (sym_laws ctx.container ctx.le).reads_front };
-
-    ghost reads_back = { λ ctx. (sym_laws ctx.container ctx.le).reads_back };
-
-    ghost writes_back = { λ ctx. (sym_laws ctx.container ctx.le).writes_back };
+    ghost laws = { λ ctx. obeys (sym_laws ctx.container ctx.le) };
 }
 
 /// Laws: the numbers of this module's constants. A call does nothing.

@@ -2,6 +2,7 @@
 ghost use Rattle.std.specs.Prelude.{◌≡◌, ◌≤◌, ◌↔◌, ◌++◌, [], ◌∷◌, IsTrue, length, drop};
 ghost use Rattle.goblin_base.specs.declared.container.Endian.{Endian};
 ghost use Rattle.goblin_base.specs.Layout.{IsOneImage};
+ghost use Rattle.goblin_base.specs.LayoutLaws.{obeys};
 ghost use Rattle.goblin_base.specs.Record.{read_within, Writes};
 ghost use Rattle.goblin_base.specs.Steps.{with_size};
 ghost use Rattle.goblin_records.specs.declared.sym64.Sym.{Sym};
@@ -166,19 +167,7 @@ impl Record<Endian> for Sym {
         Ok(Sym::at(bytes, order))
     }
 
-    ghost size_positive = { λ order. (sym64_laws order).size_positive };
-
-    ghost length_image = { λ order. (sym64_laws order).length_image };
-
-    ghost image_bytes = { λ order. (sym64_laws order).image_bytes };
-
-    ghost writes_image = { λ order sym old new answer h. h };
-
-    ghost reads_front = { λ order. (sym64_laws order).reads_front };
-
-    ghost reads_back = { λ order. (sym64_laws order).reads_back };
-
-    ghost writes_back = { λ order. (sym64_laws order).writes_back };
+    ghost laws = { λ order. obeys (sym64_laws order) };
 }
 
 /// Laws: the numbers of this module's own constants, and of those that it passes on, under the names
