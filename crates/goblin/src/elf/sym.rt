@@ -1,8 +1,6 @@
 //! Symbols and symbol tables: System V gABI, "Symbol Table".
 ghost use Rattle.std.specs.Prelude.{◌≡◌, ◌≤◌, ◌<◌, ◌-◌, ◌*◌, ◌^◌, ◌↔◌, [], ◌∷◌, length, slice_get, IsTrue, IfOk, IfErr};
-ghost use Rattle.std.specs.Prelude.{IfSome, alloc_error};
-ghost use Rattle.std.specs.Iterator.{UpTo, YieldsFirst, item_count};
-ghost use Rattle.std.specs.Iterator.SizeHint.{IsWithinCount};
+ghost use Rattle.std.specs.Prelude.{alloc_error};
 ghost use Rattle.goblin.specs.Symtab.{symbols_at, symtab_by, symtab_of};
 ghost use Rattle.goblin.specs.Symtab.{DependsOnItsRange, PermissiveKeepsStrict};
 ghost use Rattle.goblin_records.specs.Sym.{sym_size};
@@ -152,9 +150,7 @@ impl<'a> Symtab<'a> {
         ensures exact { result ≡ self.now.symbols }
         ensures bound { length self.now.symbols < 2 ^ 64 }
     {
-        SymIterator {
-            inner: self.table.iter(),
-        }
+        self.table.iter()
     }
 
     /// The symbols as a vector. Only want of memory is an error.
@@ -203,47 +199,7 @@ impl<'a, 'b> IntoIterator for &'b Symtab<'a> {
 }
 
 /// An iterator over the symbols of a table: from the first to the last, and `None` from then on.
-#[derive(Debug, Drop)]
-pub struct SymIterator<'a> {
-    inner: TableIter<'a, Sym, Ctx>,
-}
-
-// An iterator is seen as the list of the symbols that are left.
-impl<'a> Model for SymIterator<'a> {
-    ghost use Rattle.std.specs.Prelude.{List};
-    ghost use Rattle.goblin_records.specs.declared.sym.Sym.{Sym};
-
-    ghost Value = { List Sym };
-
-    ghost view = { λ it. it.inner };
-}
-
-impl<'a> Iterator for SymIterator<'a> {
-    type Item = Sym;
-
-    ghost next_gives = { YieldsFirst (λ left. left) };
-
-    ghost remaining = { item_count (λ left. left) };
-
-    fn next(&mut self) -> Option<Self::Item> {
-        self.inner.next()
-    }
-
-    fn size_hint(&self) -> (usize, Option<usize>)
-        ensures lower { IsWithinCount result.0 (item_count (λ left. left) self.now) }
-        ensures upper { IfSome result.1 (UpTo (item_count (λ left. left) self.now)) }
-        // Both bounds are the number of symbols that are left.
-        ensures exact { result ≡ (length self.now, Some (length self.now)) }
-    {
-        self.inner.size_hint()
-    }
-}
-
-impl<'a> ExactSizeIterator for SymIterator<'a> {
-    fn len(&self) -> usize {
-        self.inner.len()
-    }
-}
+pub type SymIterator<'a> = TableIter<'a, Sym, Ctx>;
 
 /// Laws: what the constants that this module passes on stand for. A call does nothing.
 pub fn constants()
