@@ -3,9 +3,7 @@ ghost use Rattle.std.specs.Prelude.{◌≡◌, ◌≤◌, ◌++◌, length, drop
 ghost use Rattle.goblin_base.specs.LayoutLaws.{obeys};
 ghost use Rattle.goblin_base.specs.Record.{read_within, Writes};
 ghost use Rattle.goblin_base.specs.Steps.{with_size};
-ghost use Rattle.goblin_records.specs.Reloc.{reloc_size, reloc_of, reloc_image};
-ghost use Rattle.goblin_records.specs.Reloc.{as_meant, as_stored, reloc_in, reloc_image_in};
-ghost use Rattle.goblin_records.specs.Reloc.{OneImage, SameInEachClass, reloc_zero};
+ghost use Rattle.goblin_records.specs.Reloc.{reloc_size, reloc_of, reloc_image, as_meant, as_stored, reloc_in, reloc_image_in, OneImage, SameInEachClass, reloc_zero};
 
 pub use crate::{reloc32, reloc64};
 use goblin_base::container::{Container, Ctx};
@@ -251,8 +249,8 @@ impl Record<RelocCtx> for Reloc {
     ghost laws = { λ c. obeys (reloc_laws_in c) };
 }
 
-/// Laws: which bytes a relocation is written as, that classes and byte orders keep lists of relocations the
-/// same, and that the default relocation is that of zeros, without an addend. A call does nothing.
+/// Laws: which bytes a relocation is written as, that classes and byte orders keep lists of
+/// relocations the same, and that the default relocation is that of zeros, without an addend.
 pub fn laws()
     ensures image { OneImage }
     ensures same { SameInEachClass }

@@ -1,13 +1,12 @@
 //! Relocations of the 32-bit class: System V gABI, "Relocation" (`Elf32_Rel` and `Elf32_Rela`).
 ghost use Rattle.std.specs.Prelude.{◌≡◌, ◌≤◌, ◌++◌, length, drop};
-ghost use Rattle.goblin_base.specs.declared.container.Container.TheVariants as class;
-ghost use Rattle.goblin_base.specs.declared.container.Endian.{Endian};
 ghost use Rattle.goblin_base.specs.Layout.{IsOneImage};
 ghost use Rattle.goblin_base.specs.LayoutLaws.{obeys};
 ghost use Rattle.goblin_base.specs.Record.{read_within, Writes};
 ghost use Rattle.goblin_base.specs.Steps.{with_size};
-ghost use Rattle.goblin_records.specs.Reloc32.{rel32_size, rel32_of, rel32_image, rel32_low, rel32_zero};
-ghost use Rattle.goblin_records.specs.Reloc32.{rela32_size, rela32_of, rela32_image, rela32_low, rela32_zero};
+ghost use Rattle.goblin_base.specs.declared.container.Container.TheVariants as class;
+ghost use Rattle.goblin_base.specs.declared.container.Endian.{Endian};
+ghost use Rattle.goblin_records.specs.Reloc32.{rel32_size, rel32_of, rel32_image, rel32_low, rel32_zero, rela32_size, rela32_of, rela32_image, rela32_low, rela32_zero};
 ghost use Rattle.goblin_records.specs.RelocInfo.{symbol_in, type_in, info_of, JoinsItsParts};
 
 use crate::reloc::Reloc;
@@ -274,8 +273,8 @@ impl Record<Endian> for Rel {
     ghost laws = { λ order. obeys (rel32_laws order) };
 }
 
-/// Laws: how many bytes relocations take, and which they are; that the default ones are those of zeros;
-/// that an `r_info` is joined again from its parts. A call does nothing.
+/// Laws: how many bytes relocations take, and which they are; that the default ones are those of
+/// zeros; that an `r_info` is joined again from its parts.
 pub fn laws()
     ensures sizes { (SIZEOF_RELA ≡ rela32_size) × (SIZEOF_REL ≡ rel32_size) }
     ensures rela_image { (order : Endian) →
