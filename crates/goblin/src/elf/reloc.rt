@@ -161,8 +161,7 @@ pub fn is_mips64el(header: &Header) -> bool
         && header.e_ident[EI_DATA] == ELFDATA2LSB
 }
 
-/// Laws: that a relocation section depends on its own bytes alone, and is written as them. A call does
-/// nothing.
+/// Laws: that a relocation section depends on its own bytes alone, and is written as them.
 pub fn laws()
     ensures range { DependsOnItsRange }
     ensures bytes { WritesItsBytes }

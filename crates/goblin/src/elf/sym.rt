@@ -201,7 +201,7 @@ impl<'a, 'b> IntoIterator for &'b Symtab<'a> {
 /// An iterator over the symbols of a table: from the first to the last, and `None` from then on.
 pub type SymIterator<'a> = TableIter<'a, Sym, Ctx>;
 
-/// Laws: what the constants that this module passes on stand for. A call does nothing.
+/// Laws: what the constants that this module passes on stand for.
 pub fn constants()
     ensures bindings { STB_LOCAL ∷ STB_GLOBAL ∷ STB_WEAK ∷ STB_NUM ∷ STB_LOOS ∷ STB_GNU_UNIQUE ∷
         STB_HIOS ∷ STB_LOPROC ∷ STB_HIPROC ∷ []
@@ -215,8 +215,8 @@ pub fn constants()
         ≡ 0 ∷ 1 ∷ 2 ∷ 3 ∷ 4 ∷ 5 ∷ 6 ∷ [] }
 {}
 
-/// Laws: where a table is accepted strictly, the permissive reading gives the same table; and a table
-/// depends on the bytes of its range alone. A call does nothing.
+/// Laws: where a table is accepted strictly, the permissive reading gives the same table; and a
+/// table depends on the bytes of its range alone.
 pub fn laws()
     ensures permissive { PermissiveKeepsStrict }
     ensures range { DependsOnItsRange }
