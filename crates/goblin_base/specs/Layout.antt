@@ -1,10 +1,12 @@
 -- Records of one size, and how their fields lie in bytes. These are what the laws of all records are stated about.
-use Rattle.std.specs.Prelude.{◌≡◌, ◌↔◌, ◌≤◌, ◌<◌, ℕ, List, ◌++◌, All, flat_map, length, take}
+use Rattle.std.specs.Prelude.{◌≡◌, ◌↔◌, ◌≤◌, ◌<◌, ℕ, List, ◌++◌, All, flat_map, length, take, Result}
 use Rattle.goblin_base.specs.declared.container.Container.{Container}
 use Rattle.goblin_base.specs.declared.container.Container.TheVariants.{Little, Big}
 use Rattle.goblin_base.specs.declared.container.Endian.{Endian}
+use Rattle.goblin_base.specs.declared.error.Error.{Error}
 use Rattle.goblin_base.specs.Fields.{Field, FieldsFit, values_at, fields_at, total, widths_of, values_of, lows_of}
 use Rattle.goblin_base.specs.Number.{IsBytes}
+use Rattle.goblin_base.specs.Record.{Writes}
 use Rattle.goblin_base.specs.Table.{records}
 
 -- the fields of a record, numbers of these widths that lie one after another, are what it is read from and written as:
@@ -40,6 +42,13 @@ pub record IsRecord {R : Type 0} (size : ℕ) (read : List ℕ → R) (image : R
   pub reads_low : (x : R) → read (image x) ≡ low x
   -- bytes that were read are written back
   pub writes_back : (bytes : List ℕ) → IsBytes bytes → size ≤ length bytes → image (read bytes) ≡ take size bytes
+
+-- what every type of records obeys: the laws of records, of which some bits are the low ones, and of what writing answers
+pub record Obeys {R : Type 0} (size : ℕ) (read : List ℕ → R) (image : R → List ℕ) (Fits : R → Type 0) (writes : R → List ℕ → Result ℕ Error → List ℕ → Type 0) : Type 0 where
+  pub low : R → R
+  pub is_record : IsRecord size read image low Fits
+  -- writing leaves the image in front and the other bytes as they were, or it refuses and changes nothing
+  pub writes_image : (x : R) (old new : List ℕ) (answer : Result ℕ Error) → writes x old answer new → Writes size (image x) old answer new
 
 -- the image of a record is the one list of bytes of its size that reads as the low bits of its fields
 abbrev pub IsOneImage : {R : Type 0} → ℕ → (List ℕ → R) → (R → List ℕ) → (R → R) → Type 0

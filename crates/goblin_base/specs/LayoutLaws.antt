@@ -6,8 +6,9 @@ use Rattle.goblin_base.specs.declared.container.Container.TheVariants.{Little, B
 use Rattle.goblin_base.specs.declared.container.Endian.{Endian}
 use Rattle.goblin_base.specs.Fields.{Field, values_at, total, widths_of, size_of_fields, image_of_fields}
 use Rattle.goblin_base.specs.FieldLaws.{values_at-append, values_at-image_low, lows_of-fits, image-fields_at, length-image_of_fields, IsBytes-image_of_fields}
-use Rattle.goblin_base.specs.Layout.{IsLayout, IsRecord, IsOneImage, IsSameInEachClass}
+use Rattle.goblin_base.specs.Layout.{IsLayout, IsRecord, Obeys, IsOneImage, IsSameInEachClass}
 use Rattle.goblin_base.specs.Number.{IsBytes}
+use Rattle.goblin_base.specs.Record.{Writes}
 use Rattle.goblin_base.specs.TableLaws.{records-flat_map}
 
 -- fields take as many bytes as their widths add up to
@@ -65,6 +66,10 @@ converted_laws {size = size} {image = image} widen narrow BothFit laws there bac
 }
 
 module _ {R : Type 0} {size : ℕ} {read : List ℕ → R} {image : R → List ℕ} {low : R → R} {Fits : R → Type 0} (laws : IsRecord size read image low Fits) where
+  -- records whose writing leaves their image obey all laws
+  pub obeys : Obeys size read image Fits (λ x. Writes size (image x))
+  obeys = record { low = low; is_record = laws; writes_image = λ x old new answer so. so }
+
   whole : (bytes : List ℕ) → length bytes ≡ size → take size bytes ≡ bytes
   whole bytes long = take_all size bytes (omega arith)
 

@@ -121,7 +121,7 @@ impl From<Endian> for Ctx {
     }
 }
 
-/// A law: what the constants of this module stand for. A call does nothing.
+/// A law: what the constants of this module stand for.
 pub fn constants()
     ensures orders { (LE ≡ Endian.Little) × (BE ≡ Endian.Big) }
     ensures class { CONTAINER ≡ Container.Big }

@@ -151,7 +151,7 @@ pub fn put_i64(bytes: &mut [u8], place: usize, value: i64, order: Endian)
     put_u64(bytes, place, value.cast_unsigned(), order);
 }
 
-/// Laws: a number of one width has one spelling, and is read where it was put. A call does nothing.
+/// Laws: a number of one width has one spelling, and is read where it was put.
 pub fn spellings()
     ensures width { SpellsWidth }
     ensures reads_back { ReadsSpelling }
@@ -159,8 +159,7 @@ pub fn spellings()
     ensures there { ReadsWhatWasPut }
 {}
 
-/// Laws: a signed number of one width has one spelling, and is read where it was put. A call does
-/// nothing.
+/// Laws: a signed number of one width has one spelling, and is read where it was put.
 pub fn signed_spellings()
     ensures reads_back { ReadsSigned }
     ensures spells_back { SpellsSigned }

@@ -324,7 +324,7 @@ fn rest_of(text: &str, from: usize) -> Option<&str>
     }
 }
 
-/// Laws of string tables, over their definitions alone. A call does nothing.
+/// Laws of string tables, over their definitions alone.
 pub fn laws()
     ensures text_is_utf8 { TextIsUtf8 }
     ensures closed_form { ClosedForm }

@@ -262,8 +262,7 @@ pub fn read_in_range<R: Record<C>, C: Copy>(
     Table::of(&bytes[offset..], count, ctx).to_vec(alloc)
 }
 
-/// A law: a list of records that fit, written one after another, is read as the same list. A call
-/// does nothing.
+/// A law: a list of records that fit, written one after another, is read as the same list.
 pub fn read_back<R: Record<C>, C: Copy>()
     ensures { (ctx : C) (all : List R)
         → All (R.fits ctx) all
@@ -271,7 +270,7 @@ pub fn read_back<R: Record<C>, C: Copy>()
 {}
 
 /// A law: the records of a range depend on that range alone, so that byte lists that agree on it
-/// hold the same records there. A call does nothing.
+/// hold the same records there.
 pub fn same_range<R: Record<C>, C: Copy>()
     ensures { (ctx : C) (count : ℕ) (bytes others : List ℕ)
         → take (count * R.size_of ctx) bytes ≡ take (count * R.size_of ctx) others

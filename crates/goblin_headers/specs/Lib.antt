@@ -1,3 +1,4 @@
+pub mod Constants
 pub mod Header
 pub mod Header32
 pub mod Header64

@@ -2,6 +2,8 @@
 #![tactic(auto)]
 
 mod constants_header;
+mod constants_program_header;
+mod constants_section_header;
 pub mod header;
 pub mod header32;
 pub mod header64;

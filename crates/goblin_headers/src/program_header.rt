@@ -1,127 +1,31 @@
 //! Program headers, which tell how a file is loaded: System V gABI, "Program Header".
 ghost use Rattle.std.specs.Int.{IsBitSet};
 ghost use Rattle.std.specs.Int.Bits.{bit_or};
-ghost use Rattle.std.specs.Prelude.{◌≡◌, ◌≤◌, ◌↔◌, ◌++◌, [], ◌∷◌, IsTrue, IfErr, IsOk, length};
-ghost use Rattle.std.specs.Prelude.{drop, replicate};
+ghost use Rattle.std.specs.Prelude.{◌≡◌, ◌≤◌, ◌↔◌, ◌++◌, IsTrue, IfErr, IsOk, length, drop, replicate};
 ghost use Rattle.goblin_base.specs.Fields.{values_of};
 ghost use Rattle.goblin_base.specs.Layout.{IsOneImage, IsSameInEachClass};
+ghost use Rattle.goblin_base.specs.LayoutLaws.{obeys};
 ghost use Rattle.goblin_base.specs.Record.{read_within, Writes};
 ghost use Rattle.goblin_base.specs.Refusal.{Gives, Refuses};
 ghost use Rattle.goblin_base.specs.Steps.{with_size};
 ghost use Rattle.goblin_base.specs.declared.container.Container.{Container};
 ghost use Rattle.goblin_base.specs.declared.container.Endian.{Endian};
-ghost use Rattle.goblin_headers.specs.ProgramHeader.{as64, program_header_size, program_header_of};
-ghost use Rattle.goblin_headers.specs.ProgramHeader.{program_header_image, program_header_low};
-ghost use Rattle.goblin_headers.specs.ProgramHeader.{ProgramHeaderFits};
+ghost use Rattle.goblin_headers.specs.Constants.{program_header_numbers};
+ghost use Rattle.goblin_headers.specs.ProgramHeader.{as64, program_header_size, program_header_of, program_header_image, program_header_low, ProgramHeaderFits};
 ghost use Rattle.goblin_headers.specs.ProgramHeader64.{program_header64_fields};
-ghost use Rattle.goblin_headers.specs.ProgramHeaders.{new_program_header, program_headers_from};
-ghost use Rattle.goblin_headers.specs.ProgramHeaders.{program_headers_tested};
+ghost use Rattle.goblin_headers.specs.ProgramHeaders.{new_program_header, program_headers_from, program_headers_tested};
 ghost use Rattle.goblin_headers.specs.Ranges.{span};
-ghost use Rattle.goblin_headers.specs.SegmentNames.{segment_name};
 
+use crate::constants_program_header::program_header_constants;
 pub use crate::{program_header32, program_header64};
 use goblin_base::container::{Container, Ctx};
 use goblin_base::error::Result;
-use goblin_base::names::name_of;
 use goblin_base::number::room;
 use goblin_base::record::Record;
 use goblin_base::scroll::{SizeWith, TryFromCtx, TryIntoCtx};
 use goblin_base::table::read_all;
 use std::alloc::Global;
 use std::ops::Range;
-
-// What a segment is.
-
-/// No segment.
-pub const PT_NULL: u32 = 0;
-/// A segment that is loaded.
-pub const PT_LOAD: u32 = 1;
-/// What dynamic linking needs.
-pub const PT_DYNAMIC: u32 = 2;
-/// The path of the interpreter.
-pub const PT_INTERP: u32 = 3;
-/// Notes.
-pub const PT_NOTE: u32 = 4;
-/// Left without a meaning by the standard.
-pub const PT_SHLIB: u32 = 5;
-/// The table of program headers itself.
-pub const PT_PHDR: u32 = 6;
-/// The storage that each thread has its own copy of.
-pub const PT_TLS: u32 = 7;
-/// One more than the greatest type that the standard gives out.
-pub const PT_NUM: u32 = 8;
-/// The first type that is left to operating systems.
-pub const PT_LOOS: u32 = 0x6000_0000;
-/// The table that unwinding looks frames up in (GNU).
-pub const PT_GNU_EH_FRAME: u32 = 0x6474_e550;
-/// Notes on properties, for the linker and the loader (GNU).
-pub const PT_GNU_PROPERTY: u32 = 0x6474_e553;
-/// Whether the stack may be executed (GNU).
-pub const PT_GNU_STACK: u32 = 0x6474_e551;
-/// What becomes read-only once it is relocated (GNU).
-pub const PT_GNU_RELRO: u32 = 0x6474_e552;
-/// The first type of Sun.
-pub const PT_LOSUNW: u32 = 0x6fff_fffa;
-/// Data that begins as zeros (Sun).
-pub const PT_SUNWBSS: u32 = 0x6fff_fffa;
-/// The stack (Sun).
-pub const PT_SUNWSTACK: u32 = 0x6fff_fffb;
-/// The last type of Sun.
-pub const PT_HISUNW: u32 = 0x6fff_ffff;
-/// The last type that is left to operating systems.
-pub const PT_HIOS: u32 = 0x6fff_ffff;
-/// The first type that is left to processors.
-pub const PT_LOPROC: u32 = 0x7000_0000;
-/// The table that unwinding looks functions up in (ARM).
-pub const PT_ARM_EXIDX: u32 = 0x7000_0001;
-/// The last type that is left to processors.
-pub const PT_HIPROC: u32 = 0x7fff_ffff;
-
-// What may be done with a segment.
-
-/// The segment may be executed.
-pub const PF_X: u32 = 1;
-/// The segment may be written.
-pub const PF_W: u32 = 1 << 1;
-/// The segment may be read.
-pub const PF_R: u32 = 1 << 2;
-/// The flags that are left to operating systems.
-pub const PF_MASKOS: u32 = 0x0ff0_0000;
-/// The flags that are left to processors.
-pub const PF_MASKPROC: u32 = 0xf000_0000;
-
-// The names of segment types.
-static TYPES: [(u32, &str); 20] = [
-    (PT_NULL, "PT_NULL"),
-    (PT_LOAD, "PT_LOAD"),
-    (PT_DYNAMIC, "PT_DYNAMIC"),
-    (PT_INTERP, "PT_INTERP"),
-    (PT_NOTE, "PT_NOTE"),
-    (PT_SHLIB, "PT_SHLIB"),
-    (PT_PHDR, "PT_PHDR"),
-    (PT_TLS, "PT_TLS"),
-    (PT_NUM, "PT_NUM"),
-    (PT_LOOS, "PT_LOOS"),
-    (PT_GNU_EH_FRAME, "PT_GNU_EH_FRAME"),
-    (PT_GNU_PROPERTY, "PT_GNU_PROPERTY"),
-    (PT_GNU_STACK, "PT_GNU_STACK"),
-    (PT_GNU_RELRO, "PT_GNU_RELRO"),
-    (PT_SUNWBSS, "PT_SUNWBSS"),
-    (PT_SUNWSTACK, "PT_SUNWSTACK"),
-    (PT_HIOS, "PT_HIOS"),
-    (PT_LOPROC, "PT_LOPROC"),
-    (PT_ARM_EXIDX, "PT_ARM_EXIDX"),
-    (PT_HIPROC, "PT_HIPROC"),
-];
-
-/// The name of a segment type with its prefix, or `UNKNOWN_PT`. Where two constants have one number,
-/// the name is `PT_SUNWBSS` or `PT_HIOS`.
-#[tactic(auto, unfolding(crate::specs::SegmentNames::segment_name))]
-pub fn pt_to_str(pt: u32) -> &'static str
-    ensures { result.now ≡ segment_name pt }
-{
-    name_of(&TYPES, pt, "UNKNOWN_PT")
-}
 
 /// A program header of either class.
 #[derive(Clone, Debug, Default, Drop, PartialEq)]
@@ -323,39 +227,11 @@ impl Record<Ctx> for ProgramHeader {
         Ok(ProgramHeader::at(bytes, ctx))
     }
 
-    ghost size_positive = { λ ctx. (program_header_laws ctx.container ctx.le).size_positive };
-
-    ghost length_image = { λ ctx. (program_header_laws ctx.container ctx.le).length_image };
-
-    ghost image_bytes = { λ ctx. (program_header_laws ctx.container ctx.le).image_bytes };
-
-    ghost writes_image = { λ ctx header old new answer so. so };
-
-    ghost reads_front = { λ ctx. (program_header_laws ctx.container ctx.le).reads_front };
-
-    ghost reads_back = { λ ctx. (program_header_laws ctx.container ctx.le).reads_back };
-
-    ghost writes_back = { λ ctx. (program_header_laws ctx.container ctx.le).writes_back };
+    ghost laws = { λ ctx. obeys (program_header_laws ctx.container ctx.le) };
 }
 
-/// Laws: the numbers of this module's constants. A call does nothing.
-pub fn constants()
-    ensures types { PT_NULL ∷ PT_LOAD ∷ PT_DYNAMIC ∷ PT_INTERP ∷ PT_NOTE ∷ PT_SHLIB ∷ PT_PHDR
-        ∷ PT_TLS ∷ PT_NUM ∷ []
-        ≡ 0 ∷ 1 ∷ 2 ∷ 3 ∷ 4 ∷ 5 ∷ 6 ∷ 7 ∷ 8 ∷ [] }
-    ensures ranges { PT_LOOS ∷ PT_HIOS ∷ PT_LOPROC ∷ PT_HIPROC ∷ []
-        ≡ 0x60000000 ∷ 0x6fffffff ∷ 0x70000000 ∷ 0x7fffffff ∷ [] }
-    ensures gnu { PT_GNU_EH_FRAME ∷ PT_GNU_STACK ∷ PT_GNU_RELRO ∷ PT_GNU_PROPERTY ∷ []
-        ≡ 0x6474e550 ∷ 0x6474e551 ∷ 0x6474e552 ∷ 0x6474e553 ∷ [] }
-    ensures sun { PT_LOSUNW ∷ PT_SUNWBSS ∷ PT_SUNWSTACK ∷ PT_HISUNW ∷ []
-        ≡ 0x6ffffffa ∷ 0x6ffffffa ∷ 0x6ffffffb ∷ 0x6fffffff ∷ [] }
-    ensures arm { PT_ARM_EXIDX ≡ 0x70000001 }
-    ensures flags { PF_X ∷ PF_W ∷ PF_R ∷ PF_MASKOS ∷ PF_MASKPROC ∷ []
-        ≡ 1 ∷ 2 ∷ 4 ∷ 0x0ff00000 ∷ 0xf0000000 ∷ [] }
-{}
-
 /// Laws: which bytes a program header is written as, and that classes and byte orders keep lists of
-/// program headers the same. A call does nothing.
+/// program headers the same.
 pub fn laws()
     ensures image { (class : Container) (order : Endian) →
         IsOneImage (program_header_size class) (program_header_of class order) (program_header_image class order) (program_header_low class) }
@@ -367,4 +243,22 @@ pub fn default_is_zeros() -> ProgramHeader
     ensures { values_of (program_header64_fields (as64 result)) ≡ replicate 8 0 }
 {
     ProgramHeader::default()
+}
+
+// What a segment is.
+pub use crate::constants_program_header::{
+    PT_ARM_EXIDX, PT_DYNAMIC, PT_GNU_EH_FRAME, PT_GNU_PROPERTY, PT_GNU_RELRO, PT_GNU_STACK,
+    PT_HIOS, PT_HIPROC, PT_HISUNW, PT_INTERP, PT_LOAD, PT_LOOS, PT_LOPROC, PT_LOSUNW, PT_NOTE,
+    PT_NULL, PT_NUM, PT_PHDR, PT_SHLIB, PT_SUNWBSS, PT_SUNWSTACK, PT_TLS, pt_to_str,
+};
+
+// What may be done with a segment.
+pub use crate::constants_program_header::{PF_MASKOS, PF_MASKPROC, PF_R, PF_W, PF_X};
+
+/// A law: the numbers of the constants that this module passes on, under the names that they have
+/// here, which a call answers.
+pub fn constants() -> ([u32; 22], [u32; 5])
+    ensures numbers { result ≡ program_header_numbers }
+{
+    program_header_constants!()
 }

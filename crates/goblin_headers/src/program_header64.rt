@@ -1,18 +1,18 @@
 //! Program headers of the 64-bit class: System V gABI, "Program Header" (`Elf64_Phdr`).
-ghost use Rattle.std.specs.Prelude.{◌≡◌, ◌≤◌, ◌*◌, ◌++◌, [], ◌∷◌, length, drop, IfErr, IfOk, IsOk};
-ghost use Rattle.std.specs.Prelude.{alloc_error, replicate};
+ghost use Rattle.std.specs.Prelude.{◌≡◌, ◌≤◌, ◌*◌, ◌++◌, length, drop, IfErr, IfOk, IsOk, alloc_error, replicate};
 ghost use Rattle.goblin_base.specs.Eager.{records_in, room_of_each};
 ghost use Rattle.goblin_base.specs.Fields.{values_of};
 ghost use Rattle.goblin_base.specs.Layout.{IsOneImage};
+ghost use Rattle.goblin_base.specs.LayoutLaws.{obeys};
 ghost use Rattle.goblin_base.specs.Record.{read_within, Writes};
 ghost use Rattle.goblin_base.specs.Refusal.{Gives};
 ghost use Rattle.goblin_base.specs.Steps.{with_size};
 ghost use Rattle.goblin_base.specs.Table.{records};
 ghost use Rattle.goblin_base.specs.declared.container.Endian.{Endian};
-ghost use Rattle.goblin_headers.specs.ProgramHeader64.{program_header64_fields};
-ghost use Rattle.goblin_headers.specs.ProgramHeader64.{program_header64_of, program_header64_image};
-ghost use Rattle.goblin_headers.specs.ProgramHeader64.{program_header64_size, program_header64_low};
+ghost use Rattle.goblin_headers.specs.Constants.{program_header_numbers};
+ghost use Rattle.goblin_headers.specs.ProgramHeader64.{program_header64_fields, program_header64_of, program_header64_image, program_header64_size, program_header64_low};
 
+use crate::constants_program_header::program_header_constants;
 use crate::program_header::ProgramHeader as ElfProgramHeader;
 use goblin_base::container::Endian;
 use goblin_base::error::{Error, Result};
@@ -202,41 +202,10 @@ impl Record<Endian> for ProgramHeader {
         Ok(ProgramHeader::at(bytes, order))
     }
 
-    ghost size_positive = { λ order. (program_header64_laws order).size_positive };
-
-    ghost length_image = { λ order. (program_header64_laws order).length_image };
-
-    ghost image_bytes = { λ order. (program_header64_laws order).image_bytes };
-
-    ghost writes_image = { λ order header old new answer so. so };
-
-    ghost reads_front = { λ order. (program_header64_laws order).reads_front };
-
-    ghost reads_back = { λ order. (program_header64_laws order).reads_back };
-
-    ghost writes_back = { λ order. (program_header64_laws order).writes_back };
+    ghost laws = { λ order. obeys (program_header64_laws order) };
 }
 
-/// Laws: the numbers of this module's own constants, and of those that it passes on, under the names
-/// that they have here. A call does nothing.
-pub fn constants()
-    ensures size { SIZEOF_PHDR ≡ program_header64_size }
-
-    ensures types { PT_NULL ∷ PT_LOAD ∷ PT_DYNAMIC ∷ PT_INTERP ∷ PT_NOTE ∷ PT_SHLIB ∷ PT_PHDR
-        ∷ PT_TLS ∷ PT_NUM ∷ []
-        ≡ 0 ∷ 1 ∷ 2 ∷ 3 ∷ 4 ∷ 5 ∷ 6 ∷ 7 ∷ 8 ∷ [] }
-    ensures ranges { PT_LOOS ∷ PT_HIOS ∷ PT_LOPROC ∷ PT_HIPROC ∷ []
-        ≡ 0x60000000 ∷ 0x6fffffff ∷ 0x70000000 ∷ 0x7fffffff ∷ [] }
-    ensures gnu { PT_GNU_EH_FRAME ∷ PT_GNU_STACK ∷ PT_GNU_RELRO ∷ PT_GNU_PROPERTY ∷ []
-        ≡ 0x6474e550 ∷ 0x6474e551 ∷ 0x6474e552 ∷ 0x6474e553 ∷ [] }
-    ensures sun { PT_LOSUNW ∷ PT_SUNWBSS ∷ PT_SUNWSTACK ∷ PT_HISUNW ∷ []
-        ≡ 0x6ffffffa ∷ 0x6ffffffa ∷ 0x6ffffffb ∷ 0x6fffffff ∷ [] }
-    ensures arm { PT_ARM_EXIDX ≡ 0x70000001 }
-    ensures flags { PF_X ∷ PF_W ∷ PF_R ∷ PF_MASKOS ∷ PF_MASKPROC ∷ []
-        ≡ 1 ∷ 2 ∷ 4 ∷ 0x0ff00000 ∷ 0xf0000000 ∷ [] }
-{}
-
-/// A law: which bytes a program header is written as. A call does nothing.
+/// A law: which bytes a program header is written as.
 pub fn laws()
     ensures image { (order : Endian) →
         IsOneImage program_header64_size (program_header64_of order) (program_header64_image order) program_header64_low }
@@ -250,11 +219,20 @@ pub fn default_is_zeros() -> ProgramHeader
 }
 
 // What a segment is.
-pub use crate::program_header::{
+pub use crate::constants_program_header::{
     PT_ARM_EXIDX, PT_DYNAMIC, PT_GNU_EH_FRAME, PT_GNU_PROPERTY, PT_GNU_RELRO, PT_GNU_STACK,
     PT_HIOS, PT_HIPROC, PT_HISUNW, PT_INTERP, PT_LOAD, PT_LOOS, PT_LOPROC, PT_LOSUNW, PT_NOTE,
     PT_NULL, PT_NUM, PT_PHDR, PT_SHLIB, PT_SUNWBSS, PT_SUNWSTACK, PT_TLS, pt_to_str,
 };
 
 // What may be done with a segment.
-pub use crate::program_header::{PF_MASKOS, PF_MASKPROC, PF_R, PF_W, PF_X};
+pub use crate::constants_program_header::{PF_MASKOS, PF_MASKPROC, PF_R, PF_W, PF_X};
+
+/// Laws: the numbers of this module's own constants, and those of the constants that it passes on,
+/// under the names that they have here, which a call answers.
+pub fn constants() -> ([u32; 22], [u32; 5])
+    ensures size { SIZEOF_PHDR ≡ program_header64_size }
+    ensures numbers { result ≡ program_header_numbers }
+{
+    program_header_constants!()
+}

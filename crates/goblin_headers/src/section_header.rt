@@ -1,264 +1,31 @@
 //! Section headers, which tell what a file holds: System V gABI, "Section Header".
 ghost use Rattle.std.specs.Int.{IsBitSet};
-ghost use Rattle.std.specs.Prelude.{◌≡◌, ◌≤◌, ◌↔◌, ◌++◌, [], ◌∷◌, IsTrue, IfErr, IsNone, IsOk};
-ghost use Rattle.std.specs.Prelude.{IfSome, length, drop, map, replicate};
+ghost use Rattle.std.specs.Prelude.{◌≡◌, ◌≤◌, ◌↔◌, ◌++◌, IsTrue, IfErr, IsNone, IsOk, IfSome, length, drop, map, replicate};
 ghost use Rattle.goblin_base.specs.Fields.{values_of};
 ghost use Rattle.goblin_base.specs.Layout.{IsOneImage, IsSameInEachClass};
+ghost use Rattle.goblin_base.specs.LayoutLaws.{obeys};
 ghost use Rattle.goblin_base.specs.Record.{read_within, Writes};
 ghost use Rattle.goblin_base.specs.Refusal.{Gives, Refuses};
 ghost use Rattle.goblin_base.specs.Steps.{with_size};
 ghost use Rattle.goblin_base.specs.declared.container.Container.{Container};
 ghost use Rattle.goblin_base.specs.declared.container.Endian.{Endian};
+ghost use Rattle.goblin_headers.specs.Constants.{section_header_numbers};
 ghost use Rattle.goblin_headers.specs.Ranges.{span};
-ghost use Rattle.goblin_headers.specs.SectionHeader.{as64, section_header_size, section_header_of};
-ghost use Rattle.goblin_headers.specs.SectionHeader.{section_header_image, section_header_low};
-ghost use Rattle.goblin_headers.specs.SectionHeader.{SectionHeaderFits};
+ghost use Rattle.goblin_headers.specs.SectionHeader.{as64, section_header_size, section_header_of, section_header_image, section_header_low, SectionHeaderFits};
 ghost use Rattle.goblin_headers.specs.SectionHeader64.{section_header64_fields};
-ghost use Rattle.goblin_headers.specs.SectionHeaders.{new_section_header, count_told};
-ghost use Rattle.goblin_headers.specs.SectionHeaders.{section_headers_from};
-ghost use Rattle.goblin_headers.specs.SectionHeaders.{section_headers_from_tested};
-ghost use Rattle.goblin_headers.specs.SectionHeaders.{section_headers_of};
-ghost use Rattle.goblin_headers.specs.SectionHeaders.{section_headers_of_tested, size_checked};
-ghost use Rattle.goblin_headers.specs.SectionHeaders.{size_checked_in};
-ghost use Rattle.goblin_headers.specs.SectionNames.{section_name, section_flag_name};
+ghost use Rattle.goblin_headers.specs.SectionHeaders.{new_section_header, count_told, section_headers_from, section_headers_from_tested, section_headers_of, section_headers_of_tested, size_checked, size_checked_in};
 ghost use Rattle.goblin_headers.specs.SectionNames.{section_flag_names};
 
+use crate::constants_section_header::section_header_constants;
 pub use crate::{section_header32, section_header64};
 use goblin_base::container::{Container, Ctx};
 use goblin_base::error::{Error, Fault, Result};
-use goblin_base::names::name_of;
 use goblin_base::number::room;
 use goblin_base::record::Record;
 use goblin_base::scroll::{IntoCtx, SizeWith, TryFromCtx, TryIntoCtx};
 use goblin_base::table::{read_all, read_at};
 use std::alloc::Global;
 use std::ops::Range;
-
-// Indices of sections with a meaning of their own.
-
-/// No section.
-pub const SHN_UNDEF: u32 = 0;
-/// The first index with a meaning of its own.
-pub const SHN_LORESERVE: u32 = 0xff00;
-/// The first index that is left to processors.
-pub const SHN_LOPROC: u32 = 0xff00;
-/// Before all other sections (Solaris).
-pub const SHN_BEFORE: u32 = 0xff00;
-/// After all other sections (Solaris).
-pub const SHN_AFTER: u32 = 0xff01;
-/// The last index that is left to processors.
-pub const SHN_HIPROC: u32 = 0xff1f;
-/// The first index that is left to operating systems.
-pub const SHN_LOOS: u32 = 0xff20;
-/// The last index that is left to operating systems.
-pub const SHN_HIOS: u32 = 0xff3f;
-/// What has no section: its value is absolute.
-pub const SHN_ABS: u32 = 0xfff1;
-/// What is still to be placed in a section.
-pub const SHN_COMMON: u32 = 0xfff2;
-/// The index stands elsewhere, since it is too great for its field.
-pub const SHN_XINDEX: u32 = 0xffff;
-/// The last index with a meaning of its own.
-pub const SHN_HIRESERVE: u32 = 0xffff;
-
-// What a section holds.
-
-/// No section.
-pub const SHT_NULL: u32 = 0;
-/// What the program defines.
-pub const SHT_PROGBITS: u32 = 1;
-/// A symbol table.
-pub const SHT_SYMTAB: u32 = 2;
-/// A string table.
-pub const SHT_STRTAB: u32 = 3;
-/// Relocations with addends.
-pub const SHT_RELA: u32 = 4;
-/// A hash table of symbols.
-pub const SHT_HASH: u32 = 5;
-/// What dynamic linking needs.
-pub const SHT_DYNAMIC: u32 = 6;
-/// Notes.
-pub const SHT_NOTE: u32 = 7;
-/// A section without bytes in the file.
-pub const SHT_NOBITS: u32 = 8;
-/// Relocations without addends.
-pub const SHT_REL: u32 = 9;
-/// Left without a meaning by the standard.
-pub const SHT_SHLIB: u32 = 10;
-/// The symbol table of dynamic linking.
-pub const SHT_DYNSYM: u32 = 11;
-/// Addresses of functions that are called at the start.
-pub const SHT_INIT_ARRAY: u32 = 14;
-/// Addresses of functions that are called at the end.
-pub const SHT_FINI_ARRAY: u32 = 15;
-/// Addresses of functions that are called before all others.
-pub const SHT_PREINIT_ARRAY: u32 = 16;
-/// A group of sections.
-pub const SHT_GROUP: u32 = 17;
-/// Section indices that are too great for a symbol.
-pub const SHT_SYMTAB_SHNDX: u32 = 18;
-/// One more than the greatest type that this table knows.
-pub const SHT_NUM: u32 = 19;
-/// The first type that is left to operating systems.
-pub const SHT_LOOS: u32 = 0x6000_0000;
-/// Attributes of the object (GNU).
-pub const SHT_GNU_ATTRIBUTES: u32 = 0x6fff_fff5;
-/// A hash table of symbols (GNU).
-pub const SHT_GNU_HASH: u32 = 0x6fff_fff6;
-/// Libraries that were linked before (GNU).
-pub const SHT_GNU_LIBLIST: u32 = 0x6fff_fff7;
-/// A checksum of the contents.
-pub const SHT_CHECKSUM: u32 = 0x6fff_fff8;
-/// The first type of Sun.
-pub const SHT_LOSUNW: u32 = 0x6fff_fffa;
-/// What is moved at the start (Sun).
-pub const SHT_SUNW_MOVE: u32 = 0x6fff_fffa;
-/// Contents that are kept once (Sun).
-pub const SHT_SUNW_COMDAT: u32 = 0x6fff_fffb;
-/// More about symbols (Sun).
-pub const SHT_SUNW_SYMINFO: u32 = 0x6fff_fffc;
-/// Versions that the file defines (GNU).
-pub const SHT_GNU_VERDEF: u32 = 0x6fff_fffd;
-/// Versions that the file needs (GNU).
-pub const SHT_GNU_VERNEED: u32 = 0x6fff_fffe;
-/// The version of each symbol (GNU).
-pub const SHT_GNU_VERSYM: u32 = 0x6fff_ffff;
-/// The last type of Sun.
-pub const SHT_HISUNW: u32 = 0x6fff_ffff;
-/// The last type that is left to operating systems.
-pub const SHT_HIOS: u32 = 0x6fff_ffff;
-/// The first type that is left to processors.
-pub const SHT_LOPROC: u32 = 0x7000_0000;
-/// What unwinding needs (x86-64).
-pub const SHT_X86_64_UNWIND: u32 = 0x7000_0001;
-/// The last type that is left to processors.
-pub const SHT_HIPROC: u32 = 0x7fff_ffff;
-/// The first type that is left to applications.
-pub const SHT_LOUSER: u32 = 0x8000_0000;
-/// The last type that is left to applications.
-pub const SHT_HIUSER: u32 = 0x8fff_ffff;
-
-// What may be done with a section.
-
-/// The section may be written.
-pub const SHF_WRITE: u32 = 0x1;
-/// The section is in memory while the program runs.
-pub const SHF_ALLOC: u32 = 0x2;
-/// The section may be executed.
-pub const SHF_EXECINSTR: u32 = 0x4;
-/// Equal entries may be made one.
-pub const SHF_MERGE: u32 = 0x10;
-/// The entries are texts that end with a zero.
-pub const SHF_STRINGS: u32 = 0x20;
-/// The index of a section stands in `sh_info`.
-pub const SHF_INFO_LINK: u32 = 0x40;
-/// The order of sections is to be kept.
-pub const SHF_LINK_ORDER: u32 = 0x80;
-/// The operating system has to treat the section in its own way.
-pub const SHF_OS_NONCONFORMING: u32 = 0x100;
-/// The section belongs to a group.
-pub const SHF_GROUP: u32 = 0x200;
-/// The section is storage that each thread has its own copy of.
-pub const SHF_TLS: u32 = 0x400;
-/// The contents are compressed.
-pub const SHF_COMPRESSED: u32 = 0x800;
-/// The flags that are left to operating systems.
-pub const SHF_MASKOS: u32 = 0x0ff0_0000;
-/// The flags that are left to processors.
-pub const SHF_MASKPROC: u32 = 0xf000_0000;
-/// The section is to be ordered (Solaris).
-pub const SHF_ORDERED: u32 = 1 << 30;
-/// How many flags [`SHF_FLAGS`] has.
-pub const SHF_NUM_REGULAR_FLAGS: usize = 12;
-/// The section is left out where nothing refers to it (Solaris).
-pub const SHF_EXCLUDE: u32 = 0x8000_0000;
-
-/// The flags that have a name.
-pub const SHF_FLAGS: [u32; SHF_NUM_REGULAR_FLAGS] = [
-    SHF_WRITE,
-    SHF_ALLOC,
-    SHF_EXECINSTR,
-    SHF_MERGE,
-    SHF_STRINGS,
-    SHF_INFO_LINK,
-    SHF_LINK_ORDER,
-    SHF_OS_NONCONFORMING,
-    SHF_GROUP,
-    SHF_TLS,
-    SHF_COMPRESSED,
-    SHF_ORDERED,
-];
-
-// The names of section types.
-static TYPES: [(u32, &str); 34] = [
-    (SHT_NULL, "SHT_NULL"),
-    (SHT_PROGBITS, "SHT_PROGBITS"),
-    (SHT_SYMTAB, "SHT_SYMTAB"),
-    (SHT_STRTAB, "SHT_STRTAB"),
-    (SHT_RELA, "SHT_RELA"),
-    (SHT_HASH, "SHT_HASH"),
-    (SHT_DYNAMIC, "SHT_DYNAMIC"),
-    (SHT_NOTE, "SHT_NOTE"),
-    (SHT_NOBITS, "SHT_NOBITS"),
-    (SHT_REL, "SHT_REL"),
-    (SHT_SHLIB, "SHT_SHLIB"),
-    (SHT_DYNSYM, "SHT_DYNSYM"),
-    (SHT_INIT_ARRAY, "SHT_INIT_ARRAY"),
-    (SHT_FINI_ARRAY, "SHT_FINI_ARRAY"),
-    (SHT_PREINIT_ARRAY, "SHT_PREINIT_ARRAY"),
-    (SHT_GROUP, "SHT_GROUP"),
-    (SHT_SYMTAB_SHNDX, "SHT_SYMTAB_SHNDX"),
-    (SHT_NUM, "SHT_NUM"),
-    (SHT_LOOS, "SHT_LOOS"),
-    (SHT_GNU_ATTRIBUTES, "SHT_GNU_ATTRIBUTES"),
-    (SHT_GNU_HASH, "SHT_GNU_HASH"),
-    (SHT_GNU_LIBLIST, "SHT_GNU_LIBLIST"),
-    (SHT_CHECKSUM, "SHT_CHECKSUM"),
-    (SHT_SUNW_MOVE, "SHT_SUNW_MOVE"),
-    (SHT_SUNW_COMDAT, "SHT_SUNW_COMDAT"),
-    (SHT_SUNW_SYMINFO, "SHT_SUNW_SYMINFO"),
-    (SHT_GNU_VERDEF, "SHT_GNU_VERDEF"),
-    (SHT_GNU_VERNEED, "SHT_GNU_VERNEED"),
-    (SHT_GNU_VERSYM, "SHT_GNU_VERSYM"),
-    (SHT_LOPROC, "SHT_LOPROC"),
-    (SHT_X86_64_UNWIND, "SHT_X86_64_UNWIND"),
-    (SHT_HIPROC, "SHT_HIPROC"),
-    (SHT_LOUSER, "SHT_LOUSER"),
-    (SHT_HIUSER, "SHT_HIUSER"),
-];
-
-/// The name of a section type with its prefix, or `UNKNOWN_SHT`. Where two constants have one number,
-/// the name is `SHT_SUNW_MOVE` or `SHT_GNU_VERSYM`.
-#[tactic(auto, unfolding(crate::specs::SectionNames::section_name))]
-pub fn sht_to_str(sht: u32) -> &'static str
-    ensures { result.now ≡ section_name sht }
-{
-    name_of(&TYPES, sht, "UNKNOWN_SHT")
-}
-
-// The names of flags.
-static FLAGS: [(u32, &str); SHF_NUM_REGULAR_FLAGS] = [
-    (SHF_WRITE, "SHF_WRITE"),
-    (SHF_ALLOC, "SHF_ALLOC"),
-    (SHF_EXECINSTR, "SHF_EXECINSTR"),
-    (SHF_MERGE, "SHF_MERGE"),
-    (SHF_STRINGS, "SHF_STRINGS"),
-    (SHF_INFO_LINK, "SHF_INFO_LINK"),
-    (SHF_LINK_ORDER, "SHF_LINK_ORDER"),
-    (SHF_OS_NONCONFORMING, "SHF_OS_NONCONFORMING"),
-    (SHF_GROUP, "SHF_GROUP"),
-    (SHF_TLS, "SHF_TLS"),
-    (SHF_COMPRESSED, "SHF_COMPRESSED"),
-    (SHF_ORDERED, "SHF_ORDERED"),
-];
-
-/// The name of one flag with its prefix, or `SHF_UNKNOWN` for all but those of [`SHF_FLAGS`].
-#[tactic(auto, unfolding(crate::specs::SectionNames::section_flag_name))]
-pub fn shf_to_str(shf: u32) -> &'static str
-    ensures { result.now ≡ section_flag_name shf }
-{
-    name_of(&FLAGS, shf, "SHF_UNKNOWN")
-}
 
 /// A section header of either class.
 #[derive(Clone, Debug, Default, Drop, PartialEq)]
@@ -550,55 +317,11 @@ impl Record<Ctx> for SectionHeader {
         Ok(SectionHeader::at(bytes, ctx))
     }
 
-    ghost size_positive = { λ ctx. (section_header_laws ctx.container ctx.le).size_positive };
-
-    ghost length_image = { λ ctx. (section_header_laws ctx.container ctx.le).length_image };
-
-    ghost image_bytes = { λ ctx. (section_header_laws ctx.container ctx.le).image_bytes };
-
-    ghost writes_image = { λ ctx header old new answer so. so };
-
-    ghost reads_front = { λ ctx. (section_header_laws ctx.container ctx.le).reads_front };
-
-    ghost reads_back = { λ ctx. (section_header_laws ctx.container ctx.le).reads_back };
-
-    ghost writes_back = { λ ctx. (section_header_laws ctx.container ctx.le).writes_back };
+    ghost laws = { λ ctx. obeys (section_header_laws ctx.container ctx.le) };
 }
 
-/// Laws: the numbers of this module's constants. A call does nothing.
-pub fn constants()
-    ensures indices { SHN_UNDEF ∷ SHN_LORESERVE ∷ SHN_LOPROC ∷ SHN_BEFORE ∷ SHN_AFTER
-        ∷ SHN_HIPROC ∷ SHN_LOOS ∷ SHN_HIOS ∷ SHN_ABS ∷ SHN_COMMON ∷ SHN_XINDEX ∷ SHN_HIRESERVE ∷ []
-        ≡ 0 ∷ 0xff00 ∷ 0xff00 ∷ 0xff00 ∷ 0xff01 ∷ 0xff1f ∷ 0xff20 ∷ 0xff3f ∷ 0xfff1 ∷ 0xfff2
-        ∷ 0xffff ∷ 0xffff ∷ [] }
-    ensures types { SHT_NULL ∷ SHT_PROGBITS ∷ SHT_SYMTAB ∷ SHT_STRTAB ∷ SHT_RELA ∷ SHT_HASH
-        ∷ SHT_DYNAMIC ∷ SHT_NOTE ∷ SHT_NOBITS ∷ SHT_REL ∷ SHT_SHLIB ∷ SHT_DYNSYM
-        ∷ SHT_INIT_ARRAY ∷ SHT_FINI_ARRAY ∷ SHT_PREINIT_ARRAY ∷ SHT_GROUP ∷ SHT_SYMTAB_SHNDX
-        ∷ SHT_NUM ∷ []
-        ≡ 0 ∷ 1 ∷ 2 ∷ 3 ∷ 4 ∷ 5 ∷ 6 ∷ 7 ∷ 8 ∷ 9 ∷ 10 ∷ 11 ∷ 14 ∷ 15 ∷ 16 ∷ 17 ∷ 18 ∷ 19 ∷ [] }
-    ensures ranges { SHT_LOOS ∷ SHT_HIOS ∷ SHT_LOPROC ∷ SHT_HIPROC ∷ SHT_LOUSER ∷ SHT_HIUSER ∷ []
-        ≡ 0x60000000 ∷ 0x6fffffff ∷ 0x70000000 ∷ 0x7fffffff ∷ 0x80000000 ∷ 0x8fffffff ∷ [] }
-    ensures gnu { SHT_GNU_ATTRIBUTES ∷ SHT_GNU_HASH ∷ SHT_GNU_LIBLIST ∷ SHT_CHECKSUM
-        ∷ SHT_GNU_VERDEF ∷ SHT_GNU_VERNEED ∷ SHT_GNU_VERSYM ∷ []
-        ≡ 0x6ffffff5 ∷ 0x6ffffff6 ∷ 0x6ffffff7 ∷ 0x6ffffff8 ∷ 0x6ffffffd ∷ 0x6ffffffe ∷ 0x6fffffff
-        ∷ [] }
-    ensures sun { SHT_LOSUNW ∷ SHT_SUNW_MOVE ∷ SHT_SUNW_COMDAT ∷ SHT_SUNW_SYMINFO ∷ SHT_HISUNW ∷ []
-        ≡ 0x6ffffffa ∷ 0x6ffffffa ∷ 0x6ffffffb ∷ 0x6ffffffc ∷ 0x6fffffff ∷ [] }
-    ensures x86_64 { SHT_X86_64_UNWIND ≡ 0x70000001 }
-
-    ensures flags { SHF_WRITE ∷ SHF_ALLOC ∷ SHF_EXECINSTR ∷ SHF_MERGE ∷ SHF_STRINGS
-        ∷ SHF_INFO_LINK ∷ SHF_LINK_ORDER ∷ SHF_OS_NONCONFORMING ∷ SHF_GROUP ∷ SHF_TLS
-        ∷ SHF_COMPRESSED ∷ SHF_ORDERED ∷ []
-        ≡ 0x1 ∷ 0x2 ∷ 0x4 ∷ 0x10 ∷ 0x20 ∷ 0x40 ∷ 0x80 ∷ 0x100 ∷ 0x200 ∷ 0x400 ∷ 0x800 ∷ 0x40000000
-        ∷ [] }
-    ensures all_flags { SHF_FLAGS ≡ map (λ row. row.0) section_flag_names }
-    ensures count { SHF_NUM_REGULAR_FLAGS ≡ 12 }
-    ensures others { SHF_MASKOS ∷ SHF_MASKPROC ∷ SHF_EXCLUDE ∷ []
-        ≡ 0x0ff00000 ∷ 0xf0000000 ∷ 0x80000000 ∷ [] }
-{}
-
 /// Laws: which bytes a section header is written as, and that classes and byte orders keep lists of
-/// section headers the same. A call does nothing.
+/// section headers the same.
 pub fn laws()
     ensures image { (class : Container) (order : Endian) →
         IsOneImage (section_header_size class) (section_header_of class order) (section_header_image class order) (section_header_low class) }
@@ -610,4 +333,37 @@ pub fn default_is_zeros() -> SectionHeader
     ensures { values_of (section_header64_fields (as64 result)) ≡ replicate 10 0 }
 {
     SectionHeader::default()
+}
+
+// Indices of sections with a meaning of their own.
+pub use crate::constants_section_header::{
+    SHN_ABS, SHN_AFTER, SHN_BEFORE, SHN_COMMON, SHN_HIOS, SHN_HIPROC, SHN_HIRESERVE, SHN_LOOS,
+    SHN_LOPROC, SHN_LORESERVE, SHN_UNDEF, SHN_XINDEX,
+};
+
+// What a section holds.
+pub use crate::constants_section_header::{
+    SHT_CHECKSUM, SHT_DYNAMIC, SHT_DYNSYM, SHT_FINI_ARRAY, SHT_GNU_ATTRIBUTES, SHT_GNU_HASH,
+    SHT_GNU_LIBLIST, SHT_GNU_VERDEF, SHT_GNU_VERNEED, SHT_GNU_VERSYM, SHT_GROUP, SHT_HASH,
+    SHT_HIOS, SHT_HIPROC, SHT_HISUNW, SHT_HIUSER, SHT_INIT_ARRAY, SHT_LOOS, SHT_LOPROC, SHT_LOSUNW,
+    SHT_LOUSER, SHT_NOBITS, SHT_NOTE, SHT_NULL, SHT_NUM, SHT_PREINIT_ARRAY, SHT_PROGBITS, SHT_REL,
+    SHT_RELA, SHT_SHLIB, SHT_STRTAB, SHT_SUNW_COMDAT, SHT_SUNW_MOVE, SHT_SUNW_SYMINFO, SHT_SYMTAB,
+    SHT_SYMTAB_SHNDX, SHT_X86_64_UNWIND, sht_to_str,
+};
+
+// What may be done with a section.
+pub use crate::constants_section_header::{
+    SHF_ALLOC, SHF_COMPRESSED, SHF_EXCLUDE, SHF_EXECINSTR, SHF_FLAGS, SHF_GROUP, SHF_INFO_LINK,
+    SHF_LINK_ORDER, SHF_MASKOS, SHF_MASKPROC, SHF_MERGE, SHF_NUM_REGULAR_FLAGS, SHF_ORDERED,
+    SHF_OS_NONCONFORMING, SHF_STRINGS, SHF_TLS, SHF_WRITE, shf_to_str,
+};
+
+/// A law: the numbers of the constants that this module passes on, under the names that they have
+/// here, which a call answers.
+pub fn constants() -> ([u32; 12], [u32; 37], [u32; 15])
+    ensures numbers { result ≡ section_header_numbers }
+    ensures all_flags { SHF_FLAGS ≡ map (λ row. row.0) section_flag_names }
+    ensures count { SHF_NUM_REGULAR_FLAGS ≡ 12 }
+{
+    section_header_constants!()
 }

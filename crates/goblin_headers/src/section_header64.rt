@@ -1,17 +1,17 @@
 //! Section headers of the 64-bit class: System V gABI, "Section Header" (`Elf64_Shdr`).
-ghost use Rattle.std.specs.Prelude.{◌≡◌, ◌≤◌, ◌*◌, ◌++◌, [], ◌∷◌, length, drop, map, IfErr, IfOk};
-ghost use Rattle.std.specs.Prelude.{IsOk, alloc_error, replicate};
+ghost use Rattle.std.specs.Prelude.{◌≡◌, ◌≤◌, ◌*◌, ◌++◌, length, drop, map, IfErr, IfOk, IsOk, alloc_error, replicate};
 ghost use Rattle.goblin_base.specs.Fields.{values_of};
 ghost use Rattle.goblin_base.specs.Layout.{IsOneImage};
+ghost use Rattle.goblin_base.specs.LayoutLaws.{obeys};
 ghost use Rattle.goblin_base.specs.Record.{read_within, Writes};
 ghost use Rattle.goblin_base.specs.Steps.{with_size};
 ghost use Rattle.goblin_base.specs.Table.{records};
 ghost use Rattle.goblin_base.specs.declared.container.Endian.{Endian};
-ghost use Rattle.goblin_headers.specs.SectionHeader64.{section_header64_fields};
-ghost use Rattle.goblin_headers.specs.SectionHeader64.{section_header64_of, section_header64_image};
-ghost use Rattle.goblin_headers.specs.SectionHeader64.{section_header64_size, section_header64_low};
+ghost use Rattle.goblin_headers.specs.Constants.{section_header_numbers};
+ghost use Rattle.goblin_headers.specs.SectionHeader64.{section_header64_fields, section_header64_of, section_header64_image, section_header64_size, section_header64_low};
 ghost use Rattle.goblin_headers.specs.SectionNames.{section_flag_names};
 
+use crate::constants_section_header::section_header_constants;
 use crate::section_header::SectionHeader as ElfSectionHeader;
 use goblin_base::container::Endian;
 use goblin_base::error::{Error, Result};
@@ -193,57 +193,10 @@ impl Record<Endian> for SectionHeader {
         Ok(SectionHeader::at(bytes, order))
     }
 
-    ghost size_positive = { λ order. (section_header64_laws order).size_positive };
-
-    ghost length_image = { λ order. (section_header64_laws order).length_image };
-
-    ghost image_bytes = { λ order. (section_header64_laws order).image_bytes };
-
-    ghost writes_image = { λ order header old new answer so. so };
-
-    ghost reads_front = { λ order. (section_header64_laws order).reads_front };
-
-    ghost reads_back = { λ order. (section_header64_laws order).reads_back };
-
-    ghost writes_back = { λ order. (section_header64_laws order).writes_back };
+    ghost laws = { λ order. obeys (section_header64_laws order) };
 }
 
-/// Laws: the numbers of this module's own constants, and of those that it passes on, under the names
-/// that they have here. A call does nothing.
-pub fn constants()
-    ensures size { SIZEOF_SHDR ≡ section_header64_size }
-
-    ensures indices { SHN_UNDEF ∷ SHN_LORESERVE ∷ SHN_LOPROC ∷ SHN_BEFORE ∷ SHN_AFTER
-        ∷ SHN_HIPROC ∷ SHN_LOOS ∷ SHN_HIOS ∷ SHN_ABS ∷ SHN_COMMON ∷ SHN_XINDEX ∷ SHN_HIRESERVE ∷ []
-        ≡ 0 ∷ 0xff00 ∷ 0xff00 ∷ 0xff00 ∷ 0xff01 ∷ 0xff1f ∷ 0xff20 ∷ 0xff3f ∷ 0xfff1 ∷ 0xfff2
-        ∷ 0xffff ∷ 0xffff ∷ [] }
-    ensures types { SHT_NULL ∷ SHT_PROGBITS ∷ SHT_SYMTAB ∷ SHT_STRTAB ∷ SHT_RELA ∷ SHT_HASH
-        ∷ SHT_DYNAMIC ∷ SHT_NOTE ∷ SHT_NOBITS ∷ SHT_REL ∷ SHT_SHLIB ∷ SHT_DYNSYM
-        ∷ SHT_INIT_ARRAY ∷ SHT_FINI_ARRAY ∷ SHT_PREINIT_ARRAY ∷ SHT_GROUP ∷ SHT_SYMTAB_SHNDX
-        ∷ SHT_NUM ∷ []
-        ≡ 0 ∷ 1 ∷ 2 ∷ 3 ∷ 4 ∷ 5 ∷ 6 ∷ 7 ∷ 8 ∷ 9 ∷ 10 ∷ 11 ∷ 14 ∷ 15 ∷ 16 ∷ 17 ∷ 18 ∷ 19 ∷ [] }
-    ensures ranges { SHT_LOOS ∷ SHT_HIOS ∷ SHT_LOPROC ∷ SHT_HIPROC ∷ SHT_LOUSER ∷ SHT_HIUSER ∷ []
-        ≡ 0x60000000 ∷ 0x6fffffff ∷ 0x70000000 ∷ 0x7fffffff ∷ 0x80000000 ∷ 0x8fffffff ∷ [] }
-    ensures gnu { SHT_GNU_ATTRIBUTES ∷ SHT_GNU_HASH ∷ SHT_GNU_LIBLIST ∷ SHT_CHECKSUM
-        ∷ SHT_GNU_VERDEF ∷ SHT_GNU_VERNEED ∷ SHT_GNU_VERSYM ∷ []
-        ≡ 0x6ffffff5 ∷ 0x6ffffff6 ∷ 0x6ffffff7 ∷ 0x6ffffff8 ∷ 0x6ffffffd ∷ 0x6ffffffe ∷ 0x6fffffff
-        ∷ [] }
-    ensures sun { SHT_LOSUNW ∷ SHT_SUNW_MOVE ∷ SHT_SUNW_COMDAT ∷ SHT_SUNW_SYMINFO ∷ SHT_HISUNW ∷ []
-        ≡ 0x6ffffffa ∷ 0x6ffffffa ∷ 0x6ffffffb ∷ 0x6ffffffc ∷ 0x6fffffff ∷ [] }
-    ensures x86_64 { SHT_X86_64_UNWIND ≡ 0x70000001 }
-
-    ensures flags { SHF_WRITE ∷ SHF_ALLOC ∷ SHF_EXECINSTR ∷ SHF_MERGE ∷ SHF_STRINGS
-        ∷ SHF_INFO_LINK ∷ SHF_LINK_ORDER ∷ SHF_OS_NONCONFORMING ∷ SHF_GROUP ∷ SHF_TLS
-        ∷ SHF_COMPRESSED ∷ SHF_ORDERED ∷ []
-        ≡ 0x1 ∷ 0x2 ∷ 0x4 ∷ 0x10 ∷ 0x20 ∷ 0x40 ∷ 0x80 ∷ 0x100 ∷ 0x200 ∷ 0x400 ∷ 0x800 ∷ 0x40000000
-        ∷ [] }
-    ensures all_flags { SHF_FLAGS ≡ map (λ row. row.0) section_flag_names }
-    ensures count { SHF_NUM_REGULAR_FLAGS ≡ 12 }
-    ensures others { SHF_MASKOS ∷ SHF_MASKPROC ∷ SHF_EXCLUDE ∷ []
-        ≡ 0x0ff00000 ∷ 0xf0000000 ∷ 0x80000000 ∷ [] }
-{}
-
-/// A law: which bytes a section header is written as. A call does nothing.
+/// A law: which bytes a section header is written as.
 pub fn laws()
     ensures image { (order : Endian) →
         IsOneImage section_header64_size (section_header64_of order) (section_header64_image order) section_header64_low }
@@ -257,13 +210,13 @@ pub fn default_is_zeros() -> SectionHeader
 }
 
 // Indices of sections with a meaning of their own.
-pub use crate::section_header::{
+pub use crate::constants_section_header::{
     SHN_ABS, SHN_AFTER, SHN_BEFORE, SHN_COMMON, SHN_HIOS, SHN_HIPROC, SHN_HIRESERVE, SHN_LOOS,
     SHN_LOPROC, SHN_LORESERVE, SHN_UNDEF, SHN_XINDEX,
 };
 
 // What a section holds.
-pub use crate::section_header::{
+pub use crate::constants_section_header::{
     SHT_CHECKSUM, SHT_DYNAMIC, SHT_DYNSYM, SHT_FINI_ARRAY, SHT_GNU_ATTRIBUTES, SHT_GNU_HASH,
     SHT_GNU_LIBLIST, SHT_GNU_VERDEF, SHT_GNU_VERNEED, SHT_GNU_VERSYM, SHT_GROUP, SHT_HASH,
     SHT_HIOS, SHT_HIPROC, SHT_HISUNW, SHT_HIUSER, SHT_INIT_ARRAY, SHT_LOOS, SHT_LOPROC, SHT_LOSUNW,
@@ -273,8 +226,19 @@ pub use crate::section_header::{
 };
 
 // What may be done with a section.
-pub use crate::section_header::{
+pub use crate::constants_section_header::{
     SHF_ALLOC, SHF_COMPRESSED, SHF_EXCLUDE, SHF_EXECINSTR, SHF_FLAGS, SHF_GROUP, SHF_INFO_LINK,
     SHF_LINK_ORDER, SHF_MASKOS, SHF_MASKPROC, SHF_MERGE, SHF_NUM_REGULAR_FLAGS, SHF_ORDERED,
     SHF_OS_NONCONFORMING, SHF_STRINGS, SHF_TLS, SHF_WRITE, shf_to_str,
 };
+
+/// Laws: the numbers of this module's own constants, and those of the constants that it passes on,
+/// under the names that they have here, which a call answers.
+pub fn constants() -> ([u32; 12], [u32; 37], [u32; 15])
+    ensures size { SIZEOF_SHDR ≡ section_header64_size }
+    ensures numbers { result ≡ section_header_numbers }
+    ensures all_flags { SHF_FLAGS ≡ map (λ row. row.0) section_flag_names }
+    ensures count { SHF_NUM_REGULAR_FLAGS ≡ 12 }
+{
+    section_header_constants!()
+}

@@ -1,6 +1,8 @@
 //! The records of ELF tables: symbols and relocations of either class, and the headers of notes.
 #![tactic(auto)]
 
+mod constants_note;
+mod constants_sym;
 pub mod note;
 pub mod reloc;
 pub mod reloc32;

@@ -1,50 +1,16 @@
 //! Note headers of both classes, and the types of notes: System V gABI, "Note Section".
 ghost use Rattle.std.specs.Prelude.{◌≡◌, ◌≤◌, ◌++◌, [], ◌∷◌, length, drop};
 ghost use Rattle.goblin_base.specs.Layout.{IsOneImage};
+ghost use Rattle.goblin_base.specs.LayoutLaws.{obeys};
 ghost use Rattle.goblin_base.specs.Record.{read_within, Writes};
 ghost use Rattle.goblin_base.specs.Steps.{with_size};
-ghost use Rattle.goblin_records.specs.Nhdr.{nhdr32_of, nhdr32_image, nhdr32_low, nhdr32_size};
-ghost use Rattle.goblin_records.specs.Nhdr.{nhdr64_of, nhdr64_image, nhdr64_low, nhdr64_size};
+ghost use Rattle.goblin_records.specs.Nhdr.{nhdr32_of, nhdr32_image, nhdr32_low, nhdr32_size, nhdr64_of, nhdr64_image, nhdr64_low, nhdr64_size};
 
 use goblin_base::container::Endian;
 use goblin_base::error::Result;
 use goblin_base::number::{get_u32, get_u64, put_u32, put_u64, room};
 use goblin_base::record::Record;
 use goblin_base::scroll::{SizeWith, TryFromCtx, TryIntoCtx};
-
-/// The system that a file was built for, as words: the system's number, and the major, minor and
-/// subminor version of its binary interface.
-pub const NT_GNU_ABI_TAG: u32 = 1;
-/// The older name of `NT_GNU_ABI_TAG`.
-pub const ELF_NOTE_ABI: u32 = NT_GNU_ABI_TAG;
-
-/// Linux, as the first word of a note of type `NT_GNU_ABI_TAG` numbers systems.
-pub const ELF_NOTE_OS_LINUX: u32 = 0;
-/// The Hurd.
-pub const ELF_NOTE_OS_GNU: u32 = 1;
-/// Solaris.
-pub const ELF_NOTE_OS_SOLARIS2: u32 = 2;
-/// FreeBSD.
-pub const ELF_NOTE_OS_FREEBSD: u32 = 3;
-
-/// Made-up capabilities of the hardware: how many there are, a mask of those that are on, and for each
-/// the number of its bit and its name.
-pub const NT_GNU_HWCAP: u32 = 2;
-/// The bytes that tell one build from another, as linkers make them.
-pub const NT_GNU_BUILD_ID: u32 = 3;
-/// The version of the linker `gold`, as text.
-pub const NT_GNU_GOLD_VERSION: u32 = 4;
-/// Properties of the program.
-pub const NT_GNU_PROPERTY_TYPE_0: u32 = 5;
-
-/// In a core file: the state of a thread.
-pub const NT_PRSTATUS: u32 = 1;
-/// In a core file: what is known of the process.
-pub const NT_PRPSINFO: u32 = 3;
-/// In a core file: the signal that ended the process.
-pub const NT_SIGINFO: u32 = 0x5349_4749;
-/// In a core file: which files were mapped where.
-pub const NT_FILE: u32 = 0x4649_4c45;
 
 /// The header of a note, in words of 4 bytes. Notes of both classes are read with it.
 #[derive(Clone, Copy, Debug)]
@@ -132,19 +98,7 @@ impl Record<Endian> for Nhdr32 {
         Ok(Nhdr32::at(bytes, order))
     }
 
-    ghost size_positive = { λ order. (nhdr32_laws order).size_positive };
-
-    ghost length_image = { λ order. (nhdr32_laws order).length_image };
-
-    ghost image_bytes = { λ order. (nhdr32_laws order).image_bytes };
-
-    ghost writes_image = { λ order header old new answer h. h };
-
-    ghost reads_front = { λ order. (nhdr32_laws order).reads_front };
-
-    ghost reads_back = { λ order. (nhdr32_laws order).reads_back };
-
-    ghost writes_back = { λ order. (nhdr32_laws order).writes_back };
+    ghost laws = { λ order. obeys (nhdr32_laws order) };
 }
 
 /// The header of a note, in words of 8 bytes.
@@ -233,22 +187,27 @@ impl Record<Endian> for Nhdr64 {
         Ok(Nhdr64::at(bytes, order))
     }
 
-    ghost size_positive = { λ order. (nhdr64_laws order).size_positive };
-
-    ghost length_image = { λ order. (nhdr64_laws order).length_image };
-
-    ghost image_bytes = { λ order. (nhdr64_laws order).image_bytes };
-
-    ghost writes_image = { λ order header old new answer h. h };
-
-    ghost reads_front = { λ order. (nhdr64_laws order).reads_front };
-
-    ghost reads_back = { λ order. (nhdr64_laws order).reads_back };
-
-    ghost writes_back = { λ order. (nhdr64_laws order).writes_back };
+    ghost laws = { λ order. obeys (nhdr64_laws order) };
 }
 
-/// Laws: what the constants of this module stand for. A call does nothing.
+/// Laws: how many bytes a note header takes, and which they are.
+pub fn laws()
+    ensures size32 { SIZEOF_NHDR32 ≡ nhdr32_size }
+    ensures size64 { SIZEOF_NHDR64 ≡ nhdr64_size }
+    ensures image32 { (order : Endian) →
+        IsOneImage nhdr32_size (nhdr32_of order) (nhdr32_image order) nhdr32_low }
+    ensures image64 { (order : Endian) →
+        IsOneImage nhdr64_size (nhdr64_of order) (nhdr64_image order) nhdr64_low }
+{}
+
+// The types of notes, and the numbers of systems.
+pub use crate::constants_note::{
+    ELF_NOTE_ABI, ELF_NOTE_OS_FREEBSD, ELF_NOTE_OS_GNU, ELF_NOTE_OS_LINUX, ELF_NOTE_OS_SOLARIS2,
+    NT_FILE, NT_GNU_ABI_TAG, NT_GNU_BUILD_ID, NT_GNU_GOLD_VERSION, NT_GNU_HWCAP,
+    NT_GNU_PROPERTY_TYPE_0, NT_PRPSINFO, NT_PRSTATUS, NT_SIGINFO,
+};
+
+/// Laws: what the constants of this module stand for.
 pub fn constants()
     ensures gnu { NT_GNU_ABI_TAG ∷ ELF_NOTE_ABI ∷ NT_GNU_HWCAP ∷ NT_GNU_BUILD_ID ∷
         NT_GNU_GOLD_VERSION ∷ NT_GNU_PROPERTY_TYPE_0 ∷ []
@@ -258,14 +217,4 @@ pub fn constants()
         ≡ 0 ∷ 1 ∷ 2 ∷ 3 ∷ [] }
     ensures core { NT_PRSTATUS ∷ NT_PRPSINFO ∷ NT_SIGINFO ∷ NT_FILE ∷ []
         ≡ 1 ∷ 3 ∷ 0x5349_4749 ∷ 0x4649_4c45 ∷ [] }
-{}
-
-/// Laws: how many bytes a note header takes, and which they are. A call does nothing.
-pub fn laws()
-    ensures size32 { SIZEOF_NHDR32 ≡ nhdr32_size }
-    ensures size64 { SIZEOF_NHDR64 ≡ nhdr64_size }
-    ensures image32 { (order : Endian) →
-        IsOneImage nhdr32_size (nhdr32_of order) (nhdr32_image order) nhdr32_low }
-    ensures image64 { (order : Endian) →
-        IsOneImage nhdr64_size (nhdr64_of order) (nhdr64_image order) nhdr64_low }
 {}

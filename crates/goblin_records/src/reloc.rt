@@ -1,10 +1,9 @@
 //! Relocations of either class, with an addend or without: System V gABI, "Relocation".
 ghost use Rattle.std.specs.Prelude.{◌≡◌, ◌≤◌, ◌++◌, length, drop};
+ghost use Rattle.goblin_base.specs.LayoutLaws.{obeys};
 ghost use Rattle.goblin_base.specs.Record.{read_within, Writes};
 ghost use Rattle.goblin_base.specs.Steps.{with_size};
-ghost use Rattle.goblin_records.specs.Reloc.{reloc_size, reloc_of, reloc_image};
-ghost use Rattle.goblin_records.specs.Reloc.{as_meant, as_stored, reloc_in, reloc_image_in};
-ghost use Rattle.goblin_records.specs.Reloc.{OneImage, SameInEachClass, reloc_ctx_plain, reloc_zero};
+ghost use Rattle.goblin_records.specs.Reloc.{reloc_size, reloc_of, reloc_image, as_meant, as_stored, reloc_in, reloc_image_in, OneImage, SameInEachClass, reloc_ctx_plain, reloc_zero};
 
 pub use crate::{reloc32, reloc64};
 use goblin_base::container::{Container, Ctx};
@@ -195,19 +194,7 @@ impl Record<(bool, Ctx)> for Reloc {
         Ok(Reloc::at(bytes, ctx.0, ctx.1))
     }
 
-    ghost size_positive = { λ c. (reloc_laws c.0 c.1.container c.1.le).size_positive };
-
-    ghost length_image = { λ c. (reloc_laws c.0 c.1.container c.1.le).length_image };
-
-    ghost image_bytes = { λ c. (reloc_laws c.0 c.1.container c.1.le).image_bytes };
-
-    ghost writes_image = { λ c reloc old new answer h. h };
-
-    ghost reads_front = { λ c. (reloc_laws c.0 c.1.container c.1.le).reads_front };
-
-    ghost reads_back = { λ c. (reloc_laws c.0 c.1.container c.1.le).reads_back };
-
-    ghost writes_back = { λ c. (reloc_laws c.0 c.1.container c.1.le).writes_back };
+    ghost laws = { λ c. obeys (reloc_laws c.0 c.1.container c.1.le) };
 }
 
 impl SizeWith<RelocCtx> for Reloc {
@@ -259,24 +246,12 @@ impl Record<RelocCtx> for Reloc {
         Ok(read.meant(ctx.is_mips64el))
     }
 
-    ghost size_positive = { λ c. (reloc_laws_in c).size_positive };
-
-    ghost length_image = { λ c. (reloc_laws_in c).length_image };
-
-    ghost image_bytes = { λ c. (reloc_laws_in c).image_bytes };
-
-    ghost writes_image = { λ c reloc old new answer h. h };
-
-    ghost reads_front = { λ c. (reloc_laws_in c).reads_front };
-
-    ghost reads_back = { λ c. (reloc_laws_in c).reads_back };
-
-    ghost writes_back = { λ c. (reloc_laws_in c).writes_back };
+    ghost laws = { λ c. obeys (reloc_laws_in c) };
 }
 
-/// Laws: which bytes a relocation is written as, that classes and byte orders keep lists of relocations the
-/// same, that the default relocation is that of zeros, without an addend, and that the default context is
-/// without addends and without the pair, in the default class and order. A call does nothing.
+/// Laws: which bytes a relocation is written as, that classes and byte orders keep lists of
+/// relocations the same, that the default relocation is that of zeros, without an addend, and that
+/// the default context is without addends and without the pair, in the default class and order.
 pub fn laws()
     ensures image { OneImage }
     ensures same { SameInEachClass }

@@ -1,12 +1,12 @@
 //! Relocations of the 32-bit class: System V gABI, "Relocation" (`Elf32_Rel` and `Elf32_Rela`).
 ghost use Rattle.std.specs.Prelude.{◌≡◌, ◌≤◌, ◌++◌, length, drop};
-ghost use Rattle.goblin_base.specs.declared.container.Container.TheVariants as class;
-ghost use Rattle.goblin_base.specs.declared.container.Endian.{Endian};
 ghost use Rattle.goblin_base.specs.Layout.{IsOneImage};
+ghost use Rattle.goblin_base.specs.LayoutLaws.{obeys};
 ghost use Rattle.goblin_base.specs.Record.{read_within, Writes};
 ghost use Rattle.goblin_base.specs.Steps.{with_size};
-ghost use Rattle.goblin_records.specs.Reloc32.{rel32_size, rel32_of, rel32_image, rel32_low, rel32_zero};
-ghost use Rattle.goblin_records.specs.Reloc32.{rela32_size, rela32_of, rela32_image, rela32_low, rela32_zero};
+ghost use Rattle.goblin_base.specs.declared.container.Container.TheVariants as class;
+ghost use Rattle.goblin_base.specs.declared.container.Endian.{Endian};
+ghost use Rattle.goblin_records.specs.Reloc32.{rel32_size, rel32_of, rel32_image, rel32_low, rel32_zero, rela32_size, rela32_of, rela32_image, rela32_low, rela32_zero};
 ghost use Rattle.goblin_records.specs.RelocInfo.{symbol_in, type_in, info_of, JoinsItsParts};
 
 use crate::reloc::Reloc;
@@ -219,19 +219,7 @@ impl Record<Endian> for Rela {
         Ok(Rela::at(bytes, order))
     }
 
-    ghost size_positive = { λ order. (rela32_laws order).size_positive };
-
-    ghost length_image = { λ order. (rela32_laws order).length_image };
-
-    ghost image_bytes = { λ order. (rela32_laws order).image_bytes };
-
-    ghost writes_image = { λ order rela old new answer h. h };
-
-    ghost reads_front = { λ order. (rela32_laws order).reads_front };
-
-    ghost reads_back = { λ order. (rela32_laws order).reads_back };
-
-    ghost writes_back = { λ order. (rela32_laws order).writes_back };
+    ghost laws = { λ order. obeys (rela32_laws order) };
 }
 
 impl SizeWith<Endian> for Rel {
@@ -282,23 +270,11 @@ impl Record<Endian> for Rel {
         Ok(Rel::at(bytes, order))
     }
 
-    ghost size_positive = { λ order. (rel32_laws order).size_positive };
-
-    ghost length_image = { λ order. (rel32_laws order).length_image };
-
-    ghost image_bytes = { λ order. (rel32_laws order).image_bytes };
-
-    ghost writes_image = { λ order rel old new answer h. h };
-
-    ghost reads_front = { λ order. (rel32_laws order).reads_front };
-
-    ghost reads_back = { λ order. (rel32_laws order).reads_back };
-
-    ghost writes_back = { λ order. (rel32_laws order).writes_back };
+    ghost laws = { λ order. obeys (rel32_laws order) };
 }
 
-/// Laws: how many bytes relocations take, and which they are; that the default ones are those of zeros;
-/// that an `r_info` is joined again from its parts. A call does nothing.
+/// Laws: how many bytes relocations take, and which they are; that the default ones are those of
+/// zeros; that an `r_info` is joined again from its parts.
 pub fn laws()
     ensures sizes { (SIZEOF_RELA ≡ rela32_size) × (SIZEOF_REL ≡ rel32_size) }
     ensures rela_image { (order : Endian) →

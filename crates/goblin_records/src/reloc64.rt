@@ -1,15 +1,13 @@
 //! Relocations of the 64-bit class: System V gABI, "Relocation" (`Elf64_Rel` and `Elf64_Rela`).
 ghost use Rattle.std.specs.Prelude.{◌≡◌, ◌<◌, ◌≤◌, ◌^◌, ◌++◌, length, drop};
-ghost use Rattle.goblin_base.specs.declared.container.Container.TheVariants as class;
-ghost use Rattle.goblin_base.specs.declared.container.Endian.{Endian};
 ghost use Rattle.goblin_base.specs.Layout.{IsOneImage};
+ghost use Rattle.goblin_base.specs.LayoutLaws.{obeys};
 ghost use Rattle.goblin_base.specs.Record.{read_within, Writes};
 ghost use Rattle.goblin_base.specs.Steps.{with_size};
-ghost use Rattle.goblin_records.specs.Reloc64.{rel64_size, rel64_of, rel64_image, rel64_low, rel64_zero};
-ghost use Rattle.goblin_records.specs.Reloc64.{rela64_size, rela64_of, rela64_image, rela64_low, rela64_zero};
-ghost use Rattle.goblin_records.specs.RelocInfo.{symbol_in, type_in, info_of, JoinsItsParts};
-ghost use Rattle.goblin_records.specs.RelocInfo.{mips64el_info, mips64el_info_inverse};
-ghost use Rattle.goblin_records.specs.RelocInfo.{MipsInverse, MipsOneToOne, MipsFourTimes};
+ghost use Rattle.goblin_base.specs.declared.container.Container.TheVariants as class;
+ghost use Rattle.goblin_base.specs.declared.container.Endian.{Endian};
+ghost use Rattle.goblin_records.specs.Reloc64.{rel64_size, rel64_of, rel64_image, rel64_low, rel64_zero, rela64_size, rela64_of, rela64_image, rela64_low, rela64_zero};
+ghost use Rattle.goblin_records.specs.RelocInfo.{symbol_in, type_in, info_of, JoinsItsParts, mips64el_info, mips64el_info_inverse, MipsInverse, MipsOneToOne, MipsFourTimes};
 
 use crate::reloc::Reloc;
 use goblin_base::container::Endian;
@@ -236,19 +234,7 @@ impl Record<Endian> for Rela {
         Ok(Rela::at(bytes, order))
     }
 
-    ghost size_positive = { λ order. (rela64_laws order).size_positive };
-
-    ghost length_image = { λ order. (rela64_laws order).length_image };
-
-    ghost image_bytes = { λ order. (rela64_laws order).image_bytes };
-
-    ghost writes_image = { λ order rela old new answer h. h };
-
-    ghost reads_front = { λ order. (rela64_laws order).reads_front };
-
-    ghost reads_back = { λ order. (rela64_laws order).reads_back };
-
-    ghost writes_back = { λ order. (rela64_laws order).writes_back };
+    ghost laws = { λ order. obeys (rela64_laws order) };
 }
 
 impl SizeWith<Endian> for Rel {
@@ -299,24 +285,12 @@ impl Record<Endian> for Rel {
         Ok(Rel::at(bytes, order))
     }
 
-    ghost size_positive = { λ order. (rel64_laws order).size_positive };
-
-    ghost length_image = { λ order. (rel64_laws order).length_image };
-
-    ghost image_bytes = { λ order. (rel64_laws order).image_bytes };
-
-    ghost writes_image = { λ order rel old new answer h. h };
-
-    ghost reads_front = { λ order. (rel64_laws order).reads_front };
-
-    ghost reads_back = { λ order. (rel64_laws order).reads_back };
-
-    ghost writes_back = { λ order. (rel64_laws order).writes_back };
+    ghost laws = { λ order. obeys (rel64_laws order) };
 }
 
-/// Laws: how many bytes relocations take, and which they are; that the default ones are those of zeros;
-/// that an `r_info` is joined again from its parts; that the `r_info` of MIPS64 files can be had back. A
-/// call does nothing.
+/// Laws: how many bytes relocations take, and which they are; that the default ones are those of
+/// zeros; that an `r_info` is joined again from its parts; that the `r_info` of MIPS64 files can be
+/// had back.
 pub fn laws()
     ensures sizes { (SIZEOF_RELA ≡ rela64_size) × (SIZEOF_REL ≡ rel64_size) }
     ensures rela_image { (order : Endian) →

@@ -1,188 +1,26 @@
 //! Symbols of either class: System V gABI, "Symbol Table".
-ghost use Rattle.std.specs.Prelude.{◌≡◌, ◌≤◌, ◌<◌, ◌/◌, ◌↔◌, ◌++◌, [], ◌∷◌, IsTrue, length, drop};
-ghost use Rattle.std.specs.Prelude.{codes, IsOk};
+ghost use Rattle.std.specs.Prelude.{◌≡◌, ◌≤◌, ◌<◌, ◌/◌, ◌↔◌, ◌++◌, IsTrue, length, drop, codes, IsOk};
+ghost use Rattle.goblin_base.specs.Layout.{IsOneImage, IsSameInEachClass};
+ghost use Rattle.goblin_base.specs.LayoutLaws.{obeys};
+ghost use Rattle.goblin_base.specs.Record.{read_within, Writes};
+ghost use Rattle.goblin_base.specs.Refusal.{buffer_too_short, Gives, Refuses};
+ghost use Rattle.goblin_base.specs.Steps.{with_size};
 ghost use Rattle.goblin_base.specs.declared.container.Container.{Container};
 ghost use Rattle.goblin_base.specs.declared.container.Endian.{Endian};
-ghost use Rattle.goblin_base.specs.Layout.{IsOneImage, IsSameInEachClass};
-ghost use Rattle.goblin_base.specs.Record.{read_within, Writes};
-ghost use Rattle.goblin_base.specs.Steps.{with_size};
-ghost use Rattle.goblin_base.specs.Refusal.{buffer_too_short, Gives, Refuses};
-ghost use Rattle.goblin_records.specs.Sym.{sym_size, sym_of, sym_image, sym_low, SymFits};
-ghost use Rattle.goblin_records.specs.Sym.{symbols_from, sym_zero};
+ghost use Rattle.goblin_records.specs.Constants.{sym_numbers};
+ghost use Rattle.goblin_records.specs.Sym.{sym_size, sym_of, sym_image, sym_low, SymFits, symbols_from, sym_zero};
+ghost use Rattle.goblin_records.specs.SymParts.{bind_of, type_of, visibility_of, IsGlobalImport, IsImport, type_name};
 ghost use Rattle.goblin_records.specs.declared.sym.Sym.{Sym};
-ghost use Rattle.goblin_records.specs.SymParts.{bind_of, type_of, visibility_of};
-ghost use Rattle.goblin_records.specs.SymParts.{IsGlobalImport, IsImport};
-ghost use Rattle.goblin_records.specs.SymParts.{bind_name, type_name, visibility_name};
 
+use crate::constants_sym::sym_constants;
 pub use crate::{sym32, sym64};
 use goblin_base::container::{Container, Ctx};
 use goblin_base::error::Result;
-use goblin_base::names::name_of;
 use goblin_base::number::room;
 use goblin_base::record::Record;
 use goblin_base::scroll::{IntoCtx, SizeWith, TryFromCtx, TryIntoCtx};
 use goblin_base::table::read_all;
 use std::alloc::Global;
-
-// Bindings.
-
-/// A symbol that other files do not see.
-pub const STB_LOCAL: u8 = 0;
-/// A symbol that all files see.
-pub const STB_GLOBAL: u8 = 1;
-/// A global symbol that gives way to another definition.
-pub const STB_WEAK: u8 = 2;
-/// How many bindings the standard defines.
-pub const STB_NUM: u8 = 3;
-/// The first binding of operating systems.
-pub const STB_LOOS: u8 = 10;
-/// A symbol of which a process has one (GNU).
-pub const STB_GNU_UNIQUE: u8 = 10;
-/// The last binding of operating systems.
-pub const STB_HIOS: u8 = 12;
-/// The first binding of processors.
-pub const STB_LOPROC: u8 = 13;
-/// The last binding of processors.
-pub const STB_HIPROC: u8 = 15;
-
-// Types.
-
-/// No type is given.
-pub const STT_NOTYPE: u8 = 0;
-/// Data.
-pub const STT_OBJECT: u8 = 1;
-/// Code.
-pub const STT_FUNC: u8 = 2;
-/// A section.
-pub const STT_SECTION: u8 = 3;
-/// The name of a source file.
-pub const STT_FILE: u8 = 4;
-/// A block of data that is still to be placed.
-pub const STT_COMMON: u8 = 5;
-/// Data of which each thread has its own.
-pub const STT_TLS: u8 = 6;
-/// How many types the standard defines.
-pub const STT_NUM: u8 = 7;
-/// The first type of operating systems.
-pub const STT_LOOS: u8 = 10;
-/// Code that finds the function to call (GNU).
-pub const STT_GNU_IFUNC: u8 = 10;
-/// The last type of operating systems.
-pub const STT_HIOS: u8 = 12;
-/// The first type of processors.
-pub const STT_LOPROC: u8 = 13;
-/// The last type of processors.
-pub const STT_HIPROC: u8 = 15;
-
-// Visibilities.
-
-/// As the binding says.
-pub const STV_DEFAULT: u8 = 0;
-/// Hidden, with a meaning that processors may add.
-pub const STV_INTERNAL: u8 = 1;
-/// Not seen by other components.
-pub const STV_HIDDEN: u8 = 2;
-/// Seen by other components, which cannot replace it.
-pub const STV_PROTECTED: u8 = 3;
-/// Stays global whatever else is asked for.
-pub const STV_EXPORTED: u8 = 4;
-/// Stays global, and a process has one of it.
-pub const STV_SINGLETON: u8 = 5;
-/// Hidden, and written to no symbol table.
-pub const STV_ELIMINATE: u8 = 6;
-
-/// The binding: the high four bits of `st_info`.
-pub fn st_bind(info: u8) -> u8
-    ensures { result ≡ bind_of info }
-{
-    info >> 4
-}
-
-/// The type: the low four bits of `st_info`.
-pub fn st_type(info: u8) -> u8
-    ensures { result ≡ type_of info }
-{
-    info & 0xf
-}
-
-/// The visibility: the low three bits of `st_other`.
-pub fn st_visibility(other: u8) -> u8
-    ensures { result ≡ visibility_of other }
-{
-    other & 0x7
-}
-
-/// Whether a symbol with this `st_info` and value is global and has no value. Weak symbols are not
-/// counted here, but by the methods of the same name.
-pub fn is_import(info: u8, value: u64) -> bool
-    ensures { IsTrue result ↔ IsGlobalImport info value }
-{
-    st_bind(info) == STB_GLOBAL && value == 0
-}
-
-/// The name of the type in an `st_info`, as by `type_to_str`.
-pub fn get_type(info: u8) -> &'static str
-    ensures { result.now ≡ type_name (type_of info) }
-{
-    type_to_str(st_type(info))
-}
-
-// The names of bindings.
-static BINDS: [(u32, &str); 5] = [
-    (STB_LOCAL as u32, "LOCAL"),
-    (STB_GLOBAL as u32, "GLOBAL"),
-    (STB_WEAK as u32, "WEAK"),
-    (STB_NUM as u32, "NUM"),
-    (STB_GNU_UNIQUE as u32, "GNU_UNIQUE"),
-];
-
-/// The name of a binding without its prefix, or `UNKNOWN_STB`.
-#[tactic(auto, unfolding(crate::specs::SymParts::bind_name))]
-pub fn bind_to_str(typ: u8) -> &'static str
-    ensures { result.now ≡ bind_name typ }
-{
-    name_of(&BINDS, typ as u32, "UNKNOWN_STB")
-}
-
-// The names of types.
-static TYPES: [(u32, &str); 9] = [
-    (STT_NOTYPE as u32, "NOTYPE"),
-    (STT_OBJECT as u32, "OBJECT"),
-    (STT_FUNC as u32, "FUNC"),
-    (STT_SECTION as u32, "SECTION"),
-    (STT_FILE as u32, "FILE"),
-    (STT_COMMON as u32, "COMMON"),
-    (STT_TLS as u32, "TLS"),
-    (STT_NUM as u32, "NUM"),
-    (STT_GNU_IFUNC as u32, "GNU_IFUNC"),
-];
-
-/// The name of a type without its prefix, or `UNKNOWN_STT`.
-#[tactic(auto, unfolding(crate::specs::SymParts::type_name))]
-pub fn type_to_str(typ: u8) -> &'static str
-    ensures { result.now ≡ type_name typ }
-{
-    name_of(&TYPES, typ as u32, "UNKNOWN_STT")
-}
-
-// The names of visibilities.
-static VISIBILITIES: [(u32, &str); 7] = [
-    (STV_DEFAULT as u32, "DEFAULT"),
-    (STV_INTERNAL as u32, "INTERNAL"),
-    (STV_HIDDEN as u32, "HIDDEN"),
-    (STV_PROTECTED as u32, "PROTECTED"),
-    (STV_EXPORTED as u32, "EXPORTED"),
-    (STV_SINGLETON as u32, "SINGLETON"),
-    (STV_ELIMINATE as u32, "ELIMINATE"),
-];
-
-/// The name of a visibility without its prefix, or `UNKNOWN_STV`.
-#[tactic(auto, unfolding(crate::specs::SymParts::visibility_name))]
-pub fn visibility_to_str(typ: u8) -> &'static str
-    ensures { result.now ≡ visibility_name typ }
-{
-    name_of(&VISIBILITIES, typ as u32, "UNKNOWN_STV")
-}
 
 /// A symbol of either class.
 #[derive(Clone, Copy, Debug, Default, PartialEq)]
@@ -354,40 +192,67 @@ impl Record<Ctx> for Sym {
         Ok(Sym::at(bytes, ctx))
     }
 
-    ghost size_positive = { λ ctx. (sym_laws ctx.container ctx.le).size_positive };
-
-    ghost length_image = { λ ctx. (sym_laws ctx.container ctx.le).length_image };
-
-    ghost image_bytes = { λ ctx. (sym_laws ctx.container ctx.le).image_bytes };
-
-    ghost writes_image = { λ ctx sym old new answer h. h };
-
-    ghost reads_front = { λ ctx. (sym_laws ctx.container ctx.le).reads_front };
-
-    ghost reads_back = { λ ctx. (sym_laws ctx.container ctx.le).reads_back };
-
-    ghost writes_back = { λ ctx. (sym_laws ctx.container ctx.le).writes_back };
+    ghost laws = { λ ctx. obeys (sym_laws ctx.container ctx.le) };
 }
 
-/// Laws: the numbers of this module's constants. A call does nothing.
-pub fn constants()
-    ensures bindings { STB_LOCAL ∷ STB_GLOBAL ∷ STB_WEAK ∷ STB_NUM ∷ STB_LOOS ∷ STB_GNU_UNIQUE ∷
-        STB_HIOS ∷ STB_LOPROC ∷ STB_HIPROC ∷ []
-        ≡ 0 ∷ 1 ∷ 2 ∷ 3 ∷ 10 ∷ 10 ∷ 12 ∷ 13 ∷ 15 ∷ [] }
-    ensures types { STT_NOTYPE ∷ STT_OBJECT ∷ STT_FUNC ∷ STT_SECTION ∷ STT_FILE ∷ STT_COMMON ∷
-        STT_TLS ∷ STT_NUM ∷ STT_LOOS ∷ STT_GNU_IFUNC ∷ STT_HIOS ∷ STT_LOPROC ∷ STT_HIPROC ∷
-        []
-        ≡ 0 ∷ 1 ∷ 2 ∷ 3 ∷ 4 ∷ 5 ∷ 6 ∷ 7 ∷ 10 ∷ 10 ∷ 12 ∷ 13 ∷ 15 ∷ [] }
-    ensures visibilities { STV_DEFAULT ∷ STV_INTERNAL ∷ STV_HIDDEN ∷ STV_PROTECTED ∷ STV_EXPORTED ∷
-        STV_SINGLETON ∷ STV_ELIMINATE ∷ []
-        ≡ 0 ∷ 1 ∷ 2 ∷ 3 ∷ 4 ∷ 5 ∷ 6 ∷ [] }
-{}
+/// The binding: the high four bits of `st_info`.
+pub fn st_bind(info: u8) -> u8
+    ensures { result ≡ bind_of info }
+{
+    info >> 4
+}
+
+/// The type: the low four bits of `st_info`.
+pub fn st_type(info: u8) -> u8
+    ensures { result ≡ type_of info }
+{
+    info & 0xf
+}
+
+/// The visibility: the low three bits of `st_other`.
+pub fn st_visibility(other: u8) -> u8
+    ensures { result ≡ visibility_of other }
+{
+    other & 0x7
+}
+
+/// Whether a symbol with this `st_info` and value is global and has no value. Weak symbols are not
+/// counted here, but by the methods of the same name.
+pub fn is_import(info: u8, value: u64) -> bool
+    ensures { IsTrue result ↔ IsGlobalImport info value }
+{
+    st_bind(info) == STB_GLOBAL && value == 0
+}
+
+/// The name of the type in an `st_info`, as by `type_to_str`.
+pub fn get_type(info: u8) -> &'static str
+    ensures { result.now ≡ type_name (type_of info) }
+{
+    type_to_str(st_type(info))
+}
 
 /// Laws: which bytes a symbol is written as, that classes and byte orders keep lists of symbols the
-/// same, and that the default symbol is that of zeros. A call does nothing.
+/// same, and that the default symbol is that of zeros.
 pub fn laws()
     ensures image { (class : Container) (order : Endian) →
         IsOneImage (sym_size class) (sym_of class order) (sym_image class order) (sym_low class) }
     ensures same { IsSameInEachClass sym_size sym_of sym_image SymFits }
     ensures zeros { (sym : Sym) → ⟦<Sym as Default>⟧.is_default sym → sym ≡ sym_zero }
 {}
+
+// The constants of symbols, and their names.
+pub use crate::constants_sym::{
+    STB_GLOBAL, STB_GNU_UNIQUE, STB_HIOS, STB_HIPROC, STB_LOCAL, STB_LOOS, STB_LOPROC, STB_NUM,
+    STB_WEAK, STT_COMMON, STT_FILE, STT_FUNC, STT_GNU_IFUNC, STT_HIOS, STT_HIPROC, STT_LOOS,
+    STT_LOPROC, STT_NOTYPE, STT_NUM, STT_OBJECT, STT_SECTION, STT_TLS, STV_DEFAULT, STV_ELIMINATE,
+    STV_EXPORTED, STV_HIDDEN, STV_INTERNAL, STV_PROTECTED, STV_SINGLETON, bind_to_str, type_to_str,
+    visibility_to_str,
+};
+
+/// A law: the numbers of the constants that this module passes on, under the names that they have
+/// here, which a call answers.
+pub fn constants() -> ([u8; 9], [u8; 13], [u8; 7])
+    ensures numbers { result ≡ sym_numbers }
+{
+    sym_constants!()
+}

@@ -306,8 +306,7 @@ pub fn text_of(alloc: Global, bytes: &[u8], opts: &ParseOptions) -> Result<Strin
     file.text(alloc)
 }
 
-/// Law: where the text is shown by strict options, the same is shown by permissive ones. A call does
-/// nothing.
+/// A law: where the text is shown by strict options, the same is shown by permissive ones.
 pub fn laws()
     ensures { PermissiveShowsStrict }
 {

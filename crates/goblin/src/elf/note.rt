@@ -240,7 +240,7 @@ impl<'a> TryFromCtx<'a, (usize, Ctx)> for Note<'a> {
     }
 }
 
-/// Laws: what the constants of this module stand for. A call does nothing.
+/// Laws: what the constants of this module stand for.
 pub fn constants()
     ensures gnu { NT_GNU_ABI_TAG ∷ ELF_NOTE_ABI ∷ NT_GNU_HWCAP ∷ NT_GNU_BUILD_ID ∷
         NT_GNU_GOLD_VERSION ∷ NT_GNU_PROPERTY_TYPE_0 ∷ []
@@ -253,7 +253,7 @@ pub fn constants()
 {}
 
 /// Laws: how the items of a range follow one another, how far a note reaches, and how many items a
-/// range has. A call does nothing.
+/// range has.
 pub fn laws()
     ensures items { NoteByNote }
     ensures advance { NotesAdvance }

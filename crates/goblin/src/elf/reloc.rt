@@ -1,8 +1,6 @@
 //! Relocations and relocation sections: System V gABI, "Relocation".
 ghost use Rattle.std.specs.Prelude.{◌≡◌, ◌<◌, ◌^◌, ◌↔◌, [], false, length, slice_get, IsTrue, IfOk};
-ghost use Rattle.std.specs.Prelude.{IfErr, IfSome, IsOk, alloc_error};
-ghost use Rattle.std.specs.Iterator.{UpTo, YieldsFirst, item_count};
-ghost use Rattle.std.specs.Iterator.SizeHint.{IsWithinCount};
+ghost use Rattle.std.specs.Prelude.{IfErr, IsOk, alloc_error};
 ghost use Rattle.goblin.specs.RelocSection.{relocs_of, is_of_mips64el};
 ghost use Rattle.goblin.specs.RelocSection.{DependsOnItsRange, WritesItsBytes};
 
@@ -112,9 +110,7 @@ impl<'a> RelocSection<'a> {
         ensures exact { result ≡ self.now }
         ensures bound { length self.now < 2 ^ 64 }
     {
-        RelocIterator {
-            inner: self.table.iter(),
-        }
+        self.table.iter()
     }
 
     /// The relocations as a vector. Only want of memory is an error, and an empty section takes none.
@@ -155,47 +151,7 @@ impl<'a, 'b> IntoIterator for &'b RelocSection<'a> {
 }
 
 /// An iterator over the relocations of a section: from the first to the last, and `None` from then on.
-#[derive(Debug, Drop)]
-pub struct RelocIterator<'a> {
-    inner: TableIter<'a, Reloc, RelocCtx>,
-}
-
-// An iterator is seen as the list of the relocations that are left.
-impl<'a> Model for RelocIterator<'a> {
-    ghost use Rattle.std.specs.Prelude.{List};
-    ghost use Rattle.goblin_records.specs.declared.reloc.Reloc.{Reloc};
-
-    ghost Value = { List Reloc };
-
-    ghost view = { λ it. it.inner };
-}
-
-impl<'a> Iterator for RelocIterator<'a> {
-    type Item = Reloc;
-
-    ghost next_gives = { YieldsFirst (λ left. left) };
-
-    ghost remaining = { item_count (λ left. left) };
-
-    fn next(&mut self) -> Option<Self::Item> {
-        self.inner.next()
-    }
-
-    fn size_hint(&self) -> (usize, Option<usize>)
-        ensures lower { IsWithinCount result.0 (item_count (λ left. left) self.now) }
-        ensures upper { IfSome result.1 (UpTo (item_count (λ left. left) self.now)) }
-        // Both bounds are the number of relocations that are left.
-        ensures exact { result ≡ (length self.now, Some (length self.now)) }
-    {
-        self.inner.size_hint()
-    }
-}
-
-impl<'a> ExactSizeIterator for RelocIterator<'a> {
-    fn len(&self) -> usize {
-        self.inner.len()
-    }
-}
+pub type RelocIterator<'a> = TableIter<'a, Reloc, RelocCtx>;
 
 /// Whether a file is a MIPS64 file of little order, whose relocations go through the pair: its machine is
 /// `EM_MIPS`, its class byte `ELFCLASS64` and its data byte `ELFDATA2LSB`.
@@ -207,8 +163,7 @@ pub fn is_mips64el(header: &Header) -> bool
         && header.e_ident[EI_DATA] == ELFDATA2LSB
 }
 
-/// Laws: that a relocation section depends on its own bytes alone, and is written as them. A call does
-/// nothing.
+/// Laws: that a relocation section depends on its own bytes alone, and is written as them.
 pub fn laws()
     ensures range { DependsOnItsRange }
     ensures bytes { WritesItsBytes }

@@ -1,8 +1,6 @@
 //! Symbols and symbol tables: System V gABI, "Symbol Table".
 ghost use Rattle.std.specs.Prelude.{◌≡◌, ◌≤◌, ◌<◌, ◌-◌, ◌*◌, ◌^◌, ◌↔◌, [], ◌∷◌, length, slice_get, IsTrue, IfOk, IfErr, IsOk};
-ghost use Rattle.std.specs.Prelude.{IfSome, alloc_error};
-ghost use Rattle.std.specs.Iterator.{UpTo, YieldsFirst, item_count};
-ghost use Rattle.std.specs.Iterator.SizeHint.{IsWithinCount};
+ghost use Rattle.std.specs.Prelude.{alloc_error};
 ghost use Rattle.goblin.specs.Symtab.{symbols_at, symtab_by, symtab_of};
 ghost use Rattle.goblin.specs.Symtab.{DependsOnItsRange, PermissiveKeepsStrict};
 ghost use Rattle.goblin_records.specs.Sym.{sym_size};
@@ -153,9 +151,7 @@ impl<'a> Symtab<'a> {
         ensures exact { result ≡ self.now.symbols }
         ensures bound { length self.now.symbols < 2 ^ 64 }
     {
-        SymIterator {
-            inner: self.table.iter(),
-        }
+        self.table.iter()
     }
 
     /// The symbols as a vector. Only want of memory is an error, and an empty table takes none.
@@ -205,49 +201,9 @@ impl<'a, 'b> IntoIterator for &'b Symtab<'a> {
 }
 
 /// An iterator over the symbols of a table: from the first to the last, and `None` from then on.
-#[derive(Debug, Drop)]
-pub struct SymIterator<'a> {
-    inner: TableIter<'a, Sym, Ctx>,
-}
+pub type SymIterator<'a> = TableIter<'a, Sym, Ctx>;
 
-// An iterator is seen as the list of the symbols that are left.
-impl<'a> Model for SymIterator<'a> {
-    ghost use Rattle.std.specs.Prelude.{List};
-    ghost use Rattle.goblin_records.specs.declared.sym.Sym.{Sym};
-
-    ghost Value = { List Sym };
-
-    ghost view = { λ it. it.inner };
-}
-
-impl<'a> Iterator for SymIterator<'a> {
-    type Item = Sym;
-
-    ghost next_gives = { YieldsFirst (λ left. left) };
-
-    ghost remaining = { item_count (λ left. left) };
-
-    fn next(&mut self) -> Option<Self::Item> {
-        self.inner.next()
-    }
-
-    fn size_hint(&self) -> (usize, Option<usize>)
-        ensures lower { IsWithinCount result.0 (item_count (λ left. left) self.now) }
-        ensures upper { IfSome result.1 (UpTo (item_count (λ left. left) self.now)) }
-        // Both bounds are the number of symbols that are left.
-        ensures exact { result ≡ (length self.now, Some (length self.now)) }
-    {
-        self.inner.size_hint()
-    }
-}
-
-impl<'a> ExactSizeIterator for SymIterator<'a> {
-    fn len(&self) -> usize {
-        self.inner.len()
-    }
-}
-
-/// Laws: what the constants that this module passes on stand for. A call does nothing.
+/// Laws: what the constants that this module passes on stand for.
 pub fn constants()
     ensures bindings { STB_LOCAL ∷ STB_GLOBAL ∷ STB_WEAK ∷ STB_NUM ∷ STB_LOOS ∷ STB_GNU_UNIQUE ∷
         STB_HIOS ∷ STB_LOPROC ∷ STB_HIPROC ∷ []
@@ -261,8 +217,8 @@ pub fn constants()
         ≡ 0 ∷ 1 ∷ 2 ∷ 3 ∷ 4 ∷ 5 ∷ 6 ∷ [] }
 {}
 
-/// Laws: where a table is accepted strictly, the permissive reading gives the same table; and a table
-/// depends on the bytes of its range alone. A call does nothing.
+/// Laws: where a table is accepted strictly, the permissive reading gives the same table; and a
+/// table depends on the bytes of its range alone.
 pub fn laws()
     ensures permissive { PermissiveKeepsStrict }
     ensures range { DependsOnItsRange }

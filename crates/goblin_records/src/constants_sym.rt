@@ -1,0 +1,151 @@
+//! The constants of symbols, and their names: System V gABI, "Symbol Table".
+ghost use Rattle.std.specs.Prelude.{◌≡◌};
+ghost use Rattle.goblin_records.specs.SymParts.{bind_name, type_name, visibility_name};
+
+use goblin_base::names::name_of;
+
+// Bindings.
+
+/// A symbol that other files do not see.
+pub const STB_LOCAL: u8 = 0;
+/// A symbol that all files see.
+pub const STB_GLOBAL: u8 = 1;
+/// A global symbol that gives way to another definition.
+pub const STB_WEAK: u8 = 2;
+/// How many bindings the standard defines.
+pub const STB_NUM: u8 = 3;
+/// The first binding of operating systems.
+pub const STB_LOOS: u8 = 10;
+/// A symbol of which a process has one (GNU).
+pub const STB_GNU_UNIQUE: u8 = 10;
+/// The last binding of operating systems.
+pub const STB_HIOS: u8 = 12;
+/// The first binding of processors.
+pub const STB_LOPROC: u8 = 13;
+/// The last binding of processors.
+pub const STB_HIPROC: u8 = 15;
+
+// Types.
+
+/// No type is given.
+pub const STT_NOTYPE: u8 = 0;
+/// Data.
+pub const STT_OBJECT: u8 = 1;
+/// Code.
+pub const STT_FUNC: u8 = 2;
+/// A section.
+pub const STT_SECTION: u8 = 3;
+/// The name of a source file.
+pub const STT_FILE: u8 = 4;
+/// A block of data that is still to be placed.
+pub const STT_COMMON: u8 = 5;
+/// Data of which each thread has its own.
+pub const STT_TLS: u8 = 6;
+/// How many types the standard defines.
+pub const STT_NUM: u8 = 7;
+/// The first type of operating systems.
+pub const STT_LOOS: u8 = 10;
+/// Code that finds the function to call (GNU).
+pub const STT_GNU_IFUNC: u8 = 10;
+/// The last type of operating systems.
+pub const STT_HIOS: u8 = 12;
+/// The first type of processors.
+pub const STT_LOPROC: u8 = 13;
+/// The last type of processors.
+pub const STT_HIPROC: u8 = 15;
+
+// Visibilities.
+
+/// As the binding says.
+pub const STV_DEFAULT: u8 = 0;
+/// Hidden, with a meaning that processors may add.
+pub const STV_INTERNAL: u8 = 1;
+/// Not seen by other components.
+pub const STV_HIDDEN: u8 = 2;
+/// Seen by other components, which cannot replace it.
+pub const STV_PROTECTED: u8 = 3;
+/// Stays global whatever else is asked for.
+pub const STV_EXPORTED: u8 = 4;
+/// Stays global, and a process has one of it.
+pub const STV_SINGLETON: u8 = 5;
+/// Hidden, and written to no symbol table.
+pub const STV_ELIMINATE: u8 = 6;
+
+// The names of bindings.
+static BINDS: [(u32, &str); 5] = [
+    (STB_LOCAL as u32, "LOCAL"),
+    (STB_GLOBAL as u32, "GLOBAL"),
+    (STB_WEAK as u32, "WEAK"),
+    (STB_NUM as u32, "NUM"),
+    (STB_GNU_UNIQUE as u32, "GNU_UNIQUE"),
+];
+
+/// The name of a binding without its prefix, or `UNKNOWN_STB`.
+#[tactic(auto, unfolding(crate::specs::SymParts::bind_name))]
+pub fn bind_to_str(typ: u8) -> &'static str
+    ensures { result.now ≡ bind_name typ }
+{
+    name_of(&BINDS, typ as u32, "UNKNOWN_STB")
+}
+
+// The names of types.
+static TYPES: [(u32, &str); 9] = [
+    (STT_NOTYPE as u32, "NOTYPE"),
+    (STT_OBJECT as u32, "OBJECT"),
+    (STT_FUNC as u32, "FUNC"),
+    (STT_SECTION as u32, "SECTION"),
+    (STT_FILE as u32, "FILE"),
+    (STT_COMMON as u32, "COMMON"),
+    (STT_TLS as u32, "TLS"),
+    (STT_NUM as u32, "NUM"),
+    (STT_GNU_IFUNC as u32, "GNU_IFUNC"),
+];
+
+/// The name of a type without its prefix, or `UNKNOWN_STT`.
+#[tactic(auto, unfolding(crate::specs::SymParts::type_name))]
+pub fn type_to_str(typ: u8) -> &'static str
+    ensures { result.now ≡ type_name typ }
+{
+    name_of(&TYPES, typ as u32, "UNKNOWN_STT")
+}
+
+// The names of visibilities.
+static VISIBILITIES: [(u32, &str); 7] = [
+    (STV_DEFAULT as u32, "DEFAULT"),
+    (STV_INTERNAL as u32, "INTERNAL"),
+    (STV_HIDDEN as u32, "HIDDEN"),
+    (STV_PROTECTED as u32, "PROTECTED"),
+    (STV_EXPORTED as u32, "EXPORTED"),
+    (STV_SINGLETON as u32, "SINGLETON"),
+    (STV_ELIMINATE as u32, "ELIMINATE"),
+];
+
+/// The name of a visibility without its prefix, or `UNKNOWN_STV`.
+#[tactic(auto, unfolding(crate::specs::SymParts::visibility_name))]
+pub fn visibility_to_str(typ: u8) -> &'static str
+    ensures { result.now ≡ visibility_name typ }
+{
+    name_of(&VISIBILITIES, typ as u32, "UNKNOWN_STV")
+}
+
+// What the constants stand for in the module that names them here: bindings, types and visibilities.
+macro_rules! sym_constants {
+    () => {
+        (
+            [
+                STB_LOCAL, STB_GLOBAL, STB_WEAK, STB_NUM, STB_LOOS, STB_GNU_UNIQUE, STB_HIOS,
+                STB_LOPROC, STB_HIPROC,
+            ],
+            [
+                STT_NOTYPE, STT_OBJECT, STT_FUNC, STT_SECTION, STT_FILE, STT_COMMON, STT_TLS,
+                STT_NUM, STT_LOOS, STT_GNU_IFUNC, STT_HIOS, STT_LOPROC, STT_HIPROC,
+            ],
+            [
+                STV_DEFAULT, STV_INTERNAL, STV_HIDDEN, STV_PROTECTED, STV_EXPORTED, STV_SINGLETON,
+                STV_ELIMINATE,
+            ],
+        )
+    };
+}
+
+pub(crate) use sym_constants;
