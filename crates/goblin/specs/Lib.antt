@@ -48,6 +48,7 @@ pub use Rattle.goblin_records.specs.SymLaws
 pub use Rattle.goblin_records.specs.SymParts
 pub mod Note
 pub mod NoteLaws
+pub mod NoteRuns
 pub mod NoteType
 pub mod Notes
 pub mod RelocSection

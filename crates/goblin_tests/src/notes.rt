@@ -230,6 +230,7 @@ fn ends_a_range_with_its_fault(rt: HostRuntime) {
 }
 
 // How many items a range has.
+#[tactic(auto, using(goblin::specs::NoteRuns::notes_run))]
 fn count(notes: NoteDataIterator) -> usize
     ensures { result ≡ length (items_left notes.entry) }
 {
