@@ -1,4 +1,4 @@
-# The two commands of this repository. Both need nothing but the Rattle toolchain (`rt`).
+# The commands of this repository. They need nothing but the Rattle toolchain (`rt`).
 
 # Proves and builds the program where needed, and shows a file: make show FILE=/bin/true
 # (A refused file is no error of make: only a program that isn't proved or built, or that can't read or write, is.)
@@ -21,4 +21,8 @@ refused:
 proved:
 	rt ci
 
-.PHONY: show test refused proved
+# Times the program, once it is built, over files that ask for much work, and over a FILE: make bench FILE=/bin/true
+bench:
+	sh checks/bench.sh $(FILE)
+
+.PHONY: show test refused proved bench

@@ -14,6 +14,7 @@ pub use Rattle.goblin_base.specs.Strtab
 pub use Rattle.goblin_base.specs.StrtabLaws
 pub use Rattle.goblin_base.specs.Table
 pub use Rattle.goblin_base.specs.TableLaws
+pub use Rattle.goblin_base.specs.TextLaws
 pub use Rattle.goblin_base.specs.Texts
 pub use Rattle.goblin_base.specs.Utf8
 pub use Rattle.goblin_headers.specs.Header

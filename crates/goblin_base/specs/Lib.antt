@@ -23,5 +23,6 @@ pub mod Strtab
 pub mod StrtabLaws
 pub mod Table
 pub mod TableLaws
+pub mod TextLaws
 pub mod Texts
 pub mod Utf8

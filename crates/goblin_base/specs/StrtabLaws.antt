@@ -1,5 +1,5 @@
 -- Laws of string tables, over their definitions alone.
-use Rattle.std.specs.Prelude.{◌≡◌, ◌↔◌, ℕ, ◌-◌, ◌^◌, ◌<◌, ◌≤◌, ◌==◌, ◌&&◌, Bool, true, List, [], ◌∷◌, ◌++◌, map, length, take, drop, nat_lt, slice_index, if◌then◌else◌, IsTrue, IsOk, Some, Ok}
+use Rattle.std.specs.Prelude.{◌≡◌, ◌↔◌, ℕ, ◌-◌, ◌^◌, ◌<◌, ◌≤◌, ◌==◌, ◌&&◌, Bool, true, List, [], ◌∷◌, ◌++◌, map, length, take, drop, nat_lt, slice_index, if◌then◌else◌, IsTrue, IsOk, Some, Ok, unwrap_or}
 use Rattle.std.specs.List.{join_with_byte}
 use Rattle.std.specs.Result.{result_ok}
 use Rattle.std.specs.Str.{IsUtf8, is_utf8}
@@ -8,7 +8,7 @@ use Rattle.goblin_base.specs.declared.options.ParseMode.TheVariants.{Strict, Per
 use Rattle.goblin_base.specs.Entries.{text_of}
 use Rattle.goblin_base.specs.Pieces.{entries, entries_by_place}
 use Rattle.goblin_base.specs.Search.{digits}
-use Rattle.goblin_base.specs.Strtab.{StringTable, walked, strtab_of, plain, look_up}
+use Rattle.goblin_base.specs.Strtab.{StringTable, walked, range_in, strtab_of, plain, look_up}
 
 -- the test for text passes exactly where some scalar values have the bytes as their joined shortest spellings
 abbrev pub TextIsUtf8 : Type 0
@@ -57,6 +57,18 @@ abbrev pub DependsOnRange : Type 0
 DependsOnRange = (mode : ParseMode) (a b : List ℕ) (offset size delim : ℕ)
     → length a ≡ length b → take size (drop offset a) ≡ take size (drop offset b)
     → strtab_of mode a offset size delim ≡ strtab_of mode b offset size delim
+
+-- a range that is text is a table in either mode, where the delimiter is ASCII: no walk is needed to know it
+abbrev pub TextIsTaken : Type 0
+TextIsTaken = (mode : ParseMode) (file : List ℕ) (offset size delim : ℕ) (range : List ℕ)
+    → delim < 128 → range_in mode file offset size ≡ Ok range → IsUtf8 range
+    → strtab_of mode file offset size delim ≡ Ok (record { bytes = range; delim = delim; is_parsed = true })
+
+-- in a parsed table the text at an offset, or an empty one where there is none, is that of the plain reading, whether the
+-- bytes are text or not
+abbrev pub NamesArePlain : Type 0
+NamesArePlain = (table : StringTable) (offset : ℕ) → table.is_parsed ≡ true → offset < length table.bytes
+    → unwrap_or (look_up table offset) [] ≡ unwrap_or (result_ok (plain table.bytes table.delim offset)) []
 
 -- a number has at most n binary digits exactly if it is below 2 ^ n
 abbrev pub DigitsCount : Type 0

@@ -10,6 +10,7 @@ ghost use Rattle.goblin_base.specs.Refusal.{Answers, Gives};
 ghost use Rattle.goblin_base.specs.Search.{IsLastUpTo};
 ghost use Rattle.goblin_base.specs.Strtab.{RefusesFirst, look_up, plain, range_in, strings_of, strtab_of, table_of, texts_of};
 ghost use Rattle.goblin_base.specs.StrtabLaws.{ClosedForm, DependsOnRange, DigitsCount, JoinsAgain, LookUpHasPlain, PermissiveAccepts, StrictIsPermissive, StrictLookUpIsPlain, TextIsUtf8};
+ghost use Rattle.goblin_base.specs.StrtabLaws.{NamesArePlain, TextIsTaken};
 
 use crate::entries::{Entries, Looked, Probes};
 use crate::error::{Error, Fault, Result};
@@ -334,5 +335,7 @@ pub fn laws()
     ensures look_up_has_plain { LookUpHasPlain }
     ensures strict_look_up_is_plain { StrictLookUpIsPlain }
     ensures depends_on_range { DependsOnRange }
+    ensures text_is_taken { TextIsTaken }
+    ensures names_are_plain { NamesArePlain }
     ensures digits_count { DigitsCount }
 {}

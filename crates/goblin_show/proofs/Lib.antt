@@ -1,3 +1,4 @@
+mod Blocks
 mod Modes
 mod Printed
 mod Reading

@@ -2,9 +2,11 @@
 ghost use Rattle.std.specs.Prelude.{◌≡◌, ◌++◌, OnOk, IfErr, string_bytes};
 ghost use Rattle.goblin.specs.Refusal.{Gives, Refuses};
 ghost use Rattle.goblin.specs.SectionHeaders.{section_headers_of_tested};
-ghost use Rattle.goblin_show.specs.Shown.{Adds, PermissiveShowsStrict, ctx_of, each_shown, file_shown, has_relocs, has_symbols, name_at, names_index, section_lines};
+ghost use Rattle.goblin_show.specs.Known.{IsKnown, table_in};
+ghost use Rattle.goblin_show.specs.Shown.{Adds, PermissiveShowsStrict, ctx_of, each_shown, file_shown, has_relocs, has_symbols, names_index, section_lines};
 ghost use Rattle.goblin_show.specs.Shown.{reloc_lines, relocs_shown, sections_of, shown, sizes_checked, strings_at, strings_of, symbol_lines, symbols_shown, tested};
 
+use crate::known::{Known, Names};
 use crate::lines::{push_header, push_reloc, push_section, push_symbol};
 use goblin::container::Ctx;
 use goblin::elf::header::Header;
@@ -16,7 +18,6 @@ use goblin::elf::sym::{Sym, Symtab};
 use goblin::error::Result;
 use goblin::options::ParseOptions;
 use goblin::scroll::{LE, TryFromCtx};
-use goblin::strtab::Strtab;
 use std::alloc::{AllocError, Global};
 
 // The class and the byte order that a header tells.
@@ -57,13 +58,6 @@ fn sections_of(
     Ok(sections)
 }
 
-// The string at an offset of a table, or an empty one where it has none.
-fn name_at<'a>(strings: &Strtab<'a>, offset: usize) -> &'a str
-    ensures { result.now ≡ name_at strings.now offset }
-{
-    strings.get_at(offset).unwrap_or("")
-}
-
 // The index of the section names' table.
 fn names_index(header: &Header, sections: &[SectionHeader]) -> usize
     ensures { result ≡ names_index header.now sections.now }
@@ -81,13 +75,13 @@ fn names_index(header: &Header, sections: &[SectionHeader]) -> usize
 fn push_sections(
     text: &mut String,
     sections: &[SectionHeader],
-    names: &Strtab<'_>,
+    names: &Names<'_>,
 ) -> std::result::Result<(), AllocError>
     ensures { OnOk result (string_bytes text.new
-        ≡ string_bytes text.old ++ section_lines names.now 0 sections.now) }
+        ≡ string_bytes text.old ++ section_lines (table_in names.now) 0 sections.now) }
 {
     for (number, section) in sections.iter().enumerate() {
-        push_section(text, number, section, name_at(names, section.sh_name))?;
+        push_section(text, number, section, names.at(section.sh_name))?;
     }
     Ok(())
 }
@@ -97,19 +91,13 @@ fn push_symbols(
     text: &mut String,
     section: usize,
     table: &Symtab<'_>,
-    names: &Strtab<'_>,
+    names: &Names<'_>,
 ) -> std::result::Result<(), AllocError>
     ensures { OnOk result (string_bytes text.new
-        ≡ string_bytes text.old ++ symbol_lines names.now section 0 table.now.symbols) }
+        ≡ string_bytes text.old ++ symbol_lines (table_in names.now) section 0 table.now.symbols) }
 {
     for (number, symbol) in table.iter().enumerate() {
-        push_symbol(
-            text,
-            section,
-            number,
-            &symbol,
-            name_at(names, symbol.st_name),
-        )?;
+        push_symbol(text, section, number, &symbol, names.at(symbol.st_name))?;
     }
     Ok(())
 }
@@ -154,31 +142,40 @@ struct File<'a> {
 }
 
 impl<'a> File<'a> {
-    // The string table that a section is.
-    fn strings_of(&self, alloc: Global, section: &SectionHeader) -> Result<Strtab<'a>>
-        ensures { let right = strings_of self.now.opts.now.parse_mode self.now.bytes.now
-            (Some section.now) in Gives (λ table. table) result right }
+    // Turns to the string table that a section is.
+    fn turn_to(&self, alloc: Global, known: &mut Known<'a>, section: &SectionHeader) -> Result<()>
+        requires { IsKnown self.now.opts.now.parse_mode self.now.bytes.now known.old }
+        ensures known { IsKnown self.now.opts.now.parse_mode self.now.bytes.now known.new }
+        ensures given { let right = strings_of self.now.opts.now.parse_mode self.now.bytes.now
+            (Some section.now) in Gives (λ _. table_in known.new.names) result right }
     {
         if section.sh_type == SHT_NOBITS {
-            return Ok(Strtab::default());
+            known.turn_to_none();
+            return Ok(());
         }
         let offset = section.sh_offset as usize;
         let size = section.sh_size as usize;
-        Strtab::parse_with_opts(alloc, self.bytes, offset, size, 0, self.opts)
+        known.turn_to(alloc, self.bytes, offset, size, self.opts)
     }
 
-    // The string table that is the section with an index: index 0 is no section.
+    // Turns to the string table that is the section with an index: index 0 is no section.
     #[tactic(auto, unfolding(crate::specs::Shown::strings_at))]
-    fn strings_at(&self, alloc: Global, index: usize) -> Result<Strtab<'a>>
-        ensures { let right = strings_at self.now.opts.now.parse_mode self.now.bytes.now
-            self.now.sections.now index in Gives (λ table. table) result right }
+    fn turn_to_index(&self, alloc: Global, known: &mut Known<'a>, index: usize) -> Result<()>
+        requires { IsKnown self.now.opts.now.parse_mode self.now.bytes.now known.old }
+        ensures known { IsKnown self.now.opts.now.parse_mode self.now.bytes.now known.new }
+        ensures given { let right = strings_at self.now.opts.now.parse_mode self.now.bytes.now
+            self.now.sections.now index in Gives (λ _. table_in known.new.names) result right }
     {
         if index == 0 {
-            return Ok(Strtab::default());
+            known.turn_to_none();
+            return Ok(());
         }
         match self.sections.get(index) {
-            Some(section) => self.strings_of(alloc, section),
-            None => Ok(Strtab::default()),
+            Some(section) => self.turn_to(alloc, known, section),
+            None => {
+                known.turn_to_none();
+                Ok(())
+            }
         }
     }
 
@@ -188,11 +185,14 @@ impl<'a> File<'a> {
     fn push_symbols_of(
         &self,
         alloc: Global,
+        known: &mut Known<'a>,
         text: &mut String,
         number: usize,
         section: &SectionHeader,
     ) -> Result<()>
-        ensures { let right = symbols_shown self.now.opts.now.parse_mode self.now.bytes.now
+        requires { IsKnown self.now.opts.now.parse_mode self.now.bytes.now known.old }
+        ensures known { IsKnown self.now.opts.now.parse_mode self.now.bytes.now known.new }
+        ensures added { let right = symbols_shown self.now.opts.now.parse_mode self.now.bytes.now
             self.now.ctx self.now.sections.now number section.now in
             Adds (string_bytes text.old) (string_bytes text.new) result right }
     {
@@ -202,19 +202,25 @@ impl<'a> File<'a> {
         let offset = section.sh_offset as usize;
         let count = section.sh_size as usize / Sym::size(self.ctx.container);
         let table = Symtab::parse_with_opts(self.bytes, offset, count, self.ctx, self.opts)?;
-        let names = self.strings_at(alloc, section.sh_link as usize)?;
-        Ok(push_symbols(text, number, &table, &names)?)
+        self.turn_to_index(alloc, known, section.sh_link as usize)?;
+        Ok(push_symbols(text, number, &table, &known.names)?)
     }
 
     // Adds the lines of all symbols to a text.
-    fn push_all_symbols(&self, alloc: Global, text: &mut String) -> Result<()>
+    fn push_all_symbols(
+        &self,
+        alloc: Global,
+        known: &mut Known<'a>,
+        text: &mut String,
+    ) -> Result<()>
+        requires { IsKnown self.now.opts.now.parse_mode self.now.bytes.now known.old }
         ensures { let shows = symbols_shown self.now.opts.now.parse_mode self.now.bytes.now
             self.now.ctx self.now.sections.now in
             Adds (string_bytes text.old) (string_bytes text.new) result
             (each_shown shows 0 self.now.sections.now) }
     {
         for (number, section) in self.sections.iter().enumerate() {
-            self.push_symbols_of(alloc, text, number, section)?;
+            self.push_symbols_of(alloc, known, text, number, section)?;
         }
         Ok(())
     }
@@ -268,11 +274,12 @@ impl<'a> File<'a> {
             self.now.header.now self.now.ctx self.now.sections.now in
             Gives string_bytes result right }
     {
-        let names = self.strings_at(alloc, names_index(self.header, self.sections))?;
+        let mut known = Known::new();
+        self.turn_to_index(alloc, &mut known, names_index(self.header, self.sections))?;
         let mut text = String::new(alloc);
         push_header(&mut text, self.header)?;
-        push_sections(&mut text, self.sections, &names)?;
-        self.push_all_symbols(alloc, &mut text)?;
+        push_sections(&mut text, self.sections, &known.names)?;
+        self.push_all_symbols(alloc, &mut known, &mut text)?;
         self.push_all_relocs(&mut text, is_mips64el(self.header))?;
         Ok(text)
     }

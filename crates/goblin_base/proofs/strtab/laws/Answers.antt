@@ -1,5 +1,6 @@
 use Rattle.goblin_base.proofs.DigitsLemmas.{digits_count}
 use Rattle.goblin_base.proofs.LawLemmas.{text_is_utf8, closed_form, joins_again, permissive_accepts, strict_is_permissive, look_up_has_plain, strict_look_up_is_plain, depends_on_range}
+use Rattle.goblin_base.specs.TextLaws.{text_is_taken, names_are_plain}
 use Rattle.goblin_base.proofs.strtab.laws.Goals as goal
 
 pub returns : goal.returns
@@ -12,5 +13,7 @@ returns c = record {
   look_up_has_plain = look_up_has_plain;
   strict_look_up_is_plain = strict_look_up_is_plain;
   depends_on_range = depends_on_range;
+  text_is_taken = text_is_taken;
+  names_are_plain = names_are_plain;
   digits_count = digits_count;
 }

@@ -1,0 +1,40 @@
+#!/bin/sh
+# Times the built program over the files of checks/hostile.sh and over FILE, beside readelf where there is one:
+# sh checks/bench.sh [FILE]. A line tells the least of RUNS runs (9, if not said) taken by turns, in milliseconds, and readelf's
+# time as a multiple of the strict one; readelf is stopped after 10 seconds. Run from the repository's root.
+set -eu
+export LC_ALL=C
+runs=${RUNS:-9}
+show=crates/goblin_show/out/goblin_show
+test -x "$show" || { echo "$show is not built: make show FILE=/bin/true builds it" >&2; exit 2; }
+folder=$(mktemp -d)
+trap 'rm -rf "$folder"' EXIT
+trap 'exit 1' HUP INT TERM
+sh checks/hostile.sh "$folder"
+if [ $# -gt 0 ]; then cp "$1" "$folder/FILE"; fi
+
+strict() { "$show" < "$file"; }
+permissive() { "$show" permissive < "$file"; }
+other() { timeout 10 readelf -W -h -S -s -r "$file"; }
+
+# The lesser of a time so far, in microseconds (0 is none yet), and of that of a command now.
+least() {
+    before=$1
+    start=$(date +%s%N)
+    "$2" > /dev/null 2>&1 || true
+    took=$((($(date +%s%N) - start) / 1000))
+    if [ "$before" -eq 0 ] || [ "$took" -lt "$before" ]; then echo "$took"; else echo "$before"; fi
+}
+
+printf '%-10s %10s %10s %10s %8s\n' file strict permissive readelf times
+for file in "$folder"/*; do
+    s=0 p=0 r=0 run=0
+    while [ "$run" -lt "$runs" ]; do
+        s=$(least "$s" strict)
+        p=$(least "$p" permissive)
+        if [ "$r" -lt 9000000 ] && command -v readelf > /dev/null; then r=$(least "$r" other); fi
+        run=$((run + 1))
+    done
+    echo "${file##*/} $s $p $r" | awk '{ printf "%-10s %10.1f %10.1f ", $1, $2 / 1000, $3 / 1000
+        if ($4 == 0 || $4 >= 9000000) printf "%10s %8s\n", "-", "-"; else printf "%10.1f %8.2f\n", $4 / 1000, $4 / $2 }'
+done
