@@ -548,9 +548,19 @@ fn answers(alloc: Global, texts: &[&str], file: &str, status: u8, text: &str) ->
     };
     let mut reader = Counted::new(Cursor::new(bytes.as_slice()));
     let mut writer = Counted::new(Slow::new(alloc, 1000, 0));
-    let ended = show(alloc, words.as_slice(), &mut reader, &mut writer);
+    let ended = show(alloc, Ok(words), &mut reader, &mut writer);
     let written = writer.into_inner();
     ended == status && written.held.as_slice() == text.as_bytes()
+}
+
+// Whether nothing is read or written where the words can't be had, and the status is 2.
+fn answers_no_words(alloc: Global) -> bool {
+    let mut reader = Counted::new(Zeros::new(100, 0, ErrorKind::Other));
+    let mut writer = Counted::new(Slow::new(alloc, 1000, 0));
+    let words = Err(io::Error::from(ErrorKind::InvalidData));
+    show(alloc, words, &mut reader, &mut writer) == 2
+        && reader.into_inner().calls == 0
+        && writer.into_inner().calls == 0
 }
 
 #[test]
@@ -563,6 +573,7 @@ fn ends_with_a_status(rt: HostRuntime) {
     assert!(rt; answers(rt.alloc(), &["permissive"], "", 1, line));
     assert!(rt; answers(rt.alloc(), &["strict"], BIG, 2, usage));
     assert!(rt; answers(rt.alloc(), &["permissive", "permissive"], BIG, 2, usage));
+    assert!(rt; answers_no_words(rt.alloc()));
 }
 
 // How many write calls and flushes the line on how the program is called takes.
@@ -570,7 +581,7 @@ fn calls_for_usage(alloc: Global) -> Option<u32> {
     let words = words_of(alloc, &["strict"])?;
     let mut reader = Counted::new(Cursor::new(b""));
     let mut writer = Counted::new(Slow::new(alloc, 1000, 0));
-    let _ = show(alloc, words.as_slice(), &mut reader, &mut writer);
+    let _ = show(alloc, Ok(words), &mut reader, &mut writer);
     Some(writer.into_inner().calls)
 }
 
