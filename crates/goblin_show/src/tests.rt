@@ -273,6 +273,15 @@ fn refuses_relocations_in_both_modes(rt: HostRuntime) {
     assert!(rt; refuses(rt.alloc(), &PERMISSIVE, PAIR, &[(168, 208)], line));
 }
 
+// Whether a file that is cut to so many bytes is refused with this line.
+fn refuses_cut(alloc: Global, file: &str, length: usize, line: &str) -> bool {
+    bytes_of(alloc, file).is_some_and(|mut bytes| {
+        bytes.truncate(length);
+        let reader = Cursor::new(bytes.as_slice());
+        ends(alloc, &STRICT, reader, Outcome::Refused, line)
+    })
+}
+
 #[test]
 fn tells_why_a_header_is_refused(rt: HostRuntime) {
     let line = "refused: Malformed entity: Too small\n";
@@ -280,6 +289,8 @@ fn tells_why_a_header_is_refused(rt: HostRuntime) {
     let line = "refused: Invalid magic number: 0x3736353433323130\n";
     let digits = "30313233343536373839616263646566";
     assert!(rt; refuses(rt.alloc(), &STRICT, digits, &[], line));
+    let line = "refused: type is too big (64) for 52\n";
+    assert!(rt; refuses_cut(rt.alloc(), BIG, 52, line));
     let line = "refused: Malformed entity: invalid ELF class 3\n";
     assert!(rt; refuses(rt.alloc(), &PERMISSIVE, BIG, &[(4, 3), (5, 0)], line));
     let line = "refused: Malformed entity: invalid ELF endianness DATA type 0\n";
