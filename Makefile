@@ -1,12 +1,17 @@
 # The commands of this repository. They need nothing but the Rattle toolchain (`rt`).
 
 # Proves and builds the program where needed, and shows a file: make show FILE=/bin/true
-# (A refused file is no error of make: only a program that isn't proved or built, or that can't read or write, is.)
+# (A refused file is no error of make. What can't be read is, and so is a program that isn't proved or can't write.)
+# The name is passed on as it stands, whatever signs it has.
+export SHOWN := $(value FILE)
+unexport FILE
 show:
-	@test -n '$(FILE)' || { echo 'make show wants a file, as: make show FILE=/bin/true' >&2; exit 2; }
-	@test -r '$(FILE)' || { echo 'make show: $(FILE) can not be read' >&2; exit 2; }
-	@(cd crates/goblin_show && exec rt run) < '$(FILE)' \
-	|| { test $$? -eq 1 && test -e crates/goblin_show/out/goblin_show.stamp; }
+	@test -n "$$SHOWN" || { echo 'make show wants a file, as: make show FILE=/bin/true' >&2; exit 2; }
+	@! test -d "$$SHOWN" || { printf 'make show: %s is a folder\n' "$$SHOWN" >&2; exit 2; }
+	@test -r "$$SHOWN" || { printf 'make show: %s can not be read\n' "$$SHOWN" >&2; exit 2; }
+	@cd crates/goblin_show && rt run < stdin > /dev/null
+	@crates/goblin_show/out/goblin_show < "$$SHOWN" || test $$? -eq 1 \
+	|| { echo 'make show: reading or writing failed' >&2; exit 2; }
 
 # The whole gate: the pages' quotations; growths that are refused, beside every proof from nothing, the edits that must
 # fail, the tests and the stored runs; then the program's words.

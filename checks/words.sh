@@ -1,6 +1,7 @@
 #!/bin/sh
 # Whether the built program heeds its words: none is strict, the one word `permissive` is permissive, and any others are
-# answered by how it is called. Run from the repository's root, once `rt ci` has built the program by both compilers.
+# answered by how it is called. And whether it ends with 2 where its input can't be read or its output can't be written.
+# Run from the repository's root, once `rt ci` has built the program by both compilers.
 set -eu
 export LC_ALL=C
 folder=$(mktemp -d)
@@ -8,18 +9,32 @@ trap 'rm -rf "$folder"' EXIT
 trap 'exit 1' HUP INT TERM
 file=crates/goblin_show/stdin
 shown=crates/goblin_show/stdout
+builds='crates/goblin_show/out/goblin_show crates/goblin_show/out/goblin_show.by-rattle'
 runs=0
 
 # Whether the program, given this file and these words, ends with this status and writes what a file holds.
 ends() {
     status=$1 input=$2 wanted=$3
     shift 3
-    for built in crates/goblin_show/out/goblin_show crates/goblin_show/out/goblin_show.by-rattle; do
+    for built in $builds; do
         got=0
         "$built" "$@" < "$input" > "$folder/out" || got=$?
         if [ "$got" -ne "$status" ] || ! cmp -s "$folder/out" "$wanted"; then
             echo "$built with the words '$*': status $got, and it wrote:"
             cat "$folder/out"
+            exit 1
+        fi
+        runs=$((runs + 1))
+    done
+}
+
+# Whether the program, given this file, ends with 2 where nothing can be written.
+fails_to_write() {
+    for built in $builds; do
+        got=0
+        "$built" < "$1" > /dev/full || got=$?
+        if [ "$got" -ne 2 ]; then
+            echo "$built with a full output: status $got"
             exit 1
         fi
         runs=$((runs + 1))
@@ -41,4 +56,10 @@ ends 2 "$file" "$folder/usage" ''
 ends 2 "$file" "$folder/usage" Permissive
 ends 2 "$file" "$folder/usage" permissive permissive
 ends 2 "$file" "$folder/usage" permissive ''
-echo "$runs runs of the program heed its words"
+
+# A folder can be opened as standard input, and each reading of it fails.
+ends 2 "$folder" /dev/null
+ends 2 "$folder" /dev/null permissive
+fails_to_write "$file"
+fails_to_write "$folder/damaged"
+echo "$runs runs of the program heed its words, and what can't be read or written"

@@ -1,9 +1,9 @@
-//! Answers, and how they are printed.
-use goblin::error::{Error, Result};
+//! Answers, and their texts.
+use goblin::error::Result;
 use goblin::strtab::Strtab;
 use goblin_base::entries::Entries;
-use std::alloc::Global;
-use std::io;
+use std::alloc::{AllocError, Global};
+use std::fmt::Write;
 
 /// The first fields of a list of records, of nine at most, and how many records there are.
 #[derive(Drop)]
@@ -42,51 +42,46 @@ pub(crate) fn listed<T: Drop, F: Fn(&T) -> u64>(list: Result<Vec<T>>, first: &F)
     }))
 }
 
-fn print_records(rt: &HostRuntime, records: &Firsts) -> io::Result<()> {
+fn text_of_records(alloc: Global, records: &Firsts) -> std::result::Result<String, AllocError> {
     let count = records.count;
-    print!(rt; "{count} records")?;
+    let mut text = format!(in alloc; "{count} records")?;
     for first in &records.firsts {
-        print!(rt; " {first}")?;
+        write!(text, " {first}")?;
     }
-    println!(rt; "")
+    Ok(text)
 }
 
-fn print_strings(rt: &HostRuntime, strings: &[&str]) -> io::Result<()> {
+fn text_of_strings(alloc: Global, strings: &[&str]) -> std::result::Result<String, AllocError> {
+    let mut text = String::from_str(alloc, "|")?;
     for string in strings {
-        print!(rt; "|{string}")?;
+        write!(text, "{string}|")?;
     }
-    println!(rt; "|")
+    Ok(text)
 }
 
-fn print_entries(rt: &HostRuntime, entries: &Entries<'_>) -> io::Result<()> {
+fn text_of_entries(
+    alloc: Global,
+    entries: &Entries<'_>,
+) -> std::result::Result<String, AllocError> {
+    let mut text = String::from_str(alloc, "|")?;
     for i in 0..entries.len() {
-        let text = entries.text(i);
-        print!(rt; "|{text}")?;
+        let entry = entries.text(i);
+        write!(text, "{entry}|")?;
     }
-    println!(rt; "|")
+    Ok(text)
 }
 
-// The strings of a table take memory.
-fn print_table(rt: &HostRuntime, table: &Strtab<'_>) -> io::Result<()> {
-    match table.to_vec(rt.alloc()) {
-        Ok(strings) => print_strings(rt, strings.as_slice()),
-        Err(e) => print_refusal(rt, &e),
-    }
-}
-
-fn print_refusal(rt: &HostRuntime, e: &Error) -> io::Result<()> {
-    println!(rt; "refused: {e}")
-}
-
-/// Prints an answer as a line.
-pub(crate) fn print_answer(rt: &HostRuntime, answer: &Option<Result<Answer>>) -> io::Result<()> {
+/// The text that an answer is compared and printed by. It takes memory.
+pub(crate) fn text_of(alloc: Global, answer: &Result<Answer>) -> Result<String> {
     match answer {
-        Some(Ok(Answer::Records(records))) => print_records(rt, records),
-        Some(Ok(Answer::Table(table))) => print_table(rt, table),
-        Some(Ok(Answer::Entries(entries))) => print_entries(rt, entries),
-        Some(Ok(Answer::Strings(strings))) => print_strings(rt, strings.as_slice()),
-        Some(Ok(Answer::Line(line))) => println!(rt; "`{line}`"),
-        Some(Err(e)) => print_refusal(rt, e),
-        None => println!(rt; "there is no such call"),
+        Ok(Answer::Records(records)) => Ok(text_of_records(alloc, records)?),
+        Ok(Answer::Table(table)) => {
+            let strings = table.to_vec(alloc)?;
+            Ok(text_of_strings(alloc, strings.as_slice())?)
+        }
+        Ok(Answer::Entries(entries)) => Ok(text_of_entries(alloc, entries)?),
+        Ok(Answer::Strings(strings)) => Ok(text_of_strings(alloc, strings.as_slice())?),
+        Ok(Answer::Line(line)) => Ok(format!(in alloc; "`{line}`")?),
+        Err(e) => Ok(format!(in alloc; "refused: {e}")?),
     }
 }

@@ -1,5 +1,6 @@
 //! The calls by their names.
 use crate::answer::Answer;
+use crate::growths::First;
 use crate::{faults, records, strings};
 use goblin::error::Result;
 use std::alloc::Global;
@@ -14,5 +15,24 @@ pub(crate) fn answer_to(alloc: Global, name: &str) -> Option<Result<Answer>> {
         Some(("walk", form)) => strings::walks(alloc, form),
         Some(("line", kind)) => faults::line(alloc, kind),
         _ => None,
+    }
+}
+
+/// What the call with this name does where its first growth is refused.
+pub(crate) fn first_of(name: &str) -> First {
+    match name {
+        "segments-many" | "segments-late64" | "sections-outside" | "sections-many" => {
+            First::TakesNone
+        }
+        "symbols-many" | "strings-outside" | "strings-early" => First::TakesNone,
+        "segments-parse32" | "segments-parse64" | "segments-bytes32" | "segments-bytes64" => {
+            First::GoesOn
+        }
+        "sections-bytes32"
+        | "sections-bytes64"
+        | "symbols-vector"
+        | "symbols-table"
+        | "symbols-relocs" => First::GoesOn,
+        _ => First::Wants,
     }
 }

@@ -1,4 +1,4 @@
-//! Growths before and after a call, so that one of its own is the hundredth.
+//! Growths before and after a call, so that one of its own is the hundredth, and what is said of its answer.
 use std::alloc::Global;
 
 // Which allocation of the program is refused.
@@ -10,12 +10,9 @@ fn is_refused(alloc: Global) -> bool {
     room.push(1).is_err()
 }
 
-/// Takes as much memory before a call as makes its growth with this number the hundredth: for 0 none.
-/// Answers whether none of it was refused.
+/// Takes as much memory before a call as makes its growth with this number the hundredth. Answers
+/// whether none of it was refused.
 pub(crate) fn takes_all_before(alloc: Global, growth: u64) -> bool {
-    if growth == 0 {
-        return true;
-    }
     let mut takes_all = true;
     for _ in growth..REFUSED {
         takes_all = !is_refused(alloc) && takes_all;
@@ -31,4 +28,47 @@ pub(crate) fn was_met(alloc: Global, growth: u64) -> bool {
         is_met = !is_refused(alloc) && is_met;
     }
     is_met
+}
+
+/// What a call does where its first growth is refused.
+#[derive(Clone, Copy, PartialEq)]
+pub enum First {
+    /// It answers want of memory.
+    Wants,
+    /// It asks for less, and may answer as with ample memory.
+    GoesOn,
+    /// It asks for no memory, since it refuses before.
+    TakesNone,
+}
+
+/// A call that was made with a growth refused, and once more without.
+#[derive(Drop)]
+pub struct Tried {
+    /// Which of its growths was refused.
+    pub(crate) growth: u64,
+    /// Whether that growth is not to be asked for.
+    pub(crate) is_last: bool,
+    /// Whether it was asked for.
+    pub(crate) is_met: bool,
+    /// Whether the answer was want of memory.
+    pub(crate) is_want: bool,
+    /// Whether it was the same as with ample memory.
+    pub(crate) is_ample: bool,
+}
+
+/// What is said of a call that does this where its first growth is refused.
+pub(crate) fn judged(first: First, tried: &Tried) -> &'static str {
+    if tried.growth == 1 && tried.is_met != (first != First::TakesNone) {
+        return "whether it asks for a first growth is not as it should be";
+    }
+    if tried.growth == 1 && first == First::Wants && !tried.is_want {
+        return "no want of memory, though the first growth was refused";
+    }
+    if tried.is_last && tried.is_met {
+        return "it asks for more growths than were refused";
+    }
+    if tried.is_ample || (tried.is_met && tried.is_want) {
+        return "as it should be";
+    }
+    "neither want of memory, nor the answer with ample memory"
 }

@@ -1,8 +1,9 @@
 //! What each call that takes memory answers where a growth is refused.
 //!
-//! A line `NAME N` of standard input names a call and which of its growths is refused. The runner refuses
-//! the hundredth allocation of the program, so 100 - N come before the call. With 0 none comes before,
-//! and none is refused. `checks/refused.sh` goes over all calls and growths.
+//! A line `NAME` of standard input names a call, whose answer is printed. A line `NAME N` asks for the same
+//! with growth N of the call refused, and beside it with ample memory, and prints whether the two answers
+//! are as they should be. The runner refuses the hundredth allocation of the program, so 100 - N come before
+//! the call. By `NAME N last` the call is not to ask for growth N. `checks/refused.sh` goes over all.
 #![tactic(auto)]
 
 ghost use Rattle.std.specs.Prelude.{◌≤◌, IfOk};
@@ -14,9 +15,11 @@ mod growths;
 mod records;
 mod strings;
 
-use answer::print_answer;
-use calls::answer_to;
-use growths::{takes_all_before, was_met};
+use answer::text_of;
+use calls::{answer_to, first_of};
+use goblin::error::Result;
+use growths::{Tried, judged, takes_all_before, was_met};
+use std::alloc::Global;
 use std::io;
 use std::io::Read;
 
@@ -41,29 +44,46 @@ fn read_input(rt: &HostRuntime, buffer: &mut [u8; MOST]) -> io::Result<usize>
     Ok(filled.min(MOST))
 }
 
-// The call and the growth that a line names.
-fn named(line: &str) -> Option<(&str, u64)> {
-    let (name, growth) = line.split_once(' ')?;
-    Some((name, growth.parse::<u64>().ok()?))
+// Makes a call where its growth is refused and where none is, and says whether the answers are as they
+// should be.
+fn tried(alloc: Global, name: &str, growth: u64, is_last: bool) -> Result<&'static str> {
+    let takes_all = takes_all_before(alloc, growth);
+    let answer = answer_to(alloc, name);
+    let is_met = was_met(alloc, growth);
+    let (Some(answer), Some(ample)) = (answer, answer_to(alloc, name)) else {
+        return Ok("there is no such call");
+    };
+    if !takes_all {
+        return Ok("a growth before the call was refused");
+    }
+    let text = text_of(alloc, &answer)?;
+    let tried = Tried {
+        growth,
+        is_last,
+        is_met,
+        is_want: text.as_str() == "refused: Out of memory",
+        is_ample: text == text_of(alloc, &ample)?,
+    };
+    Ok(judged(first_of(name), &tried))
 }
 
-// Makes a call where its growth is refused, and prints the answer; then whether the refusal was met.
-fn tell(rt: &HostRuntime, name: &str, growth: u64) -> io::Result<()> {
-    let takes_all = takes_all_before(rt.alloc(), growth);
-    let answer = answer_to(rt.alloc(), name);
-    let is_met = was_met(rt.alloc(), growth);
-    print!(rt; "{name}: ")?;
-    print_answer(rt, &answer)?;
-    if growth == 0 {
-        return Ok(());
+// Prints what a line asks for.
+fn tell(rt: &HostRuntime, line: &str) -> io::Result<()> {
+    let (line, is_last) = match line.strip_suffix(" last") {
+        Some(line) => (line, true),
+        None => (line, false),
+    };
+    if let Some((name, growth)) = line.split_once(' ') {
+        let growth = growth.parse::<u64>().unwrap_or(0);
+        return match tried(rt.alloc(), name, growth, is_last) {
+            Ok(judged) => println!(rt; "{judged}"),
+            Err(e) => println!(rt; "{e}"),
+        };
     }
-    if !takes_all {
-        return println!(rt; "a growth before the call was refused");
-    }
-    if is_met {
-        println!(rt; "growth {growth} was refused")
-    } else {
-        println!(rt; "growth {growth} was not asked for")
+    match answer_to(rt.alloc(), line).map(|answer| text_of(rt.alloc(), &answer)) {
+        Some(Ok(text)) => println!(rt; "{line}: {text}"),
+        Some(Err(e)) => println!(rt; "{line}: {e}"),
+        None => println!(rt; "{line}: there is no such call"),
     }
 }
 
@@ -72,10 +92,7 @@ fn main(rt: HostRuntime) -> io::Result<()> {
     let filled = read_input(&rt, &mut buffer)?;
     let text = std::str::from_utf8(&buffer[..filled]).unwrap_or("");
     for line in text.lines() {
-        match named(line) {
-            Some((name, growth)) => tell(&rt, name, growth)?,
-            None => println!(rt; "{line}: no name and number")?,
-        }
+        tell(&rt, line)?;
     }
     Ok(())
 }

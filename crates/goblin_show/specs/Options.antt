@@ -1,6 +1,9 @@
 -- The options that the program's words ask for.
-use Rattle.std.specs.Prelude.{ℕ, Bool, true, false, if◌then◌else◌, List, [], ◌∷◌, Option, None, Some, codes}
+use Rattle.std.specs.Prelude.{ℕ, Bool, true, false, if◌then◌else◌, List, [], ◌∷◌, map, Option, None, Some, Result, Ok, Err, vec_items, String, string_bytes, codes}
+use Rattle.std.specs.Global.{Vec}
+use Rattle.std.specs.declared.alloc.Global.{Global}
 use Rattle.std.specs.Str.{bytes_eq}
+use Rattle.std.specs.declared.io.Error.{Error}
 use Rattle.goblin.specs.declared.options.ParseMode.{ParseMode}
 use Rattle.goblin.specs.declared.options.ParseMode.TheVariants.{Strict, Permissive}
 use Rattle.goblin.specs.declared.options.ParseOptions.{ParseOptions}
@@ -15,3 +18,8 @@ abbrev pub asked : List (List ℕ) → Option ParseOptions
 asked [] = Some (record { parse_mode = Strict })
 asked (word ∷ []) = if bytes_eq word (codes "permissive") then Some (record { parse_mode = Permissive }) else None
 asked (word ∷ (other ∷ words)) = None
+
+-- the options that the arguments after the program's name ask for: none where they can't be had
+abbrev pub wanted : Result (Vec (String Global)) Error → Option ParseOptions
+wanted (Ok words) = asked (map string_bytes (vec_items words))
+wanted (Err e) = None

@@ -87,3 +87,74 @@ impl<W: Write> Sink for Counted<W> {
         answer
     }
 }
+
+#[cfg(test)]
+mod tests {
+    use super::*;
+
+    // A reader that gives one zero a call, so many, and a writer that takes one byte a call.
+    #[derive(Drop)]
+    struct Single {
+        left: u64,
+        writes: u64,
+    }
+
+    impl Read for Single {
+        fn read(&mut self, buf: &mut [u8]) -> io::Result<usize> {
+            match buf.first_mut() {
+                Some(first) if self.left > 0 => {
+                    *first = 0;
+                    self.left -= 1;
+                    Ok(1)
+                }
+                _ => Ok(0),
+            }
+        }
+    }
+
+    impl Write for Single {
+        fn write(&mut self, buf: &[u8]) -> io::Result<usize> {
+            self.writes = self.writes.saturating_add(1);
+            Ok(buf.len().min(1))
+        }
+
+        fn flush(&mut self) -> io::Result<()> {
+            Ok(())
+        }
+    }
+
+    // Whether each read call gives a zero and is counted by itself, up to the one that tells the end.
+    fn counts_reads(bytes: u64) -> bool {
+        let mut counted = Counted::new(Single {
+            left: bytes,
+            writes: 0,
+        });
+        for call in 0..bytes {
+            let is_one = matches!(Source::read(&mut counted, &mut [1; 8]), Ok(1));
+            if !is_one || counted.read_calls != call.saturating_add(1) || counted.told_end {
+                return false;
+            }
+        }
+        let is_end = matches!(Source::read(&mut counted, &mut [1; 8]), Ok(0));
+        is_end
+            && counted.told_end
+            && !counted.told_error
+            && !counted.told_failure
+            && counted.read_calls == bytes.saturating_add(1)
+    }
+
+    // Whether all bytes are written, one a call, and no read call is counted.
+    fn writes_all(bytes: &[u8]) -> bool {
+        let mut counted = Counted::new(Single { left: 0, writes: 0 });
+        let is_written = Sink::write_all(&mut counted, bytes).is_ok();
+        let is_flushed = Sink::flush(&mut counted).is_ok();
+        let is_marked = counted.told_error || counted.read_calls > 0;
+        is_written && is_flushed && !is_marked && counted.into_inner().writes == bytes.len() as u64
+    }
+
+    #[test]
+    fn counts_calls_one_by_one(rt: HostRuntime) {
+        assert!(rt; counts_reads(0) && counts_reads(1) && counts_reads(40));
+        assert!(rt; writes_all(b"") && writes_all(b"0123456789"));
+    }
+}

@@ -273,6 +273,15 @@ fn refuses_relocations_in_both_modes(rt: HostRuntime) {
     assert!(rt; refuses(rt.alloc(), &PERMISSIVE, PAIR, &[(168, 208)], line));
 }
 
+// Whether a file that is cut to so many bytes is refused with this line.
+fn refuses_cut(alloc: Global, file: &str, length: usize, line: &str) -> bool {
+    bytes_of(alloc, file).is_some_and(|mut bytes| {
+        bytes.truncate(length);
+        let reader = Cursor::new(bytes.as_slice());
+        ends(alloc, &STRICT, reader, Outcome::Refused, line)
+    })
+}
+
 #[test]
 fn tells_why_a_header_is_refused(rt: HostRuntime) {
     let line = "refused: Malformed entity: Too small\n";
@@ -280,6 +289,8 @@ fn tells_why_a_header_is_refused(rt: HostRuntime) {
     let line = "refused: Invalid magic number: 0x3736353433323130\n";
     let digits = "30313233343536373839616263646566";
     assert!(rt; refuses(rt.alloc(), &STRICT, digits, &[], line));
+    let line = "refused: type is too big (64) for 52\n";
+    assert!(rt; refuses_cut(rt.alloc(), BIG, 52, line));
     let line = "refused: Malformed entity: invalid ELF class 3\n";
     assert!(rt; refuses(rt.alloc(), &PERMISSIVE, BIG, &[(4, 3), (5, 0)], line));
     let line = "refused: Malformed entity: invalid ELF endianness DATA type 0\n";
@@ -548,9 +559,19 @@ fn answers(alloc: Global, texts: &[&str], file: &str, status: u8, text: &str) ->
     };
     let mut reader = Counted::new(Cursor::new(bytes.as_slice()));
     let mut writer = Counted::new(Slow::new(alloc, 1000, 0));
-    let ended = show(alloc, words.as_slice(), &mut reader, &mut writer);
+    let ended = show(alloc, Ok(words), &mut reader, &mut writer);
     let written = writer.into_inner();
     ended == status && written.held.as_slice() == text.as_bytes()
+}
+
+// Whether nothing is read or written where the words can't be had, and the status is 2.
+fn answers_no_words(alloc: Global) -> bool {
+    let mut reader = Counted::new(Zeros::new(100, 0, ErrorKind::Other));
+    let mut writer = Counted::new(Slow::new(alloc, 1000, 0));
+    let words = Err(io::Error::from(ErrorKind::InvalidData));
+    show(alloc, words, &mut reader, &mut writer) == 2
+        && reader.into_inner().calls == 0
+        && writer.into_inner().calls == 0
 }
 
 #[test]
@@ -563,6 +584,7 @@ fn ends_with_a_status(rt: HostRuntime) {
     assert!(rt; answers(rt.alloc(), &["permissive"], "", 1, line));
     assert!(rt; answers(rt.alloc(), &["strict"], BIG, 2, usage));
     assert!(rt; answers(rt.alloc(), &["permissive", "permissive"], BIG, 2, usage));
+    assert!(rt; answers_no_words(rt.alloc()));
 }
 
 // How many write calls and flushes the line on how the program is called takes.
@@ -570,7 +592,7 @@ fn calls_for_usage(alloc: Global) -> Option<u32> {
     let words = words_of(alloc, &["strict"])?;
     let mut reader = Counted::new(Cursor::new(b""));
     let mut writer = Counted::new(Slow::new(alloc, 1000, 0));
-    let _ = show(alloc, words.as_slice(), &mut reader, &mut writer);
+    let _ = show(alloc, Ok(words), &mut reader, &mut writer);
     Some(writer.into_inner().calls)
 }
 

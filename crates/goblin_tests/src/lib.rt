@@ -5,6 +5,8 @@
 #[cfg(test)]
 mod base;
 #[cfg(test)]
+mod constants;
+#[cfg(test)]
 mod ends;
 #[cfg(test)]
 mod header;
@@ -28,6 +30,8 @@ mod strtab;
 mod symbols;
 #[cfg(test)]
 mod symtabs;
+#[cfg(test)]
+mod traits;
 #[cfg(test)]
 mod walk;
 #[cfg(test)]
