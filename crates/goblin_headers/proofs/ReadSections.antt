@@ -85,7 +85,7 @@ not_too_many size read bytes offset count items enough =
     rw test refl
 
 -- the headers are those of the one list
-from_is : (bytes : List ℕ) (offset count : ℕ) (ctx : Ctx) (first : SectionHeader) (asked most : ℕ) → Ok first ≡ read_first bytes offset ctx → asked ≡ count_told first count → most ≡ max asked 1 → section_headers_from bytes offset count ctx ≡ records_from (section_header_size ctx.container) (section_header_of ctx.container ctx.le) bytes offset most items
+pub from_is : (bytes : List ℕ) (offset count : ℕ) (ctx : Ctx) (first : SectionHeader) (asked most : ℕ) → Ok first ≡ read_first bytes offset ctx → asked ≡ count_told first count → most ≡ max asked 1 → section_headers_from bytes offset count ctx ≡ records_from (section_header_size ctx.container) (section_header_of ctx.container ctx.le) bytes offset most items
 unfolding section_headers_from
 from_is bytes offset count ctx first asked most is told least =
     let size = section_header_size ctx.container in

@@ -1,0 +1,229 @@
+-- What is right of a file, in the terms of the library: an item, none past the last one, or why there is none.
+use Rattle.std.specs.Prelude.{ℕ, ◌+◌, ◌/◌, ◌==◌, ◌&&◌, nat_le, if◌then◌else◌, List, length, drop, map, position, slice_get, slice_index, Bool, false, pos, unwrap_or, Option, Some, None, Result, Ok}
+use Rattle.std.specs.Option.{option_map, is_some}
+use Rattle.goblin_base.specs.declared.container.Ctx.{Ctx}
+use Rattle.goblin_base.specs.declared.container.Container.TheVariants as class
+use Rattle.goblin_base.specs.declared.container.Endian.TheVariants as endian
+use Rattle.goblin_base.specs.declared.options.ParseMode.TheVariants.{Strict}
+use Rattle.goblin_base.specs.Refusal.{Refusal, malformed, refusal_of}
+use Rattle.goblin_base.specs.Steps.{◌>>=◌, refuse_as}
+use Rattle.goblin_base.specs.Strtab.{range_in, plain, has_name}
+use Rattle.goblin.specs.declared.elf.header.Header.{Header}
+use Rattle.goblin.specs.declared.elf.section_header.SectionHeader.{SectionHeader}
+use Rattle.goblin.specs.ReadHeader.{read_header}
+use Rattle.goblin.specs.SectionHeaders.{section_headers_of}
+use Rattle.goblin.specs.declared.elf.sym.Sym.{Sym}
+use Rattle.goblin.specs.Sym.{sym_size}
+use Rattle.goblin.specs.declared.elf.program_header.ProgramHeader.{ProgramHeader}
+use Rattle.goblin.specs.ProgramHeaders.{program_headers_from}
+use Rattle.goblin.specs.declared.elf.reloc.Reloc.{Reloc}
+use Rattle.goblin.specs.RelocSection.{relocs_of}
+use Rattle.goblin.specs.Symtab.{symtab_of}
+use Rattle.goblin_c.specs.declared.types.GoblinHeader.{GoblinHeader}
+use Rattle.goblin_c.specs.declared.types.GoblinRange.{GoblinRange}
+use Rattle.goblin_c.specs.declared.types.GoblinSection.{GoblinSection}
+use Rattle.goblin_c.specs.declared.types.GoblinSegment.{GoblinSegment}
+use Rattle.goblin_c.specs.declared.types.GoblinReloc.{GoblinReloc}
+use Rattle.goblin_c.specs.declared.types.GoblinSymbol.{GoblinSymbol}
+use Rattle.goblin_c.specs.Status.{number_of_bool}
+
+-- what C is told of a header
+abbrev pub header_told : Header → GoblinHeader
+header_told h = record {
+  e_entry = h.e_entry;
+  e_phoff = h.e_phoff;
+  e_shoff = h.e_shoff;
+  e_version = h.e_version;
+  e_flags = h.e_flags;
+  e_type = h.e_type;
+  e_machine = h.e_machine;
+  e_ehsize = h.e_ehsize;
+  e_phentsize = h.e_phentsize;
+  e_phnum = h.e_phnum;
+  e_shentsize = h.e_shentsize;
+  e_shnum = h.e_shnum;
+  e_shstrndx = h.e_shstrndx;
+  ei_class = slice_index h.e_ident 4;
+  ei_data = slice_index h.e_ident 5;
+  ei_version = slice_index h.e_ident 6;
+  ei_osabi = slice_index h.e_ident 7;
+  ei_abiversion = slice_index h.e_ident 8;
+}
+
+-- of a section header
+abbrev pub section_told : SectionHeader → GoblinSection
+section_told s = record {
+  file = record { offset = s.sh_offset; size = s.sh_size };
+  sh_name = s.sh_name;
+  sh_flags = s.sh_flags;
+  sh_addr = s.sh_addr;
+  sh_addralign = s.sh_addralign;
+  sh_entsize = s.sh_entsize;
+  sh_type = s.sh_type;
+  sh_link = s.sh_link;
+  sh_info = s.sh_info;
+}
+
+-- of a program header
+abbrev pub segment_told : ProgramHeader → GoblinSegment
+segment_told s = record {
+  file = record { offset = s.p_offset; size = s.p_filesz };
+  p_vaddr = s.p_vaddr;
+  p_paddr = s.p_paddr;
+  p_memsz = s.p_memsz;
+  p_align = s.p_align;
+  p_type = s.p_type;
+  p_flags = s.p_flags;
+}
+
+-- of a symbol
+abbrev pub symbol_told : Sym → GoblinSymbol
+symbol_told s = record {
+  st_name = s.st_name;
+  st_shndx = s.st_shndx;
+  st_value = s.st_value;
+  st_size = s.st_size;
+  st_info = s.st_info;
+  st_other = s.st_other;
+}
+
+-- of a relocation
+abbrev pub reloc_told : Reloc → GoblinReloc
+reloc_told r = record {
+  r_offset = r.r_offset;
+  r_sym = r.r_sym;
+  r_addend = unwrap_or r.r_addend (pos 0);
+  r_type = r.r_type;
+  has_addend = number_of_bool (is_some r.r_addend);
+}
+
+-- the class and the byte order that C hands back
+abbrev pub ctx_of : GoblinHeader → Ctx
+ctx_of h = record {
+  container = if h.ei_class == 2 then class.Big else class.Little;
+  le = if h.ei_data == 2 then endian.Big else endian.Little;
+}
+
+-- the header at a file's start
+abbrev pub header_right : List ℕ → Result (Option GoblinHeader) Refusal
+header_right bytes = do
+  read ← refuse_as refusal_of (read_header bytes)
+  Ok (Some (header_told read.0))
+
+-- the section headers of a file, as the library reads them at once
+abbrev pub sections_right : List ℕ → GoblinHeader → Result (List SectionHeader) Refusal
+sections_right bytes h = section_headers_of bytes h.e_shoff h.e_shnum (ctx_of h)
+
+-- how many section headers there are
+abbrev pub section_count_right : List ℕ → GoblinHeader → Result (Option ℕ) Refusal
+section_count_right bytes h = do
+  sections ← sections_right bytes h
+  Ok (Some (length sections))
+
+-- the section header at an index
+abbrev pub section_right : List ℕ → GoblinHeader → ℕ → Result (Option GoblinSection) Refusal
+section_right bytes h index = do
+  sections ← sections_right bytes h
+  Ok (option_map section_told (slice_get sections index))
+
+-- the program headers of a file, as the library reads them at once
+abbrev pub segments_right : List ℕ → GoblinHeader → Result (List ProgramHeader) Refusal
+segments_right bytes h = program_headers_from bytes h.e_phoff h.e_phnum (ctx_of h)
+
+-- the program header at an index
+abbrev pub segment_right : List ℕ → GoblinHeader → ℕ → Result (Option GoblinSegment) Refusal
+segment_right bytes h index = do
+  segments ← segments_right bytes h
+  Ok (option_map segment_told (slice_get segments index))
+
+-- the symbols of a range, as many as lie in it whole
+abbrev pub symbols_right : List ℕ → GoblinHeader → GoblinRange → Result (List Sym) Refusal
+symbols_right bytes h range = do
+  table ← refuse_as refusal_of (symtab_of bytes range.offset (range.size / sym_size (ctx_of h).container) (ctx_of h))
+  Ok table.symbols
+
+-- the symbol at an index of the table of a range
+abbrev pub symbol_right : List ℕ → GoblinHeader → GoblinRange → ℕ → Result (Option GoblinSymbol) Refusal
+symbol_right bytes h range index = do
+  symbols ← symbols_right bytes h range
+  Ok (option_map symbol_told (slice_get symbols index))
+
+-- whether a file is a MIPS64 one of little order, as the library says it of a header
+abbrev pub is_mips64el : GoblinHeader → Bool
+is_mips64el h = (h.e_machine == 8) && (h.ei_class == 2) && (h.ei_data == 1)
+
+-- the relocations of a range
+abbrev pub relocs_right : List ℕ → GoblinHeader → GoblinRange → Bool → Result (List Reloc) Refusal
+relocs_right bytes h range is_rela =
+    refuse_as refusal_of (relocs_of bytes range.offset range.size is_rela (ctx_of h) (is_mips64el h))
+
+-- the relocation at an index of those of a range
+abbrev pub reloc_right : List ℕ → GoblinHeader → GoblinRange → Bool → ℕ → Result (Option GoblinReloc) Refusal
+reloc_right bytes h range is_rela index = do
+  relocs ← relocs_right bytes h range is_rela
+  Ok (option_map reloc_told (slice_get relocs index))
+
+-- the bytes of a range of strings
+abbrev pub strings_right : List ℕ → GoblinRange → Result (List ℕ) Refusal
+strings_right bytes range = refuse_as malformed (range_in Strict bytes range.offset range.size)
+
+-- where the string at an offset of the strings of a range lies in the file, without the zero byte that closes it: the
+-- plain reading
+abbrev pub string_right : List ℕ → GoblinRange → ℕ → Result (Option GoblinRange) Refusal
+string_right bytes range offset = do
+  strings ← strings_right bytes range
+  if nat_le (length strings) offset then Ok None
+      else do
+        text ← plain strings 0 offset
+        Ok (Some (record { offset = range.offset + offset; size = length text }))
+
+-- what is told of the items from an index on: none past the last one
+abbrev pub told_from : {X Y : Type 0} → (X → Y) → ℕ → List X → Option (List Y)
+told_from tell first all = if nat_le (length all) first then None else Some (map tell (drop first all))
+
+-- the section headers, the symbols and the relocations from an index on
+abbrev pub sections_from_right : List ℕ → GoblinHeader → ℕ → Result (Option (List GoblinSection)) Refusal
+sections_from_right bytes h first = do
+  sections ← sections_right bytes h
+  Ok (told_from section_told first sections)
+
+abbrev pub symbols_from_right : List ℕ → GoblinHeader → GoblinRange → ℕ → Result (Option (List GoblinSymbol)) Refusal
+symbols_from_right bytes h range first = do
+  symbols ← symbols_right bytes h range
+  Ok (told_from symbol_told first symbols)
+
+abbrev pub relocs_from_right : List ℕ → GoblinHeader → GoblinRange → Bool → ℕ → Result (Option (List GoblinReloc)) Refusal
+relocs_from_right bytes h range is_rela first = do
+  relocs ← relocs_right bytes h range is_rela
+  Ok (told_from reloc_told first relocs)
+
+-- whether the plain reading at an offset of some strings gives a name
+abbrev pub is_named : List ℕ → List ℕ → ℕ → Bool
+is_named strings name offset = has_name (record { bytes = strings; delim = 0; is_parsed = false }) offset name
+
+-- the index of the first section, and of the first symbol, with a name
+abbrev pub section_by_name_right : List ℕ → GoblinHeader → GoblinRange → List ℕ → Result (Option ℕ) Refusal
+section_by_name_right bytes h names name = do
+  sections ← sections_right bytes h
+  strings ← strings_right bytes names
+  Ok (position (λ section. is_named strings name section.sh_name) sections)
+
+abbrev pub symbol_by_name_right : List ℕ → GoblinHeader → GoblinRange → GoblinRange → List ℕ → Result (Option ℕ) Refusal
+symbol_by_name_right bytes h range names name = do
+  symbols ← symbols_right bytes h range
+  strings ← strings_right bytes names
+  Ok (position (λ symbol. is_named strings name symbol.st_name) symbols)
+
+-- the index of the section that holds the sections' names: e_shstrndx, or where that is 0xffff the sh_link of the first
+abbrev pub link_of : Option SectionHeader → ℕ
+link_of (Some section) = section.sh_link
+link_of None = 0
+
+abbrev pub names_index : List SectionHeader → ℕ → ℕ
+names_index sections index = if index == 0xffff then link_of (slice_get sections 0) else index
+
+-- that section
+abbrev pub section_names_right : List ℕ → GoblinHeader → Result (Option GoblinSection) Refusal
+section_names_right bytes h = do
+  sections ← sections_right bytes h
+  Ok (option_map section_told (slice_get sections (names_index sections h.e_shstrndx)))

@@ -1,0 +1,214 @@
+//! The header, the section headers and the program headers, as the library gives them.
+ghost use Rattle.std.specs.Prelude.{◌≡◌};
+ghost use Rattle.goblin.specs.Refusal.{Answers};
+ghost use Rattle.goblin.specs.SectionHeaders.{count_told, section_headers_from};
+ghost use Rattle.goblin_c.specs.Answers.{ctx_of, header_right, header_told, section_count_right, section_right};
+ghost use Rattle.goblin_c.specs.Answers.{names_index, section_names_right, section_told, sections_right, segment_right, segment_told, segments_right};
+
+use crate::table::table_of;
+use crate::types::{GoblinHeader, GoblinRange, GoblinSection, GoblinSegment};
+use goblin::container::{Container, Ctx, Endian};
+use goblin::elf::header::{
+    EI_ABIVERSION, EI_CLASS, EI_DATA, EI_OSABI, EI_VERSION, ELFCLASS64, ELFDATA2MSB, Header,
+};
+use goblin::elf::program_header::ProgramHeader;
+use goblin::elf::section_header::{SHN_XINDEX, SectionHeader};
+use goblin::error::Result;
+use goblin::scroll::{LE, TryFromCtx};
+use goblin_base::table::{Table, read_at};
+
+/// The class and the byte order of a header.
+pub fn ctx_of(header: &GoblinHeader) -> Ctx
+    ensures { result ≡ ctx_of header.now }
+{
+    let container = if header.ei_class == ELFCLASS64 {
+        Container::Big
+    } else {
+        Container::Little
+    };
+    let order = if header.ei_data == ELFDATA2MSB {
+        Endian::Big
+    } else {
+        Endian::Little
+    };
+    Ctx::new(container, order)
+}
+
+fn told_header(h: &Header) -> GoblinHeader
+    ensures { result ≡ header_told h.now }
+{
+    GoblinHeader {
+        e_entry: h.e_entry,
+        e_phoff: h.e_phoff,
+        e_shoff: h.e_shoff,
+        e_version: h.e_version,
+        e_flags: h.e_flags,
+        e_type: h.e_type,
+        e_machine: h.e_machine,
+        e_ehsize: h.e_ehsize,
+        e_phentsize: h.e_phentsize,
+        e_phnum: h.e_phnum,
+        e_shentsize: h.e_shentsize,
+        e_shnum: h.e_shnum,
+        e_shstrndx: h.e_shstrndx,
+        ei_class: h.e_ident[EI_CLASS],
+        ei_data: h.e_ident[EI_DATA],
+        ei_version: h.e_ident[EI_VERSION],
+        ei_osabi: h.e_ident[EI_OSABI],
+        ei_abiversion: h.e_ident[EI_ABIVERSION],
+    }
+}
+
+/// What C is told of a section header.
+pub fn told_section(s: &SectionHeader) -> GoblinSection
+    ensures { result ≡ section_told s.now }
+{
+    GoblinSection {
+        file: GoblinRange {
+            offset: s.sh_offset,
+            size: s.sh_size,
+        },
+        sh_name: s.sh_name as u64,
+        sh_flags: s.sh_flags,
+        sh_addr: s.sh_addr,
+        sh_addralign: s.sh_addralign,
+        sh_entsize: s.sh_entsize,
+        sh_type: s.sh_type,
+        sh_link: s.sh_link,
+        sh_info: s.sh_info,
+    }
+}
+
+fn told_segment(s: &ProgramHeader) -> GoblinSegment
+    ensures { result ≡ segment_told s.now }
+{
+    GoblinSegment {
+        file: GoblinRange {
+            offset: s.p_offset,
+            size: s.p_filesz,
+        },
+        p_vaddr: s.p_vaddr,
+        p_paddr: s.p_paddr,
+        p_memsz: s.p_memsz,
+        p_align: s.p_align,
+        p_type: s.p_type,
+        p_flags: s.p_flags,
+    }
+}
+
+/// The header at the file's start.
+pub fn header_at(bytes: &[u8]) -> Result<Option<GoblinHeader>>
+    ensures { Answers (λ found. found) result (header_right bytes.now) }
+{
+    let (header, _) = Header::try_from_ctx(bytes, LE)?;
+    Ok(Some(told_header(&header)))
+}
+
+// How many section headers are asked for, where this is the first of them.
+fn count_asked(first: &SectionHeader, count: usize) -> usize
+    ensures { result ≡ count_told first.now count }
+{
+    if count == 0 {
+        first.sh_size as usize
+    } else {
+        count
+    }
+}
+
+// The section headers from an offset on: what `SectionHeader::parse_from` reads at once.
+fn sections_from(
+    bytes: &[u8],
+    offset: usize,
+    count: usize,
+    ctx: Ctx,
+) -> Result<Table<'_, SectionHeader, Ctx>>
+    ensures { Answers (λ table. table) result (section_headers_from bytes.now offset count ctx) }
+{
+    let first: SectionHeader = read_at(bytes, offset, ctx)?;
+    let asked = count_asked(&first, count);
+    table_of(bytes, offset, asked.max(1), ctx, "section headers")
+}
+
+/// The section headers.
+#[tactic(auto, unfolding(goblin_base::specs::Table::records))]
+pub fn sections_of<'a>(
+    bytes: &'a [u8],
+    header: &GoblinHeader,
+) -> Result<Table<'a, SectionHeader, Ctx>>
+    ensures { Answers (λ table. table) result (sections_right bytes.now header.now) }
+{
+    let ctx = ctx_of(header);
+    if header.e_shoff == 0 {
+        return Ok(Table::of(&[], 0, ctx));
+    }
+    sections_from(
+        bytes,
+        header.e_shoff as usize,
+        usize::from(header.e_shnum),
+        ctx,
+    )
+}
+
+/// How many section headers there are.
+pub fn section_count(bytes: &[u8], header: &GoblinHeader) -> Result<Option<u64>>
+    ensures { Answers (λ found. found) result (section_count_right bytes.now header.now) }
+{
+    Ok(Some(sections_of(bytes, header)?.len() as u64))
+}
+
+/// The section header at an index.
+pub fn section_at(bytes: &[u8], header: &GoblinHeader, index: u64) -> Result<Option<GoblinSection>>
+    ensures { Answers (λ found. found) result (section_right bytes.now header.now index) }
+{
+    match sections_of(bytes, header)?.get(index as usize) {
+        Some(section) => Ok(Some(told_section(&section))),
+        None => Ok(None),
+    }
+}
+
+// The index of the section that holds the sections' names.
+fn names_index(sections: &Table<'_, SectionHeader, Ctx>, index: u16) -> usize
+    ensures { result ≡ names_index sections.now index }
+{
+    if u32::from(index) != SHN_XINDEX {
+        return usize::from(index);
+    }
+    match sections.get(0) {
+        Some(first) => first.sh_link as usize,
+        None => 0,
+    }
+}
+
+/// The section that holds the sections' names.
+pub fn section_names(bytes: &[u8], header: &GoblinHeader) -> Result<Option<GoblinSection>>
+    ensures { Answers (λ found. found) result (section_names_right bytes.now header.now) }
+{
+    let sections = sections_of(bytes, header)?;
+    match sections.get(names_index(&sections, header.e_shstrndx)) {
+        Some(section) => Ok(Some(told_section(&section))),
+        None => Ok(None),
+    }
+}
+
+// The program headers.
+fn segments_of<'a>(bytes: &'a [u8], header: &GoblinHeader) -> Result<Table<'a, ProgramHeader, Ctx>>
+    ensures { Answers (λ table. table) result (segments_right bytes.now header.now) }
+{
+    table_of(
+        bytes,
+        header.e_phoff as usize,
+        usize::from(header.e_phnum),
+        ctx_of(header),
+        "program headers",
+    )
+}
+
+/// The program header at an index.
+pub fn segment_at(bytes: &[u8], header: &GoblinHeader, index: u64) -> Result<Option<GoblinSegment>>
+    ensures { Answers (λ found. found) result (segment_right bytes.now header.now index) }
+{
+    match segments_of(bytes, header)?.get(index as usize) {
+        Some(segment) => Ok(Some(told_segment(&segment))),
+        None => Ok(None),
+    }
+}

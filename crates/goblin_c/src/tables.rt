@@ -1,0 +1,212 @@
+//! Symbols, relocations and strings, as the library gives them.
+ghost use Rattle.std.specs.Prelude.{◌≡◌, ◌+◌, ◌≤◌, IfOk, length, position};
+ghost use Rattle.goblin.specs.Strtab.{has_name};
+ghost use Rattle.goblin.specs.Refusal.{Answers};
+ghost use Rattle.goblin_c.specs.Answers.{is_mips64el, reloc_right, reloc_told, relocs_right};
+ghost use Rattle.goblin_c.specs.Answers.{section_by_name_right, string_right, strings_right, symbol_by_name_right, symbol_right};
+ghost use Rattle.goblin_c.specs.Answers.{is_named, symbol_told, symbols_right};
+
+use crate::headers::{ctx_of, sections_of};
+use crate::types::{GoblinHeader, GoblinRange, GoblinReloc, GoblinSymbol};
+use goblin::container::Ctx;
+use goblin::elf::header::{ELFCLASS64, ELFDATA2LSB, EM_MIPS};
+use goblin::elf::reloc::{Reloc, RelocSection};
+use goblin::elf::section_header::SectionHeader;
+use goblin::elf::sym::{Sym, Symtab};
+use goblin::error::{Error, Fault, Result};
+use goblin::strtab::Strtab;
+use goblin_base::table::Table;
+
+/// What C is told of a symbol.
+pub fn told_symbol(s: &Sym) -> GoblinSymbol
+    ensures { result ≡ symbol_told s.now }
+{
+    GoblinSymbol {
+        st_name: s.st_name as u64,
+        st_value: s.st_value,
+        st_size: s.st_size,
+        st_shndx: s.st_shndx as u64,
+        st_info: s.st_info,
+        st_other: s.st_other,
+    }
+}
+
+/// What C is told of a relocation.
+pub fn told_reloc(r: &Reloc) -> GoblinReloc
+    ensures { result ≡ reloc_told r.now }
+{
+    GoblinReloc {
+        r_offset: r.r_offset,
+        r_sym: r.r_sym as u64,
+        r_addend: r.r_addend.unwrap_or(0),
+        r_type: r.r_type,
+        has_addend: if r.r_addend.is_some() { 1 } else { 0 },
+    }
+}
+
+/// The symbols of a range, as many as lie in it whole.
+pub fn symbols_of<'a>(
+    bytes: &'a [u8],
+    header: &GoblinHeader,
+    range: &GoblinRange,
+) -> Result<Symtab<'a>>
+    ensures { Answers (λ table. table.symbols) result
+        (symbols_right bytes.now header.now range.now) }
+{
+    let ctx = ctx_of(header);
+    let count = range.size as usize / Sym::size(ctx.container);
+    Symtab::parse(bytes, range.offset as usize, count, ctx)
+}
+
+/// The symbol at an index of the table that lies in a range.
+pub fn symbol_at(
+    bytes: &[u8],
+    header: &GoblinHeader,
+    range: &GoblinRange,
+    index: u64,
+) -> Result<Option<GoblinSymbol>>
+    ensures { Answers (λ found. found) result (symbol_right bytes.now header.now range.now index) }
+{
+    match symbols_of(bytes, header, range)?.get(index as usize) {
+        Some(symbol) => Ok(Some(told_symbol(&symbol))),
+        None => Ok(None),
+    }
+}
+
+// Whether a file is a MIPS64 one of little order.
+fn is_mips64el(header: &GoblinHeader) -> bool
+    ensures { result ≡ is_mips64el header.now }
+{
+    header.e_machine == EM_MIPS && header.ei_class == ELFCLASS64 && header.ei_data == ELFDATA2LSB
+}
+
+/// The relocations of a range.
+pub fn relocs_of<'a>(
+    bytes: &'a [u8],
+    header: &GoblinHeader,
+    range: &GoblinRange,
+    is_rela: bool,
+) -> Result<RelocSection<'a>>
+    ensures { Answers (λ relocs. relocs) result
+        (relocs_right bytes.now header.now range.now is_rela) }
+{
+    RelocSection::parse_inner(
+        bytes,
+        range.offset as usize,
+        range.size as usize,
+        is_rela,
+        ctx_of(header),
+        is_mips64el(header),
+    )
+}
+
+/// The relocation at an index of those that lie in a range.
+pub fn reloc_at(
+    bytes: &[u8],
+    header: &GoblinHeader,
+    range: &GoblinRange,
+    is_rela: bool,
+    index: u64,
+) -> Result<Option<GoblinReloc>>
+    ensures { Answers (λ found. found) result
+        (reloc_right bytes.now header.now range.now is_rela index) }
+{
+    match relocs_of(bytes, header, range, is_rela)?.get(index as usize) {
+        Some(reloc) => Ok(Some(told_reloc(&reloc))),
+        None => Ok(None),
+    }
+}
+
+// The strings of a range.
+#[tactic(auto, unfolding(goblin_base::specs::Strtab::range_in))]
+fn strings_of<'a>(bytes: &'a [u8], range: &GoblinRange) -> Result<&'a [u8]>
+    ensures given { Answers (λ strings. strings.now) result
+        (strings_right bytes.now range.now) }
+    ensures within { IfOk result (λ strings. range.now.offset + length strings.now ≤ length bytes.now) }
+{
+    let offset = range.offset as usize;
+    let size = range.size as usize;
+    let len = bytes.len();
+    if offset > len {
+        return Err(Error::Malformed(Fault::StrtabOffset { offset, len }));
+    }
+    let (end, overflow) = offset.overflowing_add(size);
+    if overflow || end > len {
+        return Err(Error::Malformed(Fault::StrtabRange {
+            size,
+            offset,
+            len,
+            overflow,
+        }));
+    }
+    Ok(&bytes[offset..end])
+}
+
+/// Where the string at an offset of a range of strings lies in the file.
+pub fn string_at(bytes: &[u8], range: &GoblinRange, offset: u64) -> Result<Option<GoblinRange>>
+    ensures { Answers (λ found. found) result (string_right bytes.now range.now offset) }
+{
+    let strings = strings_of(bytes, range)?;
+    match Strtab::new(strings, 0).get(offset as usize) {
+        Some(text) => Ok(Some(GoblinRange {
+            offset: range.offset + offset,
+            size: text?.len() as u64,
+        })),
+        None => Ok(None),
+    }
+}
+
+// The index of the first section with a name.
+fn find_section(
+    sections: &Table<'_, SectionHeader, Ctx>,
+    names: &Strtab<'_>,
+    name: &[u8],
+) -> Option<usize>
+    ensures { result ≡ position (λ section. has_name names.now section.sh_name name.now) sections.now }
+{
+    for i in 0..sections.len() {
+        if let Some(section) = sections.get(i) {
+            if names.has_name(section.sh_name, name) {
+                return Some(i);
+            }
+        }
+    }
+    None
+}
+
+/// The index of the first section with a name.
+pub fn section_by_name(
+    bytes: &[u8],
+    header: &GoblinHeader,
+    names: &GoblinRange,
+    name: &[u8],
+) -> Result<Option<u64>>
+    ensures { Answers (λ found. found) result
+        (section_by_name_right bytes.now header.now names.now name.now) }
+{
+    let sections = sections_of(bytes, header)?;
+    let names = Strtab::new(strings_of(bytes, names)?, 0);
+    match find_section(&sections, &names, name) {
+        Some(index) => Ok(Some(index as u64)),
+        None => Ok(None),
+    }
+}
+
+/// The index of the first symbol with a name.
+pub fn symbol_by_name(
+    bytes: &[u8],
+    header: &GoblinHeader,
+    range: &GoblinRange,
+    names: &GoblinRange,
+    name: &[u8],
+) -> Result<Option<u64>>
+    ensures { Answers (λ found. found) result
+        (symbol_by_name_right bytes.now header.now range.now names.now name.now) }
+{
+    let symbols = symbols_of(bytes, header, range)?;
+    let names = Strtab::new(strings_of(bytes, names)?, 0);
+    match symbols.find(&names, name) {
+        Some(index) => Ok(Some(index as u64)),
+        None => Ok(None),
+    }
+}
