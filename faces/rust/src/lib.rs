@@ -6,12 +6,8 @@
 //! ```no_run
 //! # fn main() -> Result<(), Box<dyn std::error::Error>> {
 //! let bytes = std::fs::read("/bin/true")?;
-//! let elf = goblin_rs::Elf::parse(&bytes)?;
-//! if let Some(symbols) = elf.dynsyms()? {
-//!     for symbol in symbols.iter() {
-//!         let symbol = symbol?;
-//!         println!("{:#x} {}", symbol.st_value, symbols.name(&symbol)?.unwrap_or(""));
-//!     }
+//! for section in goblin_rs::Elf::parse(&bytes)?.section_headers() {
+//!     println!("{:#x}", section?.sh_offset);
 //! }
 //! # Ok(())
 //! # }
