@@ -1,8 +1,8 @@
 #!/bin/sh
-# Whether C and Rust can call the library as faces/ says: goblin.h against the library; the C programs and the Rust crate over
-# files that they make themselves, whole and damaged; and over files of this machine, compared with what binutils' nm and
-# readelf list of them. What the machine has no compiler or no binutils for is said in a line, and passes. Run from the
-# repository's root, once `rt ci` has proved the crates below goblin_c. With words these files are compared, and no others.
+# Whether C and Rust can call the library as faces/ says: goblin.h against the library; the C programs and the Rust crate
+# over files that they make themselves, whole and damaged; and over files of this machine, compared with what binutils' nm
+# and readelf list of them. What the machine has no compiler or no binutils for is said in a line, and passes. Run from the
+# repository's root, once `rt ci` has proved the crates below goblin_c. Files named by words are taken in place of others.
 set -eu
 export LC_ALL=C
 folder=$(mktemp -d)
@@ -62,6 +62,8 @@ c V 2 weak_data
 0 v 0 weak_undefined_data
 7654321 A 65521 absolute
 20 C 65522 common
+14 u 2 unique
+16 i 1 indirect
 18 T 1 été'
 
 check_c() {
@@ -72,7 +74,8 @@ check_c() {
         quietly "$folder/layout"
     done
     if has c++; then
-        quietly c++ -x c++ -std=c++11 $strict -I"$folder" -o "$folder/layout" faces/c/layout.c -x none -L"$library" -lgoblin_c
+        quietly c++ -x c++ -std=c++11 $strict -I"$folder" -o "$folder/layout" faces/c/layout.c \
+            -x none -L"$library" -lgoblin_c
     else
         echo "no c++ here: goblin.h is compiled as C alone"
     fi
@@ -101,6 +104,10 @@ check_rust() {
         "$folder/output"
     # (cargo has built the examples beside the tests)
     examples=$folder/target/debug/examples
+    for file in "$folder"/files/*; do
+        "$examples/symbols" "$file" > "$folder/listed"
+        [ "$(grep -c -x -e '12 function' -e '18 été' "$folder/listed")" -eq 2 ] || { echo "symbols.rs: $file"; exit 1; }
+    done
 }
 
 # ---- files of this machine ----
@@ -145,24 +152,25 @@ compare_relocations() {
 }
 
 quietly make_library
-has_c=; has_rust=
-if has cc; then check_c; has_c=1; else echo "no cc here: no C program is compiled"; fi
-if has cargo && has rustc; then check_rust; has_rust=1; else echo "no cargo and rustc here: no Rust is compiled"; fi
-[ "$has_c" ] || exit 0
-if [ "$has_rust" ]; then
-    for file in "$folder"/files/*; do
-        quietly "$examples/symbols" "$file"
-        [ "$(grep -c -x -e '12 function' -e '18 été' "$folder/output")" -eq 2 ] || { echo "symbols.rs: $file"; exit 1; }
-    done
+if ! has cc; then
+    echo "no cc here: no C is compiled, and no Rust, which cc links"
+    exit 0
 fi
-if has nm && has readelf; then
-    if [ $# -gt 0 ]; then printf '%s\n' "$@"; else
-        pick 60 /usr/bin; pick 60 /usr/lib -name '*.so*'; pick 60 /usr/lib -name '*.o'
-    fi > "$folder/list"
-    ls -d "$folder"/files/* >> "$folder/list"
-    files=$(wc -l < "$folder/list")
-    compare_symbols "$files"
-    if [ "$has_rust" ]; then compare_relocations "$files"; fi
+check_c
+examples=
+if cargo --version > "$folder/output" 2>&1 && rustc --version > "$folder/output" 2>&1; then
+    check_rust
 else
-    echo "no nm and readelf here: no lists are compared"
+    echo "no cargo and rustc here: no Rust is compiled"
 fi
+if ! has nm || ! has readelf; then
+    echo "no nm and readelf here: no lists are compared"
+    exit 0
+fi
+if [ $# -gt 0 ]; then printf '%s\n' "$@"; else
+    pick 60 /usr/bin; pick 60 /usr/lib -name '*.so*'; pick 60 /usr/lib -name '*.o'
+fi > "$folder/list"
+ls -d "$folder"/files/* >> "$folder/list"
+files=$(wc -l < "$folder/list")
+compare_symbols "$files"
+if [ "$examples" ]; then compare_relocations "$files"; fi

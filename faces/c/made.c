@@ -10,7 +10,10 @@
 enum { STRINGS = 0x1000, HEADERS = 0x1800, SIZE = 0x2000 };
 
 /* Each section has 0x100 bytes of the file for itself, the strings have the rest up to the section headers. */
-static const struct { const char *name; uint32_t type, flags, link, info; } sections[] = {
+static const struct {
+    const char *name;
+    uint32_t type, flags, link, info;
+} sections[] = {
     {"", SHT_NULL, 0, 0, 0},
     {".text", SHT_PROGBITS, SHF_ALLOC | SHF_EXECINSTR, 0, 0},
     {".data", SHT_PROGBITS, SHF_ALLOC | SHF_WRITE, 0, 0},
@@ -24,7 +27,12 @@ static const struct { const char *name; uint32_t type, flags, link, info; } sect
     {".note", SHT_NOTE, 0, 0, 0},
 };
 
-static const struct { const char *name; uint32_t value, size; uint8_t bind, type; uint16_t section; } symbols[] = {
+static const struct {
+    const char *name;
+    uint32_t value, size;
+    uint8_t bind, type;
+    uint16_t section;
+} symbols[] = {
     {"", 0, 0, STB_LOCAL, STT_NOTYPE, SHN_UNDEF},
     {"made.c", 0, 0, STB_LOCAL, STT_FILE, SHN_ABS},
     {"", 0, 0, STB_LOCAL, STT_SECTION, 1},
@@ -43,6 +51,8 @@ static const struct { const char *name; uint32_t value, size; uint8_t bind, type
     {"weak_undefined_data", 0, 0, STB_WEAK, STT_OBJECT, SHN_UNDEF},
     {"absolute", 0x7654321, 0, STB_GLOBAL, STT_NOTYPE, SHN_ABS},
     {"common", 8, 0x20, STB_GLOBAL, STT_OBJECT, SHN_COMMON},
+    {"unique", 0x14, 4, STB_GNU_UNIQUE, STT_OBJECT, 2},
+    {"indirect", 0x16, 2, STB_GLOBAL, STT_GNU_IFUNC, 1},
     {"\303\251t\303\251", 0x18, 2, STB_GLOBAL, STT_FUNC, 1},
 };
 enum { COUNT = sizeof sections / sizeof *sections, SYMBOLS = sizeof symbols / sizeof *symbols };
@@ -96,7 +106,7 @@ static uint64_t size_of(size_t section) {
 static void put_headers(void) {
     memcpy(file, "\177ELF", 4);
     end = 4;
-    put(1, wide / 4), put(1, is_big ? 2 : 1), put(1, 1);
+    put(1, wide / 4), put(1, is_big ? 2 : 1), put(1, 1), put(1, ELFOSABI_GNU);
     end = 16;
     put(2, ET_REL), put(2, is_big ? (wide == 8 ? EM_PPC64 : EM_PPC) : (wide == 8 ? EM_X86_64 : EM_386));
     put(4, 1), put(wide, 0), put(wide, 0), put(wide, HEADERS), put(4, 0), put(2, wide == 8 ? 64 : 52);
@@ -105,7 +115,7 @@ static void put_headers(void) {
     for (size_t i = 0; i < COUNT; i++) names[i] = named(sections[i].name);
     end = HEADERS;
     for (size_t i = 0; i < COUNT; i++) {
-        uint64_t entry = sections[i].type == SHT_SYMTAB || sections[i].type == SHT_RELA ? size_of(i) / (sections[i].type == SHT_SYMTAB ? SYMBOLS : 2) : 0;
+        uint64_t entry = sections[i].type == SHT_SYMTAB ? size_of(i) / SYMBOLS : sections[i].type == SHT_RELA ? 3 * wide : 0;
         put(4, names[i]), put(4, sections[i].type), put(wide, sections[i].flags), put(wide, 0);
         put(wide, sections[i].type == SHT_STRTAB ? STRINGS : 0x100 * i), put(wide, size_of(i));
         put(4, sections[i].link), put(4, sections[i].info), put(wide, i ? 4 : 0), put(wide, entry);
@@ -120,7 +130,8 @@ int main(int argc, char **argv) {
         fill();
         put_headers();
         char path[4096];
-        FILE *to = (size_t)snprintf(path, sizeof path, "%s/%s", argv[1], names[kind]) < sizeof path ? fopen(path, "wb") : NULL;
+        bool is_short = (size_t)snprintf(path, sizeof path, "%s/%s", argv[1], names[kind]) < sizeof path;
+        FILE *to = is_short ? fopen(path, "wb") : NULL;
         if (!to || fwrite(file, 1, sizeof file, to) != sizeof file || fclose(to)) return EXIT_FAILURE;
     }
     return argc == 2 ? EXIT_SUCCESS : EXIT_FAILURE;

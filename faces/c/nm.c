@@ -1,6 +1,5 @@
-/* Lists the symbols of an ELF file, those of its dynamic table with -D: value, letter, section index and name of each.
-   Values, letters and names are those of `nm -a -p`, which leaves out the values of symbols that are not defined, and tells
-   the size of a common symbol for its value. */
+/* Lists the symbols of an ELF file, those of its dynamic table with -D, as `nm -a -p` does: value (of a common symbol the
+   size), letter, section index and name of each; and the value of symbols that are not defined too. */
 #include "goblin.h"
 #include <ctype.h>
 #include <elf.h>
@@ -29,12 +28,18 @@ static goblin_range_t string(const goblin_section_t *strings, uint64_t offset) {
     return found;
 }
 
+static bool starts(goblin_range_t name, const char *with) {
+    return name.size >= strlen(with) && memcmp(bytes + name.offset, with, strlen(with)) == 0;
+}
+
 static int section_letter(const goblin_section_t *section) {
+    static const char *const debugging[] = {".debug", ".zdebug", ".gnu.debuglto_.debug_", ".line", ".stab", ".gdb_index"};
     if (section->sh_flags & SHF_EXECINSTR) return 't';
     if (section->sh_type == SHT_NOBITS) return 'b';
     if (section->sh_flags & SHF_ALLOC) return section->sh_flags & SHF_WRITE ? 'd' : 'r';
     goblin_range_t name = string(&names_of_sections, section->sh_name);
-    if (name.size >= 6 && memcmp(bytes + name.offset, ".debug", 6) == 0) return 'N';
+    for (size_t i = 0; i < sizeof debugging / sizeof *debugging; i++)
+        if (starts(name, debugging[i])) return 'N';
     return section->sh_flags & SHF_WRITE ? '?' : 'n';
 }
 
@@ -47,16 +52,15 @@ static int letter(const goblin_symbol_t *symbol, const goblin_section_t *section
     if (type == STT_GNU_IFUNC) return 'i';
     if (bind == STB_WEAK) return type == STT_OBJECT ? 'V' : 'W';
     if (bind == STB_GNU_UNIQUE) return 'u';
-    int local = section ? section_letter(section) : 'a';
-    return bind == STB_LOCAL ? local : toupper(local);
+    int of_section = section ? section_letter(section) : 'a';
+    return bind == STB_LOCAL ? of_section : toupper(of_section);
 }
 
 static int list(const goblin_section_t *table) {
     goblin_section_t names;
     if (goblin_section(bytes, len, &header, table->sh_link, &names, &why) != GOBLIN_OK) return refused("string table");
-    uint32_t answer;
     goblin_symbol_t symbol;
-    /* The symbol at 0 stands for none. */
+    uint32_t answer;
     for (uint64_t i = 1; (answer = goblin_symbol(bytes, len, &header, &table->file, i, &symbol, &why)) == GOBLIN_OK; i++) {
         goblin_section_t section;
         bool has_section = symbol.st_shndx < SHN_LORESERVE
@@ -84,14 +88,14 @@ static uint8_t *load(const char *path) {
 
 int main(int argc, char **argv) {
     bool is_dynamic = argc == 3 && strcmp(argv[1], "-D") == 0;
-    if (argc != (is_dynamic ? 3 : 2) || !(bytes = load(argv[argc - 1]))) {
+    if (argc != 2 + is_dynamic || !(bytes = load(argv[argc - 1]))) {
         fprintf(stderr, "usage: nm [-D] FILE\n");
         return 2;
     }
     if (goblin_header(bytes, len, &header, &why) != GOBLIN_OK) return refused("header");
     if (goblin_section_names(bytes, len, &header, &names_of_sections, &why) > GOBLIN_END) return refused("sections");
-    int failed = 0;
     goblin_section_t section;
+    int failed = 0;
     for (uint64_t i = 0; goblin_section(bytes, len, &header, i, &section, &why) == GOBLIN_OK; i++)
         if (section.sh_type == (is_dynamic ? SHT_DYNSYM : SHT_SYMTAB)) failed |= list(&section);
     return failed;
