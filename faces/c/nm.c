@@ -88,10 +88,7 @@ static uint8_t *load(const char *path) {
 
 int main(int argc, char **argv) {
     bool is_dynamic = argc == 3 && strcmp(argv[1], "-D") == 0;
-    if (argc != 2 + is_dynamic || !(bytes = load(argv[argc - 1]))) {
-        fprintf(stderr, "usage: nm [-D] FILE\n");
-        return 2;
-    }
+    if (argc != 2 + is_dynamic || !(bytes = load(argv[argc - 1]))) return fputs("usage: nm [-D] FILE\n", stderr), 2;
     if (goblin_header(bytes, len, &header, &why) != GOBLIN_OK) return refused("header");
     if (goblin_section_names(bytes, len, &header, &names_of_sections, &why) > GOBLIN_END) return refused("sections");
     goblin_section_t section;
