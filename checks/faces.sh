@@ -92,7 +92,7 @@ check_c() {
         [ "$("$folder/values" "$file" | grep -c -x -e '12 2' -e '8 20')" -eq 2 ] || { echo "values.c: $file"; exit 1; }
     done
     echo "nm.c lists $(echo "$symbols_made" | wc -l) symbols in each class and order"
-    "$folder/damaged" 250 "$folder"/files/*
+    "$folder/damaged" 1000 "$folder"/files/*
 }
 
 # ---- Rust ----

@@ -34,6 +34,19 @@ static uint64_t odd(void) {
     }
 }
 
+/* A place inside the file or at its end; made files have something at each 256 bytes. */
+static uint64_t place(uint64_t end) {
+    uint64_t at = any(end + 1);
+    return any(2) ? at : at / 0x100 * 0x100;
+}
+
+/* A range that ends near the file's end, or any. */
+static goblin_range_t odd_range(void) {
+    goblin_range_t range = {any(4) ? place(len) : odd(), 0};
+    range.size = any(4) ? len - range.offset + any(3) * any(5) : odd();
+    return range;
+}
+
 static void wrong(const char *what, uint32_t answer) {
     if (broken++ < 10) printf("%s, answer %u\n", what, (unsigned)answer);
 }
@@ -102,12 +115,17 @@ static void notes(const goblin_header_t *h, goblin_range_t range) {
 
 /* A range taken for a table of symbols, of relocations, and for notes; its names are looked up again. */
 static void table(const goblin_header_t *h, goblin_range_t range, goblin_range_t names) {
-    for (int i = 0; i < 6; i++) {
+    if (any(4) == 0) range = odd_range();
+    if (any(4) == 0) names = odd_range();
+    for (uint64_t i = 0; i < 8; i++) {
         goblin_symbol_t symbol, found;
         goblin_reloc_t reloc;
         goblin_range_t name;
-        uint64_t at = i < 4 ? any(30) : odd(), index;
+        /* One of the first, any, or near the last of those that take 8, 12, 16 or 24 bytes. */
+        static const uint64_t sizes[] = {8, 12, 16, 24};
+        uint64_t at = i < 3 ? any(30) : i == 3 ? odd() : range.size / sizes[i - 4] - any(3), index;
         TELLS(goblin_reloc, reloc, h, &range, any(2), at);
+        if (TELLS(goblin_string, name, &names, names.size - any(9))) inside("string", name);
         if (!TELLS(goblin_symbol, symbol, h, &range, at)) continue;
         if (!TELLS(goblin_string, name, &names, symbol.st_name)) continue;
         inside("string", name);
@@ -126,16 +144,20 @@ static void file(void) {
     blank(&h, sizeof h);
     if (!told("goblin_header", goblin_header(bytes, len, &h, &why), &h, sizeof h)) memset(&h, (int)any(256), sizeof h);
     if (any(4) == 0) h.e_shoff = odd(), h.e_phoff = odd(), h.e_phnum = (uint16_t)odd(), h.e_shnum = (uint16_t)odd();
+    if (any(4) == 0) { /* headers that end near the file's end */
+        h.e_phnum = (uint16_t)any(5), h.e_phoff = len + any(4) - h.e_phnum * (h.ei_class == 2 ? 56U : 32U);
+        h.e_shnum = (uint16_t)any(5), h.e_shoff = len + any(4) - h.e_shnum * (h.ei_class == 2 ? 64U : 40U);
+    }
     uint64_t count = 0;
     goblin_section_t section, names, found;
     bool is_counted = TELLS(goblin_section_count, count, &h);
-    if (!TELLS(goblin_section_names, names, &h)) names.file.offset = odd(), names.file.size = odd();
+    if (!TELLS(goblin_section_names, names, &h)) names.file = odd_range();
     for (uint64_t i = 0; i < 12; i++) {
         uint64_t at = i < 9 ? i : odd(), index;
         bool is_there = TELLS(goblin_section, section, &h, at);
         if (is_there != (is_counted && at < count)) wrong("goblin_section_count", GOBLIN_OK);
-        goblin_range_t any_range = {odd(), odd()}, name;
-        table(&h, is_there ? section.file : any_range, names.file);
+        goblin_range_t name;
+        table(&h, is_there ? section.file : odd_range(), names.file);
         if (is_there && TELLS(goblin_string, name, &names.file, section.sh_name)
             && (!TELLS(goblin_section_by_name, index, &h, &names.file, bytes + name.offset, (size_t)name.size)
                 || index > at || !TELLS(goblin_section, found, &h, index)))
@@ -166,7 +188,8 @@ int main(int argc, char **argv) {
         size_t size = fread(whole, 1, ROOM, from);
         fclose(from);
         for (unsigned long n = 0; n < wanted; n++, copies++) {
-            len = any(4) ? size : (size_t)any(size + 1);
+            uint64_t end = any(2) * place(size) + any(80);
+            len = any(4) == 0 && end < size ? (size_t)end : size;
             uint8_t *own = malloc(len ? len : 1);
             uint8_t *copy = n % 3 == 0 ? own : n % 3 == 1 ? pages + PAGE : pages + PAGE + ROOM - len;
             if (!own) return EXIT_FAILURE;
