@@ -86,13 +86,20 @@ enum {
 };
 
 /* What `item` of goblin_refusal_t tells: 0 for refusals that have none. */
-enum { GOBLIN_INVALID_UTF8 = 1, GOBLIN_SECTION_HEADERS = 2, GOBLIN_PROGRAM_HEADERS = 3 };
+enum {
+    GOBLIN_INVALID_UTF8 = 1,
+    GOBLIN_SECTION_HEADERS = 2,
+    GOBLIN_PROGRAM_HEADERS = 3
+};
 
 /* Why a file is refused. */
 typedef struct {
     uint32_t kind; /* what the call answered */
     uint32_t item; /* GOBLIN_INVALID_UTF8 or the like, and else 0 */
-    uint64_t first, second, third, fourth; /* the numbers that belong to the kind, and else 0 */
+    uint64_t first; /* the numbers that belong to the kind, in the order in which it names them, and behind them 0 */
+    uint64_t second;
+    uint64_t third;
+    uint64_t fourth;
 } goblin_refusal_t;
 
 /* Some bytes of the file. A range that a call answers lies inside the file, unless its struct says otherwise. */
@@ -177,8 +184,14 @@ typedef struct {
 
 /* One of each, for a test that this file says what the library does: see goblin_layout. */
 typedef struct {
-    uint64_t size_of_refusal, size_of_range, size_of_header, size_of_section, size_of_segment, size_of_symbol,
-        size_of_reloc, size_of_note; /* the library's own sizes in bytes */
+    uint64_t size_of_refusal; /* the library's own sizes, in bytes */
+    uint64_t size_of_range;
+    uint64_t size_of_header;
+    uint64_t size_of_section;
+    uint64_t size_of_segment;
+    uint64_t size_of_symbol;
+    uint64_t size_of_reloc;
+    uint64_t size_of_note;
     goblin_refusal_t refusal;
     goblin_range_t range;
     goblin_header_t header;
@@ -301,9 +314,6 @@ uint32_t goblin_string(const uint8_t *bytes, size_t len, const goblin_range_t *s
 
    Each of these writes a text into `room` bytes, as much of it as there is room for, and answers how many bytes the whole
    text has. It is text without a zero byte at its end; what lies behind it is as it was. They are never refused. */
-
-/* The text of a refusal that a call told, as "Malformed entity: Too small". A kind that no call answers has the text "". */
-uint64_t goblin_refusal_text(const goblin_refusal_t *why, uint8_t *text, size_t room);
 
 /* The name of a class (ei_class): NONE, ELF32, ELF64, or UNKNOWN_CLASS. */
 uint64_t goblin_class_to_str(uint8_t ei_class, uint8_t *text, size_t room);

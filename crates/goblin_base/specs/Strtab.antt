@@ -1,5 +1,6 @@
 -- A string table: which bytes it has, and what its calls answer (System V gABI, "String Table").
-use Rattle.std.specs.Prelude.{◌≡◌, ℕ, ◌+◌, ◌-◌, ◌^◌, Bool, true, false, List, [], map, length, take, drop, nat_lt, nat_le, if◌then◌else◌, Option, None, Result, Ok, Err}
+use Rattle.std.specs.Prelude.{◌≡◌, ℕ, ◌+◌, ◌-◌, ◌^◌, ◌&&◌, Bool, true, false, List, [], map, length, take, drop, nat_lt, nat_le, if◌then◌else◌, Option, None, Result, Ok, Err}
+use Rattle.std.specs.Str.{bytes_eq}
 use Rattle.goblin_base.specs.declared.error.Error.{Error}
 use Rattle.goblin_base.specs.declared.error.Fault.{Fault}
 use Rattle.goblin_base.specs.declared.error.Fault.TheVariants.{StrtabOffset, StrtabRange}
@@ -57,6 +58,16 @@ strtab_of mode file offset size delim = do
 -- the plain reading at an offset: the piece there, or the fault of bytes that are no text
 abbrev pub plain : List ℕ → ℕ → ℕ → Result (List ℕ) Refusal
 plain bytes delim offset = text_or_fault (piece bytes delim offset) (length bytes - offset)
+
+-- whether an answer is a text with these bytes
+abbrev pub is_text_of : List ℕ → Result (List ℕ) Refusal → Bool
+is_text_of name (Ok text) = bytes_eq text name
+is_text_of name (Err refusal) = false
+
+-- whether the plain reading at an offset of a table gives this name: past the table there is none
+unfoldable pub has_name : StringTable → ℕ → List ℕ → Bool
+has_name table offset name =
+    nat_lt offset (length table.bytes) && is_text_of name (plain table.bytes table.delim offset)
 
 -- the look-up at an offset: a table that was not parsed has nothing
 abbrev pub look_up : StringTable → ℕ → Option (List ℕ)

@@ -8,7 +8,7 @@ ghost use Rattle.goblin_base.specs.Entries.{places_of, text_of};
 ghost use Rattle.goblin_base.specs.Pieces.{piece};
 ghost use Rattle.goblin_base.specs.Refusal.{Answers, Gives};
 ghost use Rattle.goblin_base.specs.Search.{IsLastUpTo};
-ghost use Rattle.goblin_base.specs.Strtab.{RefusesFirst, look_up, plain, range_in, strings_of, strtab_of, table_of, texts_of};
+ghost use Rattle.goblin_base.specs.Strtab.{RefusesFirst, has_name, look_up, plain, range_in, strings_of, strtab_of, table_of, texts_of};
 ghost use Rattle.goblin_base.specs.StrtabLaws.{ClosedForm, DependsOnRange, DigitsCount, JoinsAgain, LookUpHasPlain, PermissiveAccepts, StrictIsPermissive, StrictLookUpIsPlain, TextIsUtf8};
 
 use crate::entries::{Entries, Looked, Probes};
@@ -230,6 +230,19 @@ impl<'a> Strtab<'a> {
             None
         } else {
             Some(get_str(offset, self.bytes, self.delim))
+        }
+    }
+
+    /// Whether the piece at an offset is this name, given as its bytes. From `len()` on there is none, and
+    /// a piece that is no text is no name.
+    #[tactic(auto, unfolding(crate::specs::Strtab::has_name))]
+    pub fn has_name(&self, offset: usize, name: &[u8]) -> bool
+        ensures { result ≡ has_name self.now offset name.now }
+    {
+        match self.get(offset) {
+            Some(Ok(text)) => text.as_bytes() == name,
+            Some(Err(_)) => false,
+            None => false,
         }
     }
 

@@ -1,5 +1,5 @@
 -- What is right of a file, in the terms of the library: an item, none past the last one, or why there is none.
-use Rattle.std.specs.Prelude.{ℕ, ◌+◌, ◌/◌, ◌==◌, ◌&&◌, nat_le, if◌then◌else◌, List, length, slice_get, slice_index, Bool, pos, unwrap_or, Option, Some, None, Result, Ok}
+use Rattle.std.specs.Prelude.{ℕ, ◌+◌, ◌/◌, ◌==◌, ◌&&◌, nat_le, if◌then◌else◌, List, length, drop, map, position, slice_get, slice_index, Bool, false, pos, unwrap_or, Option, Some, None, Result, Ok}
 use Rattle.std.specs.Option.{option_map, is_some}
 use Rattle.goblin_base.specs.declared.container.Ctx.{Ctx}
 use Rattle.goblin_base.specs.declared.container.Container.TheVariants as class
@@ -7,7 +7,7 @@ use Rattle.goblin_base.specs.declared.container.Endian.TheVariants as endian
 use Rattle.goblin_base.specs.declared.options.ParseMode.TheVariants.{Strict}
 use Rattle.goblin_base.specs.Refusal.{Refusal, malformed, refusal_of}
 use Rattle.goblin_base.specs.Steps.{◌>>=◌, refuse_as}
-use Rattle.goblin_base.specs.Strtab.{range_in, plain}
+use Rattle.goblin_base.specs.Strtab.{range_in, plain, has_name}
 use Rattle.goblin.specs.declared.elf.header.Header.{Header}
 use Rattle.goblin.specs.declared.elf.section_header.SectionHeader.{SectionHeader}
 use Rattle.goblin.specs.ReadHeader.{read_header}
@@ -163,12 +163,67 @@ reloc_right bytes h range is_rela index = do
   relocs ← relocs_right bytes h range is_rela
   Ok (option_map reloc_told (slice_get relocs index))
 
+-- the bytes of a range of strings
+abbrev pub strings_right : List ℕ → GoblinRange → Result (List ℕ) Refusal
+strings_right bytes range = refuse_as malformed (range_in Strict bytes range.offset range.size)
+
 -- where the string at an offset of the strings of a range lies in the file, without the zero byte that closes it: the
 -- plain reading
 abbrev pub string_right : List ℕ → GoblinRange → ℕ → Result (Option GoblinRange) Refusal
 string_right bytes range offset = do
-  strings ← refuse_as malformed (range_in Strict bytes range.offset range.size)
+  strings ← strings_right bytes range
   if nat_le (length strings) offset then Ok None
       else do
         text ← plain strings 0 offset
         Ok (Some (record { offset = range.offset + offset; size = length text }))
+
+-- what is told of the items from an index on: none past the last one
+abbrev pub told_from : {X Y : Type 0} → (X → Y) → ℕ → List X → Option (List Y)
+told_from tell first all = if nat_le (length all) first then None else Some (map tell (drop first all))
+
+-- the section headers, the symbols and the relocations from an index on
+abbrev pub sections_from_right : List ℕ → GoblinHeader → ℕ → Result (Option (List GoblinSection)) Refusal
+sections_from_right bytes h first = do
+  sections ← sections_right bytes h
+  Ok (told_from section_told first sections)
+
+abbrev pub symbols_from_right : List ℕ → GoblinHeader → GoblinRange → ℕ → Result (Option (List GoblinSymbol)) Refusal
+symbols_from_right bytes h range first = do
+  symbols ← symbols_right bytes h range
+  Ok (told_from symbol_told first symbols)
+
+abbrev pub relocs_from_right : List ℕ → GoblinHeader → GoblinRange → Bool → ℕ → Result (Option (List GoblinReloc)) Refusal
+relocs_from_right bytes h range is_rela first = do
+  relocs ← relocs_right bytes h range is_rela
+  Ok (told_from reloc_told first relocs)
+
+-- whether the plain reading at an offset of some strings gives a name
+abbrev pub is_named : List ℕ → List ℕ → ℕ → Bool
+is_named strings name offset = has_name (record { bytes = strings; delim = 0; is_parsed = false }) offset name
+
+-- the index of the first section, and of the first symbol, with a name
+abbrev pub section_by_name_right : List ℕ → GoblinHeader → GoblinRange → List ℕ → Result (Option ℕ) Refusal
+section_by_name_right bytes h names name = do
+  sections ← sections_right bytes h
+  strings ← strings_right bytes names
+  Ok (position (λ section. is_named strings name section.sh_name) sections)
+
+abbrev pub symbol_by_name_right : List ℕ → GoblinHeader → GoblinRange → GoblinRange → List ℕ → Result (Option ℕ) Refusal
+symbol_by_name_right bytes h range names name = do
+  symbols ← symbols_right bytes h range
+  strings ← strings_right bytes names
+  Ok (position (λ symbol. is_named strings name symbol.st_name) symbols)
+
+-- the index of the section that holds the sections' names: e_shstrndx, or where that is 0xffff the sh_link of the first
+abbrev pub link_of : Option SectionHeader → ℕ
+link_of (Some section) = section.sh_link
+link_of None = 0
+
+abbrev pub names_index : List SectionHeader → ℕ → ℕ
+names_index sections index = if index == 0xffff then link_of (slice_get sections 0) else index
+
+-- that section
+abbrev pub section_names_right : List ℕ → GoblinHeader → Result (Option GoblinSection) Refusal
+section_names_right bytes h = do
+  sections ← sections_right bytes h
+  Ok (option_map section_told (slice_get sections (names_index sections h.e_shstrndx)))

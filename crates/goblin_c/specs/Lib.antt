@@ -1,2 +1,5 @@
 pub mod Answers
+pub mod Cut
+pub mod Layout
+pub mod Notes
 pub mod Status

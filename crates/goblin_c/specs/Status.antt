@@ -1,11 +1,12 @@
 -- What a call of the C face answers: a number, and what it leaves where its caller points.
-use Rattle.std.specs.Prelude.{◌≡◌, ℕ, Bool, List, codes, if◌then◌else◌, Option, Some, None, Result, Ok, Err}
+use Rattle.std.specs.Prelude.{◌≡◌, ℕ, Bool, List, length, min, codes, if◌then◌else◌, Option, Some, None, Result, Ok, Err}
 use Rattle.std.specs.Str.{bytes_eq}
 use Rattle.goblin_base.specs.declared.error.Error.{Error}
 use Rattle.goblin_base.specs.declared.error.Fault.{Fault}
 use Rattle.goblin_base.specs.declared.error.Fault.TheVariants as fault
 use Rattle.goblin_base.specs.Refusal.{Refusal, malformed, bad_magic, too_big, bad_offset, bad_input, buffer_too_short, out_of_memory, refusal_of}
 use Rattle.goblin_c.specs.declared.types.GoblinRefusal.{GoblinRefusal}
+use Rattle.goblin_c.specs.Cut.{cut}
 
 -- a refusal of a kind, with its numbers
 abbrev pub with_numbers : ℕ → ℕ → ℕ → ℕ → ℕ → GoblinRefusal
@@ -71,3 +72,13 @@ TellsOf (Ok (Some x)) old was status new why = (status ≡ 0) × (new ≡ x) × 
 TellsOf (Ok None) old was status new why = (status ≡ 1) × (new ≡ old) × (why ≡ was)
 TellsOf (Err e) old was status new why =
     (status ≡ (refusal_told (refusal_of e)).kind) × (new ≡ old) × (why ≡ refusal_told (refusal_of e))
+
+-- What a call that fills room with the items from an index on answers, and what it leaves: where there are items, 0, as
+-- many as there is room for, and how many those are; past the last item 1; or the kind of the refusal, and what is told
+-- of it. All else is as it was.
+abbrev pub Fills : {X : Type 0} → Result (Option (List X)) Refusal → List X → ℕ → GoblinRefusal → ℕ → List X → ℕ → GoblinRefusal → Type 0
+Fills (Ok (Some xs)) old count was status new filled why =
+    (status ≡ 0) × (new ≡ cut xs old) × (filled ≡ min (length xs) (length old)) × (why ≡ was)
+Fills (Ok None) old count was status new filled why = (status ≡ 1) × (new ≡ old) × (filled ≡ count) × (why ≡ was)
+Fills (Err refusal) old count was status new filled why =
+    (status ≡ (refusal_told refusal).kind) × (new ≡ old) × (filled ≡ count) × (why ≡ refusal_told refusal)

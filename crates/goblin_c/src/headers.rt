@@ -3,7 +3,7 @@ ghost use Rattle.std.specs.Prelude.{◌≡◌};
 ghost use Rattle.goblin.specs.Refusal.{Answers};
 ghost use Rattle.goblin.specs.SectionHeaders.{count_told, section_headers_from};
 ghost use Rattle.goblin_c.specs.Answers.{ctx_of, header_right, header_told, section_count_right, section_right};
-ghost use Rattle.goblin_c.specs.Answers.{section_told, sections_right, segment_right, segment_told, segments_right};
+ghost use Rattle.goblin_c.specs.Answers.{names_index, section_names_right, section_told, sections_right, segment_right, segment_told, segments_right};
 
 use crate::table::table_of;
 use crate::types::{GoblinHeader, GoblinRange, GoblinSection, GoblinSegment};
@@ -12,7 +12,7 @@ use goblin::elf::header::{
     EI_ABIVERSION, EI_CLASS, EI_DATA, EI_OSABI, EI_VERSION, ELFCLASS64, ELFDATA2MSB, Header,
 };
 use goblin::elf::program_header::ProgramHeader;
-use goblin::elf::section_header::SectionHeader;
+use goblin::elf::section_header::{SHN_XINDEX, SectionHeader};
 use goblin::error::Result;
 use goblin::scroll::{LE, TryFromCtx};
 use goblin_base::table::{Table, read_at};
@@ -161,6 +161,30 @@ pub fn section_at(bytes: &[u8], header: &GoblinHeader, index: u64) -> Result<Opt
     ensures { Answers (λ found. found) result (section_right bytes.now header.now index) }
 {
     match sections_of(bytes, header)?.get(index as usize) {
+        Some(section) => Ok(Some(told_section(&section))),
+        None => Ok(None),
+    }
+}
+
+// The index of the section that holds the sections' names.
+fn names_index(sections: &Table<'_, SectionHeader, Ctx>, index: u16) -> usize
+    ensures { result ≡ names_index sections.now index }
+{
+    if u32::from(index) != SHN_XINDEX {
+        return usize::from(index);
+    }
+    match sections.get(0) {
+        Some(first) => first.sh_link as usize,
+        None => 0,
+    }
+}
+
+/// The section that holds the sections' names.
+pub fn section_names(bytes: &[u8], header: &GoblinHeader) -> Result<Option<GoblinSection>>
+    ensures { Answers (λ found. found) result (section_names_right bytes.now header.now) }
+{
+    let sections = sections_of(bytes, header)?;
+    match sections.get(names_index(&sections, header.e_shstrndx)) {
         Some(section) => Ok(Some(told_section(&section))),
         None => Ok(None),
     }

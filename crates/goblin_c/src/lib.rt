@@ -2,23 +2,48 @@
 //! kept from call to call. `faces/c/goblin.h` declares what is here, and says what each call answers.
 #![tactic(auto)]
 
-ghost use Rattle.std.specs.Prelude.{◌≡◌};
+ghost use Rattle.std.specs.Prelude.{◌≡◌, length};
 ghost use Rattle.goblin_c.specs.Answers.{header_right, reloc_right, section_count_right, section_right};
 ghost use Rattle.goblin_c.specs.Answers.{segment_right, string_right, symbol_right};
-ghost use Rattle.goblin_c.specs.Status.{Tells};
+ghost use Rattle.goblin_c.specs.Answers.{relocs_from_right, sections_from_right, symbols_from_right};
+ghost use Rattle.goblin_c.specs.Answers.{section_by_name_right, section_names_right, symbol_by_name_right};
+ghost use Rattle.goblin_c.specs.Cut.{cut};
+ghost use Rattle.goblin_c.specs.Layout.{layout};
+ghost use Rattle.goblin_c.specs.Notes.{note_right};
+ghost use Rattle.goblin_c.specs.Status.{Fills, Tells};
+ghost use Rattle.goblin.specs.HeaderNames.{class_name, type_name as file_type_name};
+ghost use Rattle.goblin.specs.Machines.{machine_name};
+ghost use Rattle.goblin.specs.NoteType.{note_type_name};
+ghost use Rattle.goblin.specs.SectionNames.{section_flag_name, section_name};
+ghost use Rattle.goblin.specs.SegmentNames.{segment_name};
+ghost use Rattle.goblin.specs.SymParts.{bind_name, type_name, visibility_name};
 
+mod fill;
 mod headers;
+mod layout;
+mod names;
+mod notes;
 mod status;
 mod table;
 mod tables;
 pub mod types;
 
-use headers::{header_at, section_at, section_count, segment_at};
-use status::tell;
-use tables::{reloc_at, string_at, symbol_at};
+use fill::{fill_relocs, fill_sections, fill_symbols};
+use goblin::elf::header::{class_to_str, et_to_str, machine_to_str};
+use goblin::elf::program_header::pt_to_str;
+use goblin::elf::section_header::{shf_to_str, sht_to_str};
+use goblin::elf::sym::{bind_to_str, type_to_str, visibility_to_str};
+use headers::{header_at, section_at, section_count, section_names, sections_of, segment_at};
+use layout::{GoblinLayout, marked_layout};
+use names::{note_type, write_text};
+use notes::note_from;
+use status::{END, OK, refusal, tell};
+use tables::{
+    reloc_at, relocs_of, section_by_name, string_at, symbol_at, symbol_by_name, symbols_of,
+};
 use types::{
-    GoblinHeader, GoblinRange, GoblinRefusal, GoblinReloc, GoblinSection, GoblinSegment,
-    GoblinSymbol,
+    GoblinHeader, GoblinNote, GoblinRange, GoblinRefusal, GoblinReloc, GoblinSection,
+    GoblinSegment, GoblinSymbol,
 };
 
 /// The version of these calls and of what crosses.
@@ -30,6 +55,14 @@ pub extern "C" fn goblin_version() -> u32
     ensures { result ≡ 1 }
 {
     VERSION
+}
+
+/// The sizes of what crosses, and one of each struct, whose fields are numbered.
+#[unsafe(no_mangle)]
+pub extern "C" fn goblin_layout(told: &mut GoblinLayout)
+    ensures { told.new ≡ layout }
+{
+    *told = marked_layout();
 }
 
 /// The header at the file's start.
@@ -134,4 +167,254 @@ pub extern "C" fn goblin_string(
         string.old why.old result string.new why.new }
 {
     tell(string_at(bytes, strings, offset), string, why)
+}
+
+/// The note at an offset of the file, among those of a range. The first one is at the range's start,
+/// and each tells where the next one is.
+#[unsafe(no_mangle)]
+pub extern "C" fn goblin_note(
+    bytes: &[u8],
+    header: &GoblinHeader,
+    notes: &GoblinRange,
+    alignment: u64,
+    offset: u64,
+    note: &mut GoblinNote,
+    why: &mut GoblinRefusal,
+) -> u32
+    ensures { Tells (note_right bytes.now header.now notes.now alignment offset)
+        note.old why.old result note.new why.new }
+{
+    tell(
+        note_from(bytes, header, notes, alignment, offset),
+        note,
+        why,
+    )
+}
+
+/// The name of a class.
+#[unsafe(no_mangle)]
+pub extern "C" fn goblin_class_to_str(ei_class: u8, text: &mut [u8]) -> u64
+    ensures written { text.new ≡ cut (class_name ei_class) text.old }
+    ensures whole { result ≡ length (class_name ei_class) }
+{
+    write_text(class_to_str(ei_class), text)
+}
+
+/// The name of a file's type.
+#[unsafe(no_mangle)]
+pub extern "C" fn goblin_et_to_str(e_type: u16, text: &mut [u8]) -> u64
+    ensures written { text.new ≡ cut (file_type_name e_type) text.old }
+    ensures whole { result ≡ length (file_type_name e_type) }
+{
+    write_text(et_to_str(e_type), text)
+}
+
+/// The name of a machine.
+#[unsafe(no_mangle)]
+pub extern "C" fn goblin_machine_to_str(e_machine: u16, text: &mut [u8]) -> u64
+    ensures written { text.new ≡ cut (machine_name e_machine) text.old }
+    ensures whole { result ≡ length (machine_name e_machine) }
+{
+    write_text(machine_to_str(e_machine), text)
+}
+
+/// The name of a segment's type.
+#[unsafe(no_mangle)]
+pub extern "C" fn goblin_pt_to_str(p_type: u32, text: &mut [u8]) -> u64
+    ensures written { text.new ≡ cut (segment_name p_type) text.old }
+    ensures whole { result ≡ length (segment_name p_type) }
+{
+    write_text(pt_to_str(p_type), text)
+}
+
+/// The name of a section's type.
+#[unsafe(no_mangle)]
+pub extern "C" fn goblin_sht_to_str(sh_type: u32, text: &mut [u8]) -> u64
+    ensures written { text.new ≡ cut (section_name sh_type) text.old }
+    ensures whole { result ≡ length (section_name sh_type) }
+{
+    write_text(sht_to_str(sh_type), text)
+}
+
+/// The name of one flag of a section.
+#[unsafe(no_mangle)]
+pub extern "C" fn goblin_shf_to_str(flag: u32, text: &mut [u8]) -> u64
+    ensures written { text.new ≡ cut (section_flag_name flag) text.old }
+    ensures whole { result ≡ length (section_flag_name flag) }
+{
+    write_text(shf_to_str(flag), text)
+}
+
+/// The name of a symbol's binding.
+#[unsafe(no_mangle)]
+pub extern "C" fn goblin_bind_to_str(binding: u8, text: &mut [u8]) -> u64
+    ensures written { text.new ≡ cut (bind_name binding) text.old }
+    ensures whole { result ≡ length (bind_name binding) }
+{
+    write_text(bind_to_str(binding), text)
+}
+
+/// The name of a symbol's type.
+#[unsafe(no_mangle)]
+pub extern "C" fn goblin_type_to_str(typ: u8, text: &mut [u8]) -> u64
+    ensures written { text.new ≡ cut (type_name typ) text.old }
+    ensures whole { result ≡ length (type_name typ) }
+{
+    write_text(type_to_str(typ), text)
+}
+
+/// The name of a symbol's visibility.
+#[unsafe(no_mangle)]
+pub extern "C" fn goblin_visibility_to_str(visibility: u8, text: &mut [u8]) -> u64
+    ensures written { text.new ≡ cut (visibility_name visibility) text.old }
+    ensures whole { result ≡ length (visibility_name visibility) }
+{
+    write_text(visibility_to_str(visibility), text)
+}
+
+/// The name of a note's type, which the note's name gives its meaning.
+#[unsafe(no_mangle)]
+pub extern "C" fn goblin_note_type_to_str(name: &[u8], n_type: u32, text: &mut [u8]) -> u64
+    ensures written { text.new ≡ cut (note_type_name name.now n_type) text.old }
+    ensures whole { result ≡ length (note_type_name name.now n_type) }
+{
+    write_text(note_type(name, n_type), text)
+}
+
+/// The section headers from an index on, as many as there is room for.
+#[unsafe(no_mangle)]
+pub extern "C" fn goblin_sections(
+    bytes: &[u8],
+    header: &GoblinHeader,
+    first: u64,
+    sections: &mut [GoblinSection],
+    filled: &mut u64,
+    why: &mut GoblinRefusal,
+) -> u32
+    ensures { Fills (sections_from_right bytes.now header.now first)
+        sections.old filled.old why.old result sections.new filled.new why.new }
+{
+    match sections_of(bytes, header) {
+        Ok(all) => {
+            if first >= all.len() as u64 {
+                return END;
+            }
+            *filled = fill_sections(&all, first as usize, sections) as u64;
+            OK
+        }
+        Err(e) => {
+            *why = refusal(&e);
+            why.kind
+        }
+    }
+}
+
+/// The symbols from an index on, as many as there is room for.
+#[unsafe(no_mangle)]
+pub extern "C" fn goblin_symbols(
+    bytes: &[u8],
+    header: &GoblinHeader,
+    table: &GoblinRange,
+    first: u64,
+    symbols: &mut [GoblinSymbol],
+    filled: &mut u64,
+    why: &mut GoblinRefusal,
+) -> u32
+    ensures { Fills (symbols_from_right bytes.now header.now table.now first)
+        symbols.old filled.old why.old result symbols.new filled.new why.new }
+{
+    match symbols_of(bytes, header, table) {
+        Ok(all) => {
+            if first >= all.len() as u64 {
+                return END;
+            }
+            *filled = fill_symbols(&all, first as usize, symbols) as u64;
+            OK
+        }
+        Err(e) => {
+            *why = refusal(&e);
+            why.kind
+        }
+    }
+}
+
+/// The relocations from an index on, as many as there is room for.
+#[unsafe(no_mangle)]
+pub extern "C" fn goblin_relocs(
+    bytes: &[u8],
+    header: &GoblinHeader,
+    relocs: &GoblinRange,
+    is_rela: bool,
+    first: u64,
+    items: &mut [GoblinReloc],
+    filled: &mut u64,
+    why: &mut GoblinRefusal,
+) -> u32
+    ensures { Fills (relocs_from_right bytes.now header.now relocs.now is_rela first)
+        items.old filled.old why.old result items.new filled.new why.new }
+{
+    match relocs_of(bytes, header, relocs, is_rela) {
+        Ok(all) => {
+            if first >= all.len() as u64 {
+                return END;
+            }
+            *filled = fill_relocs(&all, first as usize, items) as u64;
+            OK
+        }
+        Err(e) => {
+            *why = refusal(&e);
+            why.kind
+        }
+    }
+}
+
+/// The section that holds the sections' names.
+#[unsafe(no_mangle)]
+pub extern "C" fn goblin_section_names(
+    bytes: &[u8],
+    header: &GoblinHeader,
+    section: &mut GoblinSection,
+    why: &mut GoblinRefusal,
+) -> u32
+    ensures { Tells (section_names_right bytes.now header.now)
+        section.old why.old result section.new why.new }
+{
+    tell(section_names(bytes, header), section, why)
+}
+
+/// The index of the first section with a name.
+#[unsafe(no_mangle)]
+pub extern "C" fn goblin_section_by_name(
+    bytes: &[u8],
+    header: &GoblinHeader,
+    names: &GoblinRange,
+    name: &[u8],
+    index: &mut u64,
+    why: &mut GoblinRefusal,
+) -> u32
+    ensures { Tells (section_by_name_right bytes.now header.now names.now name.now)
+        index.old why.old result index.new why.new }
+{
+    tell(section_by_name(bytes, header, names, name), index, why)
+}
+
+/// The index of the first symbol with a name.
+#[unsafe(no_mangle)]
+pub extern "C" fn goblin_symbol_by_name(
+    bytes: &[u8],
+    header: &GoblinHeader,
+    table: &GoblinRange,
+    names: &GoblinRange,
+    name: &[u8],
+    index: &mut u64,
+    why: &mut GoblinRefusal,
+) -> u32
+    ensures { Tells (symbol_by_name_right bytes.now header.now table.now names.now name.now)
+        index.old why.old result index.new why.new }
+{
+    tell(
+        symbol_by_name(bytes, header, table, names, name),
+        index,
+        why,
+    )
 }

@@ -1,19 +1,21 @@
 //! Symbols, relocations and strings, as the library gives them.
-ghost use Rattle.std.specs.Prelude.{◌≡◌, ◌+◌, ◌≤◌, IfOk, length};
-ghost use Rattle.goblin.specs.Refusal.{Answers, malformed};
-ghost use Rattle.goblin.specs.Strtab.{range_in};
-ghost use Rattle.goblin.specs.Steps.{refuse_as};
-ghost use Rattle.goblin_base.specs.declared.options.ParseMode.TheVariants.{Strict};
+ghost use Rattle.std.specs.Prelude.{◌≡◌, ◌+◌, ◌≤◌, IfOk, length, position};
+ghost use Rattle.goblin.specs.Strtab.{has_name};
+ghost use Rattle.goblin.specs.Refusal.{Answers};
 ghost use Rattle.goblin_c.specs.Answers.{is_mips64el, reloc_right, reloc_told, relocs_right};
-ghost use Rattle.goblin_c.specs.Answers.{string_right, symbol_right, symbol_told, symbols_right};
+ghost use Rattle.goblin_c.specs.Answers.{section_by_name_right, string_right, strings_right, symbol_by_name_right, symbol_right};
+ghost use Rattle.goblin_c.specs.Answers.{is_named, symbol_told, symbols_right};
 
-use crate::headers::ctx_of;
+use crate::headers::{ctx_of, sections_of};
 use crate::types::{GoblinHeader, GoblinRange, GoblinReloc, GoblinSymbol};
+use goblin::container::Ctx;
 use goblin::elf::header::{ELFCLASS64, ELFDATA2LSB, EM_MIPS};
 use goblin::elf::reloc::{Reloc, RelocSection};
+use goblin::elf::section_header::SectionHeader;
 use goblin::elf::sym::{Sym, Symtab};
 use goblin::error::{Error, Fault, Result};
 use goblin::strtab::Strtab;
+use goblin_base::table::Table;
 
 /// What C is told of a symbol.
 pub fn told_symbol(s: &Sym) -> GoblinSymbol
@@ -119,7 +121,7 @@ pub fn reloc_at(
 #[tactic(auto, unfolding(goblin_base::specs::Strtab::range_in))]
 fn strings_of<'a>(bytes: &'a [u8], range: &GoblinRange) -> Result<&'a [u8]>
     ensures given { Answers (λ strings. strings.now) result
-        (refuse_as malformed (range_in Strict bytes.now range.now.offset range.now.size)) }
+        (strings_right bytes.now range.now) }
     ensures within { IfOk result (λ strings. range.now.offset + length strings.now ≤ length bytes.now) }
 {
     let offset = range.offset as usize;
@@ -150,6 +152,61 @@ pub fn string_at(bytes: &[u8], range: &GoblinRange, offset: u64) -> Result<Optio
             offset: range.offset + offset,
             size: text?.len() as u64,
         })),
+        None => Ok(None),
+    }
+}
+
+// The index of the first section with a name.
+fn find_section(
+    sections: &Table<'_, SectionHeader, Ctx>,
+    names: &Strtab<'_>,
+    name: &[u8],
+) -> Option<usize>
+    ensures { result ≡ position (λ section. has_name names.now section.sh_name name.now) sections.now }
+{
+    for i in 0..sections.len() {
+        if let Some(section) = sections.get(i) {
+            if names.has_name(section.sh_name, name) {
+                return Some(i);
+            }
+        }
+    }
+    None
+}
+
+/// The index of the first section with a name.
+pub fn section_by_name(
+    bytes: &[u8],
+    header: &GoblinHeader,
+    names: &GoblinRange,
+    name: &[u8],
+) -> Result<Option<u64>>
+    ensures { Answers (λ found. found) result
+        (section_by_name_right bytes.now header.now names.now name.now) }
+{
+    let sections = sections_of(bytes, header)?;
+    let names = Strtab::new(strings_of(bytes, names)?, 0);
+    match find_section(&sections, &names, name) {
+        Some(index) => Ok(Some(index as u64)),
+        None => Ok(None),
+    }
+}
+
+/// The index of the first symbol with a name.
+pub fn symbol_by_name(
+    bytes: &[u8],
+    header: &GoblinHeader,
+    range: &GoblinRange,
+    names: &GoblinRange,
+    name: &[u8],
+) -> Result<Option<u64>>
+    ensures { Answers (λ found. found) result
+        (symbol_by_name_right bytes.now header.now range.now names.now name.now) }
+{
+    let symbols = symbols_of(bytes, header, range)?;
+    let names = Strtab::new(strings_of(bytes, names)?, 0);
+    match symbols.find(&names, name) {
+        Some(index) => Ok(Some(index as u64)),
         None => Ok(None),
     }
 }

@@ -1,12 +1,13 @@
 //! Section headers, which tell what a file holds: System V gABI, "Section Header".
 ghost use Rattle.std.specs.Int.{IsBitSet};
 ghost use Rattle.std.specs.Prelude.{◌≡◌, ◌≤◌, ◌↔◌, ◌++◌, [], ◌∷◌, IsTrue, IfErr, IsNone, IsOk};
-ghost use Rattle.std.specs.Prelude.{IfSome, length, drop, map, replicate};
+ghost use Rattle.std.specs.Prelude.{IfSome, length, drop, map, position, replicate};
 ghost use Rattle.goblin_base.specs.Fields.{values_of};
 ghost use Rattle.goblin_base.specs.Layout.{IsOneImage, IsSameInEachClass};
 ghost use Rattle.goblin_base.specs.Record.{read_within, Writes};
 ghost use Rattle.goblin_base.specs.Refusal.{Gives, Refuses};
 ghost use Rattle.goblin_base.specs.Steps.{with_size};
+ghost use Rattle.goblin_base.specs.Strtab.{has_name};
 ghost use Rattle.goblin_base.specs.declared.container.Container.{Container};
 ghost use Rattle.goblin_base.specs.declared.container.Endian.{Endian};
 ghost use Rattle.goblin_headers.specs.Ranges.{span};
@@ -30,6 +31,7 @@ use goblin_base::names::name_of;
 use goblin_base::number::room;
 use goblin_base::record::Record;
 use goblin_base::scroll::{IntoCtx, SizeWith, TryFromCtx, TryIntoCtx};
+use goblin_base::strtab::Strtab;
 use goblin_base::table::{read_all, read_at};
 use std::alloc::Global;
 use std::ops::Range;
@@ -377,6 +379,20 @@ impl SectionHeader {
         let first: SectionHeader = read_at(bytes, offset, ctx)?;
         let asked = first.count_asked(count);
         read_all(alloc, bytes, offset, asked.max(1), ctx, "section headers")
+    }
+
+    /// The index of the first section with this name, given as its bytes, or `None` where no section has
+    /// it.
+    ///
+    /// The names are read plainly from the table of section names, as [`Strtab::get`] does: a section
+    /// whose name lies past it, or is no text, has none.
+    pub fn find(sections: &[SectionHeader], names: &Strtab<'_>, name: &[u8]) -> Option<usize>
+        ensures { result
+            ≡ position (λ section. has_name names.now section.sh_name name.now) sections.now }
+    {
+        sections
+            .iter()
+            .position(|section| names.has_name(section.sh_name, name))
     }
 
     /// Whether the section lies inside a file of `size` bytes, and its addresses inside all addresses:

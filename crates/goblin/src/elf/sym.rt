@@ -1,15 +1,17 @@
 //! Symbols and symbol tables: System V gABI, "Symbol Table".
 ghost use Rattle.std.specs.Prelude.{◌≡◌, ◌≤◌, ◌<◌, ◌-◌, ◌*◌, ◌^◌, ◌↔◌, [], ◌∷◌, length, slice_get, IsTrue, IfOk, IfErr};
-ghost use Rattle.std.specs.Prelude.{IfSome, alloc_error};
+ghost use Rattle.std.specs.Prelude.{IfSome, alloc_error, position};
 ghost use Rattle.std.specs.Iterator.{UpTo, YieldsFirst, item_count};
 ghost use Rattle.std.specs.Iterator.SizeHint.{IsWithinCount};
 ghost use Rattle.goblin.specs.Symtab.{symbols_at, symtab_by, symtab_of};
 ghost use Rattle.goblin.specs.Symtab.{DependsOnItsRange, PermissiveKeepsStrict};
+ghost use Rattle.goblin_base.specs.Strtab.{has_name};
 ghost use Rattle.goblin_records.specs.Sym.{sym_size};
 
 use goblin_base::container::Ctx;
 use goblin_base::error::{Error, Fault, Result};
 use goblin_base::options::{ParseMode, ParseOptions};
+use goblin_base::strtab::Strtab;
 use goblin_base::table::{Table, TableIter};
 pub use goblin_records::sym::{
     STB_GLOBAL, STB_GNU_UNIQUE, STB_HIOS, STB_HIPROC, STB_LOCAL, STB_LOOS, STB_LOPROC, STB_NUM,
@@ -155,6 +157,24 @@ impl<'a> Symtab<'a> {
         SymIterator {
             inner: self.table.iter(),
         }
+    }
+
+    /// The index of the first symbol with this name, given as its bytes, or `None` where no symbol has it.
+    ///
+    /// The names are read plainly from the table's string table, as [`Strtab::get`] does: a symbol whose
+    /// name lies past it, or is no text, has none.
+    pub fn find(&self, names: &Strtab<'_>, name: &[u8]) -> Option<usize>
+        ensures { result
+            ≡ position (λ symbol. has_name names.now symbol.st_name name.now) self.now.symbols }
+    {
+        for i in 0..self.len() {
+            if let Some(symbol) = self.get(i) {
+                if names.has_name(symbol.st_name, name) {
+                    return Some(i);
+                }
+            }
+        }
+        None
     }
 
     /// The symbols as a vector. Only want of memory is an error.

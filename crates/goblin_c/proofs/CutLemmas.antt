@@ -1,0 +1,47 @@
+-- Room that is filled item by item.
+use Rattle.std.proofs.Common.{◌≡◌, ◌<◌, ◌≤◌, ◌+◌, ◌-◌, min, ℕ, zero, suc, List, [], ◌∷◌, ◌++◌, length, take, drop, map, get_or, Some, slice_get, refl, sym, ap, ◌∙◌, arith}
+use Rattle.std.proofs.Math.ListN.{set}
+use Rattle.std.proofs.lemmas.List.{length-take-le, take_more, drop-map, get_or-map, length-map, length-drop, get_or-drop}
+use Rattle.std.proofs.lemmas.Option.{slice_get_within, get_or_from_slice_get}
+use Rattle.goblin_c.specs.Cut.{cut}
+
+-- one item more
+pub cut-more : {X : Type 0} (xs old : List X) (x : X) → length xs < length old → set (cut xs old) (length xs) x ≡ cut (xs ++ x ∷ []) old
+cut-more [] [] x h = absurd (omega arith)
+cut-more [] (o ∷ os) x h = refl
+cut-more (y ∷ ys) [] x h = absurd (omega arith)
+cut-more (y ∷ ys) (o ∷ os) x h = ap (λ rest. y ∷ rest) (cut-more ys os x (omega arith))
+
+-- as many items as there is room for are all that count
+pub cut-enough : {X : Type 0} (i : ℕ) (xs old : List X) → min (length xs) (length old) ≤ i → cut (take i xs) old ≡ cut xs old
+cut-enough zero [] old h = refl
+cut-enough zero (x ∷ xs) [] h = refl
+cut-enough zero (x ∷ xs) (o ∷ os) h = absurd (omega arith)
+cut-enough (suc i) [] old h = refl
+cut-enough (suc i) (x ∷ xs) [] h = refl
+cut-enough (suc i) (x ∷ xs) (o ∷ os) h = ap (λ rest. x ∷ rest) (cut-enough i xs os (omega arith))
+
+-- the item at an index, behind those before it
+pub cut-next : {X : Type 0} (i : ℕ) (xs old : List X) (x : X) (more : List X) → i ≤ length xs → i < length old → more ≡ take i xs ++ x ∷ [] → set (cut (take i xs) old) i x ≡ cut more old
+cut-next i xs old x more within room is =
+    let long : length (take i xs) ≡ i = length-take-le i xs within in
+    rw is (rw long at (cut-more (take i xs) old x (omega arith)))
+
+-- the step of a loop that writes a list from its start on
+pub cut-step : {X : Type 0} (i : ℕ) (xs old now : List X) (d : X) → now ≡ cut (take i xs) old → i < length xs → i < length old → set now i (get_or xs i d) ≡ cut (take (i + 1) xs) old
+cut-step {X = X} i xs old now d is within room =
+    ap (λ (buffer : List X). set buffer i (get_or xs i d)) is
+    ∙ cut-next i xs old (get_or xs i d) (take (i + 1) xs) (omega arith) room (take_more xs i d within)
+
+-- the step of a loop that writes what is told of the items from an index on
+pub cut-told : {X Y : Type 0} (tell : X → Y) (all : List X) (first i : ℕ) (old now : List Y) (x : X) → slice_get all (first + i) ≡ Some x → now ≡ cut (take i (map tell (drop first all))) old → i < length old → set now i (tell x) ≡ cut (take (i + 1) (map tell (drop first all))) old
+cut-told {Y = Y} tell all first i old now x found is room =
+    let xs = map tell (drop first all) in
+    let inside : first + i < length all = slice_get_within all (first + i) x found in
+    let long : length xs ≡ length all - first = simp (length-map, length-drop) in
+    let same : get_or xs i (tell x) ≡ tell x =
+    ap (λ (ys : List Y). get_or ys i (tell x)) (sym (drop-map tell first all))
+    ∙ get_or-drop first (map tell all) i (tell x)
+    ∙ get_or-map tell all (first + i) x (tell x) inside
+    ∙ ap tell (get_or_from_slice_get all (first + i) x x found) in
+    ap (λ (v : Y). set now i v) (sym same) ∙ cut-step i xs old now (tell x) is (omega arith) room

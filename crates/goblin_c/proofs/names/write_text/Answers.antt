@@ -1,0 +1,12 @@
+use Rattle.std.proofs.Common.{ℕ, List, ap, ◌∙◌, arith}
+use Rattle.goblin_c.specs.Cut.{cut}
+use Rattle.goblin_c.proofs.CutLemmas.{cut-step, cut-enough}
+use Rattle.goblin_c.proofs.names.write_text.Goals as goal
+
+pub loop-i-preserved : goal.loop-i-preserved
+loop-i-preserved c =
+    cut-step c.loop-i.i c.as_bytes-bytes.result.now c.args.buffer.now c.loop-i.buffer 0 c.loop-i.invariant (omega arith) (omega arith)
+
+pub returns-clause-written : goal.returns-clause-written
+returns-clause-written c =
+    c.loop-i.invariant ∙ cut-enough c.loop-i.i c.as_bytes-bytes.result.now c.args.buffer.now (omega arith) ∙ ap (λ (t : List ℕ). cut t c.args.buffer.now) c.as_bytes-bytes.ensures.value

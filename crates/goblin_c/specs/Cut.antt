@@ -1,0 +1,8 @@
+-- What is written into room that a caller has.
+use Rattle.std.specs.Prelude.{List, [], ◌∷◌}
+
+-- as many items of a list as there is room for, over what was there, which stays behind them
+abbrev pub cut : {X : Type 0} → List X → List X → List X
+cut [] old = old
+cut (x ∷ xs) [] = []
+cut (x ∷ xs) (o ∷ os) = x ∷ cut xs os

@@ -1,0 +1,189 @@
+//! One of each struct that crosses, with numbers from which C can tell each field.
+ghost use Rattle.std.specs.Prelude.{◌≡◌, ◌<◌, ◌^◌};
+ghost use Rattle.goblin_c.specs.Layout.{each_byte, layout, header_marked, note_marked, range_marked, refusal_marked};
+ghost use Rattle.goblin_c.specs.Layout.{reloc_marked, section_marked, segment_marked, symbol_marked};
+
+use crate::types::{
+    GoblinHeader, GoblinNote, GoblinRange, GoblinRefusal, GoblinReloc, GoblinSection,
+    GoblinSegment, GoblinSymbol,
+};
+
+/// The sizes of the structs in bytes, and one of each, in which each byte of the first field is 1, of
+/// the second 2, and so on.
+#[repr(C)]
+#[derive(Clone, Copy)]
+pub struct GoblinLayout {
+    pub size_of_refusal: u64,
+    pub size_of_range: u64,
+    pub size_of_header: u64,
+    pub size_of_section: u64,
+    pub size_of_segment: u64,
+    pub size_of_symbol: u64,
+    pub size_of_reloc: u64,
+    pub size_of_note: u64,
+    pub refusal: GoblinRefusal,
+    pub range: GoblinRange,
+    pub header: GoblinHeader,
+    pub section: GoblinSection,
+    pub segment: GoblinSegment,
+    pub symbol: GoblinSymbol,
+    pub reloc: GoblinReloc,
+    pub note: GoblinNote,
+}
+
+fn wide(mark: u8) -> u64
+    ensures { result ≡ each_byte 8 mark }
+{
+    mark as u64 * 0x0101_0101_0101_0101
+}
+
+fn word(mark: u8) -> u32
+    ensures { result ≡ each_byte 4 mark }
+{
+    mark as u32 * 0x0101_0101
+}
+
+fn half(mark: u8) -> u16
+    ensures { result ≡ each_byte 2 mark }
+{
+    mark as u16 * 0x0101
+}
+
+// A range whose fields have a mark and the next one.
+fn marked_range(mark: u8) -> GoblinRange
+    requires { mark < 2 ^ 7 }
+    ensures { result ≡ range_marked mark }
+{
+    GoblinRange {
+        offset: wide(mark),
+        size: wide(mark + 1),
+    }
+}
+
+fn marked_refusal() -> GoblinRefusal
+    ensures { result ≡ refusal_marked }
+{
+    GoblinRefusal {
+        kind: word(1),
+        item: word(2),
+        first: wide(3),
+        second: wide(4),
+        third: wide(5),
+        fourth: wide(6),
+    }
+}
+
+fn marked_header() -> GoblinHeader
+    ensures { result ≡ header_marked }
+{
+    GoblinHeader {
+        e_entry: wide(1),
+        e_phoff: wide(2),
+        e_shoff: wide(3),
+        e_version: word(4),
+        e_flags: word(5),
+        e_type: half(6),
+        e_machine: half(7),
+        e_ehsize: half(8),
+        e_phentsize: half(9),
+        e_phnum: half(10),
+        e_shentsize: half(11),
+        e_shnum: half(12),
+        e_shstrndx: half(13),
+        ei_class: 14,
+        ei_data: 15,
+        ei_version: 16,
+        ei_osabi: 17,
+        ei_abiversion: 18,
+    }
+}
+
+fn marked_section() -> GoblinSection
+    ensures { result ≡ section_marked }
+{
+    GoblinSection {
+        file: marked_range(1),
+        sh_name: wide(3),
+        sh_flags: wide(4),
+        sh_addr: wide(5),
+        sh_addralign: wide(6),
+        sh_entsize: wide(7),
+        sh_type: word(8),
+        sh_link: word(9),
+        sh_info: word(10),
+    }
+}
+
+fn marked_segment() -> GoblinSegment
+    ensures { result ≡ segment_marked }
+{
+    GoblinSegment {
+        file: marked_range(1),
+        p_vaddr: wide(3),
+        p_paddr: wide(4),
+        p_memsz: wide(5),
+        p_align: wide(6),
+        p_type: word(7),
+        p_flags: word(8),
+    }
+}
+
+fn marked_symbol() -> GoblinSymbol
+    ensures { result ≡ symbol_marked }
+{
+    GoblinSymbol {
+        st_name: wide(1),
+        st_value: wide(2),
+        st_size: wide(3),
+        st_shndx: wide(4),
+        st_info: 5,
+        st_other: 6,
+    }
+}
+
+fn marked_reloc() -> GoblinReloc
+    ensures { result ≡ reloc_marked }
+{
+    GoblinReloc {
+        r_offset: wide(1),
+        r_sym: wide(2),
+        r_addend: wide(3) as i64,
+        r_type: word(4),
+        has_addend: word(5),
+    }
+}
+
+fn marked_note() -> GoblinNote
+    ensures { result ≡ note_marked }
+{
+    GoblinNote {
+        name: marked_range(1),
+        desc: marked_range(3),
+        next: wide(5),
+        n_type: word(6),
+    }
+}
+
+/// The sizes, and one of each.
+pub fn marked_layout() -> GoblinLayout
+    ensures { result ≡ layout }
+{
+    GoblinLayout {
+        size_of_refusal: size_of::<GoblinRefusal>() as u64,
+        size_of_range: size_of::<GoblinRange>() as u64,
+        size_of_header: size_of::<GoblinHeader>() as u64,
+        size_of_section: size_of::<GoblinSection>() as u64,
+        size_of_segment: size_of::<GoblinSegment>() as u64,
+        size_of_symbol: size_of::<GoblinSymbol>() as u64,
+        size_of_reloc: size_of::<GoblinReloc>() as u64,
+        size_of_note: size_of::<GoblinNote>() as u64,
+        refusal: marked_refusal(),
+        range: marked_range(1),
+        header: marked_header(),
+        section: marked_section(),
+        segment: marked_segment(),
+        symbol: marked_symbol(),
+        reloc: marked_reloc(),
+        note: marked_note(),
+    }
+}
