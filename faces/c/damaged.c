@@ -67,15 +67,21 @@ static bool told(const char *what, uint32_t answer, const void *item, size_t siz
     answers[answer > GOBLIN_END ? 2 : answer]++;
     if (answer != GOBLIN_OK && !is_blank(item, size)) wrong(what, answer);
     if (answer <= GOBLIN_END ? !is_blank(&why, sizeof why) : why.kind != answer) wrong("goblin_refusal_t", answer);
-    if (answer > GOBLIN_END) {
-        uint8_t text[300];
-        size_t room = (size_t)any(sizeof text);
-        memset(text, 0x5a, sizeof text);
-        uint64_t size_of_text = goblin_refusal_text(&why, text, room);
-        size_t written = size_of_text < room ? (size_t)size_of_text : room;
-        if (size_of_text == 0 || !is_blank(text + written, sizeof text - written)) wrong("goblin_refusal_text", answer);
-    }
     return answer == GOBLIN_OK;
+}
+
+/* Names of numbers: no byte behind those that there is room for. */
+static void names_of_numbers(void) {
+    uint8_t text[64], number = (uint8_t)any(256);
+    size_t room = (size_t)any(30);
+    blank(text, sizeof text);
+    uint64_t sizes = goblin_class_to_str(number % 4, text, room) * goblin_et_to_str(number % 6, text, room)
+        * goblin_machine_to_str(number, text, room) * goblin_pt_to_str(number % 9, text, room)
+        * goblin_sht_to_str(number % 20, text, room) * goblin_shf_to_str(1U << number % 12, text, room)
+        * goblin_bind_to_str(number % 12, text, room) * goblin_type_to_str(number % 12, text, room)
+        * goblin_visibility_to_str(number % 8, text, room);
+    if (sizes == 0 || goblin_note_type_to_str(bytes, len, number, text, room) == 0) wrong("a name's size", number);
+    if (!is_blank(text + room, sizeof text - room)) wrong("a name", number);
 }
 
 /* Whether a call tells an item; each call's last arguments are the item and `why`. */
@@ -166,6 +172,7 @@ static void file(void) {
         if (TELLS(goblin_segment, segment, &h, at)) notes(&h, segment.file);
     }
     SEVERAL(goblin_section, goblin_sections, goblin_section_t, sh_info, &h);
+    names_of_numbers();
 }
 
 /* Changes some bytes, most of them among those that tell where things lie. */

@@ -15,9 +15,7 @@ static goblin_section_t names_of_sections;
 static goblin_refusal_t why;
 
 static int refused(const char *what) {
-    char text[120];
-    uint64_t size = goblin_refusal_text(&why, (uint8_t *)text, sizeof text);
-    fprintf(stderr, "nm: %s: %.*s\n", what, (int)(size < sizeof text ? size : sizeof text), text);
+    fprintf(stderr, "nm: %s: refusal %" PRIu32 "\n", what, why.kind);
     return 1;
 }
 

@@ -64,7 +64,6 @@ macro_rules! texts {
 }
 
 texts! {
-    fn goblin_refusal_text(why: &Refusal);
     fn goblin_class_to_str(ei_class: u8);
     fn goblin_et_to_str(e_type: u16);
     fn goblin_machine_to_str(e_machine: u16);
