@@ -1,0 +1,176 @@
+#!/bin/sh
+# Whether C and Rust can call the library as faces/ says: goblin.h against the library; the C programs and the Rust crate
+# over files that they make themselves, whole and damaged; and over files of this machine, compared with what binutils' nm
+# and readelf list of them. What the machine has no compiler or no binutils for is said in a line, and passes. Run from the
+# repository's root, once `rt ci` has proved the crates below goblin_c. Files named by words are taken in place of others.
+set -eu
+export LC_ALL=C
+folder=$(mktemp -d)
+trap 'rm -rf "$folder"' EXIT
+trap 'exit 1' HUP INT TERM
+root=$PWD
+library=$root/crates/goblin_c/out
+strict='-Wall -Wextra -Werror -pedantic -O2'
+
+has() { command -v "$1" > /dev/null 2>&1; }
+
+# Runs a command whose output is shown only where it fails.
+quietly() {
+    if ! "$@" > "$folder/output" 2>&1; then
+        echo "failed: $*"
+        cat "$folder/output"
+        exit 1
+    fi
+}
+
+make_library() { (cd crates/goblin_c && rt lib); }
+
+# ---- C ----
+
+# The options for the sanitizers, where the compiler has them.
+find_sanitizers() {
+    echo 'int main(void) { return 0; }' > "$folder/empty.c"
+    sanitizers='-fsanitize=address,undefined -fno-sanitize-recover=all'
+    if ! { cc $sanitizers -o "$folder/empty" "$folder/empty.c" && "$folder/empty"; } > "$folder/output" 2>&1; then
+        echo "cc has no sanitizers here: damaged files are read without"
+        sanitizers=
+    fi
+}
+
+# Compiles a program of faces/c.
+build() {
+    program=$1
+    shift
+    quietly cc "$@" $strict -I"$folder" -o "$folder/$program" "faces/c/$program.c" -L"$library" -lgoblin_c
+}
+
+# The value, letter, section index and name of each symbol of a made file.
+symbols_made='0 a 65521 made.c
+0 t 1 .text
+0 N 5 .debug_info
+10 t 1 local_function
+8 d 2 local_data
+3 n 6 comment
+12 T 1 function
+4 D 2 data
+6 B 3 zeros
+2 R 4 constant
+14 W 1 weak_function
+c V 2 weak_data
+0 U 0 undefined
+0 w 0 weak_undefined
+0 v 0 weak_undefined_data
+7654321 A 65521 absolute
+20 C 65522 common
+14 u 2 unique
+16 i 1 indirect
+18 T 1 été'
+
+check_c() {
+    awk -f checks/fields.awk faces/c/goblin.h > "$folder/fields.h"
+    find_sanitizers
+    for standard in c99 c11; do
+        build layout -std=$standard
+        quietly "$folder/layout"
+    done
+    if has c++; then
+        quietly c++ -x c++ -std=c++11 $strict -I"$folder" -o "$folder/layout" faces/c/layout.c \
+            -x none -L"$library" -lgoblin_c
+    else
+        echo "no c++ here: goblin.h is compiled as C alone"
+    fi
+    "$folder/layout"
+    for program in nm values made; do build $program -std=c99; done
+    build damaged -std=c99 $sanitizers
+    mkdir "$folder/files"
+    "$folder/made" "$folder/files"
+    for file in "$folder"/files/*; do
+        case $file in *64) digits=16 ;; *) digits=8 ;; esac
+        echo "$symbols_made" | awk -v digits=$digits '{ while (length($1) < digits) $1 = "0" $1; print }' > "$folder/wanted"
+        "$folder/nm" "$file" > "$folder/listed"
+        quietly diff "$folder/wanted" "$folder/listed"
+        [ "$("$folder/values" "$file" | grep -c -x -e '12 2' -e '8 20')" -eq 2 ] || { echo "values.c: $file"; exit 1; }
+    done
+    echo "nm.c lists $(echo "$symbols_made" | wc -l) symbols in each class and order"
+    "$folder/damaged" 1000 "$folder"/files/*
+}
+
+# ---- Rust ----
+
+check_rust() {
+    export GOBLIN_C_LIB="$library" CARGO_TARGET_DIR="$folder/target"
+    quietly cargo test --offline --manifest-path faces/rust/Cargo.toml
+    awk '/^test result: ok\. / { tests += $4 } END { print "the Rust crate passes " tests + 0 " tests"; exit tests < 11 }' \
+        "$folder/output"
+    # (cargo has built the examples beside the tests)
+    examples=$folder/target/debug/examples
+    for file in "$folder"/files/*; do
+        "$examples/symbols" "$file" > "$folder/listed"
+        [ "$(grep -c -x -e '12 function' -e '18 été' "$folder/listed")" -eq 2 ] || { echo "symbols.rs: $file"; exit 1; }
+    done
+}
+
+# ---- files of this machine ----
+
+# The first so many ELF files among those that `find` finds with these words, spread over them.
+pick() {
+    count=$1
+    shift
+    find "$@" -type f -size -1500k ! -name '*[ :]*' 2> "$folder/output" | sort > "$folder/found"
+    awk -v count="$count" 'NR == FNR { all++; next } all <= 3 * count || FNR % int(all / 3 / count) == 0' \
+        "$folder/found" "$folder/found" | while [ "$count" -gt 0 ] && read -r file; do
+        case $(od -An -tx1 -N4 "$file") in
+        *7f*45*4c*46*) echo "$file"; count=$((count - 1)) ;;
+        esac
+    done
+}
+
+# Runs a command over the files listed, for what it lists of them.
+over_files() { tr '\n' '\0' < "$folder/list" | xargs -0 "$@"; }
+
+compare_symbols() {
+    while read -r file; do
+        for option in '' -D; do
+            echo "file: $file ${option:-static}"
+            "$folder/nm" $option "$file" 2>&3 || echo "$file is refused" >&3
+        done
+    done < "$folder/list" > "$folder/ours" 3> "$folder/refused"
+    # (a plugin would list in place of symbols what a compiler left there for itself)
+    over_files nm --plugin /dev/null -a -p > "$folder/nm.static" 2> "$folder/said" || true
+    over_files nm --plugin /dev/null -a -p -D > "$folder/nm.-D" 2> "$folder/output" || true
+    over_files readelf -sW > "$folder/readelf" 2> "$folder/output" || true
+    (cd "$folder" && awk -v least="$1" -f "$root/checks/symbols.awk" refused said ours nm.static nm.-D readelf)
+}
+
+compare_relocations() {
+    while read -r file; do
+        echo "file: $file"
+        "$examples/relocations" "$file" || echo "refused"
+    done < "$folder/list" > "$folder/ours"
+    over_files readelf -rW > "$folder/readelf" 2> "$folder/output" || true
+    (cd "$folder" && awk -v least="$1" -f "$root/checks/relocations.awk" ours readelf)
+}
+
+quietly make_library
+if ! has cc; then
+    echo "no cc here: no C is compiled, and no Rust, which cc links"
+    exit 0
+fi
+check_c
+examples=
+if cargo --version > "$folder/output" 2>&1 && rustc --version > "$folder/output" 2>&1; then
+    check_rust
+else
+    echo "no cargo and rustc here: no Rust is compiled"
+fi
+if ! has nm || ! has readelf; then
+    echo "no nm and readelf here: no lists are compared"
+    exit 0
+fi
+if [ $# -gt 0 ]; then printf '%s\n' "$@"; else
+    pick 60 /usr/bin; pick 60 /usr/lib -name '*.so*'; pick 60 /usr/lib -name '*.o'
+fi > "$folder/list"
+ls -d "$folder"/files/* >> "$folder/list"
+files=$(wc -l < "$folder/list")
+compare_symbols "$files"
+if [ "$examples" ]; then compare_relocations "$files"; fi

@@ -1,0 +1,214 @@
+/* Calls the whole library over damaged copies of files: damaged COUNT FILE.. makes so many copies of each, with bytes
+   changed or the end cut off. Each copy lies between pages that can't be read, at the end of its own pages or at their
+   start, so that a call that reads behind it or before it ends the program. What a call tells must be as goblin.h says:
+   untouched where it answers nothing, and inside the file where it is a range of it. */
+#define _DEFAULT_SOURCE
+#include "goblin.h"
+#include <stdio.h>
+#include <stdlib.h>
+#include <string.h>
+#include <sys/mman.h>
+
+enum { PAGE = 0x10000, ROOM = 16 * PAGE, BATCH = 5 };
+
+static const uint8_t *bytes;
+static size_t len;
+static unsigned long answers[3], broken;
+static goblin_refusal_t why;
+
+/* The next number of a sequence that is the same in each run. */
+static uint64_t any(uint64_t below) {
+    static uint64_t state = 88172645463325252;
+    state ^= state << 13, state ^= state >> 7, state ^= state << 17;
+    return state % below;
+}
+
+/* A number near an end, or any. */
+static uint64_t odd(void) {
+    static const uint64_t ends[] = {0, 1, 2, 4, 8, 0x7fffffff, 0xffffffff, 0x7fffffffffffffff, UINT64_MAX};
+    switch (any(4)) {
+    case 0: return ends[any(9)];
+    case 1: return len - ends[any(5)];
+    case 2: return any(len + 1);
+    default: return any(64);
+    }
+}
+
+/* A place inside the file or at its end; made files have something at each 256 bytes. */
+static uint64_t place(uint64_t end) {
+    uint64_t at = any(end + 1);
+    return any(2) ? at : at / 0x100 * 0x100;
+}
+
+/* A range that ends near the file's end, or any. */
+static goblin_range_t odd_range(void) {
+    goblin_range_t range = {any(4) ? place(len) : odd(), 0};
+    range.size = any(4) ? len - range.offset + any(3) * any(5) : odd();
+    return range;
+}
+
+static void wrong(const char *what, uint32_t answer) {
+    if (broken++ < 10) printf("%s, answer %u\n", what, (unsigned)answer);
+}
+
+/* Whether bytes are as blank() left them. */
+static bool is_blank(const void *item, size_t size) {
+    for (size_t i = 0; i < size; i++)
+        if (((const uint8_t *)item)[i] != 0x5a) return false;
+    return true;
+}
+
+static void *blank(void *item, size_t size) {
+    memset(&why, 0x5a, sizeof why);
+    return memset(item, 0x5a, size);
+}
+
+static bool told(const char *what, uint32_t answer, const void *item, size_t size) {
+    answers[answer > GOBLIN_END ? 2 : answer]++;
+    if (answer != GOBLIN_OK && !is_blank(item, size)) wrong(what, answer);
+    if (answer <= GOBLIN_END ? !is_blank(&why, sizeof why) : why.kind != answer) wrong("goblin_refusal_t", answer);
+    return answer == GOBLIN_OK;
+}
+
+/* Names of numbers: no byte behind those that there is room for. */
+static void names_of_numbers(void) {
+    uint8_t text[64], number = (uint8_t)any(256);
+    size_t room = (size_t)any(30);
+    blank(text, sizeof text);
+    uint64_t sizes = goblin_class_to_str(number % 4, text, room) * goblin_et_to_str(number % 6, text, room)
+        * goblin_machine_to_str(number, text, room) * goblin_pt_to_str(number % 9, text, room)
+        * goblin_sht_to_str(number % 20, text, room) * goblin_shf_to_str(1U << number % 12, text, room)
+        * goblin_bind_to_str(number % 12, text, room) * goblin_type_to_str(number % 12, text, room)
+        * goblin_visibility_to_str(number % 8, text, room);
+    if (sizes == 0 || goblin_note_type_to_str(bytes, len, number, text, room) == 0) wrong("a name's size", number);
+    if (!is_blank(text + room, sizeof text - room)) wrong("a name", number);
+}
+
+/* Whether a call tells an item; each call's last arguments are the item and `why`. */
+#define TELLS(call, item, ...) \
+    (blank(&(item), sizeof(item)), told(#call, call(bytes, len, __VA_ARGS__, &(item), &why), &(item), sizeof(item)))
+
+static void inside(const char *what, goblin_range_t range) {
+    if (range.offset > len || range.size > len - range.offset) wrong(what, GOBLIN_OK);
+}
+
+/* The notes of a range, of any alignment. */
+static void notes(const goblin_header_t *h, goblin_range_t range) {
+    goblin_note_t note;
+    uint64_t offset = any(8) ? range.offset : odd(), alignment = any(8) ? 4 + any(2) * 4 : odd();
+    for (int i = 0; i < 8 && TELLS(goblin_note, note, h, &range, alignment, offset); i++) {
+        inside("name", note.name), inside("desc", note.desc);
+        if (note.next <= offset) wrong("next", GOBLIN_OK);
+        offset = note.next;
+    }
+}
+
+/* Some items of a list at once: those that the single call tells, and nothing behind them. */
+#define SEVERAL(one, all, type, last, ...) \
+    do { \
+        type items[BATCH], single; \
+        uint64_t first = any(2) ? any(9) : odd(), filled = 0; \
+        size_t room = (size_t)any(BATCH + 1), size = offsetof(type, last) + sizeof single.last; \
+        blank(items, sizeof items); \
+        uint32_t answer = all(bytes, len, __VA_ARGS__, first, items, room, &filled, &why); \
+        if (filled > room || (answer != GOBLIN_OK && filled != 0)) wrong(#all, answer), filled = 0; \
+        told(#all, answer, items, answer == GOBLIN_OK ? 0 : sizeof items); \
+        if (!is_blank(items + filled, sizeof *items * (BATCH - filled))) wrong(#all " behind", answer); \
+        for (uint64_t i = 0; i < filled; i++) \
+            if (!TELLS(one, single, __VA_ARGS__, first + i) || memcmp(&single, items + i, size)) wrong(#all " item", answer); \
+        if (answer == GOBLIN_OK && filled < room && TELLS(one, single, __VA_ARGS__, first + filled)) wrong(#all, answer); \
+    } while (0)
+
+/* A range taken for a table of symbols, of relocations, and for notes; its names are looked up again. */
+static void table(const goblin_header_t *h, goblin_range_t range, goblin_range_t names) {
+    if (any(4) == 0) range = odd_range();
+    if (any(4) == 0) names = odd_range();
+    for (uint64_t i = 0; i < 8; i++) {
+        goblin_symbol_t symbol, found;
+        goblin_reloc_t reloc;
+        goblin_range_t name;
+        /* One of the first, any, or near the last of those that take 8, 12, 16 or 24 bytes. */
+        static const uint64_t sizes[] = {8, 12, 16, 24};
+        uint64_t at = i < 3 ? any(30) : i == 3 ? odd() : range.size / sizes[i - 4] - any(3), index;
+        TELLS(goblin_reloc, reloc, h, &range, any(2), at);
+        if (TELLS(goblin_string, name, &names, names.size - any(9))) inside("string", name);
+        if (!TELLS(goblin_symbol, symbol, h, &range, at)) continue;
+        if (!TELLS(goblin_string, name, &names, symbol.st_name)) continue;
+        inside("string", name);
+        if (!TELLS(goblin_symbol_by_name, index, h, &range, &names, bytes + name.offset, (size_t)name.size) || index > at
+            || !TELLS(goblin_symbol, found, h, &range, index))
+            wrong("goblin_symbol_by_name", GOBLIN_END);
+    }
+    bool is_rela = any(2);
+    SEVERAL(goblin_symbol, goblin_symbols, goblin_symbol_t, st_other, h, &range);
+    SEVERAL(goblin_reloc, goblin_relocs, goblin_reloc_t, has_addend, h, &range, is_rela);
+    notes(h, range);
+}
+
+static void file(void) {
+    goblin_header_t h;
+    blank(&h, sizeof h);
+    if (!told("goblin_header", goblin_header(bytes, len, &h, &why), &h, sizeof h)) memset(&h, (int)any(256), sizeof h);
+    if (any(4) == 0) h.e_shoff = odd(), h.e_phoff = odd(), h.e_phnum = (uint16_t)odd(), h.e_shnum = (uint16_t)odd();
+    if (any(4) == 0) { /* headers that end near the file's end */
+        h.e_phnum = (uint16_t)any(5), h.e_phoff = len + any(4) - h.e_phnum * (h.ei_class == 2 ? 56U : 32U);
+        h.e_shnum = (uint16_t)any(5), h.e_shoff = len + any(4) - h.e_shnum * (h.ei_class == 2 ? 64U : 40U);
+    }
+    uint64_t count = 0;
+    goblin_section_t section, names, found;
+    bool is_counted = TELLS(goblin_section_count, count, &h);
+    if (!TELLS(goblin_section_names, names, &h)) names.file = odd_range();
+    for (uint64_t i = 0; i < 12; i++) {
+        uint64_t at = i < 9 ? i : odd(), index;
+        bool is_there = TELLS(goblin_section, section, &h, at);
+        if (is_there != (is_counted && at < count)) wrong("goblin_section_count", GOBLIN_OK);
+        goblin_range_t name;
+        table(&h, is_there ? section.file : odd_range(), names.file);
+        if (is_there && TELLS(goblin_string, name, &names.file, section.sh_name)
+            && (!TELLS(goblin_section_by_name, index, &h, &names.file, bytes + name.offset, (size_t)name.size)
+                || index > at || !TELLS(goblin_section, found, &h, index)))
+            wrong("goblin_section_by_name", GOBLIN_END);
+        goblin_segment_t segment;
+        if (TELLS(goblin_segment, segment, &h, at)) notes(&h, segment.file);
+    }
+    SEVERAL(goblin_section, goblin_sections, goblin_section_t, sh_info, &h);
+    names_of_numbers();
+}
+
+/* Changes some bytes, most of them among those that tell where things lie. */
+static void damage(uint8_t *copy) {
+    static const uint8_t ends[] = {0, 1, 0x7f, 0x80, 0xff};
+    for (uint64_t changes = any(9); changes > 0 && len > 0; changes--) {
+        uint64_t at = any(3) ? any(len) : any(2) ? any(len < 64 ? len : 64) : len - 1 - any(len < 0x800 ? len : 0x800);
+        copy[at] = any(2) ? ends[any(5)] : (uint8_t)any(256);
+    }
+}
+
+int main(int argc, char **argv) {
+    uint8_t *pages = mmap(NULL, PAGE + ROOM + PAGE, PROT_NONE, MAP_PRIVATE | MAP_ANONYMOUS, -1, 0);
+    uint8_t *whole = malloc(ROOM);
+    if (argc < 3 || pages == MAP_FAILED || !whole || mprotect(pages + PAGE, ROOM, PROT_READ | PROT_WRITE)) return EXIT_FAILURE;
+    unsigned long copies = 0, wanted = strtoul(argv[1], NULL, 10);
+    for (int i = 2; i < argc; i++) {
+        FILE *from = fopen(argv[i], "rb");
+        if (!from) return EXIT_FAILURE;
+        size_t size = fread(whole, 1, ROOM, from);
+        fclose(from);
+        for (unsigned long n = 0; n < wanted; n++, copies++) {
+            uint64_t end = any(2) * place(size) + any(80);
+            len = any(4) == 0 && end < size ? (size_t)end : size;
+            uint8_t *own = malloc(len ? len : 1);
+            uint8_t *copy = n % 3 == 0 ? own : n % 3 == 1 ? pages + PAGE : pages + PAGE + ROOM - len;
+            if (!own) return EXIT_FAILURE;
+            memcpy(copy, whole, len);
+            damage(copy);
+            bytes = copy;
+            file();
+            free(own);
+        }
+    }
+    free(whole);
+    printf("%lu damaged copies: %lu answers, %lu past the last, %lu refusals, %lu of them wrong\n", copies, answers[0],
+           answers[1], answers[2], broken);
+    return broken == 0 && answers[0] > copies && answers[1] > copies && answers[2] > copies ? EXIT_SUCCESS : EXIT_FAILURE;
+}

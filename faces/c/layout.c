@@ -1,0 +1,164 @@
+/* Whether goblin.h says what the library does: each field of each struct lies where the library puts it, by goblin_layout;
+   and each, read from files whose fields all differ, is the number that was put there, in both classes and orders.
+   fields.h lists STRUCT(name) of each struct and FIELD(struct, field, number) of each of its fields. The check makes it
+   from goblin.h itself, so that none is left out. */
+#include "goblin.h"
+#include <stdio.h>
+#include <stdlib.h>
+#include <string.h>
+
+static uint8_t file[0x1000];
+static size_t end, wide;
+static bool is_big;
+static int compared, wrong;
+
+static void same(const char *what, uint64_t is, uint64_t should) {
+    compared++;
+    if (is == should) return;
+    printf("%s is 0x%llx, and should be 0x%llx\n", what, (unsigned long long)is, (unsigned long long)should);
+    wrong++;
+}
+
+/* Puts a number of so many bytes behind those that were put. */
+static uint64_t put(size_t width, uint64_t value) {
+    for (size_t i = 0; i < width; i++) file[end + (is_big ? width - 1 - i : i)] = (uint8_t)(value >> (8 * i));
+    end += width;
+    return value;
+}
+
+/* The same with a number whose bytes differ from those around it. */
+static uint64_t any(size_t width) {
+    static uint8_t last;
+    uint64_t value = 0;
+    for (size_t i = 0; i < width; i++) value = value << 8 | (last = (uint8_t)(last % 250 + 3));
+    return put(width, value);
+}
+
+static void header(goblin_header_t *h) {
+    memset(file, 0xee, sizeof file);
+    memcpy(file, "\177ELF", 4);
+    end = 4;
+    h->ei_class = (uint8_t)put(1, wide / 4), h->ei_data = (uint8_t)put(1, is_big ? 2 : 1);
+    h->ei_version = (uint8_t)any(1), h->ei_osabi = (uint8_t)any(1), h->ei_abiversion = (uint8_t)any(1);
+    end = 16;
+    h->e_type = (uint16_t)any(2), h->e_machine = (uint16_t)any(2), h->e_version = (uint32_t)any(4);
+    h->e_entry = any(wide), h->e_phoff = put(wide, 0x123), h->e_shoff = put(wide, 0x456);
+    h->e_flags = (uint32_t)any(4), h->e_ehsize = (uint16_t)any(2), h->e_phentsize = (uint16_t)any(2);
+    h->e_phnum = (uint16_t)put(2, 2), h->e_shentsize = (uint16_t)any(2), h->e_shnum = (uint16_t)put(2, 3);
+    h->e_shstrndx = (uint16_t)put(2, 1);
+}
+
+/* At e_phoff an empty program header, and this one. */
+static void segment(goblin_segment_t *p) {
+    end = 0x123 + (wide == 8 ? 56 : 32);
+    p->p_type = (uint32_t)any(4);
+    if (wide == 8) p->p_flags = (uint32_t)any(4);
+    p->file.offset = any(wide), p->p_vaddr = any(wide), p->p_paddr = any(wide);
+    p->file.size = any(wide), p->p_memsz = any(wide);
+    if (wide == 4) p->p_flags = (uint32_t)any(4);
+    p->p_align = any(wide);
+}
+
+/* At e_shoff a section header, this one, and another. */
+static void section(goblin_section_t *s) {
+    end = 0x456 + (wide == 8 ? 64 : 40);
+    s->sh_name = any(4), s->sh_type = (uint32_t)any(4), s->sh_flags = any(wide), s->sh_addr = any(wide);
+    s->file.offset = any(wide), s->file.size = any(wide), s->sh_link = (uint32_t)any(4), s->sh_info = (uint32_t)any(4);
+    s->sh_addralign = any(wide), s->sh_entsize = any(wide);
+}
+
+/* At 0x700 room for a symbol, and this one. */
+static void symbol(goblin_symbol_t *s) {
+    end = 0x700 + (wide == 8 ? 24 : 16);
+    s->st_name = any(4);
+    if (wide == 4) s->st_value = any(4), s->st_size = any(4);
+    s->st_info = (uint8_t)any(1), s->st_other = (uint8_t)any(1), s->st_shndx = any(2);
+    if (wide == 8) s->st_value = any(8), s->st_size = any(8);
+}
+
+/* At 0x800 room for a relocation with addend, and this one. */
+static void reloc(goblin_reloc_t *r) {
+    end = 0x800 + 3 * wide;
+    r->r_offset = any(wide);
+    uint64_t info = any(wide), addend = any(wide);
+    r->r_sym = wide == 8 ? info >> 32 : info >> 8, r->r_type = (uint32_t)(wide == 8 ? info : info & 0xff);
+    r->r_addend = wide == 8 ? (int64_t)addend : (int32_t)addend, r->has_addend = 1;
+}
+
+/* At 0x900 a note: its name of seven bytes is closed by an eighth, its descriptor of five is filled up to eight. */
+static void note(goblin_note_t *n) {
+    end = 0x900;
+    put(4, 8), n->desc.size = put(4, 5), n->n_type = (uint32_t)any(4);
+    memcpy(file + end, "goblins", 8);
+    n->name.offset = end, n->name.size = 7, n->desc.offset = end + 8, n->next = end + 16;
+}
+
+/* Reads each item of a file, and compares it with what was put there. */
+static void read_all(void) {
+    goblin_layout_t wanted, got;
+    memset(&wanted, 0, sizeof wanted), memset(&got, 0, sizeof got);
+    header(&wanted.header), segment(&wanted.segment), section(&wanted.section);
+    symbol(&wanted.symbol), reloc(&wanted.reloc), note(&wanted.note);
+    goblin_header_t *h = &got.header;
+    goblin_refusal_t *why = &got.refusal;
+    same("goblin_header", goblin_header(file, sizeof file, h, why), GOBLIN_OK);
+    same("goblin_segment", goblin_segment(file, sizeof file, h, 1, &got.segment, why), GOBLIN_OK);
+    same("goblin_segment", goblin_segment(file, sizeof file, h, 2, &got.segment, why), GOBLIN_END);
+    same("goblin_section_names", goblin_section_names(file, sizeof file, h, &got.section, why), GOBLIN_OK);
+    same("goblin_section", goblin_section(file, sizeof file, h, 1, &got.section, why), GOBLIN_OK);
+    same("goblin_section", goblin_section(file, sizeof file, h, 3, &got.section, why), GOBLIN_END);
+    goblin_range_t symbols = {0x700, wide == 8 ? 48U : 32U}, relocs = {0x800, wide * 6}, notes = {0x900, 28};
+    same("goblin_symbol", goblin_symbol(file, sizeof file, h, &symbols, 1, &got.symbol, why), GOBLIN_OK);
+    same("goblin_symbol", goblin_symbol(file, sizeof file, h, &symbols, 2, &got.symbol, why), GOBLIN_END);
+    same("goblin_reloc", goblin_reloc(file, sizeof file, h, &relocs, true, 1, &got.reloc, why), GOBLIN_OK);
+    same("goblin_reloc", goblin_reloc(file, sizeof file, h, &relocs, true, 2, &got.reloc, why), GOBLIN_END);
+    same("goblin_note", goblin_note(file, sizeof file, h, &notes, 4, 0x900, &got.note, why), GOBLIN_OK);
+    same("goblin_note", goblin_note(file, sizeof file, h, &notes, 4, got.note.next, &got.note, why), GOBLIN_END);
+    /* Such a file for MIPS, of 64 bits and little order, has the type's bytes in the other order. */
+    goblin_header_t mips = *h;
+    mips.e_machine = 8;
+    goblin_reloc_t pair;
+    same("goblin_reloc", goblin_reloc(file, sizeof file, &mips, &relocs, true, 1, &pair, why), GOBLIN_OK);
+    if (wide == 8 && !is_big) {
+        uint32_t type = (uint32_t)wanted.reloc.r_sym;
+        same("r_sym for MIPS", pair.r_sym, wanted.reloc.r_type);
+        same("r_type for MIPS", pair.r_type, type << 24 | (type & 0xff00) << 8 | (type >> 8 & 0xff00) | type >> 24);
+    }
+    /* A refusal whose numbers are its size, its offset, the file's length and 1: all differ. */
+    goblin_range_t past = {0x321, UINT64_MAX};
+    goblin_refusal_t told = {GOBLIN_STRTAB_RANGE, 0, past.size, past.offset, sizeof file, 1};
+    wanted.refusal = told;
+    same("goblin_string", goblin_string(file, sizeof file, &past, 0, &got.range, why), GOBLIN_STRTAB_RANGE);
+    goblin_range_t names = {wanted.note.name.offset - 1, 9};
+    wanted.range.offset = names.offset + 3, wanted.range.size = 5;
+    same("goblin_string", goblin_string(file, sizeof file, &names, 3, &got.range, why), GOBLIN_OK);
+#define STRUCT(name)
+#define FIELD(name, field, number) same(#name "." #field, (uint64_t)got.name.field, (uint64_t)wanted.name.field);
+#include "fields.h"
+#undef FIELD
+#undef STRUCT
+}
+
+/* Each byte of a field, as goblin_layout fills it. */
+static void filled(const char *what, const void *field, size_t size, uint8_t number) {
+    for (size_t i = 0; i < size; i++) same(what, ((const uint8_t *)field)[i], number);
+}
+
+int main(void) {
+    same("goblin_version", goblin_version(), GOBLIN_VERSION);
+    goblin_layout_t layout;
+    memset(&layout, 0xee, sizeof layout);
+    goblin_layout(&layout);
+#define STRUCT(name) same("size of " #name, layout.size_of_##name, sizeof layout.name);
+#define FIELD(name, field, number) filled(#name "." #field, &layout.name.field, sizeof layout.name.field, number);
+#include "fields.h"
+#undef FIELD
+#undef STRUCT
+    for (int kind = 0; kind < 4; kind++) {
+        wide = kind < 2 ? 8 : 4, is_big = kind % 2;
+        read_all();
+    }
+    if (wrong) return EXIT_FAILURE;
+    printf("goblin.h and the library agree in %d comparisons of fields\n", compared);
+    return EXIT_SUCCESS;
+}

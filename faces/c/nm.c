@@ -1,0 +1,97 @@
+/* Lists the symbols of an ELF file, those of its dynamic table with -D, as `nm -a -p` does: value (of a common symbol the
+   size), letter, section index and name of each; and the value of symbols that are not defined too. */
+#include "goblin.h"
+#include <ctype.h>
+#include <elf.h>
+#include <inttypes.h>
+#include <stdio.h>
+#include <stdlib.h>
+#include <string.h>
+
+static const uint8_t *bytes;
+static size_t len;
+static goblin_header_t header;
+static goblin_section_t names_of_sections;
+static goblin_refusal_t why;
+
+static int refused(const char *what) {
+    fprintf(stderr, "nm: %s: refusal %" PRIu32 "\n", what, why.kind);
+    return 1;
+}
+
+/* The string at an offset; an empty one where there is none, or where it is no text. */
+static goblin_range_t string(const goblin_section_t *strings, uint64_t offset) {
+    goblin_range_t found = {0, 0};
+    goblin_string(bytes, len, &strings->file, offset, &found, &why);
+    return found;
+}
+
+static bool starts(goblin_range_t name, const char *with) {
+    return name.size >= strlen(with) && memcmp(bytes + name.offset, with, strlen(with)) == 0;
+}
+
+static int section_letter(const goblin_section_t *section) {
+    static const char *const debugging[] = {".debug", ".zdebug", ".gnu.debuglto_.debug_", ".line", ".stab", ".gdb_index"};
+    if (section->sh_flags & SHF_EXECINSTR) return 't';
+    if (section->sh_type == SHT_NOBITS) return 'b';
+    if (section->sh_flags & SHF_ALLOC) return section->sh_flags & SHF_WRITE ? 'd' : 'r';
+    goblin_range_t name = string(&names_of_sections, section->sh_name);
+    for (size_t i = 0; i < sizeof debugging / sizeof *debugging; i++)
+        if (starts(name, debugging[i])) return 'N';
+    return section->sh_flags & SHF_WRITE ? '?' : 'n';
+}
+
+/* The letter of a symbol and its section, which is null for a symbol of none. */
+static int letter(const goblin_symbol_t *symbol, const goblin_section_t *section) {
+    unsigned bind = ELF64_ST_BIND(symbol->st_info), type = ELF64_ST_TYPE(symbol->st_info);
+    if (symbol->st_shndx == SHN_COMMON) return 'C';
+    if (symbol->st_shndx == SHN_UNDEF && bind != STB_WEAK) return 'U';
+    if (symbol->st_shndx == SHN_UNDEF) return type == STT_OBJECT ? 'v' : 'w';
+    if (type == STT_GNU_IFUNC) return 'i';
+    if (bind == STB_WEAK) return type == STT_OBJECT ? 'V' : 'W';
+    if (bind == STB_GNU_UNIQUE) return 'u';
+    int of_section = section ? section_letter(section) : 'a';
+    return bind == STB_LOCAL ? of_section : toupper(of_section);
+}
+
+static int list(const goblin_section_t *table) {
+    goblin_section_t names;
+    if (goblin_section(bytes, len, &header, table->sh_link, &names, &why) != GOBLIN_OK) return refused("string table");
+    goblin_symbol_t symbol;
+    uint32_t answer;
+    for (uint64_t i = 1; (answer = goblin_symbol(bytes, len, &header, &table->file, i, &symbol, &why)) == GOBLIN_OK; i++) {
+        goblin_section_t section;
+        bool has_section = symbol.st_shndx < SHN_LORESERVE
+            && goblin_section(bytes, len, &header, symbol.st_shndx, &section, &why) == GOBLIN_OK;
+        goblin_range_t name = string(&names, symbol.st_name);
+        if (name.size == 0 && has_section && ELF64_ST_TYPE(symbol.st_info) == STT_SECTION)
+            name = string(&names_of_sections, section.sh_name);
+        uint64_t value = symbol.st_shndx == SHN_COMMON ? symbol.st_size : symbol.st_value;
+        printf("%0*" PRIx64 " %c %" PRIu64 " ", header.ei_class == ELFCLASS64 ? 16 : 8, value,
+               letter(&symbol, has_section ? &section : NULL), symbol.st_shndx);
+        fwrite(bytes + name.offset, 1, name.size, stdout);
+        putchar('\n');
+    }
+    return answer == GOBLIN_END ? 0 : refused("symbols");
+}
+
+static uint8_t *load(const char *path) {
+    FILE *file = fopen(path, "rb");
+    if (!file || fseek(file, 0, SEEK_END) || ftell(file) < 0) return NULL;
+    len = (size_t)ftell(file);
+    rewind(file);
+    uint8_t *all = malloc(len ? len : 1);
+    return all && fread(all, 1, len, file) == len ? all : NULL;
+}
+
+int main(int argc, char **argv) {
+    bool is_dynamic = argc == 3 && strcmp(argv[1], "-D") == 0;
+    if (argc != 2 + is_dynamic || !(bytes = load(argv[argc - 1]))) return fputs("usage: nm [-D] FILE\n", stderr), 2;
+    if (goblin_header(bytes, len, &header, &why) != GOBLIN_OK) return refused("header");
+    if (goblin_section_names(bytes, len, &header, &names_of_sections, &why) > GOBLIN_END) return refused("sections");
+    goblin_section_t section;
+    int failed = 0;
+    for (uint64_t i = 0; goblin_section(bytes, len, &header, i, &section, &why) == GOBLIN_OK; i++)
+        if (section.sh_type == (is_dynamic ? SHT_DYNSYM : SHT_SYMTAB)) failed |= list(&section);
+    return failed;
+}

@@ -1,0 +1,70 @@
+//! Lists the relocations of an ELF file: of each section its name, and then of each relocation the place, the numbers of its
+//! type and of its symbol, the symbol's name, and what is added.
+use goblin_rs::error::Result;
+use goblin_rs::reloc::Reloc;
+use goblin_rs::section_header::SectionHeader;
+use goblin_rs::sym::Symtab;
+use goblin_rs::Elf;
+use std::io::{self, Write};
+use std::{env, error, fs, process};
+
+const STT_SECTION: u8 = 3;
+
+/// The name of a relocation's symbol: of the symbol of a section that section's.
+fn name_of<'a>(elf: &Elf<'a>, symbols: &Symtab<'a>, reloc: &Reloc) -> Result<&'a str> {
+    let symbol = match symbols.get(reloc.r_sym)? {
+        Some(symbol) if reloc.r_sym != 0 => symbol,
+        _ => return Ok(""),
+    };
+    let name = symbols.name(&symbol)?.unwrap_or("");
+    if symbol.st_type() == STT_SECTION && name.is_empty() {
+        return match elf.section_header(symbol.st_shndx)? {
+            Some(section) => Ok(elf.shdr_strtab()?.get_at(section.sh_name)?.unwrap_or("")),
+            None => Ok(""),
+        };
+    }
+    Ok(name)
+}
+
+/// The symbols that the relocations of a section speak of.
+fn symbols_of<'a>(elf: &Elf<'a>, relocs: &SectionHeader) -> Result<Option<Symtab<'a>>> {
+    match elf.section_header(relocs.sh_link as usize)? {
+        Some(symbols) if relocs.sh_link != 0 => Ok(Some(elf.symtab(&symbols)?)),
+        _ => Ok(None),
+    }
+}
+
+fn list(elf: &Elf, out: &mut impl Write) -> std::result::Result<(), Box<dyn error::Error>> {
+    let section_names = elf.shdr_strtab()?;
+    for section in elf.shdr_relocs() {
+        let (section, relocs) = section?;
+        writeln!(out, "{}:", section_names.get_at(section.sh_name)?.unwrap_or(""))?;
+        let symbols = symbols_of(elf, &section)?;
+        for reloc in relocs.iter() {
+            let reloc = reloc?;
+            let name = match &symbols {
+                Some(symbols) => name_of(elf, symbols, &reloc)?,
+                None => "",
+            };
+            write!(out, "{:x} {} {} {}", reloc.r_offset, reloc.r_type, reloc.r_sym, name)?;
+            match reloc.r_addend {
+                Some(addend) if addend < 0 => writeln!(out, " - {:x}", addend.unsigned_abs())?,
+                Some(addend) => writeln!(out, " + {:x}", addend)?,
+                None => writeln!(out)?,
+            }
+        }
+    }
+    Ok(out.flush()?)
+}
+
+fn main() -> std::result::Result<(), Box<dyn error::Error>> {
+    let path = match env::args_os().nth(1) {
+        Some(path) => path,
+        None => {
+            eprintln!("usage: relocations FILE");
+            process::exit(2);
+        }
+    };
+    let bytes = fs::read(path)?;
+    list(&Elf::parse(&bytes)?, &mut io::BufWriter::new(io::stdout().lock()))
+}

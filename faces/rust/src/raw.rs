@@ -1,0 +1,134 @@
+//! What crosses to the library: the structs of `goblin.h`, whose comments say what their fields are. The test compares the
+//! place and the size of each field with the library's.
+
+macro_rules! records {
+    ($($(#[$doc:meta])* $name:ident { $($(#[$of_field:meta])* $field:ident: $type:ty),* $(,)? })*) => {$(
+        $(#[$doc])*
+        #[repr(C)]
+        #[derive(Clone, Copy, Debug, Default, PartialEq, Eq)]
+        pub struct $name { $($(#[$of_field])* pub $field: $type),* }
+
+        #[cfg(test)]
+        impl tests::Fields for $name {
+            fn fields(&self) -> Vec<Vec<u8>> {
+                [$(self.$field.fields()),*].concat()
+            }
+        }
+    )*};
+}
+
+records! {
+    /// Why a file is refused.
+    Refusal { kind: u32, item: u32, first: u64, second: u64, third: u64, fourth: u64 }
+    /// Some bytes of the file.
+    Range { offset: u64, size: u64 }
+    /// A file's header.
+    Header {
+        /// The address at which the program starts, or 0.
+        e_entry: u64,
+        /// Where the program headers start, in bytes from the file's start, or 0.
+        e_phoff: u64,
+        /// Where the section headers start, in bytes from the file's start, or 0 for none.
+        e_shoff: u64,
+        /// The version of the format.
+        e_version: u32,
+        /// Flags of the machine.
+        e_flags: u32,
+        /// What the file is, an `ET_` number.
+        e_type: u16,
+        /// The machine, an `EM_` number.
+        e_machine: u16,
+        /// The header's size in bytes, as it says.
+        e_ehsize: u16,
+        /// The size of a program header in bytes, as it says; the class tells what is read.
+        e_phentsize: u16,
+        /// How many program headers there are.
+        e_phnum: u16,
+        /// The size of a section header in bytes, as it says; the class tells what is read.
+        e_shentsize: u16,
+        /// How many section headers there are; where it is 0, the first one's `sh_size` tells.
+        e_shnum: u16,
+        /// The index of the section that holds the sections' names, or 0xffff where the first one's `sh_link` tells.
+        e_shstrndx: u16,
+        /// 2 for 64 bits; any other number is taken for 32 bits, which is 1.
+        ei_class: u8,
+        /// 2 where the highest byte comes first; any other number is taken for the other order, which is 1.
+        ei_data: u8,
+        /// The version of the format once more.
+        ei_version: u8,
+        /// The operating system.
+        ei_osabi: u8,
+        /// Its version.
+        ei_abiversion: u8,
+    }
+    /// A section header.
+    Section {
+        file: Range, sh_name: u64, sh_flags: u64, sh_addr: u64, sh_addralign: u64, sh_entsize: u64, sh_type: u32,
+        sh_link: u32, sh_info: u32,
+    }
+    /// A program header.
+    Segment {
+        file: Range, p_vaddr: u64, p_paddr: u64, p_memsz: u64, p_align: u64, p_type: u32, p_flags: u32,
+    }
+    /// A symbol.
+    Symbol { st_name: u64, st_value: u64, st_size: u64, st_shndx: u64, st_info: u8, st_other: u8 }
+    /// A relocation.
+    Reloc { r_offset: u64, r_sym: u64, r_addend: i64, r_type: u32, has_addend: u32 }
+    /// A note.
+    Note { name: Range, desc: Range, next: u64, n_type: u32 }
+}
+
+#[cfg(test)]
+pub mod tests {
+    use super::*;
+    use crate::sys;
+
+    pub trait Fields {
+        /// The bytes of each field, a range's two counted as two.
+        fn fields(&self) -> Vec<Vec<u8>>;
+    }
+
+    macro_rules! numbers {
+        ($($type:ty)*) => {$(
+            impl Fields for $type {
+                fn fields(&self) -> Vec<Vec<u8>> {
+                    vec![self.to_ne_bytes().to_vec()]
+                }
+            }
+        )*};
+    }
+    numbers!(u8 u16 u32 u64 i64);
+
+    records! {
+        /// One of each, which the library fills.
+        Layout {
+            size_of_refusal: u64, size_of_range: u64, size_of_header: u64, size_of_section: u64, size_of_segment: u64,
+            size_of_symbol: u64, size_of_reloc: u64, size_of_note: u64, refusal: Refusal, range: Range, header: Header,
+            section: Section, segment: Segment, symbol: Symbol, reloc: Reloc, note: Note,
+        }
+    }
+
+    // Each byte of a record's first field is 1, of its second 2, and so on.
+    fn assert_filled<T: Fields>(record: &T, size: u64, fields: usize) {
+        assert_eq!(std::mem::size_of::<T>() as u64, size);
+        let found = record.fields();
+        assert_eq!(found.len(), fields);
+        for (field, number) in found.iter().zip(1..) {
+            assert!(field.iter().all(|byte| *byte == number), "field {} is {:?}", number, field);
+        }
+    }
+
+    #[test]
+    fn fields_lie_where_the_library_puts_them() {
+        let (version, layout) = sys::version_and_layout();
+        assert_eq!(version, 1);
+        assert_filled(&layout.refusal, layout.size_of_refusal, 6);
+        assert_filled(&layout.range, layout.size_of_range, 2);
+        assert_filled(&layout.header, layout.size_of_header, 18);
+        assert_filled(&layout.section, layout.size_of_section, 10);
+        assert_filled(&layout.segment, layout.size_of_segment, 8);
+        assert_filled(&layout.symbol, layout.size_of_symbol, 6);
+        assert_filled(&layout.reloc, layout.size_of_reloc, 5);
+        assert_filled(&layout.note, layout.size_of_note, 6);
+    }
+}

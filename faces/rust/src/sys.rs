@@ -1,0 +1,85 @@
+//! The calls of the library, as `goblin.h` declares them and says what each answers. All unsafe code of this crate is here.
+//!
+//! No call has a condition but what its types say: it reads the bytes of its slices and what its references are of, and
+//! writes to the places that it is handed, no further than their length. So each is a safe function. Nothing compares
+//! these declarations with the library's but the tests.
+use crate::error::{Error, Result};
+use crate::raw::{Header, Note, Range, Refusal, Reloc, Section, Segment, Symbol};
+
+// A call on a file's bytes and what else is given; `by` a name; `into` some items, of which it tells how many were filled.
+// It answers an item, `None` past the last one or where nothing has that name, or why the file is refused.
+macro_rules! calls {
+    ($(fn $name:ident($($given:ident: $type:ty),*) $(by $by:ident)? $(into [$each:ty])? -> $item:ty;)*) => {$(
+        pub fn $name(bytes: &[u8] $(, $given: $type)* $(, $by: &[u8])? $(, items: &mut [$each])?) -> Result<Option<$item>> {
+            extern "C" {
+                fn $name(bytes: *const u8, len: usize $(, $given: $type)* $(, $by: *const u8, _: usize)?
+                    $(, items: *mut $each, _: usize)?, item: *mut $item, why: *mut Refusal) -> u32;
+            }
+            let (mut item, mut why) = <($item, Refusal)>::default();
+            // SAFETY: each pointer is handed over with its own slice's length, and the references, the slices and the two
+            // places, which are this call's own, outlive the call. All that is written are numbers.
+            let answer = unsafe {
+                $name(bytes.as_ptr(), bytes.len() $(, $given)* $(, $by.as_ptr(), $by.len())?
+                    $(, items.as_mut_ptr() as *mut $each, items.len())?, &mut item, &mut why)
+            };
+            match answer {
+                0 => Ok(Some(item)),
+                1 => Ok(None),
+                _ => Err(Error::new(why)),
+            }
+        }
+    )*};
+}
+
+calls! {
+    fn goblin_header() -> Header;
+    fn goblin_section(header: &Header, index: u64) -> Section;
+    fn goblin_sections(header: &Header, first: u64) into [Section] -> u64;
+    fn goblin_section_names(header: &Header) -> Section;
+    fn goblin_section_by_name(header: &Header, names: &Range) by name -> u64;
+    fn goblin_segment(header: &Header, index: u64) -> Segment;
+    fn goblin_symbol(header: &Header, table: &Range, index: u64) -> Symbol;
+    fn goblin_symbols(header: &Header, table: &Range, first: u64) into [Symbol] -> u64;
+    fn goblin_symbol_by_name(header: &Header, table: &Range, names: &Range) by name -> u64;
+    fn goblin_reloc(header: &Header, relocs: &Range, is_rela: bool, index: u64) -> Reloc;
+    fn goblin_relocs(header: &Header, relocs: &Range, is_rela: bool, first: u64) into [Reloc] -> u64;
+    fn goblin_note(header: &Header, notes: &Range, alignment: u64, offset: u64) -> Note;
+    fn goblin_string(strings: &Range, offset: u64) -> Range;
+}
+
+// A text that a call writes into the room that it is handed, once there is room for all of it.
+macro_rules! texts {
+    ($(fn $name:ident($given:ident: $type:ty $(, by $by:ident)?);)*) => {$(
+        pub fn $name($($by: &[u8], )? $given: $type) -> String {
+            extern "C" { fn $name($($by: *const u8, _: usize, )? $given: $type, text: *mut u8, room: usize) -> u64; }
+            let mut text = Vec::new();
+            loop {
+                // SAFETY: as above: each pointer has the length of its slice.
+                let size = unsafe { $name($($by.as_ptr(), $by.len(), )? $given, text.as_mut_ptr(), text.len()) } as usize;
+                if size <= text.len() { return String::from_utf8_lossy(&text[..size]).into_owned() }
+                text.resize(size, 0);
+            }
+        }
+    )*};
+}
+
+texts! {
+    fn goblin_class_to_str(ei_class: u8);
+    fn goblin_et_to_str(e_type: u16);
+    fn goblin_machine_to_str(e_machine: u16);
+    fn goblin_pt_to_str(p_type: u32);
+    fn goblin_sht_to_str(sh_type: u32);
+    fn goblin_shf_to_str(flag: u32);
+    fn goblin_bind_to_str(binding: u8);
+    fn goblin_type_to_str(type_: u8);
+    fn goblin_visibility_to_str(visibility: u8);
+    fn goblin_note_type_to_str(n_type: u32, by name);
+}
+
+#[cfg(test)]
+pub fn version_and_layout() -> (u32, crate::raw::tests::Layout) {
+    extern "C" { fn goblin_version() -> u32; fn goblin_layout(layout: *mut crate::raw::tests::Layout); }
+    let mut layout = Default::default();
+    // SAFETY: the first call takes nothing, and the second writes numbers to a place of its own.
+    unsafe { goblin_layout(&mut layout); (goblin_version(), layout) }
+}

@@ -1,0 +1,341 @@
+//! What is read of small files that are made here, in both classes and orders, whole and damaged.
+use goblin_rs::error::Kind;
+use goblin_rs::reloc::Reloc;
+use goblin_rs::section_header::{SectionHeader, SHT_NOTE, SHT_REL, SHT_RELA, SHT_SYMTAB};
+use goblin_rs::sym::Sym;
+use goblin_rs::{header, program_header, section_header, sym, Elf, Result};
+
+/// A class and an order.
+#[derive(Clone, Copy, Debug)]
+struct Form {
+    is_64: bool,
+    is_big: bool,
+}
+
+const FORMS: [Form; 4] = [
+    Form { is_64: true, is_big: false },
+    Form { is_64: true, is_big: true },
+    Form { is_64: false, is_big: false },
+    Form { is_64: false, is_big: true },
+];
+
+impl Form {
+    fn wide(self) -> usize {
+        if self.is_64 { 8 } else { 4 }
+    }
+
+    /// The bytes of numbers, each with its width, where `W` is an address's.
+    fn numbers(self, numbers: &[(usize, u64)]) -> Vec<u8> {
+        let mut bytes = Vec::new();
+        for &(width, number) in numbers {
+            let width = if width == W { self.wide() } else { width };
+            let all = number.to_be_bytes();
+            let lowest = &all[8 - width..];
+            if self.is_big {
+                bytes.extend(lowest);
+            } else {
+                bytes.extend(lowest.iter().rev());
+            }
+        }
+        bytes
+    }
+
+    fn symbol(self, name: u64, value: u64, size: u64, info: u64, other: u64, section: u64) -> Vec<u8> {
+        if self.is_64 {
+            self.numbers(&[(4, name), (1, info), (1, other), (2, section), (8, value), (8, size)])
+        } else {
+            self.numbers(&[(4, name), (4, value), (4, size), (1, info), (1, other), (2, section)])
+        }
+    }
+
+    fn reloc_info(self, symbol: u64, kind: u64) -> u64 {
+        if self.is_64 { symbol << 32 | kind } else { symbol << 8 | kind }
+    }
+
+    fn segment(self, kind: u64, flags: u64, offset: u64, size: u64) -> Vec<u8> {
+        let places = [(W, offset), (W, 0x4000), (W, 0x5000), (W, size), (W, size + 1)];
+        let (first, last) = if self.is_64 { (vec![(4, flags)], vec![]) } else { (vec![], vec![(4, flags)]) };
+        self.numbers(&[&[(4, kind)], &first[..], &places, &last, &[(W, 4)]].concat())
+    }
+}
+
+const W: usize = 0;
+const SECTION_NAMES: &[u8] = b"\0.note\0.symtab\0.strtab\0.rela\0.rel\0.names\0\xff\0";
+const STRINGS: &[u8] = b"\0first\0second\0\xc3\xa9t\xc3\xa9\0\xff\0";
+
+/// A file of seven sections and two segments, with so many nameless symbols behind its four named ones.
+fn made(form: Form, more: usize) -> Vec<u8> {
+    let mut file = vec![0; if form.is_64 { 64 } else { 52 }];
+    let mut sections = vec![0; if form.is_64 { 64 } else { 40 }];
+    let mut add = |name: u64, kind: u64, content: Vec<u8>, link: u64, info: u64| {
+        let (offset, size) = (file.len() as u64, content.len() as u64);
+        let first = [(4, name), (4, kind), (W, 0x32), (W, 0x6000 + name), (W, offset), (W, size)];
+        sections.extend(form.numbers(&[&first[..], &[(4, link), (4, info), (W, 4), (W, name + 7)]].concat()));
+        file.extend(content);
+        (offset, size)
+    };
+    let mut notes = form.numbers(&[(4, 4), (4, 4), (4, 3)]);
+    notes.extend(b"GNU\0abcd");
+    notes.extend(form.numbers(&[(4, 7), (4, 5), (4, 0x1234)]));
+    notes.extend(b"goblin\0\0hello\0\0\0");
+    let notes = add(1, 7, notes, 0, 0);
+    let mut symbols = form.symbol(0, 0, 0, 0, 0, 0);
+    symbols.extend(form.symbol(1, 0x1020, 0x30, 0x12, 2, 3));
+    symbols.extend(form.symbol(7, 0x2030, 0x40, 0x21, 0, 0xfff1));
+    symbols.extend(form.symbol(14, 0x3040, 0x50, 0x10, 0, 0));
+    symbols.extend(form.symbol(20, 0x4050, 0x60, 0x10, 0, 0));
+    for number in 0..more as u64 {
+        symbols.extend(form.symbol(0, number, 0, 0, 0, 1));
+    }
+    add(7, 2, symbols, 3, 1);
+    add(15, 3, STRINGS.to_vec(), 0, 0);
+    let with_addends = [(W, 0x8), (W, form.reloc_info(1, 7)), (W, -4i64 as u64), (W, 0x18), (W, form.reloc_info(2, 9)), (W, 5)];
+    add(23, 4, form.numbers(&with_addends), 2, 1);
+    add(29, 9, form.numbers(&[(W, 0x28), (W, form.reloc_info(3, 11))]), 2, 1);
+    add(34, 3, SECTION_NAMES.to_vec(), 0, 0);
+    let section_headers = file.len() as u64;
+    file.extend(sections);
+    let program_headers = file.len() as u64;
+    file.extend(form.segment(4, 4, notes.0, notes.1));
+    file.extend(form.segment(1, 5, 0, section_headers));
+    let (class, order) = (1 + u64::from(form.is_64), 1 + u64::from(form.is_big));
+    let places = [(W, 0x1234), (W, program_headers), (W, section_headers), (4, 0x55667788)];
+    let counts = [(2, 0x99), (2, 0xaa), (2, 2), (2, 0xbb), (2, 7), (2, 6)];
+    let mut start = b"\x7fELF".to_vec();
+    start.extend(form.numbers(&[(1, class), (1, order), (1, 1), (1, 3), (1, 4), (7, 0)]));
+    start.extend(form.numbers(&[&[(2, 3), (2, 0x3e), (4, 1)], &places[..], &counts].concat()));
+    file[..start.len()].copy_from_slice(&start);
+    file
+}
+
+fn section<'a>(elf: &Elf<'a>, kind: u32) -> SectionHeader {
+    elf.section_headers().map(Result::unwrap).find(|section| section.sh_type == kind).unwrap()
+}
+
+#[test]
+fn headers() {
+    for form in FORMS {
+        let file = made(form, 0);
+        let header = Elf::parse(&file).unwrap().header;
+        assert_eq!((header.ei_class, header.ei_data), (1 + u8::from(form.is_64), 1 + u8::from(form.is_big)));
+        assert_eq!((header.ei_version, header.ei_osabi, header.ei_abiversion), (1, 3, 4));
+        assert_eq!((header.e_type, header.e_machine, header.e_version), (3, 0x3e, 1));
+        assert_eq!((header.e_entry, header.e_flags, header.e_ehsize), (0x1234, 0x55667788, 0x99));
+        assert_eq!((header.e_phentsize, header.e_phnum), (0xaa, 2));
+        assert_eq!((header.e_shentsize, header.e_shnum, header.e_shstrndx), (0xbb, 7, 6));
+    }
+}
+
+#[test]
+fn sections() {
+    for form in FORMS {
+        let file = made(form, 0);
+        let elf = Elf::parse(&file).unwrap();
+        let names = elf.shdr_strtab().unwrap();
+        let sections: Vec<_> = elf.section_headers().map(Result::unwrap).collect();
+        let found: Vec<_> = sections.iter().map(|s| names.get_at(s.sh_name).unwrap().unwrap()).collect();
+        assert_eq!(found, ["", ".note", ".symtab", ".strtab", ".rela", ".rel", ".names"]);
+        for (index, name) in found.iter().enumerate() {
+            assert_eq!(elf.section_by_name(name), Ok(Some(index)));
+            assert_eq!(elf.section_header(index), Ok(Some(sections[index])));
+        }
+        assert_eq!(elf.section_by_name(".no"), Ok(None));
+        assert_eq!(elf.section_header(7), Ok(None));
+        let rela = SectionHeader {
+            sh_name: 23,
+            sh_type: SHT_RELA,
+            sh_flags: 0x32,
+            sh_addr: 0x6017,
+            sh_offset: sections[3].sh_offset + STRINGS.len() as u64,
+            sh_size: 6 * form.wide() as u64,
+            sh_link: 2,
+            sh_info: 1,
+            sh_addralign: 4,
+            sh_entsize: 30,
+        };
+        assert_eq!(sections[4], rela);
+    }
+}
+
+#[test]
+fn segments() {
+    for form in FORMS {
+        let file = made(form, 0);
+        let elf = Elf::parse(&file).unwrap();
+        let segments: Vec<_> = elf.program_headers().map(Result::unwrap).collect();
+        assert_eq!(segments.len(), 2);
+        let load = segments[1];
+        assert_eq!((load.p_type, load.p_flags, load.p_offset, load.p_filesz), (1, 5, 0, elf.header.e_shoff));
+        assert_eq!((load.p_vaddr, load.p_paddr, load.p_memsz, load.p_align), (0x4000, 0x5000, load.p_filesz + 1, 4));
+        assert_eq!(elf.program_header(1), Ok(Some(load)));
+        assert_eq!(elf.program_header(2), Ok(None));
+    }
+}
+
+#[test]
+fn symbols() {
+    for form in FORMS {
+        let file = made(form, 0);
+        let elf = Elf::parse(&file).unwrap();
+        let symbols = elf.syms().unwrap().unwrap();
+        let second = Sym { st_name: 7, st_info: 0x21, st_other: 0, st_shndx: 0xfff1, st_value: 0x2030, st_size: 0x40 };
+        assert_eq!(symbols.get(2), Ok(Some(second)));
+        assert_eq!((second.st_bind(), second.st_type()), (2, 1));
+        let first = symbols.get(1).unwrap().unwrap();
+        assert_eq!((first.st_visibility(), first.st_value, first.st_size, first.st_shndx), (2, 0x1020, 0x30, 3));
+        let names: Vec<_> = symbols.iter().map(|symbol| symbols.name(&symbol.unwrap()).map_err(|e| e.kind())).collect();
+        assert_eq!(names, [Ok(Some("")), Ok(Some("first")), Ok(Some("second")), Ok(Some("été")), Err(Kind::BadInput)]);
+        assert_eq!(symbols.find("été"), Ok(Some(3)));
+        assert_eq!(symbols.find("t"), Ok(None));
+        assert_eq!(symbols.get(5), Ok(None));
+        assert_eq!(symbols.strtab.get_at(STRINGS.len()), Ok(None));
+        assert!(elf.dynsyms().unwrap().is_none());
+    }
+}
+
+#[test]
+fn as_many_symbols_as_there_are() {
+    for more in [0, 58, 59, 60, 123, 124, 1000] {
+        let file = made(FORMS[0], more);
+        let symbols = Elf::parse(&file).unwrap().syms().unwrap().unwrap();
+        let listed: Vec<_> = symbols.iter().map(Result::unwrap).collect();
+        assert_eq!(listed.len(), 5 + more);
+        for (number, symbol) in listed[5..].iter().enumerate() {
+            assert_eq!(symbol.st_value, number as u64);
+        }
+        assert_eq!(symbols.get(5 + more), Ok(None));
+    }
+}
+
+#[test]
+fn relocations() {
+    for form in FORMS {
+        let file = made(form, 0);
+        let elf = Elf::parse(&file).unwrap();
+        let symbols = elf.syms().unwrap().unwrap();
+        let mut listed = Vec::new();
+        for relocs in elf.shdr_relocs() {
+            let (section, relocs) = relocs.unwrap();
+            assert_eq!(section.sh_type == SHT_REL, !listed.is_empty());
+            for reloc in relocs.iter().map(Result::unwrap) {
+                assert_eq!(relocs.get(listed.len() % 2), Ok(Some(reloc)));
+                let Reloc { r_offset, r_addend, r_sym, r_type } = reloc;
+                let symbol = symbols.get(r_sym).unwrap().unwrap();
+                listed.push((r_offset, r_type, symbols.name(&symbol).unwrap().unwrap(), r_addend));
+            }
+        }
+        let wanted = [(0x8, 7, "first", Some(-4)), (0x18, 9, "second", Some(5)), (0x28, 11, "été", None)];
+        assert_eq!(listed, wanted);
+    }
+}
+
+#[test]
+fn notes() {
+    for form in FORMS {
+        let file = made(form, 0);
+        let elf = Elf::parse(&file).unwrap();
+        let of_section: Vec<_> = elf.iter_note_sections().map(Result::unwrap).collect();
+        let of_segment: Vec<_> = elf.iter_note_headers().map(Result::unwrap).collect();
+        assert_eq!(of_section, of_segment);
+        assert_eq!(of_section, elf.notes(&section(&elf, SHT_NOTE)).map(Result::unwrap).collect::<Vec<_>>());
+        let told: Vec<_> = of_section.iter().map(|note| (note.n_type, note.name, note.desc)).collect();
+        assert_eq!(told, [(3, "GNU", &b"abcd"[..]), (0x1234, "goblin", &b"hello"[..])]);
+        assert_eq!(of_section[0].type_to_str(), "NT_GNU_BUILD_ID");
+        assert_eq!(of_section[1].type_to_str(), "NT_UNKNOWN");
+    }
+}
+
+#[test]
+fn refusals() {
+    let file = made(FORMS[0], 0);
+    let refused = |change: &dyn Fn(&mut Vec<u8>)| {
+        let mut file = file.clone();
+        change(&mut file);
+        let e = Elf::parse(&file).err().unwrap();
+        (e.kind(), e.to_string())
+    };
+    let wanted = [
+        (refused(&|f| f.truncate(15)), Kind::Malformed, "Malformed entity: Too small"),
+        (refused(&|f| f[3] = b'f'), Kind::BadMagic(0x0301_0102_664c_457f), "Invalid magic number: 0x3010102664c457f"),
+        (refused(&|f| f.truncate(63)), Kind::TooBig { size: 64, len: 63 }, "type is too big (64) for 63"),
+    ];
+    for ((kind, text), wanted_kind, wanted_text) in wanted {
+        assert_eq!((kind, &text[..]), (wanted_kind, wanted_text));
+    }
+    let class = refused(&|f| f[4] = 3);
+    assert_eq!(class.0, Kind::Malformed);
+    // Where the section headers lie past the file's end: the refusal is the one item.
+    let elf = Elf::parse(&file[..100]).unwrap();
+    let refused: Vec<_> = elf.section_headers().map(|section| section.map_err(|e| e.kind())).collect();
+    assert_eq!(refused, [Err(Kind::BadOffset(elf.header.e_shoff))]);
+}
+
+#[test]
+fn names_of_numbers() {
+    let of_numbers = [
+        (header::class_to_str(1), "ELF32"),
+        (header::et_to_str(3), "DYN"),
+        (header::et_to_str(77), "UNKNOWN_ET"),
+        (header::machine_to_str(62), "X86_64"),
+        (program_header::pt_to_str(1), "PT_LOAD"),
+        (section_header::sht_to_str(1), "SHT_PROGBITS"),
+        (section_header::shf_to_str(1), "SHF_WRITE"),
+        (sym::bind_to_str(1), "GLOBAL"),
+        (sym::type_to_str(2), "FUNC"),
+        (sym::visibility_to_str(0), "DEFAULT"),
+    ];
+    for (found, wanted) in of_numbers {
+        assert_eq!(found, wanted);
+    }
+}
+
+/// Reads everything. How many items there are, and how many refusals.
+fn read_all(file: &[u8]) -> Result<(usize, usize)> {
+    let elf = Elf::parse(file)?;
+    let (mut items, mut refusals) = (0, 0);
+    let mut count = |is_ok: bool| if is_ok { items += 1 } else { refusals += 1 };
+    elf.program_headers().for_each(|segment| count(segment.is_ok()));
+    elf.iter_note_headers().for_each(|note| count(note.is_ok()));
+    elf.iter_note_sections().for_each(|note| count(note.is_ok()));
+    for section in elf.section_headers() {
+        count(section.is_ok());
+        let section = match section {
+            Ok(section) => section,
+            Err(_) => break,
+        };
+        count(elf.shdr_strtab()?.get_at(section.sh_name).is_ok());
+        elf.relocs(&section).iter().for_each(|reloc| count(reloc.is_ok()));
+        if section.sh_type == SHT_SYMTAB {
+            let symbols = elf.symtab(&section)?;
+            for symbol in symbols.iter() {
+                count(symbol.and_then(|symbol| symbols.name(&symbol)).is_ok());
+            }
+        }
+    }
+    Ok((items, refusals))
+}
+
+#[test]
+fn damaged() {
+    for form in FORMS {
+        let file = made(form, 0);
+        let whole = read_all(&file).unwrap();
+        assert_eq!(whole.1, 1, "the one name that is no text");
+        let (mut fewer, mut refused, mut same) = (0, 0, 0);
+        let mut count = |file: &[u8]| match read_all(file) {
+            Ok(found) if found == whole => same += 1,
+            Ok(_) => fewer += 1,
+            Err(_) => refused += 1,
+        };
+        for end in 0..file.len() {
+            count(&file[..end]);
+            for byte in [0, 1, 0x80, 0xff, file[end] ^ 0x55] {
+                let mut damaged = file.clone();
+                damaged[end] = byte;
+                count(&damaged);
+            }
+        }
+        assert_eq!(fewer + refused + same, 6 * file.len());
+        assert!(fewer > file.len() && refused > 60 && same > file.len(), "{} {} {}", fewer, refused, same);
+    }
+}
