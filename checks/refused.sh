@@ -35,7 +35,7 @@ run_cases crates/goblin_refused "$folder/calls"
 
 # The modules of goblin_show, with a main that tries growths.
 cp -r --parents crates.txt crates/*/src crates/*/specs crates/*/proofs "$folder"
-cp checks/refused_show.rt "$folder/crates/goblin_show/src/main.rt"
+cp checks/refused_show.main "$folder/crates/goblin_show/src/main.rt"
 cp crates/goblin_refused/src/growths.rt "$folder/crates/goblin_show/src"
 rm "$folder"/crates/goblin_show/src/tests*.rt
 
