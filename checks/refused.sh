@@ -9,14 +9,16 @@ trap 'rm -rf "$folder"' EXIT
 trap 'exit 1' HUP INT TERM
 mkdir "$folder/calls" "$folder/runs"
 
-# The cases of a call or a run: its line and its file, with its first growth refused, with its second, and so on. The
-# instrument tells whether all is well, and by `last` also that no more growths than these are asked for.
+# The cases of a call or a run: its line and its file, with the growths from one number to another refused, one a case.
+# The instrument tells whether all is well, and of the last also whether no more growths than these are asked for.
 add_cases() {
-    to=$1 line=$2 file=$3
-    shift 3
-    for growth in "$@"; do
-        { echo "$line $growth"; cat "$file"; } > "$to.${growth% *}"
-        echo 'as it should be' > "$to.${growth% *}.stdout"
+    growth=$4
+    while [ "$growth" -le "$5" ]; do
+        is_last=
+        [ "$growth" -lt "$5" ] || is_last=' last'
+        { echo "$2 $growth$is_last"; cat "$3"; } > "$1.$growth"
+        echo 'as it should be' > "$1.$growth.stdout"
+        growth=$((growth + 1))
     done
 }
 
@@ -29,7 +31,7 @@ run_cases() {
 }
 
 while read -r name; do
-    add_cases "$folder/calls/$name" "$name" /dev/null 1 2 3 4 5 6 7 '8 last'
+    add_cases "$folder/calls/$name" "$name" /dev/null 1 8
 done < crates/goblin_refused/stdin
 run_cases crates/goblin_refused "$folder/calls"
 
@@ -39,18 +41,18 @@ cp checks/refused_show.main "$folder/crates/goblin_show/src/main.rt"
 cp crates/goblin_refused/src/growths.rt "$folder/crates/goblin_show/src"
 rm "$folder"/crates/goblin_show/src/tests*.rt
 
-# A run over a file with zeros behind it, which writes this where all memory is there.
+# A run over a file with zeros behind it, with so many growths at most, which writes this where all memory is there.
 add_run() {
-    add_cases "$folder/runs/$1" "$2" "$3" 0 1 2 3 4 5 6 7 8 9 10 11 12 13 14 15 16 17 18 19 '20 last'
+    add_cases "$folder/runs/$1" "$2" "$3" 0 "$4"
     cat > "$folder/runs/$1.0.stdout"
 }
 names=crates/goblin_show/stdin
 { head -c 53 "$names"; printf '\377'; tail -c +55 "$names"; } > "$folder/damaged"
 printf 0123456789abcdef > "$folder/magic"
-add_run symbols 'strict 0' checks/files/symbols < checks/files/symbols.shown
-add_run relocations 'strict 0' checks/files/relocations < checks/files/relocations.shown
-add_run longest 'strict 16777080' "$names" < crates/goblin_show/stdout
-sed 's/name=[.]s$/name=/' crates/goblin_show/stdout | add_run damaged 'permissive 0' "$folder/damaged"
-echo 'refused: Invalid magic number: 0x3736353433323130' | add_run magic 'strict 0' "$folder/magic"
+add_run symbols 'strict 0' checks/files/symbols 20 < checks/files/symbols.shown
+add_run relocations 'strict 0' checks/files/relocations 20 < checks/files/relocations.shown
+add_run names 'strict 0' "$names" 20 < crates/goblin_show/stdout
+sed 's/name=[.]s$/name=/' crates/goblin_show/stdout | add_run damaged 'permissive 0' "$folder/damaged" 20
+echo 'refused: Invalid magic number: 0x3736353433323130' | add_run longest 'strict 16777200' "$folder/magic" 12
 run_cases "$folder/crates/goblin_show" "$folder/runs"
 echo 'each growth that is refused is answered by want of memory, or as with ample memory'

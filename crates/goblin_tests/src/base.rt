@@ -11,7 +11,8 @@ use goblin_base::scroll;
 use std::alloc::{AllocError, AllocFailed, Global};
 use std::num::TryFromIntError;
 
-// Whether both `line` and `Display` tell an error by this text.
+// Whether both `line` and `Display` tell an error by this text. Each text that has a number has one of 10 and more, so
+// that decimal digits are told from hexadecimal ones.
 fn tells(alloc: Global, error: &Error, text: &str) -> bool {
     let line = error.line(alloc);
     let display = format!(in alloc; "{error}");
@@ -133,9 +134,9 @@ fn tells_faults_of_symbol_tables(rt: HostRuntime) {
 // The fault of a string table that ends past the file's end.
 fn strtab_range() -> Fault {
     Fault::StrtabRange {
-        size: 3,
-        offset: 2,
-        len: 4,
+        size: 33,
+        offset: 12,
+        len: 44,
         overflow: false,
     }
 }
@@ -143,9 +144,14 @@ fn strtab_range() -> Fault {
 #[test]
 fn tells_faults_of_string_tables(rt: HostRuntime) {
     let alloc = rt.alloc();
-    let offset = "String table offset (5) is beyond file boundary (4)";
-    assert!(rt; tells_fault(alloc, Fault::StrtabOffset { offset: 5, len: 4 }, offset));
-    let range = "Strtable size (3) + offset (2) is out of bounds for 4 #bytes. Overflowed: false";
+    let offset = "String table offset (45) is beyond file boundary (34)";
+    let fault = Fault::StrtabOffset {
+        offset: 45,
+        len: 34,
+    };
+    assert!(rt; tells_fault(alloc, fault, offset));
+    let range =
+        "Strtable size (33) + offset (12) is out of bounds for 44 #bytes. Overflowed: false";
     assert!(rt; tells_fault(alloc, strtab_range(), range));
 }
 
@@ -192,7 +198,7 @@ fn too_big() -> Error {
 // The error of bytes that are no text.
 fn bad_input() -> Error {
     Error::from(scroll::Error::BadInput {
-        size: 3,
+        size: 30,
         msg: "invalid utf8",
     })
 }
@@ -207,8 +213,8 @@ fn tells_errors(rt: HostRuntime) {
             "Invalid magic number: 0xabc"
         )
     );
-    let short = Error::BufferTooShort(7, "symbols");
-    assert!(rt; tells(alloc, &short, "Buffer is too short for 7 symbols"));
+    let short = Error::BufferTooShort(17, "symbols");
+    assert!(rt; tells(alloc, &short, "Buffer is too short for 17 symbols"));
     assert!(rt; tells(alloc, &too_big(), "type is too big (64) for 52"));
     assert!(rt;
         tells(
@@ -217,7 +223,7 @@ fn tells_errors(rt: HostRuntime) {
             "bad offset 20"
         )
     );
-    assert!(rt; tells(alloc, &bad_input(), "bad input invalid utf8 (3)"));
+    assert!(rt; tells(alloc, &bad_input(), "bad input invalid utf8 (30)"));
     assert!(rt; tells(alloc, &Error::from(AllocError), "Out of memory"));
     let failed = Error::from(AllocFailed { value: 5u8 });
     assert!(rt; tells(alloc, &failed, "Out of memory"));

@@ -7,6 +7,8 @@ mod base;
 #[cfg(test)]
 mod constants;
 #[cfg(test)]
+mod counts;
+#[cfg(test)]
 mod ends;
 #[cfg(test)]
 mod header;

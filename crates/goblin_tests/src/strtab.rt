@@ -191,3 +191,16 @@ fn cuts_a_range_to_the_file(rt: HostRuntime) {
     assert!(rt; is_cut_to(rt.alloc(), 1, usize::MAX, 3));
     assert!(rt; is_cut_to(rt.alloc(), 1, 2, 2));
 }
+
+// Whether the look-up has nothing at these offsets of a damaged table, read by permissive options.
+fn has_nothing_at(alloc: Global, bytes: &[u8], offsets: &[usize]) -> bool {
+    match Strtab::parse_with_opts(alloc, bytes, 0, bytes.len(), 0, &ParseOptions::permissive()) {
+        Ok(table) => offsets.iter().all(|offset| table.get_at(*offset).is_none()),
+        Err(_) => false,
+    }
+}
+
+#[test]
+fn has_nothing_inside_a_character(rt: HostRuntime) {
+    assert!(rt; has_nothing_at(rt.alloc(), b"\xE1\x80\xC2\xA2", &[3, 4]));
+}

@@ -191,6 +191,46 @@ fn writes_the_low_bits(rt: HostRuntime) {
     assert!(rt; writes_low(b"\x02\0\0\0\x07\0\0\0\x09\0\0\0\x03\x04\x05\0"));
 }
 
+// A symbol of zeros, but for its section, whose number passes two bytes.
+fn of_a_far_section() -> Sym {
+    Sym {
+        st_shndx: 0x12345,
+        ..Sym::default()
+    }
+}
+
+// Whether it is written as these bytes in the 32-bit class.
+fn writes_section(bytes: &[u8]) -> bool {
+    let mut written = [0xaa; 16];
+    match of_a_far_section().try_into_ctx(&mut written, little32()) {
+        Ok(size) => size == 16 && written.as_slice() == bytes,
+        Err(_) => false,
+    }
+}
+
+#[test]
+fn writes_the_low_bits_of_a_section(rt: HostRuntime) {
+    assert!(rt; writes_section(b"\0\0\0\0\0\0\0\0\0\0\0\0\0\0\x45\x23"));
+}
+
+// Whether the function, written in a context, is the one symbol that is read there.
+fn comes_back(alloc: Global, ctx: Ctx) -> bool {
+    let mut bytes = [0; 24];
+    if function().try_into_ctx(&mut bytes, ctx).is_err() {
+        return false;
+    }
+    match Sym::parse(alloc, &bytes, 0, 1, ctx) {
+        Ok(all) => all.as_slice() == [function()].as_slice(),
+        Err(_) => false,
+    }
+}
+
+#[test]
+fn reads_the_same_symbol_in_each_class_and_order(rt: HostRuntime) {
+    assert!(rt; comes_back(rt.alloc(), little32()) && comes_back(rt.alloc(), big32()));
+    assert!(rt; comes_back(rt.alloc(), little64()) && comes_back(rt.alloc(), big64()));
+}
+
 // Whether an answer refuses so many bytes as too few for a symbol of this size.
 fn refuses<T: Drop>(answer: Result<T>, size: usize, len: usize) -> bool {
     match answer {

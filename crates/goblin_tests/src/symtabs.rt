@@ -3,6 +3,7 @@ use goblin::elf::sym::{Sym, SymIterator, Symtab};
 use goblin_base::container::{BE, Container, Ctx, LE};
 use goblin_base::options::ParseOptions;
 use goblin_base::scroll::TryIntoCtx;
+use goblin_base::table::Table;
 use std::alloc::Global;
 
 static ZEROS: [u8; 50] = [0; 50];
@@ -180,9 +181,20 @@ fn gives_zeros(alloc: Global) -> bool {
     }
 }
 
+// Whether that is so of a table of records too, which has none behind them.
+fn table_gives_zeros(alloc: Global) -> bool {
+    let table = Table::<Sym, Ctx>::of(&ZEROS[..48], 2, big());
+    match table.to_vec(alloc) {
+        Ok(all) => {
+            all.as_slice() == [Sym::default(), Sym::default()].as_slice() && table.get(2).is_none()
+        }
+        Err(_) => false,
+    }
+}
+
 #[test]
 fn gives_a_vector_of_zero_symbols(rt: HostRuntime) {
-    assert!(rt; gives_zeros(rt.alloc()));
+    assert!(rt; gives_zeros(rt.alloc()) && table_gives_zeros(rt.alloc()));
 }
 
 #[test]
