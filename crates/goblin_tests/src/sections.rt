@@ -3,6 +3,7 @@ use crate::header::{BIG64, LITTLE32, gives, says, stands};
 use goblin_base::container::{BE, Ctx, LE};
 use goblin_base::error::Result as Answer;
 use goblin_base::scroll::{IntoCtx, SizeWith, TryFromCtx, TryIntoCtx};
+use goblin_base::strtab::Strtab;
 use goblin_headers::section_header::{
     SHF_ALLOC, SHF_EXCLUDE, SHF_EXECINSTR, SHF_FLAGS, SHF_ORDERED, SHF_WRITE, SHT_DYNSYM,
     SHT_GNU_VERSYM, SHT_HIUSER, SHT_NOBITS, SHT_NUM, SHT_PROGBITS, SHT_REL, SHT_RELA,
@@ -490,4 +491,26 @@ fn calls_the_laws_of_section_headers() {
     section_header::laws();
     section_header32::laws();
     section_header64::laws();
+}
+
+// A section whose name lies at a place.
+fn at(sh_name: usize) -> SectionHeader {
+    SectionHeader {
+        sh_name,
+        ..SectionHeader::default()
+    }
+}
+
+// The index of the first section with this name, where the names "f", one that is no text and "f" lie at 1, 3 and 5,
+// and the last place lies past them.
+fn found(name: &[u8]) -> Option<usize> {
+    let names = Strtab::new(b"\0f\0\xff\0f\0", 0);
+    SectionHeader::find(&[at(3), at(1), at(5), at(7)], &names, name)
+}
+
+#[test]
+fn finds_the_first_section_of_a_name(rt: HostRuntime) {
+    assert!(rt; found(b"f") == Some(1));
+    assert!(rt; found(b"\xff").is_none());
+    assert!(rt; found(b"").is_none());
 }

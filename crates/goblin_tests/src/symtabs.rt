@@ -3,6 +3,7 @@ use goblin::elf::sym::{Sym, SymIterator, Symtab};
 use goblin_base::container::{BE, Container, Ctx, LE};
 use goblin_base::options::ParseOptions;
 use goblin_base::scroll::TryIntoCtx;
+use goblin_base::strtab::Strtab;
 use goblin_base::table::Table;
 use std::alloc::Global;
 
@@ -204,4 +205,25 @@ fn has_no_symbols_by_default(rt: HostRuntime) {
     assert!(rt; none.get(0).is_none());
     assert!(rt; none.offset() == 0);
     assert!(rt; *none.ctx() == Ctx::default());
+}
+
+// Four symbols of the 32-bit class in little order, which have nothing but the places of their names.
+static PLACES: &[u8; 64] = b"\x03\0\0\0\0\0\0\0\0\0\0\0\0\0\0\0\x01\0\0\0\0\0\0\0\0\0\0\0\0\0\0\0\
+    \x05\0\0\0\0\0\0\0\0\0\0\0\0\0\0\0\x07\0\0\0\0\0\0\0\0\0\0\0\0\0\0\0";
+
+// The index of the first of them with this name, where the names "f", one that is no text and "f" lie at 1, 3 and 5,
+// and the last place lies past them.
+fn found(name: &[u8]) -> Option<usize> {
+    let names = Strtab::new(b"\0f\0\xff\0f\0", 0);
+    match Symtab::parse(PLACES, 0, 4, Ctx::new(Container::Little, LE)) {
+        Ok(table) => table.find(&names, name),
+        Err(_) => None,
+    }
+}
+
+#[test]
+fn finds_the_first_of_a_name(rt: HostRuntime) {
+    assert!(rt; found(b"f") == Some(1));
+    assert!(rt; found(b"\xff").is_none());
+    assert!(rt; found(b"").is_none());
 }
