@@ -26,6 +26,8 @@ mod notes;
 mod status;
 mod table;
 mod tables;
+#[cfg(test)]
+mod tests;
 pub mod types;
 
 use fill::{fill_relocs, fill_sections, fill_symbols};

@@ -1,0 +1,274 @@
+//! Each export on a small file of the 32-bit class in little order: its header, the strings "" and "f",
+//! two symbols, and three section headers, for nothing, for the strings and for the symbols.
+use crate::layout::marked_layout;
+use crate::types::{GoblinHeader, GoblinRange, GoblinReloc, GoblinSymbol};
+use crate::*;
+
+static FILE: &[u8; 208] = b"\x7fELF\x01\x01\x01\0\0\0\0\0\0\0\0\0\
+    \x03\0\0\0\x01\0\0\0\0\0\0\0\0\0\0\0\x58\0\0\0\0\0\0\0\x34\0\x20\0\0\0\x28\0\x03\0\0\0\
+    \0f\0\0\
+    \0\0\0\0\0\0\0\0\0\0\0\0\0\0\0\0\
+    \x01\0\0\0\0\x10\0\0\x05\0\0\0\x12\0\x01\0\
+    \0\0\0\0\0\0\0\0\0\0\0\0\0\0\0\0\0\0\0\0\0\0\0\0\0\0\0\0\0\0\0\0\0\0\0\0\0\0\0\0\
+    \0\0\0\0\x03\0\0\0\0\0\0\0\0\0\0\0\x34\0\0\0\x04\0\0\0\0\0\0\0\0\0\0\0\0\0\0\0\0\0\0\0\
+    \0\0\0\0\x02\0\0\0\0\0\0\0\0\0\0\0\x38\0\0\0\x20\0\0\0\x01\0\0\0\0\0\0\0\0\0\0\0\0\0\0\0";
+
+const STRINGS: GoblinRange = GoblinRange {
+    offset: 52,
+    size: 4,
+};
+
+const SYMBOLS: GoblinRange = GoblinRange {
+    offset: 56,
+    size: 32,
+};
+
+// The file's header, or one of marks where it is refused.
+fn header() -> GoblinHeader {
+    let mut told = marked_layout().header;
+    let mut why = marked_layout().refusal;
+    let _status = goblin_header(FILE, &mut told, &mut why);
+    told
+}
+
+#[test]
+fn reads_the_header(rt: HostRuntime) {
+    let told = header();
+    assert!(rt; told.e_type == 3 && told.e_shoff == 88 && told.e_shnum == 3 && told.e_ehsize == 52);
+    assert!(rt;
+        told.ei_class == 1 && told.ei_data == 1 && told.ei_version == 1 && told.ei_osabi == 0
+    );
+}
+
+// Whether a header is refused, by this kind with these numbers.
+fn refuses(bytes: &[u8], kind: u32, first: u64, second: u64) -> bool {
+    let mut told = marked_layout().header;
+    let mut why = marked_layout().refusal;
+    let status = goblin_header(bytes, &mut told, &mut why);
+    status == kind && why.kind == kind && why.first == first && why.second == second
+}
+
+#[test]
+fn refuses_headers(rt: HostRuntime) {
+    assert!(rt; refuses(b"", 12, 0, 0));
+    assert!(rt; refuses(b"0123456789abcdef", 2, 0x3736_3534_3332_3130, 0));
+    assert!(rt; refuses(&FILE[..51], 3, 52, 51));
+}
+
+// What the section header at an index is: its answer, type, place and link.
+fn section(index: u64) -> (u32, u32, u64, u32) {
+    let mut told = marked_layout().section;
+    let mut why = marked_layout().refusal;
+    let status = goblin_section(FILE, &header(), index, &mut told, &mut why);
+    (status, told.sh_type, told.file.offset, told.sh_link)
+}
+
+#[test]
+fn reads_sections(rt: HostRuntime) {
+    assert!(rt; section(1) == (0, 3, 52, 0));
+    assert!(rt; section(2) == (0, 2, 56, 1));
+    assert!(rt; section(3).0 == 1);
+}
+
+fn count() -> (u32, u64) {
+    let mut told = 9;
+    let mut why = marked_layout().refusal;
+    let status = goblin_section_count(FILE, &header(), &mut told, &mut why);
+    (status, told)
+}
+
+fn fills_sections() -> bool {
+    let mut told = [marked_layout().section; 4];
+    let mut filled = 9;
+    let mut why = marked_layout().refusal;
+    let status = goblin_sections(FILE, &header(), 1, &mut told, &mut filled, &mut why);
+    status == 0 && filled == 2 && told[0].sh_type == 3 && told[1].sh_type == 2
+}
+
+#[test]
+fn counts_and_fills_sections(rt: HostRuntime) {
+    assert!(rt; count() == (0, 3));
+    assert!(rt; fills_sections());
+}
+
+// A program header read from the strings on.
+fn segment_type(index: u64) -> (u32, u32) {
+    let mut told = marked_layout().segment;
+    let mut why = marked_layout().refusal;
+    let mut header = header();
+    header.e_phoff = 52;
+    header.e_phnum = 1;
+    let status = goblin_segment(FILE, &header, index, &mut told, &mut why);
+    (status, told.p_type)
+}
+
+#[test]
+fn reads_segments(rt: HostRuntime) {
+    assert!(rt; segment_type(0) == (0, 0x6600));
+    assert!(rt; segment_type(1).0 == 1);
+}
+
+// What the symbol at an index is: the answer, its value and its binding and type.
+fn symbol(index: u64) -> (u32, u64, u8) {
+    let mut told = marked_layout().symbol;
+    let mut why = marked_layout().refusal;
+    let status = goblin_symbol(FILE, &header(), &SYMBOLS, index, &mut told, &mut why);
+    (status, told.st_value, told.st_info)
+}
+
+fn fills_symbols() -> bool {
+    let mut told: [GoblinSymbol; 3] = [marked_layout().symbol; 3];
+    let mut filled = 9;
+    let mut why = marked_layout().refusal;
+    let status = goblin_symbols(
+        FILE,
+        &header(),
+        &SYMBOLS,
+        1,
+        &mut told,
+        &mut filled,
+        &mut why,
+    );
+    status == 0 && filled == 1 && told[0].st_value == 0x1000
+}
+
+#[test]
+fn reads_symbols(rt: HostRuntime) {
+    assert!(rt; symbol(1) == (0, 0x1000, 0x12));
+    assert!(rt; symbol(2).0 == 1);
+    assert!(rt; fills_symbols());
+}
+
+// Where a name is found: the answer and the index.
+fn finds_symbol(name: &[u8]) -> (u32, u64) {
+    let mut index = 9;
+    let mut why = marked_layout().refusal;
+    let status = goblin_symbol_by_name(
+        FILE,
+        &header(),
+        &SYMBOLS,
+        &STRINGS,
+        name,
+        &mut index,
+        &mut why,
+    );
+    (status, index)
+}
+
+fn finds_section(name: &[u8]) -> (u32, u64) {
+    let mut index = 9;
+    let mut why = marked_layout().refusal;
+    let status = goblin_section_by_name(FILE, &header(), &STRINGS, name, &mut index, &mut why);
+    (status, index)
+}
+
+// The type of the section that holds names.
+fn names_type() -> (u32, u32) {
+    let mut told = marked_layout().section;
+    let mut why = marked_layout().refusal;
+    let status = goblin_section_names(FILE, &header(), &mut told, &mut why);
+    (status, told.sh_type)
+}
+
+#[test]
+fn finds_names(rt: HostRuntime) {
+    assert!(rt; finds_symbol(b"f") == (0, 1));
+    assert!(rt; finds_symbol(b"g") == (1, 9));
+    assert!(rt; finds_section(b"") == (0, 0));
+    assert!(rt; names_type() == (0, 0));
+}
+
+// Where a string lies: the answer, its offset and its size.
+fn string(offset: u64) -> (u32, u64, u64) {
+    let mut told = GoblinRange { offset: 9, size: 9 };
+    let mut why = marked_layout().refusal;
+    let status = goblin_string(FILE, &STRINGS, offset, &mut told, &mut why);
+    (status, told.offset, told.size)
+}
+
+#[test]
+fn places_strings(rt: HostRuntime) {
+    assert!(rt; string(1) == (0, 53, 1));
+    assert!(rt; string(4) == (1, 9, 9));
+}
+
+static RELOC: &[u8; 12] = b"\x10\0\0\0\x01\x02\0\0\xfc\xff\xff\xff";
+
+const ALL: GoblinRange = GoblinRange {
+    offset: 0,
+    size: 12,
+};
+
+fn is_reloc(told: &GoblinReloc) -> bool {
+    told.r_offset == 16 && told.r_sym == 2 && told.r_type == 1 && told.r_addend == -4
+}
+
+fn reads_reloc() -> bool {
+    let mut told = marked_layout().reloc;
+    let mut why = marked_layout().refusal;
+    let status = goblin_reloc(RELOC, &header(), &ALL, true, 0, &mut told, &mut why);
+    status == 0 && is_reloc(&told) && told.has_addend == 1
+}
+
+fn fills_reloc() -> bool {
+    let mut told = [marked_layout().reloc; 2];
+    let mut filled = 9;
+    let mut why = marked_layout().refusal;
+    let status = goblin_relocs(
+        RELOC,
+        &header(),
+        &ALL,
+        true,
+        0,
+        &mut told,
+        &mut filled,
+        &mut why,
+    );
+    status == 0 && filled == 1 && is_reloc(&told[0])
+}
+
+#[test]
+fn reads_relocations(rt: HostRuntime) {
+    assert!(rt; reads_reloc());
+    assert!(rt; fills_reloc());
+}
+
+static NOTE: &[u8; 20] = b"\x04\0\0\0\x04\0\0\0\x03\0\0\0GNU\0\xaa\xbb\xcc\xdd";
+
+// Where the parts of a note lie, and where the next one is asked for.
+fn note(alignment: u64) -> (u32, u64, u64, u64) {
+    let mut told = marked_layout().note;
+    let mut why = marked_layout().refusal;
+    let range = GoblinRange {
+        offset: 0,
+        size: 20,
+    };
+    let status = goblin_note(NOTE, &header(), &range, alignment, 0, &mut told, &mut why);
+    (status, told.name.size, told.desc.offset, told.next)
+}
+
+#[test]
+fn reads_notes(rt: HostRuntime) {
+    assert!(rt; note(4) == (0, 3, 16, 20));
+    assert!(rt; note(16).0 == 16);
+}
+
+// What is written of a name into six bytes, and how long the name is.
+fn machine(number: u16) -> ([u8; 6], u64) {
+    let mut text = *b"......";
+    let len = goblin_machine_to_str(number, &mut text);
+    (text, len)
+}
+
+fn note_type_name(name: &[u8], n_type: u32) -> u64 {
+    let mut text = *b"..";
+    goblin_note_type_to_str(name, n_type, &mut text)
+}
+
+#[test]
+fn writes_names(rt: HostRuntime) {
+    assert!(rt; machine(62) == (*b"X86_64", 6));
+    assert!(rt; machine(258) == (*b"LOONGA", 9));
+    assert!(rt; note_type_name(b"CORE", 3) == 11 && note_type_name(b"GNU", 3) == 15);
+    assert!(rt; goblin_version() == 1);
+}
