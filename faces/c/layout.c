@@ -1,5 +1,6 @@
 /* Whether goblin.h says what the library does: each field of each struct lies where the library puts it, by goblin_layout;
-   and each, read from files whose fields all differ, is the number that was put there, in both classes and orders.
+   and each, read from files whose fields all differ, is the number that was put there, in both classes and orders; and
+   each refusal has the number of its name.
    fields.h lists STRUCT(name) of each struct and FIELD(struct, field, number) of each of its fields. The check makes it
    from goblin.h itself, so that none is left out. */
 #include "goblin.h"
@@ -139,6 +140,43 @@ static void read_all(void) {
 #undef STRUCT
 }
 
+/* Each refusal that these calls answer, by its name. */
+static void refuse_all(void) {
+    goblin_header_t h, given;
+    goblin_section_t s;
+    goblin_segment_t p;
+    goblin_symbol_t y;
+    goblin_note_t n;
+    goblin_range_t text, names = {0xc00, 4}, range = {sizeof file, 0};
+    goblin_refusal_t why;
+    header(&given);
+    same("goblin_header", goblin_header(file, sizeof file, &h, &why), GOBLIN_OK);
+    given = h, given.e_shoff = sizeof file;
+    same("sections outside", goblin_section(file, sizeof file, &given, 0, &s, &why), GOBLIN_BAD_OFFSET);
+    given = h, given.e_shnum = given.e_phnum = 0xffff;
+    same("many sections", goblin_section(file, sizeof file, &given, 0, &s, &why), GOBLIN_BUFFER_TOO_SHORT);
+    same("many sections, item", why.item, GOBLIN_SECTION_HEADERS);
+    same("many segments", goblin_segment(file, sizeof file, &given, 0, &p, &why), GOBLIN_BUFFER_TOO_SHORT);
+    same("many segments, item", why.item, GOBLIN_PROGRAM_HEADERS);
+    same("string of 0xee", goblin_string(file, sizeof file, &names, 0, &text, &why), GOBLIN_BAD_INPUT);
+    same("string of 0xee, item", why.item, GOBLIN_INVALID_UTF8);
+    same("alignment 16", goblin_note(file, sizeof file, &h, &names, 16, names.offset, &n, &why), GOBLIN_NOTE_ALIGN);
+    same("symbols at the end", goblin_symbol(file, sizeof file, &h, &range, 0, &y, &why), GOBLIN_SYMTAB_OFFSET);
+    range.offset--, range.size = 24;
+    same("symbols past the end", goblin_symbol(file, sizeof file, &h, &range, 0, &y, &why), GOBLIN_SYMTAB_PAST);
+    same("strings past the end", goblin_string(file, sizeof file, &range, 0, &text, &why), GOBLIN_STRTAB_RANGE);
+    range.offset += 2;
+    same("strings outside", goblin_string(file, sizeof file, &range, 0, &text, &why), GOBLIN_STRTAB_OFFSET);
+    same("15 bytes", goblin_header(file, 15, &h, &why), GOBLIN_TOO_SMALL);
+    same("51 bytes", goblin_header(file, 51, &h, &why), GOBLIN_TOO_BIG);
+    file[5] = 3;
+    same("order 3", goblin_header(file, sizeof file, &h, &why), GOBLIN_DATA_TYPE);
+    file[4] = 3;
+    same("class 3", goblin_header(file, sizeof file, &h, &why), GOBLIN_ELF_CLASS);
+    file[0] = 3;
+    same("magic number", goblin_header(file, sizeof file, &h, &why), GOBLIN_BAD_MAGIC);
+}
+
 /* Each byte of a field, as goblin_layout fills it. */
 static void filled(const char *what, const void *field, size_t size, uint8_t number) {
     for (size_t i = 0; i < size; i++) same(what, ((const uint8_t *)field)[i], number);
@@ -157,8 +195,9 @@ int main(void) {
     for (int kind = 0; kind < 4; kind++) {
         wide = kind < 2 ? 8 : 4, is_big = kind % 2;
         read_all();
+        refuse_all();
     }
     if (wrong) return EXIT_FAILURE;
-    printf("goblin.h and the library agree in %d comparisons of fields\n", compared);
+    printf("goblin.h and the library agree in %d comparisons\n", compared);
     return EXIT_SUCCESS;
 }
