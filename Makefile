@@ -1,4 +1,5 @@
-# The commands of this repository. They need nothing but the Rattle toolchain (`rt`).
+# The commands of this repository. They need nothing but the Rattle toolchain (`rt`); what checks/faces.sh compiles by cc and
+# cargo it leaves out where the machine has none.
 
 # Proves and builds the program where needed, and shows a file: make show FILE=/bin/true
 # (A refused file is no error of make. What can't be read is, and so is a program that isn't proved or can't write.)
@@ -14,11 +15,12 @@ show:
 	|| { echo 'make show: reading or writing failed' >&2; exit 2; }
 
 # The whole gate: the pages' quotations; growths that are refused, beside every proof from nothing, the edits that must
-# fail, the tests and the stored runs; then the program's words.
+# fail, the tests and the stored runs; then the program's words, and the library for C called from C and Rust.
 test:
 	sh checks/quotes.sh
 	@$(MAKE) --no-print-directory -j2 refused proved
 	sh checks/words.sh
+	sh checks/faces.sh
 
 refused:
 	sh checks/refused.sh

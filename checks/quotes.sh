@@ -1,10 +1,10 @@
 #!/bin/sh
-# Whether what the pages quote stands in the code: of each fenced block below a line '<!-- quoted: FILE -->' the parts
-# between blank lines must stand in FILE, line for line and in this order, whatever their indentation. Run from the
-# repository's root, over all its pages.
+# Whether what the pages and the comments of the code quote stands in the code: of each fenced block below a line
+# '<!-- quoted: FILE -->' the parts between blank lines must stand in FILE, line for line and in this order, whatever their
+# indentation. Run from the repository's root, over all its pages and all `///` of its code.
 set -eu
 export LC_ALL=C
-git ls-files '*.md' | tr '\n' '\0' | xargs -0 awk '
+git ls-files '*.md' 'crates/*.rt' | tr '\n' '\0' | xargs -0 awk '
 function bare(line) { sub(/^[ \t]+/, "", line); sub(/[ \t\r]+$/, "", line); return line }
 function fail(what) { print page ": " what; bad = 1 }
 function load(    line) {
@@ -28,6 +28,7 @@ function end_part() {
     parts++; lines = 0
 }
 FNR == 1 { if (source != "") fail("a quotation of " source " has no end"); source = ""; inside = 0; page = FILENAME }
+FILENAME ~ /[.]rt$/ && !sub(/^ *\/\/\/ ?/, "") { next }
 !inside && /^<!-- quoted: .* -->$/ { source = $0; sub(/^<!-- quoted: /, "", source); sub(/ -->$/, "", source); next }
 source != "" && !inside && /^```/ { inside = 1; lines = 0; parts = 0; load(); next }
 inside && /^```/ {

@@ -7,6 +7,13 @@ use crate::entries::Probes;
 /// The index of the last place at or before the offset, or `None` where there is none.
 ///
 /// It reads at most as many places as the number of places has binary digits.
+///
+/// <!-- quoted: crates/goblin_uses/src/names.rt -->
+/// ```
+/// let before = probes.count();
+/// let _ = find(probes, offset);
+/// probes.count() - before
+/// ```
 pub fn find(view: &mut Probes<'_>, offset: usize) -> Option<usize>
     ensures found { FindsLast view.old.places offset result }
     ensures unchanged { view.new.places ≡ view.old.places }

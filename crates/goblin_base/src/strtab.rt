@@ -114,7 +114,14 @@ impl<'a> Strtab<'a> {
     }
 
     /// The table of `len` bytes of a file from an offset on, each piece of which must be text: that of
-    /// `parse_with_opts` in strict mode.
+    /// `parse_with_opts` in strict mode. Over a section's own bytes, by `new_preparsed`:
+    ///
+    /// <!-- quoted: crates/goblin_uses/src/functions.rt -->
+    /// ```
+    /// let names = Strtab::new_preparsed(alloc, bytes_of(bytes, strings), 0)?;
+    ///
+    /// let name = names.get_at(function.st_name).unwrap_or("?");
+    /// ```
     pub fn parse(
         alloc: Global,
         bytes: &'a [u8],

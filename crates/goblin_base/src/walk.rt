@@ -21,6 +21,13 @@ use std::result;
 /// `BadInput`, whose size is the number of bytes from the place on; in permissive mode it is an entry with no
 /// text, and the walk goes on one byte further. Faults come in the order of places: want of memory for an
 /// earlier place comes before a later piece's fault. No bytes take no memory.
+///
+/// <!-- quoted: crates/goblin_uses/src/names.rt -->
+/// ```
+/// let mut view = Looked::new(bytes);
+/// let entries = walk(alloc, &mut view, 0, ParseMode::Strict)?;
+/// let mut probes = Probes::of(&entries);
+/// ```
 pub fn walk<'a>(
     alloc: Global,
     view: &mut Looked<'a>,

@@ -13,6 +13,12 @@ use goblin_base::number::get_u64;
 use goblin_base::scroll::{BE, IntoCtx, LE, SizeWith, TryFromCtx, TryIntoCtx};
 
 /// The header of a file of either class.
+///
+/// <!-- quoted: crates/goblin_uses/src/main.rt -->
+/// ```
+/// let (header, _) = Header::try_from_ctx(bytes, LE)?;
+/// let ctx = Ctx::new(header.container()?, header.endianness()?);
+/// ```
 #[derive(Clone, Copy, Debug, PartialEq)]
 pub struct Header {
     /// The identification: magic number, class, byte order, versions and system.

@@ -105,6 +105,15 @@ impl SectionHeader {
 
     /// The section headers of a file, from an offset on. At offset 0 there are none; else the answer
     /// is that of [`SectionHeader::parse_from`].
+    ///
+    /// <!-- quoted: crates/goblin_uses/src/main.rt -->
+    /// ```
+    /// let count = usize::from(header.e_shnum);
+    /// let sections = SectionHeader::parse(alloc, bytes, header.e_shoff as usize, count, ctx)?;
+    ///
+    /// for section in &sections {
+    ///     match section.sh_type {
+    /// ```
     pub fn parse(
         alloc: Global,
         bytes: &[u8],

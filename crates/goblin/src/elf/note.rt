@@ -21,6 +21,13 @@ pub use goblin_records::note::{
 };
 
 /// The notes of a range, one after another, and then `None`.
+///
+/// <!-- quoted: crates/goblin_uses/src/notes.rt -->
+/// ```
+/// for note in notes_of(bytes, section, ctx) {
+///     let note = note?;
+///     let kind = note.type_to_str();
+/// ```
 #[derive(Debug, Drop)]
 pub struct NoteDataIterator<'a> {
     /// The bytes that the notes lie in.

@@ -40,7 +40,19 @@ impl<'a> RelocSection<'a> {
     /// `TooBig`. There are as many relocations as the size holds whole; what remains is not read.
     ///
     /// The relocations are taken as they stand. [`is_mips64el`] tells of which files they are to go
-    /// through the pair, by [`RelocSection::parse_inner`].
+    /// through the pair, by [`RelocSection::parse_inner`]. From a program that goes by it:
+    ///
+    /// <!-- quoted: crates/goblin_uses/src/relocations.rt -->
+    /// ```
+    /// let relocations = RelocSection::parse_inner(
+    ///     bytes,
+    ///     section.sh_offset as usize,
+    ///     section.sh_size as usize,
+    ///     section.sh_type == SHT_RELA,
+    ///     ctx,
+    ///     is_mips64el(header),
+    /// )?;
+    /// ```
     pub fn parse(
         bytes: &'a [u8],
         offset: usize,

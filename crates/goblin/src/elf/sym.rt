@@ -46,6 +46,14 @@ impl<'a> Symtab<'a> {
     /// An offset at the file's end or past it is a `SymtabOffset`, even where `count` is 0. Else a size
     /// of all symbols that passes `usize` is `TooManySymbols`. Else more bytes than there are from the
     /// offset on are `SymtabPast`.
+    ///
+    /// <!-- quoted: crates/goblin_uses/src/functions.rt -->
+    /// ```
+    /// symbols.iter().filter(|symbol| symbol.is_function()).count()
+    ///
+    /// let count = section.sh_size as usize / Sym::size(ctx.container);
+    /// let symbols = Symtab::parse(bytes, section.sh_offset as usize, count, ctx)?;
+    /// ```
     pub fn parse(bytes: &'a [u8], offset: usize, count: usize, ctx: Ctx) -> Result<Symtab<'a>>
         ensures { result ≡ symtab_of bytes.now offset count ctx }
     {
