@@ -21,13 +21,14 @@ pub fn find(view: &mut Probes<'_>, offset: usize) -> Option<usize>
     ensures rising { view.old.count ≤ view.new.count }
 {
     let mut low = 0;
-    let mut high = view.len();
-    while low < high {
-        let middle = low + (high - low) / 2;
-        if view.at(middle) <= offset {
-            low = middle + 1;
+    let mut size = view.len();
+    while size > 0 {
+        let half = size / 2;
+        if view.at(low + half) <= offset {
+            low += half + 1;
+            size -= half + 1;
         } else {
-            high = middle;
+            size = half;
         }
     }
     if low == 0 { None } else { Some(low - 1) }

@@ -17,39 +17,37 @@ to_the_right ps m o rising here k h within = ⊎_elim
     (λ (l : k ≤ m). let e : k ≡ m = omega arith in subst (λ x. o < slice_index ps x) (sym e) here)
     (cases_lt m k)
 
-pub loop-low-preserved-then-at-offset : goal.loop-low-preserved-then-at-offset
-loop-low-preserved-then-at-offset c =
-    let s = c.loop-low in
-    let m = s.low + (s.high - s.low) / 2 in
+pub loop-size-preserved-then-at-offset : goal.loop-size-preserved-then-at-offset
+loop-size-preserved-then-at-offset c =
+    let s = c.loop-size in
+    let m = s.low + s.size / 2 in
     let e : c.at.new.self.places ≡ s.view.places = ap (λ v. v.places) c.at.ensures.counted in
     let n = ap (λ v. v.count) c.at.ensures.counted in
-    let rising : IsRising s.view.places = subst IsRising (sym s.invariant.same) c.len-high.ensures.rising in
+    let rising : IsRising s.view.places = subst IsRising (sym s.invariant.same) c.len-size.ensures.rising in
     let inside : m < length s.view.places = omega arith in
     let here : slice_index s.view.places m ≤ c.args.offset = omega (arith, c.at.ensures.value, c.if-at-offset.true) in
     record {
       same = e ∙ s.invariant.same;
-      ordered = omega arith;
       within = omega (arith, ap length e);
-      before = subst (λ ps. (k : ℕ) → k < m + 1 → slice_index ps k ≤ c.args.offset) (sym e) (to_the_left s.view.places m c.args.offset rising inside here);
-      after = subst (λ ps. (k : ℕ) → s.high ≤ k → k < length ps → c.args.offset < slice_index ps k) (sym e) s.invariant.after;
+      before = subst (λ ps. (k : ℕ) → k < s.low + (s.size / 2 + 1) → slice_index ps k ≤ c.args.offset) (sym e) (λ k h. to_the_left s.view.places m c.args.offset rising inside here k (omega arith));
+      after = subst (λ ps. (k : ℕ) → s.low + (s.size / 2 + 1) + (s.size - (s.size / 2 + 1)) ≤ k → k < length ps → c.args.offset < slice_index ps k) (sym e) (λ k h w. s.invariant.after k (omega arith) w);
       rising = omega arith;
-      probes = omega (arith, n, ap length e, digits_step (s.high - s.low) (s.high - (m + 1)) (omega arith) (omega arith), s.invariant.probes, ap (λ ps. digits (length ps)) e);
+      probes = omega (arith, n, ap length e, digits_step s.size (s.size - (s.size / 2 + 1)) (omega arith) (omega arith), s.invariant.probes, ap (λ ps. digits (length ps)) e);
     }
 
-pub loop-low-preserved : goal.loop-low-preserved
-loop-low-preserved c =
-    let s = c.loop-low in
-    let m = s.low + (s.high - s.low) / 2 in
+pub loop-size-preserved : goal.loop-size-preserved
+loop-size-preserved c =
+    let s = c.loop-size in
+    let m = s.low + s.size / 2 in
     let e : c.at.new.self.places ≡ s.view.places = ap (λ v. v.places) c.at.ensures.counted in
     let n = ap (λ v. v.count) c.at.ensures.counted in
-    let rising : IsRising s.view.places = subst IsRising (sym s.invariant.same) c.len-high.ensures.rising in
+    let rising : IsRising s.view.places = subst IsRising (sym s.invariant.same) c.len-size.ensures.rising in
     let here : c.args.offset < slice_index s.view.places m = omega (arith, c.at.ensures.value, c.if-at-offset.false) in
     record {
       same = e ∙ s.invariant.same;
-      ordered = omega arith;
       within = omega (arith, ap length e);
       before = subst (λ ps. (k : ℕ) → k < s.low → slice_index ps k ≤ c.args.offset) (sym e) s.invariant.before;
       after = subst (λ ps. (k : ℕ) → m ≤ k → k < length ps → c.args.offset < slice_index ps k) (sym e) (to_the_right s.view.places m c.args.offset rising here);
       rising = omega arith;
-      probes = omega (arith, n, ap length e, digits_step (s.high - s.low) (m - s.low) (omega arith) (omega arith), s.invariant.probes, ap (λ ps. digits (length ps)) e);
+      probes = omega (arith, n, ap length e, digits_step s.size (s.size / 2) (omega arith) (omega arith), s.invariant.probes, ap (λ ps. digits (length ps)) e);
     }
