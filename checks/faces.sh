@@ -91,6 +91,8 @@ check_c() {
         quietly diff "$folder/wanted" "$folder/listed"
         [ "$("$folder/values" "$file" | grep -c -x -e '12 2' -e '8 20')" -eq 2 ] || { echo "values.c: $file"; exit 1; }
     done
+    head -c 15 "$file" > "$folder/short"
+    [ "$("$folder/nm" "$folder/short" 2>&1)" = 'nm: header: Malformed entity: Too small' ] || { echo "nm.c: a short file"; exit 1; }
     echo "nm.c lists $(echo "$symbols_made" | wc -l) symbols in each class and order"
     "$folder/damaged" 1000 "$folder"/files/*
 }

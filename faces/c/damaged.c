@@ -63,10 +63,20 @@ static void *blank(void *item, size_t size) {
     return memset(item, 0x5a, size);
 }
 
+/* The text of a refusal: no byte behind those that there is room for. */
+static void text_of_refusal(uint32_t answer) {
+    uint8_t text[64];
+    size_t room = (size_t)any(60);
+    memset(text, 0x5a, sizeof text);
+    if (goblin_refusal_text(&why, text, room) < strlen("bad offset 0")) wrong("a text's size", answer);
+    if (!is_blank(text + room, sizeof text - room)) wrong("a text", answer);
+}
+
 static bool told(const char *what, uint32_t answer, const void *item, size_t size) {
     answers[answer > GOBLIN_END ? 2 : answer]++;
     if (answer != GOBLIN_OK && !is_blank(item, size)) wrong(what, answer);
     if (answer <= GOBLIN_END ? !is_blank(&why, sizeof why) : why.kind != answer) wrong("goblin_refusal_t", answer);
+    if (answer > GOBLIN_END) text_of_refusal(answer);
     return answer == GOBLIN_OK;
 }
 

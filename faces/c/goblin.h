@@ -335,6 +335,10 @@ uint64_t goblin_type_to_str(uint8_t type, uint8_t *text, size_t room);
 uint64_t goblin_visibility_to_str(uint8_t visibility, uint8_t *text, size_t room);
 /* The name of a note's type (n_type), as NT_GNU_BUILD_ID, which the note's name gives its meaning, or NT_UNKNOWN. */
 uint64_t goblin_note_type_to_str(const uint8_t *name, size_t name_len, uint32_t n_type, uint8_t *text, size_t room);
+/* The text of a refusal that a call told, in the library's words, as "type is too big (64) for 52". It goes by what `why`
+   holds, which a caller may fill itself: where `fourth` stands for a yes or no, any number but 0 is a yes; an `item` that is
+   none of GOBLIN_INVALID_UTF8 and the like has the empty name; and a `kind` that is no refusal has the empty text. */
+uint64_t goblin_refusal_text(const goblin_refusal_t *why, uint8_t *text, size_t room);
 
 #ifdef __cplusplus
 }

@@ -1,8 +1,11 @@
 -- Room that is filled item by item.
-use Rattle.std.proofs.Common.{◌≡◌, ◌<◌, ◌≤◌, ◌+◌, ◌-◌, min, ℕ, zero, suc, List, [], ◌∷◌, ◌++◌, length, take, drop, map, get_or, Some, slice_get, refl, sym, ap, ◌∙◌, arith}
+use Rattle.std.proofs.Common.{◌≡◌, ◌<◌, ◌≤◌, ◌+◌, ◌-◌, min, ℕ, zero, suc, List, [], ◌∷◌, ◌++◌, length, take, drop, map, get_or, Some, slice_get, take_all, refl, sym, ap, ◌∙◌, arith}
 use Rattle.std.proofs.Math.ListN.{set}
 use Rattle.std.proofs.lemmas.List.{length-take-le, take_more, drop-map, get_or-map, length-map, length-drop, get_or-drop}
 use Rattle.std.proofs.lemmas.Option.{slice_get_within, get_or_from_slice_get}
+use Rattle.std.proofs.lemmas.List.{take_rest}
+use Rattle.std.proofs.lemmas.Slice.{take-put_mid}
+use borrow.Rule.Slice.PartMut.{put_mid}
 use Rattle.goblin_c.specs.Cut.{cut}
 
 -- one item more
@@ -45,3 +48,27 @@ cut-told {Y = Y} tell all first i old now x found is room =
     ∙ get_or-map tell all (first + i) x (tell x) inside
     ∙ ap tell (get_or_from_slice_get all (first + i) x x found) in
     ap (λ (v : Y). set now i v) (sym same) ∙ cut-step i xs old now (tell x) is (omega arith) room
+
+pub cut-nowhere : {X : Type 0} (xs : List X) → cut xs [] ≡ []
+cut-nowhere [] = refl
+cut-nowhere (x ∷ xs) = refl
+
+-- what is cut behind as much as was cut before
+pub cut-behind : {X : Type 0} (xs ys old : List X) → take (length xs) (cut xs old) ++ cut ys (drop (length xs) (cut xs old)) ≡ cut (xs ++ ys) old
+cut-behind [] ys old = refl
+cut-behind (x ∷ xs) ys [] = cut-nowhere ys
+cut-behind (x ∷ xs) ys (o ∷ os) = ap (λ rest. x ∷ rest) (cut-behind xs ys os)
+
+-- nothing is written behind the room's end
+pub cut-past : {X : Type 0} (n : ℕ) (xs old : List X) → length old ≤ n → take n old ++ cut xs (drop n old) ≡ old
+cut-past zero xs [] h = cut-nowhere xs
+cut-past zero xs (o ∷ os) h = absurd (omega arith)
+cut-past (suc n) xs [] h = cut-nowhere xs
+cut-past (suc n) xs (o ∷ os) h = ap (λ rest. o ∷ rest) (cut-past n xs os (omega arith))
+
+-- what is cut into the room from an index on
+pub cut-into : (n : ℕ) (part old new all : List ℕ) → n < length old → length all ≡ length old → length new ≡ length old - n → new ≡ cut part (take (length old - n) (drop n old)) → all ≡ put_mid n (length old - n) old new → all ≡ take n old ++ cut part (drop n old)
+cut-into n part old new all inside long same is put =
+    let whole : take (length old) all ≡ all = take_all (length old) all (omega arith) in
+    sym whole ∙ ap (λ (xs : List ℕ). take (length old) xs) put ∙ take-put_mid n (length old - n) old new (length old) (omega arith) (omega arith)
+    ∙ ap (λ (xs : List ℕ). take n old ++ xs) (is ∙ ap (λ (xs : List ℕ). cut part xs) (take_rest old n))

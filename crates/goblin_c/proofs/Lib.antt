@@ -1,2 +1,4 @@
 pub mod CutLemmas
+pub mod DigitLemmas
 pub mod Lists
+pub mod TextLemmas

@@ -3,3 +3,4 @@ pub mod Cut
 pub mod Layout
 pub mod Notes
 pub mod Status
+pub mod Texts

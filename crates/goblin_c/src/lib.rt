@@ -11,6 +11,7 @@ ghost use Rattle.goblin_c.specs.Cut.{cut};
 ghost use Rattle.goblin_c.specs.Layout.{layout};
 ghost use Rattle.goblin_c.specs.Notes.{note_right};
 ghost use Rattle.goblin_c.specs.Status.{Fills, Tells};
+ghost use Rattle.goblin_c.specs.Texts.{told_text};
 ghost use Rattle.goblin.specs.HeaderNames.{class_name, type_name as file_type_name};
 ghost use Rattle.goblin.specs.Machines.{machine_name};
 ghost use Rattle.goblin.specs.NoteType.{note_type_name};
@@ -28,6 +29,7 @@ mod table;
 mod tables;
 #[cfg(test)]
 mod tests;
+mod texts;
 pub mod types;
 
 use fill::{fill_relocs, fill_sections, fill_symbols};
@@ -43,6 +45,7 @@ use status::{END, OK, refusal, tell};
 use tables::{
     reloc_at, relocs_of, section_by_name, string_at, symbol_at, symbol_by_name, symbols_of,
 };
+use texts::write_refusal;
 use types::{
     GoblinHeader, GoblinNote, GoblinRange, GoblinRefusal, GoblinReloc, GoblinSection,
     GoblinSegment, GoblinSymbol,
@@ -281,6 +284,15 @@ pub extern "C" fn goblin_note_type_to_str(name: &[u8], n_type: u32, text: &mut [
     ensures whole { result ≡ length (note_type_name name.now n_type) }
 {
     write_text(note_type(name, n_type), text)
+}
+
+/// The text of a refusal.
+#[unsafe(no_mangle)]
+pub extern "C" fn goblin_refusal_text(why: &GoblinRefusal, text: &mut [u8]) -> u64
+    ensures written { text.new ≡ cut (told_text why.now) text.old }
+    ensures whole { result ≡ length (told_text why.now) }
+{
+    write_refusal(why, text)
 }
 
 /// The section headers from an index on, as many as there is room for.

@@ -10,7 +10,14 @@ pub fn write_text(text: &str, buffer: &mut [u8]) -> u64
     ensures written { buffer.new ≡ cut text.now buffer.old }
     ensures whole { result ≡ length text.now }
 {
-    let bytes = text.as_bytes();
+    write_bytes(text.as_bytes(), buffer)
+}
+
+/// The same of bytes.
+pub fn write_bytes(bytes: &[u8], buffer: &mut [u8]) -> u64
+    ensures written { buffer.new ≡ cut bytes.now buffer.old }
+    ensures whole { result ≡ length bytes.now }
+{
     let count = bytes.len().min(buffer.len());
     for i in 0..count {
         buffer[i] = bytes[i];

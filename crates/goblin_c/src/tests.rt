@@ -1,7 +1,7 @@
 //! Each export on a small file of the 32-bit class in little order: its header, the strings "" and "f",
 //! two symbols, and three section headers, for nothing, for the strings and for the symbols.
 use crate::layout::marked_layout;
-use crate::types::{GoblinHeader, GoblinRange, GoblinReloc, GoblinSymbol};
+use crate::types::{GoblinHeader, GoblinRange, GoblinRefusal, GoblinReloc, GoblinSymbol};
 use crate::*;
 
 static FILE: &[u8; 208] = b"\x7fELF\x01\x01\x01\0\0\0\0\0\0\0\0\0\
@@ -271,4 +271,60 @@ fn writes_names(rt: HostRuntime) {
     assert!(rt; machine(258) == (*b"LOONGA", 9));
     assert!(rt; note_type_name(b"CORE", 3) == 11 && note_type_name(b"GNU", 3) == 15);
     assert!(rt; goblin_version() == 1);
+}
+
+// Whether this is the text of a refusal of a kind with these numbers.
+fn says(kind: u32, item: u32, numbers: [u64; 4], text: &[u8]) -> bool {
+    let mut room = [0; 160];
+    let why = GoblinRefusal {
+        kind,
+        item,
+        first: numbers[0],
+        second: numbers[1],
+        third: numbers[2],
+        fourth: numbers[3],
+    };
+    let len = goblin_refusal_text(&why, &mut room) as usize;
+    len == text.len() && len <= 160 && &room[..len] == text
+}
+
+#[test]
+fn writes_refusals(rt: HostRuntime) {
+    let magic = b"Invalid magic number: 0x3736353433323130";
+    assert!(rt; says(2, 0, [0x3736_3534_3332_3130, 0, 0, 0], magic));
+    assert!(rt; says(3, 0, [64, 52, 0, 0], b"type is too big (64) for 52"));
+    assert!(rt; says(4, 0, [88, 0, 0, 0], b"bad offset 88"));
+    assert!(rt; says(5, 1, [2, 0, 0, 0], b"bad input invalid utf8 (2)"));
+    let segments = b"Buffer is too short for 2 program headers";
+    assert!(rt; says(6, 3, [2, 0, 0, 0], segments));
+    assert!(rt; says(25, 0, [1, 2, 3, 4], b""));
+}
+
+#[test]
+fn writes_faults(rt: HostRuntime) {
+    assert!(rt; says(12, 0, [0, 0, 0, 0], b"Malformed entity: Too small"));
+    let symbols = b"Malformed entity: Symbol table extends beyond file boundary \
+        (requested: 72, available: 48)";
+    assert!(rt; says(19, 0, [72, 48, 0, 0], symbols));
+    let strings = b"Malformed entity: String table offset (5) is beyond file boundary (4)";
+    assert!(rt; says(20, 0, [5, 4, 0, 0], strings));
+    let range = b"Malformed entity: Strtable size (18446744073709551615) + offset (1) is out of \
+        bounds for 4 #bytes. Overflowed: true";
+    assert!(rt; says(21, 0, [u64::MAX, 1, 4, 1], range));
+}
+
+// What is written in room for four bytes, and the length that is told.
+fn cut_text() -> ([u8; 4], u64) {
+    let mut room = [9; 4];
+    let mut told = header();
+    let mut why = marked_layout().refusal;
+    let _status = goblin_header(&FILE[..51], &mut told, &mut why);
+    let len = goblin_refusal_text(&why, &mut room);
+    (room, len)
+}
+
+#[test]
+fn cuts_refusals(rt: HostRuntime) {
+    let (room, len) = cut_text();
+    assert!(rt; &room == b"type" && len == 27);
 }

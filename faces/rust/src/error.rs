@@ -1,5 +1,5 @@
 //! Why a file is refused.
-use crate::raw;
+use crate::{raw, sys};
 use std::{error, fmt, result};
 
 /// Why a file is refused. Its text is the library's.
@@ -54,34 +54,7 @@ impl Error {
 /// The library's text of it.
 impl fmt::Display for Error {
     fn fmt(&self, f: &mut fmt::Formatter<'_>) -> fmt::Result {
-        let raw::Refusal { kind, item, first, second, third, fourth } = self.0;
-        let items = if item == 2 { "section headers" } else { "program headers" };
-        if kind >= 10 {
-            f.write_str("Malformed entity: ")?;
-        }
-        match kind {
-            2 => write!(f, "Invalid magic number: 0x{:x}", first),
-            3 => write!(f, "type is too big ({}) for {}", first, second),
-            4 => write!(f, "bad offset {}", first),
-            5 => write!(f, "bad input invalid utf8 ({})", first),
-            6 => write!(f, "Buffer is too short for {} {}", first, items),
-            12 => write!(f, "Too small"),
-            13 => write!(f, "invalid ELF class {:x}", first),
-            14 => write!(f, "invalid ELF endianness DATA type {:x}", first),
-            16 => write!(f, "Notes has unimplemented alignment requirement: 0x{:x}", first),
-            17 => write!(f, "Symbol table offset ({}) is beyond file boundary ({})", first, second),
-            18 => write!(f, "Too many ELF symbols (offset 0x{:x}, count {})", first, second),
-            19 => {
-                let text = "Symbol table extends beyond file boundary";
-                write!(f, "{} (requested: {}, available: {})", text, first, second)
-            }
-            20 => write!(f, "String table offset ({}) is beyond file boundary ({})", first, second),
-            21 => {
-                write!(f, "Strtable size ({}) + offset ({}) is out of bounds for {} #bytes. ", first, second, third)?;
-                write!(f, "Overflowed: {}", fourth != 0)
-            }
-            _ => write!(f, "refusal {}", kind),
-        }
+        f.write_str(&sys::goblin_refusal_text(&self.0))
     }
 }
 
@@ -118,12 +91,13 @@ mod tests {
         let decimal = ["31", "5", "6", "true"].map(String::from);
         let hexadecimal = ["1f", "5"].map(String::from);
         for (fault, number) in faults.iter().zip(10..) {
-            if [12, 13, 14, 16, 17, 18, 19, 20, 21].contains(&number) {
-                let numbers = if fault.contains(":x}") { &hexadecimal[..] } else { &decimal[..] };
-                assert_eq!(text(0, number), filled(errors[0], &[filled(fault, numbers)]));
-            }
+            let numbers = if fault.contains(":x}") { &hexadecimal[..] } else { &decimal[..] };
+            let fit = ["out of range integral type conversion attempted".to_string()];
+            let numbers = if number == 24 { &fit[..] } else { numbers };
+            assert_eq!(text(0, number), filled(errors[0], &[filled(fault, numbers)]));
         }
         assert_eq!(text(0, 2), filled(errors[1], &hexadecimal));
+        assert_eq!(text(0, 7), errors[4]);
         assert_eq!(text(0, 3), filled(scroll[0], &decimal));
         assert_eq!(text(0, 4), filled(scroll[1], &decimal));
         assert_eq!(text(1, 5), filled(scroll[2], &["invalid utf8", "31"].map(String::from)));

@@ -74,6 +74,7 @@ texts! {
     fn goblin_type_to_str(type_: u8);
     fn goblin_visibility_to_str(visibility: u8);
     fn goblin_note_type_to_str(n_type: u32, by name);
+    fn goblin_refusal_text(why: &Refusal);
 }
 
 #[cfg(test)]

@@ -1,0 +1,5 @@
+use Rattle.goblin_c.proofs.TextLemmas.{text-kept}
+use Rattle.goblin_c.proofs.texts.laws.Goals as goal
+
+pub returns : goal.returns
+returns c = text-kept

@@ -1,0 +1,115 @@
+-- The text of a refusal, from what C is told of it.
+use Rattle.std.specs.Prelude.{◌≡◌, ◌⊎◌, ⊤, ℕ, Bool, true, ◌&&◌, nat_le, ◌==◌, not, if◌then◌else◌, List, [], ◌∷◌, ◌++◌, codes, length, Option, Some, None}
+use Rattle.std.specs.Option.{option_map}
+use Rattle.std.specs.Fmt.{decimal}
+use Rattle.goblin_base.specs.declared.error.Fault.{Fault}
+use Rattle.goblin_base.specs.declared.error.Fault.TheVariants as fault
+use Rattle.goblin_base.specs.Refusal.{Refusal, malformed, bad_magic, too_big, bad_offset, bad_input, buffer_too_short, out_of_memory}
+use Rattle.goblin_base.specs.Texts.{hexadecimal, refusal_text, word_of}
+use Rattle.goblin_c.specs.declared.texts.Piece.{Piece}
+use Rattle.goblin_c.specs.declared.texts.Piece.TheVariants as piece
+use Rattle.goblin_c.specs.declared.types.GoblinRefusal.{GoblinRefusal}
+use Rattle.goblin_c.specs.Status.{refusal_told}
+
+-- the text that a number of item_number's stands for, and the empty one for every other number
+abbrev pub item_text : ℕ → List ℕ
+item_text item =
+    if item == 1 then codes "invalid utf8"
+    else if item == 2 then codes "section headers"
+    else if item == 3 then codes "program headers"
+    else []
+
+-- the fault of bytes that end past the file's end or the greatest address, of which C is told
+abbrev pub range_fault_from : GoblinRefusal → Option Fault
+range_fault_from why =
+    if why.kind == 21 then Some (fault.StrtabRange why.first why.second why.third (not (why.fourth == 0)))
+    else if why.kind == 22 then Some (fault.SectionOffset why.first why.second why.third (not (why.fourth == 0)))
+    else if why.kind == 23 then Some (fault.SectionAddr why.first why.second why.third (not (why.fourth == 0)))
+    else None
+
+-- the fault of a table, or of such bytes
+abbrev pub table_fault_from : GoblinRefusal → Option Fault
+table_fault_from why =
+    if why.kind == 17 then Some (fault.SymtabOffset why.first why.second)
+    else if why.kind == 18 then Some (fault.TooManySymbols why.first why.second)
+    else if why.kind == 19 then Some (fault.SymtabPast why.first why.second)
+    else if why.kind == 20 then Some (fault.StrtabOffset why.first why.second)
+    else range_fault_from why
+
+-- the fault that C is told of
+abbrev pub fault_from : GoblinRefusal → Option Fault
+fault_from why =
+    if why.kind == 10 then Some (fault.InvalidClass why.first)
+    else if why.kind == 11 then Some (fault.InvalidEndianness why.first)
+    else if why.kind == 12 then Some fault.TooSmall
+    else if why.kind == 13 then Some (fault.ElfClass why.first)
+    else if why.kind == 14 then Some (fault.DataType why.first)
+    else if why.kind == 15 then Some (fault.Data why.first)
+    else if why.kind == 16 then Some (fault.NoteAlign why.first)
+    else if why.kind == 24 then Some (fault.IntegerFit (record { 0 = tt }))
+    else table_fault_from why
+
+-- the refusal that C is told of: none where the kind is none
+abbrev pub refusal_from : GoblinRefusal → Option Refusal
+refusal_from why =
+    if why.kind == 2 then Some (bad_magic why.first)
+    else if why.kind == 3 then Some (too_big why.first why.second)
+    else if why.kind == 4 then Some (bad_offset why.first)
+    else if why.kind == 5 then Some (bad_input why.first (item_text why.item))
+    else if why.kind == 6 then Some (buffer_too_short why.first (item_text why.item))
+    else if why.kind == 7 then Some out_of_memory
+    else option_map malformed (fault_from why)
+
+-- the text of a refusal, and none without one
+abbrev pub text_of : Option Refusal → List ℕ
+text_of (Some refusal) = refusal_text refusal
+text_of None = []
+
+-- the text of a fault, and none without one
+abbrev pub text_of_fault : Option Fault → List ℕ
+text_of_fault found = text_of (option_map malformed found)
+
+-- the text of what C is told
+abbrev pub told_text : GoblinRefusal → List ℕ
+told_text why = text_of (refusal_from why)
+
+-- what a piece of a text writes
+abbrev pub piece_text : Piece → List ℕ
+piece_text (piece.Text text) = text.now
+piece_text (piece.Decimal n) = decimal n
+piece_text (piece.Hexadecimal n) = hexadecimal n
+piece_text (piece.Word b) = word_of b
+piece_text (piece.Item item) = item_text item
+
+-- the text that pieces are, one behind the other
+abbrev pub joined : List Piece → List ℕ
+joined [] = []
+joined (p ∷ []) = piece_text p
+joined (p ∷ q ∷ rest) = piece_text p ++ joined (q ∷ rest)
+
+-- a piece of at most 100 bytes: but for a text any one is
+abbrev pub is_short : Piece → Bool
+is_short (piece.Text text) = nat_le (length text.now) 100
+is_short (piece.Decimal n) = true
+is_short (piece.Hexadecimal n) = true
+is_short (piece.Word b) = true
+is_short (piece.Item item) = true
+
+-- each piece is short
+abbrev pub are_short : List Piece → Bool
+are_short [] = true
+are_short (p ∷ rest) = is_short p && are_short rest
+
+-- the refusals whose whole text C can be told: such a one names no text, or one that has a number
+abbrev pub NamesKnown : Refusal → Type 0
+NamesKnown (bad_input size msg) = msg ≡ codes "invalid utf8"
+NamesKnown (buffer_too_short count item) = (item ≡ codes "section headers") ⊎ (item ≡ codes "program headers")
+NamesKnown (malformed f) = ⊤
+NamesKnown (bad_magic magic) = ⊤
+NamesKnown (too_big size len) = ⊤
+NamesKnown (bad_offset offset) = ⊤
+NamesKnown out_of_memory = ⊤
+
+-- what C is told of a refusal has the text of the refusal
+abbrev pub TextIsKept : Type 0
+TextIsKept = (refusal : Refusal) → NamesKnown refusal → told_text (refusal_told refusal) ≡ refusal_text refusal
