@@ -37,9 +37,13 @@ run_cases crates/goblin_refused "$folder/calls"
 
 # The modules of goblin_show, with a main that tries growths.
 cp -r --parents crates.txt crates/*/src crates/*/specs crates/*/proofs "$folder"
-cp checks/refused_show.main "$folder/crates/goblin_show/src/main.rt"
+{
+    sed '/^mod growths;$/q' checks/refused_show.main
+    grep '^mod ' crates/goblin_show/src/main.rt | grep -v '^mod tests'
+    sed '1,/^mod growths;$/d' checks/refused_show.main
+} > "$folder/crates/goblin_show/src/main.rt"
 cp crates/goblin_refused/src/growths.rt "$folder/crates/goblin_show/src"
-rm "$folder"/crates/goblin_show/src/tests*.rt
+rm -r "$folder"/crates/goblin_show/src/tests*.rt "$folder"/crates/goblin_show/proofs/tests*
 
 # A run over a file with zeros behind it, with so many growths at most, which writes this where all memory is there.
 add_run() {
