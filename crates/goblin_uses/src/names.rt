@@ -1,5 +1,6 @@
 //! The names of a file's symbols, read under a count of the bytes and places read.
-ghost use Rattle.std.specs.Prelude.{◌≡◌};
+ghost use Rattle.std.specs.Prelude.{◌≡◌, ◌≤◌, length};
+ghost use Rattle.goblin_base.specs.Search.{digits};
 
 use goblin::error::Result;
 use goblin::options::ParseMode;
@@ -36,7 +37,10 @@ pub fn longest(probes: &mut Probes<'_>) -> usize
 }
 
 /// How many places the search for an offset reads.
-pub fn probes_of(probes: &mut Probes<'_>, offset: usize) -> u64 {
+pub fn probes_of(probes: &mut Probes<'_>, offset: usize) -> u64
+    ensures most { result ≤ digits (length probes.old.places) }
+    ensures unchanged { probes.new.places ≡ probes.old.places }
+{
     let before = probes.count();
     let _ = find(probes, offset);
     probes.count() - before
