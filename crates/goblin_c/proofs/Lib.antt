@@ -1,4 +1,7 @@
 pub mod CutLemmas
 pub mod DigitLemmas
+pub mod IndexLemmas
+pub mod KeptLemmas
 pub mod Lists
+pub mod NoteLaws
 pub mod TextLemmas

@@ -1,5 +1,6 @@
 pub mod Answers
 pub mod Cut
+pub mod Laws
 pub mod Layout
 pub mod Notes
 pub mod Status

@@ -21,6 +21,7 @@ ghost use Rattle.goblin.specs.SymParts.{bind_name, type_name, visibility_name};
 
 mod fill;
 mod headers;
+mod laws;
 mod layout;
 mod names;
 mod notes;

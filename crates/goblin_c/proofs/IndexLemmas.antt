@@ -1,0 +1,118 @@
+-- Items by index are those of the library's lists, in the context that a file's header names.
+use Rattle.std.proofs.Common.{◌≡◌, ◌+◌, ◌≤◌, ◌==◌, ℕ, zero, suc, Bool, true, false, nat_le, if◌then◌else◌, List, [], ◌∷◌, length, drop, map, slice_get, slice_index, Option, Some, None, Result, Ok, Err, refl, sym, ap, subst, ◌∙◌, arith}
+use Rattle.std.proofs.lemmas.Bool.{leb-true}
+use Rattle.std.proofs.lemmas.Bool.Decides.{nat_tests}
+use Rattle.std.proofs.lemmas.Option.{slice_get-map, slice_get_past}
+use Rattle.std.specs.Option.{option_map}
+use Rattle.goblin_base.specs.declared.container.Container.{Container}
+use Rattle.goblin_base.specs.declared.container.Container.TheVariants as class
+use Rattle.goblin_base.specs.declared.container.Ctx.{Ctx}
+use Rattle.goblin_base.specs.declared.container.Endian.{Endian}
+use Rattle.goblin_base.specs.declared.container.Endian.TheVariants as endian
+use Rattle.goblin_base.specs.declared.error.Error.TheVariants.{Malformed}
+use Rattle.goblin_base.specs.declared.error.Fault.TheVariants.{InvalidClass, InvalidEndianness}
+use Rattle.goblin_base.specs.Refusal.{Refusal, refusal_of}
+use Rattle.goblin_base.specs.Steps.{◌>>=◌, or_refuse, refuse_as}
+use Rattle.goblin.specs.declared.elf.header.Header.{Header}
+use Rattle.goblin.specs.Header.{class_named, order_named}
+use Rattle.goblin.specs.ProgramHeaders.{program_headers_from}
+use Rattle.goblin.specs.RelocSection.{is_of_mips64el, relocs_of}
+use Rattle.goblin.specs.SectionHeaders.{section_headers_of}
+use Rattle.goblin_headers.proofs.HeaderLaws.{header_laws}
+use Rattle.goblin_headers.proofs.RawTrips.{ident_byte}
+use Rattle.goblin_headers.proofs.ReadHeaderLemmas.{read_header-is}
+use Rattle.goblin_c.specs.Answers.{ctx_of, header_told, relocs_right, reloc_right, reloc_told, section_count_right, section_right, section_told, sections_right, segment_right, segment_told, symbol_right, symbol_told, symbols_right, told_from}
+use Rattle.goblin_c.specs.Laws.{ContextIsTheHeaders, FilledByIndex, GivenFrom, HasHeader, NamesContext, RelocsByIndex, SectionsByIndex, SegmentsByIndex, SymbolsByIndex, TellsCount, TellsEach, symbols_in}
+
+-- a byte that names a class or a byte order names the one that C's number stands for
+class_is : (byte : ℕ) (named : Container) → class_named byte ≡ Some named → class_named byte ≡ Some (if byte == 2 then class.Big else class.Little)
+class_is byte named is = grind (arith, nat_tests)
+
+order_is : (byte : ℕ) (named : Endian) → order_named byte ≡ Some named → order_named byte ≡ Some (if byte == 2 then endian.Big else endian.Little)
+order_is byte named is = grind (arith, nat_tests)
+
+-- the context of what C hands back is the one that the header names
+context : (bytes : List ℕ) (h : Header) → HasHeader bytes h → NamesContext h (ctx_of (header_told h))
+context bytes h has =
+    let found = read_header-is bytes h has.0 has.1 in
+    let ident = ap (λ (header : Header). header.e_ident) found.6 ∙ (header_laws found.0).ident_read found.1 bytes in
+    let classed = ap class_named (ident_byte h.e_ident bytes 4 ident (omega arith)) ∙ found.3 in
+    let ordered = ap order_named (ident_byte h.e_ident bytes 5 ident (omega arith)) ∙ found.4 in (
+      ap (λ (named : Option Container). or_refuse named (Malformed (InvalidClass (slice_index h.e_ident 4)))) (class_is (slice_index h.e_ident 4) found.0 classed),
+      ap (λ (named : Option Endian). or_refuse named (Malformed (InvalidEndianness (slice_index h.e_ident 5)))) (order_is (slice_index h.e_ident 5) found.1 ordered),
+    )
+
+pub context_is_the_headers : ContextIsTheHeaders
+context_is_the_headers bytes h has = (context bytes h has, refl)
+
+same : {A E : Type 0} (x y : A) → ◌≡◌ {A = Result A E} (Ok x) (Ok y) → x ≡ y
+same x y is = cc
+
+-- a header names one context
+one_context : (bytes : List ℕ) (h : Header) (ctx : Ctx) → HasHeader bytes h → NamesContext h ctx → ctx_of (header_told h) ≡ ctx
+one_context bytes h ctx has named =
+    let own = context bytes h has in
+    let told = ctx_of (header_told h) in
+    let classes = same told.container ctx.container (sym own.0 ∙ named.0) in
+    let orders = same told.le ctx.le (sym own.1 ∙ named.1) in
+    λ j. record { container = classes j; le = orders j }
+
+-- what is told of a list by index
+each : {X Y : Type 0} (tell : X → Y) (all : Result (List X) Refusal) → TellsEach tell all (λ index. all >>= λ items. Ok (option_map tell (slice_get items index)))
+each tell (Ok items) = λ index. refl
+each tell (Err refusal) = λ index. refl
+
+counted : {X : Type 0} (all : Result (List X) Refusal) → TellsCount all (all >>= λ items. Ok (Some (length items)))
+counted (Ok items) = refl
+counted (Err refusal) = refl
+
+pub sections_by_index : SectionsByIndex
+sections_by_index bytes h ctx has named =
+    subst (λ (c : Ctx). TellsEach section_told (section_headers_of bytes h.e_shoff h.e_shnum c) (section_right bytes (header_told h)) × TellsCount (section_headers_of bytes h.e_shoff h.e_shnum c) (section_count_right bytes (header_told h)))
+    (one_context bytes h ctx has named)
+    (each section_told (sections_right bytes (header_told h)), counted (sections_right bytes (header_told h)))
+
+pub segments_by_index : SegmentsByIndex
+segments_by_index bytes h ctx has named =
+    subst (λ (c : Ctx). TellsEach segment_told (program_headers_from bytes h.e_phoff h.e_phnum c) (segment_right bytes (header_told h)))
+    (one_context bytes h ctx has named)
+    (each segment_told (program_headers_from bytes h.e_phoff h.e_phnum (ctx_of (header_told h))))
+
+pub symbols_by_index : SymbolsByIndex
+symbols_by_index bytes h ctx range has named =
+    subst (λ (c : Ctx). TellsEach symbol_told (symbols_in bytes range c) (symbol_right bytes (header_told h) range))
+    (one_context bytes h ctx has named)
+    (each symbol_told (symbols_in bytes range (ctx_of (header_told h))))
+
+pub relocs_by_index : RelocsByIndex
+relocs_by_index bytes h ctx range is_rela has named =
+    subst (λ (c : Ctx). TellsEach reloc_told (refuse_as refusal_of (relocs_of bytes range.offset range.size is_rela c (is_of_mips64el h))) (reloc_right bytes (header_told h) range is_rela))
+    (one_context bytes h ctx has named)
+    (each reloc_told (relocs_right bytes (header_told h) range is_rela))
+
+-- the item at an index behind those that are left out
+behind : {X : Type 0} (xs : List X) (n k : ℕ) → slice_get xs (n + k) ≡ slice_get (drop n xs) k
+behind xs zero k = ap (slice_get xs) (omega arith)
+behind [] (suc n) k = refl
+behind (x ∷ xs) (suc n) k =
+    let more : suc n + k ≡ suc (n + k) = omega arith in
+    ap (slice_get (x ∷ xs)) more ∙ behind xs n k
+
+-- what is told from an index on
+given : {X Y : Type 0} (tell : X → Y) (items : List X) (first : ℕ) (past : Bool) → nat_le (length items) first ≡ past → GivenFrom {Y = Y} first (λ index. Ok (option_map tell (slice_get items index))) (Ok (if past then None else Some (map tell (drop first items))))
+given tell items first true is =
+    let there : length items ≤ first = leb-true (length items) first is in
+    λ k. ap (λ found. Ok (option_map tell found)) (slice_get_past items (first + k) (omega arith))
+given tell items first false is =
+    λ k. ap Ok (ap (option_map tell) (behind items first k) ∙ sym (slice_get-map tell (drop first items) k))
+
+from : {X Y : Type 0} (tell : X → Y) (all : Result (List X) Refusal) (first : ℕ) → GivenFrom {Y = Y} first (λ index. all >>= λ items. Ok (option_map tell (slice_get items index))) (all >>= λ items. Ok (told_from tell first items))
+from tell (Ok items) first = given tell items first (nat_le (length items) first) refl
+from tell (Err refusal) first = λ k. refl
+
+pub filled_by_index : FilledByIndex
+filled_by_index = record {
+  sections = λ bytes h first. from section_told (sections_right bytes h) first;
+  symbols = λ bytes h range first. from symbol_told (symbols_right bytes h range) first;
+  relocs = λ bytes h range is_rela first. from reloc_told (relocs_right bytes h range is_rela) first;
+}

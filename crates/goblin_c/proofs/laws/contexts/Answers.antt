@@ -1,0 +1,5 @@
+use Rattle.goblin_c.proofs.IndexLemmas.{context_is_the_headers}
+use Rattle.goblin_c.proofs.laws.contexts.Goals as goal
+
+pub returns : goal.returns
+returns c = context_is_the_headers

@@ -1,0 +1,147 @@
+-- Laws of the calls: what they tell one by one is what the library has at once, and no refusal loses its text.
+use Rattle.std.specs.Prelude.{◌≡◌, ◌+◌, ◌/◌, ⊤, ℕ, Bool, List, [], ◌∷◌, length, take, drop, slice_get, Option, Some, None, Result, Ok, Err}
+use Rattle.std.specs.Option.{option_map}
+use Rattle.goblin_base.specs.declared.container.Ctx.{Ctx}
+use Rattle.goblin_base.specs.declared.error.Fault.TheVariants.{InvalidClass, InvalidEndianness}
+use Rattle.goblin_base.specs.Refusal.{Refusal, refusal_of}
+use Rattle.goblin_base.specs.Steps.{◌>>=◌, refuse_as}
+use Rattle.goblin_base.specs.Texts.{refusal_text}
+use Rattle.goblin.specs.declared.elf.header.Header.{Header}
+use Rattle.goblin.specs.declared.elf.note.NoteDataIterator.{NoteDataIterator}
+use Rattle.goblin.specs.Header.{class_of, order_of}
+use Rattle.goblin.specs.Note.{NoteParts}
+use Rattle.goblin.specs.Notes.{items_left}
+use Rattle.goblin.specs.ProgramHeaders.{program_headers_from}
+use Rattle.goblin.specs.ReadHeader.{read_header}
+use Rattle.goblin.specs.RelocSection.{is_of_mips64el, relocs_of}
+use Rattle.goblin.specs.SectionHeaders.{section_headers_of}
+use Rattle.goblin.specs.declared.elf.sym.Sym.{Sym}
+use Rattle.goblin.specs.Sym.{sym_size}
+use Rattle.goblin.specs.Symtab.{symtab_of}
+use Rattle.goblin_c.specs.Answers.{ctx_of, header_told, is_mips64el, reloc_told, section_told, segment_told, symbol_told, header_right, section_count_right, section_right, segment_right, symbol_right, reloc_right, string_right, sections_from_right, symbols_from_right, relocs_from_right, section_names_right, section_by_name_right, symbol_by_name_right}
+use Rattle.goblin_c.specs.Notes.{note_right}
+use Rattle.goblin_c.specs.Status.{refusal_told}
+use Rattle.goblin_c.specs.Texts.{told_text}
+use Rattle.goblin_c.specs.declared.types.GoblinHeader.{GoblinHeader}
+use Rattle.goblin_c.specs.declared.types.GoblinNote.{GoblinNote}
+use Rattle.goblin_c.specs.declared.types.GoblinRange.{GoblinRange}
+
+-- the bytes of a file in a range
+abbrev pub bytes_in : List ℕ → GoblinRange → List ℕ
+bytes_in bytes range = take range.size (drop range.offset bytes)
+
+-- the note that a file has at the places told
+abbrev pub note_in : List ℕ → GoblinNote → NoteParts
+note_in bytes told =
+    record { n_type = told.n_type; name = bytes_in bytes told.name; desc = bytes_in bytes told.desc }
+
+-- the items of which a call tells the first: none; the note told and those from the next offset on; or a refusal alone
+abbrev pub items_told : List ℕ → Result (Option GoblinNote) Refusal → (ℕ → List (Result NoteParts Refusal)) → List (Result NoteParts Refusal)
+items_told bytes (Ok None) rest = []
+items_told bytes (Ok (Some told)) rest = Ok (note_in bytes told) ∷ rest told.next
+items_told bytes (Err refusal) rest = Err refusal ∷ []
+
+-- the items that the library's iterator over the same range has left are those of which the call at its offset tells
+-- the first, and the next offset is where the iterator goes on
+abbrev pub NotesAreItems : Type 0
+NotesAreItems =
+    (notes : NoteDataIterator) (h : GoblinHeader) (range : GoblinRange) (alignment : ℕ)
+    → notes.size ≡ range.offset + range.size → notes.ctx ≡ (alignment, ctx_of h)
+    → let told = note_right notes.bytes.now h range alignment notes.offset in
+    items_left notes ≡ items_told notes.bytes.now told (λ next. items_left (record notes { offset = next }))
+
+-- a refusal that is an answer keeps its text on its way through C
+abbrev pub KeepsText : {X : Type 0} → Result X Refusal → Type 0
+KeepsText (Ok x) = ⊤
+KeepsText (Err refusal) = told_text (refusal_told refusal) ≡ refusal_text refusal
+
+-- every refusal of every call keeps its text
+pub record RefusalsKeepTheirText : Type 0 where
+  pub header : (bytes : List ℕ) → KeepsText (header_right bytes)
+  pub section_count : (bytes : List ℕ) (h : GoblinHeader) → KeepsText (section_count_right bytes h)
+  pub section : (bytes : List ℕ) (h : GoblinHeader) (index : ℕ) → KeepsText (section_right bytes h index)
+  pub sections : (bytes : List ℕ) (h : GoblinHeader) (first : ℕ) → KeepsText (sections_from_right bytes h first)
+  pub section_names : (bytes : List ℕ) (h : GoblinHeader) → KeepsText (section_names_right bytes h)
+  pub segment : (bytes : List ℕ) (h : GoblinHeader) (index : ℕ) → KeepsText (segment_right bytes h index)
+  pub symbol : (bytes : List ℕ) (h : GoblinHeader) (table : GoblinRange) (index : ℕ) → KeepsText (symbol_right bytes h table index)
+  pub symbols : (bytes : List ℕ) (h : GoblinHeader) (table : GoblinRange) (first : ℕ) → KeepsText (symbols_from_right bytes h table first)
+  pub reloc : (bytes : List ℕ) (h : GoblinHeader) (range : GoblinRange) (is_rela : Bool) (index : ℕ) → KeepsText (reloc_right bytes h range is_rela index)
+  pub relocs : (bytes : List ℕ) (h : GoblinHeader) (range : GoblinRange) (is_rela : Bool) (first : ℕ) → KeepsText (relocs_from_right bytes h range is_rela first)
+  pub string : (bytes : List ℕ) (strings : GoblinRange) (offset : ℕ) → KeepsText (string_right bytes strings offset)
+  pub note : (bytes : List ℕ) (h : GoblinHeader) (range : GoblinRange) (alignment offset : ℕ) → KeepsText (note_right bytes h range alignment offset)
+  pub section_by_name : (bytes : List ℕ) (h : GoblinHeader) (names : GoblinRange) (name : List ℕ) → KeepsText (section_by_name_right bytes h names name)
+  pub symbol_by_name : (bytes : List ℕ) (h : GoblinHeader) (table names : GoblinRange) (name : List ℕ) → KeepsText (symbol_by_name_right bytes h table names name)
+
+-- a file has this header
+abbrev pub HasHeader : List ℕ → Header → Type 0
+HasHeader bytes h = (size : ℕ) × (read_header bytes ≡ Ok (h, size))
+
+-- the library names by a header this class and this byte order
+abbrev pub NamesContext : Header → Ctx → Type 0
+NamesContext h ctx =
+    (class_of InvalidClass h.e_ident ≡ Ok ctx.container) × (order_of InvalidEndianness h.e_ident ≡ Ok ctx.le)
+
+-- what C hands back of a file's header has the class and the byte order that the library names by the header itself, and
+-- is of MIPS64 in little order where the header is
+abbrev pub ContextIsTheHeaders : Type 0
+ContextIsTheHeaders =
+    (bytes : List ℕ) (h : Header) → HasHeader bytes h
+    → NamesContext h (ctx_of (header_told h)) × (is_mips64el (header_told h) ≡ is_of_mips64el h)
+
+-- a call tells each item of a list at its index, and none behind them; or at each index the refusal that there is in
+-- place of a list
+abbrev pub TellsEach : {X Y : Type 0} → (X → Y) → Result (List X) Refusal → (ℕ → Result (Option Y) Refusal) → Type 0
+TellsEach tell (Ok items) call = (index : ℕ) → call index ≡ Ok (option_map tell (slice_get items index))
+TellsEach tell (Err refusal) call = (index : ℕ) → call index ≡ Err refusal
+
+-- a call tells how many items a list has, or the refusal that there is in its place
+abbrev pub TellsCount : {X : Type 0} → Result (List X) Refusal → Result (Option ℕ) Refusal → Type 0
+TellsCount (Ok items) answer = answer ≡ Ok (Some (length items))
+TellsCount (Err refusal) answer = answer ≡ Err refusal
+
+-- the section headers of a file by index are the library's list, and the count is its length
+abbrev pub SectionsByIndex : Type 0
+SectionsByIndex =
+    (bytes : List ℕ) (h : Header) (ctx : Ctx) → HasHeader bytes h → NamesContext h ctx
+    → let sections = section_headers_of bytes h.e_shoff h.e_shnum ctx in
+    TellsEach section_told sections (section_right bytes (header_told h))
+    × TellsCount sections (section_count_right bytes (header_told h))
+
+-- its program headers by index are the library's list
+abbrev pub SegmentsByIndex : Type 0
+SegmentsByIndex =
+    (bytes : List ℕ) (h : Header) (ctx : Ctx) → HasHeader bytes h → NamesContext h ctx
+    → let segments = program_headers_from bytes h.e_phoff h.e_phnum ctx in
+    TellsEach segment_told segments (segment_right bytes (header_told h))
+
+-- the symbols of the library's table in a range, of as many as lie in it whole
+abbrev pub symbols_in : List ℕ → GoblinRange → Ctx → Result (List Sym) Refusal
+symbols_in bytes range ctx = do
+  table ← refuse_as refusal_of (symtab_of bytes range.offset (range.size / sym_size ctx.container) ctx)
+  Ok table.symbols
+
+-- the symbols of a range by index are those of the library's table
+abbrev pub SymbolsByIndex : Type 0
+SymbolsByIndex =
+    (bytes : List ℕ) (h : Header) (ctx : Ctx) (range : GoblinRange) → HasHeader bytes h → NamesContext h ctx
+    → TellsEach symbol_told (symbols_in bytes range ctx) (symbol_right bytes (header_told h) range)
+
+-- the relocations of a range by index are the library's list
+abbrev pub RelocsByIndex : Type 0
+RelocsByIndex =
+    (bytes : List ℕ) (h : Header) (ctx : Ctx) (range : GoblinRange) (is_rela : Bool) → HasHeader bytes h → NamesContext h ctx
+    → let relocs = refuse_as refusal_of (relocs_of bytes range.offset range.size is_rela ctx (is_of_mips64el h)) in
+    TellsEach reloc_told relocs (reloc_right bytes (header_told h) range is_rela)
+
+-- the items that are given from an index on are those that a call tells there one by one, and none behind them; or the
+-- call tells none there, or the same refusal
+abbrev pub GivenFrom : {Y : Type 0} → ℕ → (ℕ → Result (Option Y) Refusal) → Result (Option (List Y)) Refusal → Type 0
+GivenFrom first call (Ok (Some items)) = (k : ℕ) → call (first + k) ≡ Ok (slice_get items k)
+GivenFrom first call (Ok None) = (k : ℕ) → call (first + k) ≡ Ok None
+GivenFrom first call (Err refusal) = (k : ℕ) → call (first + k) ≡ Err refusal
+
+-- the calls that fill room give from each index on what the calls by index tell
+pub record FilledByIndex : Type 0 where
+  pub sections : (bytes : List ℕ) (h : GoblinHeader) (first : ℕ) → GivenFrom first (section_right bytes h) (sections_from_right bytes h first)
+  pub symbols : (bytes : List ℕ) (h : GoblinHeader) (table : GoblinRange) (first : ℕ) → GivenFrom first (symbol_right bytes h table) (symbols_from_right bytes h table first)
+  pub relocs : (bytes : List ℕ) (h : GoblinHeader) (range : GoblinRange) (is_rela : Bool) (first : ℕ) → GivenFrom first (reloc_right bytes h range is_rela) (relocs_from_right bytes h range is_rela first)
