@@ -7,6 +7,7 @@ use Rattle.std.proofs.lemmas.List.{take_rest}
 use Rattle.std.proofs.lemmas.Slice.{take-put_mid}
 use borrow.Rule.Slice.PartMut.{put_mid}
 use Rattle.goblin_c.specs.Cut.{cut}
+use Rattle.goblin_c.specs.Laws.{IsFilled, RoomIsFilled}
 
 -- one item more
 pub cut-more : {X : Type 0} (xs old : List X) (x : X) → length xs < length old → set (cut xs old) (length xs) x ≡ cut (xs ++ x ∷ []) old
@@ -72,3 +73,27 @@ cut-into n part old new all inside long same is put =
     let whole : take (length old) all ≡ all = take_all (length old) all (omega arith) in
     sym whole ∙ ap (λ (xs : List ℕ). take (length old) xs) put ∙ take-put_mid n (length old - n) old new (length old) (omega arith) (omega arith)
     ∙ ap (λ (xs : List ℕ). take n old ++ xs) (is ∙ ap (λ (xs : List ℕ). cut part xs) (take_rest old n))
+
+-- room that was cut into: how long it is, and what it holds before and behind the end of what was cut
+cut-length : {X : Type 0} (items old : List X) → length (cut items old) ≡ length old
+cut-length [] old = refl
+cut-length (x ∷ items) [] = refl
+cut-length (x ∷ items) (o ∷ old) = omega (arith, cut-length items old)
+
+cut-before : {X : Type 0} (items old : List X) (k : ℕ) → k < min (length items) (length old) → slice_get (cut items old) k ≡ slice_get items k
+cut-before [] old k h = absurd (omega arith)
+cut-before (x ∷ items) [] k h = absurd (omega arith)
+cut-before (x ∷ items) (o ∷ old) zero h = refl
+cut-before (x ∷ items) (o ∷ old) (suc k) h = cut-before items old k (omega arith)
+
+cut-after : {X : Type 0} (items old : List X) (k : ℕ) → min (length items) (length old) ≤ k → slice_get (cut items old) k ≡ slice_get old k
+cut-after [] old k h = refl
+cut-after (x ∷ items) [] k h = refl
+cut-after (x ∷ items) (o ∷ old) zero h = absurd (omega arith)
+cut-after (x ∷ items) (o ∷ old) (suc k) h = cut-after items old k (omega arith)
+
+is_filled : {X : Type 0} (items old : List X) → IsFilled items old (cut items old)
+is_filled items old = (cut-length items old, cut-before items old, cut-after items old)
+
+pub room_is_filled : RoomIsFilled
+room_is_filled = record { bytes = is_filled; sections = is_filled; symbols = is_filled; relocs = is_filled }

@@ -14,6 +14,8 @@ use Rattle.goblin_base.specs.declared.error.Fault.TheVariants.{InvalidClass, Inv
 use Rattle.goblin_base.specs.Refusal.{Refusal, refusal_of}
 use Rattle.goblin_base.specs.Steps.{◌>>=◌, or_refuse, refuse_as}
 use Rattle.goblin.specs.declared.elf.header.Header.{Header}
+use Rattle.goblin.specs.declared.elf.section_header.SectionHeader.{SectionHeader}
+use Rattle.goblin_c.specs.declared.types.GoblinSection.{GoblinSection}
 use Rattle.goblin.specs.Header.{class_named, order_named}
 use Rattle.goblin.specs.ProgramHeaders.{program_headers_from}
 use Rattle.goblin.specs.RelocSection.{is_of_mips64el, relocs_of}
@@ -21,8 +23,8 @@ use Rattle.goblin.specs.SectionHeaders.{section_headers_of}
 use Rattle.goblin_headers.proofs.HeaderLaws.{header_laws}
 use Rattle.goblin_headers.proofs.RawTrips.{ident_byte}
 use Rattle.goblin_headers.proofs.ReadHeaderLemmas.{read_header-is}
-use Rattle.goblin_c.specs.Answers.{ctx_of, header_told, relocs_right, reloc_right, reloc_told, section_count_right, section_right, section_told, sections_right, segment_right, segment_told, symbol_right, symbol_told, symbols_right, told_from}
-use Rattle.goblin_c.specs.Laws.{ContextIsTheHeaders, FilledByIndex, GivenFrom, HasHeader, NamesContext, RelocsByIndex, SectionsByIndex, SegmentsByIndex, SymbolsByIndex, TellsCount, TellsEach, symbols_in}
+use Rattle.goblin_c.specs.Answers.{ctx_of, header_told, link_of, names_index, relocs_right, reloc_right, reloc_told, section_count_right, section_right, section_told, sections_right, segment_right, segment_told, symbol_right, symbol_told, symbols_right, told_from}
+use Rattle.goblin_c.specs.Laws.{ContextIsTheHeaders, FilledByIndex, GivenFrom, HasHeader, NamesByIndex, NamesContext, RelocsByIndex, SectionsByIndex, SegmentsByIndex, SymbolsByIndex, TellsCount, TellsEach, symbols_in}
 
 -- a byte that names a class or a byte order names the one that C's number stands for
 class_is : (byte : ℕ) (named : Container) → class_named byte ≡ Some named → class_named byte ≡ Some (if byte == 2 then class.Big else class.Little)
@@ -116,3 +118,23 @@ filled_by_index = record {
   symbols = λ bytes h range first. from symbol_told (symbols_right bytes h range) first;
   relocs = λ bytes h range is_rela first. from reloc_told (relocs_right bytes h range is_rela) first;
 }
+
+-- the section with the index in the header, or the one that the first section links to
+in_header : (all : Result (List SectionHeader) Refusal) (index : ℕ) → (index == 0xffff) ≡ false → (all >>= λ items. Ok (option_map section_told (slice_get items (names_index items index)))) ≡ (all >>= λ items. Ok (option_map section_told (slice_get items index)))
+in_header (Ok items) index other = rw other refl
+in_header (Err refusal) index other = refl
+
+linked_first : (items : List SectionHeader) (found : Option SectionHeader) (first : GoblinSection) → option_map section_told found ≡ Some first → link_of found ≡ first.sh_link
+linked_first items (Some section) first is = cc
+linked_first items None first is = absurd (cc)
+
+in_first : (all : Result (List SectionHeader) Refusal) (first : GoblinSection) → (all >>= λ items. Ok (option_map section_told (slice_get items 0))) ≡ Ok (Some first) → (all >>= λ items. Ok (option_map section_told (slice_get items (link_of (slice_get items 0))))) ≡ (all >>= λ items. Ok (option_map section_told (slice_get items first.sh_link)))
+in_first (Ok items) first is =
+    ap (λ (index : ℕ). Ok (option_map section_told (slice_get items index))) (linked_first items (slice_get items 0) first (cc))
+in_first (Err refusal) first is = absurd (cc)
+
+pub names_by_index : NamesByIndex
+names_by_index bytes h = (
+  λ other. in_header (sections_right bytes h) h.e_shstrndx (grind (arith, nat_tests)),
+  λ first is found. rw is (in_first (sections_right bytes h) first found),
+)

@@ -4,4 +4,6 @@ pub mod IndexLemmas
 pub mod KeptLemmas
 pub mod Lists
 pub mod NoteLaws
+pub mod StepLemmas
+pub mod StringLaws
 pub mod TextLemmas

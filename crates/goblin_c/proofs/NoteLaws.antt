@@ -1,8 +1,8 @@
 -- Notes one by one are the items of their range.
-use Rattle.std.proofs.Common.{◌≡◌, ◌+◌, ◌-◌, ℕ, Bool, true, false, nat_le, if◌then◌else◌, List, [], ◌∷◌, length, take, drop, Some, None, Result, Ok, Err, refl, sym, ap, ◌∙◌, arith}
+use Rattle.std.proofs.Common.{◌≡◌, ◌+◌, ◌-◌, ℕ, zero, suc, Bool, true, false, nat_le, if◌then◌else◌, List, [], ◌∷◌, length, take, drop, Option, Some, None, Result, Ok, Err, refl, sym, ap, ◌∙◌, arith}
 use Rattle.std.proofs.lemmas.Bool.Decides.{nat_tests}
 use Rattle.std.proofs.lemmas.List.{length-take, take_min}
-use Rattle.std.proofs.Math.Seq.{drop-drop}
+use Rattle.std.proofs.Math.Seq.{drop-drop, take-nil}
 use Rattle.std.specs.Int.{next_multiple_of}
 use Rattle.goblin_base.specs.declared.container.Ctx.{Ctx}
 use Rattle.goblin_base.specs.declared.container.Endian.{Endian}
@@ -21,20 +21,8 @@ use Rattle.goblin_c.specs.declared.types.GoblinNote.{GoblinNote}
 use Rattle.goblin_c.specs.declared.types.GoblinRange.{GoblinRange}
 use Rattle.goblin_c.specs.Answers.{ctx_of}
 use Rattle.goblin_c.specs.Notes.{desc_place, name_size, name_size_told, note_right, note_told}
-use Rattle.goblin_c.specs.Laws.{NotesAreItems, items_told, note_in}
-
--- what steps answer has gone through the first of them
-through : {A B E : Type 0} (first : Result A E) (next : A → Result B E) (y : B) → (first >>= next) ≡ Ok y → (x : A) × (first ≡ Ok x) × (next x ≡ Ok y)
-through (Ok x) next y is = (x, refl, is)
-through (Err e) next y is = absurd (cc)
-
--- an answer with its refusal inside another is a value where the answer is
-within : {A E F : Type 0} (inside : E → F) (answer : Result A E) (x : A) → refuse_as inside answer ≡ Ok x → answer ≡ Ok x
-within inside (Ok y) x is = cc
-within inside (Err e) x is = absurd (cc)
-
-same : {A E : Type 0} (x y : A) → ◌≡◌ {A = Result A E} (Ok x) (Ok y) → y ≡ x
-same x y is = cc
+use Rattle.goblin_c.specs.Laws.{NotesAreItems, NotesInARow, items_told, note_in, notes_told}
+use Rattle.goblin_c.proofs.StepLemmas.{same, taken_text, through, within}
 
 -- the alignment of a note that is read is 4 up to 4, and 8 above
 align_is : (alignment align : ℕ) → note_align alignment ≡ Ok align → align ≡ (if nat_le alignment 4 then 4 else 8)
@@ -46,15 +34,11 @@ bytes_are bytes place size part is =
     let last = through (refuse_as misplaced (room_of (length bytes) place size)) (λ _. Ok (take size (drop place bytes))) part is in
     same (take size (drop place bytes)) part last.2
 
-tested_text : (test : Bool) (part text : List ℕ) (e : Refusal) → (if test then Ok part else Err e) ≡ Ok text → text ≡ part
-tested_text true part text e is = same part text is
-tested_text false part text e is = absurd (cc)
-
 -- and so is text
 text_is : (bytes : List ℕ) (place size : ℕ) (text : List ℕ) → text_at bytes place size ≡ Ok text → text ≡ take size (drop place bytes)
 text_is bytes place size text is =
     let found = through (bytes_at bytes place size) (λ part. text_or_fault part (length bytes - place)) text is in
-    tested_text (is_utf8 found.0) found.0 text (invalid_utf8 (length bytes - place)) found.2 ∙ bytes_are bytes place size found.0 found.1
+    taken_text (is_utf8 found.0) found.0 text (invalid_utf8 (length bytes - place)) found.2 ∙ bytes_are bytes place size found.0 found.1
 
 -- where the descriptor of a note with this header lies, counted from the note's start
 abbrev place_of : ℕ → Nhdr32 → ℕ
@@ -144,5 +128,21 @@ items_there bytes h range alignment offset =
     ∙ told (nat_le (range.offset + range.size) offset) bytes (note_at bytes offset (alignment, ctx_of h)) (note_told bytes (ctx_of h).le alignment offset) offset (λ next. note_items bytes (range.offset + range.size) next (alignment, ctx_of h)) (λ note. refl) (note_at-there bytes (ctx_of h) alignment offset)
 
 pub notes_are_items : NotesAreItems
-notes_are_items notes h range alignment size ctx =
-    rw (size, ctx) (items_there notes.bytes.now h range alignment notes.offset)
+notes_are_items notes h range alignment over =
+    rw (over.0, over.1) (items_there notes.bytes.now h range alignment notes.offset)
+
+-- a call more tells an item more
+one_more : (bytes : List ℕ) (answer : Result (Option GoblinNote) Refusal) (calls : ℕ) (f g : ℕ → List (Result NoteParts Refusal)) → ((next : ℕ) → f next ≡ take calls (g next)) → items_told bytes answer f ≡ take (suc calls) (items_told bytes answer g)
+one_more bytes (Ok None) calls f g same = refl
+one_more bytes (Ok (Some told)) calls f g same = ap (λ rest. Ok (note_in bytes told) ∷ rest) (same told.next)
+one_more bytes (Err refusal) calls f g same = ap (λ rest. Err refusal ∷ rest) (sym (take-nil calls))
+
+in_a_row : (calls : ℕ) (bytes : List ℕ) (h : GoblinHeader) (range : GoblinRange) (alignment offset : ℕ) → notes_told calls bytes h range alignment offset ≡ take calls (note_items bytes (range.offset + range.size) offset (alignment, ctx_of h))
+in_a_row zero bytes h range alignment offset = refl
+in_a_row (suc calls) bytes h range alignment offset =
+    one_more bytes (note_right bytes h range alignment offset) calls (notes_told calls bytes h range alignment) (λ next. note_items bytes (range.offset + range.size) next (alignment, ctx_of h)) (in_a_row calls bytes h range alignment)
+    ∙ ap (take (suc calls)) (sym (items_there bytes h range alignment offset))
+
+pub notes_in_a_row : NotesInARow
+notes_in_a_row calls notes h range alignment over =
+    rw (over.0, over.1) (in_a_row calls notes.bytes.now h range alignment notes.offset)

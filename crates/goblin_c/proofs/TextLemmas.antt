@@ -1,5 +1,5 @@
 -- Texts that are written piece by piece.
-use Rattle.std.proofs.Common.{◌≡◌, ◌+◌, ◌<◌, ℕ, zero, suc, Bool, true, false, true≢false, ◌&&◌, IsTrue, List, [], ◌∷◌, ◌++◌, length, get_or, take, drop, refl, sym, ap, ◌∙◌, append_assoc, length-append, inl, inr, arith}
+use Rattle.std.proofs.Common.{◌≡◌, ◌+◌, ◌<◌, ◌≤◌, ℕ, zero, suc, Bool, true, false, true≢false, ◌&&◌, IsTrue, List, [], ◌∷◌, ◌++◌, length, get_or, take, drop, refl, sym, ap, ◌∙◌, append_assoc, length-append, inl, inr, arith}
 use Rattle.std.proofs.lemmas.List.{take_more}
 use Rattle.goblin_base.specs.declared.error.Fault.{Fault}
 use Rattle.goblin_base.specs.declared.error.Fault.TheVariants as fault
@@ -8,6 +8,7 @@ use Rattle.goblin_base.specs.Texts.{refusal_text}
 use Rattle.goblin_c.specs.declared.texts.Piece.{Piece}
 use Rattle.goblin_c.specs.Status.{fault_told}
 use Rattle.goblin_c.specs.Cut.{cut}
+use Rattle.goblin_c.specs.Laws.{KindsAreAnswers}
 use Rattle.goblin_c.specs.Texts.{TextIsKept, are_short, is_short, joined, piece_text, told_text}
 use Rattle.goblin_c.proofs.CutLemmas.{cut-behind}
 
@@ -68,3 +69,29 @@ text-kept (bad_input size msg) known = rw known refl
 text-kept (buffer_too_short count item) (inl sections) = rw sections refl
 text-kept (buffer_too_short count item) (inr segments) = rw segments refl
 text-kept out_of_memory known = refl
+
+fault-kind : (f : Fault) → 2 ≤ (fault_told f).kind
+fault-kind (fault.InvalidClass n) = omega arith
+fault-kind (fault.InvalidEndianness n) = omega arith
+fault-kind fault.TooSmall = omega arith
+fault-kind (fault.ElfClass n) = omega arith
+fault-kind (fault.DataType n) = omega arith
+fault-kind (fault.Data n) = omega arith
+fault-kind (fault.NoteAlign n) = omega arith
+fault-kind (fault.SymtabOffset n m) = omega arith
+fault-kind (fault.TooManySymbols n m) = omega arith
+fault-kind (fault.SymtabPast n m) = omega arith
+fault-kind (fault.StrtabOffset n m) = omega arith
+fault-kind (fault.StrtabRange n m k b) = omega arith
+fault-kind (fault.SectionOffset n m k b) = omega arith
+fault-kind (fault.SectionAddr n m k b) = omega arith
+fault-kind (fault.IntegerFit e) = omega arith
+
+pub kinds-are-answers : KindsAreAnswers
+kinds-are-answers (malformed f) = fault-kind f
+kinds-are-answers (bad_magic magic) = omega arith
+kinds-are-answers (too_big size len) = omega arith
+kinds-are-answers (bad_offset offset) = omega arith
+kinds-are-answers (bad_input size msg) = omega arith
+kinds-are-answers (buffer_too_short count item) = omega arith
+kinds-are-answers out_of_memory = omega arith

@@ -1,10 +1,11 @@
 -- Laws of the calls: what they tell one by one is what the library has at once, and no refusal loses its text.
-use Rattle.std.specs.Prelude.{◌≡◌, ◌+◌, ◌/◌, ⊤, ℕ, Bool, List, [], ◌∷◌, length, take, drop, slice_get, Option, Some, None, Result, Ok, Err}
+use Rattle.std.specs.Prelude.{◌≡◌, ◌≢◌, ◌+◌, ◌/◌, ◌<◌, ◌≤◌, ⊤, ℕ, zero, suc, min, Bool, List, [], ◌∷◌, length, take, drop, slice_get, Option, Some, None, Result, Ok, Err}
 use Rattle.std.specs.Option.{option_map}
 use Rattle.goblin_base.specs.declared.container.Ctx.{Ctx}
 use Rattle.goblin_base.specs.declared.error.Fault.TheVariants.{InvalidClass, InvalidEndianness}
 use Rattle.goblin_base.specs.Refusal.{Refusal, refusal_of}
 use Rattle.goblin_base.specs.Steps.{◌>>=◌, refuse_as}
+use Rattle.goblin_base.specs.Strtab.{plain}
 use Rattle.goblin_base.specs.Texts.{refusal_text}
 use Rattle.goblin.specs.declared.elf.header.Header.{Header}
 use Rattle.goblin.specs.declared.elf.note.NoteDataIterator.{NoteDataIterator}
@@ -18,13 +19,17 @@ use Rattle.goblin.specs.SectionHeaders.{section_headers_of}
 use Rattle.goblin.specs.declared.elf.sym.Sym.{Sym}
 use Rattle.goblin.specs.Sym.{sym_size}
 use Rattle.goblin.specs.Symtab.{symtab_of}
-use Rattle.goblin_c.specs.Answers.{ctx_of, header_told, is_mips64el, reloc_told, section_told, segment_told, symbol_told, header_right, section_count_right, section_right, segment_right, symbol_right, reloc_right, string_right, sections_from_right, symbols_from_right, relocs_from_right, section_names_right, section_by_name_right, symbol_by_name_right}
+use Rattle.goblin_c.specs.Answers.{ctx_of, header_told, is_mips64el, reloc_told, section_told, segment_told, symbol_told, header_right, section_count_right, section_right, segment_right, symbol_right, reloc_right, string_right, sections_from_right, symbols_from_right, relocs_from_right, section_names_right, section_by_name_right, symbol_by_name_right, strings_right}
+use Rattle.goblin_c.specs.Cut.{cut}
 use Rattle.goblin_c.specs.Notes.{note_right}
 use Rattle.goblin_c.specs.Status.{refusal_told}
 use Rattle.goblin_c.specs.Texts.{told_text}
 use Rattle.goblin_c.specs.declared.types.GoblinHeader.{GoblinHeader}
 use Rattle.goblin_c.specs.declared.types.GoblinNote.{GoblinNote}
 use Rattle.goblin_c.specs.declared.types.GoblinRange.{GoblinRange}
+use Rattle.goblin_c.specs.declared.types.GoblinReloc.{GoblinReloc}
+use Rattle.goblin_c.specs.declared.types.GoblinSection.{GoblinSection}
+use Rattle.goblin_c.specs.declared.types.GoblinSymbol.{GoblinSymbol}
 
 -- the bytes of a file in a range
 abbrev pub bytes_in : List ℕ → GoblinRange → List ℕ
@@ -36,19 +41,37 @@ note_in bytes told =
     record { n_type = told.n_type; name = bytes_in bytes told.name; desc = bytes_in bytes told.desc }
 
 -- the items of which a call tells the first: none; the note told and those from the next offset on; or a refusal alone
-abbrev pub items_told : List ℕ → Result (Option GoblinNote) Refusal → (ℕ → List (Result NoteParts Refusal)) → List (Result NoteParts Refusal)
+abbrev pub items_told :
+    List ℕ → Result (Option GoblinNote) Refusal → (ℕ → List (Result NoteParts Refusal)) → List (Result NoteParts Refusal)
 items_told bytes (Ok None) rest = []
 items_told bytes (Ok (Some told)) rest = Ok (note_in bytes told) ∷ rest told.next
 items_told bytes (Err refusal) rest = Err refusal ∷ []
 
--- the items that the library's iterator over the same range has left are those of which the call at its offset tells
--- the first, and the next offset is where the iterator goes on
+-- the library's iterator goes over the file's notes in this range, with this alignment
+abbrev pub IsOver : NoteDataIterator → GoblinHeader → GoblinRange → ℕ → Type 0
+IsOver notes h range alignment = (notes.size ≡ range.offset + range.size) × (notes.ctx ≡ (alignment, ctx_of h))
+
+-- the items that the iterator has left are those of which the call at its offset tells the first, and the next offset
+-- is where the iterator goes on
 abbrev pub NotesAreItems : Type 0
 NotesAreItems =
     (notes : NoteDataIterator) (h : GoblinHeader) (range : GoblinRange) (alignment : ℕ)
-    → notes.size ≡ range.offset + range.size → notes.ctx ≡ (alignment, ctx_of h)
+    → IsOver notes h range alignment
     → let told = note_right notes.bytes.now h range alignment notes.offset in
     items_left notes ≡ items_told notes.bytes.now told (λ next. items_left (record notes { offset = next }))
+
+-- the items of which so many calls tell: the first at an offset, and each other at the next offset of the one before
+abbrev pub notes_told : ℕ → List ℕ → GoblinHeader → GoblinRange → ℕ → ℕ → List (Result NoteParts Refusal)
+notes_told zero bytes h range alignment offset = []
+notes_told (suc calls) bytes h range alignment offset =
+    items_told bytes (note_right bytes h range alignment offset) (notes_told calls bytes h range alignment)
+
+-- so many calls, one after another from the iterator's offset on, tell the first so many items that it has left
+abbrev pub NotesInARow : Type 0
+NotesInARow =
+    (calls : ℕ) (notes : NoteDataIterator) (h : GoblinHeader) (range : GoblinRange) (alignment : ℕ)
+    → IsOver notes h range alignment
+    → notes_told calls notes.bytes.now h range alignment notes.offset ≡ take calls (items_left notes)
 
 -- a refusal that is an answer keeps its text on its way through C
 abbrev pub KeepsText : {X : Type 0} → Result X Refusal → Type 0
@@ -63,14 +86,32 @@ pub record RefusalsKeepTheirText : Type 0 where
   pub sections : (bytes : List ℕ) (h : GoblinHeader) (first : ℕ) → KeepsText (sections_from_right bytes h first)
   pub section_names : (bytes : List ℕ) (h : GoblinHeader) → KeepsText (section_names_right bytes h)
   pub segment : (bytes : List ℕ) (h : GoblinHeader) (index : ℕ) → KeepsText (segment_right bytes h index)
-  pub symbol : (bytes : List ℕ) (h : GoblinHeader) (table : GoblinRange) (index : ℕ) → KeepsText (symbol_right bytes h table index)
-  pub symbols : (bytes : List ℕ) (h : GoblinHeader) (table : GoblinRange) (first : ℕ) → KeepsText (symbols_from_right bytes h table first)
-  pub reloc : (bytes : List ℕ) (h : GoblinHeader) (range : GoblinRange) (is_rela : Bool) (index : ℕ) → KeepsText (reloc_right bytes h range is_rela index)
-  pub relocs : (bytes : List ℕ) (h : GoblinHeader) (range : GoblinRange) (is_rela : Bool) (first : ℕ) → KeepsText (relocs_from_right bytes h range is_rela first)
-  pub string : (bytes : List ℕ) (strings : GoblinRange) (offset : ℕ) → KeepsText (string_right bytes strings offset)
-  pub note : (bytes : List ℕ) (h : GoblinHeader) (range : GoblinRange) (alignment offset : ℕ) → KeepsText (note_right bytes h range alignment offset)
-  pub section_by_name : (bytes : List ℕ) (h : GoblinHeader) (names : GoblinRange) (name : List ℕ) → KeepsText (section_by_name_right bytes h names name)
-  pub symbol_by_name : (bytes : List ℕ) (h : GoblinHeader) (table names : GoblinRange) (name : List ℕ) → KeepsText (symbol_by_name_right bytes h table names name)
+  pub symbol :
+      (bytes : List ℕ) (h : GoblinHeader) (range : GoblinRange) (index : ℕ)
+      → KeepsText (symbol_right bytes h range index)
+  pub symbols :
+      (bytes : List ℕ) (h : GoblinHeader) (range : GoblinRange) (first : ℕ)
+      → KeepsText (symbols_from_right bytes h range first)
+  pub reloc :
+      (bytes : List ℕ) (h : GoblinHeader) (range : GoblinRange) (is_rela : Bool) (index : ℕ)
+      → KeepsText (reloc_right bytes h range is_rela index)
+  pub relocs :
+      (bytes : List ℕ) (h : GoblinHeader) (range : GoblinRange) (is_rela : Bool) (first : ℕ)
+      → KeepsText (relocs_from_right bytes h range is_rela first)
+  pub string : (bytes : List ℕ) (range : GoblinRange) (offset : ℕ) → KeepsText (string_right bytes range offset)
+  pub note :
+      (bytes : List ℕ) (h : GoblinHeader) (range : GoblinRange) (alignment offset : ℕ)
+      → KeepsText (note_right bytes h range alignment offset)
+  pub section_by_name :
+      (bytes : List ℕ) (h : GoblinHeader) (names : GoblinRange) (name : List ℕ)
+      → KeepsText (section_by_name_right bytes h names name)
+  pub symbol_by_name :
+      (bytes : List ℕ) (h : GoblinHeader) (range names : GoblinRange) (name : List ℕ)
+      → KeepsText (symbol_by_name_right bytes h range names name)
+
+-- the kind of a refusal, which a call answers, is neither 0 nor 1
+abbrev pub KindsAreAnswers : Type 0
+KindsAreAnswers = (refusal : Refusal) → 2 ≤ (refusal_told refusal).kind
 
 -- a file has this header
 abbrev pub HasHeader : List ℕ → Header → Type 0
@@ -90,7 +131,8 @@ ContextIsTheHeaders =
 
 -- a call tells each item of a list at its index, and none behind them; or at each index the refusal that there is in
 -- place of a list
-abbrev pub TellsEach : {X Y : Type 0} → (X → Y) → Result (List X) Refusal → (ℕ → Result (Option Y) Refusal) → Type 0
+abbrev pub TellsEach :
+    {X Y : Type 0} → (X → Y) → Result (List X) Refusal → (ℕ → Result (Option Y) Refusal) → Type 0
 TellsEach tell (Ok items) call = (index : ℕ) → call index ≡ Ok (option_map tell (slice_get items index))
 TellsEach tell (Err refusal) call = (index : ℕ) → call index ≡ Err refusal
 
@@ -129,19 +171,86 @@ SymbolsByIndex =
 -- the relocations of a range by index are the library's list
 abbrev pub RelocsByIndex : Type 0
 RelocsByIndex =
-    (bytes : List ℕ) (h : Header) (ctx : Ctx) (range : GoblinRange) (is_rela : Bool) → HasHeader bytes h → NamesContext h ctx
+    (bytes : List ℕ) (h : Header) (ctx : Ctx) (range : GoblinRange) (is_rela : Bool)
+    → HasHeader bytes h → NamesContext h ctx
     → let relocs = refuse_as refusal_of (relocs_of bytes range.offset range.size is_rela ctx (is_of_mips64el h)) in
     TellsEach reloc_told relocs (reloc_right bytes (header_told h) range is_rela)
 
 -- the items that are given from an index on are those that a call tells there one by one, and none behind them; or the
 -- call tells none there, or the same refusal
-abbrev pub GivenFrom : {Y : Type 0} → ℕ → (ℕ → Result (Option Y) Refusal) → Result (Option (List Y)) Refusal → Type 0
+abbrev pub GivenFrom :
+    {Y : Type 0} → ℕ → (ℕ → Result (Option Y) Refusal) → Result (Option (List Y)) Refusal → Type 0
 GivenFrom first call (Ok (Some items)) = (k : ℕ) → call (first + k) ≡ Ok (slice_get items k)
 GivenFrom first call (Ok None) = (k : ℕ) → call (first + k) ≡ Ok None
 GivenFrom first call (Err refusal) = (k : ℕ) → call (first + k) ≡ Err refusal
 
 -- the calls that fill room give from each index on what the calls by index tell
 pub record FilledByIndex : Type 0 where
-  pub sections : (bytes : List ℕ) (h : GoblinHeader) (first : ℕ) → GivenFrom first (section_right bytes h) (sections_from_right bytes h first)
-  pub symbols : (bytes : List ℕ) (h : GoblinHeader) (table : GoblinRange) (first : ℕ) → GivenFrom first (symbol_right bytes h table) (symbols_from_right bytes h table first)
-  pub relocs : (bytes : List ℕ) (h : GoblinHeader) (range : GoblinRange) (is_rela : Bool) (first : ℕ) → GivenFrom first (reloc_right bytes h range is_rela) (relocs_from_right bytes h range is_rela first)
+  pub sections :
+      (bytes : List ℕ) (h : GoblinHeader) (first : ℕ)
+      → GivenFrom first (section_right bytes h) (sections_from_right bytes h first)
+  pub symbols :
+      (bytes : List ℕ) (h : GoblinHeader) (range : GoblinRange) (first : ℕ)
+      → GivenFrom first (symbol_right bytes h range) (symbols_from_right bytes h range first)
+  pub relocs :
+      (bytes : List ℕ) (h : GoblinHeader) (range : GoblinRange) (is_rela : Bool) (first : ℕ)
+      → GivenFrom first (reloc_right bytes h range is_rela) (relocs_from_right bytes h range is_rela first)
+
+-- room is as long as it was: it holds these items as far as both go, and from there on what it held
+abbrev pub IsFilled : {X : Type 0} → List X → List X → List X → Type 0
+IsFilled items old new =
+    let filled = min (length items) (length old) in
+    (length new ≡ length old)
+    × ((k : ℕ) → k < filled → slice_get new k ≡ slice_get items k)
+    × ((k : ℕ) → filled ≤ k → slice_get new k ≡ slice_get old k)
+
+-- so is the room that calls fill with bytes, sections, symbols and relocations
+pub record RoomIsFilled : Type 0 where
+  pub bytes : (text old : List ℕ) → IsFilled text old (cut text old)
+  pub sections : (sections old : List GoblinSection) → IsFilled sections old (cut sections old)
+  pub symbols : (symbols old : List GoblinSymbol) → IsFilled symbols old (cut symbols old)
+  pub relocs : (relocs old : List GoblinReloc) → IsFilled relocs old (cut relocs old)
+
+-- the bytes at the place that a call tells of a string are the string that the library reads among the strings there
+abbrev pub StringsAreThere : Type 0
+StringsAreThere =
+    (bytes : List ℕ) (range : GoblinRange) (offset : ℕ) (told : GoblinRange)
+    → string_right bytes range offset ≡ Ok (Some told)
+    → (strings_right bytes range >>= λ strings. plain strings 0 offset) ≡ Ok (bytes_in bytes told)
+
+-- the section that holds the sections' names is that with the index in the header; where this is 0xffff it is that with
+-- the index that the first section links to
+abbrev pub NamesByIndex : Type 0
+NamesByIndex =
+    (bytes : List ℕ) (h : GoblinHeader)
+    → (h.e_shstrndx ≢ 0xffff → section_names_right bytes h ≡ section_right bytes h h.e_shstrndx)
+    × ((first : GoblinSection) → h.e_shstrndx ≡ 0xffff → section_right bytes h 0 ≡ Ok (Some first)
+    → section_names_right bytes h ≡ section_right bytes h first.sh_link)
+
+-- a call tells of a string at an offset, and its bytes are this name
+abbrev pub IsNameAt : List ℕ → GoblinRange → ℕ → List ℕ → Type 0
+IsNameAt bytes names offset name =
+    (told : GoblinRange) × (string_right bytes names offset ≡ Ok (Some told)) × (bytes_in bytes told ≡ name)
+
+-- an answer is the index of the first item that a call by index tells and that has the name; past the last one no item
+-- has it
+abbrev pub FindsFirst :
+    {Y : Type 0} → (ℕ → Result (Option Y) Refusal) → (Y → Type 0) → Result (Option ℕ) Refusal → Type 0
+FindsFirst {Y} call HasTheName (Ok (Some index)) =
+    ((item : Y) × (call index ≡ Ok (Some item)) × HasTheName item)
+    × ((k : ℕ) (item : Y) → k < index → call k ≡ Ok (Some item) → ¬ HasTheName item)
+FindsFirst {Y} call HasTheName (Ok None) = (k : ℕ) (item : Y) → call k ≡ Ok (Some item) → ¬ HasTheName item
+FindsFirst {Y} call HasTheName (Err refusal) = ⊤
+
+-- what is found by a name is the first section, and the first symbol, whose name the calls tell so
+abbrev pub SectionsByName : Type 0
+SectionsByName =
+    (bytes : List ℕ) (h : GoblinHeader) (names : GoblinRange) (name : List ℕ)
+    → FindsFirst (section_right bytes h) (λ section. IsNameAt bytes names section.sh_name name)
+    (section_by_name_right bytes h names name)
+
+abbrev pub SymbolsByName : Type 0
+SymbolsByName =
+    (bytes : List ℕ) (h : GoblinHeader) (range names : GoblinRange) (name : List ℕ)
+    → FindsFirst (symbol_right bytes h range) (λ symbol. IsNameAt bytes names symbol.st_name name)
+    (symbol_by_name_right bytes h range names name)

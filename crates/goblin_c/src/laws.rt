@@ -1,17 +1,24 @@
 //! Laws of the calls: what they tell one by one is what the library has at once.
-ghost use Rattle.goblin_c.specs.Laws.{NotesAreItems, RefusalsKeepTheirText, ContextIsTheHeaders, SectionsByIndex, SegmentsByIndex, SymbolsByIndex, RelocsByIndex, FilledByIndex};
+ghost use Rattle.goblin_c.specs.Laws.{NotesAreItems, NotesInARow, RefusalsKeepTheirText, ContextIsTheHeaders, SectionsByIndex, SegmentsByIndex, SymbolsByIndex, RelocsByIndex, FilledByIndex, RoomIsFilled, NamesByIndex, StringsAreThere, SectionsByName, SymbolsByName, KindsAreAnswers};
 
-/// Law: who calls `goblin_note` at a range's start and then at each `next` gets the notes that the
-/// library's iterator over the range gives, and no other, up to the first refusal. The bytes at the
-/// places told are the note's name and descriptor.
+/// Laws: who calls `goblin_note` at a range's start and then at each `next` gets the notes that the
+/// library's iterator over the range gives, in its order and no other, up to the end or the first
+/// refusal. The bytes at the places told are the note's name and descriptor.
 pub fn notes()
-    ensures { NotesAreItems }
+    ensures first { NotesAreItems }
+    ensures row { NotesInARow }
 {}
 
 /// Law: for each refusal that a call leaves, `goblin_refusal_text` writes the text that the library's
 /// own error prints.
 pub fn texts()
     ensures { RefusalsKeepTheirText }
+{}
+
+/// Law: what a call answers tells an item from the end and from a refusal: the kind of a refusal is
+/// neither 0 nor 1.
+pub fn kinds()
+    ensures { KindsAreAnswers }
 {}
 
 /// Law: the header that `goblin_header` leaves, handed back to any other call, has the class and the
@@ -30,8 +37,28 @@ pub fn indices()
     ensures relocs { RelocsByIndex }
 {}
 
-/// Law: `goblin_sections`, `goblin_symbols` and `goblin_relocs` fill in from each index on what the
-/// calls for one item tell there, one after another.
+/// Law: `goblin_section_names` tells what `goblin_section` tells at the index in the header, or where
+/// that is 0xffff at the index that the first section links to.
+pub fn names()
+    ensures { NamesByIndex }
+{}
+
+/// Laws: `goblin_sections`, `goblin_symbols` and `goblin_relocs` give from each index on what the calls
+/// for one item tell there, one after another. As many as there is room for stand in the room, and
+/// behind them it holds what it held; so it is with each text.
 pub fn rooms()
-    ensures { FilledByIndex }
+    ensures items { FilledByIndex }
+    ensures held { RoomIsFilled }
+{}
+
+/// Law: the bytes at the place that `goblin_string` tells are the string that the library reads there.
+pub fn strings()
+    ensures { StringsAreThere }
+{}
+
+/// Laws: `goblin_section_by_name` and `goblin_symbol_by_name` tell the index of the first item whose
+/// string, as `goblin_string` tells it, has the bytes of the name, and the end where none has.
+pub fn searches()
+    ensures sections { SectionsByName }
+    ensures symbols { SymbolsByName }
 {}

@@ -1,5 +1,8 @@
-use Rattle.goblin_c.proofs.NoteLaws.{notes_are_items}
+use Rattle.goblin_c.proofs.NoteLaws.{notes_are_items, notes_in_a_row}
 use Rattle.goblin_c.proofs.laws.notes.Goals as goal
 
-pub returns : goal.returns
-returns c = notes_are_items
+pub returns-clause-first : goal.returns-clause-first
+returns-clause-first c = notes_are_items
+
+pub returns-clause-row : goal.returns-clause-row
+returns-clause-row c = notes_in_a_row

@@ -1,0 +1,5 @@
+use Rattle.goblin_c.proofs.IndexLemmas.{names_by_index}
+use Rattle.goblin_c.proofs.laws.names.Goals as goal
+
+pub returns : goal.returns
+returns c = names_by_index
