@@ -2,8 +2,7 @@
 ghost use Rattle.std.specs.Prelude.{◌≡◌};
 ghost use Rattle.goblin.specs.Refusal.{Answers};
 ghost use Rattle.goblin.specs.SectionHeaders.{count_told, section_headers_from};
-ghost use Rattle.goblin_c.specs.Answers.{ctx_of, header_right, header_told, section_count_right, section_right};
-ghost use Rattle.goblin_c.specs.Answers.{names_index, section_names_right, section_told, sections_right, segment_right, segment_told, segments_right};
+ghost use Rattle.goblin_c.specs.Answers.{ctx_of, header_right, header_told, section_count_right, section_right, names_index, section_names_right, section_told, sections_right, segment_right, segment_told, segments_right};
 
 use crate::table::table_of;
 use crate::types::{GoblinHeader, GoblinRange, GoblinSection, GoblinSegment};

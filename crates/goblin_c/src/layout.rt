@@ -1,7 +1,6 @@
 //! One of each struct that crosses, with numbers from which C can tell each field.
 ghost use Rattle.std.specs.Prelude.{◌≡◌, ◌<◌, ◌^◌};
-ghost use Rattle.goblin_c.specs.Layout.{each_byte, layout, header_marked, note_marked, range_marked, refusal_marked};
-ghost use Rattle.goblin_c.specs.Layout.{reloc_marked, section_marked, segment_marked, symbol_marked};
+ghost use Rattle.goblin_c.specs.Layout.{each_byte, layout, header_marked, note_marked, range_marked, refusal_marked, reloc_marked, section_marked, segment_marked, symbol_marked};
 
 use crate::types::{
     GoblinHeader, GoblinNote, GoblinRange, GoblinRefusal, GoblinReloc, GoblinSection,

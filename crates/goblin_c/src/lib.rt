@@ -3,10 +3,7 @@
 #![tactic(auto)]
 
 ghost use Rattle.std.specs.Prelude.{◌≡◌, length};
-ghost use Rattle.goblin_c.specs.Answers.{header_right, reloc_right, section_count_right, section_right};
-ghost use Rattle.goblin_c.specs.Answers.{segment_right, string_right, symbol_right};
-ghost use Rattle.goblin_c.specs.Answers.{relocs_from_right, sections_from_right, symbols_from_right};
-ghost use Rattle.goblin_c.specs.Answers.{section_by_name_right, section_names_right, symbol_by_name_right};
+ghost use Rattle.goblin_c.specs.Answers.{header_right, reloc_right, section_count_right, section_right, segment_right, string_right, symbol_right, relocs_from_right, sections_from_right, symbols_from_right, section_by_name_right, section_names_right, symbol_by_name_right};
 ghost use Rattle.goblin_c.specs.Cut.{cut};
 ghost use Rattle.goblin_c.specs.Layout.{layout};
 ghost use Rattle.goblin_c.specs.Notes.{note_right};

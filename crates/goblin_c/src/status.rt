@@ -1,8 +1,7 @@
 //! What calls answer, and what they tell of a refusal.
 ghost use Rattle.std.specs.Prelude.{◌≡◌};
 ghost use Rattle.goblin.specs.Refusal.{refusal_of};
-ghost use Rattle.goblin_c.specs.Status.{fault_told, item_number, number_of_bool, refusal_told, with_item, with_numbers};
-ghost use Rattle.goblin_c.specs.Status.{TellsOf};
+ghost use Rattle.goblin_c.specs.Status.{fault_told, item_number, number_of_bool, refusal_told, with_item, with_numbers, TellsOf};
 
 use crate::types::GoblinRefusal;
 use goblin::error::{Error, Fault, Result};

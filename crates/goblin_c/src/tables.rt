@@ -2,9 +2,7 @@
 ghost use Rattle.std.specs.Prelude.{◌≡◌, ◌+◌, ◌≤◌, IfOk, length, position};
 ghost use Rattle.goblin.specs.Strtab.{has_name};
 ghost use Rattle.goblin.specs.Refusal.{Answers};
-ghost use Rattle.goblin_c.specs.Answers.{is_mips64el, reloc_right, reloc_told, relocs_right};
-ghost use Rattle.goblin_c.specs.Answers.{section_by_name_right, string_right, strings_right, symbol_by_name_right, symbol_right};
-ghost use Rattle.goblin_c.specs.Answers.{is_named, symbol_told, symbols_right};
+ghost use Rattle.goblin_c.specs.Answers.{is_mips64el, reloc_right, reloc_told, relocs_right, section_by_name_right, string_right, strings_right, symbol_by_name_right, symbol_right, is_named, symbol_told, symbols_right};
 
 use crate::headers::{ctx_of, sections_of};
 use crate::types::{GoblinHeader, GoblinRange, GoblinReloc, GoblinSymbol};

@@ -3,9 +3,7 @@ ghost use Rattle.std.specs.Prelude.{◌≡◌, ◌+◌, ◌≤◌, ◌<◌, ◌^
 ghost use Rattle.std.specs.Fmt.{digit_glyph, digits};
 ghost use Rattle.goblin_base.specs.Texts.{word_of};
 ghost use Rattle.goblin_c.specs.Cut.{cut};
-ghost use Rattle.goblin_c.specs.Texts.{are_short, is_short, item_text, joined, piece_text, told_text};
-ghost use Rattle.goblin_c.specs.Texts.{fault_from, range_fault_from, table_fault_from, text_of_fault};
-ghost use Rattle.goblin_c.specs.Texts.{TextIsKept};
+ghost use Rattle.goblin_c.specs.Texts.{are_short, is_short, item_text, joined, piece_text, told_text, fault_from, range_fault_from, table_fault_from, text_of_fault, TextIsKept};
 
 use crate::names::write_bytes;
 use crate::types::GoblinRefusal;
