@@ -1,5 +1,5 @@
 -- Values that steps answer.
-use Rattle.std.proofs.Common.{◌≡◌, ℕ, Bool, true, false, if◌then◌else◌, List, Result, Ok, Err, refl}
+use Rattle.std.proofs.Common.{◌≡◌, ℕ, Bool, true, false, if◌then◌else◌, List, Some, None, Result, Ok, Err, refl}
 use Rattle.goblin_base.specs.Refusal.{Refusal}
 use Rattle.goblin_base.specs.Steps.{◌>>=◌, refuse_as}
 
@@ -20,3 +20,9 @@ same x y is = cc
 pub taken_text : (test : Bool) (part text : List ℕ) (e : Refusal) → (if test then Ok part else Err e) ≡ Ok text → text ≡ part
 taken_text true part text e is = same part text is
 taken_text false part text e is = absurd (cc)
+
+-- an item that is told was read, and what is told of it is this
+pub one_told : {X Y : Type 0} (past : Bool) (answer : Result X Refusal) (tell : X → Y) (told : Y) → (if past then Ok None else (answer >>= λ x. Ok (Some (tell x)))) ≡ Ok (Some told) → (x : X) × (past ≡ false) × (answer ≡ Ok x) × (told ≡ tell x)
+one_told true answer tell told is = absurd (cc)
+one_told false (Ok x) tell told is = (x, refl, refl, cc)
+one_told false (Err e) tell told is = absurd (cc)

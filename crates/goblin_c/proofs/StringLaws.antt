@@ -2,7 +2,7 @@
 use Rattle.std.proofs.Common.{◌≡◌, ◌+◌, ◌-◌, ◌<◌, ◌≤◌, ◌==◌, ℕ, Bool, true, false, true≢false, cond, nat_le, nat_lt, if◌then◌else◌, List, [], ◌∷◌, length, take, drop, min, get_or, position, slice_get, Option, Some, None, Result, Ok, Err, refl, sym, ap, subst, ◌∙◌, arith}
 use Rattle.std.proofs.lemmas.Bool.{and_from, and_parts}
 use Rattle.std.proofs.lemmas.Bool.Decides.{nat_tests}
-use Rattle.std.proofs.lemmas.List.{drop-take, length-take, take_min}
+use Rattle.std.proofs.lemmas.List.{drop-take, length-drop, length-take, take_min}
 use Rattle.std.proofs.lemmas.List.Quantifiers.{position-Some}
 use Rattle.std.proofs.lemmas.List.Sums.{fails_before_first}
 use Rattle.std.proofs.lemmas.Option.{get_or_from_slice_get, slice_get-get_or, slice_get_within}
@@ -21,8 +21,8 @@ use Rattle.goblin_base.specs.Strtab.{has_name, is_text_of, plain, range_in}
 use Rattle.goblin_base.specs.Utf8.{invalid_utf8}
 use Rattle.goblin_c.specs.declared.types.GoblinRange.{GoblinRange}
 use Rattle.goblin_c.specs.Answers.{is_named, section_told, sections_right, string_right, strings_right, symbol_told, symbols_right}
-use Rattle.goblin_c.specs.Laws.{FindsFirst, IsNameAt, SectionsByName, StringsAreThere, SymbolsByName, bytes_in}
-use Rattle.goblin_c.proofs.StepLemmas.{same, taken_text, within}
+use Rattle.goblin_c.specs.Laws.{FindsFirst, IsNameAt, LiesIn, SectionsByName, StringsAreThere, StringsLieInFile, SymbolsByName, bytes_in}
+use Rattle.goblin_c.proofs.StepLemmas.{one_told, same, taken_text, within}
 
 -- the strings of a range are its bytes
 chosen : (past over : Bool) (a b : Fault) (part found : List ℕ) → (if past then Err a else if over then Err b else Ok part) ≡ Ok found → found ≡ part
@@ -73,12 +73,6 @@ text_there bytes range offset strings text found before is =
     let of_range = strings_are bytes range strings found in
     let same_text : text ≡ piece (bytes_in bytes range) 0 offset = plain_is strings offset text is ∙ ap (λ xs. piece xs 0 offset) of_range in
     rw same_text (piece_there bytes range offset (subst (λ (xs : List ℕ). offset < length xs) of_range before))
-
--- the steps of telling a string
-one_told : (past : Bool) (answer : Result (List ℕ) Refusal) (place : List ℕ → GoblinRange) (told : GoblinRange) → (if past then Ok None else (answer >>= λ text. Ok (Some (place text)))) ≡ Ok (Some told) → (text : List ℕ) × (past ≡ false) × (answer ≡ Ok text) × (told ≡ place text)
-one_told true answer place told is = absurd (cc)
-one_told false (Ok text) place told is = (text, refl, refl, cc)
-one_told false (Err e) place told is = absurd (cc)
 
 -- a string that is told was read among the strings of the range, and lies at its place
 told_is : (bytes : List ℕ) (range : GoblinRange) (offset : ℕ) (strings : List ℕ) (told : GoblinRange) → strings_right bytes range ≡ Ok strings → string_right bytes range offset ≡ Ok (Some told) → (text : List ℕ) × (offset < length strings) × (plain strings 0 offset ≡ Ok text) × (bytes_in bytes told ≡ text)
@@ -195,3 +189,35 @@ pub symbols_by_name : SymbolsByName
 symbols_by_name bytes h range names name =
     by_name symbol_told (λ symbol. IsNameAt bytes names symbol.st_name name) (λ strings symbol. is_named strings name symbol.st_name) (symbols_right bytes h range) (strings_right bytes names)
     (λ strings found symbol. named-Decides bytes names name strings symbol.st_name found)
+
+-- a range of strings lies in the file
+none_over : (past over : Bool) (a b : Fault) (part found : List ℕ) → (if past then Err a else if over then Err b else Ok part) ≡ Ok found → over ≡ false
+none_over true over a b part found is = absurd (cc)
+none_over false true a b part found is = absurd (cc)
+none_over false false a b part found is = refl
+
+range_fits : (bytes : List ℕ) (offset size : ℕ) (found : List ℕ) → range_in Strict bytes offset size ≡ Ok found → offset + size ≤ length bytes
+unfolding range_in
+range_fits bytes offset size found is =
+    let test = none_over (nat_lt (length bytes) offset) (nat_lt (length bytes) (offset + size)) _ _ (take size (drop offset bytes)) found is in
+    grind (arith, nat_tests)
+
+-- a piece is no longer than the strings from its offset on
+piece_short : (strings : List ℕ) (offset : ℕ) → length (piece strings 0 offset) ≤ length strings - offset
+unfolding piece
+piece_short strings offset =
+    let rest = drop offset strings in
+    omega (arith, length-drop offset strings, length-take (position_or_len (λ b. b == 0) rest) rest)
+
+fits : (bytes : List ℕ) (range : GoblinRange) (offset : ℕ) (told : GoblinRange) (answer : Result (List ℕ) Refusal) → strings_right bytes range ≡ answer → string_right bytes range offset ≡ Ok (Some told) → LiesIn bytes told
+fits bytes range offset told (Ok strings) found is =
+    let steps = one_told (nat_le (length strings) offset) (plain strings 0 offset) (place_of range offset) told (rw found at is) in
+    let before : offset < length strings = (let test = steps.1 in grind (arith, nat_tests)) in
+    let text = ap length (plain_is strings offset steps.0 steps.2) in
+    let all = range_fits bytes range.offset range.size strings (within malformed (range_in Strict bytes range.offset range.size) strings found) in
+    let many = ap length (strings_are bytes range strings found) ∙ length-take range.size (drop range.offset bytes) in
+    subst (LiesIn bytes) (sym steps.3) (omega (arith, before, text, all, many, piece_short strings offset))
+fits bytes range offset told (Err e) found is = let refused = rw found at is in absurd (cc)
+
+pub strings_lie_in_file : StringsLieInFile
+strings_lie_in_file bytes range offset told is = fits bytes range offset told (strings_right bytes range) refl is

@@ -10,6 +10,7 @@ use Rattle.goblin_base.specs.Texts.{refusal_text}
 use Rattle.goblin.specs.declared.elf.header.Header.{Header}
 use Rattle.goblin.specs.declared.elf.note.NoteDataIterator.{NoteDataIterator}
 use Rattle.goblin.specs.Header.{class_of, order_of}
+use Rattle.goblin.specs.Nhdr.{nhdr32_size}
 use Rattle.goblin.specs.Note.{NoteParts}
 use Rattle.goblin.specs.Notes.{items_left}
 use Rattle.goblin.specs.ProgramHeaders.{program_headers_from}
@@ -72,6 +73,18 @@ NotesInARow =
     (calls : ℕ) (notes : NoteDataIterator) (h : GoblinHeader) (range : GoblinRange) (alignment : ℕ)
     → IsOver notes h range alignment
     → notes_told calls notes.bytes.now h range alignment notes.offset ≡ take calls (items_left notes)
+
+-- a range lies in a file
+abbrev pub LiesIn : List ℕ → GoblinRange → Type 0
+LiesIn bytes range = range.offset + range.size ≤ length bytes
+
+-- the name and the descriptor of a note that a call tells lie in the file, and the next offset is behind the header of
+-- this note
+abbrev pub NotesLieInFile : Type 0
+NotesLieInFile =
+    (bytes : List ℕ) (h : GoblinHeader) (range : GoblinRange) (alignment offset : ℕ) (told : GoblinNote)
+    → note_right bytes h range alignment offset ≡ Ok (Some told)
+    → LiesIn bytes told.name × LiesIn bytes told.desc × (offset + nhdr32_size ≤ told.next)
 
 -- a refusal that is an answer keeps its text on its way through C
 abbrev pub KeepsText : {X : Type 0} → Result X Refusal → Type 0
@@ -217,6 +230,12 @@ StringsAreThere =
     (bytes : List ℕ) (range : GoblinRange) (offset : ℕ) (told : GoblinRange)
     → string_right bytes range offset ≡ Ok (Some told)
     → (strings_right bytes range >>= λ strings. plain strings 0 offset) ≡ Ok (bytes_in bytes told)
+
+-- the place that a call tells of a string lies in the file
+abbrev pub StringsLieInFile : Type 0
+StringsLieInFile =
+    (bytes : List ℕ) (range : GoblinRange) (offset : ℕ) (told : GoblinRange)
+    → string_right bytes range offset ≡ Ok (Some told) → LiesIn bytes told
 
 -- the section that holds the sections' names is that with the index in the header; where this is 0xffff it is that with
 -- the index that the first section links to

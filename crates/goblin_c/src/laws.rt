@@ -1,12 +1,14 @@
 //! Laws of the calls: what they tell one by one is what the library has at once.
-ghost use Rattle.goblin_c.specs.Laws.{NotesAreItems, NotesInARow, RefusalsKeepTheirText, ContextIsTheHeaders, SectionsByIndex, SegmentsByIndex, SymbolsByIndex, RelocsByIndex, FilledByIndex, RoomIsFilled, NamesByIndex, StringsAreThere, SectionsByName, SymbolsByName, KindsAreAnswers};
+ghost use Rattle.goblin_c.specs.Laws.{NotesAreItems, NotesInARow, NotesLieInFile, RefusalsKeepTheirText, ContextIsTheHeaders, SectionsByIndex, SegmentsByIndex, SymbolsByIndex, RelocsByIndex, FilledByIndex, RoomIsFilled, NamesByIndex, StringsAreThere, StringsLieInFile, SectionsByName, SymbolsByName, KindsAreAnswers};
 
 /// Laws: who calls `goblin_note` at a range's start and then at each `next` gets the notes that the
 /// library's iterator over the range gives, in its order and no other, up to the end or the first
-/// refusal. The bytes at the places told are the note's name and descriptor.
+/// refusal. The bytes at the places told are the note's name and descriptor, and lie in the file, and
+/// `next` is behind the note's header.
 pub fn notes()
     ensures first { NotesAreItems }
     ensures row { NotesInARow }
+    ensures within { NotesLieInFile }
 {}
 
 /// Law: for each refusal that a call leaves, `goblin_refusal_text` writes the text that the library's
@@ -51,9 +53,11 @@ pub fn rooms()
     ensures held { RoomIsFilled }
 {}
 
-/// Law: the bytes at the place that `goblin_string` tells are the string that the library reads there.
+/// Laws: the bytes at the place that `goblin_string` tells are the string that the library reads there,
+/// and lie in the file.
 pub fn strings()
-    ensures { StringsAreThere }
+    ensures there { StringsAreThere }
+    ensures within { StringsLieInFile }
 {}
 
 /// Laws: `goblin_section_by_name` and `goblin_symbol_by_name` tell the index of the first item whose
