@@ -1,7 +1,8 @@
 -- Items by index are those of the library's lists, in the context that a file's header names.
-use Rattle.std.proofs.Common.{◌≡◌, ◌+◌, ◌≤◌, ◌==◌, ℕ, zero, suc, Bool, true, false, nat_le, if◌then◌else◌, List, [], ◌∷◌, length, drop, map, slice_get, slice_index, Option, Some, None, Result, Ok, Err, refl, sym, ap, subst, ◌∙◌, arith}
-use Rattle.std.proofs.lemmas.Bool.{leb-true}
+use Rattle.std.proofs.Common.{◌≡◌, ◌+◌, ◌-◌, ◌<◌, ◌≤◌, ◌==◌, ℕ, zero, suc, Bool, true, false, nat_le, if◌then◌else◌, List, [], ◌∷◌, length, drop, map, slice_get, slice_index, Option, Some, None, Result, Ok, Err, refl, sym, ap, subst, ◌∙◌, arith}
+use Rattle.std.proofs.lemmas.Bool.{leb-false, leb-true}
 use Rattle.std.proofs.lemmas.Bool.Decides.{nat_tests}
+use Rattle.std.proofs.lemmas.List.{length-drop, length-map}
 use Rattle.std.proofs.lemmas.Option.{slice_get-map, slice_get_past}
 use Rattle.std.specs.Option.{option_map}
 use Rattle.goblin_base.specs.declared.container.Container.{Container}
@@ -106,11 +107,14 @@ given tell items first true is =
     let there : length items ≤ first = leb-true (length items) first is in
     λ k. ap (λ found. Ok (option_map tell found)) (slice_get_past items (first + k) (omega arith))
 given tell items first false is =
-    λ k. ap Ok (ap (option_map tell) (behind items first k) ∙ sym (slice_get-map tell (drop first items) k))
+    let rest = drop first items in
+    let some : first < length items = leb-false (length items) first is in
+    let long : length (map tell rest) ≡ length items - first = length-map rest tell ∙ length-drop first items in
+    (omega arith, λ k. ap Ok (ap (option_map tell) (behind items first k) ∙ sym (slice_get-map tell rest k)))
 
 from : {X Y : Type 0} (tell : X → Y) (all : Result (List X) Refusal) (first : ℕ) → GivenFrom {Y = Y} first (λ index. all >>= λ items. Ok (option_map tell (slice_get items index))) (all >>= λ items. Ok (told_from tell first items))
 from tell (Ok items) first = given tell items first (nat_le (length items) first) refl
-from tell (Err refusal) first = λ k. refl
+from tell (Err refusal) first = λ index. refl
 
 pub filled_by_index : FilledByIndex
 filled_by_index = record {

@@ -1,5 +1,5 @@
 -- Strings at the places told, and what is found by its name.
-use Rattle.std.proofs.Common.{◌≡◌, ◌+◌, ◌-◌, ◌<◌, ◌≤◌, ◌==◌, ℕ, Bool, true, false, true≢false, cond, nat_le, nat_lt, if◌then◌else◌, List, [], ◌∷◌, length, take, drop, min, get_or, position, slice_get, Option, Some, None, Result, Ok, Err, refl, sym, ap, subst, ◌∙◌, arith}
+use Rattle.std.proofs.Common.{◌≡◌, ◌+◌, ◌-◌, ◌<◌, ◌≤◌, ◌==◌, ℕ, Bool, true, false, true≢false, cond, nat_le, nat_lt, if◌then◌else◌, List, [], ◌∷◌, length, take, drop, min, get_or, position, slice_get, Option, Some, None, Result, Ok, Err, inl, inr, refl, sym, ap, subst, ◌∙◌, arith}
 use Rattle.std.proofs.lemmas.Bool.{and_from, and_parts}
 use Rattle.std.proofs.lemmas.Bool.Decides.{nat_tests}
 use Rattle.std.proofs.lemmas.List.{drop-take, length-drop, length-take, take_min}
@@ -21,7 +21,7 @@ use Rattle.goblin_base.specs.Strtab.{has_name, is_text_of, plain, range_in}
 use Rattle.goblin_base.specs.Utf8.{invalid_utf8}
 use Rattle.goblin_c.specs.declared.types.GoblinRange.{GoblinRange}
 use Rattle.goblin_c.specs.Answers.{is_named, section_told, sections_right, string_right, strings_right, symbol_told, symbols_right}
-use Rattle.goblin_c.specs.Laws.{FindsFirst, IsNameAt, LiesIn, SectionsByName, StringsAreThere, StringsLieInFile, SymbolsByName, bytes_in}
+use Rattle.goblin_c.specs.Laws.{FindsFirst, IsNameAt, LiesIn, RefusesAll, SectionsByName, StringsAreThere, StringsLieInFile, SymbolsByName, bytes_in}
 use Rattle.goblin_c.proofs.StepLemmas.{one_told, same, taken_text, within}
 
 -- the strings of a range are its bytes
@@ -159,14 +159,14 @@ told_one : {X Y : Type 0} (tell : X → Y) (found : Option X) (y : Y) → ◌≡
 told_one tell (Some x) y is = (x, refl, cc)
 told_one tell None y is = absurd (cc)
 
-module _ {X Y : Type 0} (tell : X → Y) (HasTheName : Y → Type 0) where
+module _ {X Y : Type 0} (tell : X → Y) (names : ℕ → Result (Option GoblinRange) Refusal) (HasTheName : Y → Type 0) where
   -- an item that fails the test has not the name
   unnamed : (test : X → Bool) (items : List X) (k : ℕ) (y : Y) → ((x : X) → Decides (test x) (HasTheName (tell x))) → ((x : X) → slice_get items k ≡ Some x → test x ≡ false) → ◌≡◌ {A = Result (Option Y) Refusal} (Ok (option_map tell (slice_get items k))) (Ok (Some y)) → ¬ (HasTheName y)
   unnamed test items k y decides fails is named =
       let one = told_one tell (slice_get items k) y is in
       true≢false (sym ((decides one.0).1 (subst HasTheName one.2 named)) ∙ fails one.0 one.1)
 
-  finds : (test : X → Bool) (items : List X) → ((x : X) → Decides (test x) (HasTheName (tell x))) → (found : Option ℕ) → position test items ≡ found → FindsFirst (λ index. Ok (option_map tell (slice_get items index))) HasTheName (Ok found)
+  finds : (test : X → Bool) (items : List X) → ((x : X) → Decides (test x) (HasTheName (tell x))) → (found : Option ℕ) → position test items ≡ found → FindsFirst (λ index. Ok (option_map tell (slice_get items index))) names HasTheName (Ok found)
   finds test items decides (Some i) is =
       let one = first_passes test items i is in (
         (tell one.0, ap (λ (x : Option X). Ok (option_map tell x)) one.1, (decides one.0).0 one.2),
@@ -175,20 +175,24 @@ module _ {X Y : Type 0} (tell : X → Y) (HasTheName : Y → Type 0) where
   finds test items decides None is =
       λ k y told. unnamed test items k y decides (λ x found. all_fail test items k x is found) told
 
-  by_name : (test : List ℕ → X → Bool) (all : Result (List X) Refusal) (strings : Result (List ℕ) Refusal) → ((given : List ℕ) → strings ≡ Ok given → (x : X) → Decides (test given x) (HasTheName (tell x))) → FindsFirst (λ index. all >>= λ items. Ok (option_map tell (slice_get items index))) HasTheName (all >>= λ items. strings >>= λ given. Ok (position (test given) items))
-  by_name test (Ok items) (Ok given) decides = finds (test given) items (decides given refl) (position (test given) items) refl
-  by_name test (Ok items) (Err e) decides = tt
-  by_name test (Err e) strings decides = tt
+  by_name : (test : List ℕ → X → Bool) (all : Result (List X) Refusal) (strings : Result (List ℕ) Refusal) → ((given : List ℕ) → strings ≡ Ok given → (x : X) → Decides (test given x) (HasTheName (tell x))) → ((e : Refusal) → strings ≡ Err e → RefusesAll names e) → FindsFirst (λ index. all >>= λ items. Ok (option_map tell (slice_get items index))) names HasTheName (all >>= λ items. strings >>= λ given. Ok (position (test given) items))
+  by_name test (Ok items) (Ok given) decides refuses = finds (test given) items (decides given refl) (position (test given) items) refl
+  by_name test (Ok items) (Err e) decides refuses = inr (refuses e refl)
+  by_name test (Err e) strings decides refuses = inl (λ index. refl)
+
+-- without the strings of a range none of them is told
+no_strings : (bytes : List ℕ) (range : GoblinRange) (e : Refusal) → strings_right bytes range ≡ Err e → RefusesAll (string_right bytes range) e
+no_strings bytes range e refused offset = rw refused refl
 
 pub sections_by_name : SectionsByName
 sections_by_name bytes h names name =
-    by_name section_told (λ section. IsNameAt bytes names section.sh_name name) (λ strings section. is_named strings name section.sh_name) (sections_right bytes h) (strings_right bytes names)
-    (λ strings found section. named-Decides bytes names name strings section.sh_name found)
+    by_name section_told (string_right bytes names) (λ section. IsNameAt bytes names section.sh_name name) (λ strings section. is_named strings name section.sh_name) (sections_right bytes h) (strings_right bytes names)
+    (λ strings found section. named-Decides bytes names name strings section.sh_name found) (no_strings bytes names)
 
 pub symbols_by_name : SymbolsByName
 symbols_by_name bytes h range names name =
-    by_name symbol_told (λ symbol. IsNameAt bytes names symbol.st_name name) (λ strings symbol. is_named strings name symbol.st_name) (symbols_right bytes h range) (strings_right bytes names)
-    (λ strings found symbol. named-Decides bytes names name strings symbol.st_name found)
+    by_name symbol_told (string_right bytes names) (λ symbol. IsNameAt bytes names symbol.st_name name) (λ strings symbol. is_named strings name symbol.st_name) (symbols_right bytes h range) (strings_right bytes names)
+    (λ strings found symbol. named-Decides bytes names name strings symbol.st_name found) (no_strings bytes names)
 
 -- a range of strings lies in the file
 none_over : (past over : Bool) (a b : Fault) (part found : List ℕ) → (if past then Err a else if over then Err b else Ok part) ≡ Ok found → over ≡ false

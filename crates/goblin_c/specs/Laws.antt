@@ -1,5 +1,5 @@
 -- Laws of the calls: what they tell one by one is what the library has at once, and no refusal loses its text.
-use Rattle.std.specs.Prelude.{◌≡◌, ◌≢◌, ◌+◌, ◌/◌, ◌<◌, ◌≤◌, ⊤, ℕ, zero, suc, min, Bool, List, [], ◌∷◌, length, take, drop, slice_get, Option, Some, None, Result, Ok, Err}
+use Rattle.std.specs.Prelude.{◌≡◌, ◌≢◌, ◌⊎◌, ◌+◌, ◌/◌, ◌<◌, ◌≤◌, ⊤, ℕ, zero, suc, min, Bool, List, [], ◌∷◌, length, take, drop, slice_get, Option, Some, None, Result, Ok, Err}
 use Rattle.std.specs.Option.{option_map}
 use Rattle.goblin_base.specs.declared.container.Ctx.{Ctx}
 use Rattle.goblin_base.specs.declared.error.Fault.TheVariants.{InvalidClass, InvalidEndianness}
@@ -142,12 +142,16 @@ ContextIsTheHeaders =
     (bytes : List ℕ) (h : Header) → HasHeader bytes h
     → NamesContext h (ctx_of (header_told h)) × (is_mips64el (header_told h) ≡ is_of_mips64el h)
 
+-- a call answers this refusal at each index
+abbrev pub RefusesAll : {Y : Type 0} → (ℕ → Result (Option Y) Refusal) → Refusal → Type 0
+RefusesAll call refusal = (index : ℕ) → call index ≡ Err refusal
+
 -- a call tells each item of a list at its index, and none behind them; or at each index the refusal that there is in
 -- place of a list
 abbrev pub TellsEach :
     {X Y : Type 0} → (X → Y) → Result (List X) Refusal → (ℕ → Result (Option Y) Refusal) → Type 0
 TellsEach tell (Ok items) call = (index : ℕ) → call index ≡ Ok (option_map tell (slice_get items index))
-TellsEach tell (Err refusal) call = (index : ℕ) → call index ≡ Err refusal
+TellsEach tell (Err refusal) call = RefusesAll call refusal
 
 -- a call tells how many items a list has, or the refusal that there is in its place
 abbrev pub TellsCount : {X : Type 0} → Result (List X) Refusal → Result (Option ℕ) Refusal → Type 0
@@ -189,13 +193,13 @@ RelocsByIndex =
     → let relocs = refuse_as refusal_of (relocs_of bytes range.offset range.size is_rela ctx (is_of_mips64el h)) in
     TellsEach reloc_told relocs (reloc_right bytes (header_told h) range is_rela)
 
--- the items that are given from an index on are those that a call tells there one by one, and none behind them; or the
--- call tells none there, or the same refusal
+-- the items that are given from an index on, one at least, are those that a call tells there one by one, and none
+-- behind them; or the call tells none there, or the same refusal at each index
 abbrev pub GivenFrom :
     {Y : Type 0} → ℕ → (ℕ → Result (Option Y) Refusal) → Result (Option (List Y)) Refusal → Type 0
-GivenFrom first call (Ok (Some items)) = (k : ℕ) → call (first + k) ≡ Ok (slice_get items k)
+GivenFrom first call (Ok (Some items)) = (0 < length items) × ((k : ℕ) → call (first + k) ≡ Ok (slice_get items k))
 GivenFrom first call (Ok None) = (k : ℕ) → call (first + k) ≡ Ok None
-GivenFrom first call (Err refusal) = (k : ℕ) → call (first + k) ≡ Err refusal
+GivenFrom first call (Err refusal) = RefusesAll call refusal
 
 -- the calls that fill room give from each index on what the calls by index tell
 pub record FilledByIndex : Type 0 where
@@ -251,25 +255,28 @@ abbrev pub IsNameAt : List ℕ → GoblinRange → ℕ → List ℕ → Type 0
 IsNameAt bytes names offset name =
     (told : GoblinRange) × (string_right bytes names offset ≡ Ok (Some told)) × (bytes_in bytes told ≡ name)
 
--- an answer is the index of the first item that a call by index tells and that has the name; past the last one no item
--- has it
+-- an answer is the index of the first item that a call by index tells and that has the name; or none has it; or it is
+-- the refusal that all items have in their place, or all strings
 abbrev pub FindsFirst :
-    {Y : Type 0} → (ℕ → Result (Option Y) Refusal) → (Y → Type 0) → Result (Option ℕ) Refusal → Type 0
-FindsFirst {Y} call HasTheName (Ok (Some index)) =
+    {Y : Type 0} → (ℕ → Result (Option Y) Refusal) → (ℕ → Result (Option GoblinRange) Refusal) → (Y → Type 0)
+    → Result (Option ℕ) Refusal → Type 0
+FindsFirst {Y} call strings HasTheName (Ok (Some index)) =
     ((item : Y) × (call index ≡ Ok (Some item)) × HasTheName item)
     × ((k : ℕ) (item : Y) → k < index → call k ≡ Ok (Some item) → ¬ HasTheName item)
-FindsFirst {Y} call HasTheName (Ok None) = (k : ℕ) (item : Y) → call k ≡ Ok (Some item) → ¬ HasTheName item
-FindsFirst {Y} call HasTheName (Err refusal) = ⊤
+FindsFirst {Y} call strings HasTheName (Ok None) =
+    (k : ℕ) (item : Y) → call k ≡ Ok (Some item) → ¬ HasTheName item
+FindsFirst call strings HasTheName (Err refusal) = RefusesAll call refusal ⊎ RefusesAll strings refusal
 
 -- what is found by a name is the first section, and the first symbol, whose name the calls tell so
 abbrev pub SectionsByName : Type 0
 SectionsByName =
     (bytes : List ℕ) (h : GoblinHeader) (names : GoblinRange) (name : List ℕ)
-    → FindsFirst (section_right bytes h) (λ section. IsNameAt bytes names section.sh_name name)
-    (section_by_name_right bytes h names name)
+    → let HasTheName = λ (section : GoblinSection). IsNameAt bytes names section.sh_name name in
+    FindsFirst (section_right bytes h) (string_right bytes names) HasTheName (section_by_name_right bytes h names name)
 
 abbrev pub SymbolsByName : Type 0
 SymbolsByName =
     (bytes : List ℕ) (h : GoblinHeader) (range names : GoblinRange) (name : List ℕ)
-    → FindsFirst (symbol_right bytes h range) (λ symbol. IsNameAt bytes names symbol.st_name name)
-    (symbol_by_name_right bytes h range names name)
+    → let HasTheName = λ (symbol : GoblinSymbol). IsNameAt bytes names symbol.st_name name in
+    let found = symbol_by_name_right bytes h range names name in
+    FindsFirst (symbol_right bytes h range) (string_right bytes names) HasTheName found

@@ -46,8 +46,8 @@ pub fn names()
 {}
 
 /// Laws: `goblin_sections`, `goblin_symbols` and `goblin_relocs` give from each index on what the calls
-/// for one item tell there, one after another. As many as there is room for stand in the room, and
-/// behind them it holds what it held; so it is with each text.
+/// for one item tell there, one after another, and one at least before the end. As many as there is
+/// room for stand in the room, and behind them it holds what it held; so it is with each text.
 pub fn rooms()
     ensures items { FilledByIndex }
     ensures held { RoomIsFilled }
@@ -61,7 +61,8 @@ pub fn strings()
 {}
 
 /// Laws: `goblin_section_by_name` and `goblin_symbol_by_name` tell the index of the first item whose
-/// string, as `goblin_string` tells it, has the bytes of the name, and the end where none has.
+/// string, as `goblin_string` tells it, has the bytes of the name, and the end where none has. They
+/// refuse only what the calls for one item or for one string refuse at each index.
 pub fn searches()
     ensures sections { SectionsByName }
     ensures symbols { SymbolsByName }
