@@ -2,7 +2,7 @@
 # Whether C and Rust can call the library as faces/ says: goblin.h against the library; the C programs and the Rust crate
 # over files that they make themselves, whole and damaged; and over files of this machine, compared with what binutils' nm
 # and readelf list of them. What the machine has no compiler or no binutils for is said in a line, and passes. Run from the
-# repository's root, once `rt ci` has proved the crates below goblin_c. Files named by words are taken in place of others.
+# repository's root, best behind `rt ci`, whose proofs it takes. Files named by words are taken in place of others.
 set -eu
 export LC_ALL=C
 folder=$(mktemp -d)
@@ -23,7 +23,23 @@ quietly() {
     fi
 }
 
-make_library() { (cd crates/goblin_c && rt lib); }
+# Makes the library: over the libraries that `rt ci` has just proved, of which it keeps what others can cite, or else by
+# `rt lib`, which first proves these where that was not done.
+make_library() {
+    rlib() { echo "$root/crates/$1/out/rlib/$1.rlib"; }
+    if [ -d "$(rlib goblin)" ] && [ ! -e crates/goblin_base/out/rlib/stamp ] \
+        && [ -z "$(find crates/*/src crates/*/specs crates/*/proofs -newer "$(rlib goblin_base)")" ]; then
+        kit=$(dirname "$(dirname "$(readlink -f "$(command -v rt)")")")
+        library=$folder
+        (cd crates/goblin_c && "$kit/bin/rattle" build --crate-name goblin_c --crate-type staticlib src/lib.rt \
+            --extern std="$kit/rlibs/std.rlib" -L dependency="$kit/rlibs" --extern goblin="$(rlib goblin)" \
+            --extern goblin_base="$(rlib goblin_base)" --extern goblin_headers="$(rlib goblin_headers)" \
+            -L dependency="$(dirname "$(rlib goblin_records)")" --antt-project "$kit/rattle/logic/antt-project.json" \
+            --logic-built "$kit/logic_built" --toolchain "$kit/toolchain" -o "$library/libgoblin_c.a")
+    else
+        (cd crates/goblin_c && rt lib)
+    fi
+}
 
 # ---- C ----
 
@@ -73,9 +89,12 @@ check_c() {
         build layout -std=$standard
         quietly "$folder/layout"
     done
+    "$folder/layout" assertions > "$folder/assertions.c"
+    quietly cc -std=c11 $strict -Ifaces/c -c -o "$folder/assertions.o" "$folder/assertions.c"
     if has c++; then
         quietly c++ -x c++ -std=c++11 $strict -I"$folder" -o "$folder/layout" faces/c/layout.c \
             -x none -L"$library" -lgoblin_c
+        quietly c++ -x c++ -std=c++11 $strict -Ifaces/c -c -o "$folder/assertions.o" "$folder/assertions.c"
     else
         echo "no c++ here: goblin.h is compiled as C alone"
     fi

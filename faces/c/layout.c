@@ -1,6 +1,6 @@
 /* Whether goblin.h says what the library does: each field of each struct lies where the library puts it, by goblin_layout;
    and each, read from files whose fields all differ, is the number that was put there, in both classes and orders; and
-   each refusal has the number of its name.
+   each refusal has the number of its name. With the word `assertions` it prints the first of these as static assertions.
    fields.h lists STRUCT(name) of each struct and FIELD(struct, field, number) of each of its fields. The check makes it
    from goblin.h itself, so that none is left out. */
 #include "goblin.h"
@@ -182,11 +182,36 @@ static void filled(const char *what, const void *field, size_t size, uint8_t num
     for (size_t i = 0; i < size; i++) same(what, ((const uint8_t *)field)[i], number);
 }
 
-int main(void) {
-    same("goblin_version", goblin_version(), GOBLIN_VERSION);
+/* A field's place and width as the library tells them, as a static assertion. */
+static void asserted(const char *name, const char *field, const void *item, uint64_t size, uint8_t number) {
+    const uint8_t *bytes = (const uint8_t *)item;
+    uint64_t place = 0, width = 0;
+    while (place < size && bytes[place] != number) place++;
+    while (place + width < size && bytes[place + width] == number) width++;
+    printf("static_assert(offsetof(goblin_%s_t, %s) == %d, \"%s.%s\");\n", name, field, (int)place, name, field);
+    printf("static_assert(sizeof ((goblin_%s_t *)0)->%s == %d, \"%s.%s\");\n", name, field, (int)width, name, field);
+}
+
+/* Prints what the library tells of its structs as static assertions over goblin.h, for C11 and C++. */
+static void assert_all(const goblin_layout_t *layout) {
+    printf("#include \"goblin.h\"\n#include <assert.h>\n");
+#define STRUCT(name) \
+    printf("static_assert(sizeof(goblin_" #name "_t) == %d, \"" #name "\");\n", (int)layout->size_of_##name);
+#define FIELD(name, field, number) asserted(#name, #field, &layout->name, layout->size_of_##name, number);
+#include "fields.h"
+#undef FIELD
+#undef STRUCT
+}
+
+int main(int argc, char **argv) {
     goblin_layout_t layout;
     memset(&layout, 0xee, sizeof layout);
     goblin_layout(&layout);
+    if (argc == 2 && !strcmp(argv[1], "assertions")) {
+        assert_all(&layout);
+        return EXIT_SUCCESS;
+    }
+    same("goblin_version", goblin_version(), GOBLIN_VERSION);
 #define STRUCT(name) same("size of " #name, layout.size_of_##name, sizeof layout.name);
 #define FIELD(name, field, number) filled(#name "." #field, &layout.name.field, sizeof layout.name.field, number);
 #include "fields.h"

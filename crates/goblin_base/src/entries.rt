@@ -2,8 +2,7 @@
 //!
 //! The types here keep their fields to themselves and can't be copied, so that whoever reads through them
 //! can't read uncounted.
-ghost use Rattle.std.specs.Prelude.{◌≡◌, ◌↔◌, ◌+◌, ◌-◌, ◌*◌, ◌^◌, ◌<◌, ◌≤◌, [], min, length, IsTrue};
-ghost use Rattle.std.specs.Prelude.{slice_index, slice_index_or, slice_range};
+ghost use Rattle.std.specs.Prelude.{◌≡◌, ◌↔◌, ◌+◌, ◌-◌, ◌*◌, ◌^◌, ◌<◌, ◌≤◌, [], min, length, IsTrue, slice_index, slice_index_or, slice_range};
 ghost use Rattle.std.specs.Str.{IsUtf8};
 ghost use Rattle.goblin_base.specs.Entries.{AreKept, IsKeptEntry, entries_between, places_of, text_of};
 ghost use Rattle.goblin_base.specs.Search.{IsRising};

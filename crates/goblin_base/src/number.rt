@@ -5,8 +5,7 @@ ghost use Rattle.goblin_base.specs.declared.container.Endian.{Endian};
 ghost use Rattle.goblin_base.specs.Number.{number_at, ReadsSpelling, SpellsBack, SpellsWidth};
 ghost use Rattle.goblin_base.specs.Place.{with_number, ReadsWhatWasPut};
 ghost use Rattle.goblin_base.specs.Room.{room_of};
-ghost use Rattle.goblin_base.specs.Signed.{signed_number_at, complement, ReadsSigned, SpellsSigned};
-ghost use Rattle.goblin_base.specs.Signed.{IsSignedSlice, ReadsSignedThere};
+ghost use Rattle.goblin_base.specs.Signed.{signed_number_at, complement, ReadsSigned, SpellsSigned, IsSignedSlice, ReadsSignedThere};
 
 use crate::container::Endian;
 use crate::scroll;

@@ -1,7 +1,5 @@
 //! String tables, which are indexed by byte offsets: System V gABI, "String Table".
-ghost use Rattle.std.specs.Prelude.{◌≡◌, ◌+◌, ◌<◌, ◌≤◌, ◌↔◌, [], true, false, drop, length, map};
-ghost use Rattle.std.specs.Prelude.{nat_lt, position, ◌==◌, if◌then◌else◌, Some, None, Ok};
-ghost use Rattle.std.specs.Prelude.{IfErr, IfOk, IfSome, IsNone, IsOk, MatchOption, MatchResult, EachIndex, alloc_error, slice_index, slice_range};
+ghost use Rattle.std.specs.Prelude.{◌≡◌, ◌+◌, ◌<◌, ◌≤◌, ◌↔◌, [], true, false, drop, length, map, nat_lt, position, ◌==◌, if◌then◌else◌, Some, None, Ok, IfErr, IfOk, IfSome, IsNone, IsOk, MatchOption, MatchResult, EachIndex, alloc_error, slice_index, slice_range};
 ghost use Rattle.std.specs.Option.{option_map};
 ghost use Rattle.std.specs.Str.{IsCharBoundary};
 ghost use Rattle.goblin_base.specs.Entries.{places_of, text_of};
@@ -9,8 +7,7 @@ ghost use Rattle.goblin_base.specs.Pieces.{piece};
 ghost use Rattle.goblin_base.specs.Refusal.{Answers, Gives};
 ghost use Rattle.goblin_base.specs.Search.{IsLastUpTo};
 ghost use Rattle.goblin_base.specs.Strtab.{RefusesFirst, has_name, look_up, plain, range_in, strings_of, strtab_of, table_of, texts_of};
-ghost use Rattle.goblin_base.specs.StrtabLaws.{ClosedForm, DependsOnRange, DigitsCount, JoinsAgain, LookUpHasPlain, PermissiveAccepts, StrictIsPermissive, StrictLookUpIsPlain, TextIsUtf8};
-ghost use Rattle.goblin_base.specs.StrtabLaws.{NamesArePlain, TextIsTaken};
+ghost use Rattle.goblin_base.specs.StrtabLaws.{ClosedForm, DependsOnRange, DigitsCount, JoinsAgain, LookUpHasPlain, PermissiveAccepts, StrictIsPermissive, StrictLookUpIsPlain, TextIsUtf8, NamesArePlain, TextIsTaken};
 
 use crate::entries::{Entries, Looked, Probes};
 use crate::error::{Error, Fault, Result};

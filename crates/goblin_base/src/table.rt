@@ -1,7 +1,5 @@
 //! Tables of records that are read from borrowed bytes as they are asked for.
-ghost use Rattle.std.specs.Prelude.{◌≡◌, ◌≤◌, ◌*◌, ◌↔◌, IsTrue, IfOk, IfSome, IfErr, alloc_error};
-ghost use Rattle.std.specs.Prelude.{◌+◌, ◌/◌, ◌<◌, OnOk, take, drop, [], List, length, slice_get};
-ghost use Rattle.std.specs.Prelude.{◌^◌, ℕ, All, flat_map, IsOk};
+ghost use Rattle.std.specs.Prelude.{◌≡◌, ◌≤◌, ◌*◌, ◌↔◌, IsTrue, IfOk, IfSome, IfErr, alloc_error, ◌+◌, ◌/◌, ◌<◌, OnOk, take, drop, [], List, length, slice_get, ◌^◌, ℕ, All, flat_map, IsOk};
 ghost use Rattle.std.specs.Iterator.{UpTo, YieldsFirst, item_count};
 ghost use Rattle.std.specs.Iterator.SizeHint.{IsWithinCount};
 ghost use Rattle.goblin_base.specs.Eager.{records_from, records_in, room_of_each};

@@ -1,7 +1,6 @@
 //! The string tables of a file. A table whose bytes are text needs no entries, and which blocks of the file
 //! are text is kept in mind, so that no byte is read again and again.
-ghost use Rattle.std.specs.Prelude.{◌≡◌, ◌+◌, ◌*◌, ◌≤◌, ◌↔◌, IfSome, IsTrue, List, MatchResult, Ok, [], length, ℕ};
-ghost use Rattle.std.specs.Prelude.{slice_range};
+ghost use Rattle.std.specs.Prelude.{◌≡◌, ◌+◌, ◌*◌, ◌≤◌, ◌↔◌, IfSome, IsTrue, List, MatchResult, Ok, [], length, ℕ, slice_range};
 ghost use Rattle.std.specs.Str.{IsUtf8};
 ghost use Rattle.goblin.specs.declared.options.ParseMode.{ParseMode as Mode};
 ghost use Rattle.goblin.specs.Refusal.{Gives};

@@ -3,8 +3,7 @@ ghost use Rattle.std.specs.Prelude.{◌≡◌, ◌++◌, OnOk, IfErr, string_byt
 ghost use Rattle.goblin.specs.Refusal.{Gives, Refuses};
 ghost use Rattle.goblin.specs.SectionHeaders.{section_headers_of_tested};
 ghost use Rattle.goblin_show.specs.Known.{IsKnown, table_in};
-ghost use Rattle.goblin_show.specs.Shown.{Adds, PermissiveShowsStrict, ctx_of, each_shown, file_shown, has_relocs, has_symbols, names_index, section_lines};
-ghost use Rattle.goblin_show.specs.Shown.{reloc_lines, relocs_shown, sections_of, shown, sizes_checked, strings_at, strings_of, symbol_lines, symbols_shown, tested};
+ghost use Rattle.goblin_show.specs.Shown.{Adds, PermissiveShowsStrict, ctx_of, each_shown, file_shown, has_relocs, has_symbols, names_index, section_lines, reloc_lines, relocs_shown, sections_of, shown, sizes_checked, strings_at, strings_of, symbol_lines, symbols_shown, tested};
 
 use crate::known::{Known, Names};
 use crate::lines::{push_header, push_reloc, push_section, push_symbol};

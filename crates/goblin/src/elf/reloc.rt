@@ -1,8 +1,6 @@
 //! Relocations and relocation sections: System V gABI, "Relocation".
-ghost use Rattle.std.specs.Prelude.{◌≡◌, ◌<◌, ◌^◌, ◌↔◌, [], false, length, slice_get, IsTrue, IfOk};
-ghost use Rattle.std.specs.Prelude.{IfErr, IsOk, alloc_error};
-ghost use Rattle.goblin.specs.RelocSection.{relocs_of, is_of_mips64el};
-ghost use Rattle.goblin.specs.RelocSection.{DependsOnItsRange, WritesItsBytes};
+ghost use Rattle.std.specs.Prelude.{◌≡◌, ◌<◌, ◌^◌, ◌↔◌, [], false, length, slice_get, IsTrue, IfOk, IfErr, IsOk, alloc_error};
+ghost use Rattle.goblin.specs.RelocSection.{relocs_of, is_of_mips64el, DependsOnItsRange, WritesItsBytes};
 
 use goblin_base::container::Ctx;
 use goblin_base::error::{Error, Result};

@@ -1,7 +1,6 @@
 //! Symbols and symbol tables: System V gABI, "Symbol Table".
 ghost use Rattle.std.specs.Prelude.{◌≡◌, ◌≤◌, ◌<◌, ◌-◌, ◌*◌, ◌^◌, ◌↔◌, [], ◌∷◌, length, slice_get, IsTrue, IfOk, IfErr, IsOk, alloc_error, position};
-ghost use Rattle.goblin.specs.Symtab.{symbols_at, symtab_by, symtab_of};
-ghost use Rattle.goblin.specs.Symtab.{DependsOnItsRange, PermissiveKeepsStrict};
+ghost use Rattle.goblin.specs.Symtab.{symbols_at, symtab_by, symtab_of, DependsOnItsRange, PermissiveKeepsStrict};
 ghost use Rattle.goblin_base.specs.Strtab.{has_name};
 ghost use Rattle.goblin_records.specs.Sym.{sym_size};
 
