@@ -285,17 +285,27 @@ fn is_named(name: &str, n_type: u32, want: &str) -> bool {
     note.type_to_str() == want
 }
 
+// Names and types of notes, and the names of these types.
+const TYPES: &[(&str, u32, &str)] = &[
+    ("CORE", 1, "NT_PRSTATUS"),
+    ("CORE", 2, "NT_UNKNOWN"),
+    ("CORE", 3, "NT_PRPSINFO"),
+    ("CORE", 0x5349_4749, "NT_SIGINFO"),
+    ("CORE", 0x4649_4c45, "NT_UNKNOWN"),
+    ("GNU", 1, "NT_GNU_ABI_TAG"),
+    ("", 2, "NT_GNU_HWCAP"),
+    ("GNU", 3, "NT_GNU_BUILD_ID"),
+    ("Go", 3, "NT_GNU_BUILD_ID"),
+    ("GNU", 4, "NT_GNU_GOLD_VERSION"),
+    ("GNU", 5, "NT_GNU_PROPERTY_0"),
+    ("GNU", 6, "NT_UNKNOWN"),
+    ("GNU", NT_SIGINFO, "NT_UNKNOWN"),
+    ("CORE2", 1, "NT_GNU_ABI_TAG"),
+];
+
 #[test]
 fn names_types(rt: HostRuntime) {
-    assert!(rt; is_named("CORE", 1, "NT_PRSTATUS") && is_named("CORE", 3, "NT_PRPSINFO"));
-    assert!(rt; is_named("CORE", 0x5349_4749, "NT_SIGINFO") && is_named("CORE", 2, "NT_UNKNOWN"));
-    assert!(rt; is_named("CORE", 0x4649_4c45, "NT_UNKNOWN"));
-    assert!(rt; is_named("GNU", 1, "NT_GNU_ABI_TAG") && is_named("", 2, "NT_GNU_HWCAP"));
-    assert!(rt; is_named("GNU", 3, "NT_GNU_BUILD_ID") && is_named("Go", 3, "NT_GNU_BUILD_ID"));
-    assert!(rt; is_named("GNU", 4, "NT_GNU_GOLD_VERSION"));
-    assert!(rt; is_named("GNU", 5, "NT_GNU_PROPERTY_0") && is_named("GNU", 6, "NT_UNKNOWN"));
-    assert!(rt; is_named("GNU", NT_SIGINFO, "NT_UNKNOWN"));
-    assert!(rt; is_named("CORE2", 1, "NT_GNU_ABI_TAG"));
+    assert!(rt; TYPES.iter().all(|row| is_named(row.0, row.1, row.2)));
 }
 
 #[test]
@@ -490,10 +500,23 @@ fn agree(bytes: &[u8], ctx: Ctx) -> bool {
     true
 }
 
+// Notes whole and damaged.
+const HOSTILE: &[(&[u8], Ctx)] = &[
+    (b"", LITTLE),
+    (BUILD, LITTLE),
+    (BUILD_BIG, BIG),
+    (BARE, LITTLE),
+    (CUT_NAME, LITTLE),
+    (EMPTY, LITTLE),
+    (NO_TEXT, LITTLE),
+    (LONG_NAME, LITTLE),
+    (LONG_DESC, LITTLE),
+    (THREE, LITTLE),
+    (b"\x04\0\0\0\x10\0\0\0", LITTLE),
+    (THREE, BIG),
+];
+
 #[test]
 fn gives_the_plain_notes_of_hostile_ranges(rt: HostRuntime) {
-    assert!(rt; agree(b"", LITTLE) && agree(BUILD, LITTLE) && agree(BUILD_BIG, BIG));
-    assert!(rt; agree(BARE, LITTLE) && agree(CUT_NAME, LITTLE) && agree(EMPTY, LITTLE));
-    assert!(rt; agree(NO_TEXT, LITTLE) && agree(LONG_NAME, LITTLE) && agree(LONG_DESC, LITTLE));
-    assert!(rt; agree(THREE, LITTLE) && agree(&THREE[..8], LITTLE) && agree(THREE, BIG));
+    assert!(rt; HOSTILE.iter().all(|notes| agree(notes.0, notes.1)));
 }

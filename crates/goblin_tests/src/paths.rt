@@ -93,20 +93,32 @@ fn leads_to_the_names_of_segments_and_sections(rt: HostRuntime) {
     assert!(rt; same(elf64::section_header::shf_to_str(4), "SHF_EXECINSTR"));
 }
 
+fn names_of_elf() -> bool {
+    same(elf::sym::bind_to_str(2), "WEAK")
+        && same(elf::sym::type_to_str(3), "SECTION")
+        && same(elf::sym::visibility_to_str(1), "INTERNAL")
+        && same(elf::sym::get_type(0x23), "SECTION")
+}
+
+fn names_of_elf32() -> bool {
+    same(elf32::sym::bind_to_str(2), "WEAK")
+        && same(elf32::sym::type_to_str(3), "SECTION")
+        && same(elf32::sym::visibility_to_str(1), "INTERNAL")
+        && same(elf32::sym::get_type(0x23), "SECTION")
+}
+
+fn names_of_elf64() -> bool {
+    same(elf64::sym::bind_to_str(2), "WEAK")
+        && same(elf64::sym::type_to_str(3), "SECTION")
+        && same(elf64::sym::visibility_to_str(1), "INTERNAL")
+        && same(elf64::sym::get_type(0x23), "SECTION")
+}
+
 #[test]
 fn leads_to_the_names_of_symbols(rt: HostRuntime) {
-    assert!(rt; same(elf::sym::bind_to_str(2), "WEAK"));
-    assert!(rt; same(elf32::sym::bind_to_str(2), "WEAK"));
-    assert!(rt; same(elf64::sym::bind_to_str(2), "WEAK"));
-    assert!(rt; same(elf::sym::type_to_str(3), "SECTION"));
-    assert!(rt; same(elf32::sym::type_to_str(3), "SECTION"));
-    assert!(rt; same(elf64::sym::type_to_str(3), "SECTION"));
-    assert!(rt; same(elf::sym::visibility_to_str(1), "INTERNAL"));
-    assert!(rt; same(elf32::sym::visibility_to_str(1), "INTERNAL"));
-    assert!(rt; same(elf64::sym::visibility_to_str(1), "INTERNAL"));
-    assert!(rt; same(elf::sym::get_type(0x23), "SECTION"));
-    assert!(rt; same(elf32::sym::get_type(0x23), "SECTION"));
-    assert!(rt; same(elf64::sym::get_type(0x23), "SECTION"));
+    assert!(rt; names_of_elf());
+    assert!(rt; names_of_elf32());
+    assert!(rt; names_of_elf64());
 }
 
 #[test]

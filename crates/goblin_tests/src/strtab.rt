@@ -61,40 +61,47 @@ fn tells_the_strings_between_delimiters(rt: HostRuntime) {
     );
 }
 
-// Whether looking up each offset has its answer.
-fn looks_up(table: Result<Strtab<'_>>, answers: &[(usize, Option<&str>)]) -> bool {
-    match table {
-        Ok(table) => answers
-            .iter()
-            .all(|answer| table.get_at(answer.0) == answer.1),
+// Offsets, and what looking them up answers.
+const IN_NAMES: &[(usize, Option<&str>)] = &[
+    (3, Some("ext")),
+    (6, Some("")),
+    (12, Some("")),
+    (13, None),
+];
+
+const IN_FOO: &[(usize, Option<&str>)] = &[
+    (0, Some("")),
+    (5, Some("")),
+    (6, Some("memmove")),
+    (14, Some("\u{1f171}\u{fe0f}usta")),
+    (16, None),
+    (18, Some("\u{fe0f}usta")),
+    (21, Some("usta")),
+    (25, Some("")),
+    (26, None),
+];
+
+// Whether looking up each offset of a table has its answer.
+fn looks_up(table: &Strtab<'_>, answers: &[(usize, Option<&str>)]) -> bool {
+    answers
+        .iter()
+        .all(|answer| table.get_at(answer.0) == answer.1)
+}
+
+// The same of the table that these bytes are.
+fn looks_up_in(alloc: Global, bytes: &[u8], delim: u8, answers: &[(usize, Option<&str>)]) -> bool {
+    match Strtab::new_preparsed(alloc, bytes, delim) {
+        Ok(table) => looks_up(&table, answers),
         Err(_) => false,
     }
 }
 
 #[test]
 fn looks_up_offsets(rt: HostRuntime) {
-    let a = rt.alloc();
-    let answers = [(3, Some("ext")), (6, Some("")), (12, Some("")), (13, None)];
-    assert!(rt; looks_up(Strtab::new_preparsed(a, NAMES, 0), &answers));
-    assert!(rt; looks_up(Ok(Strtab::new(NAMES, 0)), &[(3, None)]));
-    assert!(rt;
-        looks_up(
-            Strtab::new_preparsed(a, b"a", 0),
-            &[(0, Some("a")), (1, None)]
-        )
-    );
-    let answers = [
-        (0, Some("")),
-        (5, Some("")),
-        (6, Some("memmove")),
-        (14, Some("\u{1f171}\u{fe0f}usta")),
-        (16, None),
-        (18, Some("\u{fe0f}usta")),
-        (21, Some("usta")),
-        (25, Some("")),
-        (26, None),
-    ];
-    assert!(rt; looks_up(Strtab::new_preparsed(a, FOO, b'\n'), &answers));
+    assert!(rt; looks_up_in(rt.alloc(), NAMES, 0, IN_NAMES));
+    assert!(rt; looks_up(&Strtab::new(NAMES, 0), &[(3, None)]));
+    assert!(rt; looks_up_in(rt.alloc(), b"a", 0, &[(0, Some("a")), (1, None)]));
+    assert!(rt; looks_up_in(rt.alloc(), FOO, b'\n', IN_FOO));
 }
 
 // Whether the plain reading, `get_unsafe` and `index` have this text.
@@ -133,9 +140,46 @@ fn reads_a_part_plainly(rt: HostRuntime) {
     assert!(rt; none.len() == 0 && none.get(0).is_none());
 }
 
-// Whether the table is refused with this line.
-fn tells(alloc: Global, table: Result<Strtab<'_>>, line: &str) -> bool {
-    let Err(e) = table else {
+// Ranges of four bytes that are no tables, by offset and length, and why.
+const REFUSED: &[(usize, usize, &str)] = &[
+    (
+        5,
+        0,
+        "Malformed entity: String table offset (5) is beyond file boundary (4)",
+    ),
+    (
+        2,
+        3,
+        "Malformed entity: Strtable size (3) + offset (2) is out of bounds for 4 #bytes. Overflowed: false",
+    ),
+    (
+        4,
+        1,
+        "Malformed entity: Strtable size (1) + offset (4) is out of bounds for 4 #bytes. Overflowed: false",
+    ),
+    (
+        0,
+        usize::MAX,
+        "Malformed entity: Strtable size (18446744073709551615) + offset (0) is out of bounds for 4 #bytes. \
+        Overflowed: false",
+    ),
+    (
+        1,
+        usize::MAX,
+        "Malformed entity: Strtable size (18446744073709551615) + offset (1) is out of bounds for 4 #bytes. \
+        Overflowed: true",
+    ),
+    (
+        4,
+        usize::MAX,
+        "Malformed entity: Strtable size (18446744073709551615) + offset (4) is out of bounds for 4 #bytes. \
+        Overflowed: true",
+    ),
+];
+
+// Whether these bytes are refused as a table with this line.
+fn tells(alloc: Global, bytes: &[u8], offset: usize, len: usize, line: &str) -> bool {
+    let Err(e) = Strtab::parse(alloc, bytes, offset, len, 0) else {
         return false;
     };
     match e.line(alloc) {
@@ -144,35 +188,21 @@ fn tells(alloc: Global, table: Result<Strtab<'_>>, line: &str) -> bool {
     }
 }
 
+// Whether each range is refused so.
+fn tells_each(alloc: Global) -> bool {
+    REFUSED.iter().all(|refused| tells(alloc, ZEROS, refused.0, refused.1, refused.2))
+}
+
+// Whether a part of the zeros of no bytes has no strings.
+fn has_none_at(alloc: Global, offset: usize) -> bool {
+    has_strings(alloc, Strtab::parse(alloc, ZEROS, offset, 0, 0), &[])
+}
+
 #[test]
 fn refuses_a_range_past_the_file(rt: HostRuntime) {
-    let a = rt.alloc();
-    let max = usize::MAX;
-    let line = "Malformed entity: String table offset (5) is beyond file boundary (4)";
-    assert!(rt; tells(a, Strtab::parse(a, ZEROS, 5, 0, 0), line));
-    let line = "Malformed entity: Strtable size (3) + offset (2) is out of bounds for 4 #bytes. \
-        Overflowed: false";
-    assert!(rt; tells(a, Strtab::parse(a, ZEROS, 2, 3, 0), line));
-    let line = "Malformed entity: Strtable size (1) + offset (4) is out of bounds for 4 #bytes. \
-        Overflowed: false";
-    assert!(rt; tells(a, Strtab::parse(a, ZEROS, 4, 1, 0), line));
-    let line = "Malformed entity: Strtable size (18446744073709551615) + offset (0) is out of \
-        bounds for 4 #bytes. Overflowed: false";
-    assert!(rt; tells(a, Strtab::parse(a, ZEROS, 0, max, 0), line));
-    let line = "Malformed entity: Strtable size (18446744073709551615) + offset (1) is out of \
-        bounds for 4 #bytes. Overflowed: true";
-    assert!(rt; tells(a, Strtab::parse(a, ZEROS, 1, max, 0), line));
-    let line = "Malformed entity: Strtable size (18446744073709551615) + offset (4) is out of \
-        bounds for 4 #bytes. Overflowed: true";
-    assert!(rt; tells(a, Strtab::parse(a, ZEROS, 4, max, 0), line));
-    assert!(rt; has_strings(a, Strtab::parse(a, ZEROS, 4, 0, 0), &[]));
-    assert!(rt;
-        tells(
-            a,
-            Strtab::new_preparsed(a, b"\x80\x80", b'\n'),
-            "bad input invalid utf8 (2)"
-        )
-    );
+    assert!(rt; tells_each(rt.alloc()));
+    assert!(rt; has_none_at(rt.alloc(), 4));
+    assert!(rt; tells(rt.alloc(), b"\x80\x80", 0, 2, "bad input invalid utf8 (2)"));
 }
 
 // Whether the permissive table has this length.
