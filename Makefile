@@ -28,8 +28,12 @@ refused:
 proved:
 	rt ci
 
+# More wrong bodies that the prover must refuse, of all crates or of some: make edits CRATES=goblin_base
+edits:
+	sh checks/edits.sh $(CRATES)
+
 # Times the program, once it is built, over files that ask for much work, and over a FILE: make bench FILE=/bin/true
 bench:
 	sh checks/bench.sh $(FILE)
 
-.PHONY: show test refused proved bench
+.PHONY: show test refused proved edits bench

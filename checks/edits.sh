@@ -1,0 +1,16 @@
+#!/bin/sh
+# Tries the edits of each crate's more-edits/ as `rt ci` tries those of must-fail/: the prover must refuse each. They are no
+# part of the gate, which they would keep for half as long again. In a copy; words name the crates to try, or else all are.
+# Run from the repository's root.
+set -eu
+folder=$(mktemp -d)
+trap 'rm -rf "$folder"' EXIT
+trap 'exit 1' HUP INT TERM
+tar -c --exclude=out HANDLES crates.txt crates | tar -x -C "$folder"
+cd "$folder/crates"
+[ $# -gt 0 ] || set -- $(ls -d */more-edits | cut -d/ -f1)
+for crate; do
+    rm -r "$crate/must-fail"
+    mv "$crate/more-edits" "$crate/must-fail"
+done
+rt must-fail "$@"
