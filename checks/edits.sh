@@ -1,7 +1,7 @@
 #!/bin/sh
 # Tries the edits of each crate's more-edits/ as `rt ci` tries those of must-fail/: the prover must refuse each. They are no
-# part of the gate, which they would keep for half as long again. In a copy; words name the crates to try, or else all are.
-# Run from the repository's root.
+# part of the gate, for the time that they take. In a copy; words name the crates to try, or else all are. Run from the
+# repository's root.
 set -eu
 folder=$(mktemp -d)
 trap 'rm -rf "$folder"' EXIT
