@@ -6,7 +6,7 @@ set -eu
 folder=$(mktemp -d)
 trap 'rm -rf "$folder"' EXIT
 trap 'exit 1' HUP INT TERM
-tar -c --exclude=out HANDLES crates.txt crates | tar -x -C "$folder"
+cp -a HANDLES crates.txt crates "$folder"
 cd "$folder/crates"
 [ $# -gt 0 ] || set -- $(ls -d */more-edits | cut -d/ -f1)
 for crate; do
