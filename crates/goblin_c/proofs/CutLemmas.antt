@@ -1,11 +1,12 @@
 -- Room that is filled item by item.
-use Rattle.std.proofs.Common.{◌≡◌, ◌<◌, ◌≤◌, ◌+◌, ◌-◌, min, ℕ, zero, suc, List, [], ◌∷◌, ◌++◌, length, take, drop, map, get_or, Some, slice_get, take_all, refl, sym, ap, ◌∙◌, arith}
+use Rattle.std.proofs.Common.{◌≡◌, ◌<◌, ◌≤◌, ◌+◌, ◌-◌, min, ℕ, zero, suc, List, [], ◌∷◌, ◌++◌, length, take, drop, map, get_or, Some, None, slice_get, take_all, refl, sym, ap, ◌∙◌, arith}
 use Rattle.std.proofs.Math.ListN.{set}
 use Rattle.std.proofs.lemmas.List.{length-take-le, take_more, drop-map, get_or-map, length-map, length-drop, get_or-drop}
 use Rattle.std.proofs.lemmas.Option.{slice_get_within, get_or_from_slice_get}
 use Rattle.std.proofs.lemmas.List.{take_rest}
 use Rattle.std.proofs.lemmas.Slice.{take-put_mid}
 use borrow.Rule.Slice.PartMut.{put_mid}
+use Rattle.goblin.proofs.Positions.{some-within}
 use Rattle.goblin_c.specs.Cut.{cut}
 use Rattle.goblin_c.specs.Laws.{IsFilled, RoomIsFilled}
 
@@ -49,6 +50,20 @@ cut-told {Y = Y} tell all first i old now x found is room =
     ∙ get_or-map tell all (first + i) x (tell x) inside
     ∙ ap tell (get_or_from_slice_get all (first + i) x x found) in
     ap (λ (v : Y). set now i v) (sym same) ∙ cut-step i xs old now (tell x) is (omega arith) room
+
+-- a list ends before an index at which it has no item
+ends-before : {X : Type 0} (items : List X) (i : ℕ) → slice_get items i ≡ None → length items ≤ i
+ends-before [] i none = omega arith
+ends-before (x ∷ items) zero none = absurd (some-within (x ∷ items) zero (omega arith) (sym none))
+ends-before (x ∷ items) (suc i) none = omega (arith, ends-before items i none)
+
+-- where there is no item left to tell of, all of them were
+pub cut-ended : {X Y : Type 0} (tell : X → Y) (all : List X) (first i : ℕ) (old now : List Y) → slice_get all (first + i) ≡ None → now ≡ cut (take i (map tell (drop first all))) old → now ≡ cut (map tell (drop first all)) old
+cut-ended tell all first i old now none is =
+    let xs = map tell (drop first all) in
+    let long : length xs ≡ length all - first = simp (length-map, length-drop) in
+    let past : length all ≤ first + i = ends-before all (first + i) none in
+    is ∙ cut-enough i xs old (omega arith)
 
 pub cut-nowhere : {X : Type 0} (xs : List X) → cut xs [] ≡ []
 cut-nowhere [] = refl

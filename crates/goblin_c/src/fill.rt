@@ -23,9 +23,10 @@ pub fn fill_sections(
     ensures count { result ≡ min (length all.now - first) (length sections.old) }
 {
     let count = sections.len().min(all.len() - first);
-    for i in 0..count {
-        if let Some(section) = all.get(first + i) {
-            sections[i] = told_section(&section);
+    for (i, room) in sections.iter_mut().enumerate() {
+        match all.get(first + i) {
+            Some(section) => *room = told_section(&section),
+            None => break,
         }
     }
     count
@@ -38,9 +39,10 @@ pub fn fill_symbols(all: &Symtab<'_>, first: usize, symbols: &mut [GoblinSymbol]
     ensures count { result ≡ min (length all.now.symbols - first) (length symbols.old) }
 {
     let count = symbols.len().min(all.len() - first);
-    for i in 0..count {
-        if let Some(symbol) = all.get(first + i) {
-            symbols[i] = told_symbol(&symbol);
+    for (i, room) in symbols.iter_mut().enumerate() {
+        match all.get(first + i) {
+            Some(symbol) => *room = told_symbol(&symbol),
+            None => break,
         }
     }
     count
@@ -53,9 +55,10 @@ pub fn fill_relocs(all: &RelocSection<'_>, first: usize, relocs: &mut [GoblinRel
     ensures count { result ≡ min (length all.now - first) (length relocs.old) }
 {
     let count = relocs.len().min(all.len() - first);
-    for i in 0..count {
-        if let Some(reloc) = all.get(first + i) {
-            relocs[i] = told_reloc(&reloc);
+    for (i, room) in relocs.iter_mut().enumerate() {
+        match all.get(first + i) {
+            Some(reloc) => *room = told_reloc(&reloc),
+            None => break,
         }
     }
     count

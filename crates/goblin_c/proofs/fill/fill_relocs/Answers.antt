@@ -1,22 +1,22 @@
-use Rattle.std.proofs.Common.{◌≡◌, ◌+◌, ◌-◌, sym, ap, ◌∙◌, arith, drop, map, length, slice_set}
-use Rattle.std.proofs.lemmas.List.{length-map, length-drop}
-use Rattle.goblin.proofs.Positions.{some-within}
+use Rattle.std.proofs.Common.{◌+◌, sym, ap, ◌∙◌, arith, drop, map, slice_set}
+use Rattle.std.proofs.lemmas.List.{set-get_or}
+use Rattle.std.proofs.lemmas.Option.{slice_get_within}
 use Rattle.goblin_c.specs.Answers.{reloc_told}
-use Rattle.goblin_c.proofs.CutLemmas.{cut-told, cut-enough}
+use Rattle.goblin_c.proofs.CutLemmas.{cut-told, cut-ended, cut-enough}
 use Rattle.goblin_c.proofs.fill.fill_relocs.Goals as goal
-use Rattle.goblin_c.proofs.fill.fill_relocs.Goals.{in-Some, in_default}
 
 pub loop-i-preserved : goal.loop-i-preserved
 loop-i-preserved c =
-    elim c.match-get.branch [
-      | in-Some w ↦
-          let step = cut-told reloc_told c.args.all.now c.args.first c.loop-i.i c.args.relocs.now c.loop-i.relocs w.in-Some.reloc (sym w.in-Some.ensures) c.loop-i.invariant (omega arith) in
-          w.relocs-is ∙ ap (λ told. slice_set c.loop-i.relocs c.loop-i.i told) w.told_reloc.ensures ∙ step
-      | in_default w ↦ absurd (some-within c.args.all.now (c.args.first + c.loop-i.i) (omega arith) (sym w.in_default.is ∙ c.get.ensures))
-    ]
+    let found = sym c.get.ensures ∙ c.in-Some.is in
+    let inside = slice_get_within c.args.all.now (c.args.first + c.loop-i.i) c.in-Some.reloc found in
+    (omega arith, ap (λ told. slice_set c.loop-i.relocs c.loop-i.i told) c.told_reloc.ensures ∙ cut-told reloc_told c.args.all.now c.args.first c.loop-i.i c.args.relocs.now c.loop-i.relocs c.in-Some.reloc found c.loop-i.invariant.1 c.loop-i-test.true)
 
-pub returns-clause-filled : goal.returns-clause-filled
-returns-clause-filled c =
+pub returns-after-loop-i-clause-filled : goal.returns-after-loop-i-clause-filled
+returns-after-loop-i-clause-filled c =
     let xs = map reloc_told (drop c.args.first c.args.all.now) in
-    let long : length xs ≡ length c.args.all.now - c.args.first = simp (length-map, length-drop) in
-    c.loop-i.invariant ∙ cut-enough c.loop-i.i xs c.args.relocs.now (omega arith)
+    c.loop-i.invariant.1 ∙ cut-enough c.loop-i.i xs c.args.relocs.now (omega arith)
+
+pub returns-in-None-clause-filled : goal.returns-in-None-clause-filled
+returns-in-None-clause-filled c =
+    set-get_or c.loop-i.relocs c.loop-i.i _
+    ∙ cut-ended reloc_told c.args.all.now c.args.first c.loop-i.i c.args.relocs.now c.loop-i.relocs (sym c.get.ensures ∙ c.in-None.is) c.loop-i.invariant.1
