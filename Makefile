@@ -19,14 +19,19 @@ show:
 test:
 	sh checks/quotes.sh
 	@$(MAKE) --no-print-directory -j2 refused proved
-	sh checks/words.sh
-	sh checks/faces.sh
+	@$(MAKE) --no-print-directory -j2 words faces
 
 refused:
 	sh checks/refused.sh
 
 proved:
 	rt ci
+
+words:
+	sh checks/words.sh
+
+faces:
+	sh checks/faces.sh
 
 # More wrong bodies that the prover must refuse, of all crates or of some: make edits CRATES=goblin_base
 edits:
@@ -36,4 +41,4 @@ edits:
 bench:
 	sh checks/bench.sh $(FILE)
 
-.PHONY: show test refused proved edits bench
+.PHONY: show test refused proved words faces edits bench

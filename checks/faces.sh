@@ -31,7 +31,7 @@ make_library() {
         && [ -z "$(find crates/*/src crates/*/specs crates/*/proofs -newer "$(rlib goblin_base)")" ]; then
         kit=$(dirname "$(dirname "$(readlink -f "$(command -v rt)")")")
         library=$folder
-        (cd crates/goblin_c && "$kit/bin/rattle" build --crate-name goblin_c --crate-type staticlib src/lib.rt \
+        (cd crates/goblin_c && "$kit/bin/rattle" build --crate-name goblin_c --crate-type staticlib --jobs 2 src/lib.rt \
             --extern std="$kit/rlibs/std.rlib" -L dependency="$kit/rlibs" --extern goblin="$(rlib goblin)" \
             --extern goblin_base="$(rlib goblin_base)" --extern goblin_headers="$(rlib goblin_headers)" \
             -L dependency="$(dirname "$(rlib goblin_records)")" --antt-project "$kit/rattle/logic/antt-project.json" \

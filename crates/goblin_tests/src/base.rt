@@ -1,4 +1,6 @@
 //! Cases with their answers: texts of errors, room, numbers, contexts, options and names.
+ghost use Rattle.std.specs.Prelude.{◌≤◌, ◌+◌};
+
 use goblin_base::container::{BE, CONTAINER, Container, Ctx, Endian, LE, constants};
 use goblin_base::error::{Error, Fault};
 use goblin_base::names::name_of;
@@ -62,14 +64,12 @@ fn tells_faults_of_headers(rt: HostRuntime) {
 }
 
 #[test]
-fn tells_faults_of_notes_and_numbers(rt: HostRuntime) {
+fn tells_faults_of_notes(rt: HostRuntime) {
     let alloc = rt.alloc();
     let aligned_to_16 = "Notes has unimplemented alignment requirement: 0x10";
     assert!(rt; tells_fault(alloc, Fault::NoteAlign(16), aligned_to_16));
     let aligned_to_171 = "Notes has unimplemented alignment requirement: 0xab";
     assert!(rt; tells_fault(alloc, Fault::NoteAlign(0xab), aligned_to_171));
-    let misfit = "Integer do not fit: out of range integral type conversion attempted";
-    assert!(rt; tells_misfit(alloc, misfit));
 }
 
 // Whether the fault of a number that does not fit is told by this text, also where it is made by `From`.
@@ -94,6 +94,12 @@ fn tells_made(alloc: Global, error: Error, text: &str) -> bool {
 // The error of a number that does not fit.
 fn misfit() -> Result<u8, TryFromIntError> {
     u8::try_from(256u16)
+}
+
+#[test]
+fn tells_numbers_that_do_not_fit(rt: HostRuntime) {
+    let misfit = "Integer do not fit: out of range integral type conversion attempted";
+    assert!(rt; tells_misfit(rt.alloc(), misfit));
 }
 
 // The fault of a symbol table that starts past the file's end.
@@ -229,16 +235,10 @@ fn tells_errors(rt: HostRuntime) {
     assert!(rt; tells(alloc, &failed, "Out of memory"));
 }
 
-// A length, an offset and a size that there is room for.
-static ROOM: [(usize, usize, usize); 4] = [(10, 0, 10), (10, 10, 0), (0, 0, 0), (10, 3, 7)];
-
-// A length, an offset and a size for which the offset is bad.
-static BAD_OFFSET: [(usize, usize, usize); 4] = [
-    (10, 10, 1),
-    (0, 0, 1),
-    (10, 11, 0),
-    (10, usize::MAX, usize::MAX),
-];
+// Whether there is room.
+fn has_room(len: usize, offset: usize, size: usize) -> bool {
+    room(len, offset, size).is_ok()
+}
 
 // Whether an offset is refused as itself.
 fn is_bad_offset(len: usize, offset: usize, size: usize) -> bool {
@@ -263,12 +263,14 @@ fn is_too_big(len: usize, offset: usize, size: usize, left: usize) -> bool {
 
 #[test]
 fn has_room_or_tells_the_fault(rt: HostRuntime) {
-    assert!(rt; ROOM.iter().all(|row| room(row.0, row.1, row.2).is_ok()));
-    assert!(rt;
-        BAD_OFFSET
-            .iter()
-            .all(|row| is_bad_offset(row.0, row.1, row.2))
-    );
+    assert!(rt; has_room(10, 0, 10));
+    assert!(rt; has_room(10, 10, 0));
+    assert!(rt; has_room(0, 0, 0));
+    assert!(rt; has_room(10, 3, 7));
+    assert!(rt; is_bad_offset(10, 10, 1));
+    assert!(rt; is_bad_offset(0, 0, 1));
+    assert!(rt; is_bad_offset(10, 11, 0));
+    assert!(rt; is_bad_offset(10, usize::MAX, usize::MAX));
     assert!(rt; is_too_big(10, 3, 8, 7));
     assert!(rt; is_too_big(10, 1, usize::MAX, 9));
 }
@@ -285,14 +287,31 @@ fn reads_numbers(rt: HostRuntime) {
     assert!(rt; get_u64(COUNTED, 1, BE) == 0x0102030405060708);
 }
 
+const TURNED: &[u8; 9] = b"\xfe\xff\xff\xff\xff\xff\xff\xff\x7f";
+
+// Whether four bytes are read as this number.
+fn reads_i32(place: usize, order: Endian, number: i32) -> bool
+    requires { place + 4 ≤ 9 }
+{
+    get_i32(TURNED, place, order) == number
+}
+
+// Whether eight bytes are read as this number.
+fn reads_i64(place: usize, order: Endian, number: i64) -> bool
+    requires { place + 8 ≤ 9 }
+{
+    get_i64(TURNED, place, order) == number
+}
+
 #[test]
 fn reads_signed_numbers(rt: HostRuntime) {
-    let turned = b"\xfe\xff\xff\xff\xff\xff\xff\xff\x7f";
-    assert!(rt; get_i32(turned, 0, LE) == -2 && get_i32(turned, 0, BE) == -16777217);
-    assert!(rt; get_i32(turned, 5, LE) == 2147483647 && get_i32(turned, 5, BE) == -129);
-    assert!(rt; get_i64(turned, 0, LE) == -2);
-    assert!(rt; get_i64(turned, 1, LE) == 9223372036854775807);
-    assert!(rt; get_i64(turned, 1, BE) == -129);
+    assert!(rt; reads_i32(0, LE, -2));
+    assert!(rt; reads_i32(0, BE, -16777217));
+    assert!(rt; reads_i32(5, LE, 2147483647));
+    assert!(rt; reads_i32(5, BE, -129));
+    assert!(rt; reads_i64(0, LE, -2));
+    assert!(rt; reads_i64(1, LE, 9223372036854775807));
+    assert!(rt; reads_i64(1, BE, -129));
 }
 
 // The bytes after numbers were put over each other in one order.
@@ -312,9 +331,15 @@ fn puts(order: Endian, want: &[u8; 10]) -> bool {
 
 #[test]
 fn puts_numbers(rt: HostRuntime) {
-    spellings();
     assert!(rt; puts(LE, b"\xff\x22\x21\x12\x11\x04\x03\x02\x01\x31"));
     assert!(rt; puts(BE, b"\xff\x21\x22\x13\x14\x05\x06\x07\x08\x31"));
+}
+
+#[test]
+fn calls_the_laws_of_numbers() {
+    spellings();
+    signed_spellings();
+    constants();
 }
 
 // Whether a signed number of eight bytes, with one of four put into its middle, leaves these bytes.
@@ -327,14 +352,12 @@ fn puts_signed(order: Endian, want: &[u8; 10]) -> bool {
 
 #[test]
 fn puts_signed_numbers(rt: HostRuntime) {
-    signed_spellings();
     assert!(rt; puts_signed(LE, b"\xaa\xfd\xff\0\0\0\x80\xff\xff\xaa"));
     assert!(rt; puts_signed(BE, b"\xaa\xff\xff\x80\0\0\0\xff\xfd\xaa"));
 }
 
 #[test]
 fn makes_contexts(rt: HostRuntime) {
-    constants();
     let big = Ctx::new(Container::Big, BE);
     assert!(rt; big.is_big() && big.container.is_big() && big.size() == 8);
     assert!(rt; !big.is_little_endian() && !big.le.is_little());
@@ -364,6 +387,10 @@ fn makes_options(rt: HostRuntime) {
     assert!(rt; is_strict(ParseOptions::new()));
     assert!(rt; is_strict(ParseOptions::default()));
     assert!(rt; is_strict(ParseOptions::strict()));
+}
+
+#[test]
+fn makes_permissive_options(rt: HostRuntime) {
     assert!(rt; is_permissive(ParseOptions::permissive()));
     assert!(rt; is_permissive(ParseOptions::strict().with_parse_mode(ParseMode::Permissive)));
 }
@@ -371,9 +398,14 @@ fn makes_options(rt: HostRuntime) {
 // A table of names in which one number stands twice.
 static NAMES: [(u32, &str); 3] = [(1, "one"), (2, "two"), (1, "another one")];
 
+// Whether a number has this name there.
+fn is_named(number: u32, name: &str) -> bool {
+    name_of(&NAMES, number, "none") == name
+}
+
 #[test]
 fn finds_names(rt: HostRuntime) {
-    assert!(rt; name_of(&NAMES, 1, "none") == "one");
-    assert!(rt; name_of(&NAMES, 2, "none") == "two");
-    assert!(rt; name_of(&NAMES, 3, "none") == "none");
+    assert!(rt; is_named(1, "one"));
+    assert!(rt; is_named(2, "two"));
+    assert!(rt; is_named(3, "none"));
 }

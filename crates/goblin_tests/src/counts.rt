@@ -31,47 +31,6 @@ fn lists<T: Drop>(answer: Result<Vec<T>>, count: usize) -> bool {
     }
 }
 
-fn lists_segments(alloc: Global, count: usize) -> bool
-    requires { count ≤ 4097 }
-{
-    lists(ProgramHeader::parse(alloc, &ZEROS, 0, count, CTX), count)
-        && lists(
-            program_header32::ProgramHeader::parse(alloc, &ZEROS, 0, count, LE),
-            count,
-        )
-        && lists(
-            program_header64::ProgramHeader::parse(alloc, &ZEROS, 0, count, LE),
-            count,
-        )
-        && lists(
-            program_header32::ProgramHeader::from_bytes(alloc, &ZEROS, count),
-            count,
-        )
-        && lists(
-            program_header64::ProgramHeader::from_bytes(alloc, &ZEROS, count),
-            count,
-        )
-}
-
-// (Section headers that none are asked of are one, whose size says how many there are.)
-fn lists_sections(alloc: Global, count: usize) -> bool
-    requires { count ≤ 4097 }
-{
-    lists(
-        SectionHeader::parse(alloc, &ZEROS, 64, count, CTX),
-        count.max(1),
-    ) && lists(
-        SectionHeader::parse_from(alloc, &ZEROS, 0, count, CTX),
-        count.max(1),
-    ) && lists(
-        section_header32::SectionHeader::from_bytes(alloc, &ZEROS, count),
-        count,
-    ) && lists(
-        section_header64::SectionHeader::from_bytes(alloc, &ZEROS, count),
-        count,
-    )
-}
-
 // The symbols of a table of so many.
 fn symbols(alloc: Global, count: usize) -> Result<Vec<Sym>> {
     Symtab::parse(&ZEROS, 0, count, CTX)?.to_vec(alloc)
@@ -84,89 +43,151 @@ fn relocations(alloc: Global, count: usize) -> Result<Vec<Reloc>>
     RelocSection::parse(&ZEROS, 0, 16 * count, false, CTX)?.to_vec(alloc)
 }
 
-fn lists_symbols(alloc: Global, count: usize) -> bool
+// The strings of a table of so many zeros, each of which ends one.
+fn strings(alloc: Global, count: usize) -> Result<Vec<&'static str>>
     requires { count ≤ 4097 }
 {
-    lists(Sym::parse(alloc, &ZEROS, 0, count, CTX), count)
-        && lists(symbols(alloc, count), count)
-        && lists(relocations(alloc, count), count)
-        && lists(
-            Table::<Sym, Ctx>::of(&ZEROS, count, CTX).to_vec(alloc),
-            count,
-        )
-}
-
-// The strings of a table of zeros, each of which ends one.
-fn strings(alloc: Global, zeros: &'static [u8]) -> Result<Vec<&'static str>> {
-    Strtab::new_preparsed(alloc, zeros, 0)?.to_vec(alloc)
+    Strtab::new_preparsed(alloc, &ZEROS[..count], 0)?.to_vec(alloc)
 }
 
 // Whether a walk enters so many strings.
-fn walks(alloc: Global, zeros: &'static [u8], mode: ParseMode) -> bool {
-    match walk(alloc, &mut Looked::new(zeros), 0, mode) {
-        Ok(entries) => entries.len() == zeros.len(),
+fn walks(alloc: Global, count: usize, mode: ParseMode) -> bool
+    requires { count ≤ 4097 }
+{
+    match walk(alloc, &mut Looked::new(&ZEROS[..count]), 0, mode) {
+        Ok(entries) => entries.len() == count,
         Err(_) => false,
     }
 }
 
-fn lists_strings(alloc: Global, count: usize) -> bool {
-    let Some(zeros) = ZEROS.get(..count) else {
-        return false;
-    };
-    lists(strings(alloc, zeros), count)
-        && lists(Strtab::new(zeros, 0).to_vec(alloc), count)
-        && walks(alloc, zeros, ParseMode::Strict)
-        && walks(alloc, zeros, ParseMode::Permissive)
-}
-
-// What is listed.
+// A call that gives a list.
 #[derive(Clone, Copy)]
-enum Kind {
+enum Call {
     Segments,
+    Segments32,
+    Segments64,
+    SegmentBytes32,
+    SegmentBytes64,
     Sections,
+    SectionsFrom,
+    SectionBytes32,
+    SectionBytes64,
     Symbols,
+    SymbolTable,
+    Relocations,
+    Records,
     Strings,
+    StringsUnparsed,
+    WalkStrict,
+    WalkPermissive,
 }
 
-fn lists_all(alloc: Global, kind: Kind, count: usize) -> bool
+// Whether a call gives a list of so many items. (Section headers that none are asked of are one, whose size says how many
+// there are.)
+fn gives(alloc: Global, call: Call, count: usize) -> bool
     requires { count ≤ 4097 }
 {
-    match kind {
-        Kind::Segments => lists_segments(alloc, count),
-        Kind::Sections => lists_sections(alloc, count),
-        Kind::Symbols => lists_symbols(alloc, count),
-        Kind::Strings => lists_strings(alloc, count),
+    match call {
+        Call::Segments => lists(ProgramHeader::parse(alloc, &ZEROS, 0, count, CTX), count),
+        Call::Segments32 => lists(
+            program_header32::ProgramHeader::parse(alloc, &ZEROS, 0, count, LE),
+            count,
+        ),
+        Call::Segments64 => lists(
+            program_header64::ProgramHeader::parse(alloc, &ZEROS, 0, count, LE),
+            count,
+        ),
+        Call::SegmentBytes32 => lists(
+            program_header32::ProgramHeader::from_bytes(alloc, &ZEROS, count),
+            count,
+        ),
+        Call::SegmentBytes64 => lists(
+            program_header64::ProgramHeader::from_bytes(alloc, &ZEROS, count),
+            count,
+        ),
+        Call::Sections => lists(
+            SectionHeader::parse(alloc, &ZEROS, 64, count, CTX),
+            count.max(1),
+        ),
+        Call::SectionsFrom => lists(
+            SectionHeader::parse_from(alloc, &ZEROS, 0, count, CTX),
+            count.max(1),
+        ),
+        Call::SectionBytes32 => lists(
+            section_header32::SectionHeader::from_bytes(alloc, &ZEROS, count),
+            count,
+        ),
+        Call::SectionBytes64 => lists(
+            section_header64::SectionHeader::from_bytes(alloc, &ZEROS, count),
+            count,
+        ),
+        Call::Symbols => lists(Sym::parse(alloc, &ZEROS, 0, count, CTX), count),
+        Call::SymbolTable => lists(symbols(alloc, count), count),
+        Call::Relocations => lists(relocations(alloc, count), count),
+        Call::Records => lists(
+            Table::<Sym, Ctx>::of(&ZEROS, count, CTX).to_vec(alloc),
+            count,
+        ),
+        Call::Strings => lists(strings(alloc, count), count),
+        Call::StringsUnparsed => lists(Strtab::new(&ZEROS[..count], 0).to_vec(alloc), count),
+        Call::WalkStrict => walks(alloc, count, ParseMode::Strict),
+        Call::WalkPermissive => walks(alloc, count, ParseMode::Permissive),
     }
 }
 
-// The first count of which a list isn't given, if there is one: each up to 1,010, and those about 4,096.
-fn failing(alloc: Global, kind: Kind) -> Option<usize> {
+// Whether a call gives a list of each count up to 1,010, and of those about 4,096.
+fn gives_each(alloc: Global, call: Call) -> bool {
     for count in 0..1_011 {
-        if !lists_all(alloc, kind, count) {
-            return Some(count);
+        if !gives(alloc, call, count) {
+            return false;
         }
     }
     for count in 4_095..4_098 {
-        if !lists_all(alloc, kind, count) {
-            return Some(count);
+        if !gives(alloc, call, count) {
+            return false;
         }
     }
-    None
+    true
 }
+
+const OF_HEADERS: &[Call] = &[
+    Call::Segments,
+    Call::Segments32,
+    Call::Segments64,
+    Call::SegmentBytes32,
+    Call::SegmentBytes64,
+    Call::Sections,
+    Call::SectionsFrom,
+    Call::SectionBytes32,
+    Call::SectionBytes64,
+];
+
+const OF_RECORDS: &[Call] = &[
+    Call::Symbols,
+    Call::SymbolTable,
+    Call::Relocations,
+    Call::Records,
+];
+
+const OF_STRINGS: &[Call] = &[
+    Call::Strings,
+    Call::StringsUnparsed,
+    Call::WalkStrict,
+    Call::WalkPermissive,
+];
 
 // (`rt try` takes longer for these than for others: `--seconds 300`.)
 #[test]
 fn lists_each_count_of_headers(rt: HostRuntime) {
-    assert_eq!(rt; failing(rt.alloc(), Kind::Segments), None);
-    assert_eq!(rt; failing(rt.alloc(), Kind::Sections), None);
+    assert!(rt; OF_HEADERS.iter().all(|call| gives_each(rt.alloc(), *call)));
 }
 
 #[test]
 fn lists_each_count_of_symbols(rt: HostRuntime) {
-    assert_eq!(rt; failing(rt.alloc(), Kind::Symbols), None);
+    assert!(rt; OF_RECORDS.iter().all(|call| gives_each(rt.alloc(), *call)));
 }
 
 #[test]
 fn lists_each_count_of_strings(rt: HostRuntime) {
-    assert_eq!(rt; failing(rt.alloc(), Kind::Strings), None);
+    assert!(rt; OF_STRINGS.iter().all(|call| gives_each(rt.alloc(), *call)));
 }

@@ -217,6 +217,14 @@ fn string_table(case: &Case, is_cut: bool) -> Expected {
     }
 }
 
+// Whether a record is read at the start of these bytes.
+fn is_record<R: Record<C> + PartialEq + Drop, C: Copy>(bytes: &[u8], record: &R, ctx: C) -> bool {
+    match R::read_record(bytes, ctx) {
+        Ok(read) => read == *record,
+        Err(_) => false,
+    }
+}
+
 // Whether these are the records of a size that stand one after another from the offset on.
 fn are_records<R: Record<C> + PartialEq + Drop, C: Copy>(
     list: &[R],
@@ -227,10 +235,10 @@ fn are_records<R: Record<C> + PartialEq + Drop, C: Copy>(
     let mut place = case.offset;
     for record in list {
         let here = case.bytes.get(place..).unwrap_or(b"");
-        match R::read_record(here, ctx) {
-            Ok(read) if read == *record => place = place.saturating_add(size),
-            _ => return false,
+        if !is_record(here, record, ctx) {
+            return false;
         }
+        place = place.saturating_add(size);
     }
     true
 }
