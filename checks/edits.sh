@@ -10,7 +10,7 @@ cp -a HANDLES crates.txt crates "$folder"
 cd "$folder/crates"
 [ $# -gt 0 ] || set -- $(ls -d */more-edits | cut -d/ -f1)
 for crate; do
-    rm -r "$crate/must-fail"
+    rm -rf "$crate/must-fail"
     mv "$crate/more-edits" "$crate/must-fail"
 done
 rt must-fail "$@"
