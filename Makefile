@@ -14,17 +14,20 @@ show:
 	@crates/goblin_show/out/goblin_show < "$$SHOWN" || test $$? -eq 1 \
 	|| { echo 'make show: reading or writing failed' >&2; exit 2; }
 
-# The whole gate: the pages' quotations, and whether each edit fits the code; every proof from nothing, the edits that must
-# fail, the tests and the stored runs; then, side by side, growths that are refused, the library for C called from C and
-# Rust, and the program's words.
+# The whole gate: the pages' quotations, and whether each edit fits the code; growths that are refused, beside every proof
+# from nothing, the edits that must fail, the tests and the stored runs; then the library for C called from C and Rust, beside
+# the program's words.
 test:
 	sh checks/quotes.sh
 	sh checks/applies.sh
-	rt ci
-	@$(MAKE) --no-print-directory -j2 refused faces words
+	@$(MAKE) --no-print-directory -j2 refused proved
+	@$(MAKE) --no-print-directory -j2 faces words
 
 refused:
 	sh checks/refused.sh
+
+proved:
+	rt ci
 
 words:
 	sh checks/words.sh
@@ -40,4 +43,4 @@ edits:
 bench:
 	sh checks/bench.sh $(FILE)
 
-.PHONY: show test refused words faces edits bench
+.PHONY: show test refused proved words faces edits bench
