@@ -10,13 +10,12 @@ trap 'exit 1' HUP INT TERM
 mkdir "$folder/calls" "$folder/runs"
 
 # The cases of a call or a run: its line and its file, with the growths from one number to another refused, one a case.
-# The instrument tells whether all is well, and of the last also whether no more growths than these are asked for, save
-# where the word for it is empty.
+# The instrument tells whether all is well, and of the last also whether no more growths than these are asked for.
 add_cases() {
     growth=$4
     while [ "$growth" -le "$5" ]; do
         is_last=
-        [ "$growth" -lt "$5" ] || is_last=${6-' last'}
+        [ "$growth" -lt "$5" ] || is_last=' last'
         { echo "$2 $growth$is_last"; cat "$3"; } > "$1.$growth"
         echo 'as it should be' > "$1.$growth.stdout"
         growth=$((growth + 1))
@@ -60,8 +59,6 @@ add_run symbols 'strict 0' checks/files/symbols 20 < checks/files/symbols.shown
 add_run relocations 'strict 0' checks/files/relocations 20 < checks/files/relocations.shown
 add_run names 'strict 0' "$names" 20 < crates/goblin_show/stdout
 sed 's/name=[.]s$/name=/' crates/goblin_show/stdout | add_run damaged 'permissive 0' "$folder/damaged" 20
-echo 'refused: Invalid magic number: 0x3736353433323130' | add_run refused 'strict 48' "$folder/magic" 12
-# (A file as long as one can be has four growths for its bytes, and then those of the same line.)
-add_cases "$folder/runs/longest" 'strict 16777200' "$folder/magic" 1 4 ''
+echo 'refused: Invalid magic number: 0x3736353433323130' | add_run longest 'strict 16777200' "$folder/magic" 12
 run_cases "$folder/crates/goblin_show" "$folder/runs"
 echo 'each growth that is refused is answered by want of memory, or as with ample memory'
