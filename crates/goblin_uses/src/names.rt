@@ -1,6 +1,8 @@
 //! The names of a file's symbols, read under a count of the bytes and places read.
-ghost use Rattle.std.specs.Prelude.{◌≡◌, ◌≤◌, length};
+ghost use Rattle.std.specs.Prelude.{◌≡◌, ◌≤◌, length, string_bytes};
 ghost use Rattle.goblin_base.specs.Search.{digits};
+ghost use Rattle.goblin_base.specs.Strtab.{RefusesFirst, walked};
+ghost use Rattle.goblin_uses.specs.Listed.{Adds};
 
 use goblin::error::Result;
 use goblin::options::ParseMode;
@@ -46,8 +48,13 @@ pub fn probes_of(probes: &mut Probes<'_>, offset: usize) -> u64
     probes.count() - before
 }
 
-/// Adds a line on the names in these bytes, of which the one at an offset is looked for.
-pub fn push_names(alloc: Global, text: &mut String, bytes: &[u8], offset: usize) -> Result<()> {
+/// Adds a line on the names in these bytes, of which the one at an offset is looked for. Bytes that are no text are an
+/// error, and else want of memory alone.
+pub fn push_names(alloc: Global, text: &mut String, bytes: &[u8], offset: usize) -> Result<()>
+    ensures added { let right = walked ParseMode.Strict bytes.now 0 in
+        Adds (string_bytes text.old) (string_bytes text.new) result right }
+    ensures first { RefusesFirst ParseMode.Strict bytes.now 0 result }
+{
     let mut view = Looked::new(bytes);
     let entries = walk(alloc, &mut view, 0, ParseMode::Strict)?;
     let mut probes = Probes::of(&entries);

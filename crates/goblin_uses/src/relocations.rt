@@ -1,5 +1,8 @@
 //! The relocations of a file.
-ghost use Rattle.std.specs.Prelude.{◌≡◌, ◌==◌, count_by, not};
+ghost use Rattle.std.specs.Prelude.{◌≡◌, ◌==◌, Err, IfErr, count_by, not, string_bytes};
+ghost use Rattle.goblin.specs.Refusal.{refusal_of};
+ghost use Rattle.goblin.specs.Steps.{refuse_as};
+ghost use Rattle.goblin_uses.specs.Listed.{Adds, relocations_of};
 
 use goblin::container::Ctx;
 use goblin::elf::header::Header;
@@ -14,14 +17,19 @@ pub fn count_named(relocations: &RelocSection) -> usize
     relocations.iter().filter(|reloc| reloc.r_sym != 0).count()
 }
 
-/// Adds the lines of the relocations of a section.
+/// Adds the lines of the relocations of a section. Relocations that are refused are an error, and else want of memory alone.
 pub fn push_relocations(
     text: &mut String,
     bytes: &[u8],
     section: &SectionHeader,
     header: &Header,
     ctx: Ctx,
-) -> Result<()> {
+) -> Result<()>
+    ensures added { let right = refuse_as refusal_of (relocations_of bytes.now section.now
+        header.now ctx) in Adds (string_bytes text.old) (string_bytes text.new) result right }
+    ensures first { IfErr (relocations_of bytes.now section.now header.now ctx)
+        (λ e. result ≡ Err e) }
+{
     let relocations = RelocSection::parse_inner(
         bytes,
         section.sh_offset as usize,

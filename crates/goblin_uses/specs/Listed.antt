@@ -1,0 +1,54 @@
+-- What the example reads of a file's sections, and what its calls that add lines promise.
+use Rattle.std.specs.Prelude.{◌≡◌, ◌≢◌, ℕ, ◌+◌, ◌/◌, ◌==◌, ◌||◌, nat_lt, if◌then◌else◌, List, [], ◌∷◌, length, take, drop, Option, Some, None, Result, Ok, Err, IsOk}
+use Rattle.std.specs.Io.{StartsWith}
+use Rattle.goblin.specs.declared.container.Ctx.{Ctx}
+use Rattle.goblin.specs.declared.elf.header.Header.{Header}
+use Rattle.goblin.specs.declared.elf.reloc.Reloc.{Reloc}
+use Rattle.goblin.specs.declared.elf.section_header.SectionHeader.{SectionHeader}
+use Rattle.goblin.specs.declared.error.Error.{Error}
+use Rattle.goblin.specs.declared.options.ParseMode.TheVariants.{Strict}
+use Rattle.goblin.specs.Note.{NoteParts, note_items}
+use Rattle.goblin.specs.Ranges.{span}
+use Rattle.goblin.specs.Refusal.{Refusal, out_of_memory, refusal_of}
+use Rattle.goblin.specs.RelocSection.{is_of_mips64el, relocs_of}
+use Rattle.goblin.specs.Steps.{◌>>=◌, refuse_as}
+use Rattle.goblin.specs.Strtab.{StringTable, table_of}
+use Rattle.goblin.specs.Sym.{sym_size}
+use Rattle.goblin.specs.Symtab.{Symbols, symtab_of}
+
+-- the bytes of a section in the file: none without a section, without bytes there (type 8), or past the file's end
+abbrev pub bytes_of : List ℕ → Option SectionHeader → List ℕ
+bytes_of bytes None = []
+bytes_of bytes (Some s) =
+    if (s.sh_type == 8) || nat_lt (length bytes) (s.sh_offset + s.sh_size) then []
+    else take s.sh_size (drop s.sh_offset bytes)
+
+-- the symbols of a section, as many as it holds whole
+abbrev pub symbols_of : List ℕ → SectionHeader → Ctx → Result Symbols Error
+symbols_of bytes s ctx = symtab_of bytes s.sh_offset (s.sh_size / sym_size ctx.container) ctx
+
+-- what a list of functions stands on: the symbols of a section, and then the table of the strings that name them
+abbrev pub functions_of : List ℕ → SectionHeader → Option SectionHeader → Ctx → Result StringTable Refusal
+functions_of bytes s strings ctx = do
+  _ ← refuse_as refusal_of (symbols_of bytes s ctx)
+  table_of Strict (bytes_of bytes strings) 0
+
+-- the relocations of a section, with addends where its type is 4
+abbrev pub relocations_of : List ℕ → SectionHeader → Header → Ctx → Result (List Reloc) Error
+relocations_of bytes s h ctx = relocs_of bytes s.sh_offset s.sh_size (s.sh_type == 4) ctx (is_of_mips64el h)
+
+-- the notes of a section
+abbrev pub notes_of : List ℕ → SectionHeader → Ctx → List (Result NoteParts Refusal)
+notes_of bytes s ctx = note_items bytes (span s.sh_offset s.sh_size).1 s.sh_offset (s.sh_addralign, ctx)
+
+-- whether each item is a note, or why the first that isn't was refused
+abbrev pub all_read : List (Result NoteParts Refusal) → Result (Unit {0}) Refusal
+all_read [] = Ok tt
+all_read (Ok note ∷ items) = all_read items
+all_read (Err refusal ∷ items) = Err refusal
+
+-- Lines are added only where `right` refuses nothing, behind what stood in the text; an error is its refusal, unless memory
+-- ran out.
+abbrev pub Adds : {X : Type 0} → List ℕ → List ℕ → Result (Unit {0}) Error → Result X Refusal → Type 0
+Adds old new (Ok done) right = IsOk right × StartsWith new old
+Adds old new (Err e) right = refusal_of e ≢ out_of_memory → right ≡ Err (refusal_of e)
