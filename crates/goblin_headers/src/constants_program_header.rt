@@ -96,21 +96,3 @@ pub fn pt_to_str(pt: u32) -> &'static str
 {
     name_of(&TYPES, pt, "UNKNOWN_PT")
 }
-
-// What the constants stand for in the module that names them here: segment types, and flags.
-macro_rules! program_header_constants {
-    () => {
-        (
-            [
-                PT_NULL, PT_LOAD, PT_DYNAMIC, PT_INTERP, PT_NOTE, PT_SHLIB, PT_PHDR, PT_TLS, PT_NUM,
-                PT_LOOS, PT_HIOS, PT_LOPROC, PT_HIPROC, PT_GNU_EH_FRAME, PT_GNU_STACK, PT_GNU_RELRO,
-                PT_GNU_PROPERTY, PT_LOSUNW, PT_SUNWBSS, PT_SUNWSTACK, PT_HISUNW, PT_ARM_EXIDX,
-            ],
-            [
-                PF_X, PF_W, PF_R, PF_MASKOS, PF_MASKPROC,
-            ],
-        )
-    };
-}
-
-pub(crate) use program_header_constants;

@@ -229,31 +229,3 @@ pub fn shf_to_str(shf: u32) -> &'static str
 {
     name_of(&FLAGS, shf, "SHF_UNKNOWN")
 }
-
-// What the constants stand for in the module that names them here: indices, section types, and flags.
-macro_rules! section_header_constants {
-    () => {
-        (
-            [
-                SHN_UNDEF, SHN_LORESERVE, SHN_LOPROC, SHN_BEFORE, SHN_AFTER, SHN_HIPROC, SHN_LOOS,
-                SHN_HIOS, SHN_ABS, SHN_COMMON, SHN_XINDEX, SHN_HIRESERVE,
-            ],
-            [
-                SHT_NULL, SHT_PROGBITS, SHT_SYMTAB, SHT_STRTAB, SHT_RELA, SHT_HASH, SHT_DYNAMIC,
-                SHT_NOTE, SHT_NOBITS, SHT_REL, SHT_SHLIB, SHT_DYNSYM, SHT_INIT_ARRAY,
-                SHT_FINI_ARRAY, SHT_PREINIT_ARRAY, SHT_GROUP, SHT_SYMTAB_SHNDX, SHT_NUM, SHT_LOOS,
-                SHT_HIOS, SHT_LOPROC, SHT_HIPROC, SHT_LOUSER, SHT_HIUSER, SHT_GNU_ATTRIBUTES,
-                SHT_GNU_HASH, SHT_GNU_LIBLIST, SHT_CHECKSUM, SHT_GNU_VERDEF, SHT_GNU_VERNEED,
-                SHT_GNU_VERSYM, SHT_LOSUNW, SHT_SUNW_MOVE, SHT_SUNW_COMDAT, SHT_SUNW_SYMINFO,
-                SHT_HISUNW, SHT_X86_64_UNWIND,
-            ],
-            [
-                SHF_WRITE, SHF_ALLOC, SHF_EXECINSTR, SHF_MERGE, SHF_STRINGS, SHF_INFO_LINK,
-                SHF_LINK_ORDER, SHF_OS_NONCONFORMING, SHF_GROUP, SHF_TLS, SHF_COMPRESSED,
-                SHF_ORDERED, SHF_MASKOS, SHF_MASKPROC, SHF_EXCLUDE,
-            ],
-        )
-    };
-}
-
-pub(crate) use section_header_constants;

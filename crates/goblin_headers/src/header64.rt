@@ -1,14 +1,12 @@
 //! The header of a 64-bit ELF file: System V gABI, "ELF Header", `Elf64_Ehdr`.
 ghost use Rattle.std.specs.Prelude.{◌≡◌, ◌≤◌, ◌++◌, length, drop, replicate};
 ghost use Rattle.goblin_base.specs.Fields.{values_of};
-ghost use Rattle.goblin_headers.specs.Constants.{header_numbers};
 ghost use Rattle.goblin_headers.specs.Header.{magic};
 ghost use Rattle.goblin_headers.specs.Header64.{header64_of, header64_image, header64_size, header64_fields, header64_low, Header64Fits};
 ghost use Rattle.goblin_headers.specs.HeaderTrips.{IsOneHeaderImage, IsReadBack, IsWrittenAndReadBack, IsWrittenBack};
 ghost use Rattle.goblin_headers.specs.ReadHeader.{read_header64};
 ghost use Rattle.goblin_headers.specs.WriteHeader.{WritesHeader64};
 
-use crate::constants_header::header_constants;
 use crate::header::{Header as ElfHeader, ident_of, order_of, put_ident};
 use goblin_base::container::Endian;
 use goblin_base::error::{Error, Fault, Result};
@@ -291,13 +289,7 @@ pub use crate::constants_header::{
     machine_to_str,
 };
 
-/// Laws: the numbers of this module's own constants, and those of the constants that it passes on,
-/// under the names that they have here, which a call answers.
-pub fn constants() -> ([u16; 10], [u16; 182], [usize; 7], [u8; 24])
-    ensures size { SIZEOF_EHDR ≡ header64_size }
-    ensures class { ELFCLASS ≡ 2 }
-    ensures numbers { result ≡ header_numbers }
-    ensures magic { ELFMAG.now ≡ magic }
-{
-    header_constants!()
-}
+// What number each constant is.
+mod constants_law;
+
+pub use constants_law::constants;

@@ -10,13 +10,11 @@ ghost use Rattle.goblin_base.specs.Refusal.{Gives, Refuses};
 ghost use Rattle.goblin_base.specs.Steps.{with_size};
 ghost use Rattle.goblin_base.specs.declared.container.Container.{Container};
 ghost use Rattle.goblin_base.specs.declared.container.Endian.{Endian};
-ghost use Rattle.goblin_headers.specs.Constants.{program_header_numbers};
 ghost use Rattle.goblin_headers.specs.ProgramHeader.{as64, program_header_size, program_header_of, program_header_image, program_header_low, ProgramHeaderFits};
 ghost use Rattle.goblin_headers.specs.ProgramHeader64.{program_header64_fields};
 ghost use Rattle.goblin_headers.specs.ProgramHeaders.{new_program_header, program_headers_from, program_headers_tested};
 ghost use Rattle.goblin_headers.specs.Ranges.{span};
 
-use crate::constants_program_header::program_header_constants;
 pub use crate::{program_header32, program_header64};
 use goblin_base::container::{Container, Ctx};
 use goblin_base::error::Result;
@@ -255,10 +253,7 @@ pub use crate::constants_program_header::{
 // What may be done with a segment.
 pub use crate::constants_program_header::{PF_MASKOS, PF_MASKPROC, PF_R, PF_W, PF_X};
 
-/// A law: the numbers of the constants that this module passes on, under the names that they have
-/// here, which a call answers.
-pub fn constants() -> ([u32; 22], [u32; 5])
-    ensures numbers { result ≡ program_header_numbers }
-{
-    program_header_constants!()
-}
+// What number each constant is.
+mod constants_law;
+
+pub use constants_law::constants;

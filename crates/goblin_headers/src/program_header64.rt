@@ -9,10 +9,8 @@ ghost use Rattle.goblin_base.specs.Refusal.{Gives};
 ghost use Rattle.goblin_base.specs.Steps.{with_size};
 ghost use Rattle.goblin_base.specs.Table.{records};
 ghost use Rattle.goblin_base.specs.declared.container.Endian.{Endian};
-ghost use Rattle.goblin_headers.specs.Constants.{program_header_numbers};
 ghost use Rattle.goblin_headers.specs.ProgramHeader64.{program_header64_fields, program_header64_of, program_header64_image, program_header64_size, program_header64_low};
 
-use crate::constants_program_header::program_header_constants;
 use crate::program_header::ProgramHeader as ElfProgramHeader;
 use goblin_base::container::Endian;
 use goblin_base::error::{Error, Result};
@@ -228,11 +226,7 @@ pub use crate::constants_program_header::{
 // What may be done with a segment.
 pub use crate::constants_program_header::{PF_MASKOS, PF_MASKPROC, PF_R, PF_W, PF_X};
 
-/// Laws: the numbers of this module's own constants, and those of the constants that it passes on,
-/// under the names that they have here, which a call answers.
-pub fn constants() -> ([u32; 22], [u32; 5])
-    ensures size { SIZEOF_PHDR ≡ program_header64_size }
-    ensures numbers { result ≡ program_header_numbers }
-{
-    program_header_constants!()
-}
+// What number each constant is.
+mod constants_law;
+
+pub use constants_law::constants;

@@ -10,14 +10,12 @@ ghost use Rattle.goblin_base.specs.Steps.{with_size};
 ghost use Rattle.goblin_base.specs.Strtab.{has_name};
 ghost use Rattle.goblin_base.specs.declared.container.Container.{Container};
 ghost use Rattle.goblin_base.specs.declared.container.Endian.{Endian};
-ghost use Rattle.goblin_headers.specs.Constants.{section_header_numbers};
 ghost use Rattle.goblin_headers.specs.Ranges.{span};
 ghost use Rattle.goblin_headers.specs.SectionHeader.{as64, section_header_size, section_header_of, section_header_image, section_header_low, SectionHeaderFits};
 ghost use Rattle.goblin_headers.specs.SectionHeader64.{section_header64_fields};
 ghost use Rattle.goblin_headers.specs.SectionHeaders.{new_section_header, count_told, section_headers_from, section_headers_from_tested, section_headers_of, section_headers_of_tested, size_checked, size_checked_in};
 ghost use Rattle.goblin_headers.specs.SectionNames.{section_flag_names};
 
-use crate::constants_section_header::section_header_constants;
 pub use crate::{section_header32, section_header64};
 use goblin_base::container::{Container, Ctx};
 use goblin_base::error::{Error, Fault, Result};
@@ -161,14 +159,16 @@ impl SectionHeader {
     /// it.
     ///
     /// The names are read plainly from the table of section names, as [`Strtab::get`] does: a section
-    /// whose name lies past it, or is no text, has none.
+    /// whose name lies past it, or is no text, has none. For each section as many bytes as the name has,
+    /// and one, are read at most.
     pub fn find(sections: &[SectionHeader], names: &Strtab<'_>, name: &[u8]) -> Option<usize>
         ensures { result
             ≡ position (λ section. has_name names.now section.sh_name name.now) sections.now }
     {
+        let wanted = names.wanted(name);
         sections
             .iter()
-            .position(|section| names.has_name(section.sh_name, name))
+            .position(|section| wanted.is_at(section.sh_name))
     }
 
     /// Whether the section lies inside a file of `size` bytes, and its addresses inside all addresses:
@@ -383,12 +383,7 @@ pub use crate::constants_section_header::{
     SHF_OS_NONCONFORMING, SHF_STRINGS, SHF_TLS, SHF_WRITE, shf_to_str,
 };
 
-/// A law: the numbers of the constants that this module passes on, under the names that they have
-/// here, which a call answers.
-pub fn constants() -> ([u32; 12], [u32; 37], [u32; 15])
-    ensures numbers { result ≡ section_header_numbers }
-    ensures all_flags { SHF_FLAGS ≡ map (λ row. row.0) section_flag_names }
-    ensures count { SHF_NUM_REGULAR_FLAGS ≡ 12 }
-{
-    section_header_constants!()
-}
+// What number each constant is.
+mod constants_law;
+
+pub use constants_law::constants;

@@ -7,11 +7,9 @@ ghost use Rattle.goblin_base.specs.Record.{read_within, Writes};
 ghost use Rattle.goblin_base.specs.Steps.{with_size};
 ghost use Rattle.goblin_base.specs.Table.{records};
 ghost use Rattle.goblin_base.specs.declared.container.Endian.{Endian};
-ghost use Rattle.goblin_headers.specs.Constants.{section_header_numbers};
 ghost use Rattle.goblin_headers.specs.SectionHeader32.{section_header32_fields, section_header32_of, section_header32_image, section_header32_size, section_header32_low};
 ghost use Rattle.goblin_headers.specs.SectionNames.{section_flag_names};
 
-use crate::constants_section_header::section_header_constants;
 use crate::section_header::SectionHeader as ElfSectionHeader;
 use goblin_base::container::Endian;
 use goblin_base::error::{Error, Result};
@@ -232,13 +230,7 @@ pub use crate::constants_section_header::{
     SHF_OS_NONCONFORMING, SHF_STRINGS, SHF_TLS, SHF_WRITE, shf_to_str,
 };
 
-/// Laws: the numbers of this module's own constants, and those of the constants that it passes on,
-/// under the names that they have here, which a call answers.
-pub fn constants() -> ([u32; 12], [u32; 37], [u32; 15])
-    ensures size { SIZEOF_SHDR ≡ section_header32_size }
-    ensures numbers { result ≡ section_header_numbers }
-    ensures all_flags { SHF_FLAGS ≡ map (λ row. row.0) section_flag_names }
-    ensures count { SHF_NUM_REGULAR_FLAGS ≡ 12 }
-{
-    section_header_constants!()
-}
+// What number each constant is.
+mod constants_law;
+
+pub use constants_law::constants;

@@ -127,25 +127,3 @@ pub fn visibility_to_str(typ: u8) -> &'static str
 {
     name_of(&VISIBILITIES, typ as u32, "UNKNOWN_STV")
 }
-
-// What the constants stand for in the module that names them here: bindings, types and visibilities.
-macro_rules! sym_constants {
-    () => {
-        (
-            [
-                STB_LOCAL, STB_GLOBAL, STB_WEAK, STB_NUM, STB_LOOS, STB_GNU_UNIQUE, STB_HIOS,
-                STB_LOPROC, STB_HIPROC,
-            ],
-            [
-                STT_NOTYPE, STT_OBJECT, STT_FUNC, STT_SECTION, STT_FILE, STT_COMMON, STT_TLS,
-                STT_NUM, STT_LOOS, STT_GNU_IFUNC, STT_HIOS, STT_LOPROC, STT_HIPROC,
-            ],
-            [
-                STV_DEFAULT, STV_INTERNAL, STV_HIDDEN, STV_PROTECTED, STV_EXPORTED, STV_SINGLETON,
-                STV_ELIMINATE,
-            ],
-        )
-    };
-}
-
-pub(crate) use sym_constants;

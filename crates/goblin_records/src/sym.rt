@@ -7,12 +7,10 @@ ghost use Rattle.goblin_base.specs.Refusal.{buffer_too_short, Gives, Refuses};
 ghost use Rattle.goblin_base.specs.Steps.{with_size};
 ghost use Rattle.goblin_base.specs.declared.container.Container.{Container};
 ghost use Rattle.goblin_base.specs.declared.container.Endian.{Endian};
-ghost use Rattle.goblin_records.specs.Constants.{sym_numbers};
 ghost use Rattle.goblin_records.specs.Sym.{sym_size, sym_of, sym_image, sym_low, SymFits, symbols_from, sym_zero};
 ghost use Rattle.goblin_records.specs.SymParts.{bind_of, type_of, visibility_of, IsGlobalImport, IsImport, type_name};
 ghost use Rattle.goblin_records.specs.declared.sym.Sym.{Sym};
 
-use crate::constants_sym::sym_constants;
 pub use crate::{sym32, sym64};
 use goblin_base::container::{Container, Ctx};
 use goblin_base::error::Result;
@@ -249,10 +247,7 @@ pub use crate::constants_sym::{
     visibility_to_str,
 };
 
-/// A law: the numbers of the constants that this module passes on, under the names that they have
-/// here, which a call answers.
-pub fn constants() -> ([u8; 9], [u8; 13], [u8; 7])
-    ensures numbers { result ≡ sym_numbers }
-{
-    sym_constants!()
-}
+// What number each constant is.
+mod constants_law;
+
+pub use constants_law::constants;

@@ -5,12 +5,10 @@ ghost use Rattle.goblin_base.specs.LayoutLaws.{obeys};
 ghost use Rattle.goblin_base.specs.Record.{read_within, Writes};
 ghost use Rattle.goblin_base.specs.Steps.{with_size};
 ghost use Rattle.goblin_base.specs.declared.container.Endian.{Endian};
-ghost use Rattle.goblin_records.specs.Constants.{sym_numbers};
 ghost use Rattle.goblin_records.specs.Sym64.{sym64_size, sym64_of, sym64_image, sym64_low, sym64_zero};
 ghost use Rattle.goblin_records.specs.SymParts.{type_of, IsImport};
 ghost use Rattle.goblin_records.specs.declared.sym64.Sym.{Sym};
 
-use crate::constants_sym::sym_constants;
 use crate::sym::Sym as ElfSym;
 use goblin_base::container::Endian;
 use goblin_base::error::Result;
@@ -190,11 +188,7 @@ pub use crate::constants_sym::{
 // What the bytes of symbols tell.
 pub use crate::sym::{get_type, is_import, st_bind, st_type, st_visibility};
 
-/// Laws: the numbers of this module's own constants, and those of the constants that it passes on,
-/// under the names that they have here, which a call answers.
-pub fn constants() -> ([u8; 9], [u8; 13], [u8; 7])
-    ensures size { SIZEOF_SYM ≡ sym64_size }
-    ensures numbers { result ≡ sym_numbers }
-{
-    sym_constants!()
-}
+// What number each constant is.
+mod constants_law;
+
+pub use constants_law::constants;
