@@ -26,3 +26,4 @@ pub mod TableLaws
 pub mod TextLaws
 pub mod Texts
 pub mod Utf8
+pub mod Wanted

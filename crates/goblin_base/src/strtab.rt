@@ -7,6 +7,7 @@ ghost use Rattle.goblin_base.specs.Pieces.{piece};
 ghost use Rattle.goblin_base.specs.Refusal.{Answers, Gives};
 ghost use Rattle.goblin_base.specs.Search.{IsLastUpTo};
 ghost use Rattle.goblin_base.specs.Strtab.{RefusesFirst, has_name, look_up, plain, range_in, strings_of, strtab_of, table_of, texts_of};
+ghost use Rattle.goblin_base.specs.Wanted.{can_be_string, stands_at};
 ghost use Rattle.goblin_base.specs.StrtabLaws.{ClosedForm, DependsOnRange, DigitsCount, JoinsAgain, LookUpHasPlain, PermissiveAccepts, StrictIsPermissive, StrictLookUpIsPlain, TextIsUtf8, NamesArePlain, TextIsTaken};
 
 use crate::entries::{Entries, Looked, Probes};
@@ -241,14 +242,26 @@ impl<'a> Strtab<'a> {
 
     /// Whether the piece at an offset is this name, given as its bytes. From `len()` on there is none, and
     /// a piece that is no text is no name.
-    #[tactic(auto, unfolding(crate::specs::Strtab::has_name))]
+    ///
+    /// It reads no more of the table than as many bytes as the name has, and one. For many offsets,
+    /// [`Strtab::wanted`] looks at the name itself once.
+    #[tactic(auto, using(crate::proofs::WantedLemmas::name_is_standing))]
     pub fn has_name(&self, offset: usize, name: &[u8]) -> bool
         ensures { result ≡ has_name self.now offset name.now }
     {
-        match self.get(offset) {
-            Some(Ok(text)) => text.as_bytes() == name,
-            Some(Err(_)) => false,
-            None => false,
+        offset < self.bytes.len()
+            && stands_at(self.bytes, self.delim, offset, name)
+            && can_be_string(self.delim, name)
+    }
+
+    /// A search of this table for a name, given as its bytes.
+    pub fn wanted<'n>(&'n self, name: &'n [u8]) -> Wanted<'n>
+        ensures { result ≡ record { table = self.now; name = name.now } }
+    {
+        Wanted {
+            table: self,
+            name,
+            is_possible: can_be_string(self.delim, name),
         }
     }
 
@@ -259,6 +272,67 @@ impl<'a> Strtab<'a> {
         ensures { result.now ≡ piece self.now.bytes self.now.delim offset }
     {
         get_str(offset, self.bytes, self.delim).unwrap()
+    }
+}
+
+/// A search of a string table for a name, which was tested once: as no text, or with a delimiter in it, no
+/// string can have it.
+///
+/// <!-- quoted: crates/goblin/src/elf/sym.rt -->
+/// ```
+/// let wanted = names.wanted(name);
+/// ```
+#[derive(Debug, Drop)]
+pub struct Wanted<'n> {
+    table: &'n Strtab<'n>,
+    name: &'n [u8],
+    is_possible: bool,
+}
+
+// It is seen as the table and the name.
+impl<'n> Model for Wanted<'n> {
+    ghost use Rattle.std.specs.Prelude.{◌≡◌};
+    ghost use Rattle.goblin_base.specs.Wanted.{Search, can_be_string};
+
+    ghost Value = { Search };
+
+    ghost view = { λ w. record { table = w.table.now; name = w.name.now } };
+
+    ghost invariant = { λ w. w.is_possible ≡ can_be_string w.table.now.delim w.name.now };
+}
+
+impl Wanted<'_> {
+    /// Whether the piece at an offset is the name: [`Strtab::has_name`], which looks at the name no more
+    /// than the table's bytes ask for.
+    #[tactic(auto, using(crate::proofs::WantedLemmas::name_is_standing))]
+    pub fn is_at(&self, offset: usize) -> bool
+        ensures { result ≡ has_name self.now.table offset self.now.name }
+    {
+        let table: &Strtab<'_> = self.table;
+        self.is_possible
+            && offset < table.bytes.len()
+            && stands_at(table.bytes, table.delim, offset, self.name)
+    }
+}
+
+// Whether a string can have these bytes.
+#[tactic(auto, using(crate::proofs::TextTests::utf8_tests), unfolding(crate::specs::Wanted::can_be_string))]
+fn can_be_string(delim: u8, name: &[u8]) -> bool
+    ensures { result ≡ can_be_string delim name.now }
+{
+    std::str::from_utf8(name).is_ok() && !name.contains(&delim)
+}
+
+// Whether the bytes at an offset begin with these, and end there or go on with the delimiter.
+#[tactic(auto, unfolding(crate::specs::Wanted::stands_at))]
+fn stands_at(bytes: &[u8], delim: u8, offset: usize, name: &[u8]) -> bool
+    requires { offset ≤ length bytes.now }
+    ensures { result ≡ stands_at bytes.now delim offset name.now }
+{
+    let rest = &bytes[offset..];
+    match rest.get(name.len()) {
+        Some(end) => *end == delim && &rest[..name.len()] == name,
+        None => rest == name,
     }
 }
 

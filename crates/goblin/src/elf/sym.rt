@@ -165,14 +165,16 @@ impl<'a> Symtab<'a> {
     /// The index of the first symbol with this name, given as its bytes, or `None` where no symbol has it.
     ///
     /// The names are read plainly from the table's string table, as [`Strtab::get`] does: a symbol whose
-    /// name lies past it, or is no text, has none.
+    /// name lies past it, or is no text, has none. For each symbol as many bytes as the name has, and one,
+    /// are read at most.
     pub fn find(&self, names: &Strtab<'_>, name: &[u8]) -> Option<usize>
         ensures { result
             ≡ position (λ symbol. has_name names.now symbol.st_name name.now) self.now.symbols }
     {
+        let wanted = names.wanted(name);
         for i in 0..self.len() {
             if let Some(symbol) = self.get(i) {
-                if names.has_name(symbol.st_name, name) {
+                if wanted.is_at(symbol.st_name) {
                     return Some(i);
                 }
             }

@@ -45,17 +45,17 @@ returns-clause-found c =
     let i = c.loop-at.invariant in
     rw c.ended-2.ensures (scan_ends c.args.view.now.bytes c.args.delim c.args.from c.loop-at.at c.loop-at.awaited (λ h. absurd (omega (arith, ap length i.same, h))) i.scanned)
 
-pub returns-then-byte-delim-clause-looks_at_each : goal.returns-then-byte-delim-clause-looks_at_each
-returns-then-byte-delim-clause-looks_at_each c =
+pub returns-then-byte-delim-clause-looks_least : goal.returns-then-byte-delim-clause-looks_least
+returns-then-byte-delim-clause-looks_least c =
     let i = c.loop-at.invariant in
     omega (arith, found_end_of c.loop-at.awaited c.loop-at.at c.ended.result c.ended.ensures, ap (λ v. v.count) c.at-byte.ensures.counted, i.scanned.from, i.least)
 
-pub returns-in-None-clause-looks_at_each : goal.returns-in-None-clause-looks_at_each
-returns-in-None-clause-looks_at_each c =
+pub returns-in-None-clause-looks_least : goal.returns-in-None-clause-looks_least
+returns-in-None-clause-looks_least c =
     let i = c.loop-at.invariant in
     omega (arith, c.max.ensures, ap (λ v. v.count) c.at-byte.ensures.counted, i.scanned.from, i.least)
 
-pub returns-clause-looks_at_each : goal.returns-clause-looks_at_each
-returns-clause-looks_at_each c =
+pub returns-clause-looks_least : goal.returns-clause-looks_least
+returns-clause-looks_least c =
     let i = c.loop-at.invariant in
     omega (arith, found_end_of c.loop-at.awaited c.loop-at.at c.ended-2.result c.ended-2.ensures, i.scanned.from, i.least)

@@ -56,7 +56,7 @@ loop-i-preserved-then-text c =
       walked = walked_text bytes d _ _ i c.end_of_piece-end.result in_range e.ordered (omega (arith, e.within, ap length s.same)) here.0 here.1 c.in_ok-push.ensures.items s.walked;
       strict = λ m. subst (λ k. IsTextSoFar bytes d (k + 1)) (sym here.0) (text_so_far_more bytes d i in_range here.1 (s.strict m));
       looks = omega (arith, ap (λ v. v.count) c.text.ensures.counted, e.looks, e.within, e.ordered, s.looks, ap length s.same);
-      least = omega (arith, ap (λ v. v.count) c.text.ensures.counted, e.looks_at_each, e.within, e.ordered, s.least, ap length s.same);
+      least = omega (arith, ap (λ v. v.count) c.text.ensures.counted, e.looks_least, e.within, e.ordered, s.least, ap length s.same);
     }
 
 pub returns-else-is_permissive-clause-given : goal.returns-else-is_permissive-clause-given
@@ -94,7 +94,7 @@ returns-clause-first c = λ m r.
     let none = nothing_passed c.args.view.now.bytes c.args.delim c.loop-i.i r (i.strict m) in
     absurd (omega (arith, none.0, none.1))
 
-pub returns-clause-looks_at_each : goal.returns-clause-looks_at_each
-returns-clause-looks_at_each c =
+pub returns-clause-looks_least : goal.returns-clause-looks_least
+returns-clause-looks_least c =
     let i = c.loop-i.invariant in
     omega (arith, i.least, ap length i.same, c.len.ensures.value, c.loop-i-test.false)

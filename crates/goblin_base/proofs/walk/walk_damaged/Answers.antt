@@ -40,11 +40,11 @@ returns-in-Whole-clause-looks c =
     let found = attempt_whole _ _ _ _ _ _ s.same c.requires.piece s.from s.within c.requires.within _ c.in-Whole.ensures.found in
     omega (arith, found.2, c.in-Whole.ensures.looks, s.looks)
 
-pub returns-in-Whole-clause-looks_at_each : goal.returns-in-Whole-clause-looks_at_each
-returns-in-Whole-clause-looks_at_each c =
+pub returns-in-Whole-clause-looks_least : goal.returns-in-Whole-clause-looks_least
+returns-in-Whole-clause-looks_least c =
     let s = c.loop-i.invariant in
     let found = attempt_whole _ _ _ _ _ _ s.same c.requires.piece s.from s.within c.requires.within _ c.in-Whole.ensures.found in
-    omega (arith, found.2, s.from, s.within, c.in-Whole.ensures.looks_at_each, s.least)
+    omega (arith, found.2, s.from, s.within, c.in-Whole.ensures.looks_least, s.least)
 
 pub returns-in_err-push-in-Fault-clause-looks : goal.returns-in_err-push-in-Fault-clause-looks
 returns-in_err-push-in-Fault-clause-looks c =
@@ -69,5 +69,5 @@ loop-i-preserved c =
       within = found.2;
       walked = subst (IsWalkedTo c.args.view.now.bytes c.args.delim c.loop-place.places.items) e c.loop-place.invariant;
       looks = omega (arith, found.1, c.in-Fault.ensures.looks, s.looks);
-      least = omega (arith, found.1, s.from, c.in-Fault.ensures.looks_at_each, s.least);
+      least = omega (arith, found.1, s.from, c.in-Fault.ensures.looks_least, s.least);
     }

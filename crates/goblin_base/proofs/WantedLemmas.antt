@@ -1,0 +1,80 @@
+-- Names among the strings of a table, found by comparing.
+use Rattle.std.proofs.Common.{◌≡◌, ℕ, ◌+◌, ◌-◌, ◌<◌, ◌≤◌, Bool, true, false, if◌then◌else◌, not, ◌&&◌, ◌||◌, eqb, leb, ltb, List, length, get_or, take, drop, refl, sym, ap, subst, ◌∙◌, ⊎_elim, arith, Ok, Err}
+use Rattle.std.proofs.lemmas.Bool.{cases_lt, cases_Bool, le-leb, leb-true, and_parts, and_from, or_cases, or_left, or_right, not-true, not_from_false, false_from_ne_true, both_ways, false≢true}
+use Rattle.std.proofs.lemmas.Bool.Decides.{same_from_decides}
+use Rattle.std.proofs.lemmas.List.{get_or-take, length-take-le, length-take}
+use Rattle.std.proofs.lemmas.List.Folds.{list_any_at, list_any_none}
+use Rattle.std.proofs.lemmas.List.Sums.{prefix_len-le-length, fails_before_first, passes_at_first, position_or_len_is}
+use Rattle.std.proofs.lemmas.Slice.Eq.{bytes_eq-Decides}
+use Rattle.std.specs.Bool.{Decides}
+use Rattle.std.specs.List.{position_or_len, list_any}
+use Rattle.std.specs.Str.{bytes_eq, is_utf8}
+use Rattle.goblin_base.specs.Pieces.{piece}
+use Rattle.goblin_base.specs.Refusal.{Refusal}
+use Rattle.goblin_base.specs.Strtab.{StringTable, has_name, is_text_of}
+use Rattle.goblin_base.specs.Wanted.{can_be_string, stands_at}
+
+module _ (bytes : List ℕ) (d o : ℕ) where
+  abbrev ends : ℕ → Bool
+  ends b = eqb b d
+
+  abbrev rest : List ℕ
+  rest = drop o bytes
+
+  -- a name without the delimiter that stands at a place is the piece there
+  piece-name : (name : List ℕ) → stands_at bytes d o name ≡ true → list_any ends name ≡ false → piece bytes d o ≡ name
+  unfolding piece stands_at
+  piece-name name stands none =
+      let n = length name in
+      let parts = and_parts _ _ stands in
+      let same : take n rest ≡ name = (bytes_eq-Decides (take n rest) name).0 parts.0 in
+      let within : n ≤ length rest = omega (arith, ap length same, length-take n rest) in
+      let at : position_or_len ends rest ≡ n = position_or_len_is ends rest n 0 within
+      (λ k l. ap ends (sym (get_or-take n rest k 0 l) ∙ ap (λ xs. get_or xs k 0) same) ∙ false_from_ne_true _ (λ t. both_ways _ none (list_any_at ends name k 0 l t)))
+      (λ l. ⊎_elim (λ (t : leb (length rest) n ≡ true). absurd (omega (arith, leb-true _ _ t))) (λ t. t) (or_cases _ _ parts.1)) in
+      ap (λ k. take k rest) at ∙ same
+
+  -- the piece at a place stands there
+  piece-stands : stands_at bytes d o (piece bytes d o) ≡ true
+  unfolding piece stands_at
+  piece-stands =
+      let n = position_or_len ends rest in
+      let le : n ≤ length rest = prefix_len-le-length (λ b. not (ends b)) rest in
+      let size : length (take n rest) ≡ n = length-take-le n rest le in
+      and_from _ _ ((bytes_eq-Decides (take (length (take n rest)) rest) (take n rest)).1 (ap (λ k. take k rest) size))
+      (⊎_elim
+      (λ (l : n < length rest). or_right _ _ (ap (λ k. ends (get_or rest k 0)) size ∙ passes_at_first ends rest 0 l))
+      (λ (l : length rest ≤ n). or_left _ _ (le-leb (length rest) (length (take n rest)) (omega (arith, size))))
+      (cases_lt n (length rest)))
+
+  -- and holds no delimiter
+  piece-apart : list_any ends (piece bytes d o) ≡ false
+  unfolding piece
+  piece-apart =
+      let n = position_or_len ends rest in
+      let size : length (take n rest) ≡ n = length-take-le n rest (prefix_len-le-length (λ b. not (ends b)) rest) in
+      list_any_none ends (take n rest) (λ k e l. ap ends (get_or-take n rest k e (omega (arith, size))) ∙ fails_before_first ends rest k e (omega (arith, size)))
+
+  -- a name that can be a string and stands at a place is text, and the piece there, and the other way round
+  stands_Decides : (name : List ℕ) → Decides (stands_at bytes d o name && can_be_string d name) ((is_utf8 (piece bytes d o) ≡ true) × (piece bytes d o ≡ name))
+  unfolding can_be_string
+  stands_Decides name = (
+    (λ t.
+        let parts = and_parts _ _ t in
+        let can = and_parts _ _ parts.1 in
+        let is = piece-name name parts.0 (not-true _ can.1) in
+        (ap is_utf8 is ∙ can.0, is)),
+    (λ h. subst (λ x. (stands_at bytes d o x && can_be_string d x) ≡ true) h.1
+        (and_from _ _ piece-stands (and_from _ _ h.0 (not_from_false _ piece-apart)))),
+  )
+
+-- and so is what the plain reading gives
+reading_Decides : (u : Bool) (p name : List ℕ) (fault : Refusal) → Decides (is_text_of name (if u then Ok p else Err fault)) ((u ≡ true) × (p ≡ name))
+reading_Decides true p name fault = ((λ t. (refl, (bytes_eq-Decides p name).0 t)), (λ h. (bytes_eq-Decides p name).1 h.1))
+reading_Decides false p name fault = ((λ t. absurd (false≢true t)), (λ h. absurd (false≢true h.0)))
+
+pub name_is_standing : (t : StringTable) (o : ℕ) (name : List ℕ) → has_name t o name ≡ (ltb o (length t.bytes) && (stands_at t.bytes t.delim o name && can_be_string t.delim name))
+unfolding has_name
+name_is_standing t o name =
+    ap (λ b. ltb o (length t.bytes) && b)
+    (same_from_decides _ _ (reading_Decides (is_utf8 (piece t.bytes t.delim o)) (piece t.bytes t.delim o) name _) (stands_Decides t.bytes t.delim o name))

@@ -1,0 +1,20 @@
+-- A name that is looked for among the strings of a table.
+use Rattle.std.specs.Prelude.{ℕ, Bool, not, ◌&&◌, ◌||◌, ◌==◌, List, length, take, drop, slice_index, nat_le}
+use Rattle.std.specs.List.{list_any}
+use Rattle.std.specs.Str.{bytes_eq, is_utf8}
+use Rattle.goblin_base.specs.Strtab.{StringTable}
+
+-- the table, and the name's bytes
+pub record Search : Type 0 where
+  pub table : StringTable
+  pub name : List ℕ
+
+-- a string can have these bytes: they are text, and hold no delimiter
+unfoldable pub can_be_string : ℕ → List ℕ → Bool
+can_be_string delim name = is_utf8 name && not (list_any (λ b. b == delim) name)
+
+-- the bytes at o begin with these, and behind them the delimiter stands, or the bytes end
+unfoldable pub stands_at : List ℕ → ℕ → ℕ → List ℕ → Bool
+stands_at bytes delim o name =
+    bytes_eq (take (length name) (drop o bytes)) name
+    && (nat_le (length (drop o bytes)) (length name) || (slice_index (drop o bytes) (length name) == delim))
