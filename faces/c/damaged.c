@@ -172,6 +172,8 @@ static void file(void) {
         uint64_t at = i < 9 ? i : odd(), index;
         bool is_there = TELLS(goblin_section, section, &h, at);
         if (is_there != (is_counted && at < count)) wrong("goblin_section_count", GOBLIN_OK);
+        bool is_table = is_there && at > 0 && section.sh_type != 8;
+        if (TELLS(goblin_table, found, &h, at) != is_table) wrong("goblin_table", GOBLIN_OK);
         goblin_range_t name;
         table(&h, is_there ? section.file : odd_range(), names.file);
         if (is_there && TELLS(goblin_string, name, &names.file, section.sh_name)

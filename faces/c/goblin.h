@@ -9,11 +9,13 @@
      from 2 on       why the file is refused, one of the GOBLIN_ numbers below: then the last argument, `why`, tells
                      the same number and the numbers that belong to it.
    Whatever isn't named there is left as it was: the item unless the answer is GOBLIN_OK, and `why` unless it is a
-   refusal. So one `goblin_refusal_t` serves all calls of a program.
+   refusal. So one `goblin_refusal_t` serves all calls of a program. A list or a range that is refused is refused whatever
+   is asked of it: refusals stand before GOBLIN_END, save where a call says otherwise, as goblin_note does.
 
-   No pointer may be null, also where it stands for no bytes. `bytes` are the `len` bytes of the whole file, which nothing
-   writes during the call; what a call writes to overlaps nothing else that it is handed. Offsets and sizes count bytes,
-   offsets from the file's start, and numbers are in the machine's own order, whatever the file's.
+   A pointer may be null where it stands for no bytes, no name or no room, with 0 for its length: so an empty file may be
+   null. No other pointer may. `bytes` are the `len` bytes of the whole file, which nothing writes during the call; what a
+   call writes to overlaps nothing else that it is handed. Offsets and sizes count bytes, offsets from the file's start, and
+   numbers are in the machine's own order, whatever the file's.
 
    A file's header is read first, and handed back to the other calls: they go by its class, order, machine and places.
    It is no secret: a caller may fill one itself. */
@@ -50,7 +52,7 @@ enum {
     /* No call takes memory, so none answers this. */
     GOBLIN_OUT_OF_MEMORY = 7,
 
-    /* Numbers of the library that no call here answers so far are kept for it: 10, 11, 15, 22, 23 and 24. */
+    /* Numbers of the library that no call here answers so far are kept for it: 10, 11, 15, 18, 22, 23 and 24. */
     /* A class byte that is neither 1 nor 2, of a header that is written: the byte. */
     GOBLIN_INVALID_CLASS = 10,
     /* An order byte that is neither 1 nor 2, of a header that is written: the byte. */
@@ -119,7 +121,7 @@ typedef struct {
     uint16_t e_machine;   /* the machine, an EM_ number */
     uint16_t e_ehsize;    /* the header's size in bytes, as it says */
     uint16_t e_phentsize; /* the size of a program header in bytes, as it says; the class tells what is read */
-    uint16_t e_phnum;     /* how many program headers there are */
+    uint16_t e_phnum;     /* how many program headers there are, 0xffff (PN_XNUM) too, which stands for itself here */
     uint16_t e_shentsize; /* the size of a section header in bytes, as it says; the class tells what is read */
     uint16_t e_shnum;     /* how many section headers there are; where it is 0, the first one's sh_size tells */
     uint16_t e_shstrndx;  /* the index of the section that holds the sections' names; see goblin_section_names */
@@ -238,13 +240,22 @@ uint32_t goblin_section(const uint8_t *bytes, size_t len, const goblin_header_t 
 uint32_t goblin_sections(const uint8_t *bytes, size_t len, const goblin_header_t *header, uint64_t first,
                          goblin_section_t *sections, size_t room, uint64_t *filled, goblin_refusal_t *why);
 
-/* The section that holds the sections' names: the one at e_shstrndx, or where that is 0xffff (SHN_XINDEX) at the sh_link of
-   the section at 0. GOBLIN_END where there is no such section. Refused as goblin_section_count is. */
+/* The section at an index that something names it by, as the strings at the sh_link of a symbol table. GOBLIN_END at
+   index 0, which stands for no section, from the count on, and where the section has no bytes in the file (type 8,
+   SHT_NOBITS), whatever its size. Refused as goblin_section_count is. */
+uint32_t goblin_table(const uint8_t *bytes, size_t len, const goblin_header_t *header, uint64_t index,
+                      goblin_section_t *section, goblin_refusal_t *why);
+
+/* The section that holds the sections' names: what goblin_table tells at e_shstrndx, or where that is 0xffff (SHN_XINDEX)
+   at the sh_link of the section at 0. GOBLIN_END where there is no such section, also as goblin_table has it. Refused as
+   goblin_section_count is. */
 uint32_t goblin_section_names(const uint8_t *bytes, size_t len, const goblin_header_t *header, goblin_section_t *section,
                               goblin_refusal_t *why);
 
 /* The index of the first section with a name, where `names` is the file's range of the sections' names. A section whose name
-   is no text or lies past the names has none. GOBLIN_END where no section has it.
+   is no text or lies past the names has none. The empty name is one too, which most files' section at 0 has. A name that
+   holds a zero byte, as one that is handed over with the byte that closes it, no section has. GOBLIN_END where no section
+   has it.
    Refused as goblin_section_count is, and then as goblin_string is for the range `names`, but never by GOBLIN_BAD_INPUT. */
 uint32_t goblin_section_by_name(const uint8_t *bytes, size_t len, const goblin_header_t *header,
                                 const goblin_range_t *names, const uint8_t *name, size_t name_len, uint64_t *index,
@@ -269,7 +280,8 @@ uint32_t goblin_symbols(const uint8_t *bytes, size_t len, const goblin_header_t 
                         uint64_t first, goblin_symbol_t *symbols, size_t room, uint64_t *filled, goblin_refusal_t *why);
 
 /* The index of the first symbol with a name, where `names` is the range of its string table. A symbol whose name is no text
-   or lies past the string table has none. GOBLIN_END where no symbol has it.
+   or lies past the string table has none. The empty name and zero bytes are as for goblin_section_by_name: the symbol at 0
+   mostly has the empty name. GOBLIN_END where no symbol has it.
    Refused as goblin_symbol is, and then as goblin_string is for the range `names`, but never by GOBLIN_BAD_INPUT. */
 uint32_t goblin_symbol_by_name(const uint8_t *bytes, size_t len, const goblin_header_t *header,
                                const goblin_range_t *table, const goblin_range_t *names, const uint8_t *name,
@@ -292,8 +304,8 @@ uint32_t goblin_relocs(const uint8_t *bytes, size_t len, const goblin_header_t *
 /* ---- notes ---- */
 
 /* The note at an offset of the file, among those of a range. The first one stands at the range's start, and each tells by
-   `next` where the next one is to be asked for. GOBLIN_END from the range's end on; a note that begins before it may reach
-   behind it. `alignment` is the segment's p_align or the section's sh_addralign: below 4 it counts as 4.
+   `next` where the next one is to be asked for. GOBLIN_END from the range's end on, before any refusal; a note that begins
+   before it may reach behind it. An offset before the range's start is read as one inside it. `alignment` is the segment's p_align or the section's sh_addralign: below 4 it counts as 4.
    GOBLIN_BAD_OFFSET where the offset is the file's end or past it; GOBLIN_NOTE_ALIGN where the alignment is neither 4 nor
    8; GOBLIN_BAD_OFFSET or GOBLIN_TOO_BIG where the header has no room; the same for the name; GOBLIN_BAD_INPUT where the
    name is no text; GOBLIN_BAD_OFFSET or GOBLIN_TOO_BIG where the descriptor has no room. But for the first, the numbers of

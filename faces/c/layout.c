@@ -177,6 +177,66 @@ static void refuse_all(void) {
     same("magic number", goblin_header(file, sizeof file, &h, &why), GOBLIN_BAD_MAGIC);
 }
 
+/* Each call with nulls for no bytes, no name and no room: of an empty file, and of this one. */
+static void call_with_nulls(void) {
+    goblin_header_t h;
+    goblin_section_t s;
+    goblin_segment_t p;
+    goblin_symbol_t y;
+    goblin_reloc_t r;
+    goblin_note_t n;
+    goblin_range_t text, none = {0, 0}, some = {0, 1};
+    goblin_refusal_t why;
+    uint64_t number;
+    memset(&h, 0, sizeof h);
+    same("null: header", goblin_header(NULL, 0, &h, &why), GOBLIN_TOO_SMALL);
+    for (int i = 0; i < 2; i++) {
+        uint32_t end = i ? GOBLIN_BAD_OFFSET : GOBLIN_END;
+        h.e_shoff = (uint64_t)i;
+        same("null: sections", goblin_section_count(NULL, 0, &h, &number, &why), i ? GOBLIN_BAD_OFFSET : GOBLIN_OK);
+        same("null: section", goblin_section(NULL, 0, &h, 0, &s, &why), end);
+        same("null: section names", goblin_section_names(NULL, 0, &h, &s, &why), end);
+        same("null: table", goblin_table(NULL, 0, &h, 1, &s, &why), end);
+        same("null: section by name", goblin_section_by_name(NULL, 0, &h, &none, NULL, 0, &number, &why), end);
+        same("null: sections", goblin_sections(NULL, 0, &h, 0, NULL, 0, &number, &why), end);
+    }
+    same("null: segment", goblin_segment(NULL, 0, &h, 0, &p, &why), GOBLIN_END);
+    same("null: symbol", goblin_symbol(NULL, 0, &h, &none, 0, &y, &why), GOBLIN_SYMTAB_OFFSET);
+    same("null: symbols", goblin_symbols(NULL, 0, &h, &none, 0, NULL, 0, &number, &why), GOBLIN_SYMTAB_OFFSET);
+    same("null: symbol by name", goblin_symbol_by_name(NULL, 0, &h, &none, &none, NULL, 0, &number, &why),
+         GOBLIN_SYMTAB_OFFSET);
+    same("null: reloc", goblin_reloc(NULL, 0, &h, &none, true, 0, &r, &why), GOBLIN_END);
+    same("null: reloc", goblin_reloc(NULL, 0, &h, &some, true, 0, &r, &why), GOBLIN_BAD_OFFSET);
+    same("null: relocs", goblin_relocs(NULL, 0, &h, &none, false, 0, NULL, 0, &number, &why), GOBLIN_END);
+    same("null: note", goblin_note(NULL, 0, &h, &none, 4, 0, &n, &why), GOBLIN_END);
+    same("null: note", goblin_note(NULL, 0, &h, &some, 4, 0, &n, &why), GOBLIN_BAD_OFFSET);
+    same("null: string", goblin_string(NULL, 0, &none, 0, &text, &why), GOBLIN_END);
+    same("null: string", goblin_string(NULL, 0, &some, 0, &text, &why), GOBLIN_STRTAB_RANGE);
+    same("null: class", goblin_class_to_str(1, NULL, 0), strlen("ELF32"));
+    same("null: file type", goblin_et_to_str(3, NULL, 0), strlen("DYN"));
+    same("null: machine", goblin_machine_to_str(62, NULL, 0), strlen("X86_64"));
+    same("null: segment type", goblin_pt_to_str(1, NULL, 0), strlen("PT_LOAD"));
+    same("null: section type", goblin_sht_to_str(1, NULL, 0), strlen("SHT_PROGBITS"));
+    same("null: flag", goblin_shf_to_str(1, NULL, 0), strlen("SHF_WRITE"));
+    same("null: binding", goblin_bind_to_str(1, NULL, 0), strlen("GLOBAL"));
+    same("null: type", goblin_type_to_str(2, NULL, 0), strlen("FUNC"));
+    same("null: visibility", goblin_visibility_to_str(0, NULL, 0), strlen("DEFAULT"));
+    same("null: note type", goblin_note_type_to_str(NULL, 0, 3, NULL, 0), strlen("NT_GNU_BUILD_ID"));
+    same("null: text", goblin_refusal_text(&why, NULL, 0),
+         strlen("Malformed entity: Strtable size (1) + offset (0) is out of bounds for 0 #bytes. Overflowed: false"));
+    header(&h), symbol(&y), note(&n);
+    goblin_range_t symbols = {0x700, wide == 8 ? 48U : 32U}, relocs = {0x800, wide * 6}, empty = {n.name.offset + 7, 1};
+    same("header", goblin_header(file, sizeof file, &h, &why), GOBLIN_OK);
+    same("no sections", goblin_sections(file, sizeof file, &h, 1, NULL, 0, &number, &why), GOBLIN_OK);
+    same("no sections, filled", number, 0);
+    same("no symbols", goblin_symbols(file, sizeof file, &h, &symbols, 1, NULL, 0, &number, &why), GOBLIN_OK);
+    same("no symbols, filled", number, 0);
+    same("no relocs", goblin_relocs(file, sizeof file, &h, &relocs, true, 1, NULL, 0, &number, &why), GOBLIN_OK);
+    same("no relocs, filled", number, 0);
+    /* The first symbol's name is at 0xeeeeeeee, which is past these names. */
+    same("no name", goblin_symbol_by_name(file, sizeof file, &h, &symbols, &empty, NULL, 0, &number, &why), GOBLIN_END);
+}
+
 /* Each byte of a field, as goblin_layout fills it. */
 static void filled(const char *what, const void *field, size_t size, uint8_t number) {
     for (size_t i = 0; i < size; i++) same(what, ((const uint8_t *)field)[i], number);
@@ -221,6 +281,7 @@ int main(int argc, char **argv) {
         wide = kind < 2 ? 8 : 4, is_big = kind % 2;
         read_all();
         refuse_all();
+        call_with_nulls();
     }
     if (wrong) return EXIT_FAILURE;
     printf("goblin.h and the library agree in %d comparisons\n", compared);

@@ -1,5 +1,6 @@
 /* Lists the symbols of an ELF file, those of its dynamic table with -D, as `nm -a -p` does: value (of a common symbol the
-   size), letter, section index and name of each; and the value of symbols that are not defined too. */
+   size), letter, section index and name of each; and the value of symbols that are not defined too. Of a symbol whose
+   section index stands in a section of type SHT_SYMTAB_SHNDX, in a file of 65,280 sections and more, it leaves that out. */
 #include "goblin.h"
 #include <ctype.h>
 #include <elf.h>
@@ -57,8 +58,8 @@ static int letter(const goblin_symbol_t *symbol, const goblin_section_t *section
 }
 
 static int list(const goblin_section_t *table) {
-    goblin_section_t names;
-    if (goblin_section(bytes, len, &header, table->sh_link, &names, &why) != GOBLIN_OK) return refused("string table");
+    goblin_section_t names = {.sh_type = SHT_NULL};
+    if (goblin_table(bytes, len, &header, table->sh_link, &names, &why) > GOBLIN_END) return refused("string table");
     goblin_symbol_t symbol;
     uint32_t answer;
     for (uint64_t i = 1; (answer = goblin_symbol(bytes, len, &header, &table->file, i, &symbol, &why)) == GOBLIN_OK; i++) {

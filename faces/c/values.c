@@ -1,24 +1,40 @@
-/* Tells the value and the size of each symbol of an ELF file: values FILE. */
+/* Lists the symbols of an ELF file, each with its value and its name: values FILE. */
 #include "goblin.h"
 #include <elf.h>
 #include <inttypes.h>
 #include <stdio.h>
 
-static int tell(const uint8_t *bytes, size_t len) {
+static goblin_refusal_t why;
+
+static int refused(void) {
+    uint8_t text[160];
+    uint64_t size = goblin_refusal_text(&why, text, sizeof text);
+    fprintf(stderr, "values: %.*s\n", (int)(size < sizeof text ? size : sizeof text), (const char *)text);
+    return 1;
+}
+
+static int list(const uint8_t *bytes, size_t len) {
     goblin_header_t header;
-    goblin_section_t section;
+    goblin_section_t table;
     goblin_symbol_t symbol;
-    goblin_refusal_t why;
-    if (goblin_header(bytes, len, &header, &why) != GOBLIN_OK) return 1;
-    for (uint64_t i = 0; goblin_section(bytes, len, &header, i, &section, &why) == GOBLIN_OK; i++)
-        if (section.sh_type == SHT_SYMTAB || section.sh_type == SHT_DYNSYM)
-            for (uint64_t k = 0; goblin_symbol(bytes, len, &header, &section.file, k, &symbol, &why) == GOBLIN_OK; k++)
-                printf("%" PRIx64 " %" PRIx64 "\n", symbol.st_value, symbol.st_size);
-    return 0;
+    uint32_t answer;
+    if (goblin_header(bytes, len, &header, &why) != GOBLIN_OK) return refused();
+    for (uint64_t i = 0; (answer = goblin_section(bytes, len, &header, i, &table, &why)) == GOBLIN_OK; i++) {
+        if (table.sh_type != SHT_SYMTAB && table.sh_type != SHT_DYNSYM) continue;
+        goblin_section_t strings = {.sh_type = SHT_NULL};
+        if (goblin_table(bytes, len, &header, table.sh_link, &strings, &why) > GOBLIN_END) return refused();
+        for (uint64_t k = 0; (answer = goblin_symbol(bytes, len, &header, &table.file, k, &symbol, &why)) == GOBLIN_OK; k++) {
+            goblin_range_t name = {0, 0};
+            if (goblin_string(bytes, len, &strings.file, symbol.st_name, &name, &why) > GOBLIN_END) return refused();
+            printf("%" PRIx64 " %.*s\n", symbol.st_value, (int)name.size, (const char *)bytes + name.offset);
+        }
+        if (answer != GOBLIN_END) return refused();
+    }
+    return answer == GOBLIN_END ? 0 : refused();
 }
 
 int main(int argc, char **argv) {
     static uint8_t bytes[0x1000000];
     FILE *file = argc == 2 ? fopen(argv[1], "rb") : NULL;
-    return file ? tell(bytes, fread(bytes, 1, sizeof bytes, file)) : 2;
+    return file ? list(bytes, fread(bytes, 1, sizeof bytes, file)) : 2;
 }

@@ -1,5 +1,5 @@
 -- Items by index are those of the library's lists, in the context that a file's header names.
-use Rattle.std.proofs.Common.{◌≡◌, ◌+◌, ◌-◌, ◌<◌, ◌≤◌, ◌==◌, ℕ, zero, suc, Bool, true, false, nat_le, if◌then◌else◌, List, [], ◌∷◌, length, drop, map, slice_get, slice_index, Option, Some, None, Result, Ok, Err, refl, sym, ap, subst, ◌∙◌, arith}
+use Rattle.std.proofs.Common.{◌≡◌, ◌+◌, ◌-◌, ◌<◌, ◌≤◌, ◌==◌, ◌&&◌, ◌||◌, not, ℕ, zero, suc, Bool, true, false, nat_le, if◌then◌else◌, List, [], ◌∷◌, length, drop, map, slice_get, slice_index, Option, Some, None, Result, Ok, Err, refl, sym, ap, subst, ◌∙◌, arith}
 use Rattle.std.proofs.lemmas.Bool.{leb-false, leb-true}
 use Rattle.std.proofs.lemmas.Bool.Decides.{nat_tests}
 use Rattle.std.proofs.lemmas.List.{length-drop, length-map}
@@ -24,8 +24,8 @@ use Rattle.goblin.specs.SectionHeaders.{section_headers_of}
 use Rattle.goblin_headers.proofs.HeaderLaws.{header_laws}
 use Rattle.goblin_headers.proofs.RawTrips.{ident_byte}
 use Rattle.goblin_headers.proofs.ReadHeaderLemmas.{read_header-is}
-use Rattle.goblin_c.specs.Answers.{ctx_of, header_told, link_of, names_index, relocs_right, reloc_right, reloc_told, section_count_right, section_right, section_told, sections_right, segment_right, segment_told, symbol_right, symbol_told, symbols_right, told_from}
-use Rattle.goblin_c.specs.Laws.{ContextIsTheHeaders, FilledByIndex, GivenFrom, HasHeader, NamesByIndex, NamesContext, RelocsByIndex, SectionsByIndex, SegmentsByIndex, SymbolsByIndex, TellsCount, TellsEach, symbols_in}
+use Rattle.goblin_c.specs.Answers.{ctx_of, header_told, link_of, names_index, relocs_right, reloc_right, reloc_told, section_count_right, section_right, section_told, sections_right, segment_right, segment_told, symbol_right, symbol_told, symbols_right, table_at, told_from, with_bytes}
+use Rattle.goblin_c.specs.Laws.{ContextIsTheHeaders, FilledByIndex, GivenFrom, HasHeader, NamesByIndex, NamesContext, RelocsByIndex, SectionsByIndex, SegmentsByIndex, SymbolsByIndex, TablesByIndex, TellsCount, TellsEach, symbols_in, table_told}
 
 -- a byte that names a class or a byte order names the one that C's number stands for
 class_is : (byte : ℕ) (named : Container) → class_named byte ≡ Some named → class_named byte ≡ Some (if byte == 2 then class.Big else class.Little)
@@ -34,19 +34,33 @@ class_is byte named is = grind (arith, nat_tests)
 order_is : (byte : ℕ) (named : Endian) → order_named byte ≡ Some named → order_named byte ≡ Some (if byte == 2 then endian.Big else endian.Little)
 order_is byte named is = grind (arith, nat_tests)
 
+-- a byte that names a byte order is 1 where it is not 2
+order_is_little : (byte : ℕ) (named : Endian) → order_named byte ≡ Some named → not (byte == 2) ≡ (byte == 1)
+order_is_little byte named is = grind (arith, nat_tests)
+
+-- what a file's header tells of its class and its byte order
+ordered : (bytes : List ℕ) (h : Header) → HasHeader bytes h → (named : Endian) × (order_named (slice_index h.e_ident 5) ≡ Some named)
+ordered bytes h has =
+    let found = read_header-is bytes h has.0 has.1 in
+    let ident = ap (λ (header : Header). header.e_ident) found.6 ∙ (header_laws found.0).ident_read found.1 bytes in
+    (found.1, ap order_named (ident_byte h.e_ident bytes 5 ident (omega arith)) ∙ found.4)
+
 -- the context of what C hands back is the one that the header names
 context : (bytes : List ℕ) (h : Header) → HasHeader bytes h → NamesContext h (ctx_of (header_told h))
 context bytes h has =
     let found = read_header-is bytes h has.0 has.1 in
     let ident = ap (λ (header : Header). header.e_ident) found.6 ∙ (header_laws found.0).ident_read found.1 bytes in
     let classed = ap class_named (ident_byte h.e_ident bytes 4 ident (omega arith)) ∙ found.3 in
-    let ordered = ap order_named (ident_byte h.e_ident bytes 5 ident (omega arith)) ∙ found.4 in (
+    let order_there = ap order_named (ident_byte h.e_ident bytes 5 ident (omega arith)) ∙ found.4 in (
       ap (λ (named : Option Container). or_refuse named (Malformed (InvalidClass (slice_index h.e_ident 4)))) (class_is (slice_index h.e_ident 4) found.0 classed),
-      ap (λ (named : Option Endian). or_refuse named (Malformed (InvalidEndianness (slice_index h.e_ident 5)))) (order_is (slice_index h.e_ident 5) found.1 ordered),
+      ap (λ (named : Option Endian). or_refuse named (Malformed (InvalidEndianness (slice_index h.e_ident 5)))) (order_is (slice_index h.e_ident 5) found.1 order_there),
     )
 
 pub context_is_the_headers : ContextIsTheHeaders
-context_is_the_headers bytes h has = (context bytes h has, refl)
+context_is_the_headers bytes h has =
+    let order = ordered bytes h has in
+    let before = (h.e_machine == 8) && (slice_index h.e_ident 4 == 2) in
+    (context bytes h has, ap (λ (little : Bool). before && little) (order_is_little (slice_index h.e_ident 5) order.0 order.1))
 
 same : {A E : Type 0} (x y : A) → ◌≡◌ {A = Result A E} (Ok x) (Ok y) → x ≡ y
 same x y is = cc
@@ -89,9 +103,9 @@ symbols_by_index bytes h ctx range has named =
 
 pub relocs_by_index : RelocsByIndex
 relocs_by_index bytes h ctx range is_rela has named =
-    subst (λ (c : Ctx). TellsEach reloc_told (refuse_as refusal_of (relocs_of bytes range.offset range.size is_rela c (is_of_mips64el h))) (reloc_right bytes (header_told h) range is_rela))
-    (one_context bytes h ctx has named)
-    (each reloc_told (relocs_right bytes (header_told h) range is_rela))
+    let tells = λ (c : Ctx) (pair : Bool). TellsEach reloc_told (refuse_as refusal_of (relocs_of bytes range.offset range.size is_rela c pair)) (reloc_right bytes (header_told h) range is_rela) in
+    let own = subst (tells (ctx_of (header_told h))) (context_is_the_headers bytes h has).1 (each reloc_told (relocs_right bytes (header_told h) range is_rela)) in
+    subst (λ (c : Ctx). tells c (is_of_mips64el h)) (one_context bytes h ctx has named) own
 
 -- the item at an index behind those that are left out
 behind : {X : Type 0} (xs : List X) (n k : ℕ) → slice_get xs (n + k) ≡ slice_get (drop n xs) k
@@ -123,8 +137,29 @@ filled_by_index = record {
   relocs = λ bytes h range is_rela first. from reloc_told (relocs_right bytes h range is_rela) first;
 }
 
--- the section with the index in the header, or the one that the first section links to
-in_header : (all : Result (List SectionHeader) Refusal) (index : ℕ) → (index == 0xffff) ≡ false → (all >>= λ items. Ok (option_map section_told (slice_get items (names_index items index)))) ≡ (all >>= λ items. Ok (option_map section_told (slice_get items index)))
+-- the table at an index is the section that is told there
+no_table : (first : Bool) → ◌≡◌ {A = Result (Option GoblinSection) Refusal} (Ok (option_map section_told (if first then None else None))) (Ok None)
+no_table true = refl
+no_table false = refl
+
+one_table : (first of_none : Bool) (s : SectionHeader) → ◌≡◌ {A = Result (Option GoblinSection) Refusal} (Ok (option_map section_told (if first then None else if of_none then None else Some s))) (Ok (if first || of_none then None else Some (section_told s)))
+one_table true of_none s = refl
+one_table false true s = refl
+one_table false false s = refl
+
+table_here : (index : ℕ) (found : Option SectionHeader) → Ok (option_map section_told (if index == 0 then None else with_bytes found)) ≡ table_told index (Ok (option_map section_told found))
+table_here index (Some s) = one_table (index == 0) (s.sh_type == 8) s
+table_here index None = no_table (index == 0)
+
+table_there : (all : Result (List SectionHeader) Refusal) (index : ℕ) → (all >>= λ items. Ok (option_map section_told (table_at items index))) ≡ table_told index (all >>= λ items. Ok (option_map section_told (slice_get items index)))
+table_there (Ok items) index = table_here index (slice_get items index)
+table_there (Err refusal) index = refl
+
+pub tables_by_index : TablesByIndex
+tables_by_index bytes h index = table_there (sections_right bytes h) index
+
+-- the table with the index in the header, or the one that the first section links to
+in_header : (all : Result (List SectionHeader) Refusal) (index : ℕ) → (index == 0xffff) ≡ false → (all >>= λ items. Ok (option_map section_told (table_at items (names_index items index)))) ≡ (all >>= λ items. Ok (option_map section_told (table_at items index)))
 in_header (Ok items) index other = rw other refl
 in_header (Err refusal) index other = refl
 
@@ -132,9 +167,9 @@ linked_first : (items : List SectionHeader) (found : Option SectionHeader) (firs
 linked_first items (Some section) first is = cc
 linked_first items None first is = absurd (cc)
 
-in_first : (all : Result (List SectionHeader) Refusal) (first : GoblinSection) → (all >>= λ items. Ok (option_map section_told (slice_get items 0))) ≡ Ok (Some first) → (all >>= λ items. Ok (option_map section_told (slice_get items (link_of (slice_get items 0))))) ≡ (all >>= λ items. Ok (option_map section_told (slice_get items first.sh_link)))
+in_first : (all : Result (List SectionHeader) Refusal) (first : GoblinSection) → (all >>= λ items. Ok (option_map section_told (slice_get items 0))) ≡ Ok (Some first) → (all >>= λ items. Ok (option_map section_told (table_at items (link_of (slice_get items 0))))) ≡ (all >>= λ items. Ok (option_map section_told (table_at items first.sh_link)))
 in_first (Ok items) first is =
-    ap (λ (index : ℕ). Ok (option_map section_told (slice_get items index))) (linked_first items (slice_get items 0) first (cc))
+    ap (λ (index : ℕ). Ok (option_map section_told (table_at items index))) (linked_first items (slice_get items 0) first (cc))
 in_first (Err refusal) first is = absurd (cc)
 
 pub names_by_index : NamesByIndex

@@ -206,6 +206,7 @@ refusals_keep_their_text = record {
   section = λ bytes h index. kept_then (sections_right bytes h) _ (sections bytes h) (λ all. tt);
   sections = λ bytes h first. kept_then (sections_right bytes h) _ (sections bytes h) (λ all. tt);
   section_names = λ bytes h. kept_then (sections_right bytes h) _ (sections bytes h) (λ all. tt);
+  table = λ bytes h index. kept_then (sections_right bytes h) _ (sections bytes h) (λ all. tt);
   segment = λ bytes h index. kept_then (segments_right bytes h) _ (segments bytes h) (λ all. tt);
   symbol = λ bytes h range index. kept_then (symbols_right bytes h range) _ (symbols bytes h range) (λ all. tt);
   symbols = λ bytes h range first. kept_then (symbols_right bytes h range) _ (symbols bytes h range) (λ all. tt);

@@ -1,5 +1,5 @@
 -- What is right of a file, in the terms of the library: an item, none past the last one, or why there is none.
-use Rattle.std.specs.Prelude.{ℕ, ◌+◌, ◌/◌, ◌==◌, ◌&&◌, nat_le, if◌then◌else◌, List, length, drop, map, position, slice_get, slice_index, Bool, false, pos, unwrap_or, Option, Some, None, Result, Ok}
+use Rattle.std.specs.Prelude.{ℕ, ◌+◌, ◌/◌, ◌==◌, ◌&&◌, not, nat_le, if◌then◌else◌, List, length, drop, map, position, slice_get, slice_index, Bool, false, pos, unwrap_or, Option, Some, None, Result, Ok}
 use Rattle.std.specs.Option.{option_map, is_some}
 use Rattle.goblin_base.specs.declared.container.Ctx.{Ctx}
 use Rattle.goblin_base.specs.declared.container.Container.TheVariants as class
@@ -148,9 +148,9 @@ symbol_right bytes h range index = do
   symbols ← symbols_right bytes h range
   Ok (option_map symbol_told (slice_get symbols index))
 
--- whether a file is a MIPS64 one of little order, as the library says it of a header
+-- whether a file is a MIPS64 one of little order, which each order but 2 stands for
 abbrev pub is_mips64el : GoblinHeader → Bool
-is_mips64el h = (h.e_machine == 8) && (h.ei_class == 2) && (h.ei_data == 1)
+is_mips64el h = (h.e_machine == 8) && (h.ei_class == 2) && not (h.ei_data == 2)
 
 -- the relocations of a range
 abbrev pub relocs_right : List ℕ → GoblinHeader → GoblinRange → Bool → Result (List Reloc) Refusal
@@ -214,6 +214,21 @@ symbol_by_name_right bytes h range names name = do
   strings ← strings_right bytes names
   Ok (position (λ symbol. is_named strings name symbol.st_name) symbols)
 
+-- a section that has bytes in the file: one of type 8 has none
+abbrev pub with_bytes : Option SectionHeader → Option SectionHeader
+with_bytes (Some section) = if section.sh_type == 8 then None else Some section
+with_bytes None = None
+
+-- the section that is a table by its index: index 0 is no section
+abbrev pub table_at : List SectionHeader → ℕ → Option SectionHeader
+table_at sections index = if index == 0 then None else with_bytes (slice_get sections index)
+
+-- the table at an index
+abbrev pub table_right : List ℕ → GoblinHeader → ℕ → Result (Option GoblinSection) Refusal
+table_right bytes h index = do
+  sections ← sections_right bytes h
+  Ok (option_map section_told (table_at sections index))
+
 -- the index of the section that holds the sections' names: e_shstrndx, or where that is 0xffff the sh_link of the first
 abbrev pub link_of : Option SectionHeader → ℕ
 link_of (Some section) = section.sh_link
@@ -222,8 +237,8 @@ link_of None = 0
 abbrev pub names_index : List SectionHeader → ℕ → ℕ
 names_index sections index = if index == 0xffff then link_of (slice_get sections 0) else index
 
--- that section
+-- that section, where it is a table
 abbrev pub section_names_right : List ℕ → GoblinHeader → Result (Option GoblinSection) Refusal
 section_names_right bytes h = do
   sections ← sections_right bytes h
-  Ok (option_map section_told (slice_get sections (names_index sections h.e_shstrndx)))
+  Ok (option_map section_told (table_at sections (names_index sections h.e_shstrndx)))

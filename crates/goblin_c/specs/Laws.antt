@@ -1,5 +1,5 @@
 -- Laws of the calls: what they tell one by one is what the library has at once, and no refusal loses its text.
-use Rattle.std.specs.Prelude.{◌≡◌, ◌≢◌, ◌⊎◌, ◌+◌, ◌/◌, ◌<◌, ◌≤◌, ⊤, ℕ, zero, suc, min, Bool, List, [], ◌∷◌, length, take, drop, slice_get, Option, Some, None, Result, Ok, Err}
+use Rattle.std.specs.Prelude.{◌≡◌, ◌≢◌, ◌⊎◌, ◌+◌, ◌/◌, ◌<◌, ◌≤◌, ◌==◌, ◌||◌, if◌then◌else◌, ⊤, ℕ, zero, suc, min, Bool, List, [], ◌∷◌, length, take, drop, slice_get, Option, Some, None, Result, Ok, Err}
 use Rattle.std.specs.Option.{option_map}
 use Rattle.goblin_base.specs.declared.container.Ctx.{Ctx}
 use Rattle.goblin_base.specs.declared.error.Fault.TheVariants.{InvalidClass, InvalidEndianness}
@@ -20,7 +20,7 @@ use Rattle.goblin.specs.SectionHeaders.{section_headers_of}
 use Rattle.goblin.specs.declared.elf.sym.Sym.{Sym}
 use Rattle.goblin.specs.Sym.{sym_size}
 use Rattle.goblin.specs.Symtab.{symtab_of}
-use Rattle.goblin_c.specs.Answers.{ctx_of, header_told, is_mips64el, reloc_told, section_told, segment_told, symbol_told, header_right, section_count_right, section_right, segment_right, symbol_right, reloc_right, string_right, sections_from_right, symbols_from_right, relocs_from_right, section_names_right, section_by_name_right, symbol_by_name_right, strings_right}
+use Rattle.goblin_c.specs.Answers.{ctx_of, header_told, is_mips64el, reloc_told, section_told, segment_told, symbol_told, header_right, section_count_right, section_right, segment_right, symbol_right, reloc_right, string_right, sections_from_right, symbols_from_right, relocs_from_right, section_names_right, section_by_name_right, symbol_by_name_right, strings_right, table_right}
 use Rattle.goblin_c.specs.Cut.{cut}
 use Rattle.goblin_c.specs.Notes.{note_right}
 use Rattle.goblin_c.specs.Status.{refusal_told}
@@ -98,6 +98,7 @@ pub record RefusalsKeepTheirText : Type 0 where
   pub section : (bytes : List ℕ) (h : GoblinHeader) (index : ℕ) → KeepsText (section_right bytes h index)
   pub sections : (bytes : List ℕ) (h : GoblinHeader) (first : ℕ) → KeepsText (sections_from_right bytes h first)
   pub section_names : (bytes : List ℕ) (h : GoblinHeader) → KeepsText (section_names_right bytes h)
+  pub table : (bytes : List ℕ) (h : GoblinHeader) (index : ℕ) → KeepsText (table_right bytes h index)
   pub segment : (bytes : List ℕ) (h : GoblinHeader) (index : ℕ) → KeepsText (segment_right bytes h index)
   pub symbol :
       (bytes : List ℕ) (h : GoblinHeader) (range : GoblinRange) (index : ℕ)
@@ -241,14 +242,27 @@ StringsLieInFile =
     (bytes : List ℕ) (range : GoblinRange) (offset : ℕ) (told : GoblinRange)
     → string_right bytes range offset ≡ Ok (Some told) → LiesIn bytes told
 
--- the section that holds the sections' names is that with the index in the header; where this is 0xffff it is that with
--- the index that the first section links to
+-- what is told of the section at an index, where it is a table by that index: nothing at index 0, and nothing of a section
+-- without bytes in the file (type 8)
+abbrev pub table_told : ℕ → Result (Option GoblinSection) Refusal → Result (Option GoblinSection) Refusal
+table_told index (Ok (Some section)) = Ok (if index == 0 || section.sh_type == 8 then None else Some section)
+table_told index (Ok None) = Ok None
+table_told index (Err refusal) = Err refusal
+
+-- the table at each index is the section there, where that is one
+abbrev pub TablesByIndex : Type 0
+TablesByIndex =
+    (bytes : List ℕ) (h : GoblinHeader) (index : ℕ)
+    → table_right bytes h index ≡ table_told index (section_right bytes h index)
+
+-- the section that holds the sections' names is the table with the index in the header; where this is 0xffff it is that
+-- with the index that the first section links to
 abbrev pub NamesByIndex : Type 0
 NamesByIndex =
     (bytes : List ℕ) (h : GoblinHeader)
-    → (h.e_shstrndx ≢ 0xffff → section_names_right bytes h ≡ section_right bytes h h.e_shstrndx)
+    → (h.e_shstrndx ≢ 0xffff → section_names_right bytes h ≡ table_right bytes h h.e_shstrndx)
     × ((first : GoblinSection) → h.e_shstrndx ≡ 0xffff → section_right bytes h 0 ≡ Ok (Some first)
-    → section_names_right bytes h ≡ section_right bytes h first.sh_link)
+    → section_names_right bytes h ≡ table_right bytes h first.sh_link)
 
 -- a call tells of a string at an offset, and its bytes are this name
 abbrev pub IsNameAt : List ℕ → GoblinRange → ℕ → List ℕ → Type 0

@@ -1,8 +1,9 @@
 //! The header, the section headers and the program headers, as the library gives them.
 ghost use Rattle.std.specs.Prelude.{◌≡◌};
+ghost use Rattle.std.specs.Option.{option_map};
 ghost use Rattle.goblin.specs.Refusal.{Answers};
 ghost use Rattle.goblin.specs.SectionHeaders.{count_told, section_headers_from};
-ghost use Rattle.goblin_c.specs.Answers.{ctx_of, header_right, header_told, section_count_right, section_right, names_index, section_names_right, section_told, sections_right, segment_right, segment_told, segments_right};
+ghost use Rattle.goblin_c.specs.Answers.{ctx_of, header_right, header_told, section_count_right, section_right, names_index, section_names_right, section_told, sections_right, segment_right, segment_told, segments_right, table_at, table_right};
 
 use crate::table::table_of;
 use crate::types::{GoblinHeader, GoblinRange, GoblinSection, GoblinSegment};
@@ -11,7 +12,7 @@ use goblin::elf::header::{
     EI_ABIVERSION, EI_CLASS, EI_DATA, EI_OSABI, EI_VERSION, ELFCLASS64, ELFDATA2MSB, Header,
 };
 use goblin::elf::program_header::ProgramHeader;
-use goblin::elf::section_header::{SHN_XINDEX, SectionHeader};
+use goblin::elf::section_header::{SHN_XINDEX, SHT_NOBITS, SectionHeader};
 use goblin::error::Result;
 use goblin::scroll::{LE, TryFromCtx};
 use goblin_base::table::{Table, read_at};
@@ -178,15 +179,36 @@ fn names_index(sections: &Table<'_, SectionHeader, Ctx>, index: u16) -> usize
     }
 }
 
+// What C is told of the section that is a table by its index.
+fn told_table(sections: &Table<'_, SectionHeader, Ctx>, index: usize) -> Option<GoblinSection>
+    ensures { result ≡ option_map section_told (table_at sections.now index) }
+{
+    if index == 0 {
+        return None;
+    }
+    match sections.get(index) {
+        Some(section) if section.sh_type != SHT_NOBITS => Some(told_section(&section)),
+        _ => None,
+    }
+}
+
+/// The section at an index, where it is a table.
+pub fn table_section(
+    bytes: &[u8],
+    header: &GoblinHeader,
+    index: u64,
+) -> Result<Option<GoblinSection>>
+    ensures { Answers (λ found. found) result (table_right bytes.now header.now index) }
+{
+    Ok(told_table(&sections_of(bytes, header)?, index as usize))
+}
+
 /// The section that holds the sections' names.
 pub fn section_names(bytes: &[u8], header: &GoblinHeader) -> Result<Option<GoblinSection>>
     ensures { Answers (λ found. found) result (section_names_right bytes.now header.now) }
 {
     let sections = sections_of(bytes, header)?;
-    match sections.get(names_index(&sections, header.e_shstrndx)) {
-        Some(section) => Ok(Some(told_section(&section))),
-        None => Ok(None),
-    }
+    Ok(told_table(&sections, names_index(&sections, header.e_shstrndx)))
 }
 
 // The program headers.

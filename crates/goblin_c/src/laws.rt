@@ -1,5 +1,5 @@
 //! Laws of the calls: what they tell one by one is what the library has at once.
-ghost use Rattle.goblin_c.specs.Laws.{NotesAreItems, NotesInARow, NotesLieInFile, RefusalsKeepTheirText, ContextIsTheHeaders, SectionsByIndex, SegmentsByIndex, SymbolsByIndex, RelocsByIndex, FilledByIndex, RoomIsFilled, NamesByIndex, StringsAreThere, StringsLieInFile, SectionsByName, SymbolsByName, KindsAreAnswers};
+ghost use Rattle.goblin_c.specs.Laws.{NotesAreItems, NotesInARow, NotesLieInFile, RefusalsKeepTheirText, ContextIsTheHeaders, SectionsByIndex, SegmentsByIndex, SymbolsByIndex, RelocsByIndex, FilledByIndex, RoomIsFilled, NamesByIndex, StringsAreThere, StringsLieInFile, SectionsByName, SymbolsByName, TablesByIndex, KindsAreAnswers};
 
 /// Laws: who calls `goblin_note` at a range's start and then at each `next` gets the notes that the
 /// library's iterator over the range gives, in its order and no other, up to the end or the first
@@ -39,10 +39,12 @@ pub fn indices()
     ensures relocs { RelocsByIndex }
 {}
 
-/// Law: `goblin_section_names` tells what `goblin_section` tells at the index in the header, or where
-/// that is 0xffff at the index that the first section links to.
+/// Laws: `goblin_table` tells what `goblin_section` tells at an index, but nothing at index 0 or of a
+/// section without bytes in the file; `goblin_section_names` tells so at the index in the header, or
+/// where that is 0xffff at the index that the first section links to.
 pub fn names()
-    ensures { NamesByIndex }
+    ensures tables { TablesByIndex }
+    ensures names { NamesByIndex }
 {}
 
 /// Laws: `goblin_sections`, `goblin_symbols` and `goblin_relocs` give from each index on what the calls

@@ -10,7 +10,7 @@ use crate::types::{
 /// The sizes of the structs in bytes, and one of each, in which each byte of the first field is 1, of
 /// the second 2, and so on.
 #[repr(C)]
-#[derive(Clone, Copy)]
+#[derive(Clone, Copy, Debug)]
 pub struct GoblinLayout {
     pub size_of_refusal: u64,
     pub size_of_range: u64,

@@ -3,7 +3,7 @@
 #![tactic(auto)]
 
 ghost use Rattle.std.specs.Prelude.{◌≡◌, length};
-ghost use Rattle.goblin_c.specs.Answers.{header_right, reloc_right, section_count_right, section_right, segment_right, string_right, symbol_right, relocs_from_right, sections_from_right, symbols_from_right, section_by_name_right, section_names_right, symbol_by_name_right};
+ghost use Rattle.goblin_c.specs.Answers.{header_right, reloc_right, section_count_right, section_right, segment_right, string_right, symbol_right, relocs_from_right, sections_from_right, symbols_from_right, section_by_name_right, section_names_right, symbol_by_name_right, table_right};
 ghost use Rattle.goblin_c.specs.Cut.{cut};
 ghost use Rattle.goblin_c.specs.Layout.{layout};
 ghost use Rattle.goblin_c.specs.Notes.{note_right};
@@ -35,7 +35,9 @@ use goblin::elf::header::{class_to_str, et_to_str, machine_to_str};
 use goblin::elf::program_header::pt_to_str;
 use goblin::elf::section_header::{shf_to_str, sht_to_str};
 use goblin::elf::sym::{bind_to_str, type_to_str, visibility_to_str};
-use headers::{header_at, section_at, section_count, section_names, sections_of, segment_at};
+use headers::{
+    header_at, section_at, section_count, section_names, sections_of, segment_at, table_section,
+};
 use layout::{GoblinLayout, marked_layout};
 use names::{note_type, write_text};
 use notes::note_from;
@@ -380,7 +382,23 @@ pub extern "C" fn goblin_relocs(
     }
 }
 
-/// The section that holds the sections' names.
+/// The section at an index, where it is a table that something names by this index: not at index 0, and
+/// not where the section has no bytes in the file.
+#[unsafe(no_mangle)]
+pub extern "C" fn goblin_table(
+    bytes: &[u8],
+    header: &GoblinHeader,
+    index: u64,
+    section: &mut GoblinSection,
+    why: &mut GoblinRefusal,
+) -> u32
+    ensures { Tells (table_right bytes.now header.now index)
+        section.old why.old result section.new why.new }
+{
+    tell(table_section(bytes, header, index), section, why)
+}
+
+/// The section that holds the sections' names, where it is such a table.
 #[unsafe(no_mangle)]
 pub extern "C" fn goblin_section_names(
     bytes: &[u8],

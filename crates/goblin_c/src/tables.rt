@@ -7,7 +7,7 @@ ghost use Rattle.goblin_c.specs.Answers.{is_mips64el, reloc_right, reloc_told, r
 use crate::headers::{ctx_of, sections_of};
 use crate::types::{GoblinHeader, GoblinRange, GoblinReloc, GoblinSymbol};
 use goblin::container::Ctx;
-use goblin::elf::header::{ELFCLASS64, ELFDATA2LSB, EM_MIPS};
+use goblin::elf::header::{ELFCLASS64, ELFDATA2MSB, EM_MIPS};
 use goblin::elf::reloc::{Reloc, RelocSection};
 use goblin::elf::section_header::SectionHeader;
 use goblin::elf::sym::{Sym, Symtab};
@@ -75,7 +75,7 @@ pub fn symbol_at(
 fn is_mips64el(header: &GoblinHeader) -> bool
     ensures { result ≡ is_mips64el header.now }
 {
-    header.e_machine == EM_MIPS && header.ei_class == ELFCLASS64 && header.ei_data == ELFDATA2LSB
+    header.e_machine == EM_MIPS && header.ei_class == ELFCLASS64 && header.ei_data != ELFDATA2MSB
 }
 
 /// The relocations of a range.
@@ -162,9 +162,10 @@ fn find_section(
 ) -> Option<usize>
     ensures { result ≡ position (λ section. has_name names.now section.sh_name name.now) sections.now }
 {
+    let wanted = names.wanted(name);
     for i in 0..sections.len() {
         if let Some(section) = sections.get(i) {
-            if names.has_name(section.sh_name, name) {
+            if wanted.is_at(section.sh_name) {
                 return Some(i);
             }
         }

@@ -162,20 +162,83 @@ fn finds_section(name: &[u8]) -> (u32, u64) {
     (status, index)
 }
 
-// The type of the section that holds names.
-fn names_type() -> (u32, u32) {
-    let mut told = marked_layout().section;
-    let mut why = marked_layout().refusal;
-    let status = goblin_section_names(FILE, &header(), &mut told, &mut why);
-    (status, told.sh_type)
-}
-
 #[test]
 fn finds_names(rt: HostRuntime) {
     assert!(rt; finds_symbol(b"f") == (0, 1));
     assert!(rt; finds_symbol(b"g") == (1, 9));
+    assert!(rt; finds_symbol(b"f\0") == (1, 9));
+    assert!(rt; finds_symbol(b"") == (0, 0));
     assert!(rt; finds_section(b"") == (0, 0));
-    assert!(rt; names_type() == (0, 0));
+}
+
+// The file with another byte at a place.
+fn changed(place: usize, byte: u8) -> [u8; 208] {
+    let mut file = *FILE;
+    if let Some(old) = file.get_mut(place) {
+        *old = byte;
+    }
+    file
+}
+
+// What the table at an index is: its answer and its type, which is a mark where there is none.
+fn table(bytes: &[u8], index: u64) -> (u32, u32) {
+    let mut told = marked_layout().section;
+    let mut why = marked_layout().refusal;
+    let status = goblin_table(bytes, &header(), index, &mut told, &mut why);
+    (status, told.sh_type)
+}
+
+// The same of the section that holds names, by the index in the header.
+fn names(bytes: &[u8], index: u16) -> (u32, u32) {
+    let mut told = marked_layout().section;
+    let mut why = marked_layout().refusal;
+    let mut header = header();
+    header.e_shstrndx = index;
+    let status = goblin_section_names(bytes, &header, &mut told, &mut why);
+    (status, told.sh_type)
+}
+
+const NONE: (u32, u32) = (1, 0x0808_0808);
+
+const WITHOUT_BYTES: usize = 88 + 40 + 4;
+
+const FIRST_LINK: usize = 88 + 24;
+
+#[test]
+fn takes_no_section_for_a_table(rt: HostRuntime) {
+    assert!(rt; table(FILE, 1) == (0, 3) && table(FILE, 2) == (0, 2));
+    assert!(rt; table(FILE, 0) == NONE && table(FILE, 3) == NONE);
+    assert!(rt; table(FILE, u64::MAX) == NONE);
+    assert!(rt; table(&changed(WITHOUT_BYTES, 8), 1) == NONE);
+    assert!(rt; table(&changed(WITHOUT_BYTES, 7), 1) == (0, 7));
+}
+
+#[test]
+fn takes_no_section_for_names(rt: HostRuntime) {
+    assert!(rt; names(FILE, 1) == (0, 3));
+    assert!(rt; names(FILE, 0) == NONE && names(FILE, 3) == NONE);
+    assert!(rt; names(&changed(WITHOUT_BYTES, 8), 1) == NONE);
+    assert!(rt; names(FILE, 0xffff) == NONE);
+    assert!(rt; names(&changed(FIRST_LINK, 1), 0xffff) == (0, 3));
+    assert!(rt; names(&changed(FIRST_LINK, 3), 0xffff) == NONE);
+}
+
+// The same where the header tells no number of sections, and the first one's size does.
+fn names_of_many(index: u16) -> (u32, u32) {
+    let mut told = marked_layout().section;
+    let mut why = marked_layout().refusal;
+    let mut header = header();
+    header.e_shnum = 0;
+    header.e_shstrndx = index;
+    let file = changed(88 + 20, 3);
+    let status = goblin_section_names(&file, &header, &mut told, &mut why);
+    (status, told.sh_type)
+}
+
+#[test]
+fn takes_the_size_of_the_first_for_no_names(rt: HostRuntime) {
+    assert!(rt; names_of_many(0) == NONE);
+    assert!(rt; names_of_many(1) == (0, 3));
 }
 
 // Where a string lies: the answer, its offset and its size.
@@ -231,6 +294,34 @@ fn fills_reloc() -> bool {
 fn reads_relocations(rt: HostRuntime) {
     assert!(rt; reads_reloc());
     assert!(rt; fills_reloc());
+}
+
+static PAIR: &[u8; 16] = b"\x10\0\0\0\0\0\0\0\x02\0\0\0\0\0\0\x01";
+
+// Symbol and type of a relocation of 64 bits, by a header that a caller filled.
+fn reads_pair(machine: u16, class: u8, order: u8) -> (u32, u64, u32) {
+    let mut told = marked_layout().reloc;
+    let mut why = marked_layout().refusal;
+    let mut header = marked_layout().header;
+    header.e_machine = machine;
+    header.ei_class = class;
+    header.ei_data = order;
+    let range = GoblinRange {
+        offset: 0,
+        size: 16,
+    };
+    let status = goblin_reloc(PAIR, &header, &range, false, 0, &mut told, &mut why);
+    (status, told.r_sym, told.r_type)
+}
+
+#[test]
+fn reads_each_order_but_2_alike(rt: HostRuntime) {
+    assert!(rt; reads_pair(8, 2, 1) == (0, 2, 1));
+    assert!(rt; reads_pair(8, 2, 0) == (0, 2, 1));
+    assert!(rt; reads_pair(8, 2, 255) == (0, 2, 1));
+    assert!(rt; reads_pair(8, 2, 2) == (0, 0x0200_0000, 1));
+    assert!(rt; reads_pair(62, 2, 3) == (0, 0x0100_0000, 2));
+    assert!(rt; reads_pair(8, 0, 3).2 == 0);
 }
 
 static NOTE: &[u8; 20] = b"\x04\0\0\0\x04\0\0\0\x03\0\0\0GNU\0\xaa\xbb\xcc\xdd";
@@ -301,8 +392,53 @@ fn writes_refusals(rt: HostRuntime) {
 }
 
 #[test]
-fn writes_faults(rt: HostRuntime) {
+fn writes_faults_of_headers(rt: HostRuntime) {
+    let class = b"Malformed entity: Invalid class in Header: 7";
+    assert!(rt; says(10, 0, [7, 0, 0, 0], class));
+    let order = b"Malformed entity: Invalid endianness in Header: 7";
+    assert!(rt; says(11, 0, [7, 0, 0, 0], order));
     assert!(rt; says(12, 0, [0, 0, 0, 0], b"Malformed entity: Too small"));
+    assert!(rt;
+        says(
+            13,
+            0,
+            [31, 0, 0, 0],
+            b"Malformed entity: invalid ELF class 1f"
+        )
+    );
+    let read = b"Malformed entity: invalid ELF endianness DATA type 1f";
+    assert!(rt; says(14, 0, [31, 0, 0, 0], read));
+    assert!(rt;
+        says(
+            15,
+            0,
+            [31, 0, 0, 0],
+            b"Malformed entity: invalid ELF DATA type 1f"
+        )
+    );
+}
+
+#[test]
+fn writes_faults_of_sections(rt: HostRuntime) {
+    let place = b"Malformed entity: Section 9 size (31) + offset (5) is out of bounds. \
+        Overflowed: false";
+    assert!(rt; says(22, 0, [9, 31, 5, 0], place));
+    let address = b"Malformed entity: Section 9 size (31) + addr (5) is out of bounds. \
+        Overflowed: true";
+    assert!(rt; says(23, 0, [9, 31, 5, 1], address));
+    let number = b"Malformed entity: Integer do not fit: out of range integral type conversion \
+        attempted";
+    assert!(rt; says(24, 0, [0, 0, 0, 0], number));
+}
+
+#[test]
+fn writes_faults(rt: HostRuntime) {
+    let notes = b"Malformed entity: Notes has unimplemented alignment requirement: 0x1f";
+    assert!(rt; says(16, 0, [31, 0, 0, 0], notes));
+    let place = b"Malformed entity: Symbol table offset (31) is beyond file boundary (5)";
+    assert!(rt; says(17, 0, [31, 5, 0, 0], place));
+    let many = b"Malformed entity: Too many ELF symbols (offset 0x1f, count 31)";
+    assert!(rt; says(18, 0, [31, 31, 0, 0], many));
     let symbols = b"Malformed entity: Symbol table extends beyond file boundary \
         (requested: 72, available: 48)";
     assert!(rt; says(19, 0, [72, 48, 0, 0], symbols));
@@ -327,4 +463,108 @@ fn cut_text() -> ([u8; 4], u64) {
 fn cuts_refusals(rt: HostRuntime) {
     let (room, len) = cut_text();
     assert!(rt; &room == b"type" && len == 27);
+}
+
+// The names of the fields of each struct, in the order in which goblin.h declares them.
+static FIELDS: &[&str] = &[
+    "size_of_refusal:",
+    "size_of_range:",
+    "size_of_header:",
+    "size_of_section:",
+    "size_of_segment:",
+    "size_of_symbol:",
+    "size_of_reloc:",
+    "size_of_note:",
+    "refusal: GoblinRefusal",
+    "kind:",
+    "item:",
+    "first:",
+    "second:",
+    "third:",
+    "fourth:",
+    "range: GoblinRange",
+    "offset:",
+    "size:",
+    "header: GoblinHeader",
+    "e_entry:",
+    "e_phoff:",
+    "e_shoff:",
+    "e_version:",
+    "e_flags:",
+    "e_type:",
+    "e_machine:",
+    "e_ehsize:",
+    "e_phentsize:",
+    "e_phnum:",
+    "e_shentsize:",
+    "e_shnum:",
+    "e_shstrndx:",
+    "ei_class:",
+    "ei_data:",
+    "ei_version:",
+    "ei_osabi:",
+    "ei_abiversion:",
+    "section: GoblinSection",
+    "file:",
+    "offset:",
+    "size:",
+    "sh_name:",
+    "sh_flags:",
+    "sh_addr:",
+    "sh_addralign:",
+    "sh_entsize:",
+    "sh_type:",
+    "sh_link:",
+    "sh_info:",
+    "segment: GoblinSegment",
+    "file:",
+    "offset:",
+    "size:",
+    "p_vaddr:",
+    "p_paddr:",
+    "p_memsz:",
+    "p_align:",
+    "p_type:",
+    "p_flags:",
+    "symbol: GoblinSymbol",
+    "st_name:",
+    "st_value:",
+    "st_size:",
+    "st_shndx:",
+    "st_info:",
+    "st_other:",
+    "reloc: GoblinReloc",
+    "r_offset:",
+    "r_sym:",
+    "r_addend:",
+    "r_type:",
+    "has_addend:",
+    "note: GoblinNote",
+    "name:",
+    "offset:",
+    "size:",
+    "desc:",
+    "offset:",
+    "size:",
+    "next:",
+    "n_type:",
+];
+
+// Whether a text has these names, each behind the one before.
+fn has_in_order(text: &str, names: &[&str]) -> bool {
+    let mut rest = text;
+    for name in names {
+        match rest.split_once(*name) {
+            Some((_, behind)) => rest = behind,
+            None => return false,
+        }
+    }
+    true
+}
+
+#[test]
+fn has_fields_in_order(rt: HostRuntime) -> std::io::Result<()> {
+    let shown = format!(in rt.alloc(); "{:?}", marked_layout())?;
+    assert!(rt; has_in_order(shown.as_str(), FIELDS));
+    Ok(())
 }

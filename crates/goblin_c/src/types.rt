@@ -2,7 +2,7 @@
 
 /// Why a file is refused.
 #[repr(C)]
-#[derive(Clone, Copy)]
+#[derive(Clone, Copy, Debug)]
 pub struct GoblinRefusal {
     /// What the call answers: a number of the kind of refusal.
     pub kind: u32,
@@ -17,7 +17,7 @@ pub struct GoblinRefusal {
 
 /// Some bytes of the file.
 #[repr(C)]
-#[derive(Clone, Copy)]
+#[derive(Clone, Copy, Debug)]
 pub struct GoblinRange {
     /// Where they start, in bytes from the file's start.
     pub offset: u64,
@@ -27,7 +27,7 @@ pub struct GoblinRange {
 
 /// A file's header.
 #[repr(C)]
-#[derive(Clone, Copy)]
+#[derive(Clone, Copy, Debug)]
 pub struct GoblinHeader {
     pub e_entry: u64,
     pub e_phoff: u64,
@@ -53,7 +53,7 @@ pub struct GoblinHeader {
 
 /// A section header.
 #[repr(C)]
-#[derive(Clone, Copy)]
+#[derive(Clone, Copy, Debug)]
 pub struct GoblinSection {
     /// `sh_offset` and `sh_size`.
     pub file: GoblinRange,
@@ -69,7 +69,7 @@ pub struct GoblinSection {
 
 /// A program header.
 #[repr(C)]
-#[derive(Clone, Copy)]
+#[derive(Clone, Copy, Debug)]
 pub struct GoblinSegment {
     /// `p_offset` and `p_filesz`.
     pub file: GoblinRange,
@@ -83,7 +83,7 @@ pub struct GoblinSegment {
 
 /// A symbol.
 #[repr(C)]
-#[derive(Clone, Copy)]
+#[derive(Clone, Copy, Debug)]
 pub struct GoblinSymbol {
     pub st_name: u64,
     pub st_value: u64,
@@ -95,7 +95,7 @@ pub struct GoblinSymbol {
 
 /// A relocation.
 #[repr(C)]
-#[derive(Clone, Copy)]
+#[derive(Clone, Copy, Debug)]
 pub struct GoblinReloc {
     pub r_offset: u64,
     pub r_sym: u64,
@@ -108,7 +108,7 @@ pub struct GoblinReloc {
 
 /// A note.
 #[repr(C)]
-#[derive(Clone, Copy)]
+#[derive(Clone, Copy, Debug)]
 pub struct GoblinNote {
     /// Its name, without the zero byte that closes it.
     pub name: GoblinRange,

@@ -19,7 +19,7 @@ fn name_of<'a>(elf: &Elf<'a>, symbols: &Symtab<'a>, reloc: &Reloc) -> Result<&'a
     let name = symbols.name(&symbol)?.unwrap_or("");
     if symbol.st_type() == STT_SECTION && name.is_empty() {
         return match elf.section_header(symbol.st_shndx)? {
-            Some(section) => Ok(elf.shdr_strtab()?.get_at(section.sh_name)?.unwrap_or("")),
+            Some(section) => Ok(elf.shdr_strtab()?.get(section.sh_name)?.unwrap_or("")),
             None => Ok(""),
         };
     }
@@ -38,7 +38,7 @@ fn list(elf: &Elf, out: &mut impl Write) -> std::result::Result<(), Box<dyn erro
     let section_names = elf.shdr_strtab()?;
     for section in elf.shdr_relocs() {
         let (section, relocs) = section?;
-        writeln!(out, "{}:", section_names.get_at(section.sh_name)?.unwrap_or(""))?;
+        writeln!(out, "{}:", section_names.get(section.sh_name)?.unwrap_or(""))?;
         let symbols = symbols_of(elf, &section)?;
         for reloc in relocs.iter() {
             let reloc = reloc?;

@@ -60,20 +60,22 @@ impl<'a> Elf<'a> {
         Ok(index.map(|index| index as usize))
     }
 
-    /// The sections' names: an empty table where the file has none.
+    /// The sections' names: an empty table where the file has none, as where their index is 0, or that of a section without
+    /// bytes in the file.
     pub fn shdr_strtab(&self) -> Result<Strtab<'a>> {
         let range = sys::goblin_section_names(self.bytes, &self.header)?.unwrap_or_default().file;
         Ok(Strtab { bytes: self.bytes, range })
     }
 
-    /// The strings of a section.
+    /// The strings of a section: an empty table where it has no bytes in the file.
     pub fn strtab(&self, section: &SectionHeader) -> Strtab<'a> {
         Strtab { bytes: self.bytes, range: section.range() }
     }
 
-    /// The symbols of a section, with the names that the section at its `sh_link` holds: none where there is no such section.
+    /// The symbols of a section, with the names that the section at its `sh_link` holds: none where there is no such section,
+    /// as at index 0, or where it has no bytes in the file.
     pub fn symtab(&self, section: &SectionHeader) -> Result<Symtab<'a>> {
-        let names = sys::goblin_section(self.bytes, &self.header, section.sh_link.into())?.unwrap_or_default();
+        let names = sys::goblin_table(self.bytes, &self.header, section.sh_link.into())?.unwrap_or_default();
         let strtab = Strtab { bytes: self.bytes, range: names.file };
         Ok(Symtab { header: self.header, range: section.range(), strtab })
     }

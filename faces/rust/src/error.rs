@@ -2,8 +2,8 @@
 use crate::{raw, sys};
 use std::{error, fmt, result};
 
-/// Why a file is refused. Its text is the library's.
-#[derive(Clone, Copy, Debug, PartialEq, Eq)]
+/// Why a file is refused. Its text is the library's, by `Debug` too: so a `main` that answers it tells it in words.
+#[derive(Clone, Copy, PartialEq, Eq)]
 pub struct Error(raw::Refusal);
 
 /// An answer, or why the file is refused.
@@ -55,6 +55,13 @@ impl Error {
 impl fmt::Display for Error {
     fn fmt(&self, f: &mut fmt::Formatter<'_>) -> fmt::Result {
         f.write_str(&sys::goblin_refusal_text(&self.0))
+    }
+}
+
+/// The same.
+impl fmt::Debug for Error {
+    fn fmt(&self, f: &mut fmt::Formatter<'_>) -> fmt::Result {
+        fmt::Display::fmt(self, f)
     }
 }
 

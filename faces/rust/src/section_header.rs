@@ -7,6 +7,8 @@ pub const SHT_SYMTAB: u32 = 2;
 pub const SHT_RELA: u32 = 4;
 /// Notes.
 pub const SHT_NOTE: u32 = 7;
+/// Zeros in memory: nothing in the file.
+pub const SHT_NOBITS: u32 = 8;
 /// Relocations without addends.
 pub const SHT_REL: u32 = 9;
 /// The symbols that are wanted when the program runs.
@@ -38,8 +40,12 @@ pub struct SectionHeader {
 }
 
 impl SectionHeader {
+    /// Its bytes in the file: none of a section that has none there, whatever its size.
     pub(crate) fn range(&self) -> raw::Range {
-        raw::Range { offset: self.sh_offset, size: self.sh_size }
+        match self.sh_type {
+            SHT_NOBITS => raw::Range::default(),
+            _ => raw::Range { offset: self.sh_offset, size: self.sh_size },
+        }
     }
 }
 

@@ -12,7 +12,7 @@ pub struct Strtab<'a> {
 impl<'a> Strtab<'a> {
     /// The string at an offset from the table's start, or `None` past its end. A string that is no UTF-8 is refused, and so
     /// is a table that doesn't lie in the file.
-    pub fn get_at(&self, offset: usize) -> Result<Option<&'a str>> {
+    pub fn get(&self, offset: usize) -> Result<Option<&'a str>> {
         let place = sys::goblin_string(self.bytes, &self.range, offset as u64)?;
         Ok(place.map(|place| text(self.bytes, place)))
     }

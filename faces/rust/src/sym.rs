@@ -74,7 +74,7 @@ impl<'a> Symtab<'a> {
 
     /// The name of a symbol, or `None` where it lies past the string table.
     pub fn name(&self, symbol: &Sym) -> Result<Option<&'a str>> {
-        self.strtab.get_at(symbol.st_name)
+        self.strtab.get(symbol.st_name)
     }
 
     /// The index of the first symbol with a name.

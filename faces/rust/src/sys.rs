@@ -35,6 +35,7 @@ calls! {
     fn goblin_header() -> Header;
     fn goblin_section(header: &Header, index: u64) -> Section;
     fn goblin_sections(header: &Header, first: u64) into [Section] -> u64;
+    fn goblin_table(header: &Header, index: u64) -> Section;
     fn goblin_section_names(header: &Header) -> Section;
     fn goblin_section_by_name(header: &Header, names: &Range) by name -> u64;
     fn goblin_segment(header: &Header, index: u64) -> Segment;

@@ -1,7 +1,7 @@
 //! What is read of small files that are made here, in both classes and orders, whole and damaged.
 use goblin_rs::error::Kind;
 use goblin_rs::reloc::Reloc;
-use goblin_rs::section_header::{SectionHeader, SHT_NOTE, SHT_REL, SHT_RELA, SHT_SYMTAB};
+use goblin_rs::section_header::{SectionHeader, SHT_NOBITS, SHT_NOTE, SHT_REL, SHT_RELA, SHT_SYMTAB};
 use goblin_rs::sym::Sym;
 use goblin_rs::{header, program_header, section_header, sym, Elf, Result};
 
@@ -108,6 +108,26 @@ fn made(form: Form, more: usize) -> Vec<u8> {
     file
 }
 
+/// A made file with another number in the header of a section: four bytes at a place of the 32-bit class, or of the other.
+fn with_section(form: Form, index: usize, places: (usize, usize), number: u64) -> Vec<u8> {
+    let mut file = made(form, 0);
+    let at = Elf::parse(&file).unwrap().header.e_shoff as usize;
+    let at = at + if form.is_64 { 64 * index + places.1 } else { 40 * index + places.0 };
+    file[at..at + 4].copy_from_slice(&form.numbers(&[(4, number)]));
+    file
+}
+
+const SH_TYPE: (usize, usize) = (4, 4);
+const SH_LINK: (usize, usize) = (24, 40);
+
+/// A made file whose header has this index of the sections' names.
+fn with_names_at(form: Form, index: u64) -> Vec<u8> {
+    let mut file = made(form, 0);
+    let at = if form.is_64 { 62 } else { 50 };
+    file[at..at + 2].copy_from_slice(&form.numbers(&[(2, index)]));
+    file
+}
+
 fn section<'a>(elf: &Elf<'a>, kind: u32) -> SectionHeader {
     elf.section_headers().map(Result::unwrap).find(|section| section.sh_type == kind).unwrap()
 }
@@ -133,7 +153,7 @@ fn sections() {
         let elf = Elf::parse(&file).unwrap();
         let names = elf.shdr_strtab().unwrap();
         let sections: Vec<_> = elf.section_headers().map(Result::unwrap).collect();
-        let found: Vec<_> = sections.iter().map(|s| names.get_at(s.sh_name).unwrap().unwrap()).collect();
+        let found: Vec<_> = sections.iter().map(|s| names.get(s.sh_name).unwrap().unwrap()).collect();
         assert_eq!(found, ["", ".note", ".symtab", ".strtab", ".rela", ".rel", ".names"]);
         for (index, name) in found.iter().enumerate() {
             assert_eq!(elf.section_by_name(name), Ok(Some(index)));
@@ -188,8 +208,55 @@ fn symbols() {
         assert_eq!(symbols.find("été"), Ok(Some(3)));
         assert_eq!(symbols.find("t"), Ok(None));
         assert_eq!(symbols.get(5), Ok(None));
-        assert_eq!(symbols.strtab.get_at(STRINGS.len()), Ok(None));
+        assert_eq!(symbols.strtab.get(STRINGS.len()), Ok(None));
         assert!(elf.dynsyms().unwrap().is_none());
+    }
+}
+
+/// A name, and the index of the first item that has it.
+type Named = (Result<Option<String>>, Result<Option<usize>>);
+
+fn first_section(file: &[u8]) -> Named {
+    let elf = Elf::parse(file).unwrap();
+    (elf.shdr_strtab().unwrap().get(1).map(|name| name.map(String::from)), elf.section_by_name(".note"))
+}
+
+fn first_symbol(file: &[u8]) -> Named {
+    let symbols = Elf::parse(file).unwrap().syms().unwrap().unwrap();
+    let symbol = symbols.get(1).unwrap().unwrap();
+    (symbols.name(&symbol).map(|name| name.map(String::from)), symbols.find("first"))
+}
+
+#[test]
+fn no_section_is_no_table() {
+    for form in FORMS {
+        let none = (Ok(None), Ok(None));
+        assert_eq!(first_section(&made(form, 0)), (Ok(Some(".note".to_string())), Ok(Some(1))));
+        assert_eq!(first_section(&with_names_at(form, 0)), none);
+        assert_eq!(first_section(&with_names_at(form, 7)), none);
+        assert_eq!(first_section(&with_names_at(form, 0xffff)), none);
+        assert_eq!(first_section(&with_section(form, 6, SH_TYPE, SHT_NOBITS.into())), none);
+        assert_eq!(first_symbol(&made(form, 0)), (Ok(Some("first".to_string())), Ok(Some(1))));
+        assert_eq!(first_symbol(&with_section(form, 2, SH_LINK, 0)), none);
+        assert_eq!(first_symbol(&with_section(form, 2, SH_LINK, 7)), none);
+        assert_eq!(first_symbol(&with_section(form, 3, SH_TYPE, SHT_NOBITS.into())), none);
+    }
+}
+
+#[test]
+fn sections_without_bytes_hold_nothing() {
+    for form in FORMS {
+        let file = made(form, 0);
+        let elf = Elf::parse(&file).unwrap();
+        for index in 1..7 {
+            let mut section = elf.section_header(index).unwrap().unwrap();
+            assert_ne!(elf.strtab(&section).get(0), Ok(None));
+            section.sh_type = SHT_NOBITS;
+            assert_eq!(elf.strtab(&section).get(0), Ok(None));
+            assert_eq!(elf.symtab(&section).unwrap().get(0), Ok(None));
+            assert_eq!(elf.relocs(&section).get(0), Ok(None));
+            assert!(elf.notes(&section).next().is_none());
+        }
     }
 }
 
@@ -262,6 +329,8 @@ fn refusals() {
     for ((kind, text), wanted_kind, wanted_text) in wanted {
         assert_eq!((kind, &text[..]), (wanted_kind, wanted_text));
     }
+    // a `main` that answers a refusal tells it by `Debug`
+    assert_eq!(format!("{:?}", Elf::parse(&file[..63]).err().unwrap()), "type is too big (64) for 63");
     let class = refused(&|f| f[4] = 3);
     assert_eq!(class.0, Kind::Malformed);
     // Where the section headers lie past the file's end: the refusal is the one item.
@@ -303,7 +372,7 @@ fn read_all(file: &[u8]) -> Result<(usize, usize)> {
             Ok(section) => section,
             Err(_) => break,
         };
-        count(elf.shdr_strtab()?.get_at(section.sh_name).is_ok());
+        count(elf.shdr_strtab()?.get(section.sh_name).is_ok());
         elf.relocs(&section).iter().for_each(|reloc| count(reloc.is_ok()));
         if section.sh_type == SHT_SYMTAB {
             let symbols = elf.symtab(&section)?;

@@ -3,4 +3,4 @@ use Rattle.goblin.proofs.Positions.{SearchedTo}
 use Rattle.goblin_c.proofs.tables.find_section.Given as goal
 
 abbrev pub invariant-loop-i : goal.invariant-loop-i
-invariant-loop-i l = SearchedTo (λ section. has_name l.names section.sh_name l.name) l.sections l.i
+invariant-loop-i l = SearchedTo (λ section. has_name l.fn.names section.sh_name l.name) l.sections l.i
