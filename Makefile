@@ -1,27 +1,34 @@
-# The commands of this repository. They need nothing but the Rattle toolchain (`rt`); what checks/faces.sh compiles by cc and
-# cargo it leaves out where the machine has none.
+# The commands of this repository. They need the Rattle toolchain (`rt`), with the Python 3 that it runs on, and make, a shell
+# and awk; what checks/faces.sh compiles by cc and cargo it leaves out where the machine has none.
 
-# Proves and builds the program where needed, and shows a file: make show FILE=/bin/true
-# (A refused file is no error of make. What can't be read is, and so is a program that isn't proved or can't write.)
-# The name is passed on as it stands, whatever signs it has.
+# The name of a file is passed on as it stands, whatever signs it has.
 export SHOWN := $(value FILE)
+export MODE
 unexport FILE
-show:
-	@test -n "$$SHOWN" || { echo 'make show wants a file, as: make show FILE=/bin/true' >&2; exit 2; }
-	@! test -d "$$SHOWN" || { printf 'make show: %s is a folder\n' "$$SHOWN" >&2; exit 2; }
-	@test -r "$$SHOWN" || { printf 'make show: %s can not be read\n' "$$SHOWN" >&2; exit 2; }
-	@cd crates/goblin_show && rt run < stdin > /dev/null
-	@crates/goblin_show/out/goblin_show < "$$SHOWN" || test $$? -eq 1 \
-	|| { echo 'make show: reading or writing failed' >&2; exit 2; }
 
-# The whole gate: the pages' quotations, and whether each edit fits the code; growths that are refused, beside every proof
-# from nothing, the edits that must fail, the tests and the stored runs; then the library for C called from C and Rust, beside
-# the program's words.
+# Shows a file, by the program built without a proof: make try FILE=/bin/true
+try:
+	@sh checks/show.sh try
+
+# Proves each crate of the program where needed, builds it, and shows a file: make show FILE=/bin/true [MODE=permissive]
+# (A refused file is no error of make. What can't be read is, and so is a program that isn't proved or can't write.)
+show:
+	@sh checks/show.sh show
+
+# The whole gate, and what it took, in units of the lowest crate's proof.
 test:
+	@python3 checks/took.py $(MAKE) --no-print-directory gate
+
+# The pages' quotations, and whether each edit fits the code; growths that are refused, beside every proof from nothing, the
+# tests and the stored runs; every edit that the prover must refuse; then the library for C called from C and Rust, beside the
+# program's words and what hostile files may take.
+gate:
 	sh checks/quotes.sh
-	sh checks/applies.sh
+	python3 checks/edits --fits
 	@$(MAKE) --no-print-directory -j2 refused proved
-	@$(MAKE) --no-print-directory -j2 faces words
+	python3 checks/edits/planted.py
+	python3 checks/edits --anew $(if $(UNIT),--unit '$(UNIT)')
+	@$(MAKE) --no-print-directory -j2 faces words limits
 
 refused:
 	sh checks/refused.sh
@@ -35,12 +42,16 @@ words:
 faces:
 	sh checks/faces.sh
 
-# More wrong bodies that the prover must refuse, of all crates or of some: make edits CRATES=goblin_base
+limits:
+	python3 checks/limits.py
+
+# The edits alone, of all crates or of some, over what earlier checks kept; those of another folder, which has a folder for
+# each crate; or one, by its name: make edits CRATES=goblin_base; make edits FROM=/tmp/bugs; make edits EDIT=one_early
 edits:
-	sh checks/edits.sh $(CRATES)
+	python3 checks/edits $(CRATES) $(if $(FROM),--from '$(FROM)') $(if $(EDIT),--edit '$(EDIT)')
 
 # Times the program, once it is built, over files that ask for much work, and over a FILE: make bench FILE=/bin/true
 bench:
-	sh checks/bench.sh $(FILE)
+	@sh checks/bench.sh
 
-.PHONY: show test refused proved words faces edits bench
+.PHONY: try show test gate refused proved words faces limits edits bench

@@ -1,6 +1,6 @@
 #!/bin/sh
-# Times the built program over the files of checks/hostile.sh and over FILE, beside readelf where there is one:
-# sh checks/bench.sh [FILE]. A line tells the least of RUNS runs (9, if not said) taken by turns, in milliseconds, and readelf's
+# Times the built program over the files of checks/hostile.sh and over a FILE, beside readelf where there is one:
+# SHOWN=FILE sh checks/bench.sh. A line tells the least of RUNS runs (9, if not said) taken by turns, in milliseconds, and readelf's
 # time as a multiple of the strict one; readelf is stopped after 10 seconds. Run from the repository's root.
 set -eu
 export LC_ALL=C
@@ -11,7 +11,7 @@ folder=$(mktemp -d)
 trap 'rm -rf "$folder"' EXIT
 trap 'exit 1' HUP INT TERM
 sh checks/hostile.sh "$folder"
-if [ $# -gt 0 ]; then cp "$1" "$folder/FILE"; fi
+if [ -n "${SHOWN:-}" ]; then cp -- "$SHOWN" "$folder/FILE"; fi
 
 strict() { "$show" < "$file"; }
 permissive() { "$show" permissive < "$file"; }

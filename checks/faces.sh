@@ -108,10 +108,12 @@ check_c() {
         echo "$symbols_made" | awk -v digits=$digits '{ while (length($1) < digits) $1 = "0" $1; print }' > "$folder/wanted"
         "$folder/nm" "$file" > "$folder/listed"
         quietly diff "$folder/wanted" "$folder/listed"
-        [ "$("$folder/values" "$file" | grep -c -x -e '12 2' -e '8 20')" -eq 2 ] || { echo "values.c: $file"; exit 1; }
+        "$folder/values" "$file" > "$folder/listed"
+        [ "$(grep -c -x -e '12 function' -e '18 été' "$folder/listed")" -eq 2 ] || { echo "values.c: $file"; exit 1; }
     done
     head -c 15 "$file" > "$folder/short"
     [ "$("$folder/nm" "$folder/short" 2>&1)" = 'nm: header: Malformed entity: Too small' ] || { echo "nm.c: a short file"; exit 1; }
+    [ "$("$folder/values" "$folder/short" 2>&1)" = 'values: Malformed entity: Too small' ] || { echo "values.c: a short file"; exit 1; }
     echo "nm.c lists $(echo "$symbols_made" | wc -l) symbols in each class and order"
     "$folder/damaged" 1000 "$folder"/files/*
 }
@@ -129,6 +131,7 @@ check_rust() {
         "$examples/symbols" "$file" > "$folder/listed"
         [ "$(grep -c -x -e '12 function' -e '18 été' "$folder/listed")" -eq 2 ] || { echo "symbols.rs: $file"; exit 1; }
     done
+    [ "$("$examples/symbols" "$folder/short" 2>&1)" = 'Error: Malformed entity: Too small' ] || { echo "symbols.rs: a short file"; exit 1; }
 }
 
 # ---- files of this machine ----

@@ -1,0 +1,197 @@
+#!/usr/bin/env python3
+"""Whether the prover refuses each wrong body that crates/NAME/edits/ plants.
+
+    python3 checks/edits                      every edit of every crate
+    python3 checks/edits CRATE ..             those of some crates
+    python3 checks/edits --edit NAME          the one of that name
+    python3 checks/edits --from FOLDER ..     those of FOLDER/CRATE/ in place of the crates' own
+    python3 checks/edits --fits               only whether each fits the code: nothing is proved
+    python3 checks/edits --anew ..            over proofs from nothing, not over what earlier checks kept
+    python3 checks/edits --unit FILE ..       writes to FILE how many processor seconds the lowest crate's proof took
+
+Run from the repository's root. It works on copies, as many crates side by side as there are processors.
+"""
+import argparse
+import os
+import shutil
+import subprocess
+import sys
+import tempfile
+import threading
+import time
+from concurrent.futures import FIRST_COMPLETED, ThreadPoolExecutor, wait
+
+sys.path.insert(0, os.path.dirname(os.path.abspath(__file__)))
+from edit import edits_of
+from trial import Trial
+from verdict import WAYS
+
+PRINTING = threading.Lock()
+
+
+def say(line):
+    with PRINTING:
+        print(line, flush=True)
+
+
+def crates_listed():
+    """The crates of crates.txt, each with those that it stands on, directly or not."""
+    stands_on = {}
+    with open('crates.txt', encoding='utf-8') as lines:
+        for line in lines:
+            head, split, names = line.partition('#')[0].partition(':')
+            if split:
+                stands_on[head.split()[0]] = [name for name in names.split() if os.path.isdir(f'crates/{name}')]
+    below = lambda crate: {it for name in stands_on[crate] for it in {name, *below(name)}}
+    return {crate: below(crate) for crate in stands_on}
+
+
+def copied(to, with_kept):
+    """Makes a copy of the repository's crates there, with what checks have kept or without it."""
+    left_out = shutil.ignore_patterns('target', *([] if with_kept else ['out']))
+    shutil.copytree('crates', f'{to}/crates', ignore=left_out, symlinks=True)
+    for name in ('HANDLES', 'crates.txt'):
+        shutil.copy(name, to)
+
+
+def trial_folder(room, crate, below):
+    """Makes a copy of a proved crate, and of the libraries below it, in which edits can be applied."""
+    to = f'{room}/tried/{crate}'
+    for name in os.listdir(f'{room}/crates'):
+        shutil.copytree(f'{room}/crates/{name}', f'{to}/crates/{name}', ignore=shutil.ignore_patterns('out'))
+        if name == crate:
+            shutil.copytree(f'{room}/crates/{name}/out/incremental', f'{to}/crates/{name}/out/incremental')
+        elif name in below:
+            # no check writes into the library that another crate stands on
+            shutil.copytree(f'{room}/crates/{name}/out/rlib', f'{to}/crates/{name}/out/rlib', copy_function=os.link)
+    for name in ('HANDLES', 'crates.txt'):
+        shutil.copy(f'{room}/{name}', to)
+    return f'{to}/crates/{crate}'
+
+
+def seconds_of(command, folder):
+    """Runs a command and answers whether it failed, its output and the processor seconds that it took."""
+    with tempfile.TemporaryFile('w+', errors='replace') as out:
+        started = subprocess.Popen(command, cwd=folder, stdin=subprocess.DEVNULL, stdout=out, stderr=subprocess.STDOUT)
+        _, status, used = os.wait4(started.pid, 0)
+        started.returncode = status
+        out.seek(0)
+        return status, out.read(), used.ru_utime + used.ru_stime
+
+
+class Run:
+    """All crates that are tried: each proved once those below it are, and its edits tried once it is."""
+
+    def __init__(self, room, edits, below, jobs):
+        self.room, self.edits, self.below, self.jobs = room, edits, below, jobs
+        self.wrong, self.ways, self.unit = [], set(), 0.0
+
+    def prove(self, crate, jobs):
+        """Proves a crate, as a library where others stand on it."""
+        is_library = any(crate in below for below in self.below.values())
+        verb = ['rt', 'lib' if is_library else 'check', '--jobs', str(jobs)]
+        status, said, used = seconds_of(verb, f'{self.room}/crates/{crate}')
+        if not self.below[crate]:
+            self.unit = used
+        if status:
+            self.wrong.append(f'{crate}: it is not proved as it stands')
+            say(f'{said[-3000:]}\n{self.wrong[-1]}')
+        return not status
+
+    def try_edits(self, crate):
+        """Tries the edits of a proved crate, and says how they were judged."""
+        start = time.time()
+        trial = Trial(crate, trial_folder(self.room, crate, self.below[crate]), self.edits[crate], say)
+        trial.run()
+        shutil.rmtree(f'{self.room}/tried/{crate}')
+        self.wrong += trial.wrong
+        self.ways |= set(trial.ways)
+        ways = ', '.join(f'{trial.ways[way]} {way}' for way in WAYS)
+        groups = [count for count in trial.groups if count != 1]
+        say(f'{crate}: {len(self.edits[crate])} edits in groups of {groups} and {trial.groups.count(1)} alone: refused {ways}; '
+            f'{time.time() - start:.0f} seconds')
+
+    def all(self):
+        """Proves and tries, as many tasks side by side as there are jobs, first what others wait for."""
+        wanted = {it for crate in self.edits for it in {crate, *self.below[crate]}}
+        tasks = [('prove', it) for it in sorted(wanted, key=lambda it: len(self.below[it]))]
+        tasks += [('try', it) for it in sorted(self.edits, key=lambda it: -len(self.edits[it]))]
+        proved, failed, running = set(), set(), {}
+        with ThreadPoolExecutor(self.jobs) as pool:
+            while tasks or running:
+                for task in [it for it in tasks if self.is_ready(it, proved)][:self.jobs - len(running)]:
+                    tasks.remove(task)
+                    running[self.submit(pool, task, not running)] = task
+                if not running:
+                    break
+                for done in wait(running, return_when=FIRST_COMPLETED).done:
+                    kind, crate = running.pop(done)
+                    if kind == 'prove':
+                        (proved if done.result() else failed).add(crate)
+                    else:
+                        done.result()
+
+    def is_ready(self, task, proved):
+        kind, crate = task
+        return (self.below[crate] if kind == 'prove' else {crate}) <= proved
+
+    def submit(self, pool, task, is_alone):
+        kind, crate = task
+        if kind == 'prove':
+            return pool.submit(self.prove, crate, self.jobs if is_alone and not self.below[crate] else 1)
+        return pool.submit(self.try_edits, crate)
+
+
+def read_edits(words, below):
+    """The edits that are asked for, by crate; those that fit no code are told."""
+    edits, misfits = {}, []
+    for crate in words.crates or below:
+        folder = f'{words.folder}/{crate}' if words.folder else f'crates/{crate}/edits'
+        if not os.path.isdir(folder):
+            continue
+        found, wrong = edits_of(folder, crate, f'crates/{crate}')
+        found = [it for it in found if words.edit in (None, it.name)]
+        edits.update({crate: found} if found else {})
+        misfits += wrong
+    return edits, misfits
+
+
+def main():
+    parser = argparse.ArgumentParser(prog='python3 checks/edits', description=__doc__.split('\n')[0])
+    parser.add_argument('crates', nargs='*')
+    parser.add_argument('--edit')
+    parser.add_argument('--from', dest='folder')
+    parser.add_argument('--fits', action='store_true')
+    parser.add_argument('--anew', action='store_true')
+    parser.add_argument('--unit')
+    parser.add_argument('--jobs', type=int, default=len(os.sched_getaffinity(0)))
+    words = parser.parse_args()
+    below = crates_listed()
+    edits, misfits = read_edits(words, below)
+    count = sum(map(len, edits.values()))
+    for misfit in misfits:
+        say(misfit)
+    if misfits or not count:
+        say('edits: none tried' if count else 'edits: none found')
+        return 1
+    if words.fits:
+        say(f'{count} edits fit the code')
+        return 0
+    with tempfile.TemporaryDirectory(prefix='edits-') as room:
+        copied(room, not words.anew)
+        run = Run(room, edits, below, words.jobs)
+        run.all()
+    is_whole = not (words.crates or words.edit or words.folder)
+    if is_whole and run.ways != set(WAYS):
+        run.wrong.append('not every way of refusing was seen: the prover speaks of it in other words now')
+    for line in run.wrong:
+        say(f'edits: {line}')
+    if words.unit:
+        with open(words.unit, 'w', encoding='utf-8') as file:
+            file.write(f'{run.unit:.0f}\n')
+    say(f'edits: {count} tried, {len(run.wrong)} wrong')
+    return 1 if run.wrong else 0
+
+
+if __name__ == '__main__':
+    sys.exit(main())

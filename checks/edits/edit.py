@@ -1,0 +1,180 @@
+"""An edit, which plants a wrong body, and the functions that it changes.
+
+An edit is a file: a line 'file: src/lib.rt', or of specs/ or proofs/, and behind it pairs of lines 'old: TEXT' and
+'new: TEXT'. Each old text stands just once in that file as it is committed.
+"""
+import os
+import re
+from dataclasses import dataclass
+
+
+class Misfit(Exception):
+    """An edit that can't be applied, and why."""
+
+
+@dataclass(frozen=True)
+class Change:
+    """One text of a file that is replaced."""
+    file: str
+    start: int
+    old: str
+    new: str
+
+
+@dataclass(frozen=True)
+class Edit:
+    """A wrong body: its name, its changes, the functions that hold them, whether all stand in functions, and in their bodies."""
+    name: str
+    changes: tuple
+    functions: frozenset
+    is_of_functions: bool
+    is_of_bodies: bool
+
+
+def edits_of(folder, crate, source):
+    """The edits in a folder, by name, of the crate whose files stand in `source`, and what is wrong with those that don't fit."""
+    edits, misfits = [], []
+    for file in sorted(os.listdir(folder)):
+        try:
+            name, is_edit, rest = file.rpartition('.edit')
+            if not is_edit or rest:
+                raise Misfit(f'{crate}/{file}: it is no edit')
+            edits.append(read_edit(f'{folder}/{file}', name, crate, source))
+        except Misfit as misfit:
+            misfits.append(str(misfit))
+    return edits, misfits
+
+
+def read_edit(path, name, crate, source):
+    """The edit that a file holds."""
+    changes, file, old = [], None, None
+    with open(path, encoding='utf-8') as lines:
+        for line in lines.read().split('\n'):
+            if line.startswith('file: '):
+                file = line[len('file: '):].strip()
+            elif line.startswith('old: '):
+                old = line[len('old: '):]
+            elif line.startswith('new:'):
+                if not file or not old:
+                    raise Misfit(f'{crate}/{name}: a new text without a file or an old one')
+                new = line[len('new: '):]
+                changes.append(Change(file, place_of(old, f'{source}/{file}', f'{crate}/{name}'), old, new))
+                old = None
+    if not changes or old:
+        raise Misfit(f'{crate}/{name}: an old text without a new one, or no pair at all')
+    found = [function_at(crate, source, change) for change in changes]
+    functions = frozenset(function for function, _ in found if function)
+    is_of_functions = all(function for function, _ in found)
+    return Edit(name, tuple(changes), functions, is_of_functions, all(is_body for _, is_body in found))
+
+
+def place_of(old, path, label):
+    """Where an old text stands in its file."""
+    try:
+        with open(path, encoding='utf-8') as file:
+            text = file.read()
+    except OSError:
+        raise Misfit(f'{label}: there is no file {path}') from None
+    if text.count(old) != 1:
+        raise Misfit(f'{label}: {text.count(old)} times in {path}, and not once: {old}')
+    return text.index(old)
+
+
+def apply(edits, source):
+    """The files that these edits change, by their path in the crate, with all changes made at once."""
+    texts = {}
+    for change in sorted((c for edit in edits for c in edit.changes), key=lambda c: -c.start):
+        if change.file not in texts:
+            with open(f'{source}/{change.file}', encoding='utf-8') as file:
+                texts[change.file] = file.read()
+        text, end = texts[change.file], change.start + len(change.old)
+        texts[change.file] = text[:change.start] + change.new + text[end:]
+    return texts
+
+
+# What is blanked before a file is read for its functions: comments, texts and characters.
+UNREAD = re.compile(r'//[^\n]*|/\*.*?\*/|b?"(?:\\.|[^"\\])*"|b?\'(?:\\[^\']+|[^\'\\])\'', re.S)
+FUNCTION = re.compile(r'\bfn\s+(\w+)')
+BLOCK = re.compile(r'^[ \t]*(?:pub\s+)?(impl|trait|mod)\b([^{;]*)\{', re.M)
+CLAUSE = re.compile(r'\b(?:requires|ensures|ghost)\b[^{]*$')
+
+
+def function_at(crate, source, change):
+    """The function that holds a change, as (module, block, name) or None, and whether its body does."""
+    if not re.fullmatch(r'src/.*\.rt', change.file):
+        return None, False
+    with open(f'{source}/{change.file}', encoding='utf-8') as file:
+        text = UNREAD.sub(lambda found: re.sub(r'[^\n]', ' ', found[0]), file.read())
+    end = change.start + len(change.old)
+    inside, is_body = None, False
+    for found in FUNCTION.finditer(text):
+        start, stop = body_of(text, found.end())
+        if found.start() < end and change.start < stop:
+            inside, is_body = found, start < change.start and end <= stop
+    if not inside:
+        return None, False
+    return (module_of(crate, change.file), block_at(text, inside.start()), inside[1]), is_body
+
+
+def body_of(text, at):
+    """From where to where the body of the function goes whose name ends at a place, or an empty range where it has none."""
+    head, depth = at, 0
+    while at < len(text):
+        sign = text[at]
+        if sign == ';' and depth == 0:
+            return at, at
+        if sign == '{' and depth == 0:
+            end = closing(text, at)
+            if not CLAUSE.search(text[head:at]):
+                return at, end
+            at = head = end
+        depth += (sign in '([') - (sign in ')]')
+        at += 1
+    return at, at
+
+
+def closing(text, at):
+    """Where the brace closes that opens at a place."""
+    depth = 0
+    for place in range(at, len(text)):
+        depth += (text[place] == '{') - (text[place] == '}')
+        if depth == 0:
+            return place
+    return len(text)
+
+
+def block_at(text, at):
+    """The head of the innermost impl or trait round a place, or nothing."""
+    head = ''
+    for found in BLOCK.finditer(text):
+        if found.end() <= at < closing(text, found.end() - 1):
+            head = f'{found[1]}{found[2]}'.strip()
+    return head
+
+
+def module_of(crate, file):
+    """The path of the module that a file of src/ is."""
+    parts = file[len('src/'):-len('.rt')].split('/')
+    return '::'.join([crate, *(part for part in parts if part not in ('lib', 'main', 'mod'))])
+
+
+def path_among(function, known):
+    """The path by which the prover names a function, among those that it knows, or None where that can't be told."""
+    module, block, name = function
+    ends = [f'::{part}::{name}' for part in blocks_named(block)] if block else [f'{module}::{name}']
+    same = [path for path in known if any(path.endswith(end) for end in ends)]
+    here = [path for path in same if path.startswith(f'{module}::')]
+    # a block whose name holds more than its head shows, as of a tuple, is known where its module has one such function
+    more = [path for path in known if re.fullmatch(rf'{module}::\w+::{name}', path)] if block and not same else []
+    return next((found[0] for found in (here, same, more) if len(found) == 1), None)
+
+
+def blocks_named(head):
+    """How the prover may name an impl or a trait: by its type, and behind it its trait and what the trait takes."""
+    head = re.sub(r"^(impl|trait)\b\s*(<(?:[^<>]|<[^<>]*>)*>)?|'\w+\s*|&|\bmut\b|\bwhere\b.*", '', head)
+    trait, split, kind = head.rpartition(' for ')
+    kind = re.match(r'[\s]*([\w:]+)', kind)[1]
+    if not split:
+        return [kind]
+    taken = re.findall(r'\w+', trait)
+    return [kind.rsplit('::', 1)[-1] + ''.join(taken[:count]) for count in range(1, len(taken) + 1)]

@@ -1,0 +1,98 @@
+#!/usr/bin/env python3
+"""Whether checks/edits tells wrong bodies from what only looks like one: python3 checks/edits/planted.py
+
+A small crate is made, in which edits are planted whose judgement is known; what is said of each is compared.
+"""
+import os
+import subprocess
+import sys
+import tempfile
+
+CODE = '''//! A crate in which edits are planted.
+#![tactic(auto)]
+
+ghost use Rattle.std.specs.Prelude.{◌≡◌, ◌+◌, ◌<◌, ◌≤◌};
+
+/// One more.
+pub fn next(x: u8) -> u8
+    requires { x < 250 }
+    ensures { result ≡ x + 1 }
+{
+    x + 1
+}
+
+/// Two more.
+pub fn second(x: u8) -> u8
+    requires { x < 249 }
+    ensures { result ≡ x + 2 }
+{
+    next(next(x))
+}
+
+/// Three more.
+pub fn third(x: u8) -> u8
+    requires { x < 248 }
+    ensures { result ≡ x + 3 }
+{
+    let one = next(x);
+    one + 2
+}
+
+/// At most as much.
+pub fn no_more(x: u8) -> u8
+    ensures { result ≤ x }
+{
+    x / 2
+}
+'''
+
+ANSWERS = '''use Rattle.std.proofs.Common.{arith}
+use Rattle.planted.proofs.third.Goals as goal
+
+pub returns : goal.returns
+returns c = omega (arith, c.next-one.ensures)
+'''
+
+# The edit's name, its old and its new text, and what is to be said of it.
+PLANTED = [
+    ('adds_nothing', '    x + 1', '    x', 'refused with values: planted::next'),
+    ('changes_nothing', '    next(next(x))', '    next(next(x))', 'NOT REFUSED: the crate is still proved with it'),
+    ('counts_by_itself', '    next(next(x))', '    next(x) + 1', 'NOT REFUSED: the crate is still proved with it'),
+    ('counts_once', '    next(next(x))', '    next(x)', 'refused with values: planted::second'),
+    ('lacks_its_brace', '    x / 2', '    x / 2 }', 'NOT REFUSED: it can not be read, so no contract was tried'),
+    ('gives_less', '    x / 2', '    x / 3', 'NOT REFUSED: the crate is still proved with it'),
+    ('says_less', '    ensures { result ≡ x + 1 }', '    ensures { x < result }',
+     'NOT REFUSED: its own function is still proved with it, though planted::'),
+    ('takes_a_name_away', '    let one = next(x);', '    let two = next(x); let one = two;',
+     'NOT REFUSED: no goal of its own function is refused, but by names that the edit took away'),
+]
+
+
+def write(path, text):
+    os.makedirs(os.path.dirname(path), exist_ok=True)
+    with open(path, 'w', encoding='utf-8') as file:
+        file.write(text)
+
+
+def main():
+    script = os.path.dirname(os.path.abspath(__file__))
+    with tempfile.TemporaryDirectory(prefix='planted-') as room:
+        write(f'{room}/HANDLES', 'Handles allowed: none.\n')
+        write(f'{room}/crates.txt', 'planted:\n')
+        write(f'{room}/crates/planted/src/lib.rt', CODE)
+        write(f'{room}/crates/planted/proofs/third/Answers.antt', ANSWERS)
+        for name, old, new, _ in PLANTED:
+            write(f'{room}/crates/planted/edits/{name}.edit', f'file: src/lib.rt\nold: {old}\nnew: {new}\n')
+        ran = subprocess.run([sys.executable, script, 'planted'], cwd=room, capture_output=True, text=True)
+    said = ran.stdout.split('\n')
+    lacking = [name for name, _, _, wanted in PLANTED if not any(line.startswith(f'planted/{name}: {wanted}') for line in said)]
+    wrong = sum(wanted.startswith('NOT REFUSED') for _, _, _, wanted in PLANTED)
+    if lacking or ran.returncode != 1 or f'edits: {len(PLANTED)} tried, {wrong} wrong' not in said:
+        print(f'{ran.stdout}{ran.stderr}\nplanted: judged otherwise than they are: {lacking or "their number"}')
+        return 1
+    print(f'planted: {len(PLANTED)} edits are told as what they are, {wrong} of which test nothing')
+    return 0
+
+
+if __name__ == '__main__':
+    sys.exit(main())

@@ -1,0 +1,164 @@
+"""The edits of one crate, tried in groups.
+
+A function is judged by its own clauses alone: those of other functions stay, whatever their bodies are. So edits that change
+bodies of different functions are applied at once, and one check judges them all. An edit is refused where a goal of its own
+function's is: one that only waits for another function, or that fails by names alone, is judged in a later group, without
+what it waits for, and in the end alone. An edit that changes more than bodies, as a constant or a definition, stands alone.
+"""
+import os
+import subprocess
+from collections import Counter
+
+from edit import apply, path_among
+from verdict import Said
+
+
+class Trial:
+    """A copy of a crate, with what checks have kept of it, and its edits."""
+
+    def __init__(self, crate, folder, edits, say):
+        self.crate, self.folder, self.edits, self.say = crate, folder, edits, say
+        self.told, self.ways, self.groups, self.wrong = 0, Counter(), [], []
+        self.waits, self.functions = {}, {}
+
+    def run(self):
+        """Judges every edit. Where the crate itself is not proved, before or after, none counts."""
+        before = self.check([])
+        if not before.is_proved():
+            return self.fail(f'it is not proved as it stands\n{before.text[-2000:]}')
+        edits = [edit for edit in self.edits if self.place(edit, before)]
+        pending = [edit for edit in edits if edit.is_of_bodies]
+        alone = [edit for edit in edits if not edit.is_of_bodies]
+        while pending:
+            pending = self.try_group(self.next_group(pending), pending)
+        for edit in alone:
+            self.try_alone(edit)
+        if not self.check([]).is_proved():
+            return self.fail('it is not proved any more once its edits are taken back')
+        if self.edits and not self.ways:
+            self.fail('not one edit was refused')
+
+    def fail(self, why):
+        self.wrong.append(f'{self.crate}: {why}')
+
+    def place(self, edit, said):
+        """Finds the functions of an edit among those that the prover names."""
+        paths = {path_among(it, said.functions) for it in edit.functions}
+        self.functions[edit.name] = frozenset(paths - {None})
+        if None in paths:
+            self.tell_wrong(edit, 'its function is none that the prover names')
+        return None not in paths
+
+    def check(self, edits):
+        """What the prover says of the crate with these edits."""
+        texts = apply(edits, self.folder)
+        before = {path: open(f'{self.folder}/{path}', encoding='utf-8').read() for path in texts}
+        try:
+            self.write(texts)
+            words = ['rt', 'check', '--jobs', '1']
+            ran = subprocess.run(words, cwd=self.folder, stdin=subprocess.DEVNULL, capture_output=True, text=True, errors='replace')
+        finally:
+            self.write(before)
+        return Said(ran.stdout + ran.stderr, self.crate)
+
+    def write(self, texts):
+        for path, text in texts.items():
+            with open(f'{self.folder}/{path}', 'w', encoding='utf-8') as file:
+                file.write(text)
+
+    def next_group(self, pending):
+        """As many edits as change different functions, none of which is known to wait for another one of them."""
+        group, taken = [], set()
+        for edit in pending:
+            own = self.functions[edit.name]
+            behind = self.behind(own)
+            if not own & taken and not behind & taken and not own & self.behind(taken):
+                group.append(edit)
+                taken |= own
+        return group
+
+    def behind(self, paths):
+        """All that these functions were seen to wait for."""
+        found, left = set(), list(paths)
+        while left:
+            more = self.waits.get(left.pop(), frozenset()) - found
+            found |= more
+            left += more
+        return found
+
+    def try_group(self, group, pending):
+        """Judges the edits of a group, and answers those that are still to be judged."""
+        if len(group) == 1:
+            self.try_alone(group[0])
+            return [edit for edit in pending if edit is not group[0]]
+        said = self.check(group)
+        if not said.is_whole():
+            return self.without_unread(group, pending)
+        for path, it in said.functions.items():
+            self.waits[path] = self.waits.get(path, frozenset()) | it.waits
+        judged = [edit for edit in group if self.judge(edit, said)]
+        self.groups.append(len(judged))
+        # where none could be judged, the first is tried alone
+        return [edit for edit in pending if edit not in judged] if judged else self.try_group(group[:1], pending)
+
+    def without_unread(self, group, pending):
+        """Tries the edits of a group that can't be read one by one: those that can't be are told, and the others stay."""
+        unread = [edit for edit in group if not self.reads(edit)]
+        for edit in unread:
+            self.tell_wrong(edit, 'it can not be read, so no contract was tried')
+        if not unread:
+            self.try_alone(group[0])
+            unread = group[:1]
+        return [edit for edit in pending if edit not in unread]
+
+    def reads(self, edit):
+        """Whether the crate with an edit comes to the prover."""
+        return self.check([edit]).is_whole()
+
+    def judge(self, edit, said):
+        """Tells what a check says of an edit's functions, if it judges them."""
+        own = [said.functions.get(path) for path in sorted(self.functions[edit.name])]
+        if None in own:
+            return False
+        by = next((it.refused for it in own if it.refused), '')
+        if by:
+            self.tell_refused(edit, by, ' and '.join(sorted(self.functions[edit.name])))
+            return True
+        if all(it.is_proved() for it in own):
+            # a survivor: alone it shows what the rest of the crate says of it
+            self.try_alone(edit)
+            return True
+        return False
+
+    def try_alone(self, edit):
+        """Judges an edit by a check of its own."""
+        said = self.check([edit])
+        own = {path: said.functions.get(path) for path in self.functions[edit.name]}
+        refused = said.refused()
+        self.groups.append(1)
+        if not said.is_whole():
+            self.tell_wrong(edit, 'it can not be read, so no contract was tried')
+        elif said.is_proved():
+            self.tell_wrong(edit, 'the crate is still proved with it')
+        elif any(it and it.refused for it in own.values()):
+            path = next(path for path, it in own.items() if it and it.refused)
+            self.tell_refused(edit, own[path].refused, path)
+        elif refused and not edit.is_of_functions:
+            # it changes a definition, a constant or a type: whatever cites it may refuse it
+            self.tell_refused(edit, self.way(said, refused[0]), ' and '.join(refused[:3]))
+        elif own and all(it and it.is_proved() for it in own.values()):
+            others = f', though {refused[0]} is not' if refused else ''
+            self.tell_wrong(edit, f'its own function is still proved with it{others}')
+        else:
+            self.tell_wrong(edit, 'no goal of its own function is refused, but by names that the edit took away')
+
+    def way(self, said, path):
+        return said.functions[path].refused if path in said.functions else 'by an answer'
+
+    def tell_refused(self, edit, by, where):
+        self.ways[by] += 1
+        self.say(f'{self.crate}/{edit.name}: refused {by}: {where}')
+
+    def tell_wrong(self, edit, why):
+        self.wrong.append(f'{self.crate}/{edit.name}: NOT REFUSED: {why}')
+        self.say(self.wrong[-1])
