@@ -185,7 +185,9 @@ pub fn section_by_name(
 {
     let sections = sections_of(bytes, header)?;
     let names = Strtab::new(strings_of(bytes, names)?, 0);
-    match find_section(&sections, &names, name) {
+    let found = find_section(&sections, &names, name);
+    std::mem::forget(names);
+    match found {
         Some(index) => Ok(Some(index as u64)),
         None => Ok(None),
     }
@@ -204,7 +206,9 @@ pub fn symbol_by_name(
 {
     let symbols = symbols_of(bytes, header, range)?;
     let names = Strtab::new(strings_of(bytes, names)?, 0);
-    match symbols.find(&names, name) {
+    let found = symbols.find(&names, name);
+    std::mem::forget(names);
+    match found {
         Some(index) => Ok(Some(index as u64)),
         None => Ok(None),
     }
