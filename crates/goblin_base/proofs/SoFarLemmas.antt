@@ -81,11 +81,13 @@ module _ (bytes : List ℕ) (d : ℕ) where
         some,
       )
 
+  pub bad_here : (i : ℕ) → i < length bytes → is_readable bytes d i ≡ false → IsTextSoFar i → first_bad bytes d ≡ i
+  bad_here i l r h = first_bad_is bytes d i (omega arith) (λ k m. h.no_bad_start k m (omega arith)) (λ _. bad_start_from bytes d i (h.starts l) r)
+
   pub walked_fault : (i : ℕ) → i < length bytes → is_readable bytes d i ≡ false → IsTextSoFar i → walked Strict bytes d ≡ Err (invalid_utf8 (length bytes - i))
   unfolding walked
   walked_fault i l r h =
-      let e = first_bad_is bytes d i (omega arith) (λ k m. h.no_bad_start k m (omega arith)) (λ _. bad_start_from bytes d i (h.starts l) r) in
-      ap (λ n. cond (ltb n (length bytes)) (Err (invalid_utf8 (length bytes - n))) (Ok (entries bytes d))) e ∙ cond-true _ _ _ (lt-ltb i (length bytes) l)
+      ap (λ n. cond (ltb n (length bytes)) (Err (invalid_utf8 (length bytes - n))) (Ok (entries bytes d))) (bad_here i l r h) ∙ cond-true _ _ _ (lt-ltb i (length bytes) l)
 
   pub walked_all : (mode : ParseMode) (i : ℕ) → length bytes ≤ i → (mode ≡ Strict → IsTextSoFar i) → walked mode bytes d ≡ Ok (entries bytes d)
   unfolding walked

@@ -1,8 +1,8 @@
 //! The walk that makes the entries of a string table, within five looks at each byte.
-ghost use Rattle.std.specs.Prelude.{◌≡◌, ◌+◌, ◌-◌, ◌*◌, ◌<◌, ◌≤◌, [], false, min, length, IfOk, IsOk};
+ghost use Rattle.std.specs.Prelude.{◌≡◌, ◌+◌, ◌-◌, ◌*◌, ◌<◌, ◌≤◌, ◌≢◌, [], false, min, length, IfErr, IfOk, IsOk};
 ghost use Rattle.goblin_base.specs.Entries.{CountsAtLeast};
 ghost use Rattle.goblin_base.specs.Pieces.{first_bad, piece_end};
-ghost use Rattle.goblin_base.specs.Refusal.{Gives};
+ghost use Rattle.goblin_base.specs.Refusal.{Gives, out_of_memory, refusal_of};
 ghost use Rattle.goblin_base.specs.Scan.{IsScan, IsWalkedTo, found_end, looks_of, scan_end};
 ghost use Rattle.goblin_base.specs.Strtab.{RefusesFirst, walked};
 ghost use Rattle.goblin_base.specs.Utf8.{invalid_utf8};
@@ -39,6 +39,12 @@ pub fn walk<'a>(
     ensures looks { view.new.count ≤ view.old.count + 5 * length view.old.bytes }
     ensures looks_least { let least = length view.old.bytes in
         IfOk result (λ _. CountsAtLeast view.old.count least view.new.count) }
+
+    // So many were looked at, at least, for a piece to be refused: those before it, and its own.
+    ensures looks_refused { let bad = first_bad view.old.bytes delim in
+        let least = piece_end view.old.bytes delim bad in
+        IfErr result (λ e. refusal_of e ≢ out_of_memory
+            → CountsAtLeast view.old.count least view.new.count) }
 
     // Where memory has not been taken yet it is not wanted.
     ensures first { RefusesFirst mode view.old.bytes delim result }

@@ -3,11 +3,11 @@ use Rattle.std.proofs.lemmas.Bool.{false≢true}
 use Rattle.std.specs.Str.{IsUtf8}
 use Rattle.std.specs.List.{slice_range}
 use Rattle.goblin_base.specs.Entries.{entries_between}
-use Rattle.goblin_base.specs.Pieces.{piece_end, is_readable}
+use Rattle.goblin_base.specs.Pieces.{piece_end, is_readable, first_bad}
 use Rattle.goblin_base.specs.Strtab.{walked}
 use Rattle.goblin_base.specs.Utf8.{invalid_utf8}
 use Rattle.goblin_base.proofs.EntriesLemmas.{walked_none, walked_text}
-use Rattle.goblin_base.proofs.SoFarLemmas.{IsTextSoFar, readable_from_text, bad_from_fault, text_so_far_none, text_so_far_more, nothing_passed, walked_fault, walked_all, strict_if_not_permissive, found_all}
+use Rattle.goblin_base.proofs.SoFarLemmas.{IsTextSoFar, readable_from_text, bad_from_fault, bad_here, text_so_far_none, text_so_far_more, nothing_passed, walked_fault, walked_all, strict_if_not_permissive, found_all}
 use Rattle.goblin_base.proofs.walk.walk.Goals as goal
 
 -- what a test of the piece at i says, of bytes that were left as they were
@@ -16,8 +16,8 @@ readable_here bytes seen then d i e same unchanged is u =
     let end : e ≡ piece_end bytes d i = is ∙ ap (λ bs. piece_end bs d i) same in
     (end, readable_from_text bytes d i e end (subst (λ bs. IsUtf8 (slice_range bs i e)) (unchanged ∙ same) u))
 
-bad_here : (bytes seen then : List ℕ) (d i e : ℕ) → seen ≡ bytes → then ≡ seen → e ≡ piece_end seen d i → ¬ (IsUtf8 (slice_range then i e)) → is_readable bytes d i ≡ false
-bad_here bytes seen then d i e same unchanged is u =
+bad_piece : (bytes seen then : List ℕ) (d i e : ℕ) → seen ≡ bytes → then ≡ seen → e ≡ piece_end seen d i → ¬ (IsUtf8 (slice_range then i e)) → is_readable bytes d i ≡ false
+bad_piece bytes seen then d i e same unchanged is u =
     bad_from_fault bytes d i e (is ∙ ap (λ bs. piece_end bs d i) same) (subst (λ bs. ¬ (IsUtf8 (slice_range bs i e))) (unchanged ∙ same) u)
 
 pub loop-i-init : goal.loop-i-init
@@ -66,7 +66,7 @@ returns-else-is_permissive-clause-given c = λ _.
     let d = c.args.delim in
     let i = c.loop-i.i in
     let e = c.end_of_piece-end.ensures in
-    let here = bad_here bytes _ _ d i _ s.same e.unchanged e.value (λ u. false≢true (c.if-text.ensures.value.1 u)) in
+    let here = bad_piece bytes _ _ d i _ s.same e.unchanged e.value (λ u. false≢true (c.if-text.ensures.value.1 u)) in
     let in_range : i < length bytes = omega (arith, ap length s.same, c.len.ensures.value, c.loop-i-test.true) in
     let n : c.len-else-is_permissive.result ≡ length bytes = c.len-else-is_permissive.ensures.value ∙ ap length (ap (λ v. v.bytes) c.text.ensures.counted ∙ e.unchanged ∙ s.same) in
     let strict = strict_if_not_permissive c.args.mode c.if-is_permissive.ensures.1 in
@@ -80,6 +80,19 @@ returns-else-is_permissive-clause-first c = λ m r.
     let none = nothing_passed bytes c.args.delim c.loop-i.i r (s.strict m) in
     let all : c.len-else-is_permissive.result - c.loop-i.i ≡ length bytes = omega (arith, n, none.0) in
     c.invalid_utf8.ensures ∙ ap invalid_utf8 all
+
+pub returns-else-is_permissive-clause-looks_refused : goal.returns-else-is_permissive-clause-looks_refused
+returns-else-is_permissive-clause-looks_refused c = λ _.
+    let s = c.loop-i.invariant in
+    let bytes = c.args.view.now.bytes in
+    let d = c.args.delim in
+    let i = c.loop-i.i in
+    let e = c.end_of_piece-end.ensures in
+    let unread = bad_piece bytes _ _ d i _ s.same e.unchanged e.value (λ u. false≢true (c.if-text.ensures.value.1 u)) in
+    let in_range : i < length bytes = omega (arith, ap length s.same, c.len.ensures.value, c.loop-i-test.true) in
+    let strict = strict_if_not_permissive c.args.mode c.if-is_permissive.ensures.1 in
+    let here : piece_end bytes d (first_bad bytes d) ≡ c.end_of_piece-end.result = ap (piece_end bytes d) (bad_here bytes d i in_range unread (s.strict strict)) ∙ ap (λ bs. piece_end bs d i) (sym s.same) ∙ sym e.value in
+    omega (arith, here, ap (λ v. v.count) c.text.ensures.counted, e.looks_least, e.within, e.ordered, s.least, ap length s.same)
 
 pub returns-clause-given : goal.returns-clause-given
 returns-clause-given c =
