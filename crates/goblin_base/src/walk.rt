@@ -44,7 +44,7 @@ pub fn walk<'a>(
     ensures looks_refused { let bad = first_bad view.old.bytes delim in
         let least = piece_end view.old.bytes delim bad in
         IfErr result (λ e. refusal_of e ≢ out_of_memory
-            → CountsAtLeast view.old.count least view.new.count) }
+        → CountsAtLeast view.old.count least view.new.count) }
 
     // Where memory has not been taken yet it is not wanted.
     ensures first { RefusesFirst mode view.old.bytes delim result }

@@ -11,6 +11,8 @@ mod counts;
 #[cfg(test)]
 mod ends;
 #[cfg(test)]
+mod entries;
+#[cfg(test)]
 mod header;
 #[cfg(test)]
 mod note_headers;
