@@ -99,7 +99,9 @@ check_c() {
         echo "no c++ here: goblin.h is compiled as C alone"
     fi
     "$folder/layout"
-    for program in nm values made; do build $program -std=c99; done
+    for program in nm values made search; do build $program -std=c99; done
+    quietly "$folder/search"
+    echo "search.c: $(wc -l < "$folder/output") searches among long names stay within their limit"
     build damaged -std=c99 $sanitizers
     mkdir "$folder/files"
     "$folder/made" "$folder/files"

@@ -1,0 +1,93 @@
+/* Whether a search by a name costs what it compares, and no more: search, which makes files whose names all lie in one long
+   string; search FILE times a search over the longest symbol table of a file of the 64-bit class in little order, beside strcmp. */
+#include "goblin.h"
+#include <elf.h>
+#include <inttypes.h>
+#include <stdio.h>
+#include <stdlib.h>
+#include <string.h>
+#include <time.h>
+
+enum { SECTIONS = 30000, SYMBOLS = 20000, STRINGS = 4 << 20 };
+
+static goblin_refusal_t why;
+
+/* The microseconds of this processor since a time. */
+static double since(clock_t start) { return 1e6 * (double)(clock() - start) / CLOCKS_PER_SEC; }
+
+/* Searches sections and symbols, whose names are the places of one string of `STRINGS` times the letter a, for a name that none has. */
+static int search(uint8_t *bytes, size_t len, const char *what, const uint8_t *name, size_t name_len) {
+    goblin_header_t header;
+    goblin_range_t symbols = {64 + SECTIONS * sizeof(Elf64_Shdr), SYMBOLS * sizeof(Elf64_Sym)};
+    goblin_range_t strings = {symbols.offset + symbols.size, STRINGS};
+    uint64_t index;
+    clock_t start = clock();
+    memset(&header, 0, sizeof header);
+    header.ei_class = 2, header.ei_data = 1, header.e_shoff = 64, header.e_shnum = SECTIONS;
+    int none = goblin_section_by_name(bytes, len, &header, &strings, name, name_len, &index, &why) == GOBLIN_END
+        && goblin_symbol_by_name(bytes, len, &header, &symbols, &strings, name, name_len, &index, &why) == GOBLIN_END;
+    double took = since(start);
+    printf("%d sections and %d symbols over a string of 4 MB, searched for %s: %.0f microseconds\n", SECTIONS, SYMBOLS, what, took);
+    return none && took < 500000 ? 0 : 1;
+}
+
+static int search_made(void) {
+    size_t symbols = 64 + SECTIONS * sizeof(Elf64_Shdr), strings = symbols + SYMBOLS * sizeof(Elf64_Sym), len = strings + STRINGS;
+    uint8_t *bytes = (uint8_t *)calloc(2, len);
+    uint8_t *long_name = bytes + len;
+    int wrong;
+    if (!bytes) return 2;
+    for (uint32_t i = 0; i < SECTIONS; i++)
+        for (int k = 0; k < 4; k++) bytes[64 + i * sizeof(Elf64_Shdr) + k] = (uint8_t)(i >> 8 * k);
+    for (uint32_t i = 0; i < SYMBOLS; i++)
+        for (int k = 0; k < 4; k++) bytes[symbols + i * sizeof(Elf64_Sym) + k] = (uint8_t)(i >> 8 * k);
+    memset(bytes + strings, 'a', STRINGS - 1);
+    wrong = search(bytes, len, "a short name", (const uint8_t *)"aaab", 4);
+    memset(long_name, 'b', STRINGS);
+    wrong |= search(bytes, len, "a name as long", long_name, STRINGS);
+    long_name[STRINGS - 1] = 0xff;
+    wrong |= search(bytes, len, "one that is no text", long_name, STRINGS);
+    long_name[STRINGS - 1] = 0;
+    wrong |= search(bytes, len, "one with a zero byte", long_name, STRINGS);
+    free(bytes);
+    return wrong;
+}
+
+/* Times a search for a name that no symbol has, by the library and by strcmp, each the least of nine. */
+static int time_search(const uint8_t *bytes, size_t len) {
+    static const char name[] = "_ZNSt8no_suchD0Ev";
+    goblin_header_t header;
+    goblin_section_t table, longest = {{0, 0}, 0, 0, 0, 0, 0, 0, 0, 0}, strings;
+    uint64_t index = 0, count;
+    double ours = 1e9, theirs = 1e9;
+    if (goblin_header(bytes, len, &header, &why) != GOBLIN_OK) return 1;
+    for (uint64_t i = 0; goblin_section(bytes, len, &header, i, &table, &why) == GOBLIN_OK; i++)
+        if ((table.sh_type == SHT_SYMTAB || table.sh_type == SHT_DYNSYM) && table.file.size > longest.file.size) longest = table;
+    if (goblin_table(bytes, len, &header, longest.sh_link, &strings, &why) != GOBLIN_OK) return 1;
+    count = longest.file.size / sizeof(Elf64_Sym);
+    for (int run = 0; run < 9; run++) {
+        clock_t start = clock();
+        if (goblin_symbol_by_name(bytes, len, &header, &longest.file, &strings.file, (const uint8_t *)name, sizeof name - 1, &index, &why)
+            != GOBLIN_END) return 1;
+        double took = since(start);
+        ours = took < ours ? took : ours;
+        uint64_t equal = 0;
+        start = clock();
+        for (uint64_t i = 0; i < count; i++) {
+            Elf64_Sym symbol;
+            memcpy(&symbol, bytes + longest.file.offset + i * sizeof symbol, sizeof symbol);
+            equal += strcmp((const char *)bytes + strings.file.offset + symbol.st_name, name) == 0;
+        }
+        took = since(start) + (double)equal;
+        theirs = took < theirs ? took : theirs;
+    }
+    printf("%" PRIu64 " symbols: %.1f ns each, by strcmp %.1f\n", count, 1e3 * ours / (double)count, 1e3 * theirs / (double)count);
+    return 0;
+}
+
+int main(int argc, char **argv) {
+    FILE *file = argc == 2 ? fopen(argv[1], "rb") : NULL;
+    if (argc == 1) return search_made();
+    uint8_t *bytes = (uint8_t *)malloc((size_t)1 << 30);
+    return file && bytes ? time_search(bytes, fread(bytes, 1, (size_t)1 << 30, file)) : 2;
+}
