@@ -41,12 +41,6 @@ relocations_of bytes s h ctx = relocs_of bytes s.sh_offset s.sh_size (s.sh_type 
 abbrev pub notes_of : List ℕ → SectionHeader → Ctx → List (Result NoteParts Refusal)
 notes_of bytes s ctx = note_items bytes (span s.sh_offset s.sh_size).1 s.sh_offset (s.sh_addralign, ctx)
 
--- whether each item is a note, or why the first that isn't was refused
-abbrev pub all_read : List (Result NoteParts Refusal) → Result (Unit {0}) Refusal
-all_read [] = Ok tt
-all_read (Ok note ∷ items) = all_read items
-all_read (Err refusal ∷ items) = Err refusal
-
 -- Lines are added only where `right` refuses nothing, behind what stood in the text; an error is its refusal, unless memory
 -- ran out.
 abbrev pub Adds : {X : Type 0} → List ℕ → List ℕ → Result (Unit {0}) Error → Result X Refusal → Type 0

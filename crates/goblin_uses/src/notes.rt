@@ -1,12 +1,15 @@
 //! The notes of a file.
-ghost use Rattle.std.specs.Prelude.{◌≡◌, string_bytes};
+ghost use Rattle.std.specs.Prelude.{◌≡◌, ◌++◌, OnOk, length, string_bytes};
+ghost use Rattle.goblin.specs.Note.{parts_of};
 ghost use Rattle.goblin.specs.Notes.{items_left};
-ghost use Rattle.goblin_uses.specs.Listed.{Adds, all_read, notes_of};
+ghost use Rattle.goblin_uses.specs.Lines.{Adds, note_line, note_lines, notes_line, notes_listed};
+ghost use Rattle.goblin_uses.specs.Listed.{notes_of};
 
 use goblin::container::Ctx;
-use goblin::elf::note::NoteDataIterator;
+use goblin::elf::note::{Note, NoteDataIterator};
 use goblin::elf::section_header::SectionHeader;
 use goblin::error::Result;
+use std::alloc::AllocError;
 
 // The notes of a section.
 fn notes_of<'a>(bytes: &'a [u8], section: &SectionHeader, ctx: Ctx) -> NoteDataIterator<'a>
@@ -21,19 +24,52 @@ fn notes_of<'a>(bytes: &'a [u8], section: &SectionHeader, ctx: Ctx) -> NoteDataI
     }
 }
 
-/// Adds the lines of the notes of a section. The first that can't be read is an error, and else want of memory alone.
-pub fn push_notes(text: &mut String, bytes: &[u8], section: &SectionHeader, ctx: Ctx) -> Result<()>
-    ensures { let right = all_read (notes_of bytes.now section.now ctx) in
-        Adds (string_bytes text.old) (string_bytes text.new) result right }
+// How many notes there are.
+#[tactic(auto, using(goblin::specs::NoteRuns::notes_run))]
+fn count_notes(notes: NoteDataIterator) -> usize
+    ensures { result ≡ length (items_left notes.entry) }
 {
-    let count = notes_of(bytes, section, ctx).count();
-    write!(text, "{count} notes\n")?;
-    for note in notes_of(bytes, section, ctx) {
-        let note = note?;
-        let kind = note.type_to_str();
-        let name = note.name;
-        let size = note.desc.len();
-        write!(text, "{name} {kind}: {size} bytes\n")?;
+    notes.count()
+}
+
+// Adds how many notes there are.
+fn push_count(text: &mut String, count: usize) -> std::result::Result<(), AllocError>
+    ensures { OnOk result (string_bytes text.new ≡ string_bytes text.old ++ notes_line count) }
+{
+    write!(text, "{count} notes\n")
+}
+
+// Adds the line of a note.
+fn push_line(text: &mut String, note: &Note) -> std::result::Result<(), AllocError>
+    ensures { OnOk result
+        (string_bytes text.new ≡ string_bytes text.old ++ note_line (parts_of note.now)) }
+{
+    let kind = note.type_to_str();
+    let name = note.name;
+    let size = note.desc.len();
+    write!(text, "{name} {kind}: {size} bytes\n")
+}
+
+// Adds a line for each note.
+#[tactic(auto, using(crate::proofs::Behind::note_lines_ok))]
+fn push_each(text: &mut String, notes: NoteDataIterator) -> Result<()>
+    ensures { Adds (string_bytes text.old) (string_bytes text.new) result
+        (note_lines (items_left notes.entry)) }
+{
+    for note in notes {
+        push_line(text, &note?)?;
     }
+    Ok(())
+}
+
+/// Adds the lines of the notes of a section: how many there are, and one for each. The first that can't be read is an
+/// error, and else want of memory alone.
+#[tactic(auto, using(crate::proofs::Behind::headed))]
+pub fn push_notes(text: &mut String, bytes: &[u8], section: &SectionHeader, ctx: Ctx) -> Result<()>
+    ensures { Adds (string_bytes text.old) (string_bytes text.new) result
+        (notes_listed bytes.now section.now ctx) }
+{
+    push_count(text, count_notes(notes_of(bytes, section, ctx)))?;
+    push_each(text, notes_of(bytes, section, ctx))?;
     Ok(())
 }

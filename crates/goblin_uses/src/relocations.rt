@@ -1,20 +1,55 @@
 //! The relocations of a file.
-ghost use Rattle.std.specs.Prelude.{◌≡◌, ◌==◌, Err, IfErr, count_by, not, string_bytes};
-ghost use Rattle.goblin.specs.Refusal.{refusal_of};
-ghost use Rattle.goblin.specs.Steps.{refuse_as};
-ghost use Rattle.goblin_uses.specs.Listed.{Adds, relocations_of};
+ghost use Rattle.std.specs.Prelude.{◌≡◌, ◌++◌, Err, IfErr, OnOk, count_by, string_bytes};
+ghost use Rattle.goblin_uses.specs.Lines.{Adds, names_symbol, relocation_line, relocation_lines, relocations_listed, relocations_line};
+ghost use Rattle.goblin_uses.specs.Listed.{relocations_of};
 
 use goblin::container::Ctx;
 use goblin::elf::header::Header;
-use goblin::elf::reloc::{RelocSection, is_mips64el};
+use goblin::elf::reloc::{Reloc, RelocSection, is_mips64el};
 use goblin::elf::section_header::{SHT_RELA, SectionHeader};
 use goblin::error::Result;
+use std::alloc::AllocError;
 
 /// How many relocations of a section name a symbol.
 pub fn count_named(relocations: &RelocSection) -> usize
-    ensures { result ≡ count_by (λ r. not (r.r_sym == 0)) relocations.now }
+    ensures { result ≡ count_by names_symbol relocations.now }
 {
     relocations.iter().filter(|reloc| reloc.r_sym != 0).count()
+}
+
+// Adds the line of the relocation with a number.
+fn push_line(text: &mut String, index: usize, reloc: &Reloc) -> std::result::Result<(), AllocError>
+    ensures { OnOk result
+        (string_bytes text.new ≡ string_bytes text.old ++ relocation_line index reloc.now) }
+{
+    let offset = reloc.r_offset;
+    let symbol = reloc.r_sym;
+    let addend = reloc.r_addend.unwrap_or(0);
+    write!(
+        text,
+        "{index} at 0x{offset:x}: symbol {symbol}, addend {addend}\n"
+    )
+}
+
+// Adds a line for each relocation.
+fn push_each(text: &mut String, relocations: &RelocSection) -> std::result::Result<(), AllocError>
+    ensures { OnOk result
+        (string_bytes text.new ≡ string_bytes text.old ++ relocation_lines 0 relocations.now) }
+{
+    for (index, reloc) in relocations.iter().enumerate() {
+        push_line(text, index, &reloc)?;
+    }
+    Ok(())
+}
+
+// Adds how many relocations name a symbol.
+fn push_count(text: &mut String, relocations: &RelocSection) -> std::result::Result<(), AllocError>
+    ensures { OnOk result
+        (string_bytes text.new ≡ string_bytes text.old ++ relocations_line relocations.now) }
+{
+    let named = count_named(relocations);
+    let all = relocations.len();
+    write!(text, "{named} of {all} relocations name a symbol\n")
 }
 
 /// Adds the lines of the relocations of a section. Relocations that are refused are an error, and else want of memory alone.
@@ -25,8 +60,8 @@ pub fn push_relocations(
     header: &Header,
     ctx: Ctx,
 ) -> Result<()>
-    ensures added { let right = refuse_as refusal_of (relocations_of bytes.now section.now
-        header.now ctx) in Adds (string_bytes text.old) (string_bytes text.new) result right }
+    ensures added { let right = relocations_listed bytes.now section.now header.now ctx in
+        Adds (string_bytes text.old) (string_bytes text.new) result right }
     ensures first { IfErr (relocations_of bytes.now section.now header.now ctx)
         (λ e. result ≡ Err e) }
 {
@@ -38,17 +73,7 @@ pub fn push_relocations(
         ctx,
         is_mips64el(header),
     )?;
-    let named = count_named(&relocations);
-    let all = relocations.len();
-    write!(text, "{named} of {all} relocations name a symbol\n")?;
-    for (index, reloc) in relocations.iter().enumerate() {
-        let offset = reloc.r_offset;
-        let symbol = reloc.r_sym;
-        let addend = reloc.r_addend.unwrap_or(0);
-        write!(
-            text,
-            "{index} at 0x{offset:x}: symbol {symbol}, addend {addend}\n"
-        )?;
-    }
+    push_count(text, &relocations)?;
+    push_each(text, &relocations)?;
     Ok(())
 }

@@ -23,9 +23,9 @@ pub use goblin_records::note::{
 ///
 /// <!-- quoted: crates/goblin_uses/src/notes.rt -->
 /// ```
-/// for note in notes_of(bytes, section, ctx) {
-///     let note = note?;
-///     let kind = note.type_to_str();
+/// for note in notes {
+///     push_line(text, &note?)?;
+/// }
 /// ```
 #[derive(Debug, Drop)]
 pub struct NoteDataIterator<'a> {
