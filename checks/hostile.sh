@@ -2,7 +2,9 @@
 # Makes files that ask for much work, in a folder: sh checks/hostile.sh FOLDER
 # one, turns: 65,000 symbol sections of a byte, linked to one string table of 12 MB, or to two by turns; damaged: as one, of
 # bytes that are no text; ascii, wide: 32,000 overlapping tables, of one-byte and of four-byte characters; inside: 200,000
-# names inside characters; symbols: 300,000 symbols with names.
+# names inside characters; symbols: 300,000 symbols with names; strings: 60,000 symbol sections linked by turns to two tables
+# of 6 MB, of 3,000,000 strings and a byte that is no text; failing, failing_wide: 300,000 names in one string of 9 MB, of
+# one-byte and of four-byte characters, that ends in a byte that is no text.
 set -eu
 cd "$1"
 export LC_ALL=C
@@ -25,3 +27,6 @@ head_of() {
 { head_of 64001 32000 4 12000000 0 0 0; yes "$(printf '\360\237\230\200')" | tr -d '\n' | head -c 12000000; } > wide
 { head_of 3 1 0 11000000 200000 0 5; tail -c 11000000 wide; } > inside
 { head_of 3 1 0 4200000 300000 14 0; awk 'BEGIN { for (; i < 300000; i++) printf "symbol_%06d\n", i }' | tr '\n' '\0'; } > symbols
+{ head_of 60003 2 1 6000000 0 0 0; yes a | tr '\n' '\0' | head -c 5999999; printf '\377'; } > strings
+{ head_of 3 1 0 9000000 300000 29 1; head -c 8999999 /dev/zero | tr '\0' a; printf '\377'; } > failing
+{ head_of 3 1 0 9000000 300000 28 4; tail -c 8999996 wide; printf 'abc\377'; } > failing_wide

@@ -12,16 +12,19 @@ import sys
 import tempfile
 
 PROGRAM = 'crates/goblin_show/out/goblin_show'
-MEMORY = 160 * 1024 * 1024
+MEMORY = 64 * 1024 * 1024
 # file: strict, permissive
 LIMITS = {
-    'ascii': (3, 3),
-    'damaged': (1, 3),
+    'ascii': (3, 1),
+    'damaged': (1, 1),
+    'failing': (1, 12),
+    'failing_wide': (2, 20),
     'inside': (2, 2),
     'one': (1, 1),
+    'strings': (1, 1),
     'symbols': (2, 2),
-    'turns': (7, 7),
-    'wide': (11, 12),
+    'turns': (7, 1),
+    'wide': (11, 1),
 }
 
 

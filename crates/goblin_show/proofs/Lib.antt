@@ -1,5 +1,8 @@
 mod Blocks
+mod Looks
 mod Modes
+mod Plain
 mod Printed
 mod Reading
 mod Shows
+mod Tables

@@ -1,12 +1,12 @@
-//! The string tables of a file. A table whose bytes are text needs no entries, and which blocks of the file
-//! are text is kept in mind, so that no byte is read again and again.
-ghost use Rattle.std.specs.Prelude.{◌≡◌, ◌+◌, ◌*◌, ◌≤◌, ◌↔◌, IfSome, IsTrue, List, MatchResult, Ok, [], length, ℕ, slice_range};
+//! The string tables of a file: where they stand, and which blocks of the file are known to be text, so that no
+//! byte is read again and again.
+ghost use Rattle.std.specs.Prelude.{◌≡◌, ◌+◌, ◌*◌, ◌≤◌, ◌↔◌, IsErr, IsTrue, List, MatchOption, None, Some, length, ℕ, slice_range};
 ghost use Rattle.std.specs.Str.{IsUtf8};
 ghost use Rattle.goblin.specs.declared.options.ParseMode.{ParseMode as Mode};
 ghost use Rattle.goblin.specs.Refusal.{Gives};
-ghost use Rattle.goblin.specs.Strtab.{strtab_of};
-ghost use Rattle.goblin_show.specs.Known.{AreTexts, IsBlockText, IsKnown, IsRange, cut, past, table_in, text_table};
-ghost use Rattle.goblin_show.specs.Shown.{name_at, no_strings};
+ghost use Rattle.goblin.specs.Strtab.{range_in, strtab_of};
+ghost use Rattle.goblin_show.specs.Known.{AreTexts, IsBlockText, IsKnown, IsRange, cut, past, strings_in};
+ghost use Rattle.goblin_show.specs.Shown.{no_strings};
 
 use goblin::error::Result;
 use goblin::options::ParseOptions;
@@ -19,68 +19,25 @@ const BLOCK: usize = 4096;
 // How many blocks are kept in mind: those of the longest file that the program takes.
 const BLOCKS: usize = 4096;
 
-/// A table that names are taken from.
-#[derive(Drop)]
-pub enum Names<'a> {
-    /// None, which has no names.
+/// The strings that names are taken from.
+#[derive(Clone, Copy)]
+pub enum Strings {
+    /// None, which have no names.
     Missing,
-    /// One with its entries.
-    Parsed(Strtab<'a>),
-    /// The bytes of one that are text, of which no entries are needed.
-    Text(&'a [u8]),
+    /// Those of the file's bytes from one place to another.
+    Within { start: usize, end: usize },
 }
 
-impl<'a> Names<'a> {
-    /// The string at an offset, or an empty one where there is none.
-    pub fn at(&self, offset: usize) -> &'a str
-        ensures { result.now ≡ name_at (table_in self.now) offset }
-    {
-        match self {
-            Names::Missing => "",
-            Names::Parsed(table) => table.get_at(offset).unwrap_or(""),
-            Names::Text(bytes) => name_in(bytes, offset),
-        }
-    }
-}
-
-// The text at an offset up to a zero byte, or an empty one where there is none.
-//
-// That no character is cut is asked first, since a reading that fails costs the whole piece.
-fn name_in(bytes: &[u8], offset: usize) -> &str
-    ensures { result.now ≡ name_at (text_table bytes.now) offset }
-{
-    if offset >= bytes.len() {
-        return "";
-    }
-    if past(bytes, offset) > offset {
-        return "";
-    }
-    match Strtab::new(bytes, 0).get(offset) {
-        Some(piece) => or_empty(piece),
-        None => "",
-    }
-}
-
-// The text that was read, or an empty one.
-fn or_empty(piece: Result<&str>) -> &str
-    ensures { MatchResult piece.entry (λ text. result.now ≡ text.now) (λ _. result.now ≡ []) }
-{
-    match piece {
-        Ok(text) => text,
-        Err(_) => "",
-    }
-}
-
-/// What is kept in mind of a file's string tables: which blocks are known to be text, and the table that was
-/// turned to last, with the offset and the size that it was asked for by.
+/// What is kept in mind of a file's string tables: which blocks are known to be text, and the strings that were
+/// turned to last, with the offset and the size that they were asked for by.
 #[derive(Drop)]
-pub struct Known<'a> {
+pub struct Known {
     pub blocks: [bool; BLOCKS],
     pub range: Option<(usize, usize)>,
-    pub names: Names<'a>,
+    pub strings: Strings,
 }
 
-impl<'a> Known<'a> {
+impl Known {
     /// Nothing is known yet.
     pub fn new() -> Self
         ensures { (mode : Mode) → (bytes : List ℕ) → IsKnown mode bytes result }
@@ -88,28 +45,28 @@ impl<'a> Known<'a> {
         Known {
             blocks: none_known(),
             range: None,
-            names: Names::Missing,
+            strings: Strings::Missing,
         }
     }
 
-    /// Turns to no table.
+    /// Turns to no strings.
     pub fn turn_to_none(&mut self)
         ensures blocks { self.new.blocks ≡ self.old.blocks }
         ensures range { self.new.range ≡ None }
-        ensures names { table_in self.new.names ≡ no_strings }
+        ensures strings { self.new.strings ≡ Strings.Missing }
     {
         self.range = None;
-        self.names = Names::Missing;
+        self.strings = Strings::Missing;
     }
 
     /// Turns to the string table with the delimiter 0 of `size` bytes of the file from an offset on.
     ///
-    /// It is parsed only where its bytes are no text and it isn't the one that was turned to last. The errors
-    /// are those of `Strtab::parse_with_opts`.
+    /// It has no entries: a name is read where it stands. Strict options ask that its bytes are text, unless it
+    /// is the one that was turned to last. The errors are those of `Strtab::parse_with_opts`.
     pub fn turn_to(
         &mut self,
         alloc: Global,
-        bytes: &'a [u8],
+        bytes: &[u8],
         offset: usize,
         size: usize,
         opts: &ParseOptions,
@@ -117,15 +74,15 @@ impl<'a> Known<'a> {
         requires { IsKnown opts.now.parse_mode bytes.now self.old }
         ensures known { IsKnown opts.now.parse_mode bytes.now self.new }
         ensures given { let right = strtab_of opts.now.parse_mode bytes.now offset size 0 in
-            Gives (λ _. table_in self.new.names) result right }
+            Gives (λ _. strings_in bytes.now self.new.strings) result right }
     {
         if self.is_at(offset, size) {
             return Ok(());
         }
         self.turn_to_none();
-        let names = table_at(alloc, bytes, &mut self.blocks, offset, size, opts)?;
+        let strings = table_at(alloc, bytes, &mut self.blocks, offset, size, opts)?;
         self.range = Some((offset, size));
-        self.names = names;
+        self.strings = strings;
         Ok(())
     }
 
@@ -147,52 +104,39 @@ fn none_known() -> [bool; BLOCKS]
     [false; BLOCKS]
 }
 
-// The table of `size` bytes of the file from an offset on, which is parsed only where they are no text.
-fn table_at<'a>(
+// The strings of the table of `size` bytes of the file from an offset on, which is parsed only for its refusal.
+fn table_at(
     alloc: Global,
-    bytes: &'a [u8],
+    bytes: &[u8],
     blocks: &mut [bool],
     offset: usize,
     size: usize,
     opts: &ParseOptions,
-) -> Result<Names<'a>>
+) -> Result<Strings>
     requires { AreTexts bytes.now blocks.old }
     ensures known { AreTexts bytes.now blocks.new }
     ensures given { let right = strtab_of opts.now.parse_mode bytes.now offset size 0 in
-        Gives table_in result right }
+        Gives (strings_in bytes.now) result right }
 {
-    if let Some(text) = text_at(bytes, blocks, offset, size, opts) {
-        return Ok(Names::Text(text));
+    let Some((start, end)) = range_of(bytes, offset, size, opts) else {
+        Strtab::parse_with_opts(alloc, bytes, offset, size, 0, opts)?;
+        return Ok(Strings::Missing);
+    };
+    if opts.parse_mode.is_permissive() {
+        return Ok(Strings::Within { start, end });
     }
-    let table = Strtab::parse_with_opts(alloc, bytes, offset, size, 0, opts)?;
-    Ok(Names::Parsed(table))
-}
-
-// The bytes of a table, where they are text.
-fn text_at<'a>(
-    bytes: &'a [u8],
-    blocks: &mut [bool],
-    offset: usize,
-    size: usize,
-    opts: &ParseOptions,
-) -> Option<&'a [u8]>
-    requires { AreTexts bytes.now blocks.old }
-    ensures known { AreTexts bytes.now blocks.new }
-    ensures table { IfSome result (λ text. strtab_of opts.now.parse_mode bytes.now offset size 0
-        ≡ Ok (text_table text.now)) }
-{
-    let (start, end) = range_of(bytes, offset, size, opts)?;
     if is_range_text(bytes, blocks, start, end) {
-        Some(&bytes[start..end])
-    } else {
-        None
+        return Ok(Strings::Within { start, end });
     }
+    Strtab::parse_with_opts(alloc, bytes, offset, size, 0, opts)?;
+    Ok(Strings::Within { start, end })
 }
 
 // From where to where a table's bytes stand, unless strict options refuse the range: permissive ones cut it
 // to the file.
 fn range_of(bytes: &[u8], offset: usize, size: usize, opts: &ParseOptions) -> Option<(usize, usize)>
-    ensures { IfSome result (λ range.
+    ensures { let range = range_in opts.now.parse_mode bytes.now offset size in
+        MatchOption result (IsErr range) (λ range.
         IsRange opts.now.parse_mode bytes.now offset size range.0 range.1) }
 {
     let len = bytes.len();
@@ -221,7 +165,7 @@ fn is_range_text(bytes: &[u8], blocks: &mut [bool], start: usize, end: usize) ->
     if first >= last {
         return is_text(&bytes[start..end]);
     }
-    if !is_text(&bytes[start..cut(bytes, first)]) {
+    if !is_text(&bytes[start..cut(bytes, first * BLOCK)]) {
         return false;
     }
     for block in first..last {
@@ -229,7 +173,7 @@ fn is_range_text(bytes: &[u8], blocks: &mut [bool], start: usize, end: usize) ->
             return false;
         }
     }
-    is_text(&bytes[cut(bytes, last)..end])
+    is_text(&bytes[cut(bytes, last * BLOCK)..end])
 }
 
 // Whether a block is text, which is read only where it isn't known to be.
@@ -242,8 +186,8 @@ fn is_block_text(bytes: &[u8], blocks: &mut [bool], block: usize) -> bool
     if block < blocks.len() && blocks[block] {
         return true;
     }
-    let start = cut(bytes, block);
-    let end = cut(bytes, block + 1);
+    let start = cut(bytes, block * BLOCK);
+    let end = cut(bytes, (block + 1) * BLOCK);
     if !is_text(&bytes[start..end]) {
         return false;
     }
@@ -253,21 +197,21 @@ fn is_block_text(bytes: &[u8], blocks: &mut [bool], block: usize) -> bool
     true
 }
 
-// Where the characters of the block with a number begin.
+/// Where the characters from a place on begin: behind up to three bytes that go on with one.
 #[tactic(auto, unfolding(crate::specs::Known::cut))]
-fn cut(bytes: &[u8], block: usize) -> usize
-    requires { block * 4096 ≤ length bytes.now }
-    ensures is { result ≡ cut bytes.now block }
+pub fn cut(bytes: &[u8], place: usize) -> usize
+    requires { place ≤ length bytes.now }
+    ensures is { result ≡ cut bytes.now place }
     ensures within { result ≤ length bytes.now }
-    ensures from { block * 4096 ≤ result }
-    ensures to { result ≤ block * 4096 + 3 }
+    ensures from { place ≤ result }
+    ensures to { result ≤ place + 3 }
 {
-    past(bytes, past(bytes, past(bytes, block * BLOCK)))
+    past(bytes, past(bytes, past(bytes, place)))
 }
 
-// The place behind a byte that goes on with a character, or the same place.
+/// The place behind a byte that goes on with a character, or the same place.
 #[tactic(auto, unfolding(crate::specs::Known::past))]
-fn past(bytes: &[u8], place: usize) -> usize
+pub fn past(bytes: &[u8], place: usize) -> usize
     requires { place ≤ length bytes.now }
     ensures is { result ≡ past bytes.now place }
     ensures within { result ≤ length bytes.now }
@@ -281,9 +225,9 @@ fn past(bytes: &[u8], place: usize) -> usize
     }
 }
 
-// Whether bytes are text.
-fn is_text(bytes: &[u8]) -> bool
-    ensures { IsTrue result → IsUtf8 bytes.now }
+/// Whether bytes are text.
+pub fn is_text(bytes: &[u8]) -> bool
+    ensures { IsTrue result ↔ IsUtf8 bytes.now }
 {
     std::str::from_utf8(bytes).is_ok()
 }

@@ -1,6 +1,9 @@
 //! Names from tables that begin and end at the edges of the file's blocks: what is kept in mind gives the names that a walk
 //! over each table gives, as `Strtab::parse_with_opts` makes it, or refuses as it does.
-use crate::known::Known;
+ghost use Rattle.goblin_show.specs.Known.{ArePlain};
+
+use crate::known::{Known, Strings};
+use crate::names::{name_in, none_plain};
 use crate::tests::{PERMISSIVE, STRICT};
 use goblin::error::Result;
 use goblin::options::ParseOptions;
@@ -14,6 +17,9 @@ const LETTERS: [&[u8]; 4] = [
     b"\xE2\x82\xAC\0",
     b"\xF0\x9F\x98\x80\0",
 ];
+
+// Letters of each width, with none behind: strings of them go on through blocks.
+const LONG: [&[u8]; 4] = [b"a", b"\xC3\xA9", b"\xE2\x82\xAC", b"\xF0\x9F\x98\x80"];
 
 // Places round the ends of the first three blocks.
 const PLACES: [usize; 12] = [
@@ -36,7 +42,7 @@ fn bytes_of(
     for _ in 0..before {
         bytes.push(b'a')?;
     }
-    for _ in 0..6_150 {
+    for _ in 0..12_300 {
         if bytes.len() < 12_300 {
             bytes.extend_from_slice(letters)?;
         }
@@ -47,11 +53,28 @@ fn bytes_of(
     Ok(bytes)
 }
 
-// Whether what was turned to gives the names that the table does, or was refused as it was.
-fn agrees(alloc: Global, turned: Result<()>, known: &Known<'_>, table: Result<Strtab<'_>>) -> bool {
+// Whether the strings that were turned to have the names that the table has, or were refused as it was.
+fn agrees(
+    alloc: Global,
+    bytes: &[u8],
+    plain: &mut [usize],
+    turned: Result<()>,
+    strings: Strings,
+    table: Result<Strtab<'_>>,
+) -> bool
+    requires { ArePlain bytes.now plain.old }
+    ensures { ArePlain bytes.now plain.new }
+{
     match (turned, table) {
-        (Ok(()), Ok(table)) => OFFSETS.iter().all(|offset| known.names.at(*offset)
-            == table.get_at(*offset).unwrap_or("")),
+        (Ok(()), Ok(table)) => {
+            for offset in OFFSETS {
+                let name = name_in(bytes, plain, strings, offset);
+                if name != table.get_at(offset).unwrap_or("") {
+                    return false;
+                }
+            }
+            true
+        }
         (Err(turned), Err(table)) => match (turned.line(alloc), table.line(alloc)) {
             (Ok(line), Ok(other)) => line.as_str() == other.as_str(),
             _ => false,
@@ -69,15 +92,15 @@ fn agrees_on_both(
     opts: &ParseOptions,
 ) -> bool {
     let mut known = Known::new();
-    let first = Strtab::parse_with_opts(alloc, bytes, one.0, one.1, 0, opts);
-    let turned = known.turn_to(alloc, bytes, one.0, one.1, opts);
-    let is_first = agrees(alloc, turned, &known, first);
-    let second = Strtab::parse_with_opts(alloc, bytes, other.0, other.1, 0, opts);
-    let turned = known.turn_to(alloc, bytes, other.0, other.1, opts);
-    let is_second = agrees(alloc, turned, &known, second);
-    let again = Strtab::parse_with_opts(alloc, bytes, one.0, one.1, 0, opts);
-    let turned = known.turn_to(alloc, bytes, one.0, one.1, opts);
-    is_first && is_second && agrees(alloc, turned, &known, again)
+    let mut plain = none_plain();
+    for (offset, size) in [one, other, one] {
+        let table = Strtab::parse_with_opts(alloc, bytes, offset, size, 0, opts);
+        let turned = known.turn_to(alloc, bytes, offset, size, opts);
+        if !agrees(alloc, bytes, &mut plain, turned, known.strings, table) {
+            return false;
+        }
+    }
+    true
 }
 
 // Whether it does for all tables that begin and end at these places.
@@ -117,6 +140,16 @@ fn names_of_damaged_tables_round_block_ends(rt: HostRuntime) {
     let alloc = rt.alloc();
     assert!(rt;
         LETTERS.iter().all(|letters| PLACES
+            .iter()
+            .all(|damage| { names_are_walked(alloc, letters, 0, *damage) }))
+    );
+}
+
+#[test]
+fn names_of_long_strings_round_block_ends(rt: HostRuntime) {
+    let alloc = rt.alloc();
+    assert!(rt;
+        LONG.iter().all(|letters| PLACES
             .iter()
             .all(|damage| { names_are_walked(alloc, letters, 0, *damage) }))
     );

@@ -2,11 +2,12 @@
 ghost use Rattle.std.specs.Prelude.{◌≡◌, ◌++◌, OnOk, IfErr, string_bytes};
 ghost use Rattle.goblin.specs.Refusal.{Gives, Refuses};
 ghost use Rattle.goblin.specs.SectionHeaders.{section_headers_of_tested};
-ghost use Rattle.goblin_show.specs.Known.{IsKnown, table_in};
+ghost use Rattle.goblin_show.specs.Known.{ArePlain, IsKnown, strings_in};
 ghost use Rattle.goblin_show.specs.Shown.{Adds, PermissiveShowsStrict, ctx_of, each_shown, file_shown, has_relocs, has_symbols, names_index, section_lines, reloc_lines, relocs_shown, sections_of, shown, sizes_checked, strings_at, strings_of, symbol_lines, symbols_shown, tested};
 
-use crate::known::{Known, Names};
+use crate::known::{Known, Strings};
 use crate::lines::{push_header, push_reloc, push_section, push_symbol};
+use crate::names::{name_in, none_plain};
 use goblin::container::Ctx;
 use goblin::elf::header::Header;
 use goblin::elf::reloc::{RelocSection, is_mips64el};
@@ -70,33 +71,46 @@ fn names_index(header: &Header, sections: &[SectionHeader]) -> usize
     }
 }
 
-// Adds the lines of all sections to a text.
+// Adds the lines of all sections of a file with these bytes to a text, with names from these strings.
 fn push_sections(
     text: &mut String,
+    bytes: &[u8],
+    plain: &mut [usize],
     sections: &[SectionHeader],
-    names: &Names<'_>,
+    strings: Strings,
 ) -> std::result::Result<(), AllocError>
-    ensures { OnOk result (string_bytes text.new
-        ≡ string_bytes text.old ++ section_lines (table_in names.now) 0 sections.now) }
+    requires { ArePlain bytes.now plain.old }
+    ensures plain { ArePlain bytes.now plain.new }
+    ensures added { let names = strings_in bytes.now strings in
+        OnOk result (string_bytes text.new
+        ≡ string_bytes text.old ++ section_lines names 0 sections.now) }
 {
     for (number, section) in sections.iter().enumerate() {
-        push_section(text, number, section, names.at(section.sh_name))?;
+        let name = name_in(bytes, plain, strings, section.sh_name);
+        push_section(text, number, section, name)?;
     }
     Ok(())
 }
 
-// Adds the lines of the symbols of the section with a number to a text.
+// Adds the lines of the symbols of the section with a number of a file with these bytes to a text, with names
+// from these strings.
 fn push_symbols(
     text: &mut String,
+    bytes: &[u8],
+    plain: &mut [usize],
     section: usize,
     table: &Symtab<'_>,
-    names: &Names<'_>,
+    strings: Strings,
 ) -> std::result::Result<(), AllocError>
-    ensures { OnOk result (string_bytes text.new
-        ≡ string_bytes text.old ++ symbol_lines (table_in names.now) section 0 table.now.symbols) }
+    requires { ArePlain bytes.now plain.old }
+    ensures plain { ArePlain bytes.now plain.new }
+    ensures added { let names = strings_in bytes.now strings in
+        OnOk result (string_bytes text.new
+        ≡ string_bytes text.old ++ symbol_lines names section 0 table.now.symbols) }
 {
     for (number, symbol) in table.iter().enumerate() {
-        push_symbol(text, section, number, &symbol, names.at(symbol.st_name))?;
+        let name = name_in(bytes, plain, strings, symbol.st_name);
+        push_symbol(text, section, number, &symbol, name)?;
     }
     Ok(())
 }
@@ -140,13 +154,14 @@ struct File<'a> {
     opts: &'a ParseOptions,
 }
 
-impl<'a> File<'a> {
+impl File<'_> {
     // Turns to the string table that a section is.
-    fn turn_to(&self, alloc: Global, known: &mut Known<'a>, section: &SectionHeader) -> Result<()>
+    fn turn_to(&self, alloc: Global, known: &mut Known, section: &SectionHeader) -> Result<()>
         requires { IsKnown self.now.opts.now.parse_mode self.now.bytes.now known.old }
         ensures known { IsKnown self.now.opts.now.parse_mode self.now.bytes.now known.new }
         ensures given { let right = strings_of self.now.opts.now.parse_mode self.now.bytes.now
-            (Some section.now) in Gives (λ _. table_in known.new.names) result right }
+            (Some section.now) in
+            Gives (λ _. strings_in self.now.bytes.now known.new.strings) result right }
     {
         if section.sh_type == SHT_NOBITS {
             known.turn_to_none();
@@ -159,11 +174,12 @@ impl<'a> File<'a> {
 
     // Turns to the string table that is the section with an index: index 0 is no section.
     #[tactic(auto, unfolding(crate::specs::Shown::strings_at))]
-    fn turn_to_index(&self, alloc: Global, known: &mut Known<'a>, index: usize) -> Result<()>
+    fn turn_to_index(&self, alloc: Global, known: &mut Known, index: usize) -> Result<()>
         requires { IsKnown self.now.opts.now.parse_mode self.now.bytes.now known.old }
         ensures known { IsKnown self.now.opts.now.parse_mode self.now.bytes.now known.new }
         ensures given { let right = strings_at self.now.opts.now.parse_mode self.now.bytes.now
-            self.now.sections.now index in Gives (λ _. table_in known.new.names) result right }
+            self.now.sections.now index in
+            Gives (λ _. strings_in self.now.bytes.now known.new.strings) result right }
     {
         if index == 0 {
             known.turn_to_none();
@@ -184,13 +200,16 @@ impl<'a> File<'a> {
     fn push_symbols_of(
         &self,
         alloc: Global,
-        known: &mut Known<'a>,
+        known: &mut Known,
+        plain: &mut [usize],
         text: &mut String,
         number: usize,
         section: &SectionHeader,
     ) -> Result<()>
-        requires { IsKnown self.now.opts.now.parse_mode self.now.bytes.now known.old }
+        requires known { IsKnown self.now.opts.now.parse_mode self.now.bytes.now known.old }
+        requires plain { ArePlain self.now.bytes.now plain.old }
         ensures known { IsKnown self.now.opts.now.parse_mode self.now.bytes.now known.new }
+        ensures plain { ArePlain self.now.bytes.now plain.new }
         ensures added { let right = symbols_shown self.now.opts.now.parse_mode self.now.bytes.now
             self.now.ctx self.now.sections.now number section.now in
             Adds (string_bytes text.old) (string_bytes text.new) result right }
@@ -202,24 +221,27 @@ impl<'a> File<'a> {
         let count = section.sh_size as usize / Sym::size(self.ctx.container);
         let table = Symtab::parse_with_opts(self.bytes, offset, count, self.ctx, self.opts)?;
         self.turn_to_index(alloc, known, section.sh_link as usize)?;
-        Ok(push_symbols(text, number, &table, &known.names)?)
+        let strings = known.strings;
+        Ok(push_symbols(text, self.bytes, plain, number, &table, strings)?)
     }
 
     // Adds the lines of all symbols to a text.
     fn push_all_symbols(
         &self,
         alloc: Global,
-        known: &mut Known<'a>,
+        known: &mut Known,
+        plain: &mut [usize],
         text: &mut String,
     ) -> Result<()>
-        requires { IsKnown self.now.opts.now.parse_mode self.now.bytes.now known.old }
+        requires known { IsKnown self.now.opts.now.parse_mode self.now.bytes.now known.old }
+        requires plain { ArePlain self.now.bytes.now plain.old }
         ensures { let shows = symbols_shown self.now.opts.now.parse_mode self.now.bytes.now
             self.now.ctx self.now.sections.now in
             Adds (string_bytes text.old) (string_bytes text.new) result
             (each_shown shows 0 self.now.sections.now) }
     {
         for (number, section) in self.sections.iter().enumerate() {
-            self.push_symbols_of(alloc, known, text, number, section)?;
+            self.push_symbols_of(alloc, known, plain, text, number, section)?;
         }
         Ok(())
     }
@@ -274,11 +296,18 @@ impl<'a> File<'a> {
             Gives string_bytes result right }
     {
         let mut known = Known::new();
+        let mut plain = none_plain();
         self.turn_to_index(alloc, &mut known, names_index(self.header, self.sections))?;
         let mut text = String::new(alloc);
         push_header(&mut text, self.header)?;
-        push_sections(&mut text, self.sections, &known.names)?;
-        self.push_all_symbols(alloc, &mut known, &mut text)?;
+        push_sections(
+            &mut text,
+            self.bytes,
+            &mut plain,
+            self.sections,
+            known.strings,
+        )?;
+        self.push_all_symbols(alloc, &mut known, &mut plain, &mut text)?;
         self.push_all_relocs(&mut text, is_mips64el(self.header))?;
         Ok(text)
     }

@@ -5,4 +5,4 @@ pub returns-then-blocks-block-clause-text : goal.returns-then-blocks-block-claus
 returns-then-blocks-block-clause-text c = λ _. block_known c.args.bytes.now c.args.blocks.now c.args.block c.requires.known c.if-block-blocks.true c.if-blocks-block.true
 
 pub returns-then-block-blocks-2-clause-known : goal.returns-then-block-blocks-2-clause-known
-returns-then-block-blocks-2-clause-known c = block_more c.args.bytes.now c.args.blocks.now c.args.block c.requires.known (text_moved c.args.bytes.now _ _ _ _ c.cut-start.ensures.is c.cut-end.ensures.is (c.is_text.ensures c.if-not-is_text.false))
+returns-then-block-blocks-2-clause-known c = block_more c.args.bytes.now c.args.blocks.now c.args.block c.requires.known (text_moved c.args.bytes.now _ _ _ _ c.cut-start.ensures.is c.cut-end.ensures.is (c.is_text.ensures.0 c.if-not-is_text.false))

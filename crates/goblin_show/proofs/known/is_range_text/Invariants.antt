@@ -1,4 +1,4 @@
-use Rattle.std.specs.Prelude.{slice_range}
+use Rattle.std.specs.Prelude.{◌*◌, slice_range}
 use Rattle.std.specs.Str.{IsUtf8}
 use Rattle.goblin_show.specs.Known.{AreTexts, cut}
 use Rattle.goblin_show.proofs.known.is_range_text.Given as goal
@@ -7,5 +7,5 @@ use Rattle.goblin_show.proofs.known.is_range_text.Given as goal
 abbrev pub invariant-loop-block : goal.invariant-loop-block
 invariant-loop-block l = record {
   known : AreTexts l.bytes l.blocks;
-  text : IsUtf8 (slice_range l.bytes l.start (cut l.bytes l.block));
+  text : IsUtf8 (slice_range l.bytes l.start (cut l.bytes (l.block * 4096)));
 }
