@@ -141,7 +141,15 @@ static void table(const goblin_header_t *h, goblin_range_t range, goblin_range_t
         static const uint64_t sizes[] = {8, 12, 16, 24};
         uint64_t at = i < 3 ? any(30) : i == 3 ? odd() : range.size / sizes[i - 4] - any(3), index;
         TELLS(goblin_reloc, reloc, h, &range, any(2), at);
-        if (TELLS(goblin_string, name, &names, names.size - any(9))) inside("string", name);
+        uint64_t near = names.size - any(9);
+        goblin_range_t same_bytes;
+        bool is_string = TELLS(goblin_string_bytes, same_bytes, &names, near);
+        if (is_string) inside("bytes of a string", same_bytes);
+        if (TELLS(goblin_string, name, &names, near)) {
+            inside("string", name);
+            if (!is_string || name.offset != same_bytes.offset || name.size != same_bytes.size)
+                wrong("goblin_string_bytes", GOBLIN_OK);
+        }
         if (!TELLS(goblin_symbol, symbol, h, &range, at)) continue;
         if (!TELLS(goblin_string, name, &names, symbol.st_name)) continue;
         inside("string", name);
@@ -150,6 +158,18 @@ static void table(const goblin_header_t *h, goblin_range_t range, goblin_range_t
             wrong("goblin_symbol_by_name", GOBLIN_END);
     }
     bool is_rela = any(2);
+    uint64_t number;
+    if (TELLS(goblin_symbol_count, number, h, &range) && number > 0) {
+        goblin_symbol_t last;
+        if (!TELLS(goblin_symbol, last, h, &range, number - 1) || TELLS(goblin_symbol, last, h, &range, number))
+            wrong("goblin_symbol_count", GOBLIN_OK);
+    }
+    if (TELLS(goblin_reloc_count, number, h, &range, is_rela) && number > 0) {
+        goblin_reloc_t last;
+        if (!TELLS(goblin_reloc, last, h, &range, is_rela, number - 1) || TELLS(goblin_reloc, last, h, &range, is_rela, number))
+            wrong("goblin_reloc_count", GOBLIN_OK);
+    }
+    TELLS(goblin_number, number, h, any(2) ? place(len) : odd(), any(10));
     SEVERAL(goblin_symbol, goblin_symbols, goblin_symbol_t, st_other, h, &range);
     SEVERAL(goblin_reloc, goblin_relocs, goblin_reloc_t, has_addend, h, &range, is_rela);
     notes(h, range);
@@ -181,8 +201,16 @@ static void file(void) {
                 || index > at || !TELLS(goblin_section, found, &h, index)))
             wrong("goblin_section_by_name", GOBLIN_END);
         goblin_segment_t segment;
-        if (TELLS(goblin_segment, segment, &h, at)) notes(&h, segment.file);
+        goblin_range_t within;
+        if (TELLS(goblin_segment, segment, &h, at)) {
+            notes(&h, segment.file);
+            if (TELLS(goblin_segment_bytes, within, &segment)) inside("segment", within);
+        }
+        if (is_there && TELLS(goblin_section_bytes, within, &section)) inside("section", within);
+        if (is_there && (!TELLS(goblin_section_by_type, index, &h, section.sh_type, at) || index != at))
+            wrong("goblin_section_by_type", GOBLIN_END);
     }
+    TELLS(goblin_segment_count, count, &h);
     SEVERAL(goblin_section, goblin_sections, goblin_section_t, sh_info, &h);
     names_of_numbers();
 }

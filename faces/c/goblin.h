@@ -31,7 +31,7 @@ extern "C" {
 #endif
 
 /* The version of this file. goblin_version() answers that of the library, which must be the same. */
-#define GOBLIN_VERSION 1
+#define GOBLIN_VERSION 2
 
 /* What calls answer. Behind a refusal stands what `first`, `second`, .. of goblin_refusal_t are for it. */
 enum {
@@ -261,6 +261,26 @@ uint32_t goblin_section_by_name(const uint8_t *bytes, size_t len, const goblin_h
                                 const goblin_range_t *names, const uint8_t *name, size_t name_len, uint64_t *index,
                                 goblin_refusal_t *why);
 
+/* The index of the first section of a type, an SHT_ number, among those from the index `first` on. GOBLIN_END where there is
+   none. Refused as goblin_section_count is. */
+uint32_t goblin_section_by_type(const uint8_t *bytes, size_t len, const goblin_header_t *header, uint32_t sh_type,
+                                uint64_t first, uint64_t *index, goblin_refusal_t *why);
+
+/* Where the bytes of a section lie in the file: its range `file`, once that is known to lie there. GOBLIN_END where it has
+   none: type 0 (SHT_NULL), which stands for no section, type 8 (SHT_NOBITS), and where its size is 0.
+   GOBLIN_BAD_OFFSET or GOBLIN_TOO_BIG where they pass the file's end. */
+uint32_t goblin_section_bytes(const uint8_t *bytes, size_t len, const goblin_section_t *section, goblin_range_t *range,
+                              goblin_refusal_t *why);
+
+/* How many program headers there are, e_phnum. Refused as goblin_segment is. Never GOBLIN_END. */
+uint32_t goblin_segment_count(const uint8_t *bytes, size_t len, const goblin_header_t *header, uint64_t *count,
+                              goblin_refusal_t *why);
+
+/* Where the bytes of a segment lie in the file. GOBLIN_END where it has none: type 0 (PT_NULL), which stands for no segment,
+   and where its size in the file is 0. Refused as goblin_section_bytes is. */
+uint32_t goblin_segment_bytes(const uint8_t *bytes, size_t len, const goblin_segment_t *segment, goblin_range_t *range,
+                              goblin_refusal_t *why);
+
 /* The program header at an index, GOBLIN_END from e_phnum on.
    GOBLIN_BUFFER_TOO_SHORT: there are more than the file could hold. GOBLIN_BAD_OFFSET or GOBLIN_TOO_BIG: one of them has no
    room. */
@@ -274,6 +294,10 @@ uint32_t goblin_segment(const uint8_t *bytes, size_t len, const goblin_header_t 
    GOBLIN_SYMTAB_PAST where the symbols end past the file's end. */
 uint32_t goblin_symbol(const uint8_t *bytes, size_t len, const goblin_header_t *header, const goblin_range_t *table,
                        uint64_t index, goblin_symbol_t *symbol, goblin_refusal_t *why);
+
+/* How many symbols there are in a range, as many as lie in it whole. Refused as goblin_symbol is. Never GOBLIN_END. */
+uint32_t goblin_symbol_count(const uint8_t *bytes, size_t len, const goblin_header_t *header, const goblin_range_t *table,
+                             uint64_t *count, goblin_refusal_t *why);
 
 /* The symbols from the index `first` on, as goblin_sections does it for sections. Refused as goblin_symbol is. */
 uint32_t goblin_symbols(const uint8_t *bytes, size_t len, const goblin_header_t *header, const goblin_range_t *table,
@@ -295,6 +319,10 @@ uint32_t goblin_symbol_by_name(const uint8_t *bytes, size_t len, const goblin_he
    GOBLIN_BAD_OFFSET or GOBLIN_TOO_BIG where the range has bytes, and not all of them lie in the file. */
 uint32_t goblin_reloc(const uint8_t *bytes, size_t len, const goblin_header_t *header, const goblin_range_t *relocs,
                       bool is_rela, uint64_t index, goblin_reloc_t *reloc, goblin_refusal_t *why);
+
+/* How many relocations there are in a range. Refused as goblin_reloc is. Never GOBLIN_END. */
+uint32_t goblin_reloc_count(const uint8_t *bytes, size_t len, const goblin_header_t *header, const goblin_range_t *relocs,
+                            bool is_rela, uint64_t *count, goblin_refusal_t *why);
 
 /* The relocations from the index `first` on, as goblin_sections does it for sections. Refused as goblin_reloc is. */
 uint32_t goblin_relocs(const uint8_t *bytes, size_t len, const goblin_header_t *header, const goblin_range_t *relocs,
@@ -321,6 +349,19 @@ uint32_t goblin_note(const uint8_t *bytes, size_t len, const goblin_header_t *he
    GOBLIN_BAD_INPUT where the string is no text. */
 uint32_t goblin_string(const uint8_t *bytes, size_t len, const goblin_range_t *strings, uint64_t offset,
                        goblin_range_t *string, goblin_refusal_t *why);
+
+/* The same of a string that may be no text: never GOBLIN_BAD_INPUT. Where goblin_string tells a string, this tells the same
+   place. */
+uint32_t goblin_string_bytes(const uint8_t *bytes, size_t len, const goblin_range_t *strings, uint64_t offset,
+                             goblin_range_t *string, goblin_refusal_t *why);
+
+/* ---- numbers ---- */
+
+/* The number that `width` bytes at an offset of the file stand for, in the order of the header, where `width` is 1, 2, 4 or
+   8. GOBLIN_END where it is none of these, before any refusal.
+   GOBLIN_BAD_OFFSET or GOBLIN_TOO_BIG where they pass the file's end. */
+uint32_t goblin_number(const uint8_t *bytes, size_t len, const goblin_header_t *header, uint64_t offset, uint64_t width,
+                       uint64_t *value, goblin_refusal_t *why);
 
 /* ---- texts ----
 

@@ -94,6 +94,51 @@ static void note(goblin_note_t *n) {
     n->name.offset = end, n->name.size = 7, n->desc.offset = end + 8, n->next = end + 16;
 }
 
+/* The numbers of items, and the sections of a type. */
+static void count_all(const goblin_header_t *h, const goblin_range_t *symbols, const goblin_range_t *relocs,
+                      goblin_refusal_t *why) {
+    goblin_section_t second;
+    uint64_t number;
+    same("goblin_segment_count", goblin_segment_count(file, sizeof file, h, &number, why), GOBLIN_OK);
+    same("goblin_segment_count", number, 2);
+    same("goblin_symbol_count", goblin_symbol_count(file, sizeof file, h, symbols, &number, why), GOBLIN_OK);
+    same("goblin_symbol_count", number, 2);
+    same("goblin_reloc_count", goblin_reloc_count(file, sizeof file, h, relocs, true, &number, why), GOBLIN_OK);
+    same("goblin_reloc_count", number, 2);
+    same("goblin_section", goblin_section(file, sizeof file, h, 1, &second, why), GOBLIN_OK);
+    same("goblin_section_by_type", goblin_section_by_type(file, sizeof file, h, second.sh_type, 0, &number, why), GOBLIN_OK);
+    same("goblin_section_by_type", number, 1);
+    same("goblin_section_by_type", goblin_section_by_type(file, sizeof file, h, second.sh_type, 2, &number, why), GOBLIN_END);
+    for (size_t width = 1; width <= 8; width *= 2) {
+        uint64_t value = (end = 0xd00, any(width));
+        same("goblin_number", goblin_number(file, sizeof file, h, 0xd00, width, &number, why), GOBLIN_OK);
+        same("goblin_number", number, value);
+    }
+    same("goblin_number of 3", goblin_number(file, sizeof file, h, 0xd00, 3, &number, why), GOBLIN_END);
+    same("goblin_number outside", goblin_number(file, sizeof file, h, sizeof file - 1, 2, &number, why), GOBLIN_TOO_BIG);
+}
+
+/* The bytes of sections, segments and strings. */
+static void range_all(const goblin_layout_t *told, goblin_refusal_t *why) {
+    goblin_section_t s = told->section;
+    goblin_segment_t p = told->segment;
+    goblin_range_t found = {0, 0}, names = {0xc00, 4};
+    s.sh_type = 1, s.file.offset = p.file.offset = 0xa00, s.file.size = p.file.size = 0x33, p.p_type = 1;
+    same("goblin_section_bytes", goblin_section_bytes(file, sizeof file, &s, &found, why), GOBLIN_OK);
+    same("goblin_section_bytes", found.offset << 16 | found.size, 0xa000033);
+    found.size = 0;
+    same("goblin_segment_bytes", goblin_segment_bytes(file, sizeof file, &p, &found, why), GOBLIN_OK);
+    same("goblin_segment_bytes", found.offset << 16 | found.size, 0xa000033);
+    same("goblin_string_bytes", goblin_string_bytes(file, sizeof file, &names, 1, &found, why), GOBLIN_OK);
+    same("goblin_string_bytes", found.offset << 16 | found.size, 0xc010003);
+    s.file.size = p.file.size = sizeof file;
+    same("bytes outside", goblin_section_bytes(file, sizeof file, &s, &found, why), GOBLIN_TOO_BIG);
+    same("bytes outside", goblin_segment_bytes(file, sizeof file, &p, &found, why), GOBLIN_TOO_BIG);
+    s.sh_type = 8, p.p_type = 0;
+    same("no bytes", goblin_section_bytes(file, sizeof file, &s, &found, why), GOBLIN_END);
+    same("no bytes", goblin_segment_bytes(file, sizeof file, &p, &found, why), GOBLIN_END);
+}
+
 /* Reads each item of a file, and compares it with what was put there. */
 static void read_all(void) {
     goblin_layout_t wanted, got;
@@ -109,6 +154,8 @@ static void read_all(void) {
     same("goblin_section", goblin_section(file, sizeof file, h, 1, &got.section, why), GOBLIN_OK);
     same("goblin_section", goblin_section(file, sizeof file, h, 3, &got.section, why), GOBLIN_END);
     goblin_range_t symbols = {0x700, wide == 8 ? 48U : 32U}, relocs = {0x800, wide * 6}, notes = {0x900, 28};
+    count_all(h, &symbols, &relocs, why);
+    range_all(&wanted, why);
     same("goblin_symbol", goblin_symbol(file, sizeof file, h, &symbols, 1, &got.symbol, why), GOBLIN_OK);
     same("goblin_symbol", goblin_symbol(file, sizeof file, h, &symbols, 2, &got.symbol, why), GOBLIN_END);
     same("goblin_reloc", goblin_reloc(file, sizeof file, h, &relocs, true, 1, &got.reloc, why), GOBLIN_OK);
@@ -198,6 +245,7 @@ static void call_with_nulls(void) {
         same("null: section names", goblin_section_names(NULL, 0, &h, &s, &why), end);
         same("null: table", goblin_table(NULL, 0, &h, 1, &s, &why), end);
         same("null: section by name", goblin_section_by_name(NULL, 0, &h, &none, NULL, 0, &number, &why), end);
+        same("null: section by type", goblin_section_by_type(NULL, 0, &h, 3, 0, &number, &why), end);
         same("null: sections", goblin_sections(NULL, 0, &h, 0, NULL, 0, &number, &why), end);
     }
     same("null: segment", goblin_segment(NULL, 0, &h, 0, &p, &why), GOBLIN_END);
@@ -210,6 +258,11 @@ static void call_with_nulls(void) {
     same("null: relocs", goblin_relocs(NULL, 0, &h, &none, false, 0, NULL, 0, &number, &why), GOBLIN_END);
     same("null: note", goblin_note(NULL, 0, &h, &none, 4, 0, &n, &why), GOBLIN_END);
     same("null: note", goblin_note(NULL, 0, &h, &some, 4, 0, &n, &why), GOBLIN_BAD_OFFSET);
+    same("null: segment count", goblin_segment_count(NULL, 0, &h, &number, &why), GOBLIN_OK);
+    same("null: symbol count", goblin_symbol_count(NULL, 0, &h, &none, &number, &why), GOBLIN_SYMTAB_OFFSET);
+    same("null: reloc count", goblin_reloc_count(NULL, 0, &h, &none, true, &number, &why), GOBLIN_OK);
+    same("null: string bytes", goblin_string_bytes(NULL, 0, &none, 0, &text, &why), GOBLIN_END);
+    same("null: number", goblin_number(NULL, 0, &h, 0, 8, &number, &why), GOBLIN_BAD_OFFSET);
     same("null: string", goblin_string(NULL, 0, &none, 0, &text, &why), GOBLIN_END);
     same("null: string", goblin_string(NULL, 0, &some, 0, &text, &why), GOBLIN_STRTAB_RANGE);
     same("null: class", goblin_class_to_str(1, NULL, 0), strlen("ELF32"));

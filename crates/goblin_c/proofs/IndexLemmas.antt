@@ -24,7 +24,7 @@ use Rattle.goblin.specs.SectionHeaders.{section_headers_of}
 use Rattle.goblin_headers.proofs.HeaderLaws.{header_laws}
 use Rattle.goblin_headers.proofs.RawTrips.{ident_byte}
 use Rattle.goblin_headers.proofs.ReadHeaderLemmas.{read_header-is}
-use Rattle.goblin_c.specs.Answers.{ctx_of, header_told, link_of, names_index, relocs_right, reloc_right, reloc_told, section_count_right, section_right, section_told, sections_right, segment_right, segment_told, symbol_right, symbol_told, symbols_right, table_at, told_from, with_bytes}
+use Rattle.goblin_c.specs.Answers.{ctx_of, header_told, link_of, names_index, relocs_right, reloc_count_right, reloc_right, reloc_told, section_count_right, section_right, section_told, sections_right, segment_count_right, segment_right, segment_told, segments_right, symbol_count_right, symbol_right, symbol_told, symbols_right, table_at, told_from, with_bytes}
 use Rattle.goblin_c.specs.Laws.{ContextIsTheHeaders, FilledByIndex, GivenFrom, HasHeader, NamesByIndex, NamesContext, RelocsByIndex, SectionsByIndex, SegmentsByIndex, SymbolsByIndex, TablesByIndex, TellsCount, TellsEach, symbols_in, table_told}
 
 -- a byte that names a class or a byte order names the one that C's number stands for
@@ -91,24 +91,24 @@ sections_by_index bytes h ctx has named =
 
 pub segments_by_index : SegmentsByIndex
 segments_by_index bytes h ctx has named =
-    subst (λ (c : Ctx). TellsEach segment_told (program_headers_from bytes h.e_phoff h.e_phnum c) (segment_right bytes (header_told h)))
+    subst (λ (c : Ctx). TellsEach segment_told (program_headers_from bytes h.e_phoff h.e_phnum c) (segment_right bytes (header_told h)) × TellsCount (program_headers_from bytes h.e_phoff h.e_phnum c) (segment_count_right bytes (header_told h)))
     (one_context bytes h ctx has named)
-    (each segment_told (program_headers_from bytes h.e_phoff h.e_phnum (ctx_of (header_told h))))
+    (each segment_told (segments_right bytes (header_told h)), counted (segments_right bytes (header_told h)))
 
 pub symbols_by_index : SymbolsByIndex
 symbols_by_index bytes h ctx range has named =
-    subst (λ (c : Ctx). TellsEach symbol_told (symbols_in bytes range c) (symbol_right bytes (header_told h) range))
+    subst (λ (c : Ctx). TellsEach symbol_told (symbols_in bytes range c) (symbol_right bytes (header_told h) range) × TellsCount (symbols_in bytes range c) (symbol_count_right bytes (header_told h) range))
     (one_context bytes h ctx has named)
-    (each symbol_told (symbols_in bytes range (ctx_of (header_told h))))
+    (each symbol_told (symbols_in bytes range (ctx_of (header_told h))), counted (symbols_in bytes range (ctx_of (header_told h))))
 
 pub relocs_by_index : RelocsByIndex
 relocs_by_index bytes h ctx range is_rela has named =
-    let tells = λ (c : Ctx) (pair : Bool). TellsEach reloc_told (refuse_as refusal_of (relocs_of bytes range.offset range.size is_rela c pair)) (reloc_right bytes (header_told h) range is_rela) in
-    let own = subst (tells (ctx_of (header_told h))) (context_is_the_headers bytes h has).1 (each reloc_told (relocs_right bytes (header_told h) range is_rela)) in
+    let tells = λ (c : Ctx) (pair : Bool). TellsEach reloc_told (refuse_as refusal_of (relocs_of bytes range.offset range.size is_rela c pair)) (reloc_right bytes (header_told h) range is_rela) × TellsCount (refuse_as refusal_of (relocs_of bytes range.offset range.size is_rela c pair)) (reloc_count_right bytes (header_told h) range is_rela) in
+    let own = subst (tells (ctx_of (header_told h))) (context_is_the_headers bytes h has).1 (each reloc_told (relocs_right bytes (header_told h) range is_rela), counted (relocs_right bytes (header_told h) range is_rela)) in
     subst (λ (c : Ctx). tells c (is_of_mips64el h)) (one_context bytes h ctx has named) own
 
 -- the item at an index behind those that are left out
-behind : {X : Type 0} (xs : List X) (n k : ℕ) → slice_get xs (n + k) ≡ slice_get (drop n xs) k
+pub behind : {X : Type 0} (xs : List X) (n k : ℕ) → slice_get xs (n + k) ≡ slice_get (drop n xs) k
 behind xs zero k = ap (slice_get xs) (omega arith)
 behind [] (suc n) k = refl
 behind (x ∷ xs) (suc n) k =

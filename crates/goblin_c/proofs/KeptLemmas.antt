@@ -30,6 +30,7 @@ use Rattle.goblin.specs.Symtab.{symtab_of}
 use Rattle.goblin_c.specs.declared.types.GoblinHeader.{GoblinHeader}
 use Rattle.goblin_c.specs.declared.types.GoblinRange.{GoblinRange}
 use Rattle.goblin_c.specs.Answers.{ctx_of, is_mips64el, relocs_right, sections_right, segments_right, strings_right, symbols_right}
+use Rattle.goblin_c.specs.Bytes.{is_width, number_right, range_right, section_bytes_right, section_has_bytes, segment_bytes_right, segment_has_bytes}
 use Rattle.goblin_c.specs.Notes.{note_right}
 use Rattle.goblin_c.specs.Laws.{KeepsText, RefusalsKeepTheirText}
 use Rattle.goblin_c.specs.Texts.{NamesKnown}
@@ -190,6 +191,11 @@ note bytes h range alignment offset =
     either it (nat_le (range.offset + range.size) offset) _ _ tt
     (thence it (note_at bytes offset (alignment, ctx_of h)) _ (note_there bytes offset (alignment, ctx_of h)) λ found. tt)
 
+-- ranges of bytes
+placed : (bytes : List ℕ) (range : GoblinRange) → Known it (range_right bytes range)
+placed bytes range =
+    thence it (refuse_as misplaced (room_of (length bytes) range.offset range.size)) _ (inside it misplaced _ (room (length bytes) range.offset range.size)) λ u. tt
+
 -- so the text is kept
 kept : {X : Type 0} (answer : Result X Refusal) → Known it answer → KeepsText answer
 kept (Ok x) known = tt
@@ -220,4 +226,14 @@ refusals_keep_their_text = record {
       thence it (strings_right bytes names) _ (strings bytes names) λ found. tt);
   symbol_by_name = λ bytes h range names name. kept_then (symbols_right bytes h range) _ (symbols bytes h range) (λ all.
       thence it (strings_right bytes names) _ (strings bytes names) λ found. tt);
+  segment_count = λ bytes h. kept_then (segments_right bytes h) _ (segments bytes h) (λ all. tt);
+  symbol_count = λ bytes h range. kept_then (symbols_right bytes h range) _ (symbols bytes h range) (λ all. tt);
+  reloc_count = λ bytes h range is_rela. kept_then (relocs_right bytes h range is_rela) _ (relocs bytes h range is_rela) (λ all. tt);
+  section_by_type = λ bytes h sh_type first. kept_then (sections_right bytes h) _ (sections bytes h) (λ all. tt);
+  section_bytes = λ bytes s. kept (section_bytes_right bytes s) (either it (section_has_bytes s) _ _ (placed bytes s.file) tt);
+  segment_bytes = λ bytes s. kept (segment_bytes_right bytes s) (either it (segment_has_bytes s) _ _ (placed bytes s.file) tt);
+  string_bytes = λ bytes range offset. kept_then (strings_right bytes range) _ (strings bytes range) (λ found.
+      either it (nat_le (length found) offset) _ _ tt tt);
+  number = λ bytes h offset width. kept (number_right bytes h offset width) (either it (is_width width) _ _
+      (thence it (refuse_as misplaced (room_of (length bytes) offset width)) _ (inside it misplaced _ (room (length bytes) offset width)) λ u. tt) tt);
 }

@@ -4,6 +4,9 @@ pub mod IndexLemmas
 pub mod KeptLemmas
 pub mod Lists
 pub mod NoteLaws
+pub mod PieceLemmas
+pub mod PlaceLaws
 pub mod StepLemmas
 pub mod StringLaws
 pub mod TextLemmas
+pub mod TypeSearch

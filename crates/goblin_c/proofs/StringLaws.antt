@@ -35,7 +35,7 @@ unfolding range_in
 in_range bytes offset size found is =
     chosen (nat_lt (length bytes) offset) (nat_lt (length bytes) (offset + size)) _ _ (take size (drop offset bytes)) found is
 
-strings_are : (bytes : List ℕ) (range : GoblinRange) (found : List ℕ) → strings_right bytes range ≡ Ok found → found ≡ bytes_in bytes range
+pub strings_are : (bytes : List ℕ) (range : GoblinRange) (found : List ℕ) → strings_right bytes range ≡ Ok found → found ≡ bytes_in bytes range
 strings_are bytes range found is =
     in_range bytes range.offset range.size found (within malformed (range_in Strict bytes range.offset range.size) found is)
 
@@ -61,11 +61,11 @@ piece_there bytes range offset before =
     rw (rest, place) (in_front (λ b. b == 0) n (drop offset all))
 
 -- the string that is read at an offset of strings is the piece there
-plain_is : (strings : List ℕ) (offset : ℕ) (text : List ℕ) → plain strings 0 offset ≡ Ok text → text ≡ piece strings 0 offset
+pub plain_is : (strings : List ℕ) (offset : ℕ) (text : List ℕ) → plain strings 0 offset ≡ Ok text → text ≡ piece strings 0 offset
 plain_is strings offset text is = taken_text (is_utf8 (piece strings 0 offset)) (piece strings 0 offset) text (invalid_utf8 (length strings - offset)) is
 
 -- where a string lies that was read
-abbrev place_of : GoblinRange → ℕ → List ℕ → GoblinRange
+abbrev pub place_of : GoblinRange → ℕ → List ℕ → GoblinRange
 place_of range offset text = record { offset = range.offset + offset; size = length text }
 
 text_there : (bytes : List ℕ) (range : GoblinRange) (offset : ℕ) (strings text : List ℕ) → strings_right bytes range ≡ Ok strings → offset < length strings → plain strings 0 offset ≡ Ok text → bytes_in bytes (place_of range offset text) ≡ text
@@ -136,7 +136,7 @@ cond_none : (test : Bool) (n : ℕ) → ◌≡◌ {A = Option ℕ} (cond test (S
 cond_none true n is = absurd (cc)
 cond_none false n is = refl
 
-first_passes : {X : Type 0} (test : X → Bool) (items : List X) (i : ℕ) → position test items ≡ Some i → (x : X) × (slice_get items i ≡ Some x) × (test x ≡ true)
+pub first_passes : {X : Type 0} (test : X → Bool) (items : List X) (i : ℕ) → position test items ≡ Some i → (x : X) × (slice_get items i ≡ Some x) × (test x ≡ true)
 first_passes test [] i is = absurd (cc)
 first_passes test (x ∷ items) i is =
     let found = position-Some test (x ∷ items) i x is in
@@ -145,17 +145,17 @@ first_passes test (x ∷ items) i is =
 fails_at : {X : Type 0} (test : X → Bool) (items : List X) (k : ℕ) (x : X) → slice_get items k ≡ Some x → test (get_or items k x) ≡ false → test x ≡ false
 fails_at test items k x found fails = ap test (sym (get_or_from_slice_get items k x x found)) ∙ fails
 
-earlier_fail : {X : Type 0} (test : X → Bool) (items : List X) (i k : ℕ) (x : X) → position test items ≡ Some i → k < i → slice_get items k ≡ Some x → test x ≡ false
+pub earlier_fail : {X : Type 0} (test : X → Bool) (items : List X) (i k : ℕ) (x : X) → position test items ≡ Some i → k < i → slice_get items k ≡ Some x → test x ≡ false
 earlier_fail test items i k x is before found = fails_at test items k x found ((position-Some test items i x is).2 k before)
 
-all_fail : {X : Type 0} (test : X → Bool) (items : List X) (k : ℕ) (x : X) → position test items ≡ None → slice_get items k ≡ Some x → test x ≡ false
+pub all_fail : {X : Type 0} (test : X → Bool) (items : List X) (k : ℕ) (x : X) → position test items ≡ None → slice_get items k ≡ Some x → test x ≡ false
 all_fail test items k x none found =
     let past = cond_none (nat_lt (position_or_len test items) (length items)) (position_or_len test items) none in
     let inside : k < length items = slice_get_within items k x found in
     fails_at test items k x found (fails_before_first test items k x (grind (arith, nat_tests)))
 
 -- what is told of an item
-told_one : {X Y : Type 0} (tell : X → Y) (found : Option X) (y : Y) → ◌≡◌ {A = Result (Option Y) Refusal} (Ok (option_map tell found)) (Ok (Some y)) → (x : X) × (found ≡ Some x) × (y ≡ tell x)
+pub told_one : {X Y : Type 0} (tell : X → Y) (found : Option X) (y : Y) → ◌≡◌ {A = Result (Option Y) Refusal} (Ok (option_map tell found)) (Ok (Some y)) → (x : X) × (found ≡ Some x) × (y ≡ tell x)
 told_one tell (Some x) y is = (x, refl, cc)
 told_one tell None y is = absurd (cc)
 
@@ -200,14 +200,14 @@ none_over true over a b part found is = absurd (cc)
 none_over false true a b part found is = absurd (cc)
 none_over false false a b part found is = refl
 
-range_fits : (bytes : List ℕ) (offset size : ℕ) (found : List ℕ) → range_in Strict bytes offset size ≡ Ok found → offset + size ≤ length bytes
+pub range_fits : (bytes : List ℕ) (offset size : ℕ) (found : List ℕ) → range_in Strict bytes offset size ≡ Ok found → offset + size ≤ length bytes
 unfolding range_in
 range_fits bytes offset size found is =
     let test = none_over (nat_lt (length bytes) offset) (nat_lt (length bytes) (offset + size)) _ _ (take size (drop offset bytes)) found is in
     grind (arith, nat_tests)
 
 -- a piece is no longer than the strings from its offset on
-piece_short : (strings : List ℕ) (offset : ℕ) → length (piece strings 0 offset) ≤ length strings - offset
+pub piece_short : (strings : List ℕ) (offset : ℕ) → length (piece strings 0 offset) ≤ length strings - offset
 unfolding piece
 piece_short strings offset =
     let rest = drop offset strings in

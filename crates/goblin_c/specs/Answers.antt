@@ -136,6 +136,18 @@ segment_right bytes h index = do
   segments ← segments_right bytes h
   Ok (option_map segment_told (slice_get segments index))
 
+-- how many program headers there are
+abbrev pub segment_count_right : List ℕ → GoblinHeader → Result (Option ℕ) Refusal
+segment_count_right bytes h = do
+  segments ← segments_right bytes h
+  Ok (Some (length segments))
+
+-- the index of the first section of a type, from an index on
+abbrev pub section_by_type_right : List ℕ → GoblinHeader → ℕ → ℕ → Result (Option ℕ) Refusal
+section_by_type_right bytes h sh_type first = do
+  sections ← sections_right bytes h
+  Ok (option_map (λ place. first + place) (position (λ section. section.sh_type == sh_type) (drop first sections)))
+
 -- the symbols of a range, as many as lie in it whole
 abbrev pub symbols_right : List ℕ → GoblinHeader → GoblinRange → Result (List Sym) Refusal
 symbols_right bytes h range = do
@@ -147,6 +159,12 @@ abbrev pub symbol_right : List ℕ → GoblinHeader → GoblinRange → ℕ → 
 symbol_right bytes h range index = do
   symbols ← symbols_right bytes h range
   Ok (option_map symbol_told (slice_get symbols index))
+
+-- how many symbols there are
+abbrev pub symbol_count_right : List ℕ → GoblinHeader → GoblinRange → Result (Option ℕ) Refusal
+symbol_count_right bytes h range = do
+  symbols ← symbols_right bytes h range
+  Ok (Some (length symbols))
 
 -- whether a file is a MIPS64 one of little order, which each order but 2 stands for
 abbrev pub is_mips64el : GoblinHeader → Bool
@@ -162,6 +180,12 @@ abbrev pub reloc_right : List ℕ → GoblinHeader → GoblinRange → Bool → 
 reloc_right bytes h range is_rela index = do
   relocs ← relocs_right bytes h range is_rela
   Ok (option_map reloc_told (slice_get relocs index))
+
+-- how many relocations there are
+abbrev pub reloc_count_right : List ℕ → GoblinHeader → GoblinRange → Bool → Result (Option ℕ) Refusal
+reloc_count_right bytes h range is_rela = do
+  relocs ← relocs_right bytes h range is_rela
+  Ok (Some (length relocs))
 
 -- the bytes of a range of strings
 abbrev pub strings_right : List ℕ → GoblinRange → Result (List ℕ) Refusal

@@ -20,7 +20,8 @@ use Rattle.goblin.specs.SectionHeaders.{section_headers_of}
 use Rattle.goblin.specs.declared.elf.sym.Sym.{Sym}
 use Rattle.goblin.specs.Sym.{sym_size}
 use Rattle.goblin.specs.Symtab.{symtab_of}
-use Rattle.goblin_c.specs.Answers.{ctx_of, header_told, is_mips64el, reloc_told, section_told, segment_told, symbol_told, header_right, section_count_right, section_right, segment_right, symbol_right, reloc_right, string_right, sections_from_right, symbols_from_right, relocs_from_right, section_names_right, section_by_name_right, symbol_by_name_right, strings_right, table_right}
+use Rattle.goblin_c.specs.Answers.{ctx_of, header_told, is_mips64el, reloc_told, section_told, segment_told, symbol_told, header_right, section_by_type_right, section_count_right, section_right, segment_count_right, segment_right, symbol_right, reloc_right, string_right, symbol_count_right, reloc_count_right, sections_from_right, symbols_from_right, relocs_from_right, section_names_right, section_by_name_right, symbol_by_name_right, strings_right, table_right}
+use Rattle.goblin_c.specs.Bytes.{number_right, section_bytes_right, segment_bytes_right, string_bytes_right}
 use Rattle.goblin_c.specs.Cut.{cut}
 use Rattle.goblin_c.specs.Notes.{note_right}
 use Rattle.goblin_c.specs.Status.{refusal_told}
@@ -30,6 +31,7 @@ use Rattle.goblin_c.specs.declared.types.GoblinNote.{GoblinNote}
 use Rattle.goblin_c.specs.declared.types.GoblinRange.{GoblinRange}
 use Rattle.goblin_c.specs.declared.types.GoblinReloc.{GoblinReloc}
 use Rattle.goblin_c.specs.declared.types.GoblinSection.{GoblinSection}
+use Rattle.goblin_c.specs.declared.types.GoblinSegment.{GoblinSegment}
 use Rattle.goblin_c.specs.declared.types.GoblinSymbol.{GoblinSymbol}
 
 -- the bytes of a file in a range
@@ -122,6 +124,21 @@ pub record RefusalsKeepTheirText : Type 0 where
   pub symbol_by_name :
       (bytes : List ℕ) (h : GoblinHeader) (range names : GoblinRange) (name : List ℕ)
       → KeepsText (symbol_by_name_right bytes h range names name)
+  pub segment_count : (bytes : List ℕ) (h : GoblinHeader) → KeepsText (segment_count_right bytes h)
+  pub symbol_count :
+      (bytes : List ℕ) (h : GoblinHeader) (range : GoblinRange) → KeepsText (symbol_count_right bytes h range)
+  pub reloc_count :
+      (bytes : List ℕ) (h : GoblinHeader) (range : GoblinRange) (is_rela : Bool)
+      → KeepsText (reloc_count_right bytes h range is_rela)
+  pub section_by_type :
+      (bytes : List ℕ) (h : GoblinHeader) (sh_type first : ℕ)
+      → KeepsText (section_by_type_right bytes h sh_type first)
+  pub section_bytes : (bytes : List ℕ) (s : GoblinSection) → KeepsText (section_bytes_right bytes s)
+  pub segment_bytes : (bytes : List ℕ) (s : GoblinSegment) → KeepsText (segment_bytes_right bytes s)
+  pub string_bytes :
+      (bytes : List ℕ) (range : GoblinRange) (offset : ℕ) → KeepsText (string_bytes_right bytes range offset)
+  pub number :
+      (bytes : List ℕ) (h : GoblinHeader) (offset width : ℕ) → KeepsText (number_right bytes h offset width)
 
 -- the kind of a refusal, which a call answers, is neither 0 nor 1
 abbrev pub KindsAreAnswers : Type 0
@@ -167,12 +184,13 @@ SectionsByIndex =
     TellsEach section_told sections (section_right bytes (header_told h))
     × TellsCount sections (section_count_right bytes (header_told h))
 
--- its program headers by index are the library's list
+-- its program headers by index are the library's list, and the count is its length
 abbrev pub SegmentsByIndex : Type 0
 SegmentsByIndex =
     (bytes : List ℕ) (h : Header) (ctx : Ctx) → HasHeader bytes h → NamesContext h ctx
     → let segments = program_headers_from bytes h.e_phoff h.e_phnum ctx in
     TellsEach segment_told segments (segment_right bytes (header_told h))
+    × TellsCount segments (segment_count_right bytes (header_told h))
 
 -- the symbols of the library's table in a range, of as many as lie in it whole
 abbrev pub symbols_in : List ℕ → GoblinRange → Ctx → Result (List Sym) Refusal
@@ -180,19 +198,21 @@ symbols_in bytes range ctx = do
   table ← refuse_as refusal_of (symtab_of bytes range.offset (range.size / sym_size ctx.container) ctx)
   Ok table.symbols
 
--- the symbols of a range by index are those of the library's table
+-- the symbols of a range by index are those of the library's table, and the count is their number
 abbrev pub SymbolsByIndex : Type 0
 SymbolsByIndex =
     (bytes : List ℕ) (h : Header) (ctx : Ctx) (range : GoblinRange) → HasHeader bytes h → NamesContext h ctx
     → TellsEach symbol_told (symbols_in bytes range ctx) (symbol_right bytes (header_told h) range)
+    × TellsCount (symbols_in bytes range ctx) (symbol_count_right bytes (header_told h) range)
 
--- the relocations of a range by index are the library's list
+-- the relocations of a range by index are the library's list, and the count is its length
 abbrev pub RelocsByIndex : Type 0
 RelocsByIndex =
     (bytes : List ℕ) (h : Header) (ctx : Ctx) (range : GoblinRange) (is_rela : Bool)
     → HasHeader bytes h → NamesContext h ctx
     → let relocs = refuse_as refusal_of (relocs_of bytes range.offset range.size is_rela ctx (is_of_mips64el h)) in
     TellsEach reloc_told relocs (reloc_right bytes (header_told h) range is_rela)
+    × TellsCount relocs (reloc_count_right bytes (header_told h) range is_rela)
 
 -- the items that are given from an index on, one at least, are those that a call tells there one by one, and none
 -- behind them; or the call tells none there, or the same refusal at each index
@@ -294,3 +314,39 @@ SymbolsByName =
     → let HasTheName = λ (symbol : GoblinSymbol). IsNameAt bytes names symbol.st_name name in
     let found = symbol_by_name_right bytes h range names name in
     FindsFirst (symbol_right bytes h range) (string_right bytes names) HasTheName found
+
+-- an answer is the index of the first item from an index on that a call tells and that is so; or none is so from there
+-- on; or it is the refusal that all items have in their place
+abbrev pub FindsFrom :
+    {Y : Type 0} → ℕ → (ℕ → Result (Option Y) Refusal) → (Y → Type 0) → Result (Option ℕ) Refusal → Type 0
+FindsFrom {Y} first call IsSo (Ok (Some index)) =
+    (first ≤ index) × ((item : Y) × (call index ≡ Ok (Some item)) × IsSo item)
+    × ((k : ℕ) (item : Y) → first ≤ k → k < index → call k ≡ Ok (Some item) → ¬ IsSo item)
+FindsFrom {Y} first call IsSo (Ok None) =
+    (k : ℕ) (item : Y) → first ≤ k → call k ≡ Ok (Some item) → ¬ IsSo item
+FindsFrom first call IsSo (Err refusal) = RefusesAll call refusal
+
+-- what is found by a type is the first section from the index on that has it
+abbrev pub SectionsByType : Type 0
+SectionsByType =
+    (bytes : List ℕ) (h : GoblinHeader) (sh_type first : ℕ)
+    → let IsOfType = λ (section : GoblinSection). section.sh_type ≡ sh_type in
+    FindsFrom first (section_right bytes h) IsOfType (section_by_type_right bytes h sh_type first)
+
+-- the places that are told of bytes lie in the file
+pub record BytesLieInFile : Type 0 where
+  pub section :
+      (bytes : List ℕ) (s : GoblinSection) (told : GoblinRange)
+      → section_bytes_right bytes s ≡ Ok (Some told) → LiesIn bytes told
+  pub segment :
+      (bytes : List ℕ) (s : GoblinSegment) (told : GoblinRange)
+      → segment_bytes_right bytes s ≡ Ok (Some told) → LiesIn bytes told
+  pub string :
+      (bytes : List ℕ) (range : GoblinRange) (offset : ℕ) (told : GoblinRange)
+      → string_bytes_right bytes range offset ≡ Ok (Some told) → LiesIn bytes told
+
+-- the place that a call tells of a string is the one that is told of it, text or not
+abbrev pub StringsAreBytes : Type 0
+StringsAreBytes =
+    (bytes : List ℕ) (range : GoblinRange) (offset : ℕ) (told : GoblinRange)
+    → string_right bytes range offset ≡ Ok (Some told) → string_bytes_right bytes range offset ≡ Ok (Some told)

@@ -1,4 +1,5 @@
 pub mod Answers
+pub mod Bytes
 pub mod Cut
 pub mod Laws
 pub mod Layout

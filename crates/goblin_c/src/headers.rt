@@ -1,9 +1,9 @@
 //! The header, the section headers and the program headers, as the library gives them.
-ghost use Rattle.std.specs.Prelude.{◌≡◌};
+ghost use Rattle.std.specs.Prelude.{◌≡◌, ◌+◌, ◌==◌, drop, position};
 ghost use Rattle.std.specs.Option.{option_map};
 ghost use Rattle.goblin.specs.Refusal.{Answers};
 ghost use Rattle.goblin.specs.SectionHeaders.{count_told, section_headers_from};
-ghost use Rattle.goblin_c.specs.Answers.{ctx_of, header_right, header_told, section_count_right, section_right, names_index, section_names_right, section_told, sections_right, segment_right, segment_told, segments_right, table_at, table_right};
+ghost use Rattle.goblin_c.specs.Answers.{ctx_of, header_right, header_told, section_by_type_right, section_count_right, section_right, names_index, section_names_right, section_told, sections_right, segment_count_right, segment_right, segment_told, segments_right, table_at, table_right};
 
 use crate::table::table_of;
 use crate::types::{GoblinHeader, GoblinRange, GoblinSection, GoblinSegment};
@@ -166,6 +166,36 @@ pub fn section_at(bytes: &[u8], header: &GoblinHeader, index: u64) -> Result<Opt
     }
 }
 
+// The index of the first section of a type, from an index on.
+fn find_type(sections: &Table<'_, SectionHeader, Ctx>, sh_type: u32, first: usize) -> Option<u64>
+    ensures { result
+        ≡ option_map (λ place. first + place)
+        (position (λ section. section.sh_type == sh_type) (drop first sections.now)) }
+{
+    for i in first..sections.len() {
+        if let Some(section) = sections.get(i) {
+            if section.sh_type == sh_type {
+                return Some(i as u64);
+            }
+        }
+    }
+    None
+}
+
+/// The index of the first section of a type, from an index on.
+pub fn section_by_type(
+    bytes: &[u8],
+    header: &GoblinHeader,
+    sh_type: u32,
+    first: u64,
+) -> Result<Option<u64>>
+    ensures { Answers (λ found. found) result
+        (section_by_type_right bytes.now header.now sh_type first) }
+{
+    let sections = sections_of(bytes, header)?;
+    Ok(find_type(&sections, sh_type, first as usize))
+}
+
 // The index of the section that holds the sections' names.
 fn names_index(sections: &Table<'_, SectionHeader, Ctx>, index: u16) -> usize
     ensures { result ≡ names_index sections.now index }
@@ -232,4 +262,11 @@ pub fn segment_at(bytes: &[u8], header: &GoblinHeader, index: u64) -> Result<Opt
         Some(segment) => Ok(Some(told_segment(&segment))),
         None => Ok(None),
     }
+}
+
+/// How many program headers there are.
+pub fn segment_count(bytes: &[u8], header: &GoblinHeader) -> Result<Option<u64>>
+    ensures { Answers (λ found. found) result (segment_count_right bytes.now header.now) }
+{
+    Ok(Some(segments_of(bytes, header)?.len() as u64))
 }

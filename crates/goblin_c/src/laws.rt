@@ -1,5 +1,5 @@
 //! Laws of the calls: what they tell one by one is what the library has at once.
-ghost use Rattle.goblin_c.specs.Laws.{NotesAreItems, NotesInARow, NotesLieInFile, RefusalsKeepTheirText, ContextIsTheHeaders, SectionsByIndex, SegmentsByIndex, SymbolsByIndex, RelocsByIndex, FilledByIndex, RoomIsFilled, NamesByIndex, StringsAreThere, StringsLieInFile, SectionsByName, SymbolsByName, TablesByIndex, KindsAreAnswers};
+ghost use Rattle.goblin_c.specs.Laws.{NotesAreItems, NotesInARow, NotesLieInFile, RefusalsKeepTheirText, ContextIsTheHeaders, SectionsByIndex, SegmentsByIndex, SymbolsByIndex, RelocsByIndex, FilledByIndex, RoomIsFilled, NamesByIndex, StringsAreThere, StringsLieInFile, SectionsByName, SymbolsByName, SectionsByType, BytesLieInFile, StringsAreBytes, TablesByIndex, KindsAreAnswers};
 
 /// Laws: who calls `goblin_note` at a range's start and then at each `next` gets the notes that the
 /// library's iterator over the range gives, in its order and no other, up to the end or the first
@@ -31,7 +31,8 @@ pub fn contexts()
 
 /// Laws: who calls `goblin_section`, `goblin_segment`, `goblin_symbol` or `goblin_reloc` with that
 /// header at 0, 1, 2 and so on gets the list that the library reads at once, in its order, and then 1,
-/// the end; or at each index the refusal of the list. `goblin_section_count` tells how many there are.
+/// the end; or at each index the refusal of the list. `goblin_section_count`, `goblin_segment_count`,
+/// `goblin_symbol_count` and `goblin_reloc_count` tell how many there are.
 pub fn indices()
     ensures sections { SectionsByIndex }
     ensures segments { SegmentsByIndex }
@@ -68,4 +69,17 @@ pub fn strings()
 pub fn searches()
     ensures sections { SectionsByName }
     ensures symbols { SymbolsByName }
+{}
+
+/// Law: `goblin_section_by_type` tells the index of the first section from an index on that has the
+/// type, as `goblin_section` tells it, and the end where none has.
+pub fn types()
+    ensures { SectionsByType }
+{}
+
+/// Laws: the bytes that `goblin_section_bytes`, `goblin_segment_bytes` and `goblin_string_bytes` tell lie
+/// in the file; and where `goblin_string` tells a string, `goblin_string_bytes` tells the same place.
+pub fn places()
+    ensures within { BytesLieInFile }
+    ensures same { StringsAreBytes }
 {}

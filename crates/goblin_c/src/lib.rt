@@ -3,7 +3,8 @@
 #![tactic(auto)]
 
 ghost use Rattle.std.specs.Prelude.{◌≡◌, length};
-ghost use Rattle.goblin_c.specs.Answers.{header_right, reloc_right, section_count_right, section_right, segment_right, string_right, symbol_right, relocs_from_right, sections_from_right, symbols_from_right, section_by_name_right, section_names_right, symbol_by_name_right, table_right};
+ghost use Rattle.goblin_c.specs.Answers.{header_right, reloc_count_right, reloc_right, section_by_type_right, section_count_right, section_right, segment_count_right, segment_right, string_right, symbol_count_right, symbol_right, relocs_from_right, sections_from_right, symbols_from_right, section_by_name_right, section_names_right, symbol_by_name_right, table_right};
+ghost use Rattle.goblin_c.specs.Bytes.{number_right, section_bytes_right, segment_bytes_right, string_bytes_right};
 ghost use Rattle.goblin_c.specs.Cut.{cut};
 ghost use Rattle.goblin_c.specs.Layout.{layout};
 ghost use Rattle.goblin_c.specs.Notes.{note_right};
@@ -16,6 +17,9 @@ ghost use Rattle.goblin.specs.SectionNames.{section_flag_name, section_name};
 ghost use Rattle.goblin.specs.SegmentNames.{segment_name};
 ghost use Rattle.goblin.specs.SymParts.{bind_name, type_name, visibility_name};
 
+mod bytes;
+#[cfg(test)]
+mod bytes_tests;
 mod fill;
 mod headers;
 mod laws;
@@ -30,20 +34,23 @@ mod tests;
 mod texts;
 pub mod types;
 
+use bytes::{number, section_bytes, segment_bytes, string_bytes};
 use fill::{fill_relocs, fill_sections, fill_symbols};
 use goblin::elf::header::{class_to_str, et_to_str, machine_to_str};
 use goblin::elf::program_header::pt_to_str;
 use goblin::elf::section_header::{shf_to_str, sht_to_str};
 use goblin::elf::sym::{bind_to_str, type_to_str, visibility_to_str};
 use headers::{
-    header_at, section_at, section_count, section_names, sections_of, segment_at, table_section,
+    header_at, section_at, section_by_type, section_count, section_names, sections_of, segment_at,
+    segment_count, table_section,
 };
 use layout::{GoblinLayout, marked_layout};
 use names::{note_type, write_text};
 use notes::note_from;
 use status::{END, OK, refusal, tell};
 use tables::{
-    reloc_at, relocs_of, section_by_name, string_at, symbol_at, symbol_by_name, symbols_of,
+    reloc_at, reloc_count, relocs_of, section_by_name, string_at, symbol_at, symbol_by_name,
+    symbol_count, symbols_of,
 };
 use texts::write_refusal;
 use types::{
@@ -52,12 +59,12 @@ use types::{
 };
 
 /// The version of these calls and of what crosses.
-pub const VERSION: u32 = 1;
+pub const VERSION: u32 = 2;
 
 /// The version of the library.
 #[unsafe(no_mangle)]
 pub extern "C" fn goblin_version() -> u32
-    ensures { result ≡ 1 }
+    ensures { result ≡ 2 }
 {
     VERSION
 }
@@ -447,4 +454,124 @@ pub extern "C" fn goblin_symbol_by_name(
         index,
         why,
     )
+}
+
+/// How many program headers there are.
+#[unsafe(no_mangle)]
+pub extern "C" fn goblin_segment_count(
+    bytes: &[u8],
+    header: &GoblinHeader,
+    count: &mut u64,
+    why: &mut GoblinRefusal,
+) -> u32
+    ensures { Tells (segment_count_right bytes.now header.now)
+        count.old why.old result count.new why.new }
+{
+    tell(segment_count(bytes, header), count, why)
+}
+
+/// How many symbols there are in a range, as many as lie in it whole.
+#[unsafe(no_mangle)]
+pub extern "C" fn goblin_symbol_count(
+    bytes: &[u8],
+    header: &GoblinHeader,
+    table: &GoblinRange,
+    count: &mut u64,
+    why: &mut GoblinRefusal,
+) -> u32
+    ensures { Tells (symbol_count_right bytes.now header.now table.now)
+        count.old why.old result count.new why.new }
+{
+    tell(symbol_count(bytes, header, table), count, why)
+}
+
+/// How many relocations there are in a range, with addends or without.
+#[unsafe(no_mangle)]
+pub extern "C" fn goblin_reloc_count(
+    bytes: &[u8],
+    header: &GoblinHeader,
+    relocs: &GoblinRange,
+    is_rela: bool,
+    count: &mut u64,
+    why: &mut GoblinRefusal,
+) -> u32
+    ensures { Tells (reloc_count_right bytes.now header.now relocs.now is_rela)
+        count.old why.old result count.new why.new }
+{
+    tell(reloc_count(bytes, header, relocs, is_rela), count, why)
+}
+
+/// The index of the first section of a type, from an index on.
+#[unsafe(no_mangle)]
+pub extern "C" fn goblin_section_by_type(
+    bytes: &[u8],
+    header: &GoblinHeader,
+    sh_type: u32,
+    first: u64,
+    index: &mut u64,
+    why: &mut GoblinRefusal,
+) -> u32
+    ensures { Tells (section_by_type_right bytes.now header.now sh_type first)
+        index.old why.old result index.new why.new }
+{
+    tell(section_by_type(bytes, header, sh_type, first), index, why)
+}
+
+/// Where the bytes of a section lie in the file.
+#[unsafe(no_mangle)]
+pub extern "C" fn goblin_section_bytes(
+    bytes: &[u8],
+    section: &GoblinSection,
+    range: &mut GoblinRange,
+    why: &mut GoblinRefusal,
+) -> u32
+    ensures { Tells (section_bytes_right bytes.now section.now)
+        range.old why.old result range.new why.new }
+{
+    tell(section_bytes(bytes, section), range, why)
+}
+
+/// Where the bytes of a segment lie in the file.
+#[unsafe(no_mangle)]
+pub extern "C" fn goblin_segment_bytes(
+    bytes: &[u8],
+    segment: &GoblinSegment,
+    range: &mut GoblinRange,
+    why: &mut GoblinRefusal,
+) -> u32
+    ensures { Tells (segment_bytes_right bytes.now segment.now)
+        range.old why.old result range.new why.new }
+{
+    tell(segment_bytes(bytes, segment), range, why)
+}
+
+/// Where the string at an offset of a range of strings lies in the file, text or not.
+#[unsafe(no_mangle)]
+pub extern "C" fn goblin_string_bytes(
+    bytes: &[u8],
+    strings: &GoblinRange,
+    offset: u64,
+    string: &mut GoblinRange,
+    why: &mut GoblinRefusal,
+) -> u32
+    ensures { Tells (string_bytes_right bytes.now strings.now offset)
+        string.old why.old result string.new why.new }
+{
+    tell(string_bytes(bytes, strings, offset), string, why)
+}
+
+/// The number that 1, 2, 4 or 8 bytes at an offset stand for, in the file's order.
+#[unsafe(no_mangle)]
+pub extern "C" fn goblin_number(
+    bytes: &[u8],
+    header: &GoblinHeader,
+    offset: u64,
+    width: u64,
+    value: &mut u64,
+    why: &mut GoblinRefusal,
+) -> u32
+    ensures { Tells (number_right bytes.now header.now offset width)
+        value.old why.old result value.new why.new }
+{
+    tell(number(bytes, header, offset, width), value, why)
 }

@@ -2,7 +2,7 @@
 ghost use Rattle.std.specs.Prelude.{◌≡◌, ◌+◌, ◌≤◌, IfOk, length, position};
 ghost use Rattle.goblin.specs.Strtab.{has_name};
 ghost use Rattle.goblin.specs.Refusal.{Answers};
-ghost use Rattle.goblin_c.specs.Answers.{is_mips64el, reloc_right, reloc_told, relocs_right, section_by_name_right, string_right, strings_right, symbol_by_name_right, symbol_right, is_named, symbol_told, symbols_right};
+ghost use Rattle.goblin_c.specs.Answers.{is_mips64el, reloc_count_right, reloc_right, reloc_told, relocs_right, section_by_name_right, string_right, strings_right, symbol_by_name_right, symbol_count_right, symbol_right, is_named, symbol_told, symbols_right};
 
 use crate::headers::{ctx_of, sections_of};
 use crate::types::{GoblinHeader, GoblinRange, GoblinReloc, GoblinSymbol};
@@ -71,6 +71,13 @@ pub fn symbol_at(
     }
 }
 
+/// How many symbols there are.
+pub fn symbol_count(bytes: &[u8], header: &GoblinHeader, range: &GoblinRange) -> Result<Option<u64>>
+    ensures { Answers (λ found. found) result (symbol_count_right bytes.now header.now range.now) }
+{
+    Ok(Some(symbols_of(bytes, header, range)?.len() as u64))
+}
+
 // Whether a file is a MIPS64 one of little order.
 fn is_mips64el(header: &GoblinHeader) -> bool
     ensures { result ≡ is_mips64el header.now }
@@ -115,9 +122,22 @@ pub fn reloc_at(
     }
 }
 
-// The strings of a range.
+/// How many relocations there are.
+pub fn reloc_count(
+    bytes: &[u8],
+    header: &GoblinHeader,
+    range: &GoblinRange,
+    is_rela: bool,
+) -> Result<Option<u64>>
+    ensures { Answers (λ found. found) result
+        (reloc_count_right bytes.now header.now range.now is_rela) }
+{
+    Ok(Some(relocs_of(bytes, header, range, is_rela)?.len() as u64))
+}
+
+/// The strings of a range.
 #[tactic(auto, unfolding(goblin_base::specs::Strtab::range_in))]
-fn strings_of<'a>(bytes: &'a [u8], range: &GoblinRange) -> Result<&'a [u8]>
+pub fn strings_of<'a>(bytes: &'a [u8], range: &GoblinRange) -> Result<&'a [u8]>
     ensures given { Answers (λ strings. strings.now) result
         (strings_right bytes.now range.now) }
     ensures within { IfOk result (λ strings. range.now.offset + length strings.now ≤ length bytes.now) }

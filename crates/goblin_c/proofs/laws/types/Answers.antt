@@ -1,0 +1,5 @@
+use Rattle.goblin_c.proofs.TypeSearch.{sections_by_type}
+use Rattle.goblin_c.proofs.laws.types.Goals as goal
+
+pub returns : goal.returns
+returns c = sections_by_type

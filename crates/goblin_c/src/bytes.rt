@@ -1,0 +1,95 @@
+//! Bytes of the file: those of a section, of a segment and of a string, and the number that some stand for.
+ghost use Rattle.std.specs.Prelude.{◌≡◌, ◌≤◌, ◌==◌, length, position};
+ghost use Rattle.goblin.specs.Refusal.{Answers};
+ghost use Rattle.goblin_base.specs.Pieces.{piece};
+ghost use Rattle.goblin_c.specs.Bytes.{number_right, range_right, section_bytes_right, segment_bytes_right, string_bytes_right};
+
+use crate::headers::ctx_of;
+use crate::tables::strings_of;
+use crate::types::{GoblinHeader, GoblinRange, GoblinSection, GoblinSegment};
+use goblin::elf::program_header::PT_NULL;
+use goblin::elf::section_header::{SHT_NOBITS, SHT_NULL};
+use goblin::error::Result;
+use goblin_base::number::{get_u8, get_u16, get_u32, get_u64, room};
+
+// A range, where there is room for it in the file.
+fn range_in(bytes: &[u8], range: &GoblinRange) -> Result<Option<GoblinRange>>
+    ensures { Answers (λ found. found) result (range_right bytes.now range.now) }
+{
+    room(bytes.len(), range.offset as usize, range.size as usize)?;
+    Ok(Some(*range))
+}
+
+/// Where the bytes of a section lie in the file.
+pub fn section_bytes(bytes: &[u8], section: &GoblinSection) -> Result<Option<GoblinRange>>
+    ensures { Answers (λ found. found) result (section_bytes_right bytes.now section.now) }
+{
+    let sh_type = section.sh_type;
+    if sh_type == SHT_NULL || sh_type == SHT_NOBITS || section.file.size == 0 {
+        return Ok(None);
+    }
+    range_in(bytes, &section.file)
+}
+
+/// Where the bytes of a segment lie in the file.
+pub fn segment_bytes(bytes: &[u8], segment: &GoblinSegment) -> Result<Option<GoblinRange>>
+    ensures { Answers (λ found. found) result (segment_bytes_right bytes.now segment.now) }
+{
+    if segment.p_type == PT_NULL || segment.file.size == 0 {
+        return Ok(None);
+    }
+    range_in(bytes, &segment.file)
+}
+
+// Where a zero byte stands first.
+fn zero_place(bytes: &[u8]) -> Option<usize>
+    ensures { result ≡ position (λ b. b == 0) bytes.now }
+{
+    bytes.iter().position(|b| *b == 0)
+}
+
+// How many bytes stand before the next zero byte, or the end.
+fn piece_len(strings: &[u8], offset: usize) -> usize
+    requires { offset ≤ length strings.now }
+    ensures { result ≡ length (piece strings.now 0 offset) }
+{
+    let rest = &strings[offset..];
+    zero_place(rest).unwrap_or(rest.len())
+}
+
+/// Where the string at an offset of a range of strings lies in the file, text or not.
+pub fn string_bytes(bytes: &[u8], range: &GoblinRange, offset: u64) -> Result<Option<GoblinRange>>
+    ensures { Answers (λ found. found) result
+        (string_bytes_right bytes.now range.now offset) }
+{
+    let strings = strings_of(bytes, range)?;
+    let start = offset as usize;
+    if start >= strings.len() {
+        return Ok(None);
+    }
+    Ok(Some(GoblinRange {
+        offset: range.offset + offset,
+        size: piece_len(strings, start) as u64,
+    }))
+}
+
+/// The number that so many bytes at an offset stand for, in the file's order.
+pub fn number(bytes: &[u8], header: &GoblinHeader, offset: u64, width: u64) -> Result<Option<u64>>
+    ensures { Answers (λ found. found) result (number_right bytes.now header.now offset width) }
+{
+    if width != 1 && width != 2 && width != 4 && width != 8 {
+        return Ok(None);
+    }
+    let place = offset as usize;
+    room(bytes.len(), place, width as usize)?;
+    let order = ctx_of(header).le;
+    Ok(Some(if width == 1 {
+        u64::from(get_u8(bytes, place))
+    } else if width == 2 {
+        u64::from(get_u16(bytes, place, order))
+    } else if width == 4 {
+        u64::from(get_u32(bytes, place, order))
+    } else {
+        get_u64(bytes, place, order)
+    }))
+}
