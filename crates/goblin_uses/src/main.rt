@@ -6,6 +6,7 @@ mod functions;
 mod names;
 mod notes;
 mod relocations;
+mod symbols;
 
 use functions::push_functions;
 use goblin::container::Ctx;
@@ -18,6 +19,7 @@ use relocations::push_relocations;
 use std::alloc::Global;
 use std::io;
 use std::io::Read;
+use symbols::push_symbols;
 
 // The lines of a file with these bytes.
 fn list(alloc: Global, bytes: &[u8]) -> Result<String> {
@@ -26,6 +28,7 @@ fn list(alloc: Global, bytes: &[u8]) -> Result<String> {
     let count = usize::from(header.e_shnum);
     let sections = SectionHeader::parse(alloc, bytes, header.e_shoff as usize, count, ctx)?;
     let mut text = String::new(alloc);
+    push_symbols(alloc, &mut text, bytes)?;
     for section in &sections {
         match section.sh_type {
             SHT_SYMTAB => {
