@@ -99,7 +99,7 @@ check_c() {
         echo "no c++ here: goblin.h is compiled as C alone"
     fi
     "$folder/layout"
-    for program in nm values made search; do build $program -std=c99; done
+    for program in nm size values made search; do build $program -std=c99; done
     quietly "$folder/search"
     echo "search.c: $(wc -l < "$folder/output") searches among long names stay within their limit"
     build damaged -std=c99 $sanitizers
@@ -116,6 +116,8 @@ check_c() {
     head -c 15 "$file" > "$folder/short"
     [ "$("$folder/nm" "$folder/short" 2>&1)" = 'nm: header: Malformed entity: Too small' ] || { echo "nm.c: a short file"; exit 1; }
     [ "$("$folder/values" "$folder/short" 2>&1)" = 'values: Malformed entity: Too small' ] || { echo "values.c: a short file"; exit 1; }
+    [ "$("$folder/size" "$folder/short" 2>&1 > "$folder/output")" = "size: $folder/short: Malformed entity: Too small" ] \
+        || { echo "size.c: a short file"; exit 1; }
     echo "nm.c lists $(echo "$symbols_made" | wc -l) symbols in each class and order"
     "$folder/damaged" 1000 "$folder"/files/*
 }
@@ -151,6 +153,13 @@ pick() {
     done
 }
 
+# An object file of 66,000 sections, each with a symbol: the indices of the last have no room in their symbols.
+make_many() {
+    awk 'BEGIN { for (i = 0; i < 66000; i++) printf ".section .text.%d, \"ax\"\n.globl f%d\nf%d: .byte 0\n", i, i, i }' \
+        > "$folder/many.s"
+    if cc -c -o "$folder/many.o" "$folder/many.s" > "$folder/output" 2>&1; then echo "$folder/many.o"; fi
+}
+
 # Runs a command over the files listed, for what it lists of them.
 over_files() { tr '\n' '\0' < "$folder/list" | xargs -0 "$@"; }
 
@@ -166,6 +175,16 @@ compare_symbols() {
     over_files nm --plugin /dev/null -a -p -D > "$folder/nm.-D" 2> "$folder/output" || true
     over_files readelf -sW > "$folder/readelf" 2> "$folder/output" || true
     (cd "$folder" && awk -v least="$1" -f "$root/checks/symbols.awk" refused said ours nm.static nm.-D readelf)
+}
+
+compare_sizes() {
+    over_files "$folder/size" > "$folder/ours" 2> "$folder/refused" || true
+    over_files size > "$folder/size.text" 2> "$folder/said" || true
+    # (what size doesn't know it leaves out)
+    quietly awk 'NR == FNR { theirs[$6] = $0; next } ($6 in theirs) && theirs[$6] != $0 { print theirs[$6] "\n" $0; wrong++ }
+        ($6 in theirs) && FNR > 1 { same++ } END { print same; exit wrong > 0 || same < '"$1"' * 0.9 }' \
+        "$folder/size.text" "$folder/ours"
+    echo "size.c adds up $(tail -n 1 "$folder/output") files as size does"
 }
 
 compare_relocations() {
@@ -197,6 +216,8 @@ if [ $# -gt 0 ]; then printf '%s\n' "$@"; else
     pick 60 /usr/bin; pick 60 /usr/lib -name '*.so*'; pick 60 /usr/lib -name '*.o'
 fi > "$folder/list"
 ls -d "$folder"/files/* >> "$folder/list"
+if [ $# -eq 0 ]; then make_many >> "$folder/list"; fi
 files=$(wc -l < "$folder/list")
 compare_symbols "$files"
+if has size; then compare_sizes "$files"; else echo "no size here: no sizes are compared"; fi
 if [ "$examples" ]; then compare_relocations "$files"; fi

@@ -1,6 +1,6 @@
 /* Lists the symbols of an ELF file, those of its dynamic table with -D, as `nm -a -p` does: value (of a common symbol the
-   size), letter, section index and name of each; and the value of symbols that are not defined too. Of a symbol whose
-   section index stands in a section of type SHT_SYMTAB_SHNDX, in a file of 65,280 sections and more, it leaves that out. */
+   size), letter, section index and name of each; and the value of symbols that are not defined too. A section index that has no
+   room in its symbol, in a file of 65,280 sections and more, it reads from the section of type SHT_SYMTAB_SHNDX. */
 #include "goblin.h"
 #include <ctype.h>
 #include <elf.h>
@@ -57,21 +57,32 @@ static int letter(const goblin_symbol_t *symbol, const goblin_section_t *section
     return bind == STB_LOCAL ? of_section : toupper(of_section);
 }
 
-static int list(const goblin_section_t *table) {
+/* The section of type SHT_SYMTAB_SHNDX that belongs to the symbol table at an index, if there is one. */
+static bool find_indices(uint64_t table, goblin_section_t *indices) {
+    for (uint64_t i = 0; goblin_section_by_type(bytes, len, &header, SHT_SYMTAB_SHNDX, i, &i, &why) == GOBLIN_OK; i++)
+        if (goblin_section(bytes, len, &header, i, indices, &why) == GOBLIN_OK && indices->sh_link == table) return true;
+    return false;
+}
+
+static int list(uint64_t at, const goblin_section_t *table) {
+    goblin_section_t indices;
+    bool has_indices = find_indices(at, &indices);
     goblin_section_t names = {.sh_type = SHT_NULL};
     if (goblin_table(bytes, len, &header, table->sh_link, &names, &why) > GOBLIN_END) return refused("string table");
     goblin_symbol_t symbol;
     uint32_t answer;
     for (uint64_t i = 1; (answer = goblin_symbol(bytes, len, &header, &table->file, i, &symbol, &why)) == GOBLIN_OK; i++) {
         goblin_section_t section;
-        bool has_section = symbol.st_shndx < SHN_LORESERVE
-            && goblin_section(bytes, len, &header, symbol.st_shndx, &section, &why) == GOBLIN_OK;
+        uint64_t index = symbol.st_shndx;
+        bool is_index = index < SHN_LORESERVE || (index == SHN_XINDEX && has_indices
+            && goblin_number(bytes, len, &header, indices.file.offset + 4 * i, 4, &index, &why) == GOBLIN_OK);
+        bool has_section = is_index && goblin_section(bytes, len, &header, index, &section, &why) == GOBLIN_OK;
         goblin_range_t name = string(&names, symbol.st_name);
         if (name.size == 0 && has_section && ELF64_ST_TYPE(symbol.st_info) == STT_SECTION)
             name = string(&names_of_sections, section.sh_name);
         uint64_t value = symbol.st_shndx == SHN_COMMON ? symbol.st_size : symbol.st_value;
         printf("%0*" PRIx64 " %c %" PRIu64 " ", header.ei_class == ELFCLASS64 ? 16 : 8, value,
-               letter(&symbol, has_section ? &section : NULL), symbol.st_shndx);
+               letter(&symbol, has_section ? &section : NULL), index);
         fwrite(bytes + name.offset, 1, name.size, stdout);
         putchar('\n');
     }
@@ -95,6 +106,6 @@ int main(int argc, char **argv) {
     goblin_section_t section;
     int failed = 0;
     for (uint64_t i = 0; goblin_section(bytes, len, &header, i, &section, &why) == GOBLIN_OK; i++)
-        if (section.sh_type == (is_dynamic ? SHT_DYNSYM : SHT_SYMTAB)) failed |= list(&section);
+        if (section.sh_type == (is_dynamic ? SHT_DYNSYM : SHT_SYMTAB)) failed |= list(i, &section);
     return failed;
 }

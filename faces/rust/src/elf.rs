@@ -6,7 +6,7 @@ use crate::note::{Note, Notes};
 use crate::program_header::{ProgramHeader, PT_NOTE};
 use crate::reloc::RelocSection;
 use crate::section_header::{SectionHeader, SHT_DYNSYM, SHT_NOTE, SHT_REL, SHT_RELA, SHT_SYMTAB};
-use crate::strtab::Strtab;
+use crate::strtab::{slice, Strtab};
 use crate::sym::Symtab;
 use crate::{raw, sys};
 
@@ -60,6 +60,36 @@ impl<'a> Elf<'a> {
         Ok(index.map(|index| index as usize))
     }
 
+    /// The index of the first section of a type, an `SHT_` number, from an index on.
+    pub fn section_by_type(&self, sh_type: u32, first: usize) -> Result<Option<usize>> {
+        let index = sys::goblin_section_by_type(self.bytes, &self.header, sh_type, first as u64)?;
+        Ok(index.map(|index| index as usize))
+    }
+
+    /// How many program headers there are.
+    pub fn program_header_count(&self) -> Result<usize> {
+        let count = sys::goblin_segment_count(self.bytes, &self.header)?;
+        Ok(count.expect("headers that aren't refused have a count") as usize)
+    }
+
+    /// The bytes of a section, or `None` where it has none in the file. Bytes past the file's end are refused.
+    pub fn section_data(&self, section: &SectionHeader) -> Result<Option<&'a [u8]>> {
+        let range = sys::goblin_section_bytes(self.bytes, &raw::Section::from(*section))?;
+        Ok(range.map(|range| slice(self.bytes, range)))
+    }
+
+    /// The bytes of a segment, or `None` where it has none in the file. Bytes past the file's end are refused.
+    pub fn segment_data(&self, segment: &ProgramHeader) -> Result<Option<&'a [u8]>> {
+        let range = sys::goblin_segment_bytes(self.bytes, &raw::Segment::from(*segment))?;
+        Ok(range.map(|range| slice(self.bytes, range)))
+    }
+
+    /// The number that 1, 2, 4 or 8 bytes at an offset of the file stand for, in the file's order. There is none of another
+    /// width, and one past the file's end is refused.
+    pub fn number(&self, offset: u64, width: usize) -> Result<Option<u64>> {
+        sys::goblin_number(self.bytes, &self.header, offset, width as u64)
+    }
+
     /// The sections' names: an empty table where the file has none, as where their index is 0, or that of a section without
     /// bytes in the file.
     pub fn shdr_strtab(&self) -> Result<Strtab<'a>> {
@@ -91,13 +121,9 @@ impl<'a> Elf<'a> {
     }
 
     fn first_symtab(&self, sh_type: u32) -> Result<Option<Symtab<'a>>> {
-        for section in self.section_headers() {
-            let section = section?;
-            if section.sh_type == sh_type {
-                return self.symtab(&section).map(Some);
-            }
-        }
-        Ok(None)
+        let index = self.section_by_type(sh_type, 0)?;
+        let section = index.map(|index| self.section_header(index)).transpose()?.flatten();
+        section.map(|section| self.symtab(&section)).transpose()
     }
 
     /// The relocations of a section of type `SHT_RELA` or `SHT_REL`.

@@ -40,6 +40,20 @@ impl From<raw::Segment> for ProgramHeader {
     }
 }
 
+impl From<ProgramHeader> for raw::Segment {
+    fn from(p: ProgramHeader) -> Self {
+        raw::Segment {
+            file: raw::Range { offset: p.p_offset, size: p.p_filesz },
+            p_vaddr: p.p_vaddr,
+            p_paddr: p.p_paddr,
+            p_memsz: p.p_memsz,
+            p_align: p.p_align,
+            p_type: p.p_type,
+            p_flags: p.p_flags,
+        }
+    }
+}
+
 /// The name of a segment's type, as PT_LOAD, or UNKNOWN_PT.
 pub fn pt_to_str(p_type: u32) -> String {
     sys::goblin_pt_to_str(p_type)

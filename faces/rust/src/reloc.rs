@@ -42,6 +42,17 @@ impl<'a> RelocSection<'a> {
         Ok(sys::goblin_reloc(self.bytes, &self.header, &self.range, self.is_rela, index as u64)?.map(Reloc::from))
     }
 
+    /// How many relocations there are.
+    pub fn len(&self) -> Result<usize> {
+        let count = sys::goblin_reloc_count(self.bytes, &self.header, &self.range, self.is_rela)?;
+        Ok(count.expect("a section that isn't refused has a count") as usize)
+    }
+
+    /// Whether there are no relocations.
+    pub fn is_empty(&self) -> Result<bool> {
+        Ok(self.len()? == 0)
+    }
+
     /// All relocations in their order. A refusal is the last item.
     pub fn iter(&self) -> impl Iterator<Item = Result<Reloc>> + 'a {
         let relocs = *self;

@@ -66,6 +66,22 @@ impl From<raw::Section> for SectionHeader {
     }
 }
 
+impl From<SectionHeader> for raw::Section {
+    fn from(s: SectionHeader) -> Self {
+        raw::Section {
+            file: raw::Range { offset: s.sh_offset, size: s.sh_size },
+            sh_name: s.sh_name as u64,
+            sh_flags: s.sh_flags,
+            sh_addr: s.sh_addr,
+            sh_addralign: s.sh_addralign,
+            sh_entsize: s.sh_entsize,
+            sh_type: s.sh_type,
+            sh_link: s.sh_link,
+            sh_info: s.sh_info,
+        }
+    }
+}
+
 /// The name of a section's type, as SHT_PROGBITS, or UNKNOWN_SHT.
 pub fn sht_to_str(sh_type: u32) -> String {
     sys::goblin_sht_to_str(sh_type)

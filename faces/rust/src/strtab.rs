@@ -16,6 +16,13 @@ impl<'a> Strtab<'a> {
         let place = sys::goblin_string(self.bytes, &self.range, offset as u64)?;
         Ok(place.map(|place| text(self.bytes, place)))
     }
+
+    /// The bytes of the string at an offset, text or not, or `None` past the table's end. A table that doesn't lie in the file
+    /// is refused.
+    pub fn get_bytes(&self, offset: usize) -> Result<Option<&'a [u8]>> {
+        let place = sys::goblin_string_bytes(self.bytes, &self.range, offset as u64)?;
+        Ok(place.map(|place| slice(self.bytes, place)))
+    }
 }
 
 // Some bytes of the file that the library told.

@@ -66,6 +66,17 @@ impl<'a> Symtab<'a> {
         Ok(sys::goblin_symbol(self.strtab.bytes, &self.header, &self.range, index as u64)?.map(Sym::from))
     }
 
+    /// How many symbols there are.
+    pub fn len(&self) -> Result<usize> {
+        let count = sys::goblin_symbol_count(self.strtab.bytes, &self.header, &self.range)?;
+        Ok(count.expect("a table that isn't refused has a count") as usize)
+    }
+
+    /// Whether there are no symbols.
+    pub fn is_empty(&self) -> Result<bool> {
+        Ok(self.len()? == 0)
+    }
+
     /// All symbols in their order. A refusal is the last item.
     pub fn iter(&self) -> impl Iterator<Item = Result<Sym>> + 'a {
         let table = *self;

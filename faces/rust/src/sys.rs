@@ -39,6 +39,14 @@ calls! {
     fn goblin_section_names(header: &Header) -> Section;
     fn goblin_section_by_name(header: &Header, names: &Range) by name -> u64;
     fn goblin_segment(header: &Header, index: u64) -> Segment;
+    fn goblin_section_by_type(header: &Header, sh_type: u32, first: u64) -> u64;
+    fn goblin_section_bytes(section: &Section) -> Range;
+    fn goblin_segment_count(header: &Header) -> u64;
+    fn goblin_segment_bytes(segment: &Segment) -> Range;
+    fn goblin_symbol_count(header: &Header, table: &Range) -> u64;
+    fn goblin_reloc_count(header: &Header, relocs: &Range, is_rela: bool) -> u64;
+    fn goblin_string_bytes(strings: &Range, offset: u64) -> Range;
+    fn goblin_number(header: &Header, offset: u64, width: u64) -> u64;
     fn goblin_symbol(header: &Header, table: &Range, index: u64) -> Symbol;
     fn goblin_symbols(header: &Header, table: &Range, first: u64) into [Symbol] -> u64;
     fn goblin_symbol_by_name(header: &Header, table: &Range, names: &Range) by name -> u64;

@@ -261,6 +261,34 @@ fn sections_without_bytes_hold_nothing() {
 }
 
 #[test]
+fn counts_and_bytes() {
+    for form in FORMS {
+        let file = made(form, 2);
+        let elf = Elf::parse(&file).unwrap();
+        assert_eq!(elf.program_header_count(), Ok(2));
+        let symbols = elf.syms().unwrap().unwrap();
+        assert_eq!((symbols.len(), symbols.is_empty()), (Ok(7), Ok(false)));
+        let counts: Vec<_> = elf.shdr_relocs().map(|relocs| relocs.unwrap().1.len()).collect();
+        assert_eq!(counts, [Ok(2), Ok(1)]);
+        assert_eq!(elf.section_by_type(3, 0), Ok(Some(3)));
+        assert_eq!(elf.section_by_type(3, 4), Ok(Some(6)));
+        assert_eq!(elf.section_by_type(3, 7), Ok(None));
+        let strings = elf.section_header(3).unwrap().unwrap();
+        assert_eq!(elf.section_data(&strings), Ok(Some(STRINGS)));
+        assert_eq!(elf.section_data(&SectionHeader { sh_type: SHT_NOBITS, ..strings }), Ok(None));
+        let past = SectionHeader { sh_offset: file.len() as u64 - 1, sh_size: 2, ..strings };
+        assert_eq!(elf.section_data(&past).map_err(|e| e.kind()), Err(Kind::TooBig { size: 2, len: 1 }));
+        let load = elf.program_header(1).unwrap().unwrap();
+        assert_eq!(elf.segment_data(&load), Ok(Some(&file[..elf.header.e_shoff as usize])));
+        assert_eq!(symbols.strtab.get_bytes(20), Ok(Some(&b"\xff"[..])));
+        assert_eq!(symbols.strtab.get_bytes(STRINGS.len()), Ok(None));
+        assert_eq!(elf.number(18, 2), Ok(Some(0x3e)));
+        assert_eq!(elf.number(18, 3), Ok(None));
+        assert_eq!(elf.number(file.len() as u64, 1).map_err(|e| e.kind()), Err(Kind::BadOffset(file.len() as u64)));
+    }
+}
+
+#[test]
 fn as_many_symbols_as_there_are() {
     for more in [0, 58, 59, 60, 123, 124, 1000] {
         let file = made(FORMS[0], more);

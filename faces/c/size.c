@@ -1,0 +1,65 @@
+/* Adds up the sizes of the sections of ELF files that take memory, as `size` does: those that are executed or not written
+   as text, other bytes of the file as data, and the rest as bss. */
+#include "goblin.h"
+#include <elf.h>
+#include <inttypes.h>
+#include <stdio.h>
+#include <stdlib.h>
+
+enum { BATCH = 64 };
+
+static uint8_t *load(const char *path, size_t *len) {
+    FILE *file = fopen(path, "rb");
+    if (!file) return NULL;
+    uint8_t *all = NULL;
+    if (fseek(file, 0, SEEK_END) == 0 && ftell(file) >= 0) {
+        *len = (size_t)ftell(file);
+        rewind(file);
+        all = malloc(*len ? *len : 1);
+        if (all && fread(all, 1, *len, file) != *len) free(all), all = NULL;
+    }
+    fclose(file);
+    return all;
+}
+
+static int refused(const char *path, const goblin_refusal_t *why) {
+    uint8_t text[160];
+    uint64_t size = goblin_refusal_text(why, text, sizeof text);
+    fprintf(stderr, "size: %s: %.*s\n", path, (int)(size < sizeof text ? size : sizeof text), (const char *)text);
+    return 1;
+}
+
+/* Prints the line of a file, or why it is refused. */
+static int add_up(const char *path, const uint8_t *bytes, size_t len) {
+    goblin_header_t header;
+    goblin_refusal_t why;
+    goblin_section_t sections[BATCH];
+    uint64_t text = 0, data = 0, bss = 0, filled;
+    uint32_t answer = goblin_header(bytes, len, &header, &why);
+    if (answer != GOBLIN_OK) return refused(path, &why);
+    for (uint64_t first = 0;
+         (answer = goblin_sections(bytes, len, &header, first, sections, BATCH, &filled, &why)) == GOBLIN_OK; first += filled)
+        for (uint64_t i = 0; i < filled; i++) {
+            const goblin_section_t *section = &sections[i];
+            if (section->sh_type == SHT_NULL || !(section->sh_flags & SHF_ALLOC)) continue;
+            bool is_text = (section->sh_flags & SHF_EXECINSTR) || !(section->sh_flags & SHF_WRITE);
+            *(is_text ? &text : section->sh_type == SHT_NOBITS ? &bss : &data) += section->file.size;
+        }
+    if (answer != GOBLIN_END) return refused(path, &why);
+    printf("%7" PRIu64 "\t%7" PRIu64 "\t%7" PRIu64 "\t%7" PRIu64 "\t%7" PRIx64 "\t%s\n", text, data, bss,
+           text + data + bss, text + data + bss, path);
+    return 0;
+}
+
+int main(int argc, char **argv) {
+    int failed = 0;
+    puts("   text\t   data\t    bss\t    dec\t    hex\tfilename");
+    for (int i = 1; i < argc; i++) {
+        size_t len = 0;
+        uint8_t *bytes = load(argv[i], &len);
+        if (!bytes) fprintf(stderr, "size: %s can't be read\n", argv[i]);
+        failed |= bytes ? add_up(argv[i], bytes, len) : 1;
+        free(bytes);
+    }
+    return failed;
+}
