@@ -54,4 +54,14 @@ edits:
 bench:
 	@sh checks/bench.sh
 
-.PHONY: try show test gate refused proved words faces limits edits bench
+# Installs the library with its header, pkg-config file and Rust crate: make install PREFIX=/usr/local [DESTDIR=/tmp/root]
+# [CPU=x86-64-v2]; or puts the same into an archive, whose name has the version and the target.
+PREFIX ?= /usr/local
+export CPU
+install:
+	sh faces/install.sh "$(DESTDIR)$(PREFIX)"
+
+dist:
+	sh faces/install.sh --archive
+
+.PHONY: install dist try show test gate refused proved words faces limits edits bench

@@ -208,6 +208,10 @@ if cargo --version > "$folder/output" 2>&1 && rustc --version > "$folder/output"
 else
     echo "no cargo and rustc here: no Rust is compiled"
 fi
+LIBRARY=$library/libgoblin_c.a
+export LIBRARY
+quietly sh faces/install.sh --archive "$folder/goblin_c.tar.gz"
+sh checks/installed.sh "$folder/goblin_c.tar.gz"
 if ! has nm || ! has readelf; then
     echo "no nm and readelf here: no lists are compared"
     exit 0
