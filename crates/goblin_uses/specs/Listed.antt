@@ -1,10 +1,13 @@
 -- What the example reads of a file's sections, and what its calls that add lines promise.
-use Rattle.std.specs.Prelude.{◌≡◌, ◌≢◌, ℕ, ◌+◌, ◌/◌, ◌==◌, ◌||◌, nat_lt, if◌then◌else◌, List, [], ◌∷◌, length, take, drop, Option, Some, None, Result, Ok, Err, IsOk}
+use Rattle.std.specs.Prelude.{◌≡◌, ◌≢◌, ℕ, zero, suc, ◌+◌, ◌-◌, max, slice_index, ◌/◌, ◌==◌, ◌||◌, nat_lt, if◌then◌else◌, List, [], ◌∷◌, length, take, drop, Option, Some, None, Result, Ok, Err, IsOk}
 use Rattle.std.specs.Io.{StartsWith}
+use Rattle.std.specs.List.Sorted.{IsSortedByKey}
+use Rattle.std.specs.Ordering.{nat_cmp}
 use Rattle.goblin.specs.declared.container.Ctx.{Ctx}
 use Rattle.goblin.specs.declared.elf.header.Header.{Header}
 use Rattle.goblin.specs.declared.elf.reloc.Reloc.{Reloc}
 use Rattle.goblin.specs.declared.elf.section_header.SectionHeader.{SectionHeader}
+use Rattle.goblin.specs.declared.elf.sym.Sym.{Sym}
 use Rattle.goblin.specs.declared.error.Error.{Error}
 use Rattle.goblin.specs.declared.options.ParseMode.TheVariants.{Strict}
 use Rattle.goblin.specs.Note.{NoteParts, note_items}
@@ -27,11 +30,25 @@ bytes_of bytes (Some s) =
 abbrev pub symbols_of : List ℕ → SectionHeader → Ctx → Result Symbols Error
 symbols_of bytes s ctx = symtab_of bytes s.sh_offset (s.sh_size / sym_size ctx.container) ctx
 
+-- no symbol is larger than one before it
+abbrev pub LargestFirst : List Sym → Type 0
+LargestFirst symbols = IsSortedByKey (λ s. s.st_size) (λ x y. nat_cmp y x) symbols
+
 -- what a list of functions stands on: the symbols of a section, and then the table of the strings that name them
 abbrev pub functions_of : List ℕ → SectionHeader → Option SectionHeader → Ctx → Result StringTable Refusal
 functions_of bytes s strings ctx = do
   _ ← refuse_as refusal_of (symbols_of bytes s ctx)
   table_of Strict (bytes_of bytes strings) 0
+
+-- the last place before k that holds a zero, or none
+abbrev pub last_zero : ℕ → List ℕ → Option ℕ
+last_zero zero bytes = None
+last_zero (suc k) bytes = if slice_index bytes k == 0 then Some k else last_zero k bytes
+
+-- the longest way from one of rising places to the next, the first of which is reached from here
+abbrev pub longest_step : ℕ → List ℕ → ℕ
+longest_step here [] = 0
+longest_step here (place ∷ places) = max (place - here) (longest_step place places)
 
 -- the relocations of a section, with addends where its type is 4
 abbrev pub relocations_of : List ℕ → SectionHeader → Header → Ctx → Result (List Reloc) Error

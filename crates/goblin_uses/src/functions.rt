@@ -1,7 +1,7 @@
 //! The functions among a file's symbols.
 ghost use Rattle.std.specs.Prelude.{◌≡◌, ◌==◌, ◌%◌, Err, IfErr, IfOk, IsPermutation, alloc_error, count_by, filter, string_bytes};
 ghost use Rattle.std.specs.Option.{option_map};
-ghost use Rattle.goblin_uses.specs.Listed.{Adds, bytes_of, functions_of, symbols_of};
+ghost use Rattle.goblin_uses.specs.Listed.{Adds, LargestFirst, bytes_of, functions_of, symbols_of};
 
 use crate::names::push_names;
 use goblin::container::Ctx;
@@ -23,6 +23,7 @@ pub fn count_functions(symbols: &Symtab) -> usize
 pub fn functions_by_size(alloc: Global, symbols: &Symtab) -> Result<Vec<Sym>>
     ensures ok { let functions = filter (λ s. s.st_info % 16 == 2) symbols.now.symbols in
         IfOk result (λ sorted. IsPermutation functions sorted.items) }
+    ensures order { IfOk result (λ sorted. LargestFirst sorted.items) }
     ensures err { IfErr result (λ e. e ≡ Error.Memory alloc_error) }
 {
     let mut functions = Vec::new(alloc);

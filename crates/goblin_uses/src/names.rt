@@ -2,7 +2,7 @@
 ghost use Rattle.std.specs.Prelude.{◌≡◌, ◌≤◌, length, string_bytes};
 ghost use Rattle.goblin_base.specs.Search.{digits};
 ghost use Rattle.goblin_base.specs.Strtab.{RefusesFirst, walked};
-ghost use Rattle.goblin_uses.specs.Listed.{Adds};
+ghost use Rattle.goblin_uses.specs.Listed.{Adds, last_zero, longest_step};
 
 use goblin::error::Result;
 use goblin::options::ParseMode;
@@ -13,7 +13,8 @@ use std::alloc::Global;
 
 /// The place of the last zero byte, which closes the last name.
 pub fn last_zero(view: &mut Looked<'_>) -> Option<usize>
-    ensures { view.new.bytes ≡ view.old.bytes }
+    ensures value { result ≡ last_zero (length view.old.bytes) view.old.bytes }
+    ensures unchanged { view.new.bytes ≡ view.old.bytes }
 {
     let mut last = None;
     for i in 0..view.len() {
@@ -26,7 +27,8 @@ pub fn last_zero(view: &mut Looked<'_>) -> Option<usize>
 
 /// How many bytes the longest name takes, with the zero that closes it, of all but the last.
 pub fn longest(probes: &mut Probes<'_>) -> usize
-    ensures { probes.new.places ≡ probes.old.places }
+    ensures value { result ≡ longest_step 0 probes.old.places }
+    ensures unchanged { probes.new.places ≡ probes.old.places }
 {
     let mut longest = 0;
     let mut before = 0;
