@@ -12,7 +12,7 @@ version=$(awk -F '"' '/^version = / { print $2; exit }' faces/rust/Cargo.toml)
 cargo_folder=$(dirname "$(command -v cargo || echo /usr/bin/cargo)")
 
 bare() {
-    env -i PATH="/usr/bin:/bin:$cargo_folder" HOME="$HOME" PKG_CONFIG_PATH="$there/lib/pkgconfig" \
+    env -i PATH="/usr/bin:/bin:$cargo_folder" HOME="${HOME:-/}" PKG_CONFIG_PATH="$there/lib/pkgconfig" \
         CARGO_TARGET_DIR="$folder/target" "$@"
 }
 has() { bare sh -c "command -v $1" > /dev/null; }
