@@ -1,5 +1,5 @@
 -- What the example reads of a file's sections.
-use Rattle.std.specs.Prelude.{◌≡◌, ◌≢◌, ℕ, zero, suc, ◌+◌, ◌-◌, max, slice_index, ◌/◌, ◌==◌, ◌||◌, ◌%◌, Bool, true, nat_lt, if◌then◌else◌, List, [], ◌∷◌, length, take, drop, Option, Some, None, Result, Ok, Err}
+use Rattle.std.specs.Prelude.{ℕ, zero, suc, ◌+◌, ◌-◌, max, slice_index, ◌/◌, ◌==◌, ◌||◌, ◌%◌, Bool, true, nat_lt, if◌then◌else◌, List, [], ◌∷◌, length, take, drop, Option, Some, None, Result}
 use Rattle.std.specs.List.Sorted.{IsSortedByKey}
 use Rattle.std.specs.Ordering.{nat_cmp}
 use Rattle.goblin.specs.declared.container.Ctx.{Ctx}
@@ -11,7 +11,7 @@ use Rattle.goblin.specs.declared.error.Error.{Error}
 use Rattle.goblin.specs.declared.options.ParseMode.TheVariants.{Strict}
 use Rattle.goblin.specs.Note.{NoteParts, note_items}
 use Rattle.goblin.specs.Ranges.{span}
-use Rattle.goblin.specs.Refusal.{Refusal, out_of_memory, refusal_of}
+use Rattle.goblin.specs.Refusal.{Refusal, refusal_of}
 use Rattle.goblin.specs.RelocSection.{is_of_mips64el, relocs_of}
 use Rattle.goblin.specs.Steps.{◌>>=◌, refuse_as}
 use Rattle.goblin.specs.Strtab.{StringTable, table_of}
