@@ -388,6 +388,9 @@ fn writes_refusals(rt: HostRuntime) {
     assert!(rt; says(5, 1, [2, 0, 0, 0], b"bad input invalid utf8 (2)"));
     let segments = b"Buffer is too short for 2 program headers";
     assert!(rt; says(6, 3, [2, 0, 0, 0], segments));
+    let sections = b"Buffer is too short for 2 section headers";
+    assert!(rt; says(6, 2, [2, 0, 0, 0], sections));
+    assert!(rt; says(7, 0, [0, 0, 0, 0], b"Out of memory"));
     assert!(rt; says(25, 0, [1, 2, 3, 4], b""));
 }
 

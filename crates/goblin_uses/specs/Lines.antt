@@ -1,17 +1,22 @@
--- The lines that the example adds to a text.
-use Rattle.std.specs.Prelude.{◌≡◌, ◌≢◌, ℕ, ◌+◌, ◌++◌, ◌==◌, not, Bool, List, [], ◌∷◌, length, codes, count_by, decimal, pos, unwrap_or, Result, Ok, Err}
+-- The lines that the example adds to a text, and what its calls that add them promise.
+use Rattle.std.specs.Prelude.{◌≡◌, ◌≢◌, ◌≤◌, ℕ, ◌+◌, ◌++◌, ◌==◌, not, Bool, IsPermutation, filter, List, Option, None, Some, [], ◌∷◌, length, codes, count_by, decimal, pos, unwrap_or, Result, Ok, Err}
 use Rattle.std.specs.Fmt.{signed_decimal}
 use Rattle.goblin.specs.declared.container.Ctx.{Ctx}
 use Rattle.goblin.specs.declared.elf.header.Header.{Header}
 use Rattle.goblin.specs.declared.elf.reloc.Reloc.{Reloc}
 use Rattle.goblin.specs.declared.elf.section_header.SectionHeader.{SectionHeader}
+use Rattle.goblin.specs.declared.elf.sym.Sym.{Sym}
 use Rattle.goblin.specs.declared.error.Error.{Error}
+use Rattle.goblin.specs.declared.options.ParseMode.TheVariants.{Strict}
 use Rattle.goblin.specs.Note.{NoteParts}
 use Rattle.goblin.specs.NoteType.{note_type_name}
 use Rattle.goblin.specs.Refusal.{Refusal, out_of_memory, refusal_of}
 use Rattle.goblin.specs.Steps.{◌>>=◌, refuse_as}
+use Rattle.goblin.specs.Strtab.{StringTable, look_up, walked}
 use Rattle.goblin.specs.Texts.{◌&◌, hexadecimal}
-use Rattle.goblin_uses.specs.Listed.{notes_of, relocations_of}
+use Rattle.goblin_base.specs.Entries.{places_of}
+use Rattle.goblin_base.specs.Search.{digits}
+use Rattle.goblin_uses.specs.Listed.{LargestFirst, is_function, last_zero, longest_step, notes_of, relocations_of}
 
 -- the end of a line
 abbrev pub newline : List ℕ
@@ -67,6 +72,56 @@ abbrev pub notes_listed : List ℕ → SectionHeader → Ctx → Result (List �
 notes_listed bytes s ctx = do
   lines ← note_lines (notes_of bytes s ctx)
   Ok (notes_line (length (notes_of bytes s ctx)) & lines)
+
+-- the name at an offset of a string table, or a question mark where it has none
+abbrev pub name_at : StringTable → ℕ → List ℕ
+name_at names offset = unwrap_or (look_up names offset) (codes "?")
+
+-- the line of the function with a number
+abbrev pub function_line : StringTable → ℕ → Sym → List ℕ
+function_line names number s =
+    decimal number & codes " " & name_at names s.st_name & codes ": " & decimal s.st_size & codes " bytes at 0x"
+    & hexadecimal s.st_value & newline
+
+-- the lines of functions, the first of which has this number
+abbrev pub function_lines : StringTable → ℕ → List Sym → List ℕ
+function_lines names number [] = []
+function_lines names number (s ∷ functions) = function_line names number s & function_lines names (number + 1) functions
+
+-- the line of how many functions there are, and of how many symbols
+abbrev pub functions_line : List Sym → List ℕ
+functions_line symbols =
+    decimal (count_by is_function symbols) & codes " functions of " & decimal (length symbols) & codes " symbols" & newline
+
+-- how far names are closed
+abbrev pub closed_text : Option ℕ → List ℕ
+closed_text None = codes " names, none closed, "
+closed_text (Some end) = codes " names up to byte " & decimal end & codes ", "
+
+-- the line of so many names, with the place of the last zero, the longest name and how many places a search reads
+abbrev pub names_line : ℕ → Option ℕ → ℕ → ℕ → List ℕ
+names_line count end longest probes =
+    decimal count & closed_text end & codes "the longest of " & decimal longest & codes " bytes, " & decimal probes
+    & codes " probes to find one" & newline
+
+-- a text is the line of the names in these bytes, where a search reads at most as many places as their number has digits
+abbrev pub IsNamesText : List ℕ → List ℕ → Type 0
+IsNamesText bytes text =
+    (entries : List (ℕ × List ℕ)) × (probes : ℕ) × (walked Strict bytes 0 ≡ Ok entries)
+    × (probes ≤ digits (length entries))
+    × (text ≡ names_line (length entries) (last_zero (length bytes) bytes) (longest_step 0 (places_of entries)) probes)
+
+-- a text is the lines of these symbols' functions, the largest first, behind the line of the names
+abbrev pub IsFunctionsText : List Sym → StringTable → List ℕ → Type 0
+IsFunctionsText symbols names text =
+    (line : List ℕ) × (functions : List Sym) × IsNamesText names.bytes line
+    × IsPermutation (filter is_function symbols) functions × LargestFirst functions
+    × (text ≡ functions_line symbols & line & function_lines names 0 functions)
+
+-- what was added to a text is such a text; an error is the right refusal, unless memory ran out
+abbrev pub AddsSuch : {X : Type 0} → List ℕ → List ℕ → Result (Unit {0}) Error → (List ℕ → Type 0) → Result X Refusal → Type 0
+AddsSuch old new (Ok done) Such right = (lines : List ℕ) × Such lines × (new ≡ old ++ lines)
+AddsSuch old new (Err e) Such right = refusal_of e ≢ out_of_memory → right ≡ Err (refusal_of e)
 
 -- what was added to a text is what is right; an error is the right refusal, unless memory ran out
 abbrev pub Adds : List ℕ → List ℕ → Result (Unit {0}) Error → Result (List ℕ) Refusal → Type 0

@@ -1,6 +1,5 @@
--- What the example reads of a file's sections, and what its calls that add lines promise.
-use Rattle.std.specs.Prelude.{◌≡◌, ◌≢◌, ℕ, zero, suc, ◌+◌, ◌-◌, max, slice_index, ◌/◌, ◌==◌, ◌||◌, nat_lt, if◌then◌else◌, List, [], ◌∷◌, length, take, drop, Option, Some, None, Result, Ok, Err, IsOk}
-use Rattle.std.specs.Io.{StartsWith}
+-- What the example reads of a file's sections.
+use Rattle.std.specs.Prelude.{ℕ, zero, suc, ◌+◌, ◌-◌, max, slice_index, ◌/◌, ◌==◌, ◌||◌, ◌%◌, Bool, true, nat_lt, if◌then◌else◌, List, [], ◌∷◌, length, take, drop, Option, Some, None, Result}
 use Rattle.std.specs.List.Sorted.{IsSortedByKey}
 use Rattle.std.specs.Ordering.{nat_cmp}
 use Rattle.goblin.specs.declared.container.Ctx.{Ctx}
@@ -12,7 +11,7 @@ use Rattle.goblin.specs.declared.error.Error.{Error}
 use Rattle.goblin.specs.declared.options.ParseMode.TheVariants.{Strict}
 use Rattle.goblin.specs.Note.{NoteParts, note_items}
 use Rattle.goblin.specs.Ranges.{span}
-use Rattle.goblin.specs.Refusal.{Refusal, out_of_memory, refusal_of}
+use Rattle.goblin.specs.Refusal.{Refusal, refusal_of}
 use Rattle.goblin.specs.RelocSection.{is_of_mips64el, relocs_of}
 use Rattle.goblin.specs.Steps.{◌>>=◌, refuse_as}
 use Rattle.goblin.specs.Strtab.{StringTable, table_of}
@@ -29,6 +28,10 @@ bytes_of bytes (Some s) =
 -- the symbols of a section, as many as it holds whole
 abbrev pub symbols_of : List ℕ → SectionHeader → Ctx → Result Symbols Error
 symbols_of bytes s ctx = symtab_of bytes s.sh_offset (s.sh_size / sym_size ctx.container) ctx
+
+-- a symbol of a function: type 2
+abbrev pub is_function : Sym → Bool
+is_function s = s.st_info % 16 == 2
 
 -- no symbol is larger than one before it
 abbrev pub LargestFirst : List Sym → Type 0
@@ -50,6 +53,10 @@ abbrev pub longest_step : ℕ → List ℕ → ℕ
 longest_step here [] = 0
 longest_step here (place ∷ places) = max (place - here) (longest_step place places)
 
+-- the strings of a section as a parsed table
+abbrev pub names_of : List ℕ → Option SectionHeader → StringTable
+names_of bytes strings = record { bytes = bytes_of bytes strings; delim = 0; is_parsed = true }
+
 -- the relocations of a section, with addends where its type is 4
 abbrev pub relocations_of : List ℕ → SectionHeader → Header → Ctx → Result (List Reloc) Error
 relocations_of bytes s h ctx = relocs_of bytes s.sh_offset s.sh_size (s.sh_type == 4) ctx (is_of_mips64el h)
@@ -57,9 +64,3 @@ relocations_of bytes s h ctx = relocs_of bytes s.sh_offset s.sh_size (s.sh_type 
 -- the notes of a section
 abbrev pub notes_of : List ℕ → SectionHeader → Ctx → List (Result NoteParts Refusal)
 notes_of bytes s ctx = note_items bytes (span s.sh_offset s.sh_size).1 s.sh_offset (s.sh_addralign, ctx)
-
--- Lines are added only where `right` refuses nothing, behind what stood in the text; an error is its refusal, unless memory
--- ran out.
-abbrev pub Adds : {X : Type 0} → List ℕ → List ℕ → Result (Unit {0}) Error → Result X Refusal → Type 0
-Adds old new (Ok done) right = IsOk right × StartsWith new old
-Adds old new (Err e) right = refusal_of e ≢ out_of_memory → right ≡ Err (refusal_of e)

@@ -1,7 +1,8 @@
 //! The functions among a file's symbols.
-ghost use Rattle.std.specs.Prelude.{◌≡◌, ◌==◌, ◌%◌, Err, IfErr, IfOk, IsPermutation, alloc_error, count_by, filter, string_bytes};
+ghost use Rattle.std.specs.Prelude.{◌≡◌, ◌++◌, Err, IfErr, IfOk, IsPermutation, OnOk, alloc_error, count_by, filter, string_bytes};
 ghost use Rattle.std.specs.Option.{option_map};
-ghost use Rattle.goblin_uses.specs.Listed.{Adds, LargestFirst, bytes_of, functions_of, symbols_of};
+ghost use Rattle.goblin_uses.specs.Lines.{AddsSuch, IsFunctionsText, function_line, function_lines, functions_line};
+ghost use Rattle.goblin_uses.specs.Listed.{LargestFirst, bytes_of, functions_of, is_function, names_of, symbols_of};
 
 use crate::names::push_names;
 use goblin::container::Ctx;
@@ -9,19 +10,19 @@ use goblin::elf::section_header::SectionHeader;
 use goblin::elf::sym::{Sym, Symtab};
 use goblin::error::{Error, Result};
 use goblin::strtab::Strtab;
-use std::alloc::Global;
+use std::alloc::{AllocError, Global};
 use std::cmp::Reverse;
 
 /// How many functions there are.
 pub fn count_functions(symbols: &Symtab) -> usize
-    ensures { result ≡ count_by (λ s. s.st_info % 16 == 2) symbols.now.symbols }
+    ensures { result ≡ count_by is_function symbols.now.symbols }
 {
     symbols.iter().filter(|symbol| symbol.is_function()).count()
 }
 
 /// The functions, the largest first. Only want of memory is an error.
 pub fn functions_by_size(alloc: Global, symbols: &Symtab) -> Result<Vec<Sym>>
-    ensures ok { let functions = filter (λ s. s.st_info % 16 == 2) symbols.now.symbols in
+    ensures ok { let functions = filter is_function symbols.now.symbols in
         IfOk result (λ sorted. IsPermutation functions sorted.items) }
     ensures order { IfOk result (λ sorted. LargestFirst sorted.items) }
     ensures err { IfErr result (λ e. e ≡ Error.Memory alloc_error) }
@@ -56,22 +57,61 @@ pub fn push_functions(
     strings: Option<&SectionHeader>,
     ctx: Ctx,
 ) -> Result<()>
-    ensures added { let right = functions_of bytes.now section.now (option_map (λ s. s.now) strings.entry)
-        ctx in Adds (string_bytes text.old) (string_bytes text.new) result right }
+    ensures added { let at = option_map (λ s. s.now) strings.entry in
+        let names = names_of bytes.now at in
+        AddsSuch (string_bytes text.old) (string_bytes text.new) result
+        (λ lines. IfOk (symbols_of bytes.now section.now ctx)
+        (λ table. IsFunctionsText table.symbols names lines))
+        (functions_of bytes.now section.now at ctx) }
     ensures first { IfErr (symbols_of bytes.now section.now ctx) (λ e. result ≡ Err e) }
 {
     let count = section.sh_size as usize / Sym::size(ctx.container);
     let symbols = Symtab::parse(bytes, section.sh_offset as usize, count, ctx)?;
     let names = Strtab::new_preparsed(alloc, bytes_of(bytes, strings), 0)?;
-    let functions = count_functions(&symbols);
-    let all = symbols.len();
-    write!(text, "{functions} functions of {all} symbols\n")?;
+    push_count(text, &symbols)?;
     push_names(alloc, text, bytes_of(bytes, strings), 13)?;
-    for (index, function) in functions_by_size(alloc, &symbols)?.iter().enumerate() {
-        let name = names.get_at(function.st_name).unwrap_or("?");
-        let value = function.st_value;
-        let size = function.st_size;
-        write!(text, "{index} {name}: {size} bytes at 0x{value:x}\n")?;
+    let functions = functions_by_size(alloc, &symbols)?;
+    push_each(text, &names, functions.as_slice())?;
+    Ok(())
+}
+
+// Adds how many functions there are, and of how many symbols.
+fn push_count(text: &mut String, symbols: &Symtab) -> std::result::Result<(), AllocError>
+    ensures { OnOk result
+        (string_bytes text.new ≡ string_bytes text.old ++ functions_line symbols.now.symbols) }
+{
+    let functions = count_functions(symbols);
+    let all = symbols.len();
+    write!(text, "{functions} functions of {all} symbols\n")
+}
+
+// Adds the line of the function with a number.
+fn push_line(
+    text: &mut String,
+    names: &Strtab,
+    index: usize,
+    function: &Sym,
+) -> std::result::Result<(), AllocError>
+    ensures { OnOk result
+        (string_bytes text.new ≡ string_bytes text.old ++ function_line names.now index function.now) }
+{
+    let name = names.get_at(function.st_name).unwrap_or("?");
+    let value = function.st_value;
+    let size = function.st_size;
+    write!(text, "{index} {name}: {size} bytes at 0x{value:x}\n")
+}
+
+// Adds a line for each function.
+fn push_each(
+    text: &mut String,
+    names: &Strtab,
+    functions: &[Sym],
+) -> std::result::Result<(), AllocError>
+    ensures { OnOk result
+        (string_bytes text.new ≡ string_bytes text.old ++ function_lines names.now 0 functions.now) }
+{
+    for (index, function) in functions.iter().enumerate() {
+        push_line(text, names, index, function)?;
     }
     Ok(())
 }

@@ -21,33 +21,35 @@ use std::io;
 use std::io::Read;
 use symbols::push_symbols;
 
-// The lines of a file with these bytes.
-fn list(alloc: Global, bytes: &[u8]) -> Result<String> {
+// Adds the lines of a file with these bytes, up to the first refusal.
+fn list(alloc: Global, text: &mut String, bytes: &[u8]) -> Result<()> {
     let (header, _) = Header::try_from_ctx(bytes, LE)?;
     let ctx = Ctx::new(header.container()?, header.endianness()?);
     let count = usize::from(header.e_shnum);
     let sections = SectionHeader::parse(alloc, bytes, header.e_shoff as usize, count, ctx)?;
-    let mut text = String::new(alloc);
-    push_symbols(alloc, &mut text, bytes)?;
+    push_symbols(alloc, text, bytes)?;
     for section in &sections {
         match section.sh_type {
             SHT_SYMTAB => {
                 let strings = sections.get(section.sh_link as usize);
-                push_functions(alloc, &mut text, bytes, section, strings, ctx)?;
+                push_functions(alloc, text, bytes, section, strings, ctx)?;
             }
-            SHT_REL | SHT_RELA => push_relocations(&mut text, bytes, section, &header, ctx)?,
-            SHT_NOTE => push_notes(&mut text, bytes, section, ctx)?,
+            SHT_REL | SHT_RELA => push_relocations(text, bytes, section, &header, ctx)?,
+            SHT_NOTE => push_notes(text, bytes, section, ctx)?,
             _ => {}
         }
     }
-    Ok(text)
+    Ok(())
 }
 
 fn main(rt: HostRuntime) -> io::Result<()> {
     let mut bytes = Vec::new(rt.alloc());
     rt.stdin().read_to_end(&mut bytes)?;
-    match list(rt.alloc(), bytes.as_slice()) {
-        Ok(text) => print!(rt; "{text}"),
+    let mut text = String::new(rt.alloc());
+    let listed = list(rt.alloc(), &mut text, bytes.as_slice());
+    print!(rt; "{text}")?;
+    match listed {
+        Ok(()) => Ok(()),
         Err(e) => println!(rt; "refused: {e}"),
     }
 }

@@ -1,15 +1,16 @@
 //! The names of a file's symbols, read under a count of the bytes and places read.
-ghost use Rattle.std.specs.Prelude.{◌≡◌, ◌≤◌, length, string_bytes};
+ghost use Rattle.std.specs.Prelude.{◌≡◌, ◌≤◌, ◌++◌, OnOk, length, string_bytes};
 ghost use Rattle.goblin_base.specs.Search.{digits};
 ghost use Rattle.goblin_base.specs.Strtab.{RefusesFirst, walked};
-ghost use Rattle.goblin_uses.specs.Listed.{Adds, last_zero, longest_step};
+ghost use Rattle.goblin_uses.specs.Lines.{AddsSuch, IsNamesText, names_line};
+ghost use Rattle.goblin_uses.specs.Listed.{last_zero, longest_step};
 
 use goblin::error::Result;
 use goblin::options::ParseMode;
 use goblin_base::entries::{Looked, Probes};
 use goblin_base::find::find;
 use goblin_base::walk::walk;
-use std::alloc::Global;
+use std::alloc::{AllocError, Global};
 
 /// The place of the last zero byte, which closes the last name.
 pub fn last_zero(view: &mut Looked<'_>) -> Option<usize>
@@ -50,11 +51,32 @@ pub fn probes_of(probes: &mut Probes<'_>, offset: usize) -> u64
     probes.count() - before
 }
 
+// Adds the line of so many names.
+fn push_line(
+    text: &mut String,
+    count: usize,
+    end: Option<usize>,
+    longest: usize,
+    probes: u64,
+) -> std::result::Result<(), AllocError>
+    ensures { OnOk result
+        (string_bytes text.new ≡ string_bytes text.old ++ names_line count end longest probes) }
+{
+    match end {
+        Some(end) => write!(text, "{count} names up to byte {end}, ")?,
+        None => write!(text, "{count} names, none closed, ")?,
+    }
+    write!(
+        text,
+        "the longest of {longest} bytes, {probes} probes to find one\n"
+    )
+}
+
 /// Adds a line on the names in these bytes, of which the one at an offset is looked for. Bytes that are no text are an
 /// error, and else want of memory alone.
 pub fn push_names(alloc: Global, text: &mut String, bytes: &[u8], offset: usize) -> Result<()>
-    ensures added { let right = walked ParseMode.Strict bytes.now 0 in
-        Adds (string_bytes text.old) (string_bytes text.new) result right }
+    ensures added { AddsSuch (string_bytes text.old) (string_bytes text.new) result
+        (IsNamesText bytes.now) (walked ParseMode.Strict bytes.now 0) }
     ensures first { RefusesFirst ParseMode.Strict bytes.now 0 result }
 {
     let mut view = Looked::new(bytes);
@@ -63,13 +85,6 @@ pub fn push_names(alloc: Global, text: &mut String, bytes: &[u8], offset: usize)
     let count = entries.len();
     let longest = longest(&mut probes);
     let looked = probes_of(&mut probes, offset);
-    match last_zero(&mut view) {
-        Some(end) => write!(text, "{count} names up to byte {end}, ")?,
-        None => write!(text, "{count} names, none closed, ")?,
-    }
-    write!(
-        text,
-        "the longest of {longest} bytes, {looked} probes to find one\n"
-    )?;
+    push_line(text, count, last_zero(&mut view), longest, looked)?;
     Ok(())
 }
