@@ -99,7 +99,7 @@ check_c() {
         echo "no c++ here: goblin.h is compiled as C alone"
     fi
     "$folder/layout"
-    for program in nm size values made search; do build $program -std=c99; done
+    for program in nm size symbolize values made search; do build $program -std=c99; done
     quietly "$folder/search"
     echo "search.c: $(wc -l < "$folder/output") searches among long names stay within their limit"
     build damaged -std=c99 $sanitizers
@@ -187,6 +187,23 @@ compare_sizes() {
     echo "size.c adds up $(tail -n 1 "$folder/output") files as size does"
 }
 
+# The functions of some files by their addresses, at the start and behind it, as binutils' nm lists them with their sizes.
+compare_addresses() {
+    { head -n 40 "$folder/list"; echo "$folder/symbolize"; } > "$folder/some"
+    while read -r file; do
+        { nm --plugin /dev/null -S "$file"; nm --plugin /dev/null -S -D "$file"; } 2> "$folder/output" \
+            | awk 'NF == 4 && $3 ~ /^[tTi]$/ && $2 !~ /^0*[0-9a-f]$/ { print $1; print substr($1, 1, length($1) - 1) "f" }' \
+            | sort -u | head -n 300 > "$folder/addresses" || true
+        [ -s "$folder/addresses" ] || continue
+        xargs "$folder/symbolize" "$file" < "$folder/addresses" | sed "s|^|$file |" >> "$folder/ours.at"
+        xargs addr2line -fs -e "$file" < "$folder/addresses" | sed "s|^|$file |" >> "$folder/theirs.at"
+    done < "$folder/some"
+    awk 'FNR % 2' "$folder/ours.at" > "$folder/ours"
+    awk 'FNR % 2' "$folder/theirs.at" > "$folder/theirs"
+    quietly diff "$folder/theirs" "$folder/ours"
+    echo "symbolize.c names the functions at $(wc -l < "$folder/ours") addresses as addr2line does"
+}
+
 compare_relocations() {
     while read -r file; do
         echo "file: $file"
@@ -224,4 +241,5 @@ if [ $# -eq 0 ]; then make_many >> "$folder/list"; fi
 files=$(wc -l < "$folder/list")
 compare_symbols "$files"
 if has size; then compare_sizes "$files"; else echo "no size here: no sizes are compared"; fi
+if has addr2line; then compare_addresses; else echo "no addr2line here: no addresses are compared"; fi
 if [ "$examples" ]; then compare_relocations "$files"; fi

@@ -164,6 +164,12 @@ static void table(const goblin_header_t *h, goblin_range_t range, goblin_range_t
         if (!TELLS(goblin_symbol, last, h, &range, number - 1) || TELLS(goblin_symbol, last, h, &range, number))
             wrong("goblin_symbol_count", GOBLIN_OK);
     }
+    uint64_t address = any(2) ? any(0x100) : odd();
+    if (TELLS(goblin_symbol_by_address, number, h, &range, address)) {
+        goblin_symbol_t below;
+        if (!TELLS(goblin_symbol, below, h, &range, number) || below.st_value > address)
+            wrong("goblin_symbol_by_address", GOBLIN_OK);
+    }
     if (TELLS(goblin_reloc_count, number, h, &range, is_rela) && number > 0) {
         goblin_reloc_t last;
         if (!TELLS(goblin_reloc, last, h, &range, is_rela, number - 1) || TELLS(goblin_reloc, last, h, &range, is_rela, number))

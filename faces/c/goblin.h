@@ -31,7 +31,7 @@ extern "C" {
 #endif
 
 /* The version of this file. goblin_version() answers that of the library, which must be the same. */
-#define GOBLIN_VERSION 2
+#define GOBLIN_VERSION 3
 
 /* What calls answer. Behind a refusal stands what `first`, `second`, .. of goblin_refusal_t are for it. */
 enum {
@@ -310,6 +310,14 @@ uint32_t goblin_symbols(const uint8_t *bytes, size_t len, const goblin_header_t 
 uint32_t goblin_symbol_by_name(const uint8_t *bytes, size_t len, const goblin_header_t *header,
                                const goblin_range_t *table, const goblin_range_t *names, const uint8_t *name,
                                size_t name_len, uint64_t *index, goblin_refusal_t *why);
+
+/* The index of the symbol that an address lies in: the one with the highest st_value that isn't above the address; of those
+   with the same value the first whose st_size reaches the address, or else the first. Only symbols of sections count (st_shndx
+   from 1 on and below 0xff00, or 0xffff), of the types 0, 1, 2 and 10 (none, object, function, indirect function). Whether the
+   symbol reaches the address, where its size is known, is left to the caller. GOBLIN_END where none is at the address or
+   below it. It looks at each symbol. Refused as goblin_symbol is. */
+uint32_t goblin_symbol_by_address(const uint8_t *bytes, size_t len, const goblin_header_t *header,
+                                  const goblin_range_t *table, uint64_t address, uint64_t *index, goblin_refusal_t *why);
 
 /* ---- relocations ---- */
 

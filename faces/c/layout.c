@@ -253,6 +253,7 @@ static void call_with_nulls(void) {
     same("null: symbols", goblin_symbols(NULL, 0, &h, &none, 0, NULL, 0, &number, &why), GOBLIN_SYMTAB_OFFSET);
     same("null: symbol by name", goblin_symbol_by_name(NULL, 0, &h, &none, &none, NULL, 0, &number, &why),
          GOBLIN_SYMTAB_OFFSET);
+    same("null: symbol by address", goblin_symbol_by_address(NULL, 0, &h, &none, 0, &number, &why), GOBLIN_SYMTAB_OFFSET);
     same("null: reloc", goblin_reloc(NULL, 0, &h, &none, true, 0, &r, &why), GOBLIN_END);
     same("null: reloc", goblin_reloc(NULL, 0, &h, &some, true, 0, &r, &why), GOBLIN_BAD_OFFSET);
     same("null: relocs", goblin_relocs(NULL, 0, &h, &none, false, 0, NULL, 0, &number, &why), GOBLIN_END);

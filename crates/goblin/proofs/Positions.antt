@@ -1,5 +1,5 @@
 -- Looking for the first item that passes a test, one after another.
-use Rattle.std.proofs.Common.{◌≡◌, ◌<◌, ◌≤◌, ◌+◌, ℕ, suc, Bool, true, false, List, [], ◌∷◌, length, drop, get_or, nat_lt, position, slice_get, Option, Some, None, refl, sym, ap, ◌∙◌, arith, add-one, drop-cons}
+use Rattle.std.proofs.Common.{◌≡◌, ◌<◌, ◌+◌, ℕ, suc, Bool, true, false, List, [], ◌∷◌, length, drop, position, slice_get, Some, None, refl, ap, ◌∙◌, arith, add-one, drop-cons}
 use Rattle.std.proofs.lemmas.Bool.{lt-ltb, le-ltb}
 use Rattle.std.proofs.lemmas.List.{drop_all}
 use Rattle.std.proofs.lemmas.Option.{slice_get_within, slice_get-get_or, get_or_from_slice_get}
@@ -10,7 +10,7 @@ abbrev pub SearchedTo : {X : Type 0} → (X → Bool) → List X → ℕ → Typ
 SearchedTo test items i = position_or_len test items ≡ i + position_or_len test (drop i items)
 
 -- the item at an index stands in front of what is left there
-left_from : {X : Type 0} (items : List X) (i : ℕ) (x : X) → slice_get items i ≡ Some x → drop i items ≡ x ∷ drop (i + 1) items
+pub left_from : {X : Type 0} (items : List X) (i : ℕ) (x : X) → slice_get items i ≡ Some x → drop i items ≡ x ∷ drop (i + 1) items
 left_from items i x found =
     let inside = slice_get_within items i x found in
     rw add-one (drop-cons items i x inside ∙ ap (λ y. y ∷ drop (suc i) items) (get_or_from_slice_get items i x x found))

@@ -47,6 +47,7 @@ pub use Rattle.goblin_records.specs.Sym32
 pub use Rattle.goblin_records.specs.Sym64
 pub use Rattle.goblin_records.specs.SymLaws
 pub use Rattle.goblin_records.specs.SymParts
+pub mod Addresses
 pub mod Note
 pub mod NoteLaws
 pub mod NoteRuns

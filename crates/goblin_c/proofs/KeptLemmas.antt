@@ -229,6 +229,7 @@ refusals_keep_their_text = record {
   segment_count = λ bytes h. kept_then (segments_right bytes h) _ (segments bytes h) (λ all. tt);
   symbol_count = λ bytes h range. kept_then (symbols_right bytes h range) _ (symbols bytes h range) (λ all. tt);
   reloc_count = λ bytes h range is_rela. kept_then (relocs_right bytes h range is_rela) _ (relocs bytes h range is_rela) (λ all. tt);
+  symbol_by_address = λ bytes h range address. kept_then (symbols_right bytes h range) _ (symbols bytes h range) (λ all. tt);
   section_by_type = λ bytes h sh_type first. kept_then (sections_right bytes h) _ (sections bytes h) (λ all. tt);
   section_bytes = λ bytes s. kept (section_bytes_right bytes s) (either it (section_has_bytes s) _ _ (placed bytes s.file) tt);
   segment_bytes = λ bytes s. kept (segment_bytes_right bytes s) (either it (segment_has_bytes s) _ _ (placed bytes s.file) tt);

@@ -8,6 +8,7 @@ use Rattle.goblin_base.specs.declared.options.ParseMode.TheVariants.{Strict}
 use Rattle.goblin_base.specs.Refusal.{Refusal, malformed, refusal_of}
 use Rattle.goblin_base.specs.Steps.{◌>>=◌, refuse_as}
 use Rattle.goblin_base.specs.Strtab.{range_in, plain, has_name}
+use Rattle.goblin.specs.Addresses.{symbol_at}
 use Rattle.goblin.specs.declared.elf.header.Header.{Header}
 use Rattle.goblin.specs.declared.elf.section_header.SectionHeader.{SectionHeader}
 use Rattle.goblin.specs.ReadHeader.{read_header}
@@ -237,6 +238,12 @@ symbol_by_name_right bytes h range names name = do
   symbols ← symbols_right bytes h range
   strings ← strings_right bytes names
   Ok (position (λ symbol. is_named strings name symbol.st_name) symbols)
+
+-- the index of the symbol of a range that an address lies in
+abbrev pub symbol_by_address_right : List ℕ → GoblinHeader → GoblinRange → ℕ → Result (Option ℕ) Refusal
+symbol_by_address_right bytes h range address = do
+  symbols ← symbols_right bytes h range
+  Ok (symbol_at address symbols)
 
 -- a section that has bytes in the file: one of type 8 has none
 abbrev pub with_bytes : Option SectionHeader → Option SectionHeader

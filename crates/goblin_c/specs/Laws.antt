@@ -20,7 +20,7 @@ use Rattle.goblin.specs.SectionHeaders.{section_headers_of}
 use Rattle.goblin.specs.declared.elf.sym.Sym.{Sym}
 use Rattle.goblin.specs.Sym.{sym_size}
 use Rattle.goblin.specs.Symtab.{symtab_of}
-use Rattle.goblin_c.specs.Answers.{ctx_of, header_told, is_mips64el, reloc_told, section_told, segment_told, symbol_told, header_right, section_by_type_right, section_count_right, section_right, segment_count_right, segment_right, symbol_right, reloc_right, string_right, symbol_count_right, reloc_count_right, sections_from_right, symbols_from_right, relocs_from_right, section_names_right, section_by_name_right, symbol_by_name_right, strings_right, table_right}
+use Rattle.goblin_c.specs.Answers.{ctx_of, header_told, is_mips64el, reloc_told, section_told, segment_told, symbol_told, header_right, section_by_type_right, section_count_right, section_right, segment_count_right, segment_right, symbol_right, reloc_right, string_right, symbol_count_right, reloc_count_right, sections_from_right, symbols_from_right, relocs_from_right, section_names_right, section_by_name_right, symbol_by_address_right, symbol_by_name_right, strings_right, table_right}
 use Rattle.goblin_c.specs.Bytes.{number_right, section_bytes_right, segment_bytes_right, string_bytes_right}
 use Rattle.goblin_c.specs.Cut.{cut}
 use Rattle.goblin_c.specs.Notes.{note_right}
@@ -130,6 +130,9 @@ pub record RefusalsKeepTheirText : Type 0 where
   pub reloc_count :
       (bytes : List ℕ) (h : GoblinHeader) (range : GoblinRange) (is_rela : Bool)
       → KeepsText (reloc_count_right bytes h range is_rela)
+  pub symbol_by_address :
+      (bytes : List ℕ) (h : GoblinHeader) (range : GoblinRange) (address : ℕ)
+      → KeepsText (symbol_by_address_right bytes h range address)
   pub section_by_type :
       (bytes : List ℕ) (h : GoblinHeader) (sh_type first : ℕ)
       → KeepsText (section_by_type_right bytes h sh_type first)

@@ -3,7 +3,7 @@
 #![tactic(auto)]
 
 ghost use Rattle.std.specs.Prelude.{◌≡◌, length};
-ghost use Rattle.goblin_c.specs.Answers.{header_right, reloc_count_right, reloc_right, section_by_type_right, section_count_right, section_right, segment_count_right, segment_right, string_right, symbol_count_right, symbol_right, relocs_from_right, sections_from_right, symbols_from_right, section_by_name_right, section_names_right, symbol_by_name_right, table_right};
+ghost use Rattle.goblin_c.specs.Answers.{header_right, reloc_count_right, reloc_right, section_by_type_right, section_count_right, section_right, segment_count_right, segment_right, string_right, symbol_count_right, symbol_right, relocs_from_right, sections_from_right, symbols_from_right, section_by_name_right, section_names_right, symbol_by_address_right, symbol_by_name_right, table_right};
 ghost use Rattle.goblin_c.specs.Bytes.{number_right, section_bytes_right, segment_bytes_right, string_bytes_right};
 ghost use Rattle.goblin_c.specs.Cut.{cut};
 ghost use Rattle.goblin_c.specs.Layout.{layout};
@@ -49,8 +49,8 @@ use names::{note_type, write_text};
 use notes::note_from;
 use status::{END, OK, refusal, tell};
 use tables::{
-    reloc_at, reloc_count, relocs_of, section_by_name, string_at, symbol_at, symbol_by_name,
-    symbol_count, symbols_of,
+    reloc_at, reloc_count, relocs_of, section_by_name, string_at, symbol_at, symbol_by_address,
+    symbol_by_name, symbol_count, symbols_of,
 };
 use texts::write_refusal;
 use types::{
@@ -59,12 +59,12 @@ use types::{
 };
 
 /// The version of these calls and of what crosses.
-pub const VERSION: u32 = 2;
+pub const VERSION: u32 = 3;
 
 /// The version of the library.
 #[unsafe(no_mangle)]
 pub extern "C" fn goblin_version() -> u32
-    ensures { result ≡ 2 }
+    ensures { result ≡ 3 }
 {
     VERSION
 }
@@ -574,4 +574,20 @@ pub extern "C" fn goblin_number(
         value.old why.old result value.new why.new }
 {
     tell(number(bytes, header, offset, width), value, why)
+}
+
+/// The index of the symbol that an address lies in.
+#[unsafe(no_mangle)]
+pub extern "C" fn goblin_symbol_by_address(
+    bytes: &[u8],
+    header: &GoblinHeader,
+    table: &GoblinRange,
+    address: u64,
+    index: &mut u64,
+    why: &mut GoblinRefusal,
+) -> u32
+    ensures { Tells (symbol_by_address_right bytes.now header.now table.now address)
+        index.old why.old result index.new why.new }
+{
+    tell(symbol_by_address(bytes, header, table, address), index, why)
 }

@@ -2,7 +2,7 @@
 ghost use Rattle.std.specs.Prelude.{◌≡◌, ◌+◌, ◌≤◌, IfOk, length, position};
 ghost use Rattle.goblin.specs.Strtab.{has_name};
 ghost use Rattle.goblin.specs.Refusal.{Answers};
-ghost use Rattle.goblin_c.specs.Answers.{is_mips64el, reloc_count_right, reloc_right, reloc_told, relocs_right, section_by_name_right, string_right, strings_right, symbol_by_name_right, symbol_count_right, symbol_right, is_named, symbol_told, symbols_right};
+ghost use Rattle.goblin_c.specs.Answers.{is_mips64el, reloc_count_right, reloc_right, reloc_told, relocs_right, section_by_name_right, string_right, strings_right, symbol_by_address_right, symbol_by_name_right, symbol_count_right, symbol_right, is_named, symbol_told, symbols_right};
 
 use crate::headers::{ctx_of, sections_of};
 use crate::types::{GoblinHeader, GoblinRange, GoblinReloc, GoblinSymbol};
@@ -232,4 +232,18 @@ pub fn symbol_by_name(
         Some(index) => Ok(Some(index as u64)),
         None => Ok(None),
     }
+}
+
+/// The index of the symbol that an address lies in.
+pub fn symbol_by_address(
+    bytes: &[u8],
+    header: &GoblinHeader,
+    range: &GoblinRange,
+    address: u64,
+) -> Result<Option<u64>>
+    ensures { Answers (λ found. found) result
+        (symbol_by_address_right bytes.now header.now range.now address) }
+{
+    let found = symbols_of(bytes, header, range)?.at(address);
+    Ok(found.map(|index| index as u64))
 }

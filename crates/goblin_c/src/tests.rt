@@ -361,7 +361,7 @@ fn writes_names(rt: HostRuntime) {
     assert!(rt; machine(62) == (*b"X86_64", 6));
     assert!(rt; machine(258) == (*b"LOONGA", 9));
     assert!(rt; note_type_name(b"CORE", 3) == 11 && note_type_name(b"GNU", 3) == 15);
-    assert!(rt; goblin_version() == 2);
+    assert!(rt; goblin_version() == 3);
 }
 
 // Whether this is the text of a refusal of a kind with these numbers.

@@ -121,7 +121,7 @@ pub mod tests {
     #[test]
     fn fields_lie_where_the_library_puts_them() {
         let (version, layout) = sys::version_and_layout();
-        assert_eq!(version, 2);
+        assert_eq!(version, 3);
         assert_filled(&layout.refusal, layout.size_of_refusal, 6);
         assert_filled(&layout.range, layout.size_of_range, 2);
         assert_filled(&layout.header, layout.size_of_header, 18);

@@ -88,6 +88,12 @@ impl<'a> Symtab<'a> {
         self.strtab.get(symbol.st_name)
     }
 
+    /// The index of the symbol that an address lies in: the highest one at it or below it, as `goblin.h` says.
+    pub fn at(&self, address: u64) -> Result<Option<usize>> {
+        let index = sys::goblin_symbol_by_address(self.strtab.bytes, &self.header, &self.range, address)?;
+        Ok(index.map(|index| index as usize))
+    }
+
     /// The index of the first symbol with a name.
     pub fn find(&self, name: &str) -> Result<Option<usize>> {
         let Strtab { bytes, range } = &self.strtab;

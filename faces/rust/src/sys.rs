@@ -50,6 +50,7 @@ calls! {
     fn goblin_symbol(header: &Header, table: &Range, index: u64) -> Symbol;
     fn goblin_symbols(header: &Header, table: &Range, first: u64) into [Symbol] -> u64;
     fn goblin_symbol_by_name(header: &Header, table: &Range, names: &Range) by name -> u64;
+    fn goblin_symbol_by_address(header: &Header, table: &Range, address: u64) -> u64;
     fn goblin_reloc(header: &Header, relocs: &Range, is_rela: bool, index: u64) -> Reloc;
     fn goblin_relocs(header: &Header, relocs: &Range, is_rela: bool, first: u64) into [Reloc] -> u64;
     fn goblin_note(header: &Header, notes: &Range, alignment: u64, offset: u64) -> Note;

@@ -268,6 +268,9 @@ fn counts_and_bytes() {
         assert_eq!(elf.program_header_count(), Ok(2));
         let symbols = elf.syms().unwrap().unwrap();
         assert_eq!((symbols.len(), symbols.is_empty()), (Ok(7), Ok(false)));
+        assert_eq!((symbols.at(0), symbols.at(0x101f)), (Ok(Some(5)), Ok(Some(6))));
+        assert_eq!(symbols.at(0x1020), Ok(Some(1)));
+        assert_eq!(symbols.at(u64::MAX >> 32), Ok(Some(1)));
         let counts: Vec<_> = elf.shdr_relocs().map(|relocs| relocs.unwrap().1.len()).collect();
         assert_eq!(counts, [Ok(2), Ok(1)]);
         assert_eq!(elf.section_by_type(3, 0), Ok(Some(3)));

@@ -1,5 +1,7 @@
 //! Symbols and symbol tables: System V gABI, "Symbol Table".
 ghost use Rattle.std.specs.Prelude.{◌≡◌, ◌≤◌, ◌<◌, ◌-◌, ◌*◌, ◌^◌, ◌↔◌, [], ◌∷◌, length, slice_get, IsTrue, IfOk, IfErr, IsOk, alloc_error, position};
+ghost use Rattle.std.specs.Option.{option_map};
+ghost use Rattle.goblin.specs.Addresses.{is_below, reaches, symbol_at, taken, SymbolAtIsHighest};
 ghost use Rattle.goblin.specs.Symtab.{symbols_at, symtab_by, symtab_of, DependsOnItsRange, PermissiveKeepsStrict};
 ghost use Rattle.goblin_base.specs.Strtab.{has_name};
 ghost use Rattle.goblin_records.specs.Sym.{sym_size};
@@ -182,6 +184,24 @@ impl<'a> Symtab<'a> {
         None
     }
 
+    /// The index of the symbol that an address lies in, or `None` where no symbol stands at it or below it.
+    ///
+    /// It is the one with the highest value that isn't above the address; of those with the same value the
+    /// first that reaches the address by its size, or else the first. Symbols of sections, files and threads,
+    /// and those that no section of the file has, are left out. Whether the symbol reaches the address, where
+    /// it has a size, is left to the caller.
+    pub fn at(&self, address: u64) -> Option<usize>
+        ensures { result ≡ symbol_at address self.now.symbols }
+    {
+        let mut found = None;
+        for i in 0..self.len() {
+            if let Some(symbol) = self.get(i) {
+                found = nearer(address, i, symbol, found);
+            }
+        }
+        index_of(found)
+    }
+
     /// The symbols as a vector. Only want of memory is an error, and an empty table takes none.
     pub fn to_vec(&self, alloc: Global) -> Result<Vec<Sym>>
         ensures ok { IfOk result (λ v. v.items ≡ self.now.symbols) }
@@ -189,6 +209,59 @@ impl<'a> Symtab<'a> {
         ensures none { (self.now.symbols ≡ []) → IsOk result }
     {
         self.table.to_vec(alloc)
+    }
+}
+
+// Whether a symbol of a section stands at an address or below it.
+fn is_below(address: u64, symbol: &Sym) -> bool
+    ensures { result ≡ is_below address symbol.now }
+{
+    let typ = symbol.st_type();
+    let shndx = symbol.st_shndx;
+    let is_of_section = (shndx > 0 && shndx < 0xff00) || shndx == 0xffff;
+    let is_of_bytes = typ == STT_NOTYPE
+        || typ == STT_OBJECT
+        || typ == STT_FUNC
+        || typ == STT_GNU_IFUNC;
+    is_of_section && is_of_bytes && symbol.st_value <= address
+}
+
+// Whether the bytes of a symbol reach behind an address.
+fn reaches(address: u64, symbol: &Sym) -> bool
+    ensures { result ≡ reaches address symbol.now }
+{
+    match symbol.st_value.checked_add(symbol.st_size) {
+        Some(end) => address < end,
+        None => true,
+    }
+}
+
+// What is taken of the symbol at an index, and of what was found before it.
+fn nearer(address: u64, i: usize, symbol: Sym, found: Option<(usize, Sym)>) -> Option<(usize, Sym)>
+    ensures { result ≡ taken address i symbol found }
+{
+    if !is_below(address, &symbol) {
+        return found;
+    }
+    if let Some((_, before)) = &found {
+        let is_higher = before.st_value < symbol.st_value;
+        let is_longer = before.st_value == symbol.st_value
+            && !reaches(address, before)
+            && reaches(address, &symbol);
+        if !is_higher && !is_longer {
+            return found;
+        }
+    }
+    Some((i, symbol))
+}
+
+// The index of what was found.
+fn index_of(found: Option<(usize, Sym)>) -> Option<usize>
+    ensures { result ≡ option_map (λ found. found.0) found }
+{
+    match found {
+        Some((i, _)) => Some(i),
+        None => None,
     }
 }
 
@@ -250,4 +323,10 @@ pub fn constants()
 pub fn laws()
     ensures permissive { PermissiveKeepsStrict }
     ensures range { DependsOnItsRange }
+{}
+
+/// Law: the symbol at an address stands there or below it, and no other that does so stands higher;
+/// where there is none, none stands there or below.
+pub fn addresses()
+    ensures { SymbolAtIsHighest }
 {}

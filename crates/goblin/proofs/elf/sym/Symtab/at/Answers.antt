@@ -1,0 +1,17 @@
+use Rattle.std.proofs.Common.{sym, ◌∙◌, arith}
+use Rattle.goblin.proofs.AddressLaws.{found_one_more, found_all}
+use Rattle.goblin.proofs.Positions.{some-within}
+use Rattle.goblin.proofs.elf.sym.Symtab.at.Goals as goal
+use Rattle.goblin.proofs.elf.sym.Symtab.at.Goals.{in-Some, in_default}
+
+pub returns : goal.returns
+returns c =
+    c.index_of.ensures ∙ found_all c.args.address c.args.self.now.symbols c.loop-i.i c.loop-i.found (omega arith) c.loop-i.invariant
+
+pub loop-i-preserved : goal.loop-i-preserved
+loop-i-preserved c =
+    elim c.match-get.branch [
+      | in-Some w ↦
+          found_one_more c.args.address c.args.self.now.symbols c.loop-i.i c.loop-i.found c.match-get.found w.in-Some.symbol (sym w.in-Some.ensures) (w.found-is ∙ w.nearer-found.ensures) c.loop-i.invariant
+      | in_default w ↦ absurd (some-within c.args.self.now.symbols c.loop-i.i (omega arith) (sym w.in_default.is ∙ c.get.ensures))
+    ]

@@ -1,0 +1,58 @@
+/* Tells of each address the function of an ELF file that it lies in, as `addr2line -fs` does where there are no lines:
+   symbolize FILE ADDRESS.., a line with the symbol's name, or ?? where none is there, and a line ??:0. */
+#include "goblin.h"
+#include <elf.h>
+#include <stdio.h>
+#include <stdlib.h>
+
+static uint8_t *bytes;
+static size_t len;
+static goblin_header_t header;
+static goblin_refusal_t why;
+
+static int refused(const char *what) {
+    uint8_t text[160];
+    uint64_t size = goblin_refusal_text(&why, text, sizeof text);
+    fprintf(stderr, "symbolize: %s: %.*s\n", what, (int)(size < sizeof text ? size : sizeof text), (const char *)text);
+    return 1;
+}
+
+static uint8_t *load(const char *path) {
+    FILE *file = fopen(path, "rb");
+    if (!file || fseek(file, 0, SEEK_END) || ftell(file) < 0) return NULL;
+    len = (size_t)ftell(file);
+    rewind(file);
+    uint8_t *all = malloc(len ? len : 1);
+    return all && fread(all, 1, len, file) == len ? all : NULL;
+}
+
+/* Finds the symbol table, or where there is none the dynamic one, and its strings. */
+static uint32_t find_table(goblin_section_t *table, goblin_section_t *names) {
+    uint64_t index;
+    uint32_t answer = goblin_section_by_type(bytes, len, &header, SHT_SYMTAB, 0, &index, &why);
+    if (answer == GOBLIN_END) answer = goblin_section_by_type(bytes, len, &header, SHT_DYNSYM, 0, &index, &why);
+    if (answer == GOBLIN_OK) answer = goblin_section(bytes, len, &header, index, table, &why);
+    return answer == GOBLIN_OK ? goblin_table(bytes, len, &header, table->sh_link, names, &why) : answer;
+}
+
+int main(int argc, char **argv) {
+    if (argc < 2 || !(bytes = load(argv[1]))) return fputs("usage: symbolize FILE ADDRESS..\n", stderr), 2;
+    if (goblin_header(bytes, len, &header, &why) != GOBLIN_OK) return refused("header");
+    goblin_section_t table, names;
+    uint32_t found = find_table(&table, &names);
+    if (found > GOBLIN_END) return refused("symbols");
+    for (int i = 2; i < argc; i++) {
+        uint64_t address = strtoull(argv[i], NULL, 16), index;
+        uint32_t answer = found;
+        goblin_symbol_t symbol;
+        goblin_range_t name;
+        if (answer == GOBLIN_OK)
+            answer = goblin_symbol_by_address(bytes, len, &header, &table.file, address, &index, &why);
+        if (answer == GOBLIN_OK) answer = goblin_symbol(bytes, len, &header, &table.file, index, &symbol, &why);
+        if (answer == GOBLIN_OK) answer = goblin_string_bytes(bytes, len, &names.file, symbol.st_name, &name, &why);
+        if (answer > GOBLIN_END) return refused("symbols");
+        if (answer == GOBLIN_OK) printf("%.*s\n??:0\n", (int)name.size, (const char *)bytes + name.offset);
+        else printf("??\n??:0\n");
+    }
+    return 0;
+}
