@@ -1,10 +1,12 @@
 -- Lines behind others.
-use Rattle.std.proofs.Common.{◌≡◌, ◌++◌, ℕ, List, ◌∷◌, Result, Ok, Err, ap, append_assoc, refl, sym, ◌∙◌}
+use Rattle.std.proofs.Common.{◌≡◌, ◌++◌, ℕ, List, ◌∷◌, Result, Ok, Err, ap, append_assoc, refl, sym, ◌∙◌, rules}
+use Rattle.goblin.specs.declared.elf.section_header.SectionHeader.{SectionHeader}
+use Rattle.goblin.specs.declared.error.Error.{Error}
 use Rattle.goblin.specs.Note.{NoteParts}
 use Rattle.goblin.specs.Refusal.{Refusal}
 use Rattle.goblin.specs.Steps.{◌>>=◌}
 use Rattle.goblin.specs.Texts.{◌&◌}
-use Rattle.goblin_uses.specs.Lines.{note_line, note_lines}
+use Rattle.goblin_uses.specs.Lines.{Adds, note_line, note_lines, sections_listed}
 
 -- the same lines behind some others
 abbrev pub behind : List ℕ → Result (List ℕ) Refusal → Result (List ℕ) Refusal
@@ -28,3 +30,21 @@ headed old head mid new right is (lines, given, added) =
 pub note_lines_ok : (lines : List ℕ) (note : NoteParts) (items : List (Result NoteParts Refusal))
     → behind lines (note_lines (Ok note ∷ items)) ≡ behind (lines ++ note_line note) (note_lines items)
 note_lines_ok lines note items = more lines (note_line note) (note_lines items)
+
+-- a section among others
+pub section_ok : (list : SectionHeader → Result (List ℕ) Refusal) (lines mine : List ℕ) (s : SectionHeader) (sections : List SectionHeader)
+    → list s ≡ Ok mine → behind lines (sections_listed list (s ∷ sections)) ≡ behind (lines ++ mine) (sections_listed list sections)
+section_ok list lines mine s sections given = rw given (more lines mine (sections_listed list sections))
+
+-- a section's lines behind those so far
+pub section_added : (list : SectionHeader → Result (List ℕ) Refusal) (old mid new : List ℕ) (all : Result (List ℕ) Refusal)
+    (result : Result (Unit {0}) Error) (s : SectionHeader) (left sections : List SectionHeader) → Adds mid new result (list s)
+    → result ≡ Ok tt → left ≡ s ∷ sections
+    → ((lines : List ℕ) × (mid ≡ old ++ lines) × (all ≡ behind lines (sections_listed list left)))
+    → (lines : List ℕ) × (new ≡ old ++ lines) × (all ≡ behind lines (sections_listed list sections))
+section_added list old mid new all (Ok done) s left sections (mine, given, added) ok is (lines, before, rest) = (
+  lines ++ mine,
+  added ∙ ap (λ text. text ++ mine) before ∙ append_assoc old lines mine,
+  rest ∙ ap (λ left. behind lines (sections_listed list left)) is ∙ section_ok list lines mine s sections given,
+)
+section_added list old mid new all (Err e) s left sections adds ok is so_far = search (rules, ok)

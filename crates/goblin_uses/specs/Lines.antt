@@ -1,5 +1,5 @@
 -- The lines that the example adds to a text, and what its calls that add them promise.
-use Rattle.std.specs.Prelude.{◌≡◌, ◌≢◌, ◌≤◌, ℕ, ◌+◌, ◌++◌, ◌==◌, not, Bool, IsPermutation, filter, List, Option, None, Some, [], ◌∷◌, length, codes, count_by, decimal, pos, unwrap_or, Result, Ok, Err}
+use Rattle.std.specs.Prelude.{◌≡◌, ◌≢◌, ◌≤◌, ℕ, ◌+◌, ◌++◌, ◌==◌, not, Bool, if◌then◌else◌, IsPermutation, filter, List, Option, None, Some, [], ◌∷◌, length, codes, count_by, decimal, pos, unwrap_or, Result, Ok, Err}
 use Rattle.std.specs.Fmt.{signed_decimal}
 use Rattle.goblin.specs.declared.container.Ctx.{Ctx}
 use Rattle.goblin.specs.declared.elf.header.Header.{Header}
@@ -10,17 +10,54 @@ use Rattle.goblin.specs.declared.error.Error.{Error}
 use Rattle.goblin.specs.declared.options.ParseMode.TheVariants.{Strict}
 use Rattle.goblin.specs.Note.{NoteParts}
 use Rattle.goblin.specs.NoteType.{note_type_name}
+use Rattle.goblin.specs.ReadHeader.{read_header}
 use Rattle.goblin.specs.Refusal.{Refusal, out_of_memory, refusal_of}
+use Rattle.goblin.specs.SectionHeaders.{section_headers_of}
 use Rattle.goblin.specs.Steps.{◌>>=◌, refuse_as}
-use Rattle.goblin.specs.Strtab.{StringTable, look_up, walked}
+use Rattle.goblin.specs.Strtab.{StringTable, look_up, table_of, walked}
 use Rattle.goblin.specs.Texts.{◌&◌, hexadecimal}
 use Rattle.goblin_base.specs.Entries.{places_of}
 use Rattle.goblin_base.specs.Search.{digits}
-use Rattle.goblin_uses.specs.Listed.{LargestFirst, is_function, last_zero, longest_step, notes_of, relocations_of}
+use Rattle.goblin_uses.specs.Listed.{LargestFirst, bytes_of, ctx_of, is_function, last_zero, linked, longest_step, notes_of, relocations_of, symbols_of}
 
 -- the end of a line
 abbrev pub newline : List ℕ
 newline = 10 ∷ []
+
+-- the line of a symbol: its value, and its name where it has one
+abbrev pub symbol_line : StringTable → Sym → List ℕ
+symbol_line names s =
+    hexadecimal s.st_value & codes " " & unwrap_or (look_up names s.st_name) [] & newline
+
+-- the lines of symbols
+abbrev pub symbol_lines : StringTable → List Sym → List ℕ
+symbol_lines names [] = []
+symbol_lines names (s ∷ symbols) = symbol_line names s & symbol_lines names symbols
+
+-- the lines of a section's symbols, whose names lie in the section that it links to: none where it is no symbol table (2)
+abbrev pub section_listed : List ℕ → List SectionHeader → Ctx → SectionHeader → Result (List ℕ) Refusal
+section_listed bytes sections ctx s =
+    if not (s.sh_type == 2) then Ok []
+    else do
+      table ← refuse_as refusal_of (symbols_of bytes s ctx)
+      names ← table_of Strict (bytes_of bytes (linked sections s.sh_link)) 0
+      Ok (symbol_lines names table.symbols)
+
+-- what is listed of each section, one after another, or the first refusal
+abbrev pub sections_listed : (SectionHeader → Result (List ℕ) Refusal) → List SectionHeader → Result (List ℕ) Refusal
+sections_listed list [] = Ok []
+sections_listed list (s ∷ sections) = do
+  lines ← list s
+  more ← sections_listed list sections
+  Ok (lines & more)
+
+-- the lines of a file's symbols, or the first refusal
+abbrev pub symbols_listed : List ℕ → Result (List ℕ) Refusal
+symbols_listed bytes = do
+  header ← refuse_as refusal_of (read_header bytes)
+  ctx ← refuse_as refusal_of (ctx_of header.0)
+  sections ← section_headers_of bytes header.0.e_shoff header.0.e_shnum ctx
+  sections_listed (section_listed bytes sections ctx) sections
 
 -- whether a relocation names a symbol: symbol 0 is none
 abbrev pub names_symbol : Reloc → Bool

@@ -2,9 +2,10 @@
 ghost use Rattle.std.specs.Prelude.{◌≡◌, ◌++◌, Err, IfErr, IfOk, IsPermutation, OnOk, alloc_error, count_by, filter, string_bytes};
 ghost use Rattle.std.specs.Option.{option_map};
 ghost use Rattle.goblin_uses.specs.Lines.{AddsSuch, IsFunctionsText, function_line, function_lines, functions_line};
-ghost use Rattle.goblin_uses.specs.Listed.{LargestFirst, bytes_of, functions_of, is_function, names_of, symbols_of};
+ghost use Rattle.goblin_uses.specs.Listed.{LargestFirst, functions_of, is_function, names_of, symbols_of};
 
 use crate::names::push_names;
+use crate::symbols::bytes_of;
 use goblin::container::Ctx;
 use goblin::elf::section_header::SectionHeader;
 use goblin::elf::sym::{Sym, Symtab};
@@ -35,16 +36,6 @@ pub fn functions_by_size(alloc: Global, symbols: &Symtab) -> Result<Vec<Sym>>
     }
     functions.sort_by_key(|function| Reverse(function.st_size))?;
     Ok(functions)
-}
-
-// The bytes of a section in the file, or none where it has none there.
-fn bytes_of<'a>(bytes: &'a [u8], section: Option<&SectionHeader>) -> &'a [u8]
-    ensures { result.now ≡ bytes_of bytes.now (option_map (λ s. s.now) section.entry) }
-{
-    match section.and_then(|section| section.file_range()) {
-        Some(range) => bytes.get(range).unwrap_or(&[]),
-        None => &[],
-    }
 }
 
 /// Adds the lines of the functions of a symbol section, whose names lie in a section of strings. Symbols that are refused

@@ -19,7 +19,7 @@ use relocations::push_relocations;
 use std::alloc::Global;
 use std::io;
 use std::io::Read;
-use symbols::push_symbols;
+use symbols::{linked, push_symbols};
 
 // Adds the lines of a file with these bytes, up to the first refusal.
 fn list(alloc: Global, text: &mut String, bytes: &[u8]) -> Result<()> {
@@ -31,7 +31,7 @@ fn list(alloc: Global, text: &mut String, bytes: &[u8]) -> Result<()> {
     for section in &sections {
         match section.sh_type {
             SHT_SYMTAB => {
-                let strings = sections.get(section.sh_link as usize);
+                let strings = linked(sections.as_slice(), section.sh_link);
                 push_functions(alloc, text, bytes, section, strings, ctx)?;
             }
             SHT_REL | SHT_RELA => push_relocations(text, bytes, section, &header, ctx)?,

@@ -1,37 +1,90 @@
 //! The symbols of a file, each with its name.
+ghost use Rattle.std.specs.Prelude.{◌≡◌, ◌++◌, OnOk, string_bytes};
+ghost use Rattle.std.specs.Option.{option_map};
+ghost use Rattle.goblin_uses.specs.Lines.{Adds, section_listed, symbol_lines, symbols_listed};
+ghost use Rattle.goblin_uses.specs.Listed.{bytes_of, linked};
 
 use goblin::container::Ctx;
 use goblin::elf::header::Header;
-use goblin::elf::section_header::{SHT_SYMTAB, SectionHeader};
+use goblin::elf::section_header::{SHN_UNDEF, SHT_SYMTAB, SectionHeader};
 use goblin::elf::sym::{Sym, Symtab};
 use goblin::error::Result;
 use goblin::scroll::{LE, TryFromCtx};
 use goblin::strtab::Strtab;
-use std::alloc::Global;
+use std::alloc::{AllocError, Global};
 
-/// Adds a line for each symbol of a file with these bytes: its value, and its name where it has one.
-pub fn push_symbols(alloc: Global, text: &mut String, bytes: &[u8]) -> Result<()> {
+/// Adds a line for each symbol of a file with these bytes: its value, and its name where it has one. What can't be read
+/// is an error, and else want of memory alone.
+pub fn push_symbols(alloc: Global, text: &mut String, bytes: &[u8]) -> Result<()>
+    ensures { let right = symbols_listed bytes.now in
+        Adds (string_bytes text.old) (string_bytes text.new) result right }
+{
     let (header, _) = Header::try_from_ctx(bytes, LE)?;
     let ctx = Ctx::new(header.container()?, header.endianness()?);
     let count = usize::from(header.e_shnum);
     let sections = SectionHeader::parse(alloc, bytes, header.e_shoff as usize, count, ctx)?;
     for section in &sections {
-        if section.sh_type != SHT_SYMTAB {
-            continue;
-        }
-        let count = section.sh_size as usize / Sym::size(ctx.container);
-        let symbols = Symtab::parse(bytes, section.sh_offset as usize, count, ctx)?;
-        let strings = sections.get(section.sh_link as usize);
-        let strings = match strings.and_then(|strings| strings.file_range()) {
-            Some(range) => bytes.get(range).unwrap_or(&[]),
-            None => &[],
-        };
-        let names = Strtab::new_preparsed(alloc, strings, 0)?;
-        for symbol in &symbols {
-            let value = symbol.st_value;
-            let name = names.get_at(symbol.st_name).unwrap_or("");
-            write!(text, "{value:x} {name}\n")?;
-        }
+        push_section(alloc, text, bytes, sections.as_slice(), section, ctx)?;
+    }
+    Ok(())
+}
+
+// Adds the lines of a section's symbols, where it is a symbol table.
+fn push_section(
+    alloc: Global,
+    text: &mut String,
+    bytes: &[u8],
+    sections: &[SectionHeader],
+    section: &SectionHeader,
+    ctx: Ctx,
+) -> Result<()>
+    ensures { let right = section_listed bytes.now sections.now ctx section.now in
+        Adds (string_bytes text.old) (string_bytes text.new) result right }
+{
+    if section.sh_type != SHT_SYMTAB {
+        return Ok(());
+    }
+    let count = section.sh_size as usize / Sym::size(ctx.container);
+    let symbols = Symtab::parse(bytes, section.sh_offset as usize, count, ctx)?;
+    let strings = linked(sections, section.sh_link);
+    let names = Strtab::new_preparsed(alloc, bytes_of(bytes, strings), 0)?;
+    push_each(text, &names, &symbols)?;
+    Ok(())
+}
+
+/// The bytes of a section in the file, or none where it has none there.
+pub fn bytes_of<'a>(bytes: &'a [u8], section: Option<&SectionHeader>) -> &'a [u8]
+    ensures { result.now ≡ bytes_of bytes.now (option_map (λ s. s.now) section.entry) }
+{
+    match section.and_then(|section| section.file_range()) {
+        Some(range) => bytes.get(range).unwrap_or(&[]),
+        None => &[],
+    }
+}
+
+/// The section that another one links to by its index: index 0 is none.
+pub fn linked(sections: &[SectionHeader], index: u32) -> Option<&SectionHeader>
+    ensures { option_map (λ s. s.now) result ≡ linked sections.now index }
+{
+    if index == SHN_UNDEF {
+        return None;
+    }
+    sections.get(index as usize)
+}
+
+// Adds a line for each symbol.
+fn push_each(
+    text: &mut String,
+    names: &Strtab,
+    symbols: &Symtab,
+) -> std::result::Result<(), AllocError>
+    ensures { OnOk result
+        (string_bytes text.new ≡ string_bytes text.old ++ symbol_lines names.now symbols.now.symbols) }
+{
+    for symbol in symbols {
+        let value = symbol.st_value;
+        let name = names.get_at(symbol.st_name).unwrap_or("");
+        write!(text, "{value:x} {name}\n")?;
     }
     Ok(())
 }

@@ -1,0 +1,30 @@
+use Rattle.std.proofs.Common.{rules, string_bytes, ◌+◌, drop, slice_index_or}
+use Rattle.std.proofs.lemmas.List.{drop_more}
+use Rattle.goblin.specs.declared.elf.section_header.SectionHeader.{SectionHeader}
+use Rattle.goblin_uses.specs.Lines.{section_listed, sections_listed}
+use Rattle.goblin_uses.proofs.Behind.{section_added}
+use Rattle.goblin_uses.proofs.symbols.push_symbols.Goals as goal
+
+-- what is read past the end of a list, which nothing does
+abbrev past : SectionHeader
+past = record {
+  sh_name = 0;
+  sh_type = 0;
+  sh_flags = 0;
+  sh_addr = 0;
+  sh_offset = 0;
+  sh_size = 0;
+  sh_link = 0;
+  sh_info = 0;
+  sh_addralign = 0;
+  sh_entsize = 0;
+}
+
+pub loop-section-preserved : goal.loop-section-preserved
+loop-section-preserved c =
+    let items = c.deref-section-items.result.now in
+    let list = section_listed c.args.bytes.now items c.new-ctx.result in
+    let index = c.loop-section.section-index in
+    section_added list (string_bytes c.args.text.now) (string_bytes c.loop-section.text) (string_bytes c.push_section.new.text) (sections_listed list items)
+    c.push_section.result (slice_index_or items index past) (drop index items) (drop (index + 1) items) (search rules) (search rules)
+    (drop_more items index past (search rules)) c.loop-section.invariant
