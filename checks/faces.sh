@@ -102,6 +102,13 @@ check_c() {
     for program in nm size symbolize values made search; do build $program -std=c99; done
     quietly "$folder/search"
     echo "search.c: $(wc -l < "$folder/output") searches among long names stay within their limit"
+    if echo '#include <gelf.h>' | cc -E - > "$folder/output" 2>&1; then
+        quietly cc -std=c99 $strict -Ifaces/c -o "$folder/bench" faces/c/bench.c -L"$library" -lgoblin_c -lelf
+        quietly "$folder/bench" "$folder/nm"
+        echo "bench.c finds what libelf does"
+    else
+        echo "no header of libelf here: bench.c is not compiled"
+    fi
     build damaged -std=c99 $sanitizers
     mkdir "$folder/files"
     "$folder/made" "$folder/files"
