@@ -13,7 +13,7 @@ impl<'a> File<'a> {
         &self.0[range.offset as usize..][..range.size as usize]
     }
 
-    /// Some bytes that it told of as text: they are tested once more, so that no unsafe code rests upon it.
+    /// Some bytes that it told of as text, which is tested once more.
     pub fn text(self, range: Range) -> &'a str {
         str::from_utf8(self.slice(range)).expect("the library tells places of text")
     }

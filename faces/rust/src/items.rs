@@ -1,18 +1,24 @@
 //! Iterators over the lists of a file, of which the library tells some items at a time.
 use crate::error::{Error, Result};
-use std::fmt;
 use std::iter::FusedIterator;
 use std::ops::Range;
+use std::{fmt, mem};
 
-// How many items are asked for at once.
-const BATCH: usize = 64;
+// How many items are asked for at once at the back; in front as many as the batch has room for beside them.
+const BACK: u64 = 16;
 
 /// A list of a file: symbols, relocations, section headers or program headers.
 pub trait List {
     /// What the library tells of an item.
-    type Raw: Copy + Default;
+    type Raw: Copy;
+    /// Room for some.
+    type Batch: AsRef<[Self::Raw]> + AsMut<[Self::Raw]> + Clone;
     /// An item.
     type Item: From<Self::Raw>;
+
+    /// Room in which nothing is yet.
+    #[doc(hidden)]
+    fn room() -> Self::Batch;
 
     /// How many items there are.
     #[doc(hidden)]
@@ -27,14 +33,14 @@ pub trait List {
 #[derive(Clone)]
 pub struct Items<L: List> {
     list: L,
-    // The indices of the items that are left.
-    left: Range<u64>,
+    // What was asked for: first for the front, behind it for the back.
+    batch: L::Batch,
+    // What is left: places of the batch, then indices of the list, then places of the batch.
+    front: Range<u64>,
+    middle: Range<u64>,
+    back: Range<u64>,
     // Why the list is refused, until that is told.
     refusal: Option<Error>,
-    // The index of the first item of the batch, and how many of the batch are filled.
-    first: u64,
-    filled: u64,
-    batch: [L::Raw; BATCH],
 }
 
 impl<L: List> Items<L> {
@@ -43,25 +49,51 @@ impl<L: List> Items<L> {
             Ok(count) => (count, None),
             Err(e) => (0, Some(e)),
         };
-        Items { list, left: 0..count, refusal, first: 0, filled: 0, batch: [L::Raw::default(); BATCH] }
+        Items { list, batch: L::room(), front: 0..0, middle: 0..count, back: 0..0, refusal }
     }
 
-    // The item at an index that is left. Where it isn't there yet, those from another index on are asked for with it.
-    #[inline]
-    fn at(&mut self, index: u64, from: u64) -> Result<L::Item> {
-        if index.wrapping_sub(self.first) >= self.filled {
-            self.fill(index, from)?;
+    fn room_in_front(&self) -> u64 {
+        self.batch.as_ref().len() as u64 - BACK
+    }
+
+    // Fills the batch from a place on with the items at some indices. Where they are refused, nothing else is left.
+    fn fill(&mut self, place: u64, indices: Range<u64>) -> Range<u64> {
+        let places = place..place + (indices.end - indices.start);
+        let room = &mut self.batch.as_mut()[places.start as usize..places.end as usize];
+        match self.list.fill(indices.start, room) {
+            Ok(filled) => assert_eq!(filled, Some(room.len() as u64), "the library fills the room that there are items for"),
+            Err(e) => {
+                (self.front, self.middle, self.back, self.refusal) = (0..0, 0..0, 0..0, Some(e));
+                return 0..0;
+            }
         }
-        Ok(L::Item::from(self.batch[(index - self.first) as usize]))
+        places
     }
 
+    // Whether there is something in front now, where there was nothing.
     #[inline(never)]
-    fn fill(&mut self, index: u64, from: u64) -> Result<()> {
-        let room = (self.left.end - from).min(BATCH as u64) as usize;
-        (self.first, self.filled) = (from, 0);
-        self.filled = self.list.fill(from, &mut self.batch[..room])?.unwrap_or(0);
-        assert!(index - from < self.filled, "the library fills the room that there are items for");
-        Ok(())
+    fn fill_front(&mut self) -> bool {
+        if self.middle.is_empty() {
+            self.front = mem::take(&mut self.back);
+        } else {
+            let Range { start, end } = self.middle;
+            self.middle.start = end.min(start + self.room_in_front());
+            self.front = self.fill(0, start..self.middle.start);
+        }
+        !self.front.is_empty()
+    }
+
+    // Whether there is something at the back now, where there was nothing.
+    #[inline(never)]
+    fn fill_back(&mut self) -> bool {
+        if self.middle.is_empty() {
+            self.back = mem::take(&mut self.front);
+        } else {
+            let Range { start, end } = self.middle;
+            self.middle.end = start.max(end.saturating_sub(BACK));
+            self.back = self.fill(self.room_in_front(), self.middle.end..end);
+        }
+        !self.back.is_empty()
     }
 }
 
@@ -70,25 +102,30 @@ impl<L: List> Iterator for Items<L> {
 
     #[inline]
     fn next(&mut self) -> Option<Self::Item> {
-        if self.left.is_empty() {
+        if self.front.is_empty() && !self.fill_front() {
             return self.refusal.take().map(Err);
         }
-        let index = self.left.start;
-        let item = self.at(index, index);
-        self.left.start += 1;
-        Some(item)
+        let place = self.front.start as usize;
+        self.front.start += 1;
+        Some(Ok(L::Item::from(self.batch.as_ref()[place])))
     }
 
     fn size_hint(&self) -> (usize, Option<usize>) {
-        let left = (self.left.end - self.left.start) as usize + usize::from(self.refusal.is_some());
+        let left: u64 = [&self.front, &self.middle, &self.back].map(|range| range.end - range.start).iter().sum();
+        let left = left as usize + usize::from(self.refusal.is_some());
         (left, Some(left))
     }
 
     fn nth(&mut self, n: usize) -> Option<Self::Item> {
+        let mut n = n as u64;
         if n > 0 {
             self.refusal = None;
         }
-        self.left.start = self.left.end.min(self.left.start.saturating_add(n as u64));
+        for range in [&mut self.front, &mut self.middle, &mut self.back] {
+            let jump = n.min(range.end - range.start);
+            range.start += jump;
+            n -= jump;
+        }
         self.next()
     }
 
@@ -102,14 +139,13 @@ impl<L: List> Iterator for Items<L> {
 }
 
 impl<L: List> DoubleEndedIterator for Items<L> {
+    #[inline]
     fn next_back(&mut self) -> Option<Self::Item> {
-        if self.left.is_empty() {
+        if self.back.is_empty() && !self.fill_back() {
             return self.refusal.take().map(Err);
         }
-        let index = self.left.end - 1;
-        let item = self.at(index, index.saturating_sub(BATCH as u64 - 1).max(self.left.start));
-        self.left.end = index;
-        Some(item)
+        self.back.end -= 1;
+        Some(Ok(L::Item::from(self.batch.as_ref()[self.back.end as usize])))
     }
 }
 
@@ -119,6 +155,6 @@ impl<L: List> FusedIterator for Items<L> {}
 
 impl<L: List> fmt::Debug for Items<L> {
     fn fmt(&self, f: &mut fmt::Formatter<'_>) -> fmt::Result {
-        f.debug_struct("Items").field("left", &self.left).field("refusal", &self.refusal).finish_non_exhaustive()
+        f.debug_struct("Items").field("left", &self.len()).field("refusal", &self.refusal).finish_non_exhaustive()
     }
 }

@@ -44,7 +44,12 @@ pub type ProgramHeaderIterator<'a> = Items<ProgramHeaders<'a>>;
 
 impl List for ProgramHeaders<'_> {
     type Raw = ProgramHeader;
+    type Batch = [ProgramHeader; 32];
     type Item = ProgramHeader;
+
+    fn room() -> Self::Batch {
+        [Default::default(); 32]
+    }
 
     fn count(&self) -> Result<u64> {
         self.0.program_header_count().map(|count| count as u64)

@@ -78,7 +78,12 @@ impl<'a> RelocSection<'a> {
 
 impl List for RelocSection<'_> {
     type Raw = raw::Reloc;
+    type Batch = [raw::Reloc; 80];
     type Item = Reloc;
+
+    fn room() -> Self::Batch {
+        [Default::default(); 80]
+    }
 
     fn count(&self) -> Result<u64> {
         let count = sys::goblin_reloc_count(&self.file, &self.header, &self.range, self.is_rela)?;

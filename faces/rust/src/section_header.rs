@@ -61,7 +61,12 @@ pub type SectionHeaderIterator<'a> = Items<SectionHeaders<'a>>;
 
 impl List for SectionHeaders<'_> {
     type Raw = SectionHeader;
+    type Batch = [SectionHeader; 32];
     type Item = SectionHeader;
+
+    fn room() -> Self::Batch {
+        [Default::default(); 32]
+    }
 
     fn count(&self) -> Result<u64> {
         self.0.section_header_count().map(|count| count as u64)

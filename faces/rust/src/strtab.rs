@@ -2,7 +2,6 @@
 use crate::error::Result;
 use crate::file::File;
 use crate::{raw, sys};
-use std::str;
 
 /// A string table: a range of the file.
 #[derive(Clone, Copy, Debug, Default)]
@@ -17,18 +16,7 @@ impl<'a> Strtab<'a> {
     /// # Errors
     /// Where the table doesn't lie in the file, and where the string is no UTF-8.
     pub fn get(&self, offset: usize) -> Result<Option<&'a str>> {
-        let bytes = match self.get_bytes(offset)? {
-            Some(bytes) => bytes,
-            None => return Ok(None),
-        };
-        // (what is no text the library refuses; so its test and this one aren't both made of each name)
-        match str::from_utf8(bytes) {
-            Ok(text) => Ok(Some(text)),
-            Err(_) => {
-                let place = sys::goblin_string(&self.file, &self.range, offset as u64)?;
-                Ok(place.map(|place| self.file.text(place)))
-            }
-        }
+        sys::string(self.file.0, &self.range, offset as u64)
     }
 
     /// The bytes of the string at an offset, text or not, or `None` past the table's end.

@@ -140,7 +140,12 @@ impl<'a> Symtab<'a> {
 
 impl List for Symtab<'_> {
     type Raw = Sym;
+    type Batch = [Sym; 80];
     type Item = Sym;
+
+    fn room() -> Self::Batch {
+        [Default::default(); 80]
+    }
 
     fn count(&self) -> Result<u64> {
         let count = sys::goblin_symbol_count(&self.strtab.file, &self.header, &self.range)?;

@@ -4,7 +4,9 @@
 //! writes to the places that it is handed, no further than their length. So each is a safe function. Nothing compares
 //! these declarations with the library's but the tests.
 use crate::error::{Error, Result};
+use crate::file::File;
 use crate::raw::{Header, Note, ProgramHeader, Range, Refusal, Reloc, SectionHeader, Sym};
+use std::str;
 
 // A call on a file's bytes and what else is given; `by` a name; `into` some items, of which it tells how many were filled.
 // It answers an item, `None` past the last one or where nothing has that name, or why the file is refused.
@@ -56,6 +58,14 @@ calls! {
     fn goblin_relocs(header: &Header, relocs: &Range, is_rela: bool, first: u64) into [Reloc] -> u64;
     fn goblin_note(header: &Header, notes: &Range, alignment: u64, offset: u64) -> Note;
     fn goblin_string(strings: &Range, offset: u64) -> Range;
+}
+
+/// The string whose place `goblin_string` tells. It is not tested once more for being text.
+pub fn string<'a>(bytes: &'a [u8], strings: &Range, offset: u64) -> Result<Option<&'a str>> {
+    let string = goblin_string(bytes, strings, offset)?.map(|place| File(bytes).slice(place));
+    debug_assert!(string.map_or(true, |string| str::from_utf8(string).is_ok()));
+    // SAFETY: where the library tells a string, it is UTF-8, which is proved of it.
+    Ok(string.map(|string| unsafe { str::from_utf8_unchecked(string) }))
 }
 
 // A text that a call writes into the room that it is handed, as much of it as there is room for. It answers the whole text's size.
