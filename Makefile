@@ -54,6 +54,10 @@ edits:
 bench:
 	@sh checks/bench.sh
 
+# Times the library for C beside libelf, where its header is installed: make bench-faces [FILE=/usr/lib/libx.so] [CPU=x86-64-v2]
+bench-faces:
+	@sh checks/bench_faces.sh
+
 # Installs the library with its header, pkg-config file and Rust crate: make install PREFIX=/usr/local [DESTDIR=/tmp/root]
 # [CPU=x86-64-v2]; or puts the same into an archive, whose name has the version and the target.
 PREFIX ?= /usr/local
@@ -64,4 +68,4 @@ install:
 dist:
 	sh faces/install.sh --archive
 
-.PHONY: install dist try show test gate refused proved words faces limits edits bench
+.PHONY: install dist try show test gate refused proved words faces limits edits bench bench-faces

@@ -102,6 +102,13 @@ check_c() {
     for program in nm size symbolize values made search; do build $program -std=c99; done
     quietly "$folder/search"
     echo "search.c: $(wc -l < "$folder/output") searches among long names stay within their limit"
+    if echo '#include <gelf.h>' | cc -E - > "$folder/output" 2>&1; then
+        quietly cc -std=c99 $strict -Ifaces/c -o "$folder/bench" faces/c/bench.c -L"$library" -lgoblin_c -lelf
+        quietly "$folder/bench" "$folder/nm"
+        echo "bench.c finds what libelf does"
+    else
+        echo "no header of libelf here: bench.c is not compiled"
+    fi
     build damaged -std=c99 $sanitizers
     mkdir "$folder/files"
     "$folder/made" "$folder/files"
@@ -127,7 +134,7 @@ check_c() {
 check_rust() {
     export GOBLIN_C_LIB="$library" CARGO_TARGET_DIR="$folder/target"
     quietly cargo test --offline --manifest-path faces/rust/Cargo.toml
-    awk '/^test result: ok\. / { tests += $4 } END { print "the Rust crate passes " tests + 0 " tests"; exit tests < 11 }' \
+    awk '/^test result: ok\. / { tests += $4 } END { print "the Rust crate passes " tests + 0 " tests"; exit tests < 26 }' \
         "$folder/output"
     # (cargo has built the examples beside the tests)
     examples=$folder/target/debug/examples
@@ -135,7 +142,16 @@ check_rust() {
         "$examples/symbols" "$file" > "$folder/listed"
         [ "$(grep -c -x -e '12 function' -e '18 été' "$folder/listed")" -eq 2 ] || { echo "symbols.rs: $file"; exit 1; }
     done
-    [ "$("$examples/symbols" "$folder/short" 2>&1)" = 'Error: Malformed entity: Too small' ] || { echo "symbols.rs: a short file"; exit 1; }
+    for example in symbols relocations; do
+        said=$("$examples/$example" "$folder/short" 2>&1) && { echo "$example.rs: a short file"; exit 1; }
+        [ "$said" = "$example: $folder/short: Malformed entity: Too small" ] || { echo "$example.rs: $said"; exit 1; }
+    done
+    quietly cargo package --offline --allow-dirty --no-verify --list --manifest-path faces/rust/Cargo.toml
+    if cargo clippy --version > "$folder/output" 2>&1; then
+        quietly cargo clippy --offline --all-targets --manifest-path faces/rust/Cargo.toml -- -D warnings
+    else
+        echo "no clippy here: the Rust crate is not linted"
+    fi
 }
 
 # ---- files of this machine ----

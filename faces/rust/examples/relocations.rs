@@ -3,12 +3,11 @@
 use goblin_rs::error::Result;
 use goblin_rs::reloc::Reloc;
 use goblin_rs::section_header::SectionHeader;
-use goblin_rs::sym::Symtab;
+use goblin_rs::sym::{Symtab, STT_SECTION};
 use goblin_rs::Elf;
 use std::io::{self, Write};
-use std::{env, error, fs, process};
-
-const STT_SECTION: u8 = 3;
+use std::process::ExitCode;
+use std::{env, error, ffi, fs};
 
 /// The name of a relocation's symbol: of the symbol of a section that section's.
 fn name_of<'a>(elf: &Elf<'a>, symbols: &Symtab<'a>, reloc: &Reloc) -> Result<&'a str> {
@@ -34,13 +33,16 @@ fn symbols_of<'a>(elf: &Elf<'a>, relocs: &SectionHeader) -> Result<Option<Symtab
     }
 }
 
-fn list(elf: &Elf, out: &mut impl Write) -> std::result::Result<(), Box<dyn error::Error>> {
+fn list(path: &ffi::OsStr) -> std::result::Result<(), Box<dyn error::Error>> {
+    let bytes = fs::read(path)?;
+    let elf = &Elf::parse(&bytes)?;
+    let mut out = io::BufWriter::new(io::stdout().lock());
     let section_names = elf.shdr_strtab()?;
     for section in elf.shdr_relocs() {
         let (section, relocs) = section?;
         writeln!(out, "{}:", section_names.get(section.sh_name)?.unwrap_or(""))?;
         let symbols = symbols_of(elf, &section)?;
-        for reloc in relocs.iter() {
+        for reloc in &relocs {
             let reloc = reloc?;
             let name = match &symbols {
                 Some(symbols) => name_of(elf, symbols, &reloc)?,
@@ -57,14 +59,19 @@ fn list(elf: &Elf, out: &mut impl Write) -> std::result::Result<(), Box<dyn erro
     Ok(out.flush()?)
 }
 
-fn main() -> std::result::Result<(), Box<dyn error::Error>> {
+fn main() -> ExitCode {
     let path = match env::args_os().nth(1) {
         Some(path) => path,
         None => {
             eprintln!("usage: relocations FILE");
-            process::exit(2);
+            return ExitCode::from(2);
         }
     };
-    let bytes = fs::read(path)?;
-    list(&Elf::parse(&bytes)?, &mut io::BufWriter::new(io::stdout().lock()))
+    match list(&path) {
+        Ok(()) => ExitCode::SUCCESS,
+        Err(why) => {
+            eprintln!("relocations: {}: {why}", path.to_string_lossy());
+            ExitCode::FAILURE
+        }
+    }
 }

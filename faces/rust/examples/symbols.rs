@@ -1,15 +1,33 @@
 //! Lists the symbols of an ELF file, each with its value and its name.
 use goblin_rs::Elf;
-use std::{env, error, fs};
+use std::process::ExitCode;
+use std::{env, error, ffi, fs};
 
-fn main() -> Result<(), Box<dyn error::Error>> {
-    let bytes = fs::read(env::args_os().nth(1).ok_or("usage: symbols FILE")?)?;
+fn list(path: &ffi::OsStr) -> Result<(), Box<dyn error::Error>> {
+    let bytes = fs::read(path)?;
     let elf = Elf::parse(&bytes)?;
     if let Some(symbols) = elf.syms()? {
-        for symbol in symbols.iter() {
+        for symbol in &symbols {
             let symbol = symbol?;
             println!("{:x} {}", symbol.st_value, symbols.name(&symbol)?.unwrap_or(""));
         }
     }
     Ok(())
+}
+
+fn main() -> ExitCode {
+    let path = match env::args_os().nth(1) {
+        Some(path) => path,
+        None => {
+            eprintln!("usage: symbols FILE");
+            return ExitCode::from(2);
+        }
+    };
+    match list(&path) {
+        Ok(()) => ExitCode::SUCCESS,
+        Err(why) => {
+            eprintln!("symbols: {}: {why}", path.to_string_lossy());
+            ExitCode::FAILURE
+        }
+    }
 }

@@ -3,14 +3,14 @@ use crate::{raw, sys};
 use std::{error, fmt, result};
 
 /// Why a file is refused. Its text is the library's, by `Debug` too: so a `main` that answers it tells it in words.
-#[derive(Clone, Copy, PartialEq, Eq)]
+#[derive(Clone, Copy, PartialEq, Eq, Hash)]
 pub struct Error(raw::Refusal);
 
 /// An answer, or why the file is refused.
 pub type Result<T> = result::Result<T, Error>;
 
-/// What kind of refusal it is, with the numbers that belong to it.
-#[derive(Clone, Copy, Debug, PartialEq, Eq)]
+/// What kind of refusal it is, with the numbers that belong to it, in the order of `goblin.h`. More may come.
+#[derive(Clone, Copy, Debug, PartialEq, Eq, Hash)]
 #[non_exhaustive]
 pub enum Kind {
     /// The file doesn't begin with the magic number, but with these eight bytes, read in little order.
@@ -25,11 +25,95 @@ pub enum Kind {
     /// Something starts at the file's end or past it, at this offset.
     BadOffset(u64),
     /// A name is no text.
-    BadInput,
-    /// More section headers or program headers than the file could hold: so many.
-    BufferTooShort(u64),
-    /// What the file says of itself is no ELF file's: [`Error`]'s text tells what.
-    Malformed,
+    BadInput {
+        /// How many bytes there are from there to the end of what is read.
+        size: u64,
+        /// What is wrong with it: "invalid utf8".
+        msg: &'static str,
+    },
+    /// More items than the file could hold: their number, and whether they are "section headers" or "program headers".
+    BufferTooShort(u64, &'static str),
+    /// Memory is wanting. No call here takes any.
+    OutOfMemory,
+    /// The class byte of a header that is written.
+    InvalidClass(u8),
+    /// The order byte of a header that is written.
+    InvalidEndianness(u8),
+    /// The file has fewer than 16 bytes.
+    TooSmall,
+    /// The class byte is neither 1 nor 2.
+    ElfClass(u8),
+    /// The order byte is neither 1 nor 2.
+    DataType(u8),
+    /// The order byte of a raw header is neither 1 nor 2.
+    Data(u8),
+    /// Notes are aligned to neither 4 nor 8.
+    NoteAlign(u64),
+    /// A symbol table starts at the file's end or past it.
+    SymtabOffset {
+        /// Where it starts.
+        offset: u64,
+        /// The file's length.
+        len: u64,
+    },
+    /// The size of a symbol table passes 64 bits.
+    TooManySymbols {
+        /// Where it starts.
+        offset: u64,
+        /// How many symbols there are.
+        count: u64,
+    },
+    /// A symbol table ends past the file's end.
+    SymtabPast {
+        /// Its size.
+        requested: u64,
+        /// How many bytes are left at its offset.
+        available: u64,
+    },
+    /// A string table starts past the file's end.
+    StrtabOffset {
+        /// Where it starts.
+        offset: u64,
+        /// The file's length.
+        len: u64,
+    },
+    /// A string table ends past the file's end.
+    StrtabRange {
+        /// Its size.
+        size: u64,
+        /// Where it starts.
+        offset: u64,
+        /// The file's length.
+        len: u64,
+        /// Whether its end passes 64 bits.
+        overflow: bool,
+    },
+    /// A section ends past the file's end.
+    SectionOffset {
+        /// Where its name lies in the section names.
+        name: u64,
+        /// Its size.
+        size: u64,
+        /// Where it starts.
+        offset: u64,
+        /// Whether its end passes 64 bits.
+        overflow: bool,
+    },
+    /// The addresses of a section pass 64 bits.
+    SectionAddr {
+        /// Where its name lies in the section names.
+        name: u64,
+        /// Its size.
+        size: u64,
+        /// Its address.
+        addr: u64,
+        /// True.
+        overflow: bool,
+    },
+    /// A number doesn't fit.
+    IntegerFit,
+    /// A later library's refusal, by its number.
+    Other(u32),
 }
 
 impl Error {
@@ -39,14 +123,32 @@ impl Error {
 
     /// Its kind.
     pub fn kind(&self) -> Kind {
-        let raw::Refusal { kind, first, second, .. } = self.0;
+        let raw::Refusal { kind, item, first, second, third, fourth } = self.0;
+        let (byte, overflow) = (first as u8, fourth != 0);
+        let item = ["", "invalid utf8", "section headers", "program headers"].get(item as usize).copied().unwrap_or("");
         match kind {
             2 => Kind::BadMagic(first),
             3 => Kind::TooBig { size: first, len: second },
             4 => Kind::BadOffset(first),
-            5 => Kind::BadInput,
-            6 => Kind::BufferTooShort(first),
-            _ => Kind::Malformed,
+            5 => Kind::BadInput { size: first, msg: item },
+            6 => Kind::BufferTooShort(first, item),
+            7 => Kind::OutOfMemory,
+            10 => Kind::InvalidClass(byte),
+            11 => Kind::InvalidEndianness(byte),
+            12 => Kind::TooSmall,
+            13 => Kind::ElfClass(byte),
+            14 => Kind::DataType(byte),
+            15 => Kind::Data(byte),
+            16 => Kind::NoteAlign(first),
+            17 => Kind::SymtabOffset { offset: first, len: second },
+            18 => Kind::TooManySymbols { offset: first, count: second },
+            19 => Kind::SymtabPast { requested: first, available: second },
+            20 => Kind::StrtabOffset { offset: first, len: second },
+            21 => Kind::StrtabRange { size: first, offset: second, len: third, overflow },
+            22 => Kind::SectionOffset { name: first, size: second, offset: third, overflow },
+            23 => Kind::SectionAddr { name: first, size: second, addr: third, overflow },
+            24 => Kind::IntegerFit,
+            other => Kind::Other(other),
         }
     }
 }
@@ -54,7 +156,9 @@ impl Error {
 /// The library's text of it.
 impl fmt::Display for Error {
     fn fmt(&self, f: &mut fmt::Formatter<'_>) -> fmt::Result {
-        f.write_str(&sys::goblin_refusal_text(&self.0))
+        let mut text = vec![0; sys::goblin_refusal_text(&self.0, &mut [])];
+        sys::goblin_refusal_text(&self.0, &mut text);
+        f.write_str(&String::from_utf8_lossy(&text))
     }
 }
 
@@ -75,6 +179,53 @@ mod tests {
     fn texts<'a>(source: &'a str, of: &str) -> Vec<&'a str> {
         let body = source.split(of).nth(1).unwrap().split("\n}\n").next().unwrap();
         body.split("#[error(\"").skip(1).map(|rest| rest.split("\")]").next().unwrap()).collect()
+    }
+
+    // The numbers of `goblin.h` behind a line: of each its comment, its name and its number.
+    fn numbers_behind(line: &str) -> Vec<(String, String, u32)> {
+        let body = include_str!("../../c/goblin.h").split(line).nth(1).unwrap().split("};").next().unwrap();
+        let (mut all, mut comment) = (Vec::new(), String::new());
+        for line in body.lines().map(str::trim) {
+            match line.trim_end_matches(',').split_once(" = ") {
+                Some((name, number)) if line.starts_with("GOBLIN_") => {
+                    all.push((comment.clone(), name.replace("GOBLIN_", ""), number.parse().unwrap()));
+                }
+                _ if line.starts_with("/*") => comment = line.to_string(),
+                _ => comment = comment + " " + line,
+            }
+        }
+        all
+    }
+
+    // How many numbers a comment of `goblin.h` names: behind the colon, each but the first behind a semicolon.
+    fn numbers(comment: &str) -> usize {
+        let numbers = comment.split_once(": ").map(|(_, numbers)| numbers.split(". ").next().unwrap());
+        numbers.map_or(0, |numbers| numbers.split(';').count())
+    }
+
+    #[test]
+    fn kinds_are_those_of_goblin_h() {
+        let refusals = numbers_behind("GOBLIN_END = 1,\n");
+        assert_eq!(refusals.len(), 21);
+        for (comment, name, number) in refusals {
+            let why = raw::Refusal { kind: number, item: 0, first: 101, second: 102, third: 103, fourth: 1 };
+            let told = format!("{:?}", Error(why).kind()).replace("true", "1");
+            let camel: String = name.split('_').map(|word| word[..1].to_string() + &word[1..].to_lowercase()).collect();
+            let words: Vec<_> = told.split(|c: char| !c.is_alphanumeric()).filter(|word| !word.is_empty()).collect();
+            assert_eq!(words[0], camel, "{number}");
+            let found: Vec<_> = words.iter().filter(|word| word.parse::<u64>().is_ok()).collect();
+            assert_eq!(found, [&"101", &"102", &"103", &"1"][..numbers(&comment)], "{comment}");
+        }
+        let items = numbers_behind("0 for refusals that have none. */\nenum {\n");
+        assert_eq!(items.len(), 3);
+        for (_, name, item) in items {
+            let name = name.replace('_', " ").to_lowercase();
+            let kind = |kind| format!("{:?}", Error(raw::Refusal { kind, item, ..raw::Refusal::default() }).kind());
+            assert_eq!(kind(5), format!("BadInput {{ size: 0, msg: {name:?} }}"));
+            assert_eq!(kind(6), format!("BufferTooShort(0, {name:?})"));
+        }
+        let later = raw::Refusal { kind: 25, ..raw::Refusal::default() };
+        assert_eq!(Error(later).kind(), Kind::Other(25));
     }
 
     // A text with its places filled in their order.

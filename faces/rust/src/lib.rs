@@ -13,11 +13,15 @@
 //! # }
 //! ```
 #![deny(missing_docs, unsafe_code)]
+#![warn(clippy::missing_errors_doc)]
 
+mod constants;
 pub mod elf;
 pub mod error;
+mod file;
 pub mod header;
-mod items;
+pub mod items;
+pub mod names;
 pub mod note;
 pub mod program_header;
 mod raw;
@@ -29,4 +33,5 @@ pub mod sym;
 mod sys;
 
 pub use elf::Elf;
-pub use error::{Error, Result};
+pub use error::{Error, Kind, Result};
+pub use names::Name;

@@ -1,60 +1,74 @@
-//! Program headers.
-use crate::{raw, sys};
+//! Program headers, their constants, and the names of their numbers.
+pub use crate::constants::program_header::*;
+use crate::elf::Elf;
+use crate::error::Result;
+use crate::items::{Items, List};
+use crate::names::Name;
+pub use crate::raw::ProgramHeader;
+use crate::sys;
+use std::ops::Range;
 
-/// A segment of notes.
-pub const PT_NOTE: u32 = 4;
+impl ProgramHeader {
+    /// Where the segment lies in the file, inside it or not. An end past the greatest number is that number.
+    pub fn file_range(&self) -> Range<usize> {
+        self.p_offset as usize..self.p_offset.saturating_add(self.p_filesz) as usize
+    }
 
-/// A program header.
-#[derive(Clone, Copy, Debug, PartialEq, Eq)]
-pub struct ProgramHeader {
-    /// What the segment is, a `PT_` number.
-    pub p_type: u32,
-    /// `PF_` flags: 1 executed, 2 written, 4 read.
-    pub p_flags: u32,
-    /// Where it starts, in bytes from the file's start.
-    pub p_offset: u64,
-    /// Its address in memory.
-    pub p_vaddr: u64,
-    /// Its physical address, where there are such.
-    pub p_paddr: u64,
-    /// How many bytes of the file it takes.
-    pub p_filesz: u64,
-    /// How many bytes it takes in memory.
-    pub p_memsz: u64,
-    /// What it is aligned to, in bytes.
-    pub p_align: u64,
-}
+    /// Where the segment lies in memory. An end past the greatest address is that address.
+    pub fn vm_range(&self) -> Range<usize> {
+        self.p_vaddr as usize..self.p_vaddr.saturating_add(self.p_memsz) as usize
+    }
 
-impl From<raw::Segment> for ProgramHeader {
-    fn from(s: raw::Segment) -> Self {
-        ProgramHeader {
-            p_type: s.p_type,
-            p_flags: s.p_flags,
-            p_offset: s.file.offset,
-            p_vaddr: s.p_vaddr,
-            p_paddr: s.p_paddr,
-            p_filesz: s.file.size,
-            p_memsz: s.p_memsz,
-            p_align: s.p_align,
-        }
+    /// Whether the segment may be executed.
+    pub fn is_executable(&self) -> bool {
+        self.p_flags & PF_X != 0
+    }
+
+    /// Whether the segment may be read.
+    pub fn is_read(&self) -> bool {
+        self.p_flags & PF_R != 0
+    }
+
+    /// Whether the segment may be written.
+    pub fn is_write(&self) -> bool {
+        self.p_flags & PF_W != 0
     }
 }
 
-impl From<ProgramHeader> for raw::Segment {
-    fn from(p: ProgramHeader) -> Self {
-        raw::Segment {
-            file: raw::Range { offset: p.p_offset, size: p.p_filesz },
-            p_vaddr: p.p_vaddr,
-            p_paddr: p.p_paddr,
-            p_memsz: p.p_memsz,
-            p_align: p.p_align,
-            p_type: p.p_type,
-            p_flags: p.p_flags,
+/// The program headers of a file.
+#[derive(Clone, Copy, Debug)]
+pub struct ProgramHeaders<'a>(pub(crate) Elf<'a>);
+
+/// Program headers in their order.
+pub type ProgramHeaderIterator<'a> = Items<ProgramHeaders<'a>>;
+
+impl List for ProgramHeaders<'_> {
+    type Raw = ProgramHeader;
+    type Batch = [ProgramHeader; 32];
+    type Item = ProgramHeader;
+
+    fn room() -> Self::Batch {
+        [Default::default(); 32]
+    }
+
+    fn count(&self) -> Result<u64> {
+        self.0.program_header_count().map(|count| count as u64)
+    }
+
+    fn fill(&self, first: u64, into: &mut [ProgramHeader]) -> Result<Option<u64>> {
+        let mut filled = 0;
+        for (place, index) in into.iter_mut().zip(first..) {
+            match sys::goblin_segment(&self.0.file, &self.0.header, index)? {
+                Some(segment) => *place = segment,
+                None => break,
+            }
+            filled += 1;
         }
+        Ok(Some(filled))
     }
 }
 
 /// The name of a segment's type, as PT_LOAD, or UNKNOWN_PT.
-pub fn pt_to_str(p_type: u32) -> String {
-    sys::goblin_pt_to_str(p_type)
+pub fn pt_to_str(p_type: u32) -> Name {
+    Name::from_room(|room| sys::goblin_pt_to_str(p_type, room))
 }

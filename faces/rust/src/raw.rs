@@ -1,11 +1,13 @@
-//! What crosses to the library: the structs of `goblin.h`, whose comments say what their fields are. The test compares the
-//! place and the size of each field with the library's.
+//! What crosses to the library: the structs of `goblin.h`, whose comments say what their fields are; some are this crate's
+//! own records. The test compares the place and the size of each field with the library's.
+
+const _: () = assert!(usize::BITS == 64, "the library is made for machines of 64 bits");
 
 macro_rules! records {
     ($($(#[$doc:meta])* $name:ident { $($(#[$of_field:meta])* $field:ident: $type:ty),* $(,)? })*) => {$(
         $(#[$doc])*
         #[repr(C)]
-        #[derive(Clone, Copy, Debug, Default, PartialEq, Eq)]
+        #[derive(Clone, Copy, Debug, Default, PartialEq, Eq, Hash)]
         pub struct $name { $($(#[$of_field])* pub $field: $type),* }
 
         #[cfg(test)]
@@ -62,16 +64,62 @@ records! {
         ei_abiversion: u8,
     }
     /// A section header.
-    Section {
-        file: Range, sh_name: u64, sh_flags: u64, sh_addr: u64, sh_addralign: u64, sh_entsize: u64, sh_type: u32,
-        sh_link: u32, sh_info: u32,
+    SectionHeader {
+        /// Where it starts, in bytes from the file's start.
+        sh_offset: u64,
+        /// How many bytes it has.
+        sh_size: u64,
+        /// Where the name lies in the section names, in bytes from their start.
+        sh_name: usize,
+        /// `SHF_` flags.
+        sh_flags: u64,
+        /// Its address in memory, or 0.
+        sh_addr: u64,
+        /// What its address is aligned to, in bytes.
+        sh_addralign: u64,
+        /// The size of an entry in bytes, where it is a table of them.
+        sh_entsize: u64,
+        /// What the section holds, an `SHT_` number.
+        sh_type: u32,
+        /// The index of a section that belongs to it.
+        sh_link: u32,
+        /// More, as its type says.
+        sh_info: u32,
     }
     /// A program header.
-    Segment {
-        file: Range, p_vaddr: u64, p_paddr: u64, p_memsz: u64, p_align: u64, p_type: u32, p_flags: u32,
+    ProgramHeader {
+        /// Where the segment starts, in bytes from the file's start.
+        p_offset: u64,
+        /// How many bytes of the file it takes.
+        p_filesz: u64,
+        /// Its address in memory.
+        p_vaddr: u64,
+        /// Its physical address, where there are such.
+        p_paddr: u64,
+        /// How many bytes it takes in memory.
+        p_memsz: u64,
+        /// What it is aligned to, in bytes.
+        p_align: u64,
+        /// What the segment is, a `PT_` number.
+        p_type: u32,
+        /// `PF_` flags: 1 executed, 2 written, 4 read.
+        p_flags: u32,
     }
     /// A symbol.
-    Symbol { st_name: u64, st_value: u64, st_size: u64, st_shndx: u64, st_info: u8, st_other: u8 }
+    Sym {
+        /// Where the name lies in the string table, in bytes from its start; 0 for none.
+        st_name: usize,
+        /// The value, an address for most symbols.
+        st_value: u64,
+        /// How many bytes it stands for; 0 for none or an unknown number.
+        st_size: u64,
+        /// The index of its section, or an `SHN_` number: 0 for a symbol that is not defined here.
+        st_shndx: usize,
+        /// The binding in the high four bits, the type in the low four.
+        st_info: u8,
+        /// The visibility in the low three bits.
+        st_other: u8,
+    }
     /// A relocation.
     Reloc { r_offset: u64, r_sym: u64, r_addend: i64, r_type: u32, has_addend: u32 }
     /// A note.
@@ -97,14 +145,14 @@ pub mod tests {
             }
         )*};
     }
-    numbers!(u8 u16 u32 u64 i64);
+    numbers!(u8 u16 u32 u64 i64 usize);
 
     records! {
         /// One of each, which the library fills.
         Layout {
             size_of_refusal: u64, size_of_range: u64, size_of_header: u64, size_of_section: u64, size_of_segment: u64,
             size_of_symbol: u64, size_of_reloc: u64, size_of_note: u64, refusal: Refusal, range: Range, header: Header,
-            section: Section, segment: Segment, symbol: Symbol, reloc: Reloc, note: Note,
+            section: SectionHeader, segment: ProgramHeader, symbol: Sym, reloc: Reloc, note: Note,
         }
     }
 

@@ -1,45 +1,48 @@
-//! Section headers.
+//! Section headers, their constants, and the names of their numbers.
+pub use crate::constants::section_header::*;
+use crate::elf::Elf;
+use crate::error::Result;
+use crate::items::{Items, List};
+use crate::names::Name;
+pub use crate::raw::SectionHeader;
 use crate::{raw, sys};
-
-/// A table of symbols.
-pub const SHT_SYMTAB: u32 = 2;
-/// Relocations with addends.
-pub const SHT_RELA: u32 = 4;
-/// Notes.
-pub const SHT_NOTE: u32 = 7;
-/// Zeros in memory: nothing in the file.
-pub const SHT_NOBITS: u32 = 8;
-/// Relocations without addends.
-pub const SHT_REL: u32 = 9;
-/// The symbols that are wanted when the program runs.
-pub const SHT_DYNSYM: u32 = 11;
-
-/// A section header.
-#[derive(Clone, Copy, Debug, PartialEq, Eq)]
-pub struct SectionHeader {
-    /// Where the name lies in the section names, in bytes from their start.
-    pub sh_name: usize,
-    /// What the section holds, an `SHT_` number.
-    pub sh_type: u32,
-    /// `SHF_` flags.
-    pub sh_flags: u64,
-    /// Its address in memory, or 0.
-    pub sh_addr: u64,
-    /// Where it starts, in bytes from the file's start.
-    pub sh_offset: u64,
-    /// How many bytes it has.
-    pub sh_size: u64,
-    /// The index of a section that belongs to it.
-    pub sh_link: u32,
-    /// More, as its type says.
-    pub sh_info: u32,
-    /// What its address is aligned to, in bytes.
-    pub sh_addralign: u64,
-    /// The size of an entry in bytes, where it is a table of them.
-    pub sh_entsize: u64,
-}
+use std::ops::Range;
 
 impl SectionHeader {
+    /// Where the section lies in the file, inside it or not, or `None` where it has no bytes there (`SHT_NOBITS`). An end past
+    /// the greatest number is that number. [`Elf::section_data`] answers its bytes.
+    pub fn file_range(&self) -> Option<Range<usize>> {
+        let start = self.sh_offset as usize;
+        let range = start..start.saturating_add(self.sh_size as usize);
+        Some(range).filter(|_| self.sh_type != SHT_NOBITS)
+    }
+
+    /// Where the section lies in memory. An end past the greatest address is that address.
+    pub fn vm_range(&self) -> Range<usize> {
+        let start = self.sh_addr as usize;
+        start..start.saturating_add(self.sh_size as usize)
+    }
+
+    /// Whether the section holds relocations with addends (`SHT_RELA`). Those without (`SHT_REL`) are not counted, as in goblin.
+    pub fn is_relocation(&self) -> bool {
+        self.sh_type == SHT_RELA
+    }
+
+    /// Whether the section is in memory and may be executed.
+    pub fn is_executable(&self) -> bool {
+        self.is_alloc() && self.sh_flags & u64::from(SHF_EXECINSTR) != 0
+    }
+
+    /// Whether the section is in memory and may be written.
+    pub fn is_writable(&self) -> bool {
+        self.is_alloc() && self.sh_flags & u64::from(SHF_WRITE) != 0
+    }
+
+    /// Whether the section is in memory while the program runs.
+    pub fn is_alloc(&self) -> bool {
+        self.sh_flags & u64::from(SHF_ALLOC) != 0
+    }
+
     /// Its bytes in the file: none of a section that has none there, whatever its size.
     pub(crate) fn range(&self) -> raw::Range {
         match self.sh_type {
@@ -49,45 +52,37 @@ impl SectionHeader {
     }
 }
 
-impl From<raw::Section> for SectionHeader {
-    fn from(s: raw::Section) -> Self {
-        SectionHeader {
-            sh_name: s.sh_name as usize,
-            sh_type: s.sh_type,
-            sh_flags: s.sh_flags,
-            sh_addr: s.sh_addr,
-            sh_offset: s.file.offset,
-            sh_size: s.file.size,
-            sh_link: s.sh_link,
-            sh_info: s.sh_info,
-            sh_addralign: s.sh_addralign,
-            sh_entsize: s.sh_entsize,
-        }
-    }
-}
+/// The section headers of a file.
+#[derive(Clone, Copy, Debug)]
+pub struct SectionHeaders<'a>(pub(crate) Elf<'a>);
 
-impl From<SectionHeader> for raw::Section {
-    fn from(s: SectionHeader) -> Self {
-        raw::Section {
-            file: raw::Range { offset: s.sh_offset, size: s.sh_size },
-            sh_name: s.sh_name as u64,
-            sh_flags: s.sh_flags,
-            sh_addr: s.sh_addr,
-            sh_addralign: s.sh_addralign,
-            sh_entsize: s.sh_entsize,
-            sh_type: s.sh_type,
-            sh_link: s.sh_link,
-            sh_info: s.sh_info,
-        }
+/// Section headers in their order.
+pub type SectionHeaderIterator<'a> = Items<SectionHeaders<'a>>;
+
+impl List for SectionHeaders<'_> {
+    type Raw = SectionHeader;
+    type Batch = [SectionHeader; 32];
+    type Item = SectionHeader;
+
+    fn room() -> Self::Batch {
+        [Default::default(); 32]
+    }
+
+    fn count(&self) -> Result<u64> {
+        self.0.section_header_count().map(|count| count as u64)
+    }
+
+    fn fill(&self, first: u64, into: &mut [SectionHeader]) -> Result<Option<u64>> {
+        sys::goblin_sections(&self.0.file, &self.0.header, first, into)
     }
 }
 
 /// The name of a section's type, as SHT_PROGBITS, or UNKNOWN_SHT.
-pub fn sht_to_str(sh_type: u32) -> String {
-    sys::goblin_sht_to_str(sh_type)
+pub fn sht_to_str(sh_type: u32) -> Name {
+    Name::from_room(|room| sys::goblin_sht_to_str(sh_type, room))
 }
 
 /// The name of one flag of a section, as SHF_WRITE, or SHF_UNKNOWN.
-pub fn shf_to_str(flag: u32) -> String {
-    sys::goblin_shf_to_str(flag)
+pub fn shf_to_str(flag: u32) -> Name {
+    Name::from_room(|room| sys::goblin_shf_to_str(flag, room))
 }

@@ -1,54 +1,63 @@
-//! Symbols.
+//! Symbols, their constants, and the names of their numbers.
+pub use crate::constants::sym::*;
 use crate::error::Result;
-use crate::items::items;
+use crate::items::{Items, List};
+use crate::names::Name;
+pub use crate::raw::Sym;
 use crate::strtab::Strtab;
 use crate::{raw, sys};
-
-/// A symbol.
-#[derive(Clone, Copy, Debug, PartialEq, Eq)]
-pub struct Sym {
-    /// Where the name lies in the string table, in bytes from its start; 0 for none.
-    pub st_name: usize,
-    /// The binding in the high four bits, the type in the low four.
-    pub st_info: u8,
-    /// The visibility in the low three bits.
-    pub st_other: u8,
-    /// The index of its section, or an `SHN_` number: 0 for a symbol that is not defined here.
-    pub st_shndx: usize,
-    /// The value, an address for most symbols.
-    pub st_value: u64,
-    /// How many bytes it stands for; 0 for none or an unknown number.
-    pub st_size: u64,
-}
 
 impl Sym {
     /// The binding.
     pub fn st_bind(&self) -> u8 {
-        self.st_info >> 4
+        st_bind(self.st_info)
     }
 
     /// The type.
     pub fn st_type(&self) -> u8 {
-        self.st_info & 15
+        st_type(self.st_info)
     }
 
     /// The visibility.
     pub fn st_visibility(&self) -> u8 {
-        self.st_other & 7
+        st_visibility(self.st_other)
+    }
+
+    /// Whether the symbol is imported: its binding is `STB_GLOBAL` or `STB_WEAK`, and its value 0.
+    pub fn is_import(&self) -> bool {
+        (self.st_bind() == STB_GLOBAL || self.st_bind() == STB_WEAK) && self.st_value == 0
+    }
+
+    /// Whether the symbol is a function: its type is `STT_FUNC`.
+    pub fn is_function(&self) -> bool {
+        self.st_type() == STT_FUNC
     }
 }
 
-impl From<raw::Symbol> for Sym {
-    fn from(s: raw::Symbol) -> Self {
-        Sym {
-            st_name: s.st_name as usize,
-            st_info: s.st_info,
-            st_other: s.st_other,
-            st_shndx: s.st_shndx as usize,
-            st_value: s.st_value,
-            st_size: s.st_size,
-        }
-    }
+/// The binding in an `st_info`: its high four bits.
+pub fn st_bind(info: u8) -> u8 {
+    info >> 4
+}
+
+/// The type in an `st_info`: its low four bits.
+pub fn st_type(info: u8) -> u8 {
+    info & 0xf
+}
+
+/// The visibility in an `st_other`: its low three bits.
+pub fn st_visibility(other: u8) -> u8 {
+    other & 0x7
+}
+
+/// Whether a symbol with this `st_info` and value is global and has no value. Weak symbols are not counted here, but by
+/// [`Sym::is_import`], as in goblin.
+pub fn is_import(info: u8, value: u64) -> bool {
+    st_bind(info) == STB_GLOBAL && value == 0
+}
+
+/// The name of the type in an `st_info`.
+pub fn get_type(info: u8) -> Name {
+    type_to_str(st_type(info))
 }
 
 /// A table of symbols, with their names.
@@ -60,59 +69,114 @@ pub struct Symtab<'a> {
     pub strtab: Strtab<'a>,
 }
 
+/// Symbols in their order.
+pub type SymIterator<'a> = Items<Symtab<'a>>;
+
 impl<'a> Symtab<'a> {
     /// The symbol at an index, or `None` past the last one.
+    ///
+    /// # Errors
+    /// Where the table doesn't lie in the file.
     pub fn get(&self, index: usize) -> Result<Option<Sym>> {
-        Ok(sys::goblin_symbol(self.strtab.bytes, &self.header, &self.range, index as u64)?.map(Sym::from))
+        sys::goblin_symbol(&self.strtab.file, &self.header, &self.range, index as u64)
     }
 
     /// How many symbols there are.
+    ///
+    /// # Errors
+    /// Where the table doesn't lie in the file.
     pub fn len(&self) -> Result<usize> {
-        let count = sys::goblin_symbol_count(self.strtab.bytes, &self.header, &self.range)?;
-        Ok(count.expect("a table that isn't refused has a count") as usize)
+        self.count().map(|count| count as usize)
     }
 
     /// Whether there are no symbols.
+    ///
+    /// # Errors
+    /// Where the table doesn't lie in the file.
     pub fn is_empty(&self) -> Result<bool> {
         Ok(self.len()? == 0)
     }
 
-    /// All symbols in their order. A refusal is the last item.
-    pub fn iter(&self) -> impl Iterator<Item = Result<Sym>> + 'a {
-        let table = *self;
-        items(move |first, batch| sys::goblin_symbols(table.strtab.bytes, &table.header, &table.range, first, batch))
+    /// All symbols in their order. Where the table is refused, the refusal is the one item.
+    pub fn iter(&self) -> SymIterator<'a> {
+        Items::new(*self)
     }
 
     /// The name of a symbol, or `None` where it lies past the string table.
+    ///
+    /// # Errors
+    /// Where the string table doesn't lie in the file, and where the name is no text.
     pub fn name(&self, symbol: &Sym) -> Result<Option<&'a str>> {
         self.strtab.get(symbol.st_name)
     }
 
+    /// The bytes of a symbol's name, text or not, or `None` where it lies past the string table.
+    ///
+    /// # Errors
+    /// Where the string table doesn't lie in the file.
+    pub fn name_bytes(&self, symbol: &Sym) -> Result<Option<&'a [u8]>> {
+        self.strtab.get_bytes(symbol.st_name)
+    }
+
     /// The index of the symbol that an address lies in: the highest one at it or below it, as `goblin.h` says.
+    ///
+    /// # Errors
+    /// Where the table doesn't lie in the file.
     pub fn at(&self, address: u64) -> Result<Option<usize>> {
-        let index = sys::goblin_symbol_by_address(self.strtab.bytes, &self.header, &self.range, address)?;
+        let index = sys::goblin_symbol_by_address(&self.strtab.file, &self.header, &self.range, address)?;
         Ok(index.map(|index| index as usize))
     }
 
     /// The index of the first symbol with a name.
+    ///
+    /// # Errors
+    /// Where the table or its string table doesn't lie in the file.
     pub fn find(&self, name: &str) -> Result<Option<usize>> {
-        let Strtab { bytes, range } = &self.strtab;
-        let index = sys::goblin_symbol_by_name(bytes, &self.header, &self.range, range, name.as_bytes())?;
+        let Strtab { file, range } = &self.strtab;
+        let index = sys::goblin_symbol_by_name(file, &self.header, &self.range, range, name.as_bytes())?;
         Ok(index.map(|index| index as usize))
     }
 }
 
+impl List for Symtab<'_> {
+    type Raw = Sym;
+    type Batch = [Sym; 80];
+    type Item = Sym;
+
+    fn room() -> Self::Batch {
+        [Default::default(); 80]
+    }
+
+    fn count(&self) -> Result<u64> {
+        let count = sys::goblin_symbol_count(&self.strtab.file, &self.header, &self.range)?;
+        Ok(count.expect("a table that isn't refused has a count"))
+    }
+
+    fn fill(&self, first: u64, into: &mut [Sym]) -> Result<Option<u64>> {
+        sys::goblin_symbols(&self.strtab.file, &self.header, &self.range, first, into)
+    }
+}
+
+impl<'a> IntoIterator for &Symtab<'a> {
+    type Item = Result<Sym>;
+    type IntoIter = SymIterator<'a>;
+
+    fn into_iter(self) -> SymIterator<'a> {
+        self.iter()
+    }
+}
+
 /// The name of a binding, as GLOBAL, or UNKNOWN_STB.
-pub fn bind_to_str(binding: u8) -> String {
-    sys::goblin_bind_to_str(binding)
+pub fn bind_to_str(binding: u8) -> Name {
+    Name::from_room(|room| sys::goblin_bind_to_str(binding, room))
 }
 
 /// The name of a symbol's type, as FUNC, or UNKNOWN_STT.
-pub fn type_to_str(type_: u8) -> String {
-    sys::goblin_type_to_str(type_)
+pub fn type_to_str(type_: u8) -> Name {
+    Name::from_room(|room| sys::goblin_type_to_str(type_, room))
 }
 
 /// The name of a visibility, as HIDDEN, or UNKNOWN_STV.
-pub fn visibility_to_str(visibility: u8) -> String {
-    sys::goblin_visibility_to_str(visibility)
+pub fn visibility_to_str(visibility: u8) -> Name {
+    Name::from_room(|room| sys::goblin_visibility_to_str(visibility, room))
 }

@@ -4,7 +4,9 @@
 //! writes to the places that it is handed, no further than their length. So each is a safe function. Nothing compares
 //! these declarations with the library's but the tests.
 use crate::error::{Error, Result};
-use crate::raw::{Header, Note, Range, Refusal, Reloc, Section, Segment, Symbol};
+use crate::file::File;
+use crate::raw::{Header, Note, ProgramHeader, Range, Refusal, Reloc, SectionHeader, Sym};
+use std::str;
 
 // A call on a file's bytes and what else is given; `by` a name; `into` some items, of which it tells how many were filled.
 // It answers an item, `None` past the last one or where nothing has that name, or why the file is refused.
@@ -33,22 +35,23 @@ macro_rules! calls {
 
 calls! {
     fn goblin_header() -> Header;
-    fn goblin_section(header: &Header, index: u64) -> Section;
-    fn goblin_sections(header: &Header, first: u64) into [Section] -> u64;
-    fn goblin_table(header: &Header, index: u64) -> Section;
-    fn goblin_section_names(header: &Header) -> Section;
+    fn goblin_section_count(header: &Header) -> u64;
+    fn goblin_section(header: &Header, index: u64) -> SectionHeader;
+    fn goblin_sections(header: &Header, first: u64) into [SectionHeader] -> u64;
+    fn goblin_table(header: &Header, index: u64) -> SectionHeader;
+    fn goblin_section_names(header: &Header) -> SectionHeader;
     fn goblin_section_by_name(header: &Header, names: &Range) by name -> u64;
-    fn goblin_segment(header: &Header, index: u64) -> Segment;
+    fn goblin_segment(header: &Header, index: u64) -> ProgramHeader;
     fn goblin_section_by_type(header: &Header, sh_type: u32, first: u64) -> u64;
-    fn goblin_section_bytes(section: &Section) -> Range;
+    fn goblin_section_bytes(section: &SectionHeader) -> Range;
     fn goblin_segment_count(header: &Header) -> u64;
-    fn goblin_segment_bytes(segment: &Segment) -> Range;
+    fn goblin_segment_bytes(segment: &ProgramHeader) -> Range;
     fn goblin_symbol_count(header: &Header, table: &Range) -> u64;
     fn goblin_reloc_count(header: &Header, relocs: &Range, is_rela: bool) -> u64;
     fn goblin_string_bytes(strings: &Range, offset: u64) -> Range;
     fn goblin_number(header: &Header, offset: u64, width: u64) -> u64;
-    fn goblin_symbol(header: &Header, table: &Range, index: u64) -> Symbol;
-    fn goblin_symbols(header: &Header, table: &Range, first: u64) into [Symbol] -> u64;
+    fn goblin_symbol(header: &Header, table: &Range, index: u64) -> Sym;
+    fn goblin_symbols(header: &Header, table: &Range, first: u64) into [Sym] -> u64;
     fn goblin_symbol_by_name(header: &Header, table: &Range, names: &Range) by name -> u64;
     fn goblin_symbol_by_address(header: &Header, table: &Range, address: u64) -> u64;
     fn goblin_reloc(header: &Header, relocs: &Range, is_rela: bool, index: u64) -> Reloc;
@@ -57,18 +60,21 @@ calls! {
     fn goblin_string(strings: &Range, offset: u64) -> Range;
 }
 
-// A text that a call writes into the room that it is handed, once there is room for all of it.
+/// The string whose place `goblin_string` tells. It is not tested once more for being text.
+pub fn string<'a>(bytes: &'a [u8], strings: &Range, offset: u64) -> Result<Option<&'a str>> {
+    let string = goblin_string(bytes, strings, offset)?.map(|place| File(bytes).slice(place));
+    debug_assert!(string.map_or(true, |string| str::from_utf8(string).is_ok()));
+    // SAFETY: where the library tells a string, it is UTF-8, which is proved of it.
+    Ok(string.map(|string| unsafe { str::from_utf8_unchecked(string) }))
+}
+
+// A text that a call writes into the room that it is handed, as much of it as there is room for. It answers the whole text's size.
 macro_rules! texts {
     ($(fn $name:ident($given:ident: $type:ty $(, by $by:ident)?);)*) => {$(
-        pub fn $name($($by: &[u8], )? $given: $type) -> String {
+        pub fn $name($($by: &[u8], )? $given: $type, text: &mut [u8]) -> usize {
             extern "C" { fn $name($($by: *const u8, _: usize, )? $given: $type, text: *mut u8, room: usize) -> u64; }
-            let mut text = Vec::new();
-            loop {
-                // SAFETY: as above: each pointer has the length of its slice.
-                let size = unsafe { $name($($by.as_ptr(), $by.len(), )? $given, text.as_mut_ptr(), text.len()) } as usize;
-                if size <= text.len() { return String::from_utf8_lossy(&text[..size]).into_owned() }
-                text.resize(size, 0);
-            }
+            // SAFETY: as above: each pointer has the length of its slice.
+            unsafe { $name($($by.as_ptr(), $by.len(), )? $given, text.as_mut_ptr(), text.len()) as usize }
         }
     )*};
 }

@@ -1,0 +1,26 @@
+#!/bin/sh
+# Times the library for C beside libelf, as faces/c/bench.c says, over a FILE, by default this machine's libLLVM or libstdc++, and
+# over 300,000 made symbols: SHOWN=FILE CPU=x86-64-v2 sh checks/bench_faces.sh. LIBRARY names a library to take; else one is made,
+# for the processors that CPU names, by default every x86-64. Run from the repository's root.
+set -eu
+if ! echo '#include <gelf.h>' | cc -E - > /dev/null 2>&1; then
+    echo "no header of libelf here (gelf.h): nothing is compared with it"
+    exit 0
+fi
+folder=$(mktemp -d)
+trap 'rm -rf "$folder"' EXIT
+trap 'exit 1' HUP INT TERM
+library=${LIBRARY:-}
+if [ -z "$library" ]; then
+    (cd crates/goblin_c && rt lib --cpu "${CPU:-x86-64}")
+    library=crates/goblin_c/out/libgoblin_c.a
+fi
+cc -std=c99 -Wall -Wextra -pedantic -O2 -Ifaces/c -o "$folder/bench" faces/c/bench.c "$library" -lelf
+mkdir "$folder/files"
+sh checks/hostile.sh "$folder/files"
+if [ -z "${SHOWN:-}" ]; then
+    for file in /usr/lib*/libLLVM*.so* /usr/lib/*/libLLVM*.so* /usr/lib*/libstdc++.so.6 /usr/lib/*/libstdc++.so.6; do
+        if [ -f "$file" ]; then SHOWN=$file; break; fi
+    done
+fi
+"$folder/bench" ${SHOWN:+"$SHOWN"} "$folder/files/symbols"

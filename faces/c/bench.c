@@ -1,0 +1,119 @@
+/* Times the library beside libelf and plain C, in one process, over the longest symbol table of each of some files of the 64-bit
+   class in little order: bench FILE.. Each time is the least of nine, taken by turns. */
+#define _POSIX_C_SOURCE 199309L
+#include "goblin.h"
+#include <gelf.h>
+#include <stdio.h>
+#include <stdlib.h>
+#include <string.h>
+#include <time.h>
+
+enum { RUNS = 9, ROOM = 4096 };
+
+static const uint8_t none[] = "_ZNSt8no_suchD0Ev"; /* a name that no symbol has */
+static uint8_t *bytes;
+static uint64_t len, count, *places; /* of the symbols; where the name of each lies in the strings */
+static goblin_header_t header;
+static goblin_section_t table, strings, sections[ROOM];
+static goblin_symbol_t symbols[ROOM];
+static goblin_refusal_t why;
+static Elf *elf;
+static Elf_Data *data;
+
+/* What is timed: what one does to all symbols, or to all section headers. */
+enum { ONE, ARRAY_64, ARRAY_4096, GELF, NAME, STRLEN, STRPTR, SEARCH, STRCMP, HEADERS, ELF_HEADERS };
+static const struct { const char *what, *than; int ours, theirs; } rows[] = {
+    {"a symbol by one call", "gelf_getsym", ONE, GELF},
+    {"a symbol, 64 at once", "gelf_getsym", ARRAY_64, GELF},
+    {"a symbol, 4,096 at once", "gelf_getsym", ARRAY_4096, GELF},
+    {"a name", "strlen", NAME, STRLEN},
+    {"a name", "elf_strptr and strlen", NAME, STRPTR},
+    {"a symbol passed in a search", "strcmp", SEARCH, STRCMP},
+    {"header and sections of a file", "elf_memory and gelf_getshdr", HEADERS, ELF_HEADERS},
+};
+enum { ROWS = sizeof rows / sizeof rows[0] };
+
+/* Does it, and adds up what it finds: two that are compared come to the same. */
+static uint64_t run(int what) {
+    const char *text = (char *)bytes + strings.file.offset;
+    uint64_t sum = 0, n = 0, at_once = what == ARRAY_64 ? 64 : ROOM;
+    goblin_range_t name = {0, 0};
+    Elf *file = what == ELF_HEADERS ? elf_memory((char *)bytes, len) : NULL;
+    GElf_Sym sym;
+    GElf_Shdr section;
+    if (what == ONE)
+        for (uint64_t i = 0; !goblin_symbol(bytes, len, &header, &table.file, i, symbols, &why); i++)
+            sum += symbols->st_value + symbols->st_name;
+    if (what == ARRAY_64 || what == ARRAY_4096)
+        for (uint64_t i = 0; !goblin_symbols(bytes, len, &header, &table.file, i, symbols, at_once, &n, &why); i += n)
+            for (uint64_t k = 0; k < n; k++) sum += symbols[k].st_value + symbols[k].st_name;
+    if (what == GELF)
+        for (int i = 0; gelf_getsym(data, i, &sym); i++) sum += sym.st_value + sym.st_name;
+    if (what == NAME)
+        for (uint64_t i = 0; i < count; i++)
+            sum += goblin_string(bytes, len, &strings.file, places[i], &name, &why) ? 0 : name.size;
+    if (what == STRLEN)
+        for (uint64_t i = 0; i < count; i++) sum += strlen(text + places[i]);
+    if (what == STRPTR)
+        for (uint64_t i = 0; i < count; i++) sum += strlen(elf_strptr(elf, table.sh_link, places[i]));
+    if (what == SEARCH)
+        sum = goblin_symbol_by_name(bytes, len, &header, &table.file, &strings.file, none, sizeof none - 1, &n, &why);
+    if (what == STRCMP) {
+        const Elf64_Sym *s = (const Elf64_Sym *)data->d_buf;
+        while (n < count && strcmp(text + s[n].st_name, (const char *)none) != 0) n++;
+        sum = n == count ? GOBLIN_END : GOBLIN_OK;
+    }
+    if (what == HEADERS && !goblin_header(bytes, len, &header, &why)
+        && !goblin_sections(bytes, len, &header, 1, sections, ROOM, &n, &why))
+        while (n > 0) sum += sections[--n].file.size;
+    for (Elf_Scn *s = NULL; file && (s = elf_nextscn(file, s));) sum += gelf_getshdr(s, &section)->sh_size;
+    elf_end(file);
+    return sum;
+}
+
+static double time_of(int what, uint64_t *sum) {
+    struct timespec start, end;
+    clock_gettime(CLOCK_MONOTONIC, &start);
+    *sum = run(what);
+    clock_gettime(CLOCK_MONOTONIC, &end);
+    return 1e9 * (double)(end.tv_sec - start.tv_sec) + (double)(end.tv_nsec - start.tv_nsec);
+}
+
+static int bench(const char *path) {
+    goblin_section_t section;
+    uint64_t sums[2], index = 0;
+    if (goblin_header(bytes, len, &header, &why) || header.ei_class != 2 || header.ei_data != 1) return 1;
+    memset(&table, 0, sizeof table);
+    for (uint64_t i = 0; !goblin_section(bytes, len, &header, i, &section, &why); i++)
+        if ((section.sh_type == SHT_SYMTAB || section.sh_type == SHT_DYNSYM) && section.file.size > table.file.size)
+            table = section, index = i;
+    if (goblin_table(bytes, len, &header, table.sh_link, &strings, &why)) return 1;
+    if (goblin_symbol_count(bytes, len, &header, &table.file, &count, &why)) return 1;
+    if (!(places = malloc((count + 1) * sizeof *places))) return 1;
+    for (uint64_t i = 0; i < count && !goblin_symbol(bytes, len, &header, &table.file, i, symbols, &why); i++)
+        places[i] = symbols->st_name;
+    elf = elf_memory((char *)bytes, len);
+    data = elf_getdata(elf_getscn(elf, index), NULL);
+    printf("%s, %llu symbols, nanoseconds each:\n", path, (unsigned long long)count);
+    for (int row = 0; row < ROWS; row++) {
+        double least[2] = {1e18, 1e18}, each = rows[row].ours == HEADERS ? 1 : (double)count;
+        for (int turn = 0; turn < 2 * RUNS; turn++) {
+            double took = time_of(turn % 2 ? rows[row].theirs : rows[row].ours, &sums[turn % 2]) / each;
+            if (took < least[turn % 2]) least[turn % 2] = took;
+        }
+        printf("  %-30s %9.1f  by %-28s %9.1f  %5.2f times\n", rows[row].what, least[0], rows[row].than, least[1], least[0] / least[1]);
+        if (sums[0] != sums[1]) return 1;
+    }
+    return elf_end(elf);
+}
+
+int main(int argc, char **argv) {
+    bytes = malloc((size_t)1 << 30);
+    for (int i = 1; i < argc; i++) {
+        FILE *file = fopen(argv[i], "rb");
+        if (!bytes || !file || elf_version(EV_CURRENT) == EV_NONE) return 2;
+        len = fread(bytes, 1, (size_t)1 << 30, file);
+        if (fclose(file) || bench(argv[i])) return 1;
+    }
+    return argc < 2;
+}

@@ -1,0 +1,166 @@
+//! The constants of section headers, as the library has them.
+
+/// No section.
+pub const SHN_UNDEF: u32 = 0;
+/// The first index with a meaning of its own.
+pub const SHN_LORESERVE: u32 = 0xff00;
+/// The first index that is left to processors.
+pub const SHN_LOPROC: u32 = 0xff00;
+/// Before all other sections (Solaris).
+pub const SHN_BEFORE: u32 = 0xff00;
+/// After all other sections (Solaris).
+pub const SHN_AFTER: u32 = 0xff01;
+/// The last index that is left to processors.
+pub const SHN_HIPROC: u32 = 0xff1f;
+/// The first index that is left to operating systems.
+pub const SHN_LOOS: u32 = 0xff20;
+/// The last index that is left to operating systems.
+pub const SHN_HIOS: u32 = 0xff3f;
+/// What has no section: its value is absolute.
+pub const SHN_ABS: u32 = 0xfff1;
+/// What is still to be placed in a section.
+pub const SHN_COMMON: u32 = 0xfff2;
+/// The index stands elsewhere, since it is too great for its field.
+pub const SHN_XINDEX: u32 = 0xffff;
+/// The last index with a meaning of its own.
+pub const SHN_HIRESERVE: u32 = 0xffff;
+
+// What a section holds.
+
+/// No section.
+pub const SHT_NULL: u32 = 0;
+/// What the program defines.
+pub const SHT_PROGBITS: u32 = 1;
+/// A symbol table.
+pub const SHT_SYMTAB: u32 = 2;
+/// A string table.
+pub const SHT_STRTAB: u32 = 3;
+/// Relocations with addends.
+pub const SHT_RELA: u32 = 4;
+/// A hash table of symbols.
+pub const SHT_HASH: u32 = 5;
+/// What dynamic linking needs.
+pub const SHT_DYNAMIC: u32 = 6;
+/// Notes.
+pub const SHT_NOTE: u32 = 7;
+/// A section without bytes in the file.
+pub const SHT_NOBITS: u32 = 8;
+/// Relocations without addends.
+pub const SHT_REL: u32 = 9;
+/// Left without a meaning by the standard.
+pub const SHT_SHLIB: u32 = 10;
+/// The symbol table of dynamic linking.
+pub const SHT_DYNSYM: u32 = 11;
+/// Addresses of functions that are called at the start.
+pub const SHT_INIT_ARRAY: u32 = 14;
+/// Addresses of functions that are called at the end.
+pub const SHT_FINI_ARRAY: u32 = 15;
+/// Addresses of functions that are called before all others.
+pub const SHT_PREINIT_ARRAY: u32 = 16;
+/// A group of sections.
+pub const SHT_GROUP: u32 = 17;
+/// Section indices that are too great for a symbol.
+pub const SHT_SYMTAB_SHNDX: u32 = 18;
+/// One more than the greatest type that this table knows.
+pub const SHT_NUM: u32 = 19;
+/// The first type that is left to operating systems.
+pub const SHT_LOOS: u32 = 0x6000_0000;
+/// Attributes of the object (GNU).
+pub const SHT_GNU_ATTRIBUTES: u32 = 0x6fff_fff5;
+/// A hash table of symbols (GNU).
+pub const SHT_GNU_HASH: u32 = 0x6fff_fff6;
+/// Libraries that were linked before (GNU).
+pub const SHT_GNU_LIBLIST: u32 = 0x6fff_fff7;
+/// A checksum of the contents.
+pub const SHT_CHECKSUM: u32 = 0x6fff_fff8;
+/// The first type of Sun.
+pub const SHT_LOSUNW: u32 = 0x6fff_fffa;
+/// What is moved at the start (Sun).
+pub const SHT_SUNW_MOVE: u32 = 0x6fff_fffa;
+/// Contents that are kept once (Sun).
+pub const SHT_SUNW_COMDAT: u32 = 0x6fff_fffb;
+/// More about symbols (Sun).
+pub const SHT_SUNW_SYMINFO: u32 = 0x6fff_fffc;
+/// Versions that the file defines (GNU).
+pub const SHT_GNU_VERDEF: u32 = 0x6fff_fffd;
+/// Versions that the file needs (GNU).
+pub const SHT_GNU_VERNEED: u32 = 0x6fff_fffe;
+/// The version of each symbol (GNU).
+pub const SHT_GNU_VERSYM: u32 = 0x6fff_ffff;
+/// The last type of Sun.
+pub const SHT_HISUNW: u32 = 0x6fff_ffff;
+/// The last type that is left to operating systems.
+pub const SHT_HIOS: u32 = 0x6fff_ffff;
+/// The first type that is left to processors.
+pub const SHT_LOPROC: u32 = 0x7000_0000;
+/// What unwinding needs (x86-64).
+pub const SHT_X86_64_UNWIND: u32 = 0x7000_0001;
+/// The last type that is left to processors.
+pub const SHT_HIPROC: u32 = 0x7fff_ffff;
+/// The first type that is left to applications.
+pub const SHT_LOUSER: u32 = 0x8000_0000;
+/// The last type that is left to applications.
+pub const SHT_HIUSER: u32 = 0x8fff_ffff;
+
+// What may be done with a section.
+
+/// The section may be written.
+pub const SHF_WRITE: u32 = 0x1;
+/// The section is in memory while the program runs.
+pub const SHF_ALLOC: u32 = 0x2;
+/// The section may be executed.
+pub const SHF_EXECINSTR: u32 = 0x4;
+/// Equal entries may be made one.
+pub const SHF_MERGE: u32 = 0x10;
+/// The entries are texts that end with a zero.
+pub const SHF_STRINGS: u32 = 0x20;
+/// The index of a section stands in `sh_info`.
+pub const SHF_INFO_LINK: u32 = 0x40;
+/// The order of sections is to be kept.
+pub const SHF_LINK_ORDER: u32 = 0x80;
+/// The operating system has to treat the section in its own way.
+pub const SHF_OS_NONCONFORMING: u32 = 0x100;
+/// The section belongs to a group.
+pub const SHF_GROUP: u32 = 0x200;
+/// The section is storage that each thread has its own copy of.
+pub const SHF_TLS: u32 = 0x400;
+/// The contents are compressed.
+pub const SHF_COMPRESSED: u32 = 0x800;
+/// The flags that are left to operating systems.
+pub const SHF_MASKOS: u32 = 0x0ff0_0000;
+/// The flags that are left to processors.
+pub const SHF_MASKPROC: u32 = 0xf000_0000;
+/// The section is to be ordered (Solaris).
+pub const SHF_ORDERED: u32 = 1 << 30;
+/// How many flags [`SHF_FLAGS`] has.
+pub const SHF_NUM_REGULAR_FLAGS: usize = 12;
+/// The section is left out where nothing refers to it (Solaris).
+pub const SHF_EXCLUDE: u32 = 0x8000_0000;
+
+/// The flags that have a name.
+pub const SHF_FLAGS: [u32; SHF_NUM_REGULAR_FLAGS] = [
+    SHF_WRITE,
+    SHF_ALLOC,
+    SHF_EXECINSTR,
+    SHF_MERGE,
+    SHF_STRINGS,
+    SHF_INFO_LINK,
+    SHF_LINK_ORDER,
+    SHF_OS_NONCONFORMING,
+    SHF_GROUP,
+    SHF_TLS,
+    SHF_COMPRESSED,
+    SHF_ORDERED,
+];
+
+/// What the 32-bit class has of its own.
+pub mod section_header32 {
+    /// How many bytes a section header has.
+    pub const SIZEOF_SHDR: usize = 40;
+}
+
+/// What the 64-bit class has of its own.
+pub mod section_header64 {
+    /// How many bytes a section header has.
+    pub const SIZEOF_SHDR: usize = 64;
+}

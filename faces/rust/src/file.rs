@@ -1,0 +1,34 @@
+//! The bytes of a file.
+use crate::raw::Range;
+use std::ops::Deref;
+use std::{fmt, str};
+
+/// The bytes of a file. Its `Debug` tells how many they are.
+#[derive(Clone, Copy, Default)]
+pub struct File<'a>(pub &'a [u8]);
+
+impl<'a> File<'a> {
+    /// Some bytes that the library told of.
+    pub fn slice(self, range: Range) -> &'a [u8] {
+        &self.0[range.offset as usize..][..range.size as usize]
+    }
+
+    /// Some bytes that it told of as text, which is tested once more.
+    pub fn text(self, range: Range) -> &'a str {
+        str::from_utf8(self.slice(range)).expect("the library tells places of text")
+    }
+}
+
+impl Deref for File<'_> {
+    type Target = [u8];
+
+    fn deref(&self) -> &[u8] {
+        self.0
+    }
+}
+
+impl fmt::Debug for File<'_> {
+    fn fmt(&self, f: &mut fmt::Formatter<'_>) -> fmt::Result {
+        write!(f, "{} bytes", self.len())
+    }
+}

@@ -1,0 +1,189 @@
+//! What Rust's own forms give over the tables of small files that are made here.
+use goblin_rs::error::Kind;
+use goblin_rs::header::{header32, header64, *};
+use goblin_rs::note::*;
+use goblin_rs::program_header::{program_header32, program_header64, *};
+use goblin_rs::reloc::{reloc32, reloc64};
+use goblin_rs::section_header::{section_header32, section_header64, *};
+use goblin_rs::sym::{self, sym32, sym64, *};
+use goblin_rs::{Elf, Error, Name, Result};
+use std::collections::{HashMap, HashSet};
+use std::fmt::Debug;
+
+mod made;
+use made::{made, FORMS, STRINGS};
+
+/// Whether an iterator gives a list: from both ends, by turns, by jumps, cloned and counted.
+fn gives<I>(items: I, list: &[I::Item])
+where
+    I: DoubleEndedIterator + ExactSizeIterator + Clone,
+    I::Item: Clone + Debug + PartialEq,
+{
+    assert_eq!((items.len(), items.size_hint()), (list.len(), (list.len(), Some(list.len()))));
+    assert_eq!(items.clone().collect::<Vec<_>>(), list);
+    let backwards: Vec<_> = list.iter().rev().cloned().collect();
+    assert_eq!(items.clone().rev().collect::<Vec<_>>(), backwards);
+    assert_eq!((items.clone().count(), items.clone().last().as_ref()), (list.len(), list.last()));
+    for n in [0, 1, 2, 63, 64, 65, 130, usize::MAX] {
+        let mut jumped = items.clone();
+        assert_eq!(jumped.nth(n).as_ref(), list.get(n), "{n}");
+        let rest = list.get(n..).map_or(&[][..], |rest| rest.get(1..).unwrap_or(&[]));
+        assert_eq!((jumped.len(), jumped.clone().count()), (rest.len(), rest.len()), "{n}");
+        assert_eq!(jumped.collect::<Vec<_>>(), rest);
+    }
+    let (mut turns, mut left) = (items, list);
+    while let [first, middle @ ..] = left {
+        assert_eq!(turns.next().as_ref(), Some(first));
+        left = middle;
+        if let [middle @ .., last] = left {
+            assert_eq!(turns.next_back().as_ref(), Some(last));
+            left = middle;
+        }
+        assert_eq!(turns.len(), left.len());
+    }
+    assert!(turns.next().is_none() && turns.next_back().is_none() && turns.next().is_none());
+}
+
+#[test]
+fn symbols_from_both_ends() {
+    for more in [0, 1, 58, 59, 60, 123, 124, 300] {
+        let file = made(FORMS[more % 4], more);
+        let symbols = Elf::parse(&file).unwrap().syms().unwrap().unwrap();
+        let mut values = Vec::new();
+        for symbol in &symbols {
+            values.push(symbol.unwrap().st_value);
+        }
+        let made: Vec<u64> = [0, 0x1020, 0x2030, 0x3040, 0x4050].into_iter().chain(0..more as u64).collect();
+        assert_eq!(values, made);
+        gives(symbols.iter().map(|symbol| symbol.unwrap().st_value), &made);
+    }
+}
+
+#[test]
+fn tables_from_both_ends() {
+    for form in FORMS {
+        let file = made(form, 0);
+        let elf = Elf::parse(&file).unwrap();
+        gives(elf.section_headers().map(|section| section.unwrap().sh_type), &[0, 7, 2, 3, 4, 9, 3]);
+        gives(elf.program_headers().map(|segment| segment.unwrap().p_type), &[4, 1]);
+        let of_relocs: Vec<_> = elf.shdr_relocs().map(|relocs| relocs.unwrap().0.sh_type).collect();
+        assert_eq!(of_relocs, [SHT_RELA, SHT_REL]);
+        let (_, last) = elf.shdr_relocs().next_back().unwrap().unwrap();
+        gives(last.iter().map(|reloc| reloc.unwrap().r_type), &[11]);
+        let (_, first) = elf.shdr_relocs().rev().nth(1).unwrap().unwrap();
+        gives((&first).into_iter().map(|reloc| reloc.unwrap().r_offset), &[0x8, 0x18]);
+        assert_eq!((elf.section_header_count(), elf.program_header_count()), (Ok(7), Ok(2)));
+        let mut notes = elf.iter_note_sections();
+        assert_eq!(notes.clone().count(), 2);
+        assert_eq!(notes.by_ref().last().unwrap().unwrap().name, "goblin");
+        assert!(notes.next().is_none() && notes.next().is_none());
+    }
+}
+
+#[test]
+fn a_refused_list_has_its_refusal_alone() {
+    for form in FORMS {
+        let file = made(form, 0);
+        let elf = Elf::parse(&file[..100]).unwrap();
+        let offset = elf.header.e_shoff;
+        gives(elf.section_headers().map(|section| section.map_err(|e| e.kind())), &[Err(Kind::BadOffset(offset))]);
+        let refused: Vec<_> = elf.shdr_relocs().map(|relocs| relocs.err().map(|e| e.kind())).collect();
+        assert_eq!(refused, [Some(Kind::BadOffset(offset))]);
+        assert_eq!(elf.iter_note_sections().map(|note| note.err()).collect::<Vec<_>>().len(), 1);
+        assert_eq!(elf.iter_note_headers().map(|note| note.err()).collect::<Vec<_>>().len(), 1);
+        let whole = Elf::parse(&file).unwrap();
+        let mut section = whole.section_header(2).unwrap().unwrap();
+        section.sh_offset = file.len() as u64;
+        let (offset, len) = (section.sh_offset, section.sh_offset);
+        let symbols = whole.symtab(&section).unwrap();
+        gives(symbols.iter().map(|symbol| symbol.map_err(|e| e.kind())), &[Err(Kind::SymtabOffset { offset, len })]);
+        section.sh_offset -= 1;
+        let symbols = whole.symtab(&section).unwrap();
+        let past = Kind::SymtabPast { requested: section.sh_size, available: 1 };
+        gives(symbols.iter().map(|symbol| symbol.map_err(|e| e.kind())), &[Err(past)]);
+        let strings = whole.strtab(&section).get(0).map_err(|e| e.kind());
+        assert_eq!(strings, Err(Kind::StrtabRange { size: section.sh_size, offset: offset - 1, len, overflow: false }));
+    }
+}
+
+#[test]
+fn what_symbols_and_headers_are() {
+    for form in FORMS {
+        let file = made(form, 0);
+        let elf = Elf::parse(&file).unwrap();
+        assert_eq!((elf.is_64(), elf.little_endian()), (form.is_64, !form.is_big));
+        let symbols = elf.syms().unwrap().unwrap();
+        let first = symbols.get(1).unwrap().unwrap();
+        assert!(first.is_function() && !first.is_import());
+        // global and weak symbols of value 0 are imported, local ones are not
+        for (st_info, is_import, is_global_import, is_function) in
+            [(0x10, true, true, false), (0x22, true, false, true), (0x02, false, false, true), (0x1a, true, true, false)]
+        {
+            let symbol = Sym { st_info, st_value: 0, ..first };
+            assert_eq!((symbol.is_import(), symbol.is_function()), (is_import, is_function));
+            assert_eq!(sym::is_import(st_info, 0), is_global_import);
+            assert!(!Sym { st_value: 1, ..symbol }.is_import() && !sym::is_import(st_info, 1));
+        }
+        assert_eq!((get_type(0x12), st_bind(0x21), st_type(0x21), st_visibility(0xfa)), (type_to_str(2), 2, 1, 2));
+        let strings = elf.section_header(3).unwrap().unwrap();
+        let range = strings.file_range().unwrap();
+        assert_eq!(&file[range.clone()], STRINGS);
+        assert_eq!(elf.section_data(&strings), Ok(Some(&file[range])));
+        assert_eq!(SectionHeader { sh_type: SHT_NOBITS, ..strings }.file_range(), None);
+        let far = SectionHeader { sh_offset: u64::MAX - 1, sh_addr: 7, sh_size: 3, sh_flags: 5, ..strings };
+        assert_eq!((far.file_range(), far.vm_range()), (Some(usize::MAX - 1..usize::MAX), 7..10));
+        assert!(!far.is_alloc() && !far.is_writable() && !far.is_executable() && !far.is_relocation());
+        let far = SectionHeader { sh_flags: 7, sh_type: SHT_RELA, ..far };
+        assert!(far.is_alloc() && far.is_writable() && far.is_executable() && far.is_relocation());
+        let load = elf.program_header(1).unwrap().unwrap();
+        assert_eq!((load.file_range(), load.vm_range()), (0..elf.header.e_shoff as usize, 0x4000..0x4001 + elf.header.e_shoff as usize));
+        assert!(load.is_executable() && load.is_read() && !load.is_write());
+        assert!(ProgramHeader { p_flags: PF_W, ..load }.is_write());
+    }
+}
+
+#[test]
+fn notes_and_names_as_bytes() {
+    for form in FORMS {
+        let file = made(form, 0);
+        let elf = Elf::parse(&file).unwrap();
+        let of_segment: Vec<_> = elf.segment_notes(&elf.program_header(0).unwrap().unwrap()).map(Result::unwrap).collect();
+        assert_eq!(of_segment.iter().map(|note| note.name).collect::<Vec<_>>(), ["GNU", "goblin"]);
+        let notes: HashSet<_> = elf.iter_note_headers().map(Result::unwrap).collect();
+        assert_eq!(notes, of_segment.into_iter().collect());
+        let symbols = elf.syms().unwrap().unwrap();
+        let names: Vec<_> = symbols.iter().map(|symbol| symbols.name_bytes(&symbol.unwrap()).unwrap().unwrap()).collect();
+        assert_eq!(names, [&b""[..], b"first", b"second", b"\xc3\xa9t\xc3\xa9", b"\xff"]);
+    }
+}
+
+#[test]
+fn names_are_values() {
+    fn is_one_to_use<T: AsRef<str> + Copy + Debug + Eq + std::hash::Hash + Into<String> + Ord + Send + Sync>(_: T) {}
+    let name: Name = machine_to_str(EM_X86_64);
+    is_one_to_use(name);
+    assert_eq!(name, "X86_64");
+    assert_eq!("X86_64", name);
+    assert!(*name == *"X86_64" && name.starts_with("X86") && name != machine_to_str(EM_386));
+    assert_eq!((format!("{name:>8}"), format!("{name:?}"), String::from(name)), ("  X86_64".into(), "\"X86_64\"".into(), "X86_64".into()));
+    let of_machines: HashMap<_, _> = [EM_386, EM_X86_64, EM_AARCH64].map(|machine| (machine_to_str(machine), machine)).into();
+    assert_eq!(of_machines.get("AARCH64"), Some(&183));
+    assert!(machine_to_str(EM_386) < name);
+    let refusals: HashSet<Error> = [0, 3, 15, 16].iter().filter_map(|len| Elf::parse(&made(FORMS[0], 0)[..*len]).err()).collect();
+    assert_eq!(refusals.len(), 2);
+}
+
+#[test]
+fn constants_are_the_standard_s() {
+    let of_32 = [header32::SIZEOF_EHDR, program_header32::SIZEOF_PHDR, section_header32::SIZEOF_SHDR, sym32::SIZEOF_SYM];
+    let of_64 = [header64::SIZEOF_EHDR, program_header64::SIZEOF_PHDR, section_header64::SIZEOF_SHDR, sym64::SIZEOF_SYM];
+    assert_eq!((of_32, of_64), ([52, 32, 40, 16], [64, 56, 64, 24]));
+    assert_eq!([reloc32::SIZEOF_REL, reloc32::SIZEOF_RELA, reloc64::SIZEOF_REL, reloc64::SIZEOF_RELA], [8, 12, 16, 24]);
+    assert_eq!((ELFMAG, header32::ELFCLASS, header64::ELFCLASS), (b"\x7fELF", 1, 2));
+    assert_eq!([ET_REL, ET_EXEC, ET_DYN, ET_CORE, EM_386, EM_ARM, EM_X86_64, EM_AARCH64, EM_RISCV], [1, 2, 3, 4, 3, 40, 62, 183, 243]);
+    assert_eq!([PT_LOAD, PT_DYNAMIC, PT_INTERP, PT_NOTE, PT_TLS, PT_GNU_STACK, PF_X, PF_W, PF_R], [1, 2, 3, 4, 7, 0x6474_e551, 1, 2, 4]);
+    assert_eq!([SHT_SYMTAB, SHT_STRTAB, SHT_DYNAMIC, SHT_GROUP, SHT_SYMTAB_SHNDX, SHT_GNU_HASH], [2, 3, 6, 17, 18, 0x6fff_fff6]);
+    assert_eq!([SHF_WRITE, SHF_ALLOC, SHF_EXECINSTR, SHF_TLS, SHN_ABS, SHN_COMMON, SHN_XINDEX], [1, 2, 4, 0x400, 0xfff1, 0xfff2, 0xffff]);
+    assert_eq!([STB_GLOBAL, STB_WEAK, STT_FUNC, STT_SECTION, STT_GNU_IFUNC, STV_HIDDEN, STV_PROTECTED], [1, 2, 2, 3, 10, 2, 3]);
+    assert_eq!([NT_GNU_BUILD_ID, NT_GNU_PROPERTY_TYPE_0, NT_PRSTATUS, NT_FILE], [3, 5, 1, 0x4649_4c45]);
+}

@@ -1,0 +1,104 @@
+//! Small files that are made here, in both classes and orders.
+
+/// A class and an order.
+#[derive(Clone, Copy, Debug)]
+pub struct Form {
+    pub is_64: bool,
+    pub is_big: bool,
+}
+
+pub const FORMS: [Form; 4] = [
+    Form { is_64: true, is_big: false },
+    Form { is_64: true, is_big: true },
+    Form { is_64: false, is_big: false },
+    Form { is_64: false, is_big: true },
+];
+
+impl Form {
+    pub fn wide(self) -> usize {
+        if self.is_64 { 8 } else { 4 }
+    }
+
+    /// The bytes of numbers, each with its width, where `W` is an address's.
+    pub fn numbers(self, numbers: &[(usize, u64)]) -> Vec<u8> {
+        let mut bytes = Vec::new();
+        for &(width, number) in numbers {
+            let width = if width == W { self.wide() } else { width };
+            let all = number.to_be_bytes();
+            let lowest = &all[8 - width..];
+            if self.is_big {
+                bytes.extend(lowest);
+            } else {
+                bytes.extend(lowest.iter().rev());
+            }
+        }
+        bytes
+    }
+
+    pub fn symbol(self, name: u64, value: u64, size: u64, info: u64, other: u64, section: u64) -> Vec<u8> {
+        if self.is_64 {
+            self.numbers(&[(4, name), (1, info), (1, other), (2, section), (8, value), (8, size)])
+        } else {
+            self.numbers(&[(4, name), (4, value), (4, size), (1, info), (1, other), (2, section)])
+        }
+    }
+
+    pub fn reloc_info(self, symbol: u64, kind: u64) -> u64 {
+        if self.is_64 { symbol << 32 | kind } else { symbol << 8 | kind }
+    }
+
+    pub fn segment(self, kind: u64, flags: u64, offset: u64, size: u64) -> Vec<u8> {
+        let places = [(W, offset), (W, 0x4000), (W, 0x5000), (W, size), (W, size + 1)];
+        let (first, last) = if self.is_64 { (vec![(4, flags)], vec![]) } else { (vec![], vec![(4, flags)]) };
+        self.numbers(&[&[(4, kind)], &first[..], &places, &last, &[(W, 4)]].concat())
+    }
+}
+
+const W: usize = 0;
+const SECTION_NAMES: &[u8] = b"\0.note\0.symtab\0.strtab\0.rela\0.rel\0.names\0\xff\0";
+pub const STRINGS: &[u8] = b"\0first\0second\0\xc3\xa9t\xc3\xa9\0\xff\0";
+
+/// A file of seven sections and two segments, with so many nameless symbols behind its four named ones.
+pub fn made(form: Form, more: usize) -> Vec<u8> {
+    let mut file = vec![0; if form.is_64 { 64 } else { 52 }];
+    let mut sections = vec![0; if form.is_64 { 64 } else { 40 }];
+    let mut add = |name: u64, kind: u64, content: Vec<u8>, link: u64, info: u64| {
+        let (offset, size) = (file.len() as u64, content.len() as u64);
+        let first = [(4, name), (4, kind), (W, 0x32), (W, 0x6000 + name), (W, offset), (W, size)];
+        sections.extend(form.numbers(&[&first[..], &[(4, link), (4, info), (W, 4), (W, name + 7)]].concat()));
+        file.extend(content);
+        (offset, size)
+    };
+    let mut notes = form.numbers(&[(4, 4), (4, 4), (4, 3)]);
+    notes.extend(b"GNU\0abcd");
+    notes.extend(form.numbers(&[(4, 7), (4, 5), (4, 0x1234)]));
+    notes.extend(b"goblin\0\0hello\0\0\0");
+    let notes = add(1, 7, notes, 0, 0);
+    let mut symbols = form.symbol(0, 0, 0, 0, 0, 0);
+    symbols.extend(form.symbol(1, 0x1020, 0x30, 0x12, 2, 3));
+    symbols.extend(form.symbol(7, 0x2030, 0x40, 0x21, 0, 0xfff1));
+    symbols.extend(form.symbol(14, 0x3040, 0x50, 0x10, 0, 0));
+    symbols.extend(form.symbol(20, 0x4050, 0x60, 0x10, 0, 0));
+    for number in 0..more as u64 {
+        symbols.extend(form.symbol(0, number, 0, 0, 0, 1));
+    }
+    add(7, 2, symbols, 3, 1);
+    add(15, 3, STRINGS.to_vec(), 0, 0);
+    let with_addends = [(W, 0x8), (W, form.reloc_info(1, 7)), (W, -4i64 as u64), (W, 0x18), (W, form.reloc_info(2, 9)), (W, 5)];
+    add(23, 4, form.numbers(&with_addends), 2, 1);
+    add(29, 9, form.numbers(&[(W, 0x28), (W, form.reloc_info(3, 11))]), 2, 1);
+    add(34, 3, SECTION_NAMES.to_vec(), 0, 0);
+    let section_headers = file.len() as u64;
+    file.extend(sections);
+    let program_headers = file.len() as u64;
+    file.extend(form.segment(4, 4, notes.0, notes.1));
+    file.extend(form.segment(1, 5, 0, section_headers));
+    let (class, order) = (1 + u64::from(form.is_64), 1 + u64::from(form.is_big));
+    let places = [(W, 0x1234), (W, program_headers), (W, section_headers), (4, 0x55667788)];
+    let counts = [(2, 0x99), (2, 0xaa), (2, 2), (2, 0xbb), (2, 7), (2, 6)];
+    let mut start = b"\x7fELF".to_vec();
+    start.extend(form.numbers(&[(1, class), (1, order), (1, 1), (1, 3), (1, 4), (7, 0)]));
+    start.extend(form.numbers(&[&[(2, 3), (2, 0x3e), (4, 1)], &places[..], &counts].concat()));
+    file[..start.len()].copy_from_slice(&start);
+    file
+}
