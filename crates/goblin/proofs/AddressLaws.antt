@@ -1,143 +1,243 @@
--- The symbol that is found for an address is the highest.
-use Rattle.std.proofs.Common.{◌≡◌, ◌≤◌, ◌+◌, ◌-◌, ◌==◌, ◌&&◌, ◌||◌, ◌⊎◌, not, ℕ, zero, suc, Bool, true, false, nat_lt, if◌then◌else◌, List, [], ◌∷◌, length, drop, slice_get, Option, Some, None, ⊎_elim, inl, inr, refl, sym, ap, subst, ◌∙◌, arith}
-use Rattle.std.proofs.lemmas.Bool.{and_parts}
+-- The symbol that is found for an address comes first of all that stand at it or below it.
+use Rattle.std.proofs.Common.{◌≡◌, ◌≤◌, ◌<◌, ◌+◌, ◌*◌, ◌&&◌, ◌||◌, not, ℕ, zero, suc, Bool, true, false, ltb, eqb, cond, if◌then◌else◌, List, [], ◌∷◌, length, get_or, slice_get, Option, Some, None, ⊎_elim, refl, sym, ap, subst, ◌∙◌, arith}
+use Rattle.std.proofs.lemmas.Bool.{and_parts, and_from, cases_lt, cases_eq, lt-ltb, le-ltb, ltb-true, ltb-false, false≢true}
 use Rattle.std.proofs.lemmas.Bool.Decides.{nat_tests}
-use Rattle.std.proofs.lemmas.List.{drop_all}
-use Rattle.std.proofs.lemmas.Option.{slice_get_within}
+use Rattle.std.proofs.lemmas.List.Elements.{All-from_get_or}
+use Rattle.std.proofs.lemmas.List.Folds.{list_any_at, list_any_none}
+use Rattle.std.proofs.lemmas.List.Sums.{position_or_len_is}
+use Rattle.std.proofs.lemmas.Option.{slice_get_within, slice_get-get_or, slice_get_cases, get_or_from_slice_get}
+use Rattle.std.specs.List.{list_any, position_or_len}
 use Rattle.std.specs.Option.{option_map}
 use Rattle.goblin_records.specs.declared.sym.Sym.{Sym}
-use Rattle.goblin.proofs.Positions.{left_from}
-use Rattle.goblin.specs.Addresses.{IsHighest, SymbolAtIsHighest, found_from, is_below, is_nearer, reaches, symbol_at, taken}
+use Rattle.goblin.specs.Addresses.{IsSymbolAt, SymbolAtComesFirst, is_below, is_nearer, is_nearest, reaches, symbol_at, taken}
 
-same : {X : Type 0} (x y : X) → ◌≡◌ {A = Option X} (Some x) (Some y) → x ≡ y
-same x y is = cc
+-- how near a place is, as one number: the higher, and of two equally high the one that reaches the address
+abbrev pub rank : ℕ → Bool → ℕ
+rank value reach = 2 * value + cond reach 1 0
 
-none_of_none : {X : Type 0} (x : X) (k : ℕ) → ◌≡◌ {A = Option X} (slice_get [] k) (Some x) → ⊥
-none_of_none x k got = let within = slice_get_within [] k x got in absurd (omega (arith, within))
+near_rank : (x y : Bool) (a b : ℕ) → (ltb b a || (eqb b a && not y && x)) ≡ ltb (rank b y) (rank a x)
+near_rank true true a b = grind (arith, nat_tests)
+near_rank true false a b = grind (arith, nat_tests)
+near_rank false true a b = grind (arith, nat_tests)
+near_rank false false a b = grind (arith, nat_tests)
 
--- a symbol that is nearer stands no lower, and one that isn't no higher
-lower : (low other : Bool) (a b : ℕ) → nat_lt a b ≡ low → (low || other) ≡ false → b ≤ a
-lower true other a b test is = absurd (cc)
-lower false other a b test is = grind (arith, nat_tests)
+abbrev rank_of : ℕ → Sym → ℕ
+rank_of address s = rank s.st_value (reaches address s)
 
-not_nearer : (address : ℕ) (found : ℕ × Sym) (s : Sym) → is_nearer address (Some found) s ≡ false → s.st_value ≤ found.1.st_value
-not_nearer address found s is =
-    lower (nat_lt found.1.st_value s.st_value) (found.1.st_value == s.st_value && not (reaches address found.1) && reaches address s) found.1.st_value s.st_value refl is
+by_rank : (address : ℕ) (s other : Sym) → is_nearer address s other ≡ ltb (rank_of address other) (rank_of address s)
+by_rank address s other = near_rank (reaches address s) (reaches address other) s.st_value other.st_value
 
-higher : (low equal past other : Bool) (a b : ℕ) → nat_lt a b ≡ low → (a == b) ≡ equal → (low || (equal && past && other)) ≡ true → a ≤ b
-higher true equal past other a b test eq is = grind (arith, nat_tests)
-higher false true past other a b test eq is = grind (arith, nat_tests)
-higher false false past other a b test eq is = absurd (cc)
+order_of : (b a : ℕ) → b ≤ a → ¬ (b ≡ a) → b < a
+order_of b a le apart = ⊎_elim (λ (l : b < a). l) (λ (l : a ≤ b). absurd (apart (omega arith))) (cases_lt b a)
 
-nearer : (address : ℕ) (found : ℕ × Sym) (s : Sym) → is_nearer address (Some found) s ≡ true → found.1.st_value ≤ s.st_value
-nearer address found s is =
-    higher (nat_lt found.1.st_value s.st_value) (found.1.st_value == s.st_value) (not (reaches address found.1)) (reaches address s) found.1.st_value s.st_value refl refl is
+below_of : (k i : ℕ) → k < i + 1 → ¬ (k ≡ i) → k < i
+below_of k i l apart = order_of k i (omega arith) apart
 
--- what is taken stands no lower than what was found
-up : (test : Bool) (i : ℕ) (s : Sym) (b : ℕ × Sym) → (test ≡ true → b.1.st_value ≤ s.st_value) → (c : ℕ × Sym) × ((if test then Some (i, s) else Some b) ≡ Some c) × (b.1.st_value ≤ c.1.st_value)
-up true i s b h = ((i, s), refl, h refl)
-up false i s b h = (b, refl, omega arith)
+both_le : (a b : ℕ) → a ≤ b → b ≤ a → a ≡ b
+both_le a b h g = omega arith
 
-taken-up : (address i : ℕ) (s : Sym) (b : ℕ × Sym) → (c : ℕ × Sym) × (taken address i s (Some b) ≡ Some c) × (b.1.st_value ≤ c.1.st_value)
-taken-up address i s b =
-    up (is_below address s && is_nearer address (Some b) s) i s b (λ test. nearer address b s (and_parts (is_below address s) (is_nearer address (Some b) s) test).1)
+right_false : (x y : Bool) → (x && y) ≡ false → x ≡ true → y ≡ false
+right_false true y both is = both
+right_false false y both is = absurd (false≢true is)
 
--- nor than the symbol, where that stands below the address
-one : (near : Bool) (i : ℕ) (s : Sym) (b : ℕ × Sym) → (near ≡ false → s.st_value ≤ b.1.st_value) → (c : ℕ × Sym) × ((if near then Some (i, s) else Some b) ≡ Some c) × (s.st_value ≤ c.1.st_value)
-one true i s b h = ((i, s), refl, omega arith)
-one false i s b h = (b, refl, h refl)
+-- what a rank says of place and reach, and the other way round
+rank_high : (x y : Bool) (a b : ℕ) → rank b y ≤ rank a x → b ≤ a
+rank_high true true a b h = omega arith
+rank_high true false a b h = omega arith
+rank_high false true a b h = omega arith
+rank_high false false a b h = omega arith
 
-taken-one : (address i : ℕ) (s : Sym) (found : Option (ℕ × Sym)) → is_below address s ≡ true → (c : ℕ × Sym) × (taken address i s found ≡ Some c) × (s.st_value ≤ c.1.st_value)
-taken-one address i s None below = ((i, s), rw below refl, omega arith)
-taken-one address i s (Some b) below =
-    let choice = one (is_nearer address (Some b) s) i s b (not_nearer address b s) in
-    (choice.0, rw below choice.1, choice.2)
+rank_reaching : (x y : Bool) (a b : ℕ) → rank b y ≤ rank a x → b ≡ a → y ≡ true → x ≡ true
+rank_reaching true y a b h same reach = refl
+rank_reaching false true a b h same reach = absurd (omega arith)
+rank_reaching false false a b h same reach = reach
 
--- so what is found in the end stands no lower than any
-first_too : (address : ℕ) (s : Sym) (rest : List Sym) (last : ℕ × Sym) → (is_below address s ≡ true → s.st_value ≤ last.1.st_value) → ((k : ℕ) (other : Sym) → slice_get rest k ≡ Some other → is_below address other ≡ true → other.st_value ≤ last.1.st_value) → (k : ℕ) (other : Sym) → slice_get (s ∷ rest) k ≡ Some other → is_below address other ≡ true → other.st_value ≤ last.1.st_value
-first_too address s rest last s_low low zero other got below =
-    subst (λ (x : Sym). is_below address x ≡ true → x.st_value ≤ last.1.st_value) (same s other got) s_low below
-first_too address s rest last s_low low (suc k) other got below = low k other got below
+rank_le : (x y : Bool) (a b : ℕ) → b ≤ a → (b ≡ a → y ≡ true → x ≡ true) → rank b y ≤ rank a x
+rank_le true true a b h reach = omega arith
+rank_le true false a b h reach = omega arith
+rank_le false false a b h reach = omega arith
+rank_le false true a b h reach = ⊎_elim (λ (same : b ≡ a). absurd (false≢true (reach same refl))) (λ (apart : ¬ (b ≡ a)). let low = order_of b a h apart in omega (arith, low)) (cases_eq b a)
 
-highest : (address : ℕ) (symbols : List Sym) (i : ℕ) (found : Option (ℕ × Sym)) (last : ℕ × Sym) → found_from address i found symbols ≡ Some last → ((b : ℕ × Sym) → found ≡ Some b → b.1.st_value ≤ last.1.st_value) × ((k : ℕ) (other : Sym) → slice_get symbols k ≡ Some other → is_below address other ≡ true → other.st_value ≤ last.1.st_value)
-highest address [] i found last is = (
-  λ b before. subst (λ (x : ℕ × Sym). b.1.st_value ≤ x.1.st_value) (same b last (sym before ∙ is)) (omega arith),
-  λ k other got below. absurd (none_of_none other k got),
-)
-highest address (s ∷ rest) i found last is =
-    let later = highest address rest (suc i) (taken address i s found) last is in (
-      λ b before.
-          let more = taken-up address i s b in
-          let end = later.0 more.0 (ap (taken address i s) before ∙ more.1) in
-          omega (arith, more.2, end),
-      first_too address s rest last
-          (λ below. let more = taken-one address i s found below in let end = later.0 more.0 more.1 in omega (arith, more.2, end))
-          later.1,
-    )
+rank_same : (x y : Bool) (a b : ℕ) → rank b y ≡ rank a x → (b ≡ a) × (y ≡ x)
+rank_same true true a b same = (omega arith, refl)
+rank_same true false a b same = absurd (omega arith)
+rank_same false true a b same = absurd (omega arith)
+rank_same false false a b same = (omega arith, refl)
 
--- and it is one of the symbols, at its index, below the address
-abbrev Member : ℕ → ℕ → Option (ℕ × Sym) → List Sym → ℕ × Sym → Type 0
-Member address i found symbols last =
-    (found ≡ Some last) ⊎ ((i ≤ last.0) × (slice_get symbols (last.0 - i) ≡ Some last.1) × (is_below address last.1 ≡ true))
+-- ---- a search through the symbols, one after another
+-- this one, with its index, is what is found among the first i
+pub record IsSoFar (address : ℕ) (symbols : List Sym) (i : ℕ) (found : ℕ × Sym) : Type 0 where
+  pub within : found.0 < i
+  pub there : slice_get symbols found.0 ≡ Some found.1
+  pub below : is_below address found.1 ≡ true
+  pub highest : (k : ℕ) (other : Sym) → k < i → slice_get symbols k ≡ Some other → is_below address other ≡ true → rank_of address other ≤ rank_of address found.1
+  pub first : (k : ℕ) (other : Sym) → k < found.0 → slice_get symbols k ≡ Some other → is_below address other ≡ true → rank_of address other < rank_of address found.1
 
-split : (address i : ℕ) (found : Option (ℕ × Sym)) (s : Sym) (rest : List Sym) (last : ℕ × Sym) (test : Bool) → (is_below address s && is_nearer address found s) ≡ test → (if test then Some (i, s) else found) ≡ Some last → Member address i found (s ∷ rest) last
-split address i found s rest last true tested is =
-    let place : i - i ≡ 0 = omega arith in
-    subst (Member address i found (s ∷ rest)) (same (i, s) last is)
-    (inr (omega arith, ap (slice_get (s ∷ rest)) place, (and_parts (is_below address s) (is_nearer address found s) tested).0))
-split address i found s rest last false tested is = inl is
+abbrev pub IsFound : ℕ → List Sym → ℕ → Option (ℕ × Sym) → Type 0
+IsFound address symbols i (Some found) = IsSoFar address symbols i found
+IsFound address symbols i None = (k : ℕ) (other : Sym) → k < i → slice_get symbols k ≡ Some other → is_below address other ≡ false
 
-member : (address : ℕ) (symbols : List Sym) (i : ℕ) (found : Option (ℕ × Sym)) (last : ℕ × Sym) → found_from address i found symbols ≡ Some last → Member address i found symbols last
-member address [] i found last is = inl is
-member address (s ∷ rest) i found last is = ⊎_elim
-    (λ (here : taken address i s found ≡ Some last). split address i found s rest last (is_below address s && is_nearer address found s) refl here)
-    (λ (there : (suc i ≤ last.0) × (slice_get rest (last.0 - suc i) ≡ Some last.1) × (is_below address last.1 ≡ true)).
-    let place : last.0 - i ≡ suc (last.0 - suc i) = omega (arith, there.0) in
-    inr (omega (arith, there.0), ap (slice_get (s ∷ rest)) place ∙ there.1, there.2))
-    (member address rest (suc i) (taken address i s found) last is)
+same_item : (symbols : List Sym) (i k : ℕ) (s other : Sym) → slice_get symbols i ≡ Some s → slice_get symbols k ≡ Some other → k ≡ i → other ≡ s
+same_item symbols i k s other got got_other same = let at = ap (slice_get symbols) same in cc
 
--- where none is found, none stands below the address
-below_not : (address i : ℕ) (s : Sym) (test : Bool) → is_below address s ≡ test → ◌≡◌ {A = Option (ℕ × Sym)} (if test && true then Some (i, s) else None) None → is_below address s ≡ false
-below_not address i s true tested none = absurd (cc)
-below_not address i s false tested none = tested
+module _ (address i : ℕ) (symbols : List Sym) (s : Sym) (got : slice_get symbols i ≡ Some s) where
+  -- the new one, or one before it
+  one_of : (k : ℕ) (other : Sym) (P : Sym → Type 0) → k < i + 1 → slice_get symbols k ≡ Some other → P s → (k < i → P other) → P other
+  one_of k other P l g here before = ⊎_elim
+      (λ (same : k ≡ i). subst P (sym (same_item symbols i k s other got g same)) here)
+      (λ (apart : ¬ (k ≡ i)). before (below_of k i l apart))
+      (cases_eq k i)
 
-untaken : (address i : ℕ) (s : Sym) (found : Option (ℕ × Sym)) → taken address i s found ≡ None → (found ≡ None) × (is_below address s ≡ false)
-untaken address i s (Some b) is = let more = taken-up address i s b in absurd (let both = sym more.1 ∙ is in cc)
-untaken address i s None is = (refl, below_not address i s (is_below address s) refl is)
+  first_one : (test : Bool) → is_below address s ≡ test → IsFound address symbols i None → IsFound address symbols (i + 1) (if test then Some (i, s) else None)
+  first_one true below none = record {
+    within = omega arith;
+    there = got;
+    below = below;
+    highest = λ k other l g b. one_of k other (λ x. rank_of address x ≤ rank_of address s) l g (omega arith) (λ m. absurd (false≢true (sym (none k other m g) ∙ b)));
+    first = λ k other m g b. absurd (false≢true (sym (none k other m g) ∙ b));
+  }
+  first_one false above none = λ k other l g. one_of k other (λ x. is_below address x ≡ false) l g above (λ m. none k other m g)
 
-first_not : (address : ℕ) (s : Sym) (rest : List Sym) → is_below address s ≡ false → ((k : ℕ) (other : Sym) → slice_get rest k ≡ Some other → is_below address other ≡ false) → (k : ℕ) (other : Sym) → slice_get (s ∷ rest) k ≡ Some other → is_below address other ≡ false
-first_not address s rest not_s none zero other got = subst (λ (x : Sym). is_below address x ≡ false) (same s other got) not_s
-first_not address s rest not_s none (suc k) other got = none k other got
+  next_one : (found : ℕ × Sym) (test : Bool) → (is_below address s && is_nearer address s found.1) ≡ test → IsSoFar address symbols i found → IsFound address symbols (i + 1) (if test then Some (i, s) else Some found)
+  next_one found true tested so =
+      let parts = and_parts (is_below address s) (is_nearer address s found.1) tested in
+      let higher : rank_of address found.1 < rank_of address s = ltb-true _ _ (sym (by_rank address s found.1) ∙ parts.1) in
+      record {
+        within = omega arith;
+        there = got;
+        below = parts.0;
+        highest = λ k other l g b. one_of k other (λ x. rank_of address x ≤ rank_of address s) l g (omega arith) (λ m. let low = so.highest k other m g b in omega (arith, low, higher));
+        first = λ k other m g b. let low = so.highest k other m g b in omega (arith, low, higher);
+      }
+  next_one found false tested so = record {
+    within = let before = so.within in omega (arith, before);
+    there = so.there;
+    below = so.below;
+    highest = λ k other l g b. one_of k other (λ x. is_below address x ≡ true → rank_of address x ≤ rank_of address found.1) l g
+        (λ below. ltb-false _ _ (sym (by_rank address s found.1) ∙ right_false (is_below address s) (is_nearer address s found.1) tested below))
+        (λ m below. so.highest k other m g below) b;
+    first = so.first;
+  }
 
-none_below : (address : ℕ) (symbols : List Sym) (i : ℕ) (found : Option (ℕ × Sym)) → found_from address i found symbols ≡ None → (found ≡ None) × ((k : ℕ) (other : Sym) → slice_get symbols k ≡ Some other → is_below address other ≡ false)
-none_below address [] i found is = (is, λ k other got. absurd (none_of_none other k got))
-none_below address (s ∷ rest) i found is =
-    let later = none_below address rest (suc i) (taken address i s found) is in
-    let here = untaken address i s found later.0 in
-    (here.0, first_not address s rest here.1 later.1)
+  one_more : (found : Option (ℕ × Sym)) → IsFound address symbols i found → IsFound address symbols (i + 1) (taken address i s found)
+  one_more None none = first_one (is_below address s) refl none
+  one_more (Some found) so = next_one found (is_below address s && is_nearer address s found.1) refl so
 
-answer : (address : ℕ) (symbols : List Sym) (found : Option (ℕ × Sym)) → found_from address 0 None symbols ≡ found → IsHighest address symbols (option_map (λ (x : ℕ × Sym). x.0) found)
-answer address symbols (Some last) is = ⊎_elim
-    (λ (no : ◌≡◌ {A = Option (ℕ × Sym)} None (Some last)). absurd (cc))
-    (λ (there : (0 ≤ last.0) × (slice_get symbols (last.0 - 0) ≡ Some last.1) × (is_below address last.1 ≡ true)).
-    let place : last.0 ≡ last.0 - 0 = omega arith in
-    (last.1, ap (slice_get symbols) place ∙ there.1, there.2, (highest address symbols 0 None last is).1))
-    (member address symbols 0 None last is)
-answer address symbols None is = (none_below address symbols 0 None is).1
+pub found_one_more : (address i : ℕ) (symbols : List Sym) (s : Sym) (found next : Option (ℕ × Sym)) → slice_get symbols i ≡ Some s → next ≡ taken address i s found → IsFound address symbols i found → IsFound address symbols (i + 1) next
+found_one_more address i symbols s found next got is so = subst (IsFound address symbols (i + 1)) (sym is) (one_more address i symbols s got found so)
 
-pub symbol_at_is_highest : SymbolAtIsHighest
-unfolding symbol_at
-symbol_at_is_highest address symbols = answer address symbols (found_from address 0 None symbols) refl
-
--- one step more, and the end
-pub found_one_more : (address : ℕ) (symbols : List Sym) (i : ℕ) (found next : Option (ℕ × Sym)) (s : Sym) → slice_get symbols i ≡ Some s → next ≡ taken address i s found → found_from address i found (drop i symbols) ≡ found_from address 0 None symbols → found_from address (i + 1) next (drop (i + 1) symbols) ≡ found_from address 0 None symbols
-found_one_more address symbols i found next s got is so =
-    let step : found_from address i found (drop i symbols) ≡ found_from address (suc i) (taken address i s found) (drop (i + 1) symbols) = ap (found_from address i found) (left_from symbols i s got) in
+-- something is found in the end
+found_up_to : (address : ℕ) (symbols : List Sym) (i : ℕ) → i ≤ length symbols → (found : Option (ℕ × Sym)) × IsFound address symbols i found
+found_up_to address symbols zero all = (None, λ k other l g. absurd (omega arith))
+found_up_to address symbols (suc i) all =
+    let before = found_up_to address symbols i (omega arith) in
     let more : i + 1 ≡ suc i = omega arith in
-    ap (λ (k : ℕ). found_from address k next (drop (i + 1) symbols)) more ∙ ap (λ (x : Option (ℕ × Sym)). found_from address (suc i) x (drop (i + 1) symbols)) is ∙ sym step ∙ so
+    ⊎_elim
+    (λ (here : (x : Sym) × (i < length symbols) × (slice_get symbols i ≡ Some x) × (get_or symbols i x ≡ x)).
+    (taken address i here.0 before.0, subst (λ (n : ℕ). IsFound address symbols n (taken address i here.0 before.0)) more (one_more address i symbols here.0 here.2 before.0 before.1)))
+    (λ (past : (length symbols ≤ i) × (slice_get symbols i ≡ None)). absurd (omega (arith, past.0)))
+    (slice_get_cases symbols i).1
 
-pub found_all : (address : ℕ) (symbols : List Sym) (i : ℕ) (found : Option (ℕ × Sym)) → length symbols ≤ i → found_from address i found (drop i symbols) ≡ found_from address 0 None symbols → option_map (λ (x : ℕ × Sym). x.0) found ≡ symbol_at address symbols
-unfolding symbol_at
-found_all address symbols i found all so =
-    let none : drop i symbols ≡ [] = drop_all i symbols all in
-    ap (option_map (λ (x : ℕ × Sym). x.0)) (sym (ap (found_from address i found) none) ∙ so)
+-- ---- and that is the first of the nearest
+none_passes : (p : Sym → Bool) (symbols : List Sym) → ((k : ℕ) (s : Sym) → slice_get symbols k ≡ Some s → p s ≡ false) → position_or_len p symbols ≡ length symbols
+none_passes p [] none = refl
+none_passes p (s ∷ symbols) none =
+    let rest = none_passes p symbols (λ k x g. none (suc k) x g) in
+    rw (none 0 s refl) (omega (arith, rest))
+
+not_nearer : (address : ℕ) (s other : Sym) (x : Bool) → (x ≡ true → rank_of address other ≤ rank_of address s) → (x && is_nearer address other s) ≡ false
+not_nearer address s other true low = by_rank address other s ∙ le-ltb _ _ (low refl)
+not_nearer address s other false low = refl
+
+passed_over : (x any : Bool) → (x ≡ true → any ≡ true) → (x && not any) ≡ false
+passed_over true any h = ap not (h refl)
+passed_over false any h = refl
+
+module _ (address : ℕ) (symbols : List Sym) where
+  abbrev nearer_than : Sym → Sym → Bool
+  nearer_than s other = is_below address other && is_nearer address other s
+
+  module _ (found : ℕ × Sym) (so : IsSoFar address symbols (length symbols) found) where
+    none_nearer : list_any (nearer_than found.1) symbols ≡ false
+    none_nearer = list_any_none (nearer_than found.1) symbols
+        (All-from_get_or (λ x. nearer_than found.1 x ≡ false) symbols found.1
+        (λ k l. let other = get_or symbols k found.1 in not_nearer address found.1 other (is_below address other) (λ b. so.highest k other l (slice_get-get_or symbols k found.1 l) b)))
+
+    is_first : (k : ℕ) → k < found.0 → is_nearest address symbols (get_or symbols k found.1) ≡ false
+    is_first k l =
+        let other = get_or symbols k found.1 in
+        let within = so.within in
+        let there : get_or symbols found.0 found.1 ≡ found.1 = get_or_from_slice_get symbols found.0 found.1 found.1 so.there in
+        passed_over (is_below address other) (list_any (nearer_than other) symbols)
+        (λ b. list_any_at (nearer_than other) symbols found.0 found.1 within
+        (ap (nearer_than other) there ∙ and_from _ _ so.below (by_rank address found.1 other ∙ lt-ltb _ _ (so.first k other l (slice_get-get_or symbols k found.1 (omega (arith, l, within))) b))))
+
+    is_at : position_or_len (is_nearest address symbols) symbols ≡ found.0
+    is_at =
+        let within = so.within in
+        let there : get_or symbols found.0 found.1 ≡ found.1 = get_or_from_slice_get symbols found.0 found.1 found.1 so.there in
+        position_or_len_is (is_nearest address symbols) symbols found.0 found.1 (omega (arith, within)) is_first
+        (λ l. ap (is_nearest address symbols) there ∙ and_from _ _ so.below (ap not none_nearer))
+
+  found_is : (found : Option (ℕ × Sym)) → IsFound address symbols (length symbols) found → option_map (λ (x : ℕ × Sym). x.0) found ≡ symbol_at address symbols
+  unfolding symbol_at
+  found_is (Some found) so = rw (is_at found so, lt-ltb found.0 (length symbols) so.within) refl
+  found_is None none =
+      let at : position_or_len (is_nearest address symbols) symbols ≡ length symbols =
+      none_passes (is_nearest address symbols) symbols (λ k s g. ap (λ b. b && not (list_any (nearer_than s) symbols)) (none k s (slice_get_within symbols k s g) g)) in
+      rw (at, le-ltb (length symbols) (length symbols) (omega arith)) refl
+
+  -- which says what the law says
+  found_comes_first : (found : Option (ℕ × Sym)) → IsFound address symbols (length symbols) found → IsSymbolAt address symbols (option_map (λ (x : ℕ × Sym). x.0) found)
+  found_comes_first None none = λ k other g. none k other (slice_get_within symbols k other g) g
+  found_comes_first (Some found) so = (
+    found.1,
+    so.there,
+    so.below,
+    λ k other g b.
+        let s = found.1 in
+        let low = so.highest k other (slice_get_within symbols k other g) g b in
+        record {
+          high = rank_high (reaches address s) (reaches address other) s.st_value other.st_value low;
+          reaching = rank_reaching (reaches address s) (reaches address other) s.st_value other.st_value low;
+          early = λ same reach. ⊎_elim
+              (λ (l : k < found.0). let lower = so.first k other l g b in let as_high = ap (λ r. rank other.st_value r) reach ∙ ap (λ v. rank v (reaches address s)) same in absurd (omega (arith, lower, as_high)))
+              (λ (l : found.0 ≤ k). l)
+              (cases_lt k found.0);
+        },
+  )
+
+  first_is_found : (answer : Option ℕ) → IsSymbolAt address symbols answer → (found : Option (ℕ × Sym)) × (option_map (λ (x : ℕ × Sym). x.0) found ≡ answer) × IsFound address symbols (length symbols) found
+  first_is_found None none = (None, refl, λ k other l g. none k other g)
+  first_is_found (Some i) at =
+      let s = at.0 in
+      let low : (k : ℕ) (other : Sym) → slice_get symbols k ≡ Some other → is_below address other ≡ true → rank_of address other ≤ rank_of address s =
+      (λ k other g b. let comes = at.3 k other g b in rank_le (reaches address s) (reaches address other) s.st_value other.st_value comes.high comes.reaching) in (
+        Some (i, s),
+        refl,
+        record {
+          within = slice_get_within symbols i s at.1;
+          there = at.1;
+          below = at.2;
+          highest = λ k other l g b. low k other g b;
+          first = λ k other l g b. ⊎_elim
+              (λ (lower : rank_of address other < rank_of address s). lower)
+              (λ (as_high : rank_of address s ≤ rank_of address other).
+              let equal : rank_of address other ≡ rank_of address s = both_le _ _ (low k other g b) as_high in
+              let parts = rank_same (reaches address s) (reaches address other) s.st_value other.st_value equal in
+              let late = (at.3 k other g b).early parts.0 parts.1 in
+              absurd (omega (arith, late, l)))
+              (cases_lt (rank_of address other) (rank_of address s));
+        },
+      )
+
+pub symbol_at_comes_first : SymbolAtComesFirst
+symbol_at_comes_first address symbols answer = (
+  (λ is.
+      let end = found_up_to address symbols (length symbols) (omega arith) in
+      subst (IsSymbolAt address symbols) (found_is address symbols end.0 end.1 ∙ is) (found_comes_first address symbols end.0 end.1)),
+  (λ at. let end = first_is_found address symbols answer at in sym (found_is address symbols end.0 end.2) ∙ end.1),
+)
+
+pub found_all : (address : ℕ) (symbols : List Sym) (i : ℕ) (found : Option (ℕ × Sym)) → i ≡ length symbols → IsFound address symbols i found → option_map (λ (x : ℕ × Sym). x.0) found ≡ symbol_at address symbols
+found_all address symbols i found all so = found_is address symbols found (subst (λ (n : ℕ). IsFound address symbols n found) all so)

@@ -1,6 +1,6 @@
 -- The symbol that an address lies in (System V gABI, "Symbol Table").
-use Rattle.std.specs.Prelude.{◌≡◌, ◌+◌, ◌≤◌, ◌==◌, ◌&&◌, ◌||◌, not, ℕ, suc, Bool, true, false, nat_lt, nat_le, if◌then◌else◌, List, [], ◌∷◌, slice_get, Option, Some, None}
-use Rattle.std.specs.Option.{option_map}
+use Rattle.std.specs.Prelude.{◌≡◌, ◌↔◌, ◌+◌, ◌≤◌, ◌==◌, ◌&&◌, ◌||◌, not, ℕ, Bool, true, false, nat_lt, nat_le, if◌then◌else◌, List, position, slice_get, Option, Some, None}
+use Rattle.std.specs.List.{list_any}
 use Rattle.goblin_records.specs.declared.sym.Sym.{Sym}
 use Rattle.goblin_records.specs.SymParts.{type_of}
 
@@ -19,31 +19,42 @@ is_below address s = has_place s && nat_le s.st_value address
 abbrev pub reaches : ℕ → Sym → Bool
 reaches address s = nat_lt address (s.st_value + s.st_size)
 
--- a symbol is taken in place of the one so far, where that is lower, or at the same place and doesn't reach the address
-abbrev pub is_nearer : ℕ → Option (ℕ × Sym) → Sym → Bool
-is_nearer address None s = true
-is_nearer address (Some found) s =
-    nat_lt found.1.st_value s.st_value || (found.1.st_value == s.st_value && not (reaches address found.1) && reaches address s)
+-- of two symbols the first is nearer: it stands higher, or as high and reaches the address where the other doesn't
+abbrev pub is_nearer : ℕ → Sym → Sym → Bool
+is_nearer address s other =
+    nat_lt other.st_value s.st_value || (other.st_value == s.st_value && not (reaches address other) && reaches address s)
 
--- what is taken of the symbol at an index, and of what was found before it
-abbrev pub taken : ℕ → ℕ → Sym → Option (ℕ × Sym) → Option (ℕ × Sym)
-taken address i s found = if is_below address s && is_nearer address found s then Some (i, s) else found
+-- it stands at an address or below it, and of the symbols that do none is nearer
+abbrev pub is_nearest : ℕ → List Sym → Sym → Bool
+is_nearest address symbols s = is_below address s && not (list_any (λ other. is_below address other && is_nearer address other s) symbols)
 
--- what is found when symbols are gone through, the first of which has this index
-abbrev pub found_from : ℕ → ℕ → Option (ℕ × Sym) → List Sym → Option (ℕ × Sym)
-found_from address i found [] = found
-found_from address i found (s ∷ symbols) = found_from address (suc i) (taken address i s found) symbols
-
--- the index of the symbol that an address lies in
+-- the index of the symbol that an address lies in: the first of the nearest
 unfoldable pub symbol_at : ℕ → List Sym → Option ℕ
-symbol_at address symbols = option_map (λ (found : ℕ × Sym). found.0) (found_from address 0 None symbols)
+symbol_at address symbols = position (is_nearest address symbols) symbols
 
--- the symbol that is found stands at the address or below it, and no other that does so stands higher
-abbrev pub IsHighest : ℕ → List Sym → Option ℕ → Type 0
-IsHighest address symbols (Some i) =
+-- a symbol is taken in place of the one that was found before it
+abbrev pub is_taken : ℕ → Sym → Option (ℕ × Sym) → Bool
+is_taken address s None = is_below address s
+is_taken address s (Some found) = is_below address s && is_nearer address s found.1
+
+-- what is found then, where its index is i
+abbrev pub taken : ℕ → ℕ → Sym → Option (ℕ × Sym) → Option (ℕ × Sym)
+taken address i s found = if is_taken address s found then Some (i, s) else found
+
+-- Of two symbols at an address or below it the one with index i comes first: it stands no lower; where they stand equally
+-- high it reaches the address if the other does; and where both do or neither does its index is the lower one.
+pub record ComesFirst (address i : ℕ) (s : Sym) (k : ℕ) (other : Sym) : Type 0 where
+  pub high : other.st_value ≤ s.st_value
+  pub reaching : other.st_value ≡ s.st_value → reaches address other ≡ true → reaches address s ≡ true
+  pub early : other.st_value ≡ s.st_value → reaches address other ≡ reaches address s → i ≤ k
+
+-- the symbol at an index stands at the address or below it, and comes first of all that do; where there is none, none does
+abbrev pub IsSymbolAt : ℕ → List Sym → Option ℕ → Type 0
+IsSymbolAt address symbols (Some i) =
     (s : Sym) × (slice_get symbols i ≡ Some s) × (is_below address s ≡ true)
-    × ((k : ℕ) (other : Sym) → slice_get symbols k ≡ Some other → is_below address other ≡ true → other.st_value ≤ s.st_value)
-IsHighest address symbols None = (k : ℕ) (other : Sym) → slice_get symbols k ≡ Some other → is_below address other ≡ false
+    × ((k : ℕ) (other : Sym) → slice_get symbols k ≡ Some other → is_below address other ≡ true → ComesFirst address i s k other)
+IsSymbolAt address symbols None = (k : ℕ) (other : Sym) → slice_get symbols k ≡ Some other → is_below address other ≡ false
 
-abbrev pub SymbolAtIsHighest : Type 0
-SymbolAtIsHighest = (address : ℕ) (symbols : List Sym) → IsHighest address symbols (symbol_at address symbols)
+-- this is what is answered, and nothing else
+abbrev pub SymbolAtComesFirst : Type 0
+SymbolAtComesFirst = (address : ℕ) (symbols : List Sym) (answer : Option ℕ) → (symbol_at address symbols ≡ answer) ↔ IsSymbolAt address symbols answer

@@ -53,7 +53,7 @@ unfolding range_in
 whole_range mode file = cond-false _ _ _ (le-ltb (length file) 0 (omega arith)) ∙ cond-false _ _ _ (le-ltb (length file) (0 + length file) (omega arith)) ∙ ap Ok (take_all (length file) file (omega arith))
 
 -- where the delimiter stands first, or the length
-first_or_length : (t : ℕ → Bool) (xs : List ℕ) → unwrap_or (position t xs) (length xs) ≡ position_or_len t xs
+pub first_or_length : (t : ℕ → Bool) (xs : List ℕ) → unwrap_or (position t xs) (length xs) ≡ position_or_len t xs
 first_or_length t xs = ⊎_elim
     (λ (l : position_or_len t xs < length xs). ap (λ r. unwrap_or r (length xs)) (cond-true _ _ _ (lt-ltb (position_or_len t xs) (length xs) l)))
     (λ (l : length xs ≤ position_or_len t xs). ap (λ r. unwrap_or r (length xs)) (cond-false _ _ _ (le-ltb (position_or_len t xs) (length xs) l)) ∙ (let e : length xs ≡ position_or_len t xs = omega (arith, prefix_len-le-length (λ b. not (t b)) xs) in e))
@@ -68,6 +68,13 @@ piece_of_rest bytes d o n rest cut r e f g h =
     let is : cut ≡ piece bytes d o = h ∙ ap (λ k. take k rest) len ∙ ap (take (position_or_len t (drop o bytes))) e in
     let left : length rest ≡ length bytes - o = ap length e ∙ length-drop o bytes in
     ap (λ b. text_or_fault b (length rest)) is ∙ ap (text_or_fault (piece bytes d o)) left
+
+-- and read there as from the front
+pub plain_of_rest : (bytes : List ℕ) (d o : ℕ) (rest : List ℕ) → rest ≡ drop o bytes → plain rest d 0 ≡ plain bytes d o
+unfolding piece
+plain_of_rest bytes d o rest e =
+    let left : length (drop o bytes) - 0 ≡ length bytes - o = omega (arith, length-drop o bytes) in
+    ap (λ r. plain r d 0) e ∙ ap (text_or_fault (piece bytes d o)) left
 
 -- a look-up in a table that was parsed
 module _ (bytes : List ℕ) (d : ℕ) (is_parsed : Bool) (t : StringTable) (es : List (ℕ × List ℕ)) (o : ℕ) (is : record { bytes = bytes; delim = d; is_parsed = is_parsed } ≡ t) (parsed : is_parsed ≡ true) (walked_is : es ≡ entries bytes d) (l : o < length bytes) where

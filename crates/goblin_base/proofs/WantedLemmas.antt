@@ -1,6 +1,6 @@
 -- Names among the strings of a table, found by comparing.
-use Rattle.std.proofs.Common.{◌≡◌, ℕ, ◌+◌, ◌-◌, ◌<◌, ◌≤◌, Bool, true, false, if◌then◌else◌, not, ◌&&◌, ◌||◌, eqb, leb, ltb, List, length, get_or, take, drop, refl, sym, ap, subst, ◌∙◌, ⊎_elim, arith, Ok, Err}
-use Rattle.std.proofs.lemmas.Bool.{cases_lt, cases_Bool, le-leb, leb-true, and_parts, and_from, or_cases, or_left, or_right, not-true, not_from_false, false_from_ne_true, both_ways, false≢true}
+use Rattle.std.proofs.Common.{◌≡◌, ℕ, ◌<◌, ◌≤◌, Bool, true, false, if◌then◌else◌, not, ◌&&◌, eqb, leb, ltb, List, length, get_or, take, drop, refl, sym, ap, subst, ◌∙◌, ⊎_elim, arith, Ok, Err}
+use Rattle.std.proofs.lemmas.Bool.{cases_lt, le-leb, leb-true, and_parts, and_from, or_cases, or_left, or_right, not-true, not_from_false, false_from_ne_true, both_ways, false≢true}
 use Rattle.std.proofs.lemmas.Bool.Decides.{same_from_decides}
 use Rattle.std.proofs.lemmas.List.{get_or-take, length-take-le, length-take}
 use Rattle.std.proofs.lemmas.List.Folds.{list_any_at, list_any_none}
@@ -8,7 +8,7 @@ use Rattle.std.proofs.lemmas.List.Sums.{prefix_len-le-length, fails_before_first
 use Rattle.std.proofs.lemmas.Slice.Eq.{bytes_eq-Decides}
 use Rattle.std.specs.Bool.{Decides}
 use Rattle.std.specs.List.{position_or_len, list_any}
-use Rattle.std.specs.Str.{bytes_eq, is_utf8}
+use Rattle.std.specs.Str.{is_utf8}
 use Rattle.goblin_base.specs.Pieces.{piece}
 use Rattle.goblin_base.specs.Refusal.{Refusal}
 use Rattle.goblin_base.specs.Strtab.{StringTable, has_name, is_text_of}

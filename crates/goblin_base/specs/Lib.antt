@@ -1,3 +1,4 @@
+pub mod Ascii
 pub mod Container
 pub mod Eager
 pub mod Entries

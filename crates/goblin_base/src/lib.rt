@@ -2,6 +2,7 @@
 //! that bytes stand for, and records and tables of them.
 #![tactic(auto)]
 
+mod ascii;
 pub mod container;
 pub mod entries;
 pub mod error;

@@ -10,6 +10,7 @@ ghost use Rattle.goblin_base.specs.Strtab.{RefusesFirst, has_name, look_up, plai
 ghost use Rattle.goblin_base.specs.Wanted.{can_be_string, stands_at};
 ghost use Rattle.goblin_base.specs.StrtabLaws.{ClosedForm, DependsOnRange, DigitsCount, JoinsAgain, LookUpHasPlain, PermissiveAccepts, StrictIsPermissive, StrictLookUpIsPlain, TextIsUtf8, NamesArePlain, TextIsTaken};
 
+use crate::ascii::ascii_piece;
 use crate::entries::{Entries, Looked, Probes};
 use crate::error::{Error, Fault, Result};
 use crate::find::find;
@@ -50,6 +51,9 @@ fn get_str(offset: usize, bytes: &[u8], delim: u8) -> Result<&str>
     ensures { Answers (λ text. text.now) result (plain bytes.now delim offset) }
 {
     let rest = &bytes[offset..];
+    if let Some(text) = ascii_piece(rest, delim) {
+        return Ok(text);
+    }
     let len = position(rest, delim).unwrap_or(rest.len());
     read_text(&rest[..len], rest.len())
 }

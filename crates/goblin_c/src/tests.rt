@@ -1,7 +1,9 @@
 //! Each export on a small file of the 32-bit class in little order: its header, the strings "" and "f",
 //! two symbols, and three section headers, for nothing, for the strings and for the symbols.
 use crate::layout::marked_layout;
-use crate::types::{GoblinHeader, GoblinRange, GoblinRefusal, GoblinReloc, GoblinSymbol};
+use crate::types::{
+    GoblinHeader, GoblinNote, GoblinRange, GoblinRefusal, GoblinReloc, GoblinSymbol,
+};
 use crate::*;
 
 static FILE: &[u8; 208] = b"\x7fELF\x01\x01\x01\0\0\0\0\0\0\0\0\0\
@@ -255,6 +257,43 @@ fn places_strings(rt: HostRuntime) {
     assert!(rt; string(4) == (1, 9, 9));
 }
 
+// A string of 17 bytes, one of 16 and a character of two, one of 16 and a byte that begins no character, and 16 bytes up
+// to the end.
+static LONG: &[u8; 71] = b"abcdefghijklmnopq\0\
+    0123456789abcdef\xc2\xa2\0\
+    0123456789abcdef\x80\0\
+    0123456789abcdef";
+
+// The answer for a string of these, with its size or the refusal's first number.
+fn long_string(offset: u64) -> (u32, u64) {
+    let (mut told, all) = (
+        STRINGS,
+        GoblinRange {
+            offset: 0,
+            size: 71,
+        },
+    );
+    let mut why = marked_layout().refusal;
+    let status = goblin_string(LONG, &all, offset, &mut told, &mut why);
+    if status > 1 {
+        return (status, why.first);
+    }
+    (status, told.size)
+}
+
+#[test]
+fn places_long_strings(rt: HostRuntime) {
+    assert!(rt;
+        long_string(0) == (0, 17) && long_string(1) == (0, 16) && long_string(17) == (0, 0)
+    );
+    assert!(rt;
+        long_string(18) == (0, 18) && long_string(55) == (0, 16) && long_string(70) == (0, 1)
+    );
+    assert!(rt;
+        long_string(37) == (5, 34) && long_string(40) == (5, 31) && long_string(53) == (5, 18)
+    );
+}
+
 static RELOC: &[u8; 12] = b"\x10\0\0\0\x01\x02\0\0\xfc\xff\xff\xff";
 
 const ALL: GoblinRange = GoblinRange {
@@ -324,10 +363,89 @@ fn reads_each_order_but_2_alike(rt: HostRuntime) {
     assert!(rt; reads_pair(8, 0, 3).2 == 0);
 }
 
+// A header of the 32-bit class in big order whose fields differ from one another: behind the first 16 bytes stand
+// 1 to 40, the bytes of a record of each kind too.
+static EACH: &[u8; 56] = b"\x7fELF\x01\x02\x03\x04\x05\0\0\0\0\0\0\0\
+    \x01\x02\x03\x04\x05\x06\x07\x08\x09\x0a\x0b\x0c\x0d\x0e\x0f\x10\x11\x12\x13\x14\
+    \x15\x16\x17\x18\x19\x1a\x1b\x1c\x1d\x1e\x1f\x20\x21\x22\x23\x24\x25\x26\x27\x28";
+
+// That header, by which a section and a segment lie behind the first 16 bytes.
+fn each_header() -> GoblinHeader {
+    let (mut told, mut why) = (marked_layout().header, marked_layout().refusal);
+    let _status = goblin_header(EACH, &mut told, &mut why);
+    told
+}
+
+fn each_in_place() -> GoblinHeader {
+    let mut header = each_header();
+    (header.e_shoff, header.e_shnum) = (16, 1);
+    (header.e_phoff, header.e_phnum) = (16, 1);
+    header
+}
+
+fn tells_header() -> bool {
+    let h = each_header();
+    let numbers = h.e_type == 0x0102 && h.e_machine == 0x0304 && h.e_version == 0x0506_0708;
+    let places = h.e_entry == 0x090a_0b0c && h.e_phoff == 0x0d0e_0f10 && h.e_shoff == 0x1112_1314;
+    let sizes = h.e_flags == 0x1516_1718 && h.e_ehsize == 0x191a && h.e_phentsize == 0x1b1c;
+    let counts = h.e_phnum == 0x1d1e && h.e_shentsize == 0x1f20 && h.e_shnum == 0x2122;
+    let first = h.ei_class == 1 && h.ei_data == 2 && h.ei_version == 3;
+    numbers && places && sizes && counts && first && h.ei_osabi == 4 && h.ei_abiversion == 5
+}
+
+fn tells_section() -> bool {
+    let (mut s, mut why) = (marked_layout().section, marked_layout().refusal);
+    let status = goblin_section(EACH, &each_in_place(), 0, &mut s, &mut why);
+    let kind = s.sh_name == 0x0102_0304 && s.sh_type == 0x0506_0708 && s.sh_flags == 0x090a_0b0c;
+    let place = s.sh_addr == 0x0d0e_0f10 && s.file.offset == 0x1112_1314;
+    let links = s.file.size == 0x1516_1718 && s.sh_link == 0x191a_1b1c;
+    let items = s.sh_info == 0x1d1e_1f20 && s.sh_addralign == 0x2122_2324;
+    status == 0 && kind && place && links && items && s.sh_entsize == 0x2526_2728
+}
+
+fn tells_segment() -> bool {
+    let (mut s, mut why) = (marked_layout().segment, marked_layout().refusal);
+    let status = goblin_segment(EACH, &each_in_place(), 0, &mut s, &mut why);
+    let place = s.p_type == 0x0102_0304 && s.file.offset == 0x0506_0708 && s.p_vaddr == 0x090a_0b0c;
+    let size = s.p_paddr == 0x0d0e_0f10 && s.file.size == 0x1112_1314 && s.p_memsz == 0x1516_1718;
+    status == 0 && place && size && s.p_flags == 0x191a_1b1c && s.p_align == 0x1d1e_1f20
+}
+
+fn tells_symbol() -> bool {
+    let (mut s, mut why) = (marked_layout().symbol, marked_layout().refusal);
+    let all = GoblinRange {
+        offset: 16,
+        size: 16,
+    };
+    let status = goblin_symbol(EACH, &each_in_place(), &all, 0, &mut s, &mut why);
+    let place = s.st_name == 0x0102_0304 && s.st_value == 0x0506_0708 && s.st_size == 0x090a_0b0c;
+    status == 0 && place && s.st_info == 0x0d && s.st_other == 0x0e && s.st_shndx == 0x0f10
+}
+
+fn tells_reloc() -> bool {
+    let (mut r, mut why) = (marked_layout().reloc, marked_layout().refusal);
+    let all = GoblinRange {
+        offset: 16,
+        size: 12,
+    };
+    let status = goblin_reloc(EACH, &each_in_place(), &all, true, 0, &mut r, &mut why);
+    let place = r.r_offset == 0x0102_0304 && r.r_sym == 0x0005_0607 && r.r_type == 8;
+    status == 0 && place && r.r_addend == 0x090a_0b0c && r.has_addend == 1
+}
+
+#[test]
+fn tells_each_field(rt: HostRuntime) {
+    assert!(rt; tells_header() && each_header().e_shstrndx == 0x2324);
+    assert!(rt; tells_section());
+    assert!(rt; tells_segment());
+    assert!(rt; tells_symbol());
+    assert!(rt; tells_reloc());
+}
+
 static NOTE: &[u8; 20] = b"\x04\0\0\0\x04\0\0\0\x03\0\0\0GNU\0\xaa\xbb\xcc\xdd";
 
-// Where the parts of a note lie, and where the next one is asked for.
-fn note(alignment: u64) -> (u32, u64, u64, u64) {
+// The answer for the note, and what is told of it.
+fn note_told(alignment: u64) -> (u32, GoblinNote) {
     let mut told = marked_layout().note;
     let mut why = marked_layout().refusal;
     let range = GoblinRange {
@@ -335,13 +453,19 @@ fn note(alignment: u64) -> (u32, u64, u64, u64) {
         size: 20,
     };
     let status = goblin_note(NOTE, &header(), &range, alignment, 0, &mut told, &mut why);
-    (status, told.name.size, told.desc.offset, told.next)
+    (status, told)
+}
+
+fn reads_note() -> bool {
+    let (status, told) = note_told(4);
+    let parts = told.name.offset == 12 && told.name.size == 3 && told.desc.offset == 16;
+    status == 0 && parts && told.desc.size == 4 && told.next == 20 && told.n_type == 3
 }
 
 #[test]
 fn reads_notes(rt: HostRuntime) {
-    assert!(rt; note(4) == (0, 3, 16, 20));
-    assert!(rt; note(16).0 == 16);
+    assert!(rt; reads_note());
+    assert!(rt; note_told(16).0 == 16);
 }
 
 // What is written of a name into six bytes, and how long the name is.
@@ -468,7 +592,8 @@ fn cuts_refusals(rt: HostRuntime) {
     assert!(rt; &room == b"type" && len == 27);
 }
 
-// The names of the fields of each struct, in the order in which goblin.h declares them.
+// The names of the fields of each struct, in the order in which goblin.h declares them, with their marks: numbers of one,
+// two, four or eight bytes, of which each is the field's place in the struct, from 1 on.
 static FIELDS: &[&str] = &[
     "size_of_refusal:",
     "size_of_range:",
@@ -479,78 +604,78 @@ static FIELDS: &[&str] = &[
     "size_of_reloc:",
     "size_of_note:",
     "refusal: GoblinRefusal",
-    "kind:",
-    "item:",
-    "first:",
-    "second:",
-    "third:",
-    "fourth:",
+    "kind: 16843009",
+    "item: 33686018",
+    "first: 217020518514230019",
+    "second: 289360691352306692",
+    "third: 361700864190383365",
+    "fourth: 434041037028460038",
     "range: GoblinRange",
-    "offset:",
-    "size:",
+    "offset: 72340172838076673",
+    "size: 144680345676153346",
     "header: GoblinHeader",
-    "e_entry:",
-    "e_phoff:",
-    "e_shoff:",
-    "e_version:",
-    "e_flags:",
-    "e_type:",
-    "e_machine:",
-    "e_ehsize:",
-    "e_phentsize:",
-    "e_phnum:",
-    "e_shentsize:",
-    "e_shnum:",
-    "e_shstrndx:",
-    "ei_class:",
-    "ei_data:",
-    "ei_version:",
-    "ei_osabi:",
-    "ei_abiversion:",
+    "e_entry: 72340172838076673",
+    "e_phoff: 144680345676153346",
+    "e_shoff: 217020518514230019",
+    "e_version: 67372036",
+    "e_flags: 84215045",
+    "e_type: 1542",
+    "e_machine: 1799",
+    "e_ehsize: 2056",
+    "e_phentsize: 2313",
+    "e_phnum: 2570",
+    "e_shentsize: 2827",
+    "e_shnum: 3084",
+    "e_shstrndx: 3341",
+    "ei_class: 14",
+    "ei_data: 15",
+    "ei_version: 16",
+    "ei_osabi: 17",
+    "ei_abiversion: 18",
     "section: GoblinSection",
     "file:",
-    "offset:",
-    "size:",
-    "sh_name:",
-    "sh_flags:",
-    "sh_addr:",
-    "sh_addralign:",
-    "sh_entsize:",
-    "sh_type:",
-    "sh_link:",
-    "sh_info:",
+    "offset: 72340172838076673",
+    "size: 144680345676153346",
+    "sh_name: 217020518514230019",
+    "sh_flags: 289360691352306692",
+    "sh_addr: 361700864190383365",
+    "sh_addralign: 434041037028460038",
+    "sh_entsize: 506381209866536711",
+    "sh_type: 134744072",
+    "sh_link: 151587081",
+    "sh_info: 168430090",
     "segment: GoblinSegment",
     "file:",
-    "offset:",
-    "size:",
-    "p_vaddr:",
-    "p_paddr:",
-    "p_memsz:",
-    "p_align:",
-    "p_type:",
-    "p_flags:",
+    "offset: 72340172838076673",
+    "size: 144680345676153346",
+    "p_vaddr: 217020518514230019",
+    "p_paddr: 289360691352306692",
+    "p_memsz: 361700864190383365",
+    "p_align: 434041037028460038",
+    "p_type: 117901063",
+    "p_flags: 134744072",
     "symbol: GoblinSymbol",
-    "st_name:",
-    "st_value:",
-    "st_size:",
-    "st_shndx:",
-    "st_info:",
-    "st_other:",
+    "st_name: 72340172838076673",
+    "st_value: 144680345676153346",
+    "st_size: 217020518514230019",
+    "st_shndx: 289360691352306692",
+    "st_info: 5",
+    "st_other: 6",
     "reloc: GoblinReloc",
-    "r_offset:",
-    "r_sym:",
-    "r_addend:",
-    "r_type:",
-    "has_addend:",
+    "r_offset: 72340172838076673",
+    "r_sym: 144680345676153346",
+    "r_addend: 217020518514230019",
+    "r_type: 67372036",
+    "has_addend: 84215045",
     "note: GoblinNote",
     "name:",
-    "offset:",
-    "size:",
+    "offset: 72340172838076673",
+    "size: 144680345676153346",
     "desc:",
-    "offset:",
-    "size:",
-    "next:",
-    "n_type:",
+    "offset: 217020518514230019",
+    "size: 289360691352306692",
+    "next: 361700864190383365",
+    "n_type: 101058054",
 ];
 
 // Whether a text has these names, each behind the one before.

@@ -1,7 +1,7 @@
 //! Symbols and symbol tables: System V gABI, "Symbol Table".
 ghost use Rattle.std.specs.Prelude.{◌≡◌, ◌≤◌, ◌<◌, ◌-◌, ◌*◌, ◌^◌, ◌↔◌, [], ◌∷◌, length, slice_get, IsTrue, IfOk, IfErr, IsOk, alloc_error, position};
 ghost use Rattle.std.specs.Option.{option_map};
-ghost use Rattle.goblin.specs.Addresses.{is_below, reaches, symbol_at, taken, SymbolAtIsHighest};
+ghost use Rattle.goblin.specs.Addresses.{is_below, reaches, symbol_at, taken, SymbolAtComesFirst};
 ghost use Rattle.goblin.specs.Symtab.{symbols_at, symtab_by, symtab_of, DependsOnItsRange, PermissiveKeepsStrict};
 ghost use Rattle.goblin_base.specs.Strtab.{has_name};
 ghost use Rattle.goblin_records.specs.Sym.{sym_size};
@@ -325,8 +325,9 @@ pub fn laws()
     ensures range { DependsOnItsRange }
 {}
 
-/// Law: the symbol at an address stands there or below it, and no other that does so stands higher;
-/// where there is none, none stands there or below.
+/// Law: the symbol at an address stands there or below it, and comes first of all that do: none stands
+/// higher; of those as high one that reaches the address comes before one that doesn't, and the first
+/// before others. Where there is none, none stands there or below. Nothing else is answered.
 pub fn addresses()
-    ensures { SymbolAtIsHighest }
+    ensures { SymbolAtComesFirst }
 {}

@@ -1,5 +1,5 @@
-use Rattle.goblin.proofs.AddressLaws.{symbol_at_is_highest}
+use Rattle.goblin.proofs.AddressLaws.{symbol_at_comes_first}
 use Rattle.goblin.proofs.elf.sym.addresses.Goals as goal
 
 pub returns : goal.returns
-returns c = symbol_at_is_highest
+returns c = symbol_at_comes_first

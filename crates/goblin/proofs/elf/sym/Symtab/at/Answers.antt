@@ -12,6 +12,6 @@ pub loop-i-preserved : goal.loop-i-preserved
 loop-i-preserved c =
     elim c.match-get.branch [
       | in-Some w ↦
-          found_one_more c.args.address c.args.self.now.symbols c.loop-i.i c.loop-i.found c.match-get.found w.in-Some.symbol (sym w.in-Some.ensures) (w.found-is ∙ w.nearer-found.ensures) c.loop-i.invariant
+          found_one_more c.args.address c.loop-i.i c.args.self.now.symbols w.in-Some.symbol c.loop-i.found c.match-get.found (sym w.in-Some.ensures) (w.found-is ∙ w.nearer-found.ensures) c.loop-i.invariant
       | in_default w ↦ absurd (some-within c.args.self.now.symbols c.loop-i.i (omega arith) (sym w.in_default.is ∙ c.get.ensures))
     ]

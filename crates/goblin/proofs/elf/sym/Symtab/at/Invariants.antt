@@ -1,6 +1,5 @@
-use Rattle.std.proofs.Common.{◌≡◌, drop, None}
-use Rattle.goblin.specs.Addresses.{found_from}
+use Rattle.goblin.proofs.AddressLaws.{IsFound}
 use Rattle.goblin.proofs.elf.sym.Symtab.at.Given as goal
 
 abbrev pub invariant-loop-i : goal.invariant-loop-i
-invariant-loop-i l = found_from l.address l.i l.found (drop l.i l.self.symbols) ≡ found_from l.address 0 None l.self.symbols
+invariant-loop-i l = IsFound l.address l.self.symbols l.i l.found

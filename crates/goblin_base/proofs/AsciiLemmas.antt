@@ -1,0 +1,78 @@
+-- Runs of ASCII in a string, from the lanes of a load to the piece.
+use Rattle.std.proofs.Common.{◌≡◌, ℕ, ◌+◌, ◌-◌, ◌%◌, ◌^◌, ◌<◌, ◌≤◌, ◌==◌, eqb, leb, cond, Bool, true, false, not, ◌||◌, bit_or, List, map, take, drop, length, get_or, refl, sym, ap, ◌∙◌, ⊎_elim, arith, Option, Ok}
+use Rattle.std.proofs.lemmas.Bool.{cases_lt, cond-true, cond-false, eq-eqb, ne_eqb, leb-false, or_parts}
+use Rattle.std.proofs.lemmas.List.{length-map, length-take, get_or-take, get_or_past}
+use Rattle.std.proofs.lemmas.List.Folds.{prefix_len-append}
+use Rattle.std.proofs.lemmas.List.Sums.{prefix_len-le-length, fails_before_first, position_or_len_is}
+use Rattle.std.proofs.lemmas.Simd.{map-map, mask_l-mod, first_set_mask_l, chunk-drop, length-chunk}
+use Rattle.std.proofs.lemmas.Str.{IsUtf8-from_ascii, is_utf8-from_IsUtf8}
+use Rattle.std.specs.List.{position, position_or_len, prefix_len}
+use Rattle.std.specs.Option.{unwrap_or}
+use Rattle.std.specs.Str.{IsAscii, IsUtf8}
+use lib.Lanes.{chunk, mask_l, top}
+use Rattle.goblin_base.proofs.StrtabLemmas.{first_or_length}
+use Rattle.goblin_base.specs.Ascii.{ends_run, lowest_set}
+use Rattle.goblin_base.specs.Pieces.{piece}
+use Rattle.goblin_base.specs.Strtab.{plain}
+use Rattle.goblin_base.specs.Utf8.{text_or_fault}
+
+-- what the lanes are of one byte
+abbrev pub lane : ℕ → ℕ → ℕ
+lane d b = bit_or (cond (eqb b d) 255 0) (cond (leb 128 b) 255 0)
+
+either : (x y : Bool) → top 7 (bit_or (cond x 255 0) (cond y 255 0)) ≡ (x || y)
+either true true = refl
+either true false = refl
+either false true = refl
+either false false = refl
+
+-- the mask of the lanes has the lowest bit at the first byte that ends the run
+mask_is : (d : ℕ) (v z : List ℕ) → length v ≡ 16 → z ≡ map (lane d) v → mask_l (map (top 7) z) % 2 ^ 64 ≡ mask_l (map (ends_run d) v)
+mask_is d v z long lanes =
+    let tops : map (top 7) z ≡ map (ends_run d) v = ap (map (top 7)) lanes ∙ map-map (top 7) (lane d) v ∙ ap (λ f. map f v) (λ i b. either (eqb b d) (leb 128 b) i) in
+    ap (λ l. mask_l l % 2 ^ 64) tops ∙ mask_l-mod (map (ends_run d) v) 64 (omega (arith, length-map v (ends_run d), long))
+
+pub run_is : (d : ℕ) (v z : List ℕ) (r : ℕ) → length v ≡ 16 → z ≡ map (lane d) v → r ≡ lowest_set (mask_l (map (top 7) z) % 2 ^ 64) 16 → r ≡ position_or_len (ends_run d) v
+run_is d v z r long lanes found = found ∙ ap (λ m. lowest_set m 16) (mask_is d v z long lanes) ∙ first_set_mask_l (ends_run d) v 16 long (omega arith)
+
+-- a run from a place on: of the next bytes alone where it ends in them, or on behind them
+pub ends_here : (d : ℕ) (bytes : List ℕ) (at run : ℕ) → at + 16 ≤ length bytes → run ≡ position_or_len (ends_run d) (take 16 (drop at bytes)) → run < 16 → position_or_len (ends_run d) (drop at bytes) ≡ run
+ends_here d bytes at run room is short =
+    let p : ℕ → Bool = λ b. not (ends_run d b) in
+    let long = length-chunk at 16 bytes room in
+    let apart : ¬ (prefix_len p (chunk at 16 bytes) ≡ length (chunk at 16 bytes)) = λ e. absurd (omega (arith, e, long, is, short)) in
+    ap (prefix_len p) (chunk-drop at 16 bytes) ∙ prefix_len-append p (chunk at 16 bytes) (drop (at + 16) bytes) ∙ cond-false _ _ _ (ne_eqb _ _ apart) ∙ sym is
+
+pub goes_on : (d : ℕ) (bytes : List ℕ) (at run : ℕ) → at + 16 ≤ length bytes → run ≡ position_or_len (ends_run d) (take 16 (drop at bytes)) → 16 ≤ run → position_or_len (ends_run d) (drop at bytes) ≡ 16 + position_or_len (ends_run d) (drop (at + 16) bytes)
+goes_on d bytes at run room is all =
+    let p : ℕ → Bool = λ b. not (ends_run d b) in
+    let long = length-chunk at 16 bytes room in
+    let same : prefix_len p (chunk at 16 bytes) ≡ length (chunk at 16 bytes) = omega (arith, long, is, all, prefix_len-le-length p (chunk at 16 bytes)) in
+    ap (prefix_len p) (chunk-drop at 16 bytes) ∙ prefix_len-append p (chunk at 16 bytes) (drop (at + 16) bytes) ∙ cond-true _ _ _ (eq-eqb _ _ same) ∙ ap (λ n. n + prefix_len p (drop (at + 16) bytes)) long
+
+pub end_is : (d n : ℕ) (rest : List ℕ) (r : Option ℕ) → r ≡ position (ends_run d) rest → n ≡ unwrap_or r (length rest) → n ≡ position_or_len (ends_run d) rest
+end_is d n rest r f g = g ∙ ap (λ x. unwrap_or x (length rest)) f ∙ first_or_length (ends_run d) rest
+
+-- what a run says of each byte in it, and of the one that ends it
+module _ (d n : ℕ) (bytes : List ℕ) (is : n ≡ position_or_len (ends_run d) bytes) where
+  in_run : (k : ℕ) → k < n → ends_run d (get_or bytes k 0) ≡ false
+  in_run k l = fails_before_first (ends_run d) bytes k 0 (omega (arith, is))
+
+  -- each byte of it is ASCII
+  run_is_ascii : IsAscii (take n bytes)
+  run_is_ascii i = ⊎_elim
+      (λ (l : i < n). let at = get_or-take n bytes i 0 l in let low = leb-false 128 (get_or bytes i 0) (or_parts (eqb (get_or bytes i 0) d) (leb 128 (get_or bytes i 0)) (in_run i l)).1 in omega (arith, at, low))
+      (λ (l : n ≤ i). let none = get_or_past (take n bytes) i 0 (omega (arith, length-take n bytes)) in omega (arith, none))
+      (cases_lt i n)
+
+  pub run_is_text : IsUtf8 (take n bytes)
+  run_is_text = IsUtf8-from_ascii (take n bytes) run_is_ascii
+
+  -- where the delimiter ends it, or the bytes do, it is the piece
+  pub run_is_plain : (n < length bytes → eqb (get_or bytes n 0) d ≡ true) → plain bytes d 0 ≡ Ok (take n bytes)
+  unfolding piece
+  run_is_plain ended =
+      let ends : ℕ → Bool = λ b. b == d in
+      let first : position_or_len ends bytes ≡ n = position_or_len_is ends bytes n 0 (omega (arith, is, prefix_len-le-length (λ b. not (ends_run d b)) bytes)) (λ k l. (or_parts (eqb (get_or bytes k 0) d) (leb 128 (get_or bytes k 0)) (in_run k l)).0) ended in
+      let same : piece bytes d 0 ≡ take n bytes = ap (λ k. take k bytes) first in
+      ap (λ p. text_or_fault p (length bytes - 0)) same ∙ cond-true _ _ _ (is_utf8-from_IsUtf8 _ run_is_text)

@@ -1,0 +1,66 @@
+//! Runs of ASCII at the front of a string, read sixteen bytes at a time.
+ghost use Rattle.std.specs.Prelude.{◌≡◌, ◌≤◌, ◌+◌, Ok, IfSome, length, take, drop};
+ghost use Rattle.std.specs.List.{position, position_or_len};
+ghost use Rattle.goblin_base.specs.Ascii.{ends_run, lowest_set};
+ghost use Rattle.goblin_base.specs.Strtab.{plain};
+
+use std::simd::prelude::*;
+
+const LANES: usize = 16;
+
+/// The piece at the front, where each of its bytes is ASCII.
+pub(crate) fn ascii_piece(bytes: &[u8], delim: u8) -> Option<&str>
+    ensures { IfSome result (λ text. plain bytes.now delim 0 ≡ Ok text.now) }
+{
+    let len = run_len(bytes, delim);
+    if len < bytes.len() && bytes[len] != delim {
+        return None;
+    }
+    Some(unsafe { std::str::from_utf8_unchecked(&bytes[..len]) })
+}
+
+// How many bytes stand before the first that ends the run.
+fn run_len(bytes: &[u8], delim: u8) -> usize
+    ensures { result ≡ position_or_len (ends_run delim) bytes.now }
+{
+    let mut at = 0;
+    while LANES <= bytes.len() - at {
+        let run = run_in(bytes, at, delim);
+        if run < LANES {
+            return at + run;
+        }
+        at += LANES;
+    }
+    let rest = &bytes[at..];
+    at + run_end(rest, delim).unwrap_or(rest.len())
+}
+
+// The same of the next sixteen bytes.
+#[inline(always)]
+fn run_in(bytes: &[u8], at: usize, delim: u8) -> usize
+    requires { at + LANES ≤ length bytes.now }
+    ensures { result ≡ position_or_len (ends_run delim) (take LANES (drop at bytes.now)) }
+{
+    let lanes = u8x16::from_slice(&bytes[at..]);
+    let ends = lanes.simd_eq(u8x16::splat(delim)) | lanes.simd_ge(u8x16::splat(0x80));
+    lowest_set(ends.to_bitmask(), LANES)
+}
+
+// The place of the lowest bit that is set, or where none is this other place.
+#[inline(always)]
+fn lowest_set(mask: u64, other: usize) -> usize
+    ensures { result ≡ lowest_set mask other }
+{
+    if mask == 0 {
+        other
+    } else {
+        mask.trailing_zeros() as usize
+    }
+}
+
+// Where the first byte stands that ends the run.
+fn run_end(bytes: &[u8], delim: u8) -> Option<usize>
+    ensures { result ≡ position (ends_run delim) bytes.now }
+{
+    bytes.iter().position(|b| *b == delim || *b >= 0x80)
+}
