@@ -117,6 +117,7 @@ pub enum Kind {
 }
 
 impl Error {
+    #[inline]
     pub(crate) fn new(why: raw::Refusal) -> Self {
         Error(why)
     }

@@ -9,6 +9,7 @@ pub struct File<'a>(pub &'a [u8]);
 
 impl<'a> File<'a> {
     /// Some bytes that the library told of.
+    #[inline]
     pub fn slice(self, range: Range) -> &'a [u8] {
         &self.0[range.offset as usize..][..range.size as usize]
     }

@@ -49,6 +49,7 @@ impl<'a> RelocSection<'a> {
     ///
     /// # Errors
     /// Where the section doesn't lie in the file.
+    #[inline]
     pub fn get(&self, index: usize) -> Result<Option<Reloc>> {
         let reloc = sys::goblin_reloc(&self.file, &self.header, &self.range, self.is_rela, index as u64)?;
         Ok(reloc.map(Reloc::from))

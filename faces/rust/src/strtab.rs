@@ -15,6 +15,7 @@ impl<'a> Strtab<'a> {
     ///
     /// # Errors
     /// Where the table doesn't lie in the file, and where the string is no UTF-8.
+    #[inline]
     pub fn get(&self, offset: usize) -> Result<Option<&'a str>> {
         sys::string(self.file.0, &self.range, offset as u64)
     }
@@ -23,6 +24,7 @@ impl<'a> Strtab<'a> {
     ///
     /// # Errors
     /// Where the table doesn't lie in the file.
+    #[inline]
     pub fn get_bytes(&self, offset: usize) -> Result<Option<&'a [u8]>> {
         let place = sys::goblin_string_bytes(&self.file, &self.range, offset as u64)?;
         Ok(place.map(|place| self.file.slice(place)))

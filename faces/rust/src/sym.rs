@@ -77,6 +77,7 @@ impl<'a> Symtab<'a> {
     ///
     /// # Errors
     /// Where the table doesn't lie in the file.
+    #[inline]
     pub fn get(&self, index: usize) -> Result<Option<Sym>> {
         sys::goblin_symbol(&self.strtab.file, &self.header, &self.range, index as u64)
     }
@@ -106,6 +107,7 @@ impl<'a> Symtab<'a> {
     ///
     /// # Errors
     /// Where the string table doesn't lie in the file, and where the name is no text.
+    #[inline]
     pub fn name(&self, symbol: &Sym) -> Result<Option<&'a str>> {
         self.strtab.get(symbol.st_name)
     }
@@ -114,6 +116,7 @@ impl<'a> Symtab<'a> {
     ///
     /// # Errors
     /// Where the string table doesn't lie in the file.
+    #[inline]
     pub fn name_bytes(&self, symbol: &Sym) -> Result<Option<&'a [u8]>> {
         self.strtab.get_bytes(symbol.st_name)
     }

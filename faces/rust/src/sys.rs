@@ -12,6 +12,7 @@ use std::str;
 // It answers an item, `None` past the last one or where nothing has that name, or why the file is refused.
 macro_rules! calls {
     ($(fn $name:ident($($given:ident: $type:ty),*) $(by $by:ident)? $(into [$each:ty])? -> $item:ty;)*) => {$(
+        #[inline]
         pub fn $name(bytes: &[u8] $(, $given: $type)* $(, $by: &[u8])? $(, items: &mut [$each])?) -> Result<Option<$item>> {
             extern "C" {
                 fn $name(bytes: *const u8, len: usize $(, $given: $type)* $(, $by: *const u8, _: usize)?
@@ -61,6 +62,7 @@ calls! {
 }
 
 /// The string whose place `goblin_string` tells. It is not tested once more for being text.
+#[inline]
 pub fn string<'a>(bytes: &'a [u8], strings: &Range, offset: u64) -> Result<Option<&'a str>> {
     let string = goblin_string(bytes, strings, offset)?.map(|place| File(bytes).slice(place));
     debug_assert!(string.map_or(true, |string| str::from_utf8(string).is_ok()));
