@@ -24,7 +24,7 @@ from concurrent.futures import FIRST_COMPLETED, ThreadPoolExecutor, wait
 sys.path.insert(0, os.path.dirname(os.path.abspath(__file__)))
 from edit import edits_of
 from trial import Trial
-from verdict import WAYS
+from verdict import WAYS, Said
 
 PRINTING = threading.Lock()
 
@@ -84,7 +84,7 @@ class Run:
 
     def __init__(self, room, edits, below, jobs):
         self.room, self.edits, self.below, self.jobs = room, edits, below, jobs
-        self.wrong, self.ways, self.unit = [], set(), 0.0
+        self.wrong, self.ways, self.unit, self.said = [], set(), 0.0, {}
 
     def prove(self, crate, jobs):
         """Proves a crate, as a library where others stand on it."""
@@ -93,6 +93,7 @@ class Run:
         status, said, used = seconds_of(verb, f'{self.room}/crates/{crate}')
         if not self.below[crate]:
             self.unit = used
+        self.said[crate] = Said(said, crate)
         if status:
             self.wrong.append(f'{crate}: it is not proved as it stands')
             say(f'{said[-3000:]}\n{self.wrong[-1]}')
@@ -101,7 +102,7 @@ class Run:
     def try_edits(self, crate):
         """Tries the edits of a proved crate, and says how they were judged."""
         start = time.time()
-        trial = Trial(crate, trial_folder(self.room, crate, self.below[crate]), self.edits[crate], say)
+        trial = Trial(crate, trial_folder(self.room, crate, self.below[crate]), self.edits[crate], self.said[crate], say)
         trial.run()
         shutil.rmtree(f'{self.room}/tried/{crate}')
         self.wrong += trial.wrong

@@ -14,19 +14,18 @@ from verdict import Said
 
 
 class Trial:
-    """A copy of a crate, with what checks have kept of it, and its edits."""
+    """A copy of a crate, with what checks have kept of it and what its proof said, and its edits."""
 
-    def __init__(self, crate, folder, edits, say):
-        self.crate, self.folder, self.edits, self.say = crate, folder, edits, say
+    def __init__(self, crate, folder, edits, before, say):
+        self.crate, self.folder, self.edits, self.before, self.say = crate, folder, edits, before, say
         self.told, self.ways, self.groups, self.wrong = 0, Counter(), [], []
         self.waits, self.functions = {}, {}
 
     def run(self):
         """Judges every edit. Where the crate itself is not proved, before or after, none counts."""
-        before = self.check([])
-        if not before.is_proved():
-            return self.fail(f'it is not proved as it stands\n{before.text[-2000:]}')
-        edits = [edit for edit in self.edits if self.place(edit, before)]
+        if not self.before.is_proved():
+            return self.fail(f'it is not proved as it stands\n{self.before.text[-2000:]}')
+        edits = [edit for edit in self.edits if self.place(edit, self.before)]
         pending = [edit for edit in edits if edit.is_of_bodies]
         alone = [edit for edit in edits if not edit.is_of_bodies]
         while pending:
