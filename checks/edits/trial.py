@@ -23,9 +23,11 @@ class Trial:
 
     def run(self):
         """Judges every edit. Where the crate itself is not proved, before or after, none counts."""
-        if not self.before.is_proved():
-            return self.fail(f'it is not proved as it stands\n{self.before.text[-2000:]}')
-        edits = [edit for edit in self.edits if self.place(edit, self.before)]
+        # a library whose proof was kept says nothing of its functions
+        before = self.before if self.before.functions else self.check([])
+        if not before.is_proved():
+            return self.fail(f'it is not proved as it stands\n{before.text[-2000:]}')
+        edits = [edit for edit in self.edits if self.place(edit, before)]
         pending = [edit for edit in edits if edit.is_of_bodies]
         alone = [edit for edit in edits if not edit.is_of_bodies]
         while pending:
