@@ -52,6 +52,13 @@ impl<L: List> Items<L> {
         Items { list, batch: L::room(), front: 0..0, middle: 0..count, back: 0..0, refusal }
     }
 
+    // The item at a place of the batch, which is its own remainder: so no test of it is left, where the length is a power of two.
+    #[inline]
+    fn item(&self, place: u64) -> L::Item {
+        let batch = self.batch.as_ref();
+        L::Item::from(batch[place as usize % batch.len()])
+    }
+
     fn room_in_front(&self) -> u64 {
         self.batch.as_ref().len() as u64 - BACK
     }
@@ -105,9 +112,8 @@ impl<L: List> Iterator for Items<L> {
         if self.front.is_empty() && !self.fill_front() {
             return self.refusal.take().map(Err);
         }
-        let place = self.front.start as usize;
         self.front.start += 1;
-        Some(Ok(L::Item::from(self.batch.as_ref()[place])))
+        Some(Ok(self.item(self.front.start - 1)))
     }
 
     fn size_hint(&self) -> (usize, Option<usize>) {
@@ -145,7 +151,7 @@ impl<L: List> DoubleEndedIterator for Items<L> {
             return self.refusal.take().map(Err);
         }
         self.back.end -= 1;
-        Some(Ok(L::Item::from(self.batch.as_ref()[self.back.end as usize])))
+        Some(Ok(self.item(self.back.end)))
     }
 }
 

@@ -79,11 +79,11 @@ impl<'a> RelocSection<'a> {
 
 impl List for RelocSection<'_> {
     type Raw = raw::Reloc;
-    type Batch = [raw::Reloc; 80];
+    type Batch = [raw::Reloc; 64];
     type Item = Reloc;
 
     fn room() -> Self::Batch {
-        [Default::default(); 80]
+        [Default::default(); 64]
     }
 
     fn count(&self) -> Result<u64> {

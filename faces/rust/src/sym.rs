@@ -143,11 +143,11 @@ impl<'a> Symtab<'a> {
 
 impl List for Symtab<'_> {
     type Raw = Sym;
-    type Batch = [Sym; 80];
+    type Batch = [Sym; 64];
     type Item = Sym;
 
     fn room() -> Self::Batch {
-        [Default::default(); 80]
+        [Default::default(); 64]
     }
 
     fn count(&self) -> Result<u64> {
