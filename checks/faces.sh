@@ -146,7 +146,7 @@ check_rust() {
         said=$("$examples/$example" "$folder/short" 2>&1) && { echo "$example.rs: a short file"; exit 1; }
         [ "$said" = "$example: $folder/short: Malformed entity: Too small" ] || { echo "$example.rs: $said"; exit 1; }
     done
-    quietly cargo package --offline --allow-dirty --no-verify --list --manifest-path faces/rust/Cargo.toml
+    quietly cargo package --offline --allow-dirty --manifest-path faces/rust/Cargo.toml
     if cargo clippy --version > "$folder/output" 2>&1; then
         quietly cargo clippy --offline --all-targets --manifest-path faces/rust/Cargo.toml -- -D warnings
     else
