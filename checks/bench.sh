@@ -1,7 +1,8 @@
 #!/bin/sh
 # Times the built program over the files of checks/hostile.sh and over a FILE, beside readelf where there is one:
 # SHOWN=FILE sh checks/bench.sh. A line tells the least of RUNS runs (9, if not said) taken by turns, in milliseconds, and readelf's
-# time as a multiple of the strict one; readelf is stopped after 10 seconds. Run from the repository's root.
+# time as a multiple of the strict one; readelf is stopped after 10 seconds. The file whose text is endless is timed up to the
+# first 100 MB of it. Run from the repository's root.
 set -eu
 export LC_ALL=C
 runs=${RUNS:-9}
@@ -13,9 +14,16 @@ trap 'exit 1' HUP INT TERM
 sh checks/hostile.sh "$folder"
 if [ -n "${SHOWN:-}" ]; then cp -- "$SHOWN" "$folder/FILE"; fi
 
-strict() { "$show" < "$file"; }
-permissive() { "$show" permissive < "$file"; }
-other() { timeout 10 readelf -W -h -S -s -r "$file"; }
+# A command over the file.
+over() {
+    case $file in
+    */endless) "$@" < "$file" | head -c 100000000 ;;
+    *) "$@" < "$file" ;;
+    esac
+}
+strict() { over "$show"; }
+permissive() { over "$show" permissive; }
+other() { over timeout 10 readelf -W -h -S -s -r "$file"; }
 
 # The lesser of a time so far, in microseconds (0 is none yet), and of that of a command now.
 least() {

@@ -4,7 +4,8 @@
 # bytes that are no text; ascii, wide: 32,000 overlapping tables, of one-byte and of four-byte characters; inside: 200,000
 # names inside characters; symbols: 300,000 symbols with names; strings: 60,000 symbol sections linked by turns to two tables
 # of 6 MB, of 3,000,000 strings and a byte that is no text; failing, failing_wide: 300,000 names in one string of 9 MB, of
-# one-byte and of four-byte characters, that ends in a byte that is no text.
+# one-byte and of four-byte characters, that ends in a byte that is no text; endless: 60,000 symbol sections over the same
+# 300,000 symbols with names.
 set -eu
 cd "$1"
 export LC_ALL=C
@@ -30,3 +31,4 @@ head_of() {
 { head_of 60003 2 1 6000000 0 0 0; yes a | tr '\n' '\0' | head -c 5999999; printf '\377'; } > strings
 { head_of 3 1 0 9000000 300000 29 1; head -c 8999999 /dev/zero | tr '\0' a; printf '\377'; } > failing
 { head_of 3 1 0 9000000 300000 28 4; tail -c 8999996 wide; printf 'abc\377'; } > failing_wide
+{ head_of 60002 1 0 4200000 300000 14 0; tail -c 4200000 symbols; } > endless

@@ -2,8 +2,8 @@
 """Whether files made to ask for much work stay cheap: python3 checks/limits.py, from the repository's root, once the program is built.
 
 Of each file of checks/hostile.sh: the processor seconds that a strict and a permissive run may take, at most some 20 times what
-they took when the limits were set, and for all the memory. What is there for speed alone, and no contract says, is noticed here
-when it is undone.
+they took when the limits were set, and for all the memory. Of a text without end the first 100 MB are read, and then no more. What
+is there for speed alone, and no contract says, is noticed here when it is undone.
 """
 import os
 import resource
@@ -12,11 +12,13 @@ import sys
 import tempfile
 
 PROGRAM = 'crates/goblin_show/out/goblin_show'
-MEMORY = 64 * 1024 * 1024
+MEMORY = 40 * 1024 * 1024
+READ = 100_000_000
 # file: strict, permissive
 LIMITS = {
     'ascii': (3, 1),
     'damaged': (1, 1),
+    'endless': (7, 7),
     'failing': (1, 12),
     'failing_wide': (2, 20),
     'inside': (2, 2),
@@ -28,15 +30,29 @@ LIMITS = {
 }
 
 
+def is_read(output):
+    """Whether so many bytes can be read of an output, which is closed then."""
+    left = READ
+    while left > 0 and (piece := output.read(min(left, 1 << 20))):
+        left -= len(piece)
+    output.close()
+    return left == 0
+
+
 def took(path, words, limit):
-    """The processor seconds of a run over a file, which is ended where it passes the limit, and the memory that it held."""
+    """Whether a run over a file, which is ended where it passes the limit, ends as it should; its processor seconds, and the memory
+    that it held."""
+    is_endless = path.endswith('/endless')
     def limited():
         resource.setrlimit(resource.RLIMIT_CPU, (limit, limit))
     with open(path, 'rb') as file:
-        started = subprocess.Popen([PROGRAM, *words], stdin=file, stdout=subprocess.DEVNULL, preexec_fn=limited)
+        started = subprocess.Popen([PROGRAM, *words], stdin=file, preexec_fn=limited,
+                                   stdout=subprocess.PIPE if is_endless else subprocess.DEVNULL)
+        was_read = is_endless and is_read(started.stdout)
         _, status, used = os.wait4(started.pid, 0)
         started.returncode = status
-    return os.WIFEXITED(status) and os.WEXITSTATUS(status) < 2, used.ru_utime + used.ru_stime, used.ru_maxrss * 1024
+    well = was_read if is_endless else os.WIFEXITED(status) and os.WEXITSTATUS(status) < 2
+    return well, used.ru_utime + used.ru_stime, used.ru_maxrss * 1024
 
 
 def main():

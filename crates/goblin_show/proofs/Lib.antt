@@ -1,8 +1,11 @@
 mod Blocks
+mod Glyphs
 mod Looks
 mod Modes
+mod Parts
 mod Plain
 mod Printed
+mod Puts
 mod Reading
 mod Shows
 mod Tables

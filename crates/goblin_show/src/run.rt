@@ -3,9 +3,10 @@ ghost use Rattle.std.specs.Prelude.{◌≡◌, ◌≢◌, ℕ, ◌+◌, ◌≤�
 ghost use Rattle.std.specs.Io.KnownBytes.{Appends};
 ghost use Rattle.goblin_show.specs.Ran.{FailsToRead, IsReason, IsShown, ReadsAtMostOneMore, TellsError, WritesRefusal, read_limit, status_of};
 
+use crate::accept::accept;
 use crate::input::{Input, input_of};
 use crate::streams::{Sink, Source};
-use crate::text::text_of;
+use crate::text::write_text;
 use goblin::error::Error;
 use goblin::options::ParseOptions;
 use std::alloc::Global;
@@ -38,16 +39,6 @@ impl Outcome {
 const OUT_OF_MEMORY: &str = "Out of memory";
 
 const TOO_LONG: &str = "input is longer than 16777216 bytes";
-
-fn write_text<W: Sink>(writer: &mut W, text: &str) -> io::Result<()>
-    ensures ok { OnOk result (Appends (W.contents writer.old) (W.contents writer.new) text.now) }
-    ensures heeded { OnOk result
-        ((W.marks writer.new).told_error ≡ (W.marks writer.old).told_error) }
-    ensures err { OnErr result (IsTrue (W.marks writer.new).told_error) }
-{
-    writer.write_all(text.as_bytes())?;
-    writer.flush()
-}
 
 fn write_refusal<W: Sink>(writer: &mut W, line: &str) -> io::Result<()>
     ensures ok { OnOk result
@@ -140,8 +131,8 @@ pub fn run<R: Source, W: Sink>(
         Input::OutOfMemory => return refuse(writer, OUT_OF_MEMORY),
         Input::Failed => return Outcome::Failed,
     };
-    match text_of(alloc, bytes.as_slice(), opts) {
-        Ok(text) => match write_text(writer, text.as_str()) {
+    match accept(alloc, bytes.as_slice(), opts) {
+        Ok(file) => match write_text(writer, &file) {
             Ok(()) => Outcome::Shown,
             Err(_) => Outcome::Failed,
         },

@@ -342,6 +342,48 @@ fn makes(alloc: Global, file: &str, text: &str) -> bool {
 #[test]
 fn makes_the_text(rt: HostRuntime) {
     assert!(rt; makes(rt.alloc(), BIG, BIG_TEXT));
+    assert!(rt; makes(rt.alloc(), SYMBOLS, SYMBOLS_TEXT));
+    assert!(rt; makes(rt.alloc(), ADDEND, ADDEND_TEXT));
+}
+
+// The file with names, whose names' table stands behind it and has 40,002 bytes.
+const LONG_NAMES: &[(usize, u8)] = &[(112, 0x88), (116, 0x42), (117, 0x9C)];
+
+// Adds a text, and so many times two bytes more.
+fn add(bytes: &mut Vec<u8>, first: &str, two: &str) -> Option<()> {
+    bytes.extend_from_slice(first.as_bytes()).ok()?;
+    for _ in 0..20_000 {
+        bytes.extend_from_slice(two.as_bytes()).ok()?;
+    }
+    Some(())
+}
+
+// Whether a name of one byte and so many times two bytes is shown so, in the writer and in memory.
+fn shows_long_name(alloc: Global, first: &str, two: &str, shown: &str) -> Option<bool> {
+    let mut bytes = changed(alloc, NAMES, LONG_NAMES)?;
+    bytes.push(0).ok()?;
+    add(&mut bytes, first, two)?;
+    let mut text = bytes_of(alloc, "")?;
+    add(&mut text, shown, two)?;
+    text.push(b'\n').ok()?;
+    let text = std::str::from_utf8(text.as_slice()).ok()?;
+    let made = text_of(alloc, bytes.as_slice(), &STRICT).ok()?;
+    let reader = Cursor::new(bytes.as_slice());
+    Some(made.as_str() == text && ends(alloc, &STRICT, reader, Outcome::Shown, text))
+}
+
+#[test]
+fn shows_names_longer_than_what_is_written_at_once(rt: HostRuntime) {
+    let lines = "header ELF32 little DYN EM_UNKNOWN entry 0x0 phnum 0 shnum 2\n\
+        section 0 SHT_NULL offset 0x0 size 0 name=\n\
+        section 1 SHT_STRTAB offset 0x88 size 40002 name=x";
+    assert!(rt; shows_long_name(rt.alloc(), "x", "ab", lines) == Some(true));
+    assert!(rt; shows_long_name(rt.alloc(), "x", "\u{e9}", lines) == Some(true));
+    let lines = "header ELF32 little DYN EM_UNKNOWN entry 0x0 phnum 0 shnum 2\n\
+        section 0 SHT_NULL offset 0x0 size 0 name=\n\
+        section 1 SHT_STRTAB offset 0x88 size 40002 name=?";
+    assert!(rt; shows_long_name(rt.alloc(), "\x07", "ab", lines) == Some(true));
+    assert!(rt; shows_long_name(rt.alloc(), "\x07", "\u{e9}", lines) == Some(true));
 }
 
 // A reader that gives zeros, `left` of them, and this error at one call.

@@ -406,8 +406,8 @@ impl Write for Balking {
     }
 }
 
-// Whether a run over these bytes fails where any write balks so, up to the first run that meets
-// no such write, which ends so and writes this text.
+// Whether a run over these bytes fails where any write balks so, and tries no further one, up to
+// the first run that meets no such write, which ends so and writes this text.
 fn heeds_writes(alloc: Global, bytes: &[u8], balk: Balk, outcome: Outcome, text: &str) -> bool {
     for balk_at in 1..1000 {
         let held = Vec::new(alloc);
@@ -423,7 +423,7 @@ fn heeds_writes(alloc: Global, bytes: &[u8], balk: Balk, outcome: Outcome, text:
         if written.writes < balk_at {
             return ended == outcome && written.held.as_slice() == text.as_bytes();
         }
-        if ended != Outcome::Failed {
+        if ended != Outcome::Failed || written.writes > balk_at {
             return false;
         }
     }
