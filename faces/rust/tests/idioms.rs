@@ -1,6 +1,7 @@
 //! What Rust's own forms give over the tables of small files that are made here.
 use goblin_rs::error::Kind;
 use goblin_rs::header::{header32, header64, *};
+use goblin_rs::items::{Items, List};
 use goblin_rs::note::*;
 use goblin_rs::program_header::{program_header32, program_header64, *};
 use goblin_rs::reloc::{reloc32, reloc64};
@@ -13,30 +14,29 @@ use std::fmt::Debug;
 mod made;
 use made::{made, FORMS, STRINGS};
 
-/// Whether an iterator gives a list: from both ends, by turns, by jumps, cloned and counted.
-fn gives<I>(items: I, list: &[I::Item])
-where
-    I: DoubleEndedIterator + ExactSizeIterator + Clone,
-    I::Item: Clone + Debug + PartialEq,
-{
+/// Whether an iterator gives what `of` tells of its items: from both ends, by turns, by jumps, cloned and counted.
+fn gives<L: List + Clone, T: Clone + Debug + PartialEq>(items: Items<L>, of: impl Fn(Result<L::Item>) -> T, list: &[T]) {
     assert_eq!((items.len(), items.size_hint()), (list.len(), (list.len(), Some(list.len()))));
-    assert_eq!(items.clone().collect::<Vec<_>>(), list);
+    assert_eq!(items.clone().map(&of).collect::<Vec<_>>(), list);
     let backwards: Vec<_> = list.iter().rev().cloned().collect();
-    assert_eq!(items.clone().rev().collect::<Vec<_>>(), backwards);
-    assert_eq!((items.clone().count(), items.clone().last().as_ref()), (list.len(), list.last()));
+    assert_eq!(items.clone().rev().map(&of).collect::<Vec<_>>(), backwards);
+    assert_eq!((items.clone().count(), items.clone().last().map(&of).as_ref()), (list.len(), list.last()));
     for n in [0, 1, 2, 63, 64, 65, 130, usize::MAX] {
         let mut jumped = items.clone();
-        assert_eq!(jumped.nth(n).as_ref(), list.get(n), "{n}");
+        assert_eq!(jumped.next().map(&of).as_ref(), list.first());
+        assert_eq!(jumped.nth(n).map(&of).as_ref(), list.get(n.saturating_add(1)), "{n}");
+        let mut jumped = items.clone();
+        assert_eq!(jumped.nth(n).map(&of).as_ref(), list.get(n), "{n}");
         let rest = list.get(n..).map_or(&[][..], |rest| rest.get(1..).unwrap_or(&[]));
         assert_eq!((jumped.len(), jumped.clone().count()), (rest.len(), rest.len()), "{n}");
-        assert_eq!(jumped.collect::<Vec<_>>(), rest);
+        assert_eq!(jumped.map(&of).collect::<Vec<_>>(), rest);
     }
     let (mut turns, mut left) = (items, list);
     while let [first, middle @ ..] = left {
-        assert_eq!(turns.next().as_ref(), Some(first));
+        assert_eq!(turns.next().map(&of).as_ref(), Some(first));
         left = middle;
         if let [middle @ .., last] = left {
-            assert_eq!(turns.next_back().as_ref(), Some(last));
+            assert_eq!(turns.next_back().map(&of).as_ref(), Some(last));
             left = middle;
         }
         assert_eq!(turns.len(), left.len());
@@ -55,7 +55,7 @@ fn symbols_from_both_ends() {
         }
         let made: Vec<u64> = [0, 0x1020, 0x2030, 0x3040, 0x4050].into_iter().chain(0..more as u64).collect();
         assert_eq!(values, made);
-        gives(symbols.iter().map(|symbol| symbol.unwrap().st_value), &made);
+        gives(symbols.iter(), |symbol| symbol.unwrap().st_value, &made);
     }
 }
 
@@ -64,14 +64,14 @@ fn tables_from_both_ends() {
     for form in FORMS {
         let file = made(form, 0);
         let elf = Elf::parse(&file).unwrap();
-        gives(elf.section_headers().map(|section| section.unwrap().sh_type), &[0, 7, 2, 3, 4, 9, 3]);
-        gives(elf.program_headers().map(|segment| segment.unwrap().p_type), &[4, 1]);
+        gives(elf.section_headers(), |section| section.unwrap().sh_type, &[0, 7, 2, 3, 4, 9, 3]);
+        gives(elf.program_headers(), |segment| segment.unwrap().p_type, &[4, 1]);
         let of_relocs: Vec<_> = elf.shdr_relocs().map(|relocs| relocs.unwrap().0.sh_type).collect();
         assert_eq!(of_relocs, [SHT_RELA, SHT_REL]);
         let (_, last) = elf.shdr_relocs().next_back().unwrap().unwrap();
-        gives(last.iter().map(|reloc| reloc.unwrap().r_type), &[11]);
+        gives(last.iter(), |reloc| reloc.unwrap().r_type, &[11]);
         let (_, first) = elf.shdr_relocs().rev().nth(1).unwrap().unwrap();
-        gives((&first).into_iter().map(|reloc| reloc.unwrap().r_offset), &[0x8, 0x18]);
+        gives((&first).into_iter(), |reloc| reloc.unwrap().r_offset, &[0x8, 0x18]);
         assert_eq!((elf.section_header_count(), elf.program_header_count()), (Ok(7), Ok(2)));
         let mut notes = elf.iter_note_sections();
         assert_eq!(notes.clone().count(), 2);
@@ -86,7 +86,7 @@ fn a_refused_list_has_its_refusal_alone() {
         let file = made(form, 0);
         let elf = Elf::parse(&file[..100]).unwrap();
         let offset = elf.header.e_shoff;
-        gives(elf.section_headers().map(|section| section.map_err(|e| e.kind())), &[Err(Kind::BadOffset(offset))]);
+        gives(elf.section_headers(), |section| section.map_err(|e| e.kind()), &[Err(Kind::BadOffset(offset))]);
         let refused: Vec<_> = elf.shdr_relocs().map(|relocs| relocs.err().map(|e| e.kind())).collect();
         assert_eq!(refused, [Some(Kind::BadOffset(offset))]);
         assert_eq!(elf.iter_note_sections().map(|note| note.err()).collect::<Vec<_>>().len(), 1);
@@ -96,11 +96,11 @@ fn a_refused_list_has_its_refusal_alone() {
         section.sh_offset = file.len() as u64;
         let (offset, len) = (section.sh_offset, section.sh_offset);
         let symbols = whole.symtab(&section).unwrap();
-        gives(symbols.iter().map(|symbol| symbol.map_err(|e| e.kind())), &[Err(Kind::SymtabOffset { offset, len })]);
+        gives(symbols.iter(), |symbol| symbol.map_err(|e| e.kind()), &[Err(Kind::SymtabOffset { offset, len })]);
         section.sh_offset -= 1;
         let symbols = whole.symtab(&section).unwrap();
         let past = Kind::SymtabPast { requested: section.sh_size, available: 1 };
-        gives(symbols.iter().map(|symbol| symbol.map_err(|e| e.kind())), &[Err(past)]);
+        gives(symbols.iter(), |symbol| symbol.map_err(|e| e.kind()), &[Err(past)]);
         let strings = whole.strtab(&section).get(0).map_err(|e| e.kind());
         assert_eq!(strings, Err(Kind::StrtabRange { size: section.sh_size, offset: offset - 1, len, overflow: false }));
     }
@@ -124,7 +124,7 @@ fn what_symbols_and_headers_are() {
             assert_eq!(sym::is_import(st_info, 0), is_global_import);
             assert!(!Sym { st_value: 1, ..symbol }.is_import() && !sym::is_import(st_info, 1));
         }
-        assert_eq!((get_type(0x12), st_bind(0x21), st_type(0x21), st_visibility(0xfa)), (type_to_str(2), 2, 1, 2));
+        assert_eq!((get_type(0x12), st_bind(0x21), st_type(0x21), st_visibility(0xfe)), (type_to_str(2), 2, 1, 6));
         let strings = elf.section_header(3).unwrap().unwrap();
         let range = strings.file_range().unwrap();
         assert_eq!(&file[range.clone()], STRINGS);
@@ -138,7 +138,9 @@ fn what_symbols_and_headers_are() {
         let load = elf.program_header(1).unwrap().unwrap();
         assert_eq!((load.file_range(), load.vm_range()), (0..elf.header.e_shoff as usize, 0x4000..0x4001 + elf.header.e_shoff as usize));
         assert!(load.is_executable() && load.is_read() && !load.is_write());
-        assert!(ProgramHeader { p_flags: PF_W, ..load }.is_write());
+        let of_flags = |p_flags| ProgramHeader { p_flags, ..load };
+        assert!(of_flags(PF_W).is_write() && of_flags(PF_R).is_read() && of_flags(PF_X).is_executable());
+        assert!(!of_flags(PF_X).is_read() && !of_flags(PF_R).is_executable());
     }
 }
 
@@ -149,6 +151,12 @@ fn notes_and_names_as_bytes() {
         let elf = Elf::parse(&file).unwrap();
         let of_segment: Vec<_> = elf.segment_notes(&elf.program_header(0).unwrap().unwrap()).map(Result::unwrap).collect();
         assert_eq!(of_segment.iter().map(|note| note.name).collect::<Vec<_>>(), ["GNU", "goblin"]);
+        let segment = ProgramHeader { p_align: 16, ..elf.program_header(0).unwrap().unwrap() };
+        let section = SectionHeader { sh_addralign: 16, ..elf.section_header(1).unwrap().unwrap() };
+        for mut notes in [elf.segment_notes(&segment), elf.notes(&section)] {
+            assert_eq!(notes.next().map(|note| note.map_err(|e| e.kind())), Some(Err(Kind::NoteAlign(16))));
+            assert_eq!(notes.next(), None);
+        }
         let notes: HashSet<_> = elf.iter_note_headers().map(Result::unwrap).collect();
         assert_eq!(notes, of_segment.into_iter().collect());
         let symbols = elf.syms().unwrap().unwrap();
