@@ -1,6 +1,8 @@
 //! The numbers of the constants, as goblin's documentation and the gABI have them.
+use crate::told::{holds, is};
 use goblin::elf::{header, note, program_header, section_header, sym};
 use goblin::{elf32, elf64};
+use std::fmt::Debug;
 
 // File types.
 const ET: &[(u16, u16)] = &[
@@ -421,38 +423,82 @@ const FLAGS: [u32; 12] = [
 ];
 
 // Whether each constant is its number.
-fn are<T: PartialEq>(rows: &[(T, T)]) -> bool {
-    rows.iter().all(|row| row.0 == row.1)
+fn are<T: PartialEq + Debug>(rt: HostRuntime, rows: &[(T, T)]) -> bool {
+    rows.iter().all(|row| holds(rt, row, row.0 == row.1))
 }
 
 #[test]
 fn numbers_of_headers(rt: HostRuntime) {
-    assert!(rt; are(ET) && are(OSABI) && are(IDENT) && are(CLASS));
-    assert!(rt; are(EM));
-    assert!(rt; header::ELFMAG == b"\x7FELF");
-    assert!(rt; elf32::header::ELFCLASS == 1 && elf64::header::ELFCLASS == 2);
-    assert!(rt; elf32::header::SIZEOF_EHDR == 52 && elf64::header::SIZEOF_EHDR == 64);
+    assert!(rt; are(rt, ET) && are(rt, OSABI) && are(rt, IDENT) && are(rt, CLASS));
+    assert!(rt; are(rt, EM));
+    assert!(rt; is(rt, header::ELFMAG, b"\x7FELF"));
+    assert!(rt;
+        is(
+            rt,
+            (elf32::header::ELFCLASS, elf64::header::ELFCLASS),
+            (1, 2)
+        )
+    );
+    assert!(rt;
+        is(
+            rt,
+            (elf32::header::SIZEOF_EHDR, elf64::header::SIZEOF_EHDR),
+            (52, 64)
+        )
+    );
 }
 
 #[test]
 fn numbers_of_segments_and_sections(rt: HostRuntime) {
-    assert!(rt; are(PT) && are(PF));
-    assert!(rt; are(SHN) && are(SHT) && are(SHF));
+    assert!(rt; are(rt, PT) && are(rt, PF));
+    assert!(rt; are(rt, SHN) && are(rt, SHT) && are(rt, SHF));
     assert!(rt;
-        elf32::program_header::SIZEOF_PHDR == 32 && elf64::program_header::SIZEOF_PHDR == 56
+        is(
+            rt,
+            (
+                elf32::program_header::SIZEOF_PHDR,
+                elf64::program_header::SIZEOF_PHDR
+            ),
+            (32, 56)
+        )
     );
     assert!(rt;
-        elf32::section_header::SIZEOF_SHDR == 40 && elf64::section_header::SIZEOF_SHDR == 64
+        is(
+            rt,
+            (
+                elf32::section_header::SIZEOF_SHDR,
+                elf64::section_header::SIZEOF_SHDR
+            ),
+            (40, 64)
+        )
     );
-    assert!(rt; section_header::SHF_NUM_REGULAR_FLAGS == 12);
-    assert!(rt; section_header::SHF_FLAGS == FLAGS);
+    assert!(rt; is(rt, section_header::SHF_NUM_REGULAR_FLAGS, 12));
+    assert!(rt; is(rt, section_header::SHF_FLAGS, FLAGS));
 }
 
 #[test]
 fn numbers_of_symbols_and_notes(rt: HostRuntime) {
-    assert!(rt; are(STB) && are(STT) && are(STV));
-    assert!(rt; elf32::sym::SIZEOF_SYM == 16 && elf64::sym::SIZEOF_SYM == 24);
-    assert!(rt; elf32::reloc::SIZEOF_REL == 8 && elf32::reloc::SIZEOF_RELA == 12);
-    assert!(rt; elf64::reloc::SIZEOF_REL == 16 && elf64::reloc::SIZEOF_RELA == 24);
-    assert!(rt; are(NT));
+    assert!(rt; are(rt, STB) && are(rt, STT) && are(rt, STV));
+    assert!(rt;
+        is(
+            rt,
+            (elf32::sym::SIZEOF_SYM, elf64::sym::SIZEOF_SYM),
+            (16, 24)
+        )
+    );
+    assert!(rt;
+        is(
+            rt,
+            (elf32::reloc::SIZEOF_REL, elf32::reloc::SIZEOF_RELA),
+            (8, 12)
+        )
+    );
+    assert!(rt;
+        is(
+            rt,
+            (elf64::reloc::SIZEOF_REL, elf64::reloc::SIZEOF_RELA),
+            (16, 24)
+        )
+    );
+    assert!(rt; are(rt, NT));
 }

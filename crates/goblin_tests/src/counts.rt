@@ -1,6 +1,7 @@
 //! Lists of many lengths: each call that takes memory gives as many items as it was asked for.
 ghost use Rattle.std.specs.Prelude.{◌≤◌};
 
+use crate::told::{differs, holds, is};
 use goblin::container::{Container, Ctx, LE};
 use goblin::elf::program_header::{ProgramHeader, program_header32, program_header64};
 use goblin::elf::reloc::{Reloc, RelocSection};
@@ -13,6 +14,7 @@ use goblin_base::entries::Looked;
 use goblin_base::table::Table;
 use goblin_base::walk::walk;
 use std::alloc::Global;
+use std::fmt::Debug;
 
 // As many zeros as the longest list takes, and 64 before it.
 static ZEROS: [u8; 262_272] = [0; 262_272];
@@ -24,10 +26,10 @@ const CTX: Ctx = Ctx {
 };
 
 // Whether a list was given, of so many items.
-fn lists<T: Drop>(answer: Result<Vec<T>>, count: usize) -> bool {
+fn lists<T: Debug + Drop>(rt: HostRuntime, answer: Result<Vec<T>>, count: usize) -> bool {
     match answer {
-        Ok(list) => list.len() == count,
-        Err(_) => false,
+        Ok(list) => is(rt, list.len(), count),
+        Err(e) => differs(rt, &e, &count),
     }
 }
 
@@ -51,17 +53,17 @@ fn strings(alloc: Global, count: usize) -> Result<Vec<&'static str>>
 }
 
 // Whether a walk enters so many strings.
-fn walks(alloc: Global, count: usize, mode: ParseMode) -> bool
+fn walks(rt: HostRuntime, count: usize, mode: ParseMode) -> bool
     requires { count ≤ 4097 }
 {
-    match walk(alloc, &mut Looked::new(&ZEROS[..count]), 0, mode) {
-        Ok(entries) => entries.len() == count,
-        Err(_) => false,
+    match walk(rt.alloc(), &mut Looked::new(&ZEROS[..count]), 0, mode) {
+        Ok(entries) => is(rt, entries.len(), count),
+        Err(e) => differs(rt, &e, &count),
     }
 }
 
 // A call that gives a list.
-#[derive(Clone, Copy)]
+#[derive(Clone, Copy, Debug)]
 enum Call {
     Segments,
     Segments32,
@@ -84,66 +86,83 @@ enum Call {
 
 // Whether a call gives a list of so many items. (Section headers that none are asked of are one, whose size says how many
 // there are.)
-fn gives(alloc: Global, call: Call, count: usize) -> bool
+fn gives(rt: HostRuntime, call: Call, count: usize) -> bool
     requires { count ≤ 4097 }
 {
     match call {
-        Call::Segments => lists(ProgramHeader::parse(alloc, &ZEROS, 0, count, CTX), count),
+        Call::Segments => lists(
+            rt,
+            ProgramHeader::parse(rt.alloc(), &ZEROS, 0, count, CTX),
+            count,
+        ),
         Call::Segments32 => lists(
-            program_header32::ProgramHeader::parse(alloc, &ZEROS, 0, count, LE),
+            rt,
+            program_header32::ProgramHeader::parse(rt.alloc(), &ZEROS, 0, count, LE),
             count,
         ),
         Call::Segments64 => lists(
-            program_header64::ProgramHeader::parse(alloc, &ZEROS, 0, count, LE),
+            rt,
+            program_header64::ProgramHeader::parse(rt.alloc(), &ZEROS, 0, count, LE),
             count,
         ),
         Call::SegmentBytes32 => lists(
-            program_header32::ProgramHeader::from_bytes(alloc, &ZEROS, count),
+            rt,
+            program_header32::ProgramHeader::from_bytes(rt.alloc(), &ZEROS, count),
             count,
         ),
         Call::SegmentBytes64 => lists(
-            program_header64::ProgramHeader::from_bytes(alloc, &ZEROS, count),
+            rt,
+            program_header64::ProgramHeader::from_bytes(rt.alloc(), &ZEROS, count),
             count,
         ),
         Call::Sections => lists(
-            SectionHeader::parse(alloc, &ZEROS, 64, count, CTX),
+            rt,
+            SectionHeader::parse(rt.alloc(), &ZEROS, 64, count, CTX),
             count.max(1),
         ),
         Call::SectionsFrom => lists(
-            SectionHeader::parse_from(alloc, &ZEROS, 0, count, CTX),
+            rt,
+            SectionHeader::parse_from(rt.alloc(), &ZEROS, 0, count, CTX),
             count.max(1),
         ),
         Call::SectionBytes32 => lists(
-            section_header32::SectionHeader::from_bytes(alloc, &ZEROS, count),
+            rt,
+            section_header32::SectionHeader::from_bytes(rt.alloc(), &ZEROS, count),
             count,
         ),
         Call::SectionBytes64 => lists(
-            section_header64::SectionHeader::from_bytes(alloc, &ZEROS, count),
+            rt,
+            section_header64::SectionHeader::from_bytes(rt.alloc(), &ZEROS, count),
             count,
         ),
-        Call::Symbols => lists(Sym::parse(alloc, &ZEROS, 0, count, CTX), count),
-        Call::SymbolTable => lists(symbols(alloc, count), count),
-        Call::Relocations => lists(relocations(alloc, count), count),
+        Call::Symbols => lists(rt, Sym::parse(rt.alloc(), &ZEROS, 0, count, CTX), count),
+        Call::SymbolTable => lists(rt, symbols(rt.alloc(), count), count),
+        Call::Relocations => lists(rt, relocations(rt.alloc(), count), count),
         Call::Records => lists(
-            Table::<Sym, Ctx>::of(&ZEROS, count, CTX).to_vec(alloc),
+            rt,
+            Table::<Sym, Ctx>::of(&ZEROS, count, CTX).to_vec(rt.alloc()),
             count,
         ),
-        Call::Strings => lists(strings(alloc, count), count),
-        Call::StringsUnparsed => lists(Strtab::new(&ZEROS[..count], 0).to_vec(alloc), count),
-        Call::WalkStrict => walks(alloc, count, ParseMode::Strict),
-        Call::WalkPermissive => walks(alloc, count, ParseMode::Permissive),
+        Call::Strings => lists(rt, strings(rt.alloc(), count), count),
+        Call::StringsUnparsed => lists(
+            rt,
+            Strtab::new(&ZEROS[..count], 0).to_vec(rt.alloc()),
+            count,
+        ),
+        Call::WalkStrict => walks(rt, count, ParseMode::Strict),
+        Call::WalkPermissive => walks(rt, count, ParseMode::Permissive),
     }
 }
 
 // Whether a call gives a list of each count up to 1,010, and of those about 4,096.
-fn gives_each(alloc: Global, call: Call) -> bool {
+fn gives_each(rt: HostRuntime, call: Call) -> bool {
     for count in 0..1_011 {
-        if !gives(alloc, call, count) {
+        if !holds(rt, &(call, count), gives(rt, call, count)) {
             return false;
         }
     }
     for count in 4_095..4_098 {
-        if !gives(alloc, call, count) {
+        if !holds(rt, &(call, count), gives(rt, call, count)) {
             return false;
         }
     }
@@ -179,15 +198,15 @@ const OF_STRINGS: &[Call] = &[
 // (`rt try` takes longer for these than for others: `--seconds 300`.)
 #[test]
 fn lists_each_count_of_headers(rt: HostRuntime) {
-    assert!(rt; OF_HEADERS.iter().all(|call| gives_each(rt.alloc(), *call)));
+    assert!(rt; OF_HEADERS.iter().all(|call| gives_each(rt, *call)));
 }
 
 #[test]
 fn lists_each_count_of_symbols(rt: HostRuntime) {
-    assert!(rt; OF_RECORDS.iter().all(|call| gives_each(rt.alloc(), *call)));
+    assert!(rt; OF_RECORDS.iter().all(|call| gives_each(rt, *call)));
 }
 
 #[test]
 fn lists_each_count_of_strings(rt: HostRuntime) {
-    assert!(rt; OF_STRINGS.iter().all(|call| gives_each(rt.alloc(), *call)));
+    assert!(rt; OF_STRINGS.iter().all(|call| gives_each(rt, *call)));
 }

@@ -1,13 +1,12 @@
 //! Cases with their answers: reading headers in their three forms, new headers, and names.
+use crate::told::{answers, differs, holds, is, is_named, says};
 use goblin_base::container::{BE, Container, Ctx, Endian, LE};
-use goblin_base::error::Result as Answer;
 use goblin_base::scroll::{SizeWith, TryFromCtx};
 use goblin_headers::header::{
     EM_386, EM_AARCH64, EM_CSKY, EM_INTELGT, EM_LOONGARCH, EM_M32, EM_NONE, EM_NUM, EM_X86_64,
     Header, class_to_str, et_to_str, machine_to_str,
 };
 use goblin_headers::{header, header32, header64};
-use std::alloc::Global;
 
 // The context of 32-bit files in little byte order, and that of 64-bit files in big byte order.
 pub(crate) const LITTLE32: Ctx = Ctx {
@@ -56,87 +55,81 @@ pub(crate) const NEW64: &[u8; 64] = b"\x7fELF\x02\x02\x01\0\0\0\0\0\0\0\0\0\
     \x00\x03\x00\x00\x00\x00\x00\x01\0\0\0\0\0\0\0\0\0\0\0\0\0\0\0\0\0\0\0\0\0\0\0\0\0\0\0\0\
     \x00\x40\x00\x38\x00\x00\x00\x40\x00\x00\x00\x00";
 
-// Whether the answer is an error with this text, or a value and the text is `Ok`.
-pub(crate) fn says<T: Drop>(alloc: Global, answer: Answer<T>, text: &str) -> bool {
-    match answer {
-        Ok(_) => text == "Ok",
-        Err(e) => e.line(alloc).is_ok_and(|line| line.as_str() == text),
+fn reads(rt: HostRuntime, bytes: &[u8], order: Endian, header: Header) -> bool {
+    answers(
+        rt,
+        Header::try_from_ctx(bytes, order),
+        (header, bytes.len()),
+    )
+}
+
+fn reads32(rt: HostRuntime, bytes: &[u8], order: Endian, header: Header) -> bool {
+    match header32::Header::try_from_ctx(bytes, order) {
+        Ok((read, size)) => {
+            answers(rt, header32::Header::parse(bytes), read)
+                && is(rt, (Header::from(read), size), (header, bytes.len()))
+        }
+        Err(e) => differs(rt, &e, &header),
     }
 }
 
-// Whether the answer is these records.
-pub(crate) fn gives<R: PartialEq + Drop>(answer: Answer<Vec<R>>, records: &[R]) -> bool {
-    match answer {
-        Ok(read) => read.as_slice() == records,
-        Err(_) => false,
+fn reads64(rt: HostRuntime, bytes: &[u8], order: Endian, header: Header) -> bool {
+    match header64::Header::try_from_ctx(bytes, order) {
+        Ok((read, size)) => {
+            answers(rt, header64::Header::parse(bytes), read)
+                && is(rt, (Header::from(read), size), (header, bytes.len()))
+        }
+        Err(e) => differs(rt, &e, &header),
     }
-}
-
-// Whether these bytes stand in front, and all behind them is as before, 0xaa.
-pub(crate) fn stands(room: &[u8], bytes: &[u8]) -> bool {
-    match room.strip_prefix(bytes) {
-        Some(rest) => rest.iter().all(|byte| *byte == 0xaa),
-        None => false,
-    }
-}
-
-fn reads(bytes: &[u8], order: Endian, header: Header) -> bool {
-    match Header::try_from_ctx(bytes, order) {
-        Ok((read, size)) => read == header && size == bytes.len(),
-        Err(_) => false,
-    }
-}
-
-fn reads32(bytes: &[u8], order: Endian, header: Header) -> bool {
-    let (Ok(parsed), Ok((read, size))) = (
-        header32::Header::parse(bytes),
-        header32::Header::try_from_ctx(bytes, order),
-    ) else {
-        return false;
-    };
-    parsed == read && size == bytes.len() && Header::from(read) == header
-}
-
-fn reads64(bytes: &[u8], order: Endian, header: Header) -> bool {
-    let (Ok(parsed), Ok((read, size))) = (
-        header64::Header::parse(bytes),
-        header64::Header::try_from_ctx(bytes, order),
-    ) else {
-        return false;
-    };
-    parsed == read && size == bytes.len() && Header::from(read) == header
 }
 
 // The order that is passed is ignored.
 #[test]
 fn reads_headers(rt: HostRuntime) {
-    assert!(rt; reads(BIG, LE, READ));
-    assert!(rt; reads64(BIG, LE, READ));
-    assert!(rt; reads(NEW32, BE, Header::new(LITTLE32)));
-    assert!(rt; reads32(NEW32, BE, Header::new(LITTLE32)));
-    assert!(rt; reads(NEW64, LE, Header::new(BIG64)));
+    assert!(rt; reads(rt, BIG, LE, READ));
+    assert!(rt; reads64(rt, BIG, LE, READ));
+    assert!(rt; reads(rt, NEW32, BE, Header::new(LITTLE32)));
+    assert!(rt; reads32(rt, NEW32, BE, Header::new(LITTLE32)));
+    assert!(rt; reads(rt, NEW64, LE, Header::new(BIG64)));
 }
 
-fn has_size(ctx: Ctx, size: usize) -> bool {
-    Header::size(ctx) == size && Header::size_with(&ctx) == size
+fn has_size(rt: HostRuntime, ctx: Ctx, size: usize) -> bool {
+    is(
+        rt,
+        (Header::size(ctx), Header::size_with(&ctx)),
+        (size, size),
+    )
 }
 
 #[test]
 fn sizes_of_headers(rt: HostRuntime) {
-    assert!(rt; has_size(LITTLE32, 52));
-    assert!(rt; has_size(BIG64, 64));
+    assert!(rt; has_size(rt, LITTLE32, 52));
+    assert!(rt; has_size(rt, BIG64, 64));
 }
 
 #[test]
 fn default_headers_are_zeros(rt: HostRuntime) {
-    assert!(rt; header32::default_is_zeros() == header32::Header::default());
-    assert!(rt; header64::default_is_zeros() == header64::Header::default());
-    assert!(rt; header32::Header::default().e_ident == [0; 16]);
-    assert!(rt; header64::Header::default().e_entry == 0);
+    assert!(rt;
+        is(
+            rt,
+            header32::default_is_zeros(),
+            header32::Header::default()
+        )
+    );
+    assert!(rt;
+        is(
+            rt,
+            header64::default_is_zeros(),
+            header64::Header::default()
+        )
+    );
+    assert!(rt; is(rt, header32::Header::default().e_ident, [0; 16]));
+    assert!(rt; is(rt, header64::Header::default().e_entry, 0));
 }
 
 // A case of refused bytes: byte 0, the class byte, the data byte and how many bytes there are of `BIG`
 // with these; and the texts of the reader of both classes, and of `try_from_ctx` and `parse` of its own.
+#[derive(Debug)]
 struct Refused {
     changed: [u8; 3],
     len: usize,
@@ -219,47 +212,43 @@ static REFUSED: [Refused; 11] = [
     },
 ];
 
-fn refuses(alloc: Global, case: &Refused) -> bool {
+fn refuses(rt: HostRuntime, case: &Refused) -> bool {
     let mut bytes = *BIG;
     let [magic, class, order] = case.changed;
     bytes[0] = magic;
     bytes[4] = class;
     bytes[5] = order;
     let cut = &bytes[..case.len.min(64)];
-    says(alloc, Header::try_from_ctx(cut, BE), case.texts[0])
-        && says(
-            alloc,
-            header64::Header::try_from_ctx(cut, BE),
-            case.texts[1],
-        )
-        && says(alloc, header64::Header::parse(cut), case.texts[2])
+    says(rt, Header::try_from_ctx(cut, BE), case.texts[0])
+        && says(rt, header64::Header::try_from_ctx(cut, BE), case.texts[1])
+        && says(rt, header64::Header::parse(cut), case.texts[2])
 }
 
 #[test]
 fn refuses_headers_in_order(rt: HostRuntime) {
-    let wrong = REFUSED.iter().position(|case| !refuses(rt.alloc(), case));
-    assert!(rt; wrong.is_none(), "case {wrong:?}");
+    assert!(rt;
+        REFUSED
+            .iter()
+            .all(|case| holds(rt, case, refuses(rt, case)))
+    );
 }
 
 #[test]
 fn refuses_a_cut_32_bit_header(rt: HostRuntime) {
     let cut = &NEW32[..51];
     let text = "type is too big (52) for 51";
-    assert!(rt; says(rt.alloc(), header32::Header::parse(cut), text));
-    assert!(rt; says(rt.alloc(), header32::Header::try_from_ctx(cut, LE), text));
-    assert!(rt; says(rt.alloc(), Header::try_from_ctx(cut, LE), text));
+    assert!(rt; says(rt, header32::Header::parse(cut), text));
+    assert!(rt; says(rt, header32::Header::try_from_ctx(cut, LE), text));
+    assert!(rt; says(rt, Header::try_from_ctx(cut, LE), text));
 }
 
 #[test]
 fn asks_a_header(rt: HostRuntime) {
-    assert!(rt; READ.container().is_ok_and(|class| class == Container::Big));
-    assert!(rt; READ.endianness().is_ok_and(|order| order == BE));
+    assert!(rt; answers(rt, READ.container(), Container::Big));
+    assert!(rt; answers(rt, READ.endianness(), BE));
     let new = Header::new(LITTLE32);
-    assert!(rt;
-        new.container()
-            .is_ok_and(|class| class == Container::Little)
-    );
-    assert!(rt; new.endianness().is_ok_and(|order| order == LE));
+    assert!(rt; answers(rt, new.container(), Container::Little));
+    assert!(rt; answers(rt, new.endianness(), LE));
 }
 
 #[test]
@@ -268,9 +257,9 @@ fn tells_a_bad_class_and_a_bad_order(rt: HostRuntime) {
     header.e_ident[4] = 10;
     header.e_ident[5] = 11;
     let text = "Malformed entity: Invalid class in Header: 10";
-    assert!(rt; says(rt.alloc(), header.container(), text));
+    assert!(rt; says(rt, header.container(), text));
     let text = "Malformed entity: Invalid endianness in Header: 11";
-    assert!(rt; says(rt.alloc(), header.endianness(), text));
+    assert!(rt; says(rt, header.endianness(), text));
 }
 
 static MACHINES: [(u16, &str); 14] = [
@@ -311,35 +300,42 @@ static CLASSES: [(u8, &str); 5] = [
 
 #[test]
 fn names_machines(rt: HostRuntime) {
-    let wrong = MACHINES
-        .iter()
-        .position(|row| machine_to_str(row.0) != row.1);
-    assert!(rt; wrong.is_none(), "row {wrong:?}");
+    assert!(rt;
+        MACHINES
+            .iter()
+            .all(|row| is_named(rt, row, machine_to_str(row.0)))
+    );
 }
 
 #[test]
 fn names_file_types(rt: HostRuntime) {
-    let wrong = TYPES.iter().position(|row| et_to_str(row.0) != row.1);
-    assert!(rt; wrong.is_none(), "row {wrong:?}");
+    assert!(rt; TYPES.iter().all(|row| is_named(rt, row, et_to_str(row.0))));
 }
 
 #[test]
 fn names_classes(rt: HostRuntime) {
-    let wrong = CLASSES.iter().position(|row| class_to_str(row.0) != row.1);
-    assert!(rt; wrong.is_none(), "row {wrong:?}");
+    assert!(rt;
+        CLASSES
+            .iter()
+            .all(|row| is_named(rt, row, class_to_str(row.0)))
+    );
 }
 
 // The functions that the modules of the classes pass on are these.
 #[test]
 fn passes_on_the_names(rt: HostRuntime) {
-    assert!(rt; header32::machine_to_str(3) == "386" && header64::machine_to_str(3) == "386");
-    assert!(rt; header32::et_to_str(3) == "DYN" && header64::et_to_str(3) == "DYN");
+    assert!(rt; is(rt, header32::machine_to_str(3), "386"));
+    assert!(rt; is(rt, header64::machine_to_str(3), "386"));
+    assert!(rt; is(rt, header32::et_to_str(3), "DYN"));
+    assert!(rt; is(rt, header64::et_to_str(3), "DYN"));
 }
 
 #[test]
 fn passes_on_the_classes_and_sizes(rt: HostRuntime) {
-    assert!(rt; header32::class_to_str(1) == "ELF32" && header64::class_to_str(1) == "ELF32");
-    assert!(rt; header::header32::SIZEOF_EHDR == 52 && header::header64::SIZEOF_EHDR == 64);
+    assert!(rt; is(rt, header32::class_to_str(1), "ELF32"));
+    assert!(rt; is(rt, header64::class_to_str(1), "ELF32"));
+    assert!(rt; is(rt, header::header32::SIZEOF_EHDR, 52));
+    assert!(rt; is(rt, header::header64::SIZEOF_EHDR, 64));
 }
 
 #[test]

@@ -5,9 +5,9 @@
 #[cfg(test)]
 mod addresses;
 #[cfg(test)]
-mod base;
-#[cfg(test)]
 mod constants;
+#[cfg(test)]
+mod container;
 #[cfg(test)]
 mod counts;
 #[cfg(test)]
@@ -15,11 +15,19 @@ mod ends;
 #[cfg(test)]
 mod entries;
 #[cfg(test)]
+mod error;
+#[cfg(test)]
 mod header;
+#[cfg(test)]
+mod names;
 #[cfg(test)]
 mod note_headers;
 #[cfg(test)]
 mod notes;
+#[cfg(test)]
+mod number;
+#[cfg(test)]
+mod options;
 #[cfg(test)]
 mod paths;
 #[cfg(test)]
@@ -36,6 +44,8 @@ mod strtab;
 mod symbols;
 #[cfg(test)]
 mod symtabs;
+#[cfg(test)]
+mod told;
 #[cfg(test)]
 mod traits;
 #[cfg(test)]

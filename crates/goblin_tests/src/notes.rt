@@ -2,6 +2,7 @@
 ghost use Rattle.std.specs.Prelude.{◌≡◌, length};
 ghost use Rattle.goblin.specs.Notes.{items_left};
 
+use crate::told::{answers, differs, holds, is, says};
 use goblin::elf::note::{NT_GNU_BUILD_ID, NT_SIGINFO, Note, NoteDataIterator, NoteIterator};
 use goblin::{elf32, elf64};
 use goblin_base::container::{BE, Container, Ctx, Endian, LE};
@@ -10,7 +11,6 @@ use goblin_base::scroll;
 use goblin_base::scroll::{SizeWith, TryFromCtx};
 use std::alloc::{AllocError, Global};
 use std::result;
-use std::test::Fail;
 
 // A file of the 64-bit class in little order.
 const LITTLE: Ctx = Ctx {
@@ -48,6 +48,7 @@ const THREE: &[u8] = b"\x04\0\0\0\x10\0\0\0\x01\0\0\0GNU\0\0\0\0\0\x02\0\0\0\x06
 
 // Whether a note is read as these parts, of which so many bytes are counted.
 fn reads(
+    rt: HostRuntime,
     bytes: &[u8],
     ctx: (usize, Ctx),
     n_type: u32,
@@ -57,31 +58,26 @@ fn reads(
 ) -> bool {
     match Note::try_from_ctx(bytes, ctx) {
         Ok((note, counted)) => {
-            note.n_type == n_type && note.name == name && note.desc == desc && counted == len
+            is(rt, (note.n_type, note.name), (n_type, name))
+                && is(rt, (note.desc, counted), (desc, len))
         }
-        Err(_) => false,
+        Err(e) => differs(rt, &e, &name),
     }
 }
 
 #[test]
 fn reads_notes(rt: HostRuntime) {
     let desc = b"\xAA\xBB\xCC\xDD";
-    assert!(rt; reads(BUILD, (4, LITTLE), 3, "GNU", desc, 20));
-    assert!(rt; reads(BUILD, (8, LITTLE), 3, "GNU", desc, 24));
-    assert!(rt; reads(BUILD_BIG, (4, BIG), 3, "GNU", desc, 20));
-    assert!(rt; reads(BARE, (4, LITTLE), 1, "GNU", b"", 16));
-    assert!(rt; reads(EMPTY, (0, LITTLE), 7, "", b"", 12));
+    assert!(rt; reads(rt, BUILD, (4, LITTLE), 3, "GNU", desc, 20));
+    assert!(rt; reads(rt, BUILD, (8, LITTLE), 3, "GNU", desc, 24));
+    assert!(rt; reads(rt, BUILD_BIG, (4, BIG), 3, "GNU", desc, 20));
+    assert!(rt; reads(rt, BARE, (4, LITTLE), 1, "GNU", b"", 16));
+    assert!(rt; reads(rt, EMPTY, (0, LITTLE), 7, "", b"", 12));
 }
 
 // Whether reading a note is refused with this text.
-fn refuses(alloc: Global, bytes: &[u8], alignment: usize, text: &str) -> bool {
-    match Note::try_from_ctx(bytes, (alignment, LITTLE)) {
-        Ok(_) => false,
-        Err(e) => match e.line(alloc) {
-            Ok(line) => line.as_str() == text,
-            Err(_) => false,
-        },
-    }
+fn refuses(rt: HostRuntime, bytes: &[u8], alignment: usize, text: &str) -> bool {
+    says(rt, Note::try_from_ctx(bytes, (alignment, LITTLE)), text)
 }
 
 #[test]
@@ -90,22 +86,22 @@ fn refuses_other_alignments(rt: HostRuntime) {
     let five = "Malformed entity: Notes has unimplemented alignment requirement: 0x5";
     let most =
         "Malformed entity: Notes has unimplemented alignment requirement: 0xffffffffffffffff";
-    assert!(rt; refuses(rt.alloc(), BUILD, 16, sixteen));
-    assert!(rt; refuses(rt.alloc(), BUILD, 5, five));
-    assert!(rt; refuses(rt.alloc(), b"", 5, five));
-    assert!(rt; refuses(rt.alloc(), BUILD, usize::MAX, most));
+    assert!(rt; refuses(rt, BUILD, 16, sixteen));
+    assert!(rt; refuses(rt, BUILD, 5, five));
+    assert!(rt; refuses(rt, b"", 5, five));
+    assert!(rt; refuses(rt, BUILD, usize::MAX, most));
 }
 
 #[test]
 fn refuses_what_has_no_room_or_is_no_text(rt: HostRuntime) {
-    assert!(rt; refuses(rt.alloc(), &BUILD[..11], 4, "type is too big (12) for 11"));
-    assert!(rt; refuses(rt.alloc(), b"", 4, "bad offset 0"));
-    assert!(rt; refuses(rt.alloc(), CUT_NAME, 4, "bad offset 20"));
-    assert!(rt; refuses(rt.alloc(), NO_TEXT, 4, "bad input invalid utf8 (2)"));
+    assert!(rt; refuses(rt, &BUILD[..11], 4, "type is too big (12) for 11"));
+    assert!(rt; refuses(rt, b"", 4, "bad offset 0"));
+    assert!(rt; refuses(rt, CUT_NAME, 4, "bad offset 20"));
+    assert!(rt; refuses(rt, NO_TEXT, 4, "bad input invalid utf8 (2)"));
     let long_name = "type is too big (4294967294) for 4";
     let long_desc = "type is too big (4294967295) for 4";
-    assert!(rt; refuses(rt.alloc(), LONG_NAME, 4, long_name));
-    assert!(rt; refuses(rt.alloc(), LONG_DESC, 4, long_desc));
+    assert!(rt; refuses(rt, LONG_NAME, 4, long_name));
+    assert!(rt; refuses(rt, LONG_DESC, 4, long_desc));
 }
 
 // The range of these bytes from an offset up to an end.
@@ -118,32 +114,40 @@ fn range(bytes: &[u8], offset: usize, size: usize, alignment: usize) -> NoteData
     }
 }
 
-// Whether a range gives notes of just these types.
-fn gives(mut notes: NoteDataIterator, types: &[u32]) -> bool {
-    for n_type in types {
-        match notes.next() {
-            Some(Ok(note)) if note.n_type == *n_type => {}
-            _ => return false,
-        }
-    }
-    match notes.next() {
-        None => true,
-        Some(_) => false,
+// Whether the next item is a note of this type.
+fn is_next(rt: HostRuntime, item: Option<Result<Note<'_>>>, n_type: u32) -> bool {
+    match item {
+        Some(Ok(note)) => is(rt, note.n_type, n_type),
+        other => differs(rt, &other, &n_type),
     }
 }
 
-// Whether ranges give notes of just these types, one range after another.
-fn all_give(mut notes: NoteIterator, types: &[u32]) -> bool {
+// Whether there is no item.
+fn is_last(rt: HostRuntime, item: Option<Result<Note<'_>>>) -> bool {
+    match item {
+        None => true,
+        other => differs(rt, &other, &"no note"),
+    }
+}
+
+// Whether a range gives notes of just these types.
+fn gives(rt: HostRuntime, mut notes: NoteDataIterator, types: &[u32]) -> bool {
     for n_type in types {
-        match notes.next() {
-            Some(Ok(note)) if note.n_type == *n_type => {}
-            _ => return false,
+        if !is_next(rt, notes.next(), *n_type) {
+            return false;
         }
     }
-    match notes.next() {
-        None => true,
-        Some(_) => false,
+    is_last(rt, notes.next())
+}
+
+// Whether ranges give notes of just these types, one range after another.
+fn all_give(rt: HostRuntime, mut notes: NoteIterator, types: &[u32]) -> bool {
+    for n_type in types {
+        if !is_next(rt, notes.next(), *n_type) {
+            return false;
+        }
     }
+    is_last(rt, notes.next())
 }
 
 // The three notes of a program in three ranges, and two of them around a range of none.
@@ -164,69 +168,56 @@ fn ranges(
     Ok(NoteIterator { iters, index })
 }
 
-#[test]
-fn gives_the_notes_of_ranges(rt: HostRuntime) -> result::Result<(), Fail> {
-    assert!(rt; gives(range(THREE, 0, 132, 4), &[1, 3, 5]));
-    assert!(rt; all_give(ranges(rt.alloc(), &[(0, 132)], 0)?, &[1, 3, 5]));
-    assert!(rt; all_give(ranges(rt.alloc(), PARTS, 0)?, &[1, 3, 5]));
-    assert!(rt; all_give(ranges(rt.alloc(), WITH_NONE, 0)?, &[1, 3]));
-    assert!(rt; all_give(ranges(rt.alloc(), &[], 0)?, &[]));
-    Ok(())
+// Whether these ranges of a program's notes, from the range with an index on, give notes of just these types.
+fn ranges_give(rt: HostRuntime, ends: &[(usize, usize)], index: usize, types: &[u32]) -> bool {
+    match ranges(rt.alloc(), ends, index) {
+        Ok(notes) => all_give(rt, notes, types),
+        Err(e) => differs(rt, &e, &types),
+    }
 }
 
 #[test]
-fn begins_at_the_range_with_its_index(rt: HostRuntime) -> result::Result<(), Fail> {
-    assert!(rt; all_give(ranges(rt.alloc(), PARTS, 1)?, &[3, 5]));
-    assert!(rt; all_give(ranges(rt.alloc(), &[(0, 32), (32, 68)], 2)?, &[]));
-    assert!(rt; all_give(ranges(rt.alloc(), &[(0, 32)], usize::MAX)?, &[]));
-    Ok(())
+fn gives_the_notes_of_ranges(rt: HostRuntime) {
+    assert!(rt; gives(rt, range(THREE, 0, 132, 4), &[1, 3, 5]));
+    assert!(rt; ranges_give(rt, &[(0, 132)], 0, &[1, 3, 5]));
+    assert!(rt; ranges_give(rt, PARTS, 0, &[1, 3, 5]));
+    assert!(rt; ranges_give(rt, WITH_NONE, 0, &[1, 3]));
+    assert!(rt; ranges_give(rt, &[], 0, &[]));
 }
 
-// Whether the first item of a range is this fault of a place, the last one, and moves the offset to
+#[test]
+fn begins_at_the_range_with_its_index(rt: HostRuntime) {
+    assert!(rt; ranges_give(rt, PARTS, 1, &[3, 5]));
+    assert!(rt; ranges_give(rt, &[(0, 32), (32, 68)], 2, &[]));
+    assert!(rt; ranges_give(rt, &[(0, 32)], usize::MAX, &[]));
+}
+
+// Whether the first item of a range is the fault of this text, the last one, and moves the offset to
 // the end.
-fn ends_with(mut notes: NoteDataIterator, fault: &scroll::Error) -> bool {
-    let told = match notes.next() {
-        Some(Err(Error::Scroll(e))) => is_same(&e, fault),
-        _ => false,
-    };
-    told && notes.next().is_none() && notes.offset == notes.size
-}
-
-// Whether two faults of places are the same.
-fn is_same(a: &scroll::Error, b: &scroll::Error) -> bool {
-    match (a, b) {
-        (
-            scroll::Error::TooBig { size, len },
-            scroll::Error::TooBig {
-                size: other_size,
-                len: other_len,
-            },
-        ) => size == other_size && len == other_len,
-        (scroll::Error::BadOffset(offset), scroll::Error::BadOffset(other)) => offset == other,
-        (
-            scroll::Error::BadInput { size, msg },
-            scroll::Error::BadInput {
-                size: other_size,
-                msg: other_msg,
-            },
-        ) => size == other_size && msg == other_msg,
-        _ => false,
+fn ends_with(rt: HostRuntime, mut notes: NoteDataIterator, text: &str) -> bool {
+    match notes.next() {
+        Some(item) => {
+            says(rt, item, text) && is_last(rt, notes.next()) && is(rt, notes.offset, notes.size)
+        }
+        None => differs(rt, &"no note", &text),
     }
 }
 
 #[test]
 fn ends_a_range_with_its_fault(rt: HostRuntime) {
-    let bad_offset = scroll::Error::BadOffset(20);
-    assert!(rt; ends_with(range(CUT_NAME, 0, 16, 4), &bad_offset));
-    let at_start = scroll::Error::BadOffset(0);
-    assert!(rt; ends_with(range(b"", 0, 5, 4), &at_start));
-    let too_big = scroll::Error::TooBig { size: 12, len: 8 };
-    assert!(rt; ends_with(range(&THREE[..8], 0, 132, 4), &too_big));
+    assert!(rt; ends_with(rt, range(CUT_NAME, 0, 16, 4), "bad offset 20"));
+    assert!(rt; ends_with(rt, range(b"", 0, 5, 4), "bad offset 0"));
+    assert!(rt;
+        ends_with(
+            rt,
+            range(&THREE[..8], 0, 132, 4),
+            "type is too big (12) for 8"
+        )
+    );
     // At the end of the bytes the alignment isn't looked at.
-    let at_end = scroll::Error::BadOffset(132);
-    assert!(rt; ends_with(range(THREE, 132, 133, 5), &at_end));
-    let far = scroll::Error::BadOffset(usize::MAX - 1);
-    assert!(rt; ends_with(range(THREE, usize::MAX - 1, usize::MAX, 4), &far));
+    assert!(rt; ends_with(rt, range(THREE, 132, 133, 5), "bad offset 132"));
+    let far = "bad offset 18446744073709551614";
+    assert!(rt; ends_with(rt, range(THREE, usize::MAX - 1, usize::MAX, 4), far));
 }
 
 // How many items a range has.
@@ -257,32 +248,44 @@ fn bytes_in(notes: NoteIterator) -> Result<usize> {
     Ok(sum)
 }
 
-// Whether the answer is this text of bytes.
-fn is_build(answer: Result<Option<&[u8]>>, build: &[u8]) -> bool {
-    match answer {
-        Ok(Some(desc)) => desc == build,
-        _ => false,
+// Whether the build of a range is these bytes.
+fn is_build(rt: HostRuntime, notes: NoteDataIterator, build: &[u8]) -> bool {
+    match build_of(notes) {
+        Ok(found) => is(rt, found, Some(build)),
+        Err(e) => differs(rt, &e, &build),
+    }
+}
+
+// Whether there is no telling of the build, by this text.
+fn has_no_build(rt: HostRuntime, notes: NoteDataIterator, text: &str) -> bool {
+    says(rt, build_of(notes), text)
+}
+
+// Whether the descriptors of these ranges of a program's notes take so many bytes.
+fn has_bytes(rt: HostRuntime, ends: &[(usize, usize)], wanted: usize) -> bool {
+    match ranges(rt.alloc(), ends, 0) {
+        Ok(notes) => answers(rt, bytes_in(notes), wanted),
+        Err(e) => differs(rt, &e, &wanted),
     }
 }
 
 #[test]
-fn serves_a_loop_and_a_count(rt: HostRuntime) -> result::Result<(), Fail> {
-    assert!(rt; count(range(THREE, 0, 132, 4)) == 3);
-    assert!(rt; count(range(THREE, 0, usize::MAX, 4)) == 4);
-    assert!(rt; is_build(build_of(range(THREE, 0, 132, 4)), &THREE[48..68]));
-    assert!(rt; build_of(range(CUT_NAME, 0, 16, 4)).is_err());
-    assert!(rt; bytes_in(ranges(rt.alloc(), &[(0, 32), (32, 68)], 0)?)? == 36);
-    Ok(())
+fn serves_a_loop_and_a_count(rt: HostRuntime) {
+    assert!(rt; is(rt, count(range(THREE, 0, 132, 4)), 3));
+    assert!(rt; is(rt, count(range(THREE, 0, usize::MAX, 4)), 4));
+    assert!(rt; is_build(rt, range(THREE, 0, 132, 4), &THREE[48..68]));
+    assert!(rt; has_no_build(rt, range(CUT_NAME, 0, 16, 4), "bad offset 20"));
+    assert!(rt; has_bytes(rt, &[(0, 32), (32, 68)], 36));
 }
 
-// Whether a note of this name and type has this name of its type.
-fn is_named(name: &str, n_type: u32, want: &str) -> bool {
+// Whether a note of a row's name and type has the row's name of its type.
+fn is_named(rt: HostRuntime, row: &(&str, u32, &str)) -> bool {
     let note = Note {
-        n_type,
-        name,
+        n_type: row.1,
+        name: row.0,
         desc: b"",
     };
-    note.type_to_str() == want
+    holds(rt, row, is(rt, note.type_to_str(), row.2))
 }
 
 // Names and types of notes, and the names of these types.
@@ -305,16 +308,22 @@ const TYPES: &[(&str, u32, &str)] = &[
 
 #[test]
 fn names_types(rt: HostRuntime) {
-    assert!(rt; TYPES.iter().all(|row| is_named(row.0, row.1, row.2)));
+    assert!(rt; TYPES.iter().all(|row| is_named(rt, row)));
 }
 
 #[test]
 fn leads_to_the_headers_of_notes(rt: HostRuntime) {
-    assert!(rt; elf32::Note::size_with(&LE) == 12 && elf64::Note::size_with(&LE) == 24);
+    assert!(rt;
+        is(
+            rt,
+            (elf32::Note::size_with(&LE), elf64::Note::size_with(&LE)),
+            (12, 24)
+        )
+    );
 }
 
 // A note as its layout says it, in numbers that no sum passes.
-#[derive(Drop)]
+#[derive(Debug, Drop)]
 struct PlainNote<'a> {
     n_type: u128,
     name: &'a [u8],
@@ -323,7 +332,7 @@ struct PlainNote<'a> {
 }
 
 // Why there is none.
-#[derive(Clone, Copy, PartialEq)]
+#[derive(Clone, Copy, Debug, PartialEq)]
 enum PlainFault {
     Align(u128),
     TooBig(u128, u128),
@@ -432,47 +441,55 @@ fn plain_fault(e: &Error) -> Option<PlainFault> {
     }
 }
 
-// Whether these are the same bytes.
-fn same(bytes: &[u8], others: &[u8]) -> bool {
-    bytes == others
+// Whether a note has the parts of a plain one.
+fn is_plain(rt: HostRuntime, note: &Note, plain: &PlainNote) -> bool {
+    is(rt, note.n_type as u128, plain.n_type)
+        && is(
+            rt,
+            (note.name.as_bytes(), note.desc),
+            (plain.name, plain.desc),
+        )
 }
 
-// Whether a note has the parts of a plain one.
-fn is_plain(note: &Note, plain: &PlainNote) -> bool {
-    let typed = note.n_type as u128 == plain.n_type;
-    let named = same(note.name.as_bytes(), plain.name);
-    let described = same(note.desc, plain.desc);
-    typed && named && described
+// Whether an item at an offset is the plain one.
+fn is_item(
+    rt: HostRuntime,
+    item: Option<Result<Note<'_>>>,
+    plain: &result::Result<PlainNote<'_>, PlainFault>,
+) -> bool {
+    match (item, plain) {
+        (Some(Ok(note)), Ok(plain)) => is_plain(rt, &note, plain),
+        (Some(Err(e)), Err(fault)) => { plain_fault(&e) == Some(*fault) || differs(rt, &e, fault) }
+        (item, plain) => differs(rt, &item, plain),
+    }
 }
 
 // Whether the items of a range, and where its offset is after each, are the plain ones.
-fn agrees(mut notes: NoteDataIterator) -> bool {
+fn agrees(rt: HostRuntime, mut notes: NoteDataIterator) -> bool {
     let (alignment, ctx) = notes.ctx;
     for _ in 0..8 {
         let offset = notes.offset as u128;
         let item = notes.next();
         if offset >= notes.size as u128 {
-            return item.is_none() && notes.offset as u128 == offset;
+            return is_last(rt, item) && is(rt, notes.offset as u128, offset);
         }
-        let (agrees, next) = match (item, plain_note_at(notes.bytes, offset, alignment, ctx.le)) {
-            (Some(Ok(note)), Ok(plain)) => {
-                (is_plain(&note, &plain), offset.wrapping_add(plain.len))
-            }
-            (Some(Err(e)), Err(fault)) => { (plain_fault(&e) == Some(fault), notes.size as u128) }
-            _ => (false, 0),
+        let plain = plain_note_at(notes.bytes, offset, alignment, ctx.le);
+        let next = match &plain {
+            Ok(plain) => offset.wrapping_add(plain.len),
+            Err(_) => notes.size as u128,
         };
-        if !agrees || notes.offset as u128 != next {
+        if !is_item(rt, item, &plain) || !is(rt, notes.offset as u128, next) {
             return false;
         }
     }
-    false
+    differs(rt, &"more than 8 items", &"an end")
 }
 
 const ALIGNMENTS: [usize; 12] = [0, 1, 2, 3, 4, 5, 6, 7, 8, 9, 16, usize::MAX];
 
 // Whether the notes of these bytes agree in each context, from each of some offsets up to each of some
 // sizes, by each alignment.
-fn agree(bytes: &[u8], ctx: Ctx) -> bool {
+fn agree(rt: HostRuntime, bytes: &[u8], ctx: Ctx) -> bool {
     let len = bytes.len();
     let ends = [
         0,
@@ -491,7 +508,7 @@ fn agree(bytes: &[u8], ctx: Ctx) -> bool {
                     offset,
                     ctx: (alignment, ctx),
                 };
-                if !agrees(notes) {
+                if !holds(rt, &(bytes, offset, size, alignment), agrees(rt, notes)) {
                     return false;
                 }
             }
@@ -518,5 +535,5 @@ const HOSTILE: &[(&[u8], Ctx)] = &[
 
 #[test]
 fn gives_the_plain_notes_of_hostile_ranges(rt: HostRuntime) {
-    assert!(rt; HOSTILE.iter().all(|notes| agree(notes.0, notes.1)));
+    assert!(rt; HOSTILE.iter().all(|notes| agree(rt, notes.0, notes.1)));
 }

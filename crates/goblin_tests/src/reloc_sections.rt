@@ -1,4 +1,5 @@
 //! Cases with their answers: relocation sections.
+use crate::told::{differs, gives, is};
 use goblin::elf::header::{EM_MIPS, EM_MIPS_RS3_LE, Header};
 use goblin::elf::reloc;
 use goblin::elf::reloc::{Reloc, RelocIterator, RelocSection, is_mips64el};
@@ -6,8 +7,6 @@ use goblin::{elf32, elf64};
 use goblin_base::container::{BE, Container, Ctx, Endian, LE};
 use goblin_base::error::Error;
 use goblin_base::scroll;
-use std::alloc::Global;
-use std::test::Fail;
 
 // 64 zero bytes, and a relocation of a MIPS64 file of little order behind them.
 const MIPS: &[u8] = b"\0\0\0\0\0\0\0\0\0\0\0\0\0\0\0\0\0\0\0\0\0\0\0\0\0\0\0\0\0\0\0\0\
@@ -30,90 +29,105 @@ fn behind(bytes: &[u8], is_mips64el: bool) -> Result<RelocSection<'_>, Error> {
     RelocSection::parse_inner(bytes, 64, 16, false, ctx, is_mips64el)
 }
 
-// How many relocations with addends a section of the 64-bit class has.
-fn count(bytes: &[u8], offset: usize, filesz: usize) -> Option<usize> {
-    let ctx = Ctx::new(Container::Big, LE);
-    let section = RelocSection::parse(bytes, offset, filesz, true, ctx).ok()?;
-    Some(section.len())
+// What parsing a section of relocations with addends of the 64-bit class answers.
+fn parsed(bytes: &[u8], offset: usize, filesz: usize) -> Result<RelocSection<'_>, Error> {
+    RelocSection::parse(bytes, offset, filesz, true, Ctx::new(Container::Big, LE))
 }
 
-// Whether such a section is refused as too big, with this size and so many bytes.
-fn is_too_big(bytes: &[u8], offset: usize, filesz: usize, left: usize) -> bool {
-    let ctx = Ctx::new(Container::Big, LE);
-    match RelocSection::parse(bytes, offset, filesz, true, ctx) {
-        Err(Error::Scroll(scroll::Error::TooBig { size, len })) => size == filesz && len == left,
-        _ => false,
+// Whether such a section has so many.
+fn counts(rt: HostRuntime, bytes: &[u8], offset: usize, filesz: usize, count: usize) -> bool {
+    match parsed(bytes, offset, filesz) {
+        Ok(section) => is(rt, section.len(), count),
+        Err(e) => differs(rt, &e, &count),
+    }
+}
+
+// Whether it is refused as too big, with this size and so many bytes.
+fn is_too_big(rt: HostRuntime, bytes: &[u8], offset: usize, filesz: usize, left: usize) -> bool {
+    match parsed(bytes, offset, filesz) {
+        Err(Error::Scroll(scroll::Error::TooBig { size, len })) => {
+            is(rt, (size, len), (filesz, left))
+        }
+        other => differs(rt, &other, &(filesz, left)),
     }
 }
 
 // Whether it is refused for its offset.
-fn is_bad_offset(bytes: &[u8], offset: usize, filesz: usize) -> bool {
-    let ctx = Ctx::new(Container::Big, LE);
-    match RelocSection::parse(bytes, offset, filesz, true, ctx) {
-        Err(Error::Scroll(scroll::Error::BadOffset(place))) => place == offset,
-        _ => false,
+fn is_bad_offset(rt: HostRuntime, bytes: &[u8], offset: usize, filesz: usize) -> bool {
+    match parsed(bytes, offset, filesz) {
+        Err(Error::Scroll(scroll::Error::BadOffset(place))) => is(rt, place, offset),
+        other => differs(rt, &other, &offset),
     }
 }
 
 #[test]
 fn counts_whole_relocations(rt: HostRuntime) {
     let bytes = [0; 50];
-    assert!(rt; count(&bytes, 0, 50) == Some(2));
-    assert!(rt; count(&bytes, 1000, 0) == Some(0));
+    assert!(rt; counts(rt, &bytes, 0, 50, 2));
+    assert!(rt; counts(rt, &bytes, 1000, 0, 0));
     let bytes = [0; 48];
-    assert!(rt; count(&bytes, 0, 47) == Some(1));
-    assert!(rt; count(&bytes, 47, 1) == Some(0));
-    assert!(rt; count(&bytes, usize::MAX, 0) == Some(0));
+    assert!(rt; counts(rt, &bytes, 0, 47, 1));
+    assert!(rt; counts(rt, &bytes, 47, 1, 0));
+    assert!(rt; counts(rt, &bytes, usize::MAX, 0, 0));
 }
 
 #[test]
 fn refuses_a_section_past_the_end(rt: HostRuntime) {
     let bytes = [0; 50];
-    assert!(rt; is_too_big(&bytes, 40, 24, 10));
-    assert!(rt; is_too_big(&bytes, 1, usize::MAX, 49));
+    assert!(rt; is_too_big(rt, &bytes, 40, 24, 10));
+    assert!(rt; is_too_big(rt, &bytes, 1, usize::MAX, 49));
     let bytes = [0; 48];
-    assert!(rt; is_too_big(&bytes, 0, 49, 48));
-    assert!(rt; is_bad_offset(&bytes, 48, 1));
-    assert!(rt; is_bad_offset(&bytes, usize::MAX, usize::MAX));
+    assert!(rt; is_too_big(rt, &bytes, 0, 49, 48));
+    assert!(rt; is_bad_offset(rt, &bytes, 48, 1));
+    assert!(rt; is_bad_offset(rt, &bytes, usize::MAX, usize::MAX));
 }
 
-// Whether a section has this one relocation, by index, by iterator and by loop.
-fn has_one(section: &RelocSection, want: &Reloc) -> bool {
+// Whether a loop over a section has this one relocation.
+fn loops_over_one(rt: HostRuntime, section: &RelocSection, want: &Reloc) -> bool {
     let mut each = 0;
     for reloc in section {
-        if reloc != *want || each == 1 {
+        if each == 1 || !is(rt, &reloc, want) {
             return false;
         }
         each = 1;
     }
-    let mut left = section.iter();
-    let exact = left.len() == 1 && left.size_hint() == (1, Some(1));
-    let first = left.next() == Some(*want);
-    let ends = left.next() == None && left.next() == None && left.len() == 0;
-    let by_index = section.get(0) == Some(*want) && section.get(1) == None;
-    each == 1 && exact && first && ends && by_index && section.len() == 1 && !section.is_empty()
+    is(rt, each, 1)
 }
 
-// Whether its vector has this one relocation.
-fn gives_one(alloc: Global, section: &RelocSection, want: &Reloc) -> bool {
-    match section.to_vec(alloc) {
-        Ok(all) => all.as_slice() == [*want].as_slice(),
-        Err(_) => false,
+// Whether its iterator has it, and then none.
+fn yields_one(rt: HostRuntime, section: &RelocSection, want: &Reloc) -> bool {
+    let mut left = section.iter();
+    is(rt, (left.len(), left.size_hint()), (1, (1, Some(1))))
+        && is(rt, left.next(), Some(*want))
+        && is(rt, left.next(), None)
+        && is(rt, left.next(), None)
+        && is(rt, left.len(), 0)
+}
+
+// Whether it is had by index and as a vector.
+fn lists_one(rt: HostRuntime, section: &RelocSection, want: &Reloc) -> bool {
+    is(rt, (section.get(0), section.get(1)), (Some(*want), None))
+        && is(rt, (section.len(), section.is_empty()), (1, false))
+        && gives(rt, section.to_vec(rt.alloc()), &[*want])
+}
+
+// Whether the section behind the zeros has this one relocation, by each way of asking.
+fn has_one(rt: HostRuntime, is_mips64el: bool, want: &Reloc) -> bool {
+    match behind(MIPS, is_mips64el) {
+        Ok(section) => {
+            loops_over_one(rt, &section, want)
+                && yields_one(rt, &section, want)
+                && lists_one(rt, &section, want)
+        }
+        Err(e) => differs(rt, &e, want),
     }
 }
 
 #[test]
-fn gives_a_relocation_through_the_pair_by_each_way_of_asking(rt: HostRuntime) -> Result<(), Fail> {
+fn gives_a_relocation_through_the_pair_by_each_way_of_asking(rt: HostRuntime) {
     reloc::laws();
-    let stored = plain(0x150f0, 51511296, 0);
-    let section = behind(MIPS, false)?;
-    assert!(rt; has_one(&section, &stored));
-    assert!(rt; gives_one(rt.alloc(), &section, &stored));
-    let meant = plain(0x150f0, 0, 0x1203);
-    let section = behind(MIPS, true)?;
-    assert!(rt; has_one(&section, &meant));
-    assert!(rt; gives_one(rt.alloc(), &section, &meant));
-    Ok(())
+    assert!(rt; has_one(rt, false, &plain(0x150f0, 51511296, 0)));
+    assert!(rt; has_one(rt, true, &plain(0x150f0, 0, 0x1203)));
 }
 
 // The relocations that are left live as long as the bytes, and not only as long as the section.
@@ -134,42 +148,72 @@ fn without_symbol(section: &RelocSection) -> (usize, usize) {
     (count, last)
 }
 
+// Whether so many relocations of zeros are counted by the iterator.
+fn counts_zeros(rt: HostRuntime) -> bool {
+    match RelocSection::parse(MIPS, 0, 63, false, Ctx::new(Container::Big, LE)) {
+        Ok(zeros) => { is(rt, zeros.iter().count(), 3) && is(rt, without_symbol(&zeros), (3, 2)) }
+        Err(e) => differs(rt, &e, &3),
+    }
+}
+
+// Whether the iterator that is left of a section has its relocation.
+fn is_left(rt: HostRuntime, want: Reloc) -> bool {
+    match relocs_of(MIPS) {
+        Some(mut left) => is(rt, left.next(), Some(want)),
+        None => differs(rt, &"nothing", &want),
+    }
+}
+
 #[test]
-fn counts_with_the_iterator_alone(rt: HostRuntime) -> Result<(), Fail> {
-    let zeros = RelocSection::parse(MIPS, 0, 63, false, Ctx::new(Container::Big, LE))?;
-    assert!(rt; zeros.iter().count() == 3);
-    assert!(rt; without_symbol(&zeros) == (3, 2));
-    let mut left = relocs_of(MIPS).ok_or("the section is refused")?;
-    assert!(rt; left.next() == Some(plain(0x150f0, 51511296, 0)));
-    Ok(())
+fn counts_with_the_iterator_alone(rt: HostRuntime) {
+    assert!(rt; counts_zeros(rt));
+    assert!(rt; is_left(rt, plain(0x150f0, 51511296, 0)));
 }
 
 #[test]
 fn has_no_relocations_by_default(rt: HostRuntime) {
     let none = RelocSection::default();
-    assert!(rt; none.is_empty() && none.len() == 0 && none.get(0) == None);
-    assert!(rt; none.iter().next() == None);
+    assert!(rt;
+        is(
+            rt,
+            (none.is_empty(), none.len(), none.get(0)),
+            (true, 0, None)
+        )
+    );
+    assert!(rt; is(rt, none.iter().next(), None));
 }
 
-// A header of a machine, a class and an order.
-fn header(machine: u16, container: Container, le: Endian) -> Header {
+// Whether a header of a machine, a class and an order is one of a MIPS64 file of little order.
+fn is_mips(rt: HostRuntime, machine: u16, container: Container, le: Endian, wanted: bool) -> bool {
     let mut header = Header::new(Ctx::new(container, le));
     header.e_machine = machine;
-    header
+    is(rt, is_mips64el(&header), wanted)
 }
 
 #[test]
 fn knows_a_mips64_file_of_little_order(rt: HostRuntime) {
     let big = Container::Big;
-    assert!(rt; is_mips64el(&header(EM_MIPS, big, LE)));
-    assert!(rt; !is_mips64el(&header(EM_MIPS, big, BE)));
-    assert!(rt; !is_mips64el(&header(EM_MIPS, Container::Little, LE)));
-    assert!(rt; !is_mips64el(&header(EM_MIPS_RS3_LE, big, LE)));
-    assert!(rt; !is_mips64el(&header(0, big, LE)));
+    assert!(rt; is_mips(rt, EM_MIPS, big, LE, true));
+    assert!(rt; is_mips(rt, EM_MIPS, big, BE, false));
+    assert!(rt; is_mips(rt, EM_MIPS, Container::Little, LE, false));
+    assert!(rt; is_mips(rt, EM_MIPS_RS3_LE, big, LE, false));
+    assert!(rt; is_mips(rt, 0, big, LE, false));
 }
 
 #[test]
 fn has_the_raw_relocations_under_the_paths_of_each_class(rt: HostRuntime) {
-    assert!(rt; elf32::reloc::SIZEOF_RELA == 12 && elf64::reloc::SIZEOF_RELA == 24);
-    assert!(rt; reloc::reloc32::SIZEOF_REL == 8 && reloc::reloc64::SIZEOF_REL == 16);
+    assert!(rt;
+        is(
+            rt,
+            (elf32::reloc::SIZEOF_RELA, elf64::reloc::SIZEOF_RELA),
+            (12, 24)
+        )
+    );
+    assert!(rt;
+        is(
+            rt,
+            (reloc::reloc32::SIZEOF_REL, reloc::reloc64::SIZEOF_REL),
+            (8, 16)
+        )
+    );
 }

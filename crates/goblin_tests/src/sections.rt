@@ -1,5 +1,6 @@
 //! Cases with their answers: section headers.
-use crate::header::{BIG64, LITTLE32, gives, says, stands};
+use crate::header::{BIG64, LITTLE32};
+use crate::told::{answers, differs, gives, holds, is, is_named, says, stands};
 use goblin_base::container::{BE, Ctx, LE};
 use goblin_base::error::Result as Answer;
 use goblin_base::scroll::{IntoCtx, SizeWith, TryFromCtx, TryIntoCtx};
@@ -10,7 +11,6 @@ use goblin_headers::section_header::{
     SHT_SUNW_MOVE, SHT_X86_64_UNWIND, SectionHeader, shf_to_str, sht_to_str,
 };
 use goblin_headers::{section_header, section_header32, section_header64};
-use std::alloc::Global;
 use std::ops::Range;
 
 // A section header of the 64-bit class in big byte order, each field with a number of its own.
@@ -40,92 +40,97 @@ fn section() -> SectionHeader {
     }
 }
 
-fn reads(bytes: &[u8], ctx: Ctx) -> bool {
-    match SectionHeader::try_from_ctx(bytes, ctx) {
-        Ok((read, size)) => read == section() && size == bytes.len(),
-        Err(_) => false,
-    }
+fn reads(rt: HostRuntime, bytes: &[u8], ctx: Ctx) -> bool {
+    answers(
+        rt,
+        SectionHeader::try_from_ctx(bytes, ctx),
+        (section(), bytes.len()),
+    )
 }
 
-fn writes(ctx: Ctx, bytes: &[u8]) -> bool {
+fn writes(rt: HostRuntime, ctx: Ctx, bytes: &[u8]) -> bool {
     let mut room = [0xaa; 70];
-    match section().try_into_ctx(&mut room, ctx) {
-        Ok(size) => size == bytes.len() && stands(&room, bytes),
-        Err(_) => false,
-    }
+    let written = section().try_into_ctx(&mut room, ctx);
+    answers(rt, written, bytes.len()) && stands(rt, &room, bytes)
 }
 
-fn has_size(ctx: Ctx, size: usize) -> bool {
-    SectionHeader::size(ctx) == size && SectionHeader::size_with(&ctx) == size
+fn has_size(rt: HostRuntime, ctx: Ctx, size: usize) -> bool {
+    is(
+        rt,
+        (SectionHeader::size(ctx), SectionHeader::size_with(&ctx)),
+        (size, size),
+    )
 }
 
 #[test]
 fn reads_and_writes_section_headers(rt: HostRuntime) {
-    assert!(rt; has_size(LITTLE32, 40));
-    assert!(rt; has_size(BIG64, 64));
-    assert!(rt; reads(LITTLE, LITTLE32));
-    assert!(rt; reads(BIG, BIG64));
-    assert!(rt; writes(LITTLE32, LITTLE));
-    assert!(rt; writes(BIG64, BIG));
+    assert!(rt; has_size(rt, LITTLE32, 40));
+    assert!(rt; has_size(rt, BIG64, 64));
+    assert!(rt; reads(rt, LITTLE, LITTLE32));
+    assert!(rt; reads(rt, BIG, BIG64));
+    assert!(rt; writes(rt, LITTLE32, LITTLE));
+    assert!(rt; writes(rt, BIG64, BIG));
 }
 
-fn puts(ctx: Ctx, bytes: &[u8]) -> bool {
+fn puts(rt: HostRuntime, ctx: Ctx, bytes: &[u8]) -> bool {
     let mut room = [0xaa; 70];
     section().into_ctx(&mut room, ctx);
-    stands(&room, bytes)
+    stands(rt, &room, bytes)
 }
 
 #[test]
 fn puts_section_headers(rt: HostRuntime) {
-    assert!(rt; puts(LITTLE32, LITTLE));
-    assert!(rt; puts(BIG64, BIG));
+    assert!(rt; puts(rt, LITTLE32, LITTLE));
+    assert!(rt; puts(rt, BIG64, BIG));
 }
 
 // Whether both reading from so many bytes and writing over them are refused with this text, and
 // nothing is written.
-fn refuses(alloc: Global, len: usize, ctx: Ctx, text: &str) -> bool {
+fn refuses(rt: HostRuntime, len: usize, ctx: Ctx, text: &str) -> bool {
     let mut room = [0xaa; 64];
     let room = &mut room[..len.min(64)];
-    says(alloc, SectionHeader::try_from_ctx(room, ctx), text)
-        && says(alloc, SectionHeader::new().try_into_ctx(room, ctx), text)
-        && room.iter().all(|byte| *byte == 0xaa)
+    says(rt, SectionHeader::try_from_ctx(room, ctx), text)
+        && says(rt, SectionHeader::new().try_into_ctx(room, ctx), text)
+        && stands(rt, room, b"")
 }
 
 #[test]
 fn refuses_section_headers_without_room(rt: HostRuntime) {
-    assert!(rt; refuses(rt.alloc(), 39, LITTLE32, "type is too big (40) for 39"));
-    assert!(rt; refuses(rt.alloc(), 63, BIG64, "type is too big (64) for 63"));
-    assert!(rt; refuses(rt.alloc(), 0, BIG64, "bad offset 0"));
+    assert!(rt; refuses(rt, 39, LITTLE32, "type is too big (40) for 39"));
+    assert!(rt; refuses(rt, 63, BIG64, "type is too big (64) for 63"));
+    assert!(rt; refuses(rt, 0, BIG64, "bad offset 0"));
 }
 
-fn converts32(bytes: &[u8]) -> bool {
-    let Ok((raw, size)) = section_header32::SectionHeader::try_from_ctx(bytes, LE) else {
-        return false;
-    };
-    let mut room = [0xaa; 70];
-    size == 40
-        && SectionHeader::from(raw) == section()
-        && section_header32::SectionHeader::from(section()) == raw
-        && raw.try_into_ctx(&mut room, LE).is_ok_and(|size| size == 40)
-        && stands(&room, bytes)
+fn converts32(rt: HostRuntime, bytes: &[u8]) -> bool {
+    match section_header32::SectionHeader::try_from_ctx(bytes, LE) {
+        Ok((raw, size)) => {
+            let mut room = [0xaa; 70];
+            is(rt, (SectionHeader::from(raw), size), (section(), 40))
+                && is(rt, section_header32::SectionHeader::from(section()), raw)
+                && answers(rt, raw.try_into_ctx(&mut room, LE), 40)
+                && stands(rt, &room, bytes)
+        }
+        Err(e) => differs(rt, &e, &section()),
+    }
 }
 
-fn converts64(bytes: &[u8]) -> bool {
-    let Ok((raw, size)) = section_header64::SectionHeader::try_from_ctx(bytes, BE) else {
-        return false;
-    };
-    let mut room = [0xaa; 70];
-    size == 64
-        && SectionHeader::from(raw) == section()
-        && section_header64::SectionHeader::from(section()) == raw
-        && raw.try_into_ctx(&mut room, BE).is_ok_and(|size| size == 64)
-        && stands(&room, bytes)
+fn converts64(rt: HostRuntime, bytes: &[u8]) -> bool {
+    match section_header64::SectionHeader::try_from_ctx(bytes, BE) {
+        Ok((raw, size)) => {
+            let mut room = [0xaa; 70];
+            is(rt, (SectionHeader::from(raw), size), (section(), 64))
+                && is(rt, section_header64::SectionHeader::from(section()), raw)
+                && answers(rt, raw.try_into_ctx(&mut room, BE), 64)
+                && stands(rt, &room, bytes)
+        }
+        Err(e) => differs(rt, &e, &section()),
+    }
 }
 
 #[test]
 fn converts_section_headers(rt: HostRuntime) {
-    assert!(rt; converts32(LITTLE));
-    assert!(rt; converts64(BIG));
+    assert!(rt; converts32(rt, LITTLE));
+    assert!(rt; converts64(rt, BIG));
 }
 
 fn wide() -> SectionHeader {
@@ -139,17 +144,33 @@ fn wide() -> SectionHeader {
 #[test]
 fn keeps_low_bits(rt: HostRuntime) {
     let raw = section_header64::SectionHeader::from(wide());
-    assert!(rt; raw.sh_name == 0x2345_6789 && raw.sh_size == 0x2_0000_0003);
-    assert!(rt; section_header32::SectionHeader::from(wide()).sh_size == 3);
+    assert!(rt; is(rt, (raw.sh_name, raw.sh_size), (0x2345_6789, 0x2_0000_0003)));
+    assert!(rt; is(rt, section_header32::SectionHeader::from(wide()).sh_size, 3));
+}
+
+// Whether a section is in memory, writable and executable.
+fn allows(header: &SectionHeader) -> [bool; 3] {
+    [
+        header.is_alloc(),
+        header.is_writable(),
+        header.is_executable(),
+    ]
 }
 
 #[test]
 fn makes_section_headers(rt: HostRuntime) {
     let new = SectionHeader::new();
-    assert!(rt; new.sh_type == 1 && new.sh_flags == 2 && new.sh_addralign == 512);
-    assert!(rt; new.is_alloc() && !new.is_writable() && !new.is_executable());
-    assert!(rt; SectionHeader::default() == section_header::default_is_zeros());
-    assert!(rt; SectionHeader::default().sh_entsize == 0);
+    assert!(rt;
+        is(
+            rt,
+            (new.sh_type, new.sh_flags, new.sh_addralign),
+            (1, 2, 512)
+        )
+    );
+    assert!(rt; is(rt, allows(&new), [true, false, false]));
+    let default = SectionHeader::default();
+    assert!(rt; is(rt, default.sh_entsize, 0));
+    assert!(rt; is(rt, default, section_header::default_is_zeros()));
 }
 
 // Flags, and whether a section with them is in memory, writable and executable.
@@ -163,22 +184,17 @@ static FLAGS: [(u64, [bool; 3]); 7] = [
     (0x7_0000_0000, [false, false, false]),
 ];
 
-fn asks(sh_flags: u64, answers: [bool; 3]) -> bool {
+fn asks(rt: HostRuntime, row: &(u64, [bool; 3])) -> bool {
     let header = SectionHeader {
-        sh_flags,
+        sh_flags: row.0,
         ..section()
     };
-    [
-        header.is_alloc(),
-        header.is_writable(),
-        header.is_executable(),
-    ] == answers
+    holds(rt, row, is(rt, allows(&header), row.1))
 }
 
 #[test]
 fn asks_for_flags(rt: HostRuntime) {
-    let wrong = FLAGS.iter().position(|row| !asks(row.0, row.1));
-    assert!(rt; wrong.is_none(), "row {wrong:?}");
+    assert!(rt; FLAGS.iter().all(|row| asks(rt, row)));
 }
 
 fn of_type(sh_type: u32) -> SectionHeader {
@@ -195,27 +211,33 @@ fn asks_for_relocations(rt: HostRuntime) {
     assert!(rt; !of_type(SHT_PROGBITS).is_relocation());
 }
 
-fn has_ranges(header: &SectionHeader, file: Option<Range<usize>>, memory: Range<usize>) -> bool {
-    header.file_range() == file && header.vm_range() == memory
+fn has_ranges(
+    rt: HostRuntime,
+    header: &SectionHeader,
+    file: Option<Range<usize>>,
+    memory: Range<usize>,
+) -> bool {
+    is(rt, (header.file_range(), header.vm_range()), (file, memory))
 }
 
 #[test]
 fn tells_ranges(rt: HostRuntime) {
     let memory = 0x401000..0x401020;
-    assert!(rt; has_ranges(&section(), Some(0x1000..0x1020), memory));
+    assert!(rt; has_ranges(rt, &section(), Some(0x1000..0x1020), memory));
     let memory = 0x401000..0x401020;
-    assert!(rt; has_ranges(&of_type(SHT_NOBITS), None, memory));
+    assert!(rt; has_ranges(rt, &of_type(SHT_NOBITS), None, memory));
     let far = SectionHeader {
         sh_addr: u64::MAX - 1,
         sh_offset: u64::MAX,
         ..section()
     };
     let file = Some(usize::MAX..usize::MAX);
-    assert!(rt; has_ranges(&far, file, usize::MAX - 1..usize::MAX));
+    assert!(rt; has_ranges(rt, &far, file, usize::MAX - 1..usize::MAX));
 }
 
 // A section of 50 bytes: its type, offset and address, and the text of its check against a file of
 // 120 bytes.
+#[derive(Debug)]
 struct Checked {
     sh_type: u32,
     sh_offset: u64,
@@ -274,7 +296,7 @@ static CHECKED: [Checked; 7] = [
 ];
 
 // The permissive check passes each.
-fn checks(alloc: Global, case: &Checked) -> bool {
+fn checks(rt: HostRuntime, case: &Checked) -> bool {
     let header = SectionHeader {
         sh_type: case.sh_type,
         sh_offset: case.sh_offset,
@@ -282,15 +304,14 @@ fn checks(alloc: Global, case: &Checked) -> bool {
         sh_addr: case.sh_addr,
         ..section()
     };
-    says(alloc, header.check_size(120), case.text)
-        && says(alloc, header.check_size_with_opts(120, false), case.text)
-        && header.check_size_with_opts(120, true).is_ok()
+    says(rt, header.check_size(120), case.text)
+        && says(rt, header.check_size_with_opts(120, false), case.text)
+        && says(rt, header.check_size_with_opts(120, true), "Ok")
 }
 
 #[test]
 fn checks_sizes(rt: HostRuntime) {
-    let wrong = CHECKED.iter().position(|case| !checks(rt.alloc(), case));
-    assert!(rt; wrong.is_none(), "case {wrong:?}");
+    assert!(rt; CHECKED.iter().all(|case| holds(rt, case, checks(rt, case))));
 }
 
 #[test]
@@ -301,7 +322,7 @@ fn checks_no_empty_section(rt: HostRuntime) {
         sh_addr: u64::MAX,
         ..section()
     };
-    assert!(rt; empty.check_size(120).is_ok());
+    assert!(rt; says(rt, empty.check_size(120), "Ok"));
 }
 
 // How many zero bytes there are, what `sh_size` of the header at their start is, the offset, the
@@ -320,34 +341,34 @@ static LISTED: [(usize, u8, usize, usize, usize, &str); 10] = [
 ];
 
 // Whether the answer has so many headers, and says this text.
-fn answers(alloc: Global, answer: Answer<Vec<SectionHeader>>, count: usize, text: &str) -> bool {
+fn lists_so_many(
+    rt: HostRuntime,
+    answer: Answer<Vec<SectionHeader>>,
+    count: usize,
+    text: &str,
+) -> bool {
     let read = match &answer {
         Ok(headers) => headers.len(),
         Err(_) => 0,
     };
-    read == count && says(alloc, answer, text)
+    says(rt, answer, text) && is(rt, read, count)
 }
 
 // At offset 0 a file has no section headers; elsewhere it has those from there on.
-fn lists(alloc: Global, row: &(usize, u8, usize, usize, usize, &str)) -> bool {
+fn lists(rt: HostRuntime, row: &(usize, u8, usize, usize, usize, &str)) -> bool {
     let (len, size, offset, count, read, text) = *row;
     let mut bytes = [0; 128];
     bytes[39] = size;
     let bytes = &bytes[..len.min(128)];
-    let from = SectionHeader::parse_from(alloc, bytes, offset, count, BIG64);
-    let whole = SectionHeader::parse(alloc, bytes, offset, count, BIG64);
-    answers(alloc, from, read, text)
-        && if offset == 0 {
-            answers(alloc, whole, 0, "Ok")
-        } else {
-            answers(alloc, whole, read, text)
-        }
+    let from = SectionHeader::parse_from(rt.alloc(), bytes, offset, count, BIG64);
+    let whole = SectionHeader::parse(rt.alloc(), bytes, offset, count, BIG64);
+    let (of_file, told) = if offset == 0 { (0, "Ok") } else { (read, text) };
+    lists_so_many(rt, from, read, text) && lists_so_many(rt, whole, of_file, told)
 }
 
 #[test]
 fn reads_section_headers_at_once(rt: HostRuntime) {
-    let wrong = LISTED.iter().position(|row| !lists(rt.alloc(), row));
-    assert!(rt; wrong.is_none(), "row {wrong:?}");
+    assert!(rt; LISTED.iter().all(|row| holds(rt, row, lists(rt, row))));
 }
 
 // 16 bytes of something else, and two section headers, of which the first has the size 2.
@@ -366,27 +387,25 @@ fn first() -> SectionHeader {
     }
 }
 
-fn read(alloc: Global, count: usize, headers: &[SectionHeader]) -> bool {
-    gives(
-        SectionHeader::parse(alloc, &file(), 16, count, BIG64),
-        headers,
-    )
+fn read(rt: HostRuntime, count: usize, headers: &[SectionHeader]) -> bool {
+    let answer = SectionHeader::parse(rt.alloc(), &file(), 16, count, BIG64);
+    gives(rt, answer, headers)
 }
 
 // Where the count is 0, the first header's size is the count.
 #[test]
 fn reads_the_section_headers_of_a_file(rt: HostRuntime) {
-    assert!(rt; read(rt.alloc(), 2, &[first(), section()]));
-    assert!(rt; read(rt.alloc(), 1, &[first()]));
-    assert!(rt; read(rt.alloc(), 0, &[first(), section()]));
+    assert!(rt; read(rt, 2, &[first(), section()]));
+    assert!(rt; read(rt, 1, &[first()]));
+    assert!(rt; read(rt, 0, &[first(), section()]));
 }
 
 #[test]
 fn reads_one_section_header_of_zeros(rt: HostRuntime) {
     let one = SectionHeader::parse_from(rt.alloc(), &[0; 64], 0, 0, BIG64);
-    assert!(rt; gives(one, &[SectionHeader::default()]));
+    assert!(rt; gives(rt, one, &[SectionHeader::default()]));
     let one = SectionHeader::parse_from(rt.alloc(), &[0; 40], 0, 0, LITTLE32);
-    assert!(rt; gives(one, &[SectionHeader::default()]));
+    assert!(rt; gives(rt, one, &[SectionHeader::default()]));
 }
 
 // 40 zero bytes, and a section of four bytes of names at 52.
@@ -406,23 +425,25 @@ fn reads_raw_section_headers_from_bytes(rt: HostRuntime) {
         ..none
     };
     let two = section_header32::SectionHeader::from_bytes(rt.alloc(), NAMES, 2);
-    assert!(rt; gives(two, &[none, names]));
+    assert!(rt; gives(rt, two, &[none, names]));
 }
 
 #[test]
 fn reads_32_bit_section_headers_of_zeros(rt: HostRuntime) {
     let zeros = section_header32::default_is_zeros();
-    assert!(rt; zeros == section_header32::SectionHeader::default() && zeros.sh_size == 0);
+    assert!(rt; is(rt, section_header32::SectionHeader::default(), zeros));
+    assert!(rt; is(rt, zeros.sh_size, 0));
     let two = section_header32::SectionHeader::from_bytes(rt.alloc(), &[0; 80], 2);
-    assert!(rt; gives(two, &[zeros, zeros]));
+    assert!(rt; gives(rt, two, &[zeros, zeros]));
 }
 
 #[test]
 fn reads_64_bit_section_headers_of_zeros(rt: HostRuntime) {
     let zeros = section_header64::default_is_zeros();
-    assert!(rt; zeros == section_header64::SectionHeader::default() && zeros.sh_size == 0);
+    assert!(rt; is(rt, section_header64::SectionHeader::default(), zeros));
+    assert!(rt; is(rt, zeros.sh_size, 0));
     let two = section_header64::SectionHeader::from_bytes(rt.alloc(), &[0; 128], 2);
-    assert!(rt; gives(two, &[zeros, zeros]));
+    assert!(rt; gives(rt, two, &[zeros, zeros]));
 }
 
 static TYPES: [(u32, &str); 18] = [
@@ -461,26 +482,28 @@ static FLAG_NAMES: [(u32, &str); 10] = [
 
 #[test]
 fn names_section_types(rt: HostRuntime) {
-    let wrong = TYPES.iter().position(|row| sht_to_str(row.0) != row.1);
-    assert!(rt; wrong.is_none(), "row {wrong:?}");
+    assert!(rt; TYPES.iter().all(|row| is_named(rt, row, sht_to_str(row.0))));
 }
 
 #[test]
 fn names_section_flags(rt: HostRuntime) {
-    let wrong = FLAG_NAMES.iter().position(|row| shf_to_str(row.0) != row.1);
-    assert!(rt; wrong.is_none(), "row {wrong:?}");
-    assert!(rt; SHF_FLAGS.len() == 12 && SHF_FLAGS[11] == 0x40000000);
+    assert!(rt;
+        FLAG_NAMES
+            .iter()
+            .all(|row| is_named(rt, row, shf_to_str(row.0)))
+    );
+    assert!(rt; is(rt, (SHF_FLAGS.len(), SHF_FLAGS[11]), (12, 0x40000000)));
 }
 
 // The functions that the modules of the classes pass on are these.
 #[test]
 fn passes_on_the_names(rt: HostRuntime) {
-    assert!(rt; section_header32::sht_to_str(2) == "SHT_SYMTAB");
-    assert!(rt; section_header64::sht_to_str(2) == "SHT_SYMTAB");
-    assert!(rt; section_header32::shf_to_str(2) == "SHF_ALLOC");
-    assert!(rt; section_header64::shf_to_str(2) == "SHF_ALLOC");
-    assert!(rt; section_header::section_header32::SIZEOF_SHDR == 40);
-    assert!(rt; section_header::section_header64::SIZEOF_SHDR == 64);
+    assert!(rt; is(rt, section_header32::sht_to_str(2), "SHT_SYMTAB"));
+    assert!(rt; is(rt, section_header64::sht_to_str(2), "SHT_SYMTAB"));
+    assert!(rt; is(rt, section_header32::shf_to_str(2), "SHF_ALLOC"));
+    assert!(rt; is(rt, section_header64::shf_to_str(2), "SHF_ALLOC"));
+    assert!(rt; is(rt, section_header::section_header32::SIZEOF_SHDR, 40));
+    assert!(rt; is(rt, section_header::section_header64::SIZEOF_SHDR, 64));
 }
 
 #[test]
@@ -510,7 +533,7 @@ fn found(name: &[u8]) -> Option<usize> {
 
 #[test]
 fn finds_the_first_section_of_a_name(rt: HostRuntime) {
-    assert!(rt; found(b"f") == Some(1));
-    assert!(rt; found(b"\xff").is_none());
-    assert!(rt; found(b"").is_none());
+    assert!(rt; is(rt, found(b"f"), Some(1)));
+    assert!(rt; is(rt, found(b"\xff"), None));
+    assert!(rt; is(rt, found(b""), None));
 }

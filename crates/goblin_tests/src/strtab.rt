@@ -1,12 +1,8 @@
-//! Cases of string tables with their answers, and all short strings against plain readings.
-use goblin_base::entries::{Entries, Looked, Probes};
-use goblin_base::error::{Error, Result};
-use goblin_base::find::find;
-use goblin_base::options::{ParseMode, ParseOptions};
-use goblin_base::scroll;
+//! Cases of string tables with their answers.
+use crate::told::{answers, differs, gives, holds, is, says};
+use goblin_base::error::Result;
+use goblin_base::options::ParseOptions;
 use goblin_base::strtab::{Strtab, laws};
-use goblin_base::walk::walk;
-use std::alloc::Global;
 
 // "\nƒoo\nmemmove\n🅱️usta\n"
 const FOO: &[u8] = b"\n\xC6\x92oo\nmemmove\n\xF0\x9F\x85\xB1\xEF\xB8\x8Fusta\n";
@@ -15,29 +11,29 @@ const NAMES: &[u8] = b"\0.text\0.data\0";
 
 const ZEROS: &[u8] = &[0; 4];
 
+const SECTIONS: &[&str] = &["", ".text", ".data"];
+
 const BUSTA: [&str; 4] = ["", "printf", "memmove", "busta"];
 
 // Whether the table has these strings.
-fn has_strings(alloc: Global, table: Result<Strtab<'_>>, strings: &[&str]) -> bool {
-    let Ok(table) = table else {
-        return false;
-    };
-    match table.to_vec(alloc) {
-        Ok(found) => found.as_slice() == strings,
-        Err(_) => false,
+fn has_strings(rt: HostRuntime, table: Result<Strtab<'_>>, strings: &[&str]) -> bool {
+    match table {
+        Ok(table) => gives(rt, table.to_vec(rt.alloc()), strings),
+        Err(e) => differs(rt, &e, &strings),
     }
+}
+
+// The same of the table that these bytes are.
+fn splits(rt: HostRuntime, bytes: &[u8], delim: u8, strings: &[&str]) -> bool {
+    has_strings(rt, Strtab::new_preparsed(rt.alloc(), bytes, delim), strings)
 }
 
 #[test]
 fn tells_the_strings(rt: HostRuntime) {
-    let a = rt.alloc();
-    let names = ["", ".text", ".data"];
-    assert!(rt; has_strings(a, Strtab::new_preparsed(a, NAMES, 0), &names));
-    assert!(rt; has_strings(a, Ok(Strtab::new(NAMES, 0)), &names));
-    let table = Strtab::new_preparsed(a, b"\0printf\0memmove\0busta", 0);
-    assert!(rt; has_strings(a, table, &BUSTA));
-    let table = Strtab::new_preparsed(a, b"printf\0memmove\0busta", 0);
-    assert!(rt; has_strings(a, table, &BUSTA[1..]));
+    assert!(rt; splits(rt, NAMES, 0, SECTIONS));
+    assert!(rt; gives(rt, Strtab::new(NAMES, 0).to_vec(rt.alloc()), SECTIONS));
+    assert!(rt; splits(rt, b"\0printf\0memmove\0busta", 0, &BUSTA));
+    assert!(rt; splits(rt, b"printf\0memmove\0busta", 0, &BUSTA[1..]));
 }
 
 #[test]
@@ -47,18 +43,9 @@ fn calls_the_laws_of_string_tables() {
 
 #[test]
 fn tells_the_strings_between_delimiters(rt: HostRuntime) {
-    let a = rt.alloc();
-    let table = Strtab::new_preparsed(a, b"\0printf\0memmove\0busta\0", 0);
-    assert!(rt; has_strings(a, table, &BUSTA));
-    let table = Strtab::new_preparsed(a, b"\nprintf\nmemmove\nbusta\n", b'\n');
-    assert!(rt; has_strings(a, table, &BUSTA));
-    assert!(rt;
-        has_strings(
-            a,
-            Strtab::new_preparsed(a, b"\xC6\x92oo", b'\n'),
-            &["\u{192}oo"]
-        )
-    );
+    assert!(rt; splits(rt, b"\0printf\0memmove\0busta\0", 0, &BUSTA));
+    assert!(rt; splits(rt, b"\nprintf\nmemmove\nbusta\n", b'\n', &BUSTA));
+    assert!(rt; splits(rt, b"\xC6\x92oo", b'\n', &["\u{192}oo"]));
 }
 
 // Offsets, and what looking them up answers.
@@ -68,6 +55,12 @@ const IN_NAMES: &[(usize, Option<&str>)] = &[
     (12, Some("")),
     (13, None),
 ];
+
+const IN_A: &[(usize, Option<&str>)] = &[(0, Some("a")), (1, None)];
+
+const UNPARSED: &[(usize, Option<&str>)] = &[(3, None)];
+
+const DAMAGED: &[(usize, Option<&str>)] = &[(3, None), (4, None)];
 
 const IN_FOO: &[(usize, Option<&str>)] = &[
     (0, Some("")),
@@ -82,62 +75,83 @@ const IN_FOO: &[(usize, Option<&str>)] = &[
 ];
 
 // Whether looking up each offset of a table has its answer.
-fn looks_up(table: &Strtab<'_>, answers: &[(usize, Option<&str>)]) -> bool {
+fn looks_up(rt: HostRuntime, table: &Strtab<'_>, answers: &[(usize, Option<&str>)]) -> bool {
     answers
         .iter()
-        .all(|answer| table.get_at(answer.0) == answer.1)
+        .all(|row| holds(rt, row, is(rt, table.get_at(row.0), row.1)))
 }
 
 // The same of the table that these bytes are.
-fn looks_up_in(alloc: Global, bytes: &[u8], delim: u8, answers: &[(usize, Option<&str>)]) -> bool {
-    match Strtab::new_preparsed(alloc, bytes, delim) {
-        Ok(table) => looks_up(&table, answers),
-        Err(_) => false,
+fn looks_up_in(
+    rt: HostRuntime,
+    bytes: &[u8],
+    delim: u8,
+    answers: &[(usize, Option<&str>)],
+) -> bool {
+    match Strtab::new_preparsed(rt.alloc(), bytes, delim) {
+        Ok(table) => looks_up(rt, &table, answers),
+        Err(e) => differs(rt, &e, &answers),
     }
 }
 
 #[test]
 fn looks_up_offsets(rt: HostRuntime) {
-    assert!(rt; looks_up_in(rt.alloc(), NAMES, 0, IN_NAMES));
-    assert!(rt; looks_up(&Strtab::new(NAMES, 0), &[(3, None)]));
-    assert!(rt; looks_up_in(rt.alloc(), b"a", 0, &[(0, Some("a")), (1, None)]));
-    assert!(rt; looks_up_in(rt.alloc(), FOO, b'\n', IN_FOO));
+    assert!(rt; looks_up_in(rt, NAMES, 0, IN_NAMES));
+    assert!(rt; looks_up(rt, &Strtab::new(NAMES, 0), UNPARSED));
+    assert!(rt; looks_up_in(rt, b"a", 0, IN_A));
+    assert!(rt; looks_up_in(rt, FOO, b'\n', IN_FOO));
 }
 
-// Whether the plain reading, `get_unsafe` and `index` have this text.
-fn reads(table: &Strtab<'_>, offset: usize, text: &str) -> bool {
+// Whether the plain reading, `get_unsafe` and `index` have this text, in a table of so many bytes.
+fn reads(rt: HostRuntime, table: &Strtab<'_>, len: usize, offset: usize, text: &str) -> bool {
     match table.get(offset) {
-        Some(Ok(found)) => {
-            found == text && table.index(offset) == text && table.get_unsafe(offset) == Some(text)
+        Some(answer) => {
+            answers(rt, answer, text)
+                && is(
+                    rt,
+                    (table.index(offset), table.get_unsafe(offset)),
+                    (text, Some(text)),
+                )
+                && is(rt, table.len(), len)
         }
-        _ => false,
+        None => differs(rt, &"nothing", &text),
     }
 }
 
-// Whether the plain reading refuses with a bad input of this size.
-fn cannot_read(table: &Strtab<'_>, offset: usize, bad: usize) -> bool {
+// Whether the plain reading refuses with this text.
+fn cannot_read(rt: HostRuntime, table: &Strtab<'_>, offset: usize, text: &str) -> bool {
     match table.get(offset) {
-        Some(Err(Error::Scroll(scroll::Error::BadInput { size, msg }))) => {
-            size == bad && msg == "invalid utf8"
-        }
-        _ => false,
+        Some(answer) => says(rt, answer, text),
+        None => differs(rt, &"nothing", &text),
+    }
+}
+
+// Whether the plain reading and `get_unsafe` have nothing, in a table of so many bytes.
+fn has_none(rt: HostRuntime, table: &Strtab<'_>, len: usize, offset: usize) -> bool {
+    match table.get(offset) {
+        Some(answer) => differs(rt, &answer, &"nothing"),
+        None => is(rt, (table.len(), table.get_unsafe(offset)), (len, None)),
     }
 }
 
 #[test]
 fn reads_plainly(rt: HostRuntime) {
-    let table = Strtab::new(NAMES, 0);
-    assert!(rt; table.len() == 13 && reads(&table, 3, "ext"));
-    assert!(rt; table.get(13).is_none() && table.get_unsafe(13).is_none());
-    assert!(rt; cannot_read(&Strtab::new(b"a\x80\0b", 0), 1, 3));
+    assert!(rt; reads(rt, &Strtab::new(NAMES, 0), 13, 3, "ext"));
+    assert!(rt; has_none(rt, &Strtab::new(NAMES, 0), 13, 13));
+    assert!(rt;
+        cannot_read(
+            rt,
+            &Strtab::new(b"a\x80\0b", 0),
+            1,
+            "bad input invalid utf8 (3)"
+        )
+    );
 }
 
 #[test]
 fn reads_a_part_plainly(rt: HostRuntime) {
-    let part = Strtab::from_slice_unparsed(NAMES, 7, 3, 0);
-    assert!(rt; part.len() == 3 && reads(&part, 1, "da"));
-    let none = Strtab::default();
-    assert!(rt; none.len() == 0 && none.get(0).is_none());
+    assert!(rt; reads(rt, &Strtab::from_slice_unparsed(NAMES, 7, 3, 0), 3, 1, "da"));
+    assert!(rt; has_none(rt, &Strtab::default(), 0, 0));
 }
 
 // Ranges of four bytes that are no tables, by offset and length, and why.
@@ -178,59 +192,50 @@ const REFUSED: &[(usize, usize, &str)] = &[
 ];
 
 // Whether these bytes are refused as a table with this line.
-fn tells(alloc: Global, bytes: &[u8], offset: usize, len: usize, line: &str) -> bool {
-    let Err(e) = Strtab::parse(alloc, bytes, offset, len, 0) else {
-        return false;
-    };
-    match e.line(alloc) {
-        Ok(told) => told.as_str() == line,
-        Err(_) => false,
-    }
+fn refuses_range(rt: HostRuntime, bytes: &[u8], offset: usize, len: usize, line: &str) -> bool {
+    says(rt, Strtab::parse(rt.alloc(), bytes, offset, len, 0), line)
 }
 
 // Whether each range is refused so.
-fn tells_each(alloc: Global) -> bool {
-    REFUSED.iter().all(|refused| tells(alloc, ZEROS, refused.0, refused.1, refused.2))
-}
-
-// Whether a part of the zeros of no bytes has no strings.
-fn has_none_at(alloc: Global, offset: usize) -> bool {
-    has_strings(alloc, Strtab::parse(alloc, ZEROS, offset, 0, 0), &[])
+fn refuses_each(rt: HostRuntime) -> bool {
+    REFUSED.iter().all(|row| holds(rt, row, refuses_range(rt, ZEROS, row.0, row.1, row.2)))
 }
 
 #[test]
 fn refuses_a_range_past_the_file(rt: HostRuntime) {
-    assert!(rt; tells_each(rt.alloc()));
-    assert!(rt; has_none_at(rt.alloc(), 4));
-    assert!(rt; tells(rt.alloc(), b"\x80\x80", 0, 2, "bad input invalid utf8 (2)"));
+    assert!(rt; refuses_each(rt));
+    assert!(rt; has_strings(rt, Strtab::parse(rt.alloc(), ZEROS, 4, 0, 0), &[]));
+    assert!(rt; refuses_range(rt, b"\x80\x80", 0, 2, "bad input invalid utf8 (2)"));
 }
 
 // Whether the permissive table has this length.
-fn is_cut_to(alloc: Global, offset: usize, len: usize, rest: usize) -> bool {
-    match Strtab::parse_with_opts(alloc, ZEROS, offset, len, 0, &ParseOptions::permissive()) {
-        Ok(table) => table.len() == rest,
-        Err(_) => false,
+fn is_cut_to(rt: HostRuntime, offset: usize, len: usize, rest: usize) -> bool {
+    let opts = ParseOptions::permissive();
+    match Strtab::parse_with_opts(rt.alloc(), ZEROS, offset, len, 0, &opts) {
+        Ok(table) => is(rt, table.len(), rest),
+        Err(e) => differs(rt, &e, &rest),
     }
 }
 
 #[test]
 fn cuts_a_range_to_the_file(rt: HostRuntime) {
-    assert!(rt; is_cut_to(rt.alloc(), 5, 0, 0));
-    assert!(rt; is_cut_to(rt.alloc(), 2, 3, 2));
-    assert!(rt; is_cut_to(rt.alloc(), 4, 0, 0));
-    assert!(rt; is_cut_to(rt.alloc(), 1, usize::MAX, 3));
-    assert!(rt; is_cut_to(rt.alloc(), 1, 2, 2));
+    assert!(rt; is_cut_to(rt, 5, 0, 0));
+    assert!(rt; is_cut_to(rt, 2, 3, 2));
+    assert!(rt; is_cut_to(rt, 4, 0, 0));
+    assert!(rt; is_cut_to(rt, 1, usize::MAX, 3));
+    assert!(rt; is_cut_to(rt, 1, 2, 2));
 }
 
-// Whether the look-up has nothing at these offsets of a damaged table, read by permissive options.
-fn has_nothing_at(alloc: Global, bytes: &[u8], offsets: &[usize]) -> bool {
-    match Strtab::parse_with_opts(alloc, bytes, 0, bytes.len(), 0, &ParseOptions::permissive()) {
-        Ok(table) => offsets.iter().all(|offset| table.get_at(*offset).is_none()),
-        Err(_) => false,
+// Whether looking up each offset of a damaged table, read by permissive options, has its answer.
+fn looks_up_in_damaged(rt: HostRuntime, bytes: &[u8], answers: &[(usize, Option<&str>)]) -> bool {
+    let opts = ParseOptions::permissive();
+    match Strtab::parse_with_opts(rt.alloc(), bytes, 0, bytes.len(), 0, &opts) {
+        Ok(table) => looks_up(rt, &table, answers),
+        Err(e) => differs(rt, &e, &answers),
     }
 }
 
 #[test]
 fn has_nothing_inside_a_character(rt: HostRuntime) {
-    assert!(rt; has_nothing_at(rt.alloc(), b"\xE1\x80\xC2\xA2", &[3, 4]));
+    assert!(rt; looks_up_in_damaged(rt, b"\xE1\x80\xC2\xA2", DAMAGED));
 }

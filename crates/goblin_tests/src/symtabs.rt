@@ -1,11 +1,11 @@
 //! Symbol tables: what is accepted, what is refused and how, and the symbols in each way of asking.
+use crate::told::{differs, gives, is, says};
 use goblin::elf::sym::{Sym, SymIterator, Symtab};
 use goblin_base::container::{BE, Container, Ctx, LE};
 use goblin_base::options::ParseOptions;
 use goblin_base::scroll::TryIntoCtx;
 use goblin_base::strtab::Strtab;
 use goblin_base::table::Table;
-use std::alloc::Global;
 
 static ZEROS: [u8; 50] = [0; 50];
 
@@ -16,42 +16,41 @@ fn big() -> Ctx {
 }
 
 // Whether a table over the first bytes of zeros is accepted, with this offset and so many symbols.
-fn holds(len: usize, offset: usize, asked: usize, opts: &ParseOptions, count: usize) -> bool {
-    let Some(bytes) = ZEROS.get(..len) else {
-        return false;
-    };
+fn holds(
+    rt: HostRuntime,
+    len: usize,
+    offset: usize,
+    asked: usize,
+    opts: &ParseOptions,
+    count: usize,
+) -> bool {
+    let bytes = ZEROS.get(..len).unwrap_or(&[]);
     match Symtab::parse_with_opts(bytes, offset, asked, big(), opts) {
         Ok(table) => {
-            table.len() == count
-                && table.is_empty() == (count == 0)
-                && table.offset() == offset
-                && *table.ctx() == big()
-                && table.iter().count() == count
+            is(rt, bytes.len(), len)
+                && is(rt, (table.len(), table.is_empty()), (count, count == 0))
+                && is(rt, (table.offset(), *table.ctx()), (offset, big()))
+                && is(rt, table.iter().count(), count)
         }
-        Err(_) => false,
+        Err(e) => differs(rt, &e, &count),
     }
 }
 
 // Whether it is refused with this line.
-fn refuses(alloc: Global, offset: usize, asked: usize, opts: &ParseOptions, line: &str) -> bool {
-    let Some(bytes) = ZEROS.get(..48) else {
-        return false;
-    };
-    match Symtab::parse_with_opts(bytes, offset, asked, big(), opts) {
-        Ok(_) => false,
-        Err(e) => match e.line(alloc) {
-            Ok(text) => text.as_str() == line,
-            Err(_) => false,
-        },
-    }
+fn refuses(rt: HostRuntime, offset: usize, asked: usize, opts: &ParseOptions, line: &str) -> bool {
+    says(
+        rt,
+        Symtab::parse_with_opts(&ZEROS[..48], offset, asked, big(), opts),
+        line,
+    )
 }
 
 #[test]
 fn accepts_what_lies_in_the_file(rt: HostRuntime) {
     let strict = ParseOptions::strict();
-    assert!(rt; holds(48, 0, 2, &strict, 2));
-    assert!(rt; holds(48, 24, 1, &strict, 1));
-    assert!(rt; holds(48, 47, 0, &strict, 0));
+    assert!(rt; holds(rt, 48, 0, 2, &strict, 2));
+    assert!(rt; holds(rt, 48, 24, 1, &strict, 1));
+    assert!(rt; holds(rt, 48, 47, 0, &strict, 0));
 }
 
 #[test]
@@ -65,22 +64,22 @@ fn refuses_what_does_not(rt: HostRuntime) {
         "Malformed entity: Symbol table extends beyond file boundary (requested: 72, available: 48)";
     let last =
         "Malformed entity: Symbol table extends beyond file boundary (requested: 24, available: 1)";
-    assert!(rt; refuses(rt.alloc(), 48, 0, &strict, at_end));
-    assert!(rt; refuses(rt.alloc(), MAX, MAX, &strict, far));
-    assert!(rt; refuses(rt.alloc(), 0, MAX, &strict, many));
-    assert!(rt; refuses(rt.alloc(), 0, 3, &strict, past));
-    assert!(rt; refuses(rt.alloc(), 47, 1, &strict, last));
+    assert!(rt; refuses(rt, 48, 0, &strict, at_end));
+    assert!(rt; refuses(rt, MAX, MAX, &strict, far));
+    assert!(rt; refuses(rt, 0, MAX, &strict, many));
+    assert!(rt; refuses(rt, 0, 3, &strict, past));
+    assert!(rt; refuses(rt, 47, 1, &strict, last));
 }
 
 #[test]
 fn cuts_a_table_to_the_file_where_asked_to(rt: HostRuntime) {
     let permissive = ParseOptions::permissive();
     let many = "Malformed entity: Too many ELF symbols (offset 0x0, count 18446744073709551615)";
-    assert!(rt; holds(50, 0, 3, &permissive, 2));
-    assert!(rt; holds(50, 0, 1, &permissive, 1));
-    assert!(rt; holds(48, 48, MAX, &permissive, 0));
-    assert!(rt; holds(48, MAX, 1, &permissive, 0));
-    assert!(rt; refuses(rt.alloc(), 0, MAX, &permissive, many));
+    assert!(rt; holds(rt, 50, 0, 3, &permissive, 2));
+    assert!(rt; holds(rt, 50, 0, 1, &permissive, 1));
+    assert!(rt; holds(rt, 48, 48, MAX, &permissive, 0));
+    assert!(rt; holds(rt, 48, MAX, 1, &permissive, 0));
+    assert!(rt; refuses(rt, 0, MAX, &permissive, many));
 }
 
 fn one() -> Sym {
@@ -115,18 +114,19 @@ fn two_symbols(ctx: Ctx) -> [u8; 50] {
 }
 
 // Whether the two symbols are had by index, and as a vector.
-fn gives_by_index(alloc: Global, ctx: Ctx) -> bool {
+fn gives_by_index(rt: HostRuntime, ctx: Ctx) -> bool {
     let bytes = two_symbols(ctx);
-    let Ok(table) = Symtab::parse(&bytes, 1, 2, ctx) else {
-        return false;
-    };
-    let Ok(all) = table.to_vec(alloc) else {
-        return false;
-    };
-    table.get(0) == Some(one())
-        && table.get(1) == Some(other())
-        && table.get(2).is_none()
-        && all.as_slice() == [one(), other()].as_slice()
+    match Symtab::parse(&bytes, 1, 2, ctx) {
+        Ok(table) => {
+            is(
+                rt,
+                (table.get(0), table.get(1)),
+                (Some(one()), Some(other())),
+            ) && is(rt, table.get(2), None)
+                && gives(rt, table.to_vec(rt.alloc()), &[one(), other()])
+        }
+        Err(e) => differs(rt, &e, &one()),
+    }
 }
 
 // The symbols that are left, as long as the bytes that they were parsed from, and not only as long as the table.
@@ -138,15 +138,15 @@ fn symbols_of(bytes: &[u8], count: usize, ctx: Ctx) -> SymIterator<'_> {
 }
 
 // Whether the two symbols are had one after another, with how many are left, and none from then on.
-fn gives_in_turn(ctx: Ctx) -> bool {
+fn gives_in_turn(rt: HostRuntime, ctx: Ctx) -> bool {
     let bytes = two_symbols(ctx);
     let mut left = symbols_of(&bytes, 2, ctx);
-    left.len() == 2
-        && left.next() == Some(one())
-        && left.size_hint() == (1, Some(1))
-        && left.next() == Some(other())
-        && left.next().is_none()
-        && left.next().is_none()
+    is(rt, left.len(), 2)
+        && is(rt, left.next(), Some(one()))
+        && is(rt, left.size_hint(), (1, Some(1)))
+        && is(rt, left.next(), Some(other()))
+        && is(rt, left.next(), None)
+        && is(rt, left.next(), None)
 }
 
 // The values of all symbols, one bit over another.
@@ -163,48 +163,49 @@ fn values(ctx: Ctx) -> u64 {
 
 #[test]
 fn gives_the_symbols_in_three_ways(rt: HostRuntime) {
-    assert!(rt; gives_by_index(rt.alloc(), Ctx::new(Container::Little, LE)));
-    assert!(rt; gives_by_index(rt.alloc(), Ctx::new(Container::Big, BE)));
-    assert!(rt; gives_in_turn(Ctx::new(Container::Little, BE)));
-    assert!(rt; gives_in_turn(Ctx::new(Container::Big, LE)));
-    assert!(rt; values(Ctx::new(Container::Little, LE)) == 0x1000);
-    assert!(rt; values(Ctx::new(Container::Big, BE)) == 0x1000);
+    assert!(rt; gives_by_index(rt, Ctx::new(Container::Little, LE)));
+    assert!(rt; gives_by_index(rt, Ctx::new(Container::Big, BE)));
+    assert!(rt; gives_in_turn(rt, Ctx::new(Container::Little, BE)));
+    assert!(rt; gives_in_turn(rt, Ctx::new(Container::Big, LE)));
+    assert!(rt; is(rt, values(Ctx::new(Container::Little, LE)), 0x1000));
+    assert!(rt; is(rt, values(Ctx::new(Container::Big, BE)), 0x1000));
 }
 
 // Whether a table of two zero symbols is had as a vector of them.
-fn gives_zeros(alloc: Global) -> bool {
+fn gives_zeros(rt: HostRuntime) -> bool {
     match Symtab::parse(&ZEROS, 0, 2, big()) {
-        Ok(table) => match table.to_vec(alloc) {
-            Ok(all) => all.as_slice() == [Sym::default(), Sym::default()].as_slice(),
-            Err(_) => false,
-        },
-        Err(_) => false,
+        Ok(table) => gives(
+            rt,
+            table.to_vec(rt.alloc()),
+            &[Sym::default(), Sym::default()],
+        ),
+        Err(e) => differs(rt, &e, &Sym::default()),
     }
 }
 
 // Whether that is so of a table of records too, which has none behind them.
-fn table_gives_zeros(alloc: Global) -> bool {
+fn table_gives_zeros(rt: HostRuntime) -> bool {
     let table = Table::<Sym, Ctx>::of(&ZEROS[..48], 2, big());
-    match table.to_vec(alloc) {
-        Ok(all) => {
-            all.as_slice() == [Sym::default(), Sym::default()].as_slice() && table.get(2).is_none()
-        }
-        Err(_) => false,
-    }
+    gives(
+        rt,
+        table.to_vec(rt.alloc()),
+        &[Sym::default(), Sym::default()],
+    ) && is(rt, table.get(2), None)
 }
 
 #[test]
 fn gives_a_vector_of_zero_symbols(rt: HostRuntime) {
-    assert!(rt; gives_zeros(rt.alloc()) && table_gives_zeros(rt.alloc()));
+    assert!(rt; gives_zeros(rt));
+    assert!(rt; table_gives_zeros(rt));
 }
 
 #[test]
 fn has_no_symbols_by_default(rt: HostRuntime) {
     let none = Symtab::default();
-    assert!(rt; none.is_empty());
-    assert!(rt; none.get(0).is_none());
-    assert!(rt; none.offset() == 0);
-    assert!(rt; *none.ctx() == Ctx::default());
+    assert!(rt; is(rt, none.is_empty(), true));
+    assert!(rt; is(rt, none.get(0), None));
+    assert!(rt; is(rt, none.offset(), 0));
+    assert!(rt; is(rt, *none.ctx(), Ctx::default()));
 }
 
 // Four symbols of the 32-bit class in little order, which have nothing but the places of their names.
@@ -223,7 +224,7 @@ fn found(name: &[u8]) -> Option<usize> {
 
 #[test]
 fn finds_the_first_of_a_name(rt: HostRuntime) {
-    assert!(rt; found(b"f") == Some(1));
-    assert!(rt; found(b"\xff").is_none());
-    assert!(rt; found(b"").is_none());
+    assert!(rt; is(rt, found(b"f"), Some(1)));
+    assert!(rt; is(rt, found(b"\xff"), None));
+    assert!(rt; is(rt, found(b""), None));
 }

@@ -1,5 +1,6 @@
 //! Cases of the walk and the search with their counts, and all short strings against a plain walk that tries
 //! the whole piece at every byte.
+use crate::told::{differs, holds, is};
 use goblin_base::entries::{Entries, Looked, Probes};
 use goblin_base::error::{Error, Result};
 use goblin_base::find::find;
@@ -10,76 +11,95 @@ use goblin_base::walk::walk;
 use std::alloc::Global;
 
 // Whether an entry has this place and this text.
-fn is_entry(entries: &Entries<'_>, i: usize, want: (usize, &str)) -> bool {
+fn is_entry(rt: HostRuntime, entries: &Entries<'_>, i: usize, want: (usize, &str)) -> bool {
     let mut probes = Probes::of(&*entries);
-    i < entries.len() && i < probes.len() && probes.at(i) == want.0 && entries.text(i) == want.1
+    if i >= entries.len() || i >= probes.len() {
+        return differs(rt, entries, &want);
+    }
+    is(rt, (probes.at(i), entries.text(i)), want)
 }
 
 // Whether the entries are these.
-fn are_entries(entries: &Entries<'_>, want: &[(usize, &str)]) -> bool {
-    entries.len() == want.len() && (0..want.len()).all(|i| is_entry(entries, i, want[i]))
+fn are_entries(rt: HostRuntime, entries: &Entries<'_>, want: &[(usize, &str)]) -> bool {
+    is(rt, entries.len(), want.len()) && (0..want.len()).all(|i| is_entry(rt, entries, i, want[i]))
+}
+
+// Whether so many looks or probes are within the most.
+fn is_within(rt: HostRuntime, count: u128, most: u128) -> bool {
+    count <= most || differs(rt, &count, &most)
 }
 
 // Whether the permissive walk gives these entries within so many looks.
-fn walks(alloc: Global, bytes: &[u8], delim: u8, most: u128, want: &[(usize, &str)]) -> bool {
+fn walks(rt: HostRuntime, bytes: &[u8], delim: u8, most: u128, want: &[(usize, &str)]) -> bool {
     let mut view = Looked::new(bytes);
-    match walk(alloc, &mut view, delim, ParseMode::Permissive) {
-        Ok(entries) => view.count() <= most && are_entries(&entries, want),
-        Err(_) => false,
+    match walk(rt.alloc(), &mut view, delim, ParseMode::Permissive) {
+        Ok(entries) => is_within(rt, view.count(), most) && are_entries(rt, &entries, want),
+        Err(e) => differs(rt, &e, &want),
     }
 }
 
 // Whether this is a bad input of so many bytes.
-fn is_bad_input(walked: &Result<Entries<'_>>, bad: usize) -> bool {
+fn is_bad_input(rt: HostRuntime, walked: &Result<Entries<'_>>, bad: usize) -> bool {
     match walked {
         Err(Error::Scroll(scroll::Error::BadInput { size, msg })) => {
-            *size == bad && *msg == "invalid utf8"
+            is(rt, (*size, *msg), (bad, "invalid utf8"))
         }
-        _ => false,
+        other => differs(rt, other, &bad),
     }
 }
 
 // Whether the strict walk refuses with a bad input of so many bytes, within five looks at each byte.
-fn refuses(alloc: Global, bytes: &[u8], delim: u8, bad: usize) -> bool {
+fn refuses(rt: HostRuntime, bytes: &[u8], delim: u8, bad: usize) -> bool {
     let mut view = Looked::new(bytes);
-    let walked = walk(alloc, &mut view, delim, ParseMode::Strict);
-    is_bad_input(&walked, bad) && view.count() <= 5 * bytes.len() as u128
+    let walked = walk(rt.alloc(), &mut view, delim, ParseMode::Strict);
+    is_bad_input(rt, &walked, bad) && is_within(rt, view.count(), 5 * bytes.len() as u128)
 }
+
+// Damaged pieces, their delimiter, the most looks, and their entries.
+const DAMAGED: &[(&[u8], u8, u128, &[(usize, &str)])] = &[
+    (b"a\xFFb\0", 0, 20, &[(0, ""), (1, ""), (2, "b")]),
+    (
+        b"\xE1\x80\xC2\xA2",
+        0,
+        20,
+        &[(0, ""), (1, ""), (2, "\u{a2}")],
+    ),
+    (b"\xE2\x82\xAC", 0x82, 15, &[(0, ""), (1, ""), (2, "")]),
+    (
+        b"\xF0\x9F\x85 ",
+        0,
+        20,
+        &[(0, ""), (1, ""), (2, ""), (3, " ")],
+    ),
+    (
+        b"\xF4\x90\x80\x80",
+        0,
+        20,
+        &[(0, ""), (1, ""), (2, ""), (3, "")],
+    ),
+    (b"\xED\xA0\x80", 0, 15, &[(0, ""), (1, ""), (2, "")]),
+    (b"\xED\x90\x80 ", 0, 20, &[(0, "\u{d400} ")]),
+    (b"\xC2a", b'a', 10, &[(0, ""), (1, "")]),
+];
 
 #[test]
 fn walks_damaged_pieces(rt: HostRuntime) {
-    let a = rt.alloc();
-    assert!(rt; walks(a, b"a\xFFb\0", 0, 20, &[(0, ""), (1, ""), (2, "b")]));
-    assert!(rt; refuses(a, b"a\xFFb\0", 0, 4));
-    assert!(rt;
-        walks(
-            a,
-            b"\xE1\x80\xC2\xA2",
-            0,
-            20,
-            &[(0, ""), (1, ""), (2, "\u{a2}")]
-        )
-    );
-    assert!(rt; walks(a, b"\xE2\x82\xAC", 0x82, 15, &[(0, ""), (1, ""), (2, "")]));
-    assert!(rt; refuses(a, b"\xE2\x82\xAC", 0x82, 3));
-    let entries = [(0, ""), (1, ""), (2, ""), (3, " ")];
-    assert!(rt; walks(a, b"\xF0\x9F\x85 ", 0, 20, &entries));
-    let entries = [(0, ""), (1, ""), (2, ""), (3, "")];
-    assert!(rt; walks(a, b"\xF4\x90\x80\x80", 0, 20, &entries));
-    assert!(rt; walks(a, b"\xED\xA0\x80", 0, 15, &entries[..3]));
-    assert!(rt; walks(a, b"\xED\x90\x80 ", 0, 20, &[(0, "\u{d400} ")]));
-    assert!(rt; walks(a, b"\xC2a", b'a', 10, &[(0, ""), (1, "")]));
+    assert!(rt; DAMAGED.iter().all(|row| holds(rt, row, walks(rt, row.0, row.1, row.2, row.3))));
+    assert!(rt; refuses(rt, b"a\xFFb\0", 0, 4));
+    assert!(rt; refuses(rt, b"\xE2\x82\xAC", 0x82, 3));
 }
 
 // Whether the permissive walk gives an entry with no text at each byte, within five looks a byte.
-fn is_empty_at_each_byte(alloc: Global, bytes: &[u8]) -> bool {
+fn is_empty_at_each_byte(rt: HostRuntime, bytes: &[u8]) -> bool {
     let mut view = Looked::new(bytes);
-    let Ok(entries) = walk(alloc, &mut view, 0, ParseMode::Permissive) else {
-        return false;
-    };
-    entries.len() == bytes.len()
-        && (0..bytes.len()).all(|i| is_entry(&entries, i, (i, "")))
-        && view.count() <= 5 * bytes.len() as u128
+    match walk(rt.alloc(), &mut view, 0, ParseMode::Permissive) {
+        Ok(entries) => {
+            is(rt, entries.len(), bytes.len())
+                && is_within(rt, view.count(), 5 * bytes.len() as u128)
+                && (0..bytes.len()).all(|i| is_entry(rt, &entries, i, (i, "")))
+        }
+        Err(e) => differs(rt, &e, &bytes.len()),
+    }
 }
 
 // So many bytes of one number, and then another.
@@ -91,82 +111,84 @@ fn filled(alloc: Global, byte: u8, count: usize, last: u8) -> Option<Vec<u8>> {
 
 // Whether so many bytes, the last of which is no text in any piece, are refused, and in permissive mode are
 // an entry with no text at each byte.
-fn walks_long(alloc: Global, byte: u8, count: usize, last: u8) -> bool {
-    match filled(alloc, byte, count, last) {
-        Some(bytes) => {
-            is_empty_at_each_byte(alloc, &bytes) && refuses(alloc, &bytes, 0, bytes.len())
-        }
-        None => false,
+fn walks_long(rt: HostRuntime, byte: u8, count: usize, last: u8) -> bool {
+    match filled(rt.alloc(), byte, count, last) {
+        Some(bytes) => is_empty_at_each_byte(rt, &bytes) && refuses(rt, &bytes, 0, bytes.len()),
+        None => differs(rt, &"no memory", &count),
     }
 }
 
 #[test]
 fn walks_a_thousand_bytes(rt: HostRuntime) {
-    assert!(rt; walks_long(rt.alloc(), 0x80, 999, 0x80));
+    assert!(rt; walks_long(rt, 0x80, 999, 0x80));
 }
 
 #[test]
 fn walks_two_million_bytes(rt: HostRuntime) {
-    assert!(rt; walks_long(rt.alloc(), 0x61, 2097151, 0xFF));
+    assert!(rt; walks_long(rt, 0x61, 2097151, 0xFF));
 }
 
 // Whether a search among the entries finds one within so many probes.
-fn finds_one_within(entries: &Entries<'_>, offset: usize, most: u64) -> bool {
+fn finds_one_within(rt: HostRuntime, entries: &Entries<'_>, offset: usize, most: u64) -> bool {
     let mut probes = Probes::of(&*entries);
-    find(&mut probes, offset).is_some() && probes.count() <= most
+    if find(&mut probes, offset).is_none() {
+        return differs(rt, &"nothing", &offset);
+    }
+    is_within(rt, u128::from(probes.count()), u128::from(most))
 }
 
 // Whether a search for each offset up to the length takes at most so many probes.
-fn finds_within(alloc: Global, bytes: &[u8], delim: u8, most: u64) -> bool {
+fn finds_within(rt: HostRuntime, bytes: &[u8], delim: u8, most: u64) -> bool {
     let mut view = Looked::new(bytes);
-    match walk(alloc, &mut view, delim, ParseMode::Permissive) {
-        Ok(entries) => (0..=bytes.len()).all(|offset| finds_one_within(&entries, offset, most)),
-        Err(_) => false,
+    match walk(rt.alloc(), &mut view, delim, ParseMode::Permissive) {
+        Ok(entries) => {
+            (0..=bytes.len()).all(|offset| finds_one_within(rt, &entries, offset, most))
+        }
+        Err(e) => differs(rt, &e, &most),
     }
 }
 
 // Whether a search among no entries finds none and takes no probe.
-fn finds_none(alloc: Global) -> bool {
+fn finds_none(rt: HostRuntime) -> bool {
     let mut view = Looked::new(b"");
-    match walk(alloc, &mut view, 0, ParseMode::Permissive) {
-        Ok(entries) => finds_one_plainly(&entries, 0, &[]),
-        Err(_) => false,
+    match walk(rt.alloc(), &mut view, 0, ParseMode::Permissive) {
+        Ok(entries) => finds_one_plainly(rt, &entries, 0, &[]),
+        Err(e) => differs(rt, &e, &"no entries"),
     }
 }
 
 // Whether a search among a thousand entries takes at most ten probes.
-fn finds_among_a_thousand(alloc: Global) -> bool {
-    match filled(alloc, 0x80, 999, 0x80) {
-        Some(bytes) => finds_within(alloc, &bytes, 0, 10),
-        None => false,
+fn finds_among_a_thousand(rt: HostRuntime) -> bool {
+    match filled(rt.alloc(), 0x80, 999, 0x80) {
+        Some(bytes) => finds_within(rt, &bytes, 0, 10),
+        None => differs(rt, &"no memory", &1000),
     }
 }
 
 #[test]
 fn finds_within_the_digits(rt: HostRuntime) {
-    let a = rt.alloc();
-    assert!(rt; finds_within(a, b"\0.text\0.data\0", 0, 2));
-    assert!(rt; finds_within(a, b"a", 0, 1));
+    assert!(rt; finds_within(rt, b"\0.text\0.data\0", 0, 2));
+    assert!(rt; finds_within(rt, b"a", 0, 1));
     let foo = b"\n\xC6\x92oo\nmemmove\n\xF0\x9F\x85\xB1\xEF\xB8\x8Fusta\n";
-    assert!(rt; finds_within(a, foo, b'\n', 3));
-    assert!(rt; finds_among_a_thousand(a));
-    assert!(rt; finds_none(a));
+    assert!(rt; finds_within(rt, foo, b'\n', 3));
+    assert!(rt; finds_among_a_thousand(rt));
+    assert!(rt; finds_none(rt));
 }
 
 // Whether each offset of so many zero bytes looks up the empty text.
-fn looks_up_each(alloc: Global, count: usize) -> bool {
-    let Ok(bytes) = vec![in alloc; 0u8; count] else {
-        return false;
+fn looks_up_each(rt: HostRuntime, count: usize) -> bool {
+    let Ok(bytes) = vec![in rt.alloc(); 0u8; count] else {
+        return differs(rt, &"no memory", &count);
     };
-    match Strtab::new_preparsed(alloc, &bytes, 0) {
-        Ok(table) => (0..count).all(|offset| table.get_at(offset) == Some("")),
-        Err(_) => false,
+    match Strtab::new_preparsed(rt.alloc(), &bytes, 0) {
+        Ok(table) => (0..count).all(|offset| is(rt, table.get_at(offset), Some(""))),
+        Err(e) => differs(rt, &e, &count),
     }
 }
 
 #[test]
 fn looks_up_a_million_offsets(rt: HostRuntime) {
-    assert!(rt; looks_up_each(rt.alloc(), 1000000));
+    assert!(rt; looks_up_each(rt, 1000000));
 }
 
 // ---- A plain model: each question is answered from the whole bytes.
@@ -253,7 +275,7 @@ fn digits(number: usize) -> u64 {
 
 // Whether the walk in both modes gives what the plain one does, within five looks at each byte.
 fn walks_plainly(
-    alloc: Global,
+    rt: HostRuntime,
     bytes: &[u8],
     delim: u8,
     want: &[(usize, &str)],
@@ -261,55 +283,70 @@ fn walks_plainly(
 ) -> bool {
     let most = 5 * bytes.len() as u128;
     let mut view = Looked::new(bytes);
-    let strict = walk(alloc, &mut view, delim, ParseMode::Strict);
+    let strict = walk(rt.alloc(), &mut view, delim, ParseMode::Strict);
     let same = match bad {
-        Some(place) => is_bad_input(&strict, bytes.len().saturating_sub(place)),
+        Some(place) => is_bad_input(rt, &strict, bytes.len().saturating_sub(place)),
         None => match &strict {
-            Ok(entries) => are_entries(entries, want),
-            Err(_) => false,
+            Ok(entries) => are_entries(rt, entries, want),
+            Err(e) => differs(rt, e, &want),
         },
     };
-    same && view.count() <= most && walks(alloc, bytes, delim, most, want)
+    same && is_within(rt, view.count(), most) && walks(rt, bytes, delim, most, want)
 }
 
 // Whether looking up each offset up to the length answers what the plain look-up does.
-fn looks_up_plainly(alloc: Global, bytes: &[u8], delim: u8, pieces: &[Option<&str>]) -> bool {
+fn looks_up_plainly(rt: HostRuntime, bytes: &[u8], delim: u8, pieces: &[Option<&str>]) -> bool {
     let options = ParseOptions::permissive();
-    match Strtab::parse_with_opts(alloc, bytes, 0, bytes.len(), delim, &options) {
-        Ok(table) => (0..=bytes.len()).all(|offset| table.get_at(offset)
-            == plain_look_up(pieces, bytes, delim, offset)),
-        Err(_) => false,
+    match Strtab::parse_with_opts(rt.alloc(), bytes, 0, bytes.len(), delim, &options) {
+        Ok(table) => (0..=bytes.len()).all(|offset| is(
+            rt,
+            table.get_at(offset),
+            plain_look_up(pieces, bytes, delim, offset),
+        )),
+        Err(e) => differs(rt, &e, &pieces),
     }
 }
 
 // Whether searching for each offset up to the length answers what the plain search does, within the digits
 // of the number of entries.
-fn finds_plainly(alloc: Global, bytes: &[u8], delim: u8, want: &[(usize, &str)]) -> bool {
+fn finds_plainly(rt: HostRuntime, bytes: &[u8], delim: u8, want: &[(usize, &str)]) -> bool {
     let mut view = Looked::new(bytes);
-    match walk(alloc, &mut view, delim, ParseMode::Permissive) {
-        Ok(entries) => (0..=bytes.len()).all(|offset| finds_one_plainly(&entries, offset, want)),
-        Err(_) => false,
+    match walk(rt.alloc(), &mut view, delim, ParseMode::Permissive) {
+        Ok(entries) => {
+            (0..=bytes.len()).all(|offset| finds_one_plainly(rt, &entries, offset, want))
+        }
+        Err(e) => differs(rt, &e, &want),
     }
 }
 
 // The same for one offset.
-fn finds_one_plainly(entries: &Entries<'_>, offset: usize, want: &[(usize, &str)]) -> bool {
+fn finds_one_plainly(
+    rt: HostRuntime,
+    entries: &Entries<'_>,
+    offset: usize,
+    want: &[(usize, &str)],
+) -> bool {
     let mut probes = Probes::of(&*entries);
-    find(&mut probes, offset) == plain_find(want, offset) && probes.count() <= digits(want.len())
+    is(rt, find(&mut probes, offset), plain_find(want, offset))
+        && is_within(
+            rt,
+            u128::from(probes.count()),
+            u128::from(digits(want.len())),
+        )
 }
 
 // Whether all of this holds of the bytes.
-fn agrees(alloc: Global, bytes: &[u8], delim: u8) -> bool {
-    let Some(pieces) = pieces(alloc, bytes, delim) else {
-        return false;
+fn agrees(rt: HostRuntime, bytes: &[u8], delim: u8) -> bool {
+    let Some(pieces) = pieces(rt.alloc(), bytes, delim) else {
+        return differs(rt, &"no memory", &bytes);
     };
-    match plain_walk(alloc, &pieces) {
+    match plain_walk(rt.alloc(), &pieces) {
         Some((want, bad)) => {
-            walks_plainly(alloc, bytes, delim, &want, bad)
-                && looks_up_plainly(alloc, bytes, delim, &pieces)
-                && finds_plainly(alloc, bytes, delim, &want)
+            walks_plainly(rt, bytes, delim, &want, bad)
+                && looks_up_plainly(rt, bytes, delim, &pieces)
+                && finds_plainly(rt, bytes, delim, &want)
         }
-        None => false,
+        None => differs(rt, &"no memory", &bytes),
     }
 }
 
@@ -334,49 +371,44 @@ fn spelled(number: usize) -> [u8; 4] {
     ]
 }
 
-// The first of so many strings of a length at which a delimiter shows a difference.
-fn first_difference(alloc: Global, len: usize, count: usize) -> Option<usize> {
-    (0..count).find(|number| {
-        let bytes = spelled(*number);
-        !DELIMITERS.iter().all(|delim| agrees(alloc, bytes.get(..len).unwrap_or(&[]), *delim))
-    })
+// Whether the first bytes of this spelling show no difference with any delimiter.
+fn agrees_on(rt: HostRuntime, number: usize, len: usize) -> bool {
+    let bytes = spelled(number);
+    let bytes = bytes.get(..len).unwrap_or(&[]);
+    DELIMITERS.iter().all(|delim| holds(rt, &(bytes, *delim), agrees(rt, bytes, *delim)))
 }
 
-// How many strings there are of each length.
-static COUNTS: [usize; 5] = [1, 13, 169, 2197, 28561];
-
-// Whether no string of this length shows a difference.
-fn agrees_on_all(alloc: Global, len: usize) -> bool {
-    match COUNTS.get(len) {
-        Some(count) => first_difference(alloc, len, *count).is_none(),
-        None => false,
-    }
+// Whether no string of this length, of which there are so many, shows a difference.
+fn agrees_on_all(rt: HostRuntime, len: usize, count: usize) -> bool {
+    (0..count).all(|number| agrees_on(rt, number, len))
 }
 
 #[test]
 fn agrees_on_all_short_strings(rt: HostRuntime) {
-    assert!(rt; agrees_on_all(rt.alloc(), 0) && agrees_on_all(rt.alloc(), 1));
-    assert!(rt; agrees_on_all(rt.alloc(), 2) && agrees_on_all(rt.alloc(), 3));
-    assert!(rt; agrees_on_all(rt.alloc(), 4));
+    assert!(rt; agrees_on_all(rt, 0, 1));
+    assert!(rt; agrees_on_all(rt, 1, 13));
+    assert!(rt; agrees_on_all(rt, 2, 169));
+    assert!(rt; agrees_on_all(rt, 3, 2197));
+    assert!(rt; agrees_on_all(rt, 4, 28561));
 }
 
 // Whether it holds of so many repetitions of some bytes.
-fn agrees_repeated(alloc: Global, part: &[u8], count: usize) -> bool {
-    let mut bytes = Vec::new(alloc);
+fn agrees_repeated(rt: HostRuntime, part: &[u8], count: usize) -> bool {
+    let mut bytes = Vec::new(rt.alloc());
     for _ in 0..count {
         if bytes.extend_from_slice(part).is_err() {
-            return false;
+            return differs(rt, &"no memory", &count);
         }
     }
-    agrees(alloc, &bytes, 0)
+    agrees(rt, &bytes, 0)
 }
 
 #[test]
 fn agrees_on_long_strings(rt: HostRuntime) {
-    assert!(rt; agrees_repeated(rt.alloc(), b"\x80", 9));
-    assert!(rt; agrees_repeated(rt.alloc(), b"\x80", 10));
-    assert!(rt; agrees_repeated(rt.alloc(), b"\x80", 100));
-    assert!(rt; agrees_repeated(rt.alloc(), b"\x80", 4096));
-    assert!(rt; agrees_repeated(rt.alloc(), b"\xE1\x80", 2048));
-    assert!(rt; agrees_repeated(rt.alloc(), b"\xF0\x9F\x85", 1365));
+    assert!(rt; agrees_repeated(rt, b"\x80", 9));
+    assert!(rt; agrees_repeated(rt, b"\x80", 10));
+    assert!(rt; agrees_repeated(rt, b"\x80", 100));
+    assert!(rt; agrees_repeated(rt, b"\x80", 4096));
+    assert!(rt; agrees_repeated(rt, b"\xE1\x80", 2048));
+    assert!(rt; agrees_repeated(rt, b"\xF0\x9F\x85", 1365));
 }

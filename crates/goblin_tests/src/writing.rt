@@ -1,74 +1,68 @@
 //! Cases with their answers: writing headers.
-use crate::header::{BIG64, LITTLE32, NEW32, NEW64, says, stands};
+use crate::header::{BIG64, LITTLE32, NEW32, NEW64};
+use crate::told::{answers, differs, holds, is, says, stands};
 use goblin_base::container::{BE, Container, Ctx, Endian, LE};
 use goblin_base::scroll::{IntoCtx, TryFromCtx, TryIntoCtx};
 use goblin_headers::header::Header;
 use goblin_headers::{header32, header64};
-use std::alloc::Global;
 
-fn writes(ctx: Ctx, order: Endian, bytes: &[u8]) -> bool {
+fn writes(rt: HostRuntime, ctx: Ctx, order: Endian, bytes: &[u8]) -> bool {
     let mut room = [0xaa; 70];
-    match Header::new(ctx).try_into_ctx(&mut room, order) {
-        Ok(size) => size == bytes.len() && stands(&room, bytes),
-        Err(_) => false,
-    }
+    let written = Header::new(ctx).try_into_ctx(&mut room, order);
+    answers(rt, written, bytes.len()) && stands(rt, &room, bytes)
 }
 
-fn puts(ctx: Ctx, bytes: &[u8]) -> bool {
+fn puts(rt: HostRuntime, ctx: Ctx, bytes: &[u8]) -> bool {
     let mut room = [0xaa; 70];
     Header::new(ctx).into_ctx(&mut room, ctx);
-    stands(&room, bytes)
+    stands(rt, &room, bytes)
 }
 
 // The order that is passed is ignored.
 #[test]
 fn writes_new_headers(rt: HostRuntime) {
-    assert!(rt; writes(LITTLE32, LE, NEW32));
-    assert!(rt; writes(LITTLE32, BE, NEW32));
-    assert!(rt; writes(BIG64, LE, NEW64));
-    assert!(rt; writes(BIG64, BE, NEW64));
-    assert!(rt; puts(LITTLE32, NEW32));
-    assert!(rt; puts(BIG64, NEW64));
+    assert!(rt; writes(rt, LITTLE32, LE, NEW32));
+    assert!(rt; writes(rt, LITTLE32, BE, NEW32));
+    assert!(rt; writes(rt, BIG64, LE, NEW64));
+    assert!(rt; writes(rt, BIG64, BE, NEW64));
+    assert!(rt; puts(rt, LITTLE32, NEW32));
+    assert!(rt; puts(rt, BIG64, NEW64));
 }
 
-fn writes32(order: Endian) -> bool {
+fn writes32(rt: HostRuntime, order: Endian) -> bool {
     let mut room = [0xaa; 70];
     let raw = header32::Header::from(Header::new(LITTLE32));
-    raw.try_into_ctx(&mut room, order)
-        .is_ok_and(|size| size == 52)
-        && stands(&room, NEW32)
+    answers(rt, raw.try_into_ctx(&mut room, order), 52) && stands(rt, &room, NEW32)
 }
 
-fn writes64(order: Endian) -> bool {
+fn writes64(rt: HostRuntime, order: Endian) -> bool {
     let mut room = [0xaa; 70];
     let raw = header64::Header::from(Header::new(BIG64));
-    raw.try_into_ctx(&mut room, order)
-        .is_ok_and(|size| size == 64)
-        && stands(&room, NEW64)
+    answers(rt, raw.try_into_ctx(&mut room, order), 64) && stands(rt, &room, NEW64)
 }
 
 #[test]
 fn writes_raw_headers(rt: HostRuntime) {
-    assert!(rt; writes32(BE));
-    assert!(rt; writes64(LE));
+    assert!(rt; writes32(rt, BE));
+    assert!(rt; writes64(rt, LE));
 }
 
 #[test]
 fn keeps_low_bits(rt: HostRuntime) {
     let mut wide = Header::new(BIG64);
     wide.e_entry = 0x1_2345_6789;
-    assert!(rt; header32::Header::from(wide).e_entry == 0x2345_6789);
-    assert!(rt; header64::Header::from(wide).e_entry == 0x1_2345_6789);
+    assert!(rt; is(rt, header32::Header::from(wide).e_entry, 0x2345_6789));
+    assert!(rt; is(rt, header64::Header::from(wide).e_entry, 0x1_2345_6789));
 }
 
 // Little byte order, whatever the data byte says.
 #[test]
 fn reads_headers_from_their_bytes(rt: HostRuntime) {
     let header = header32::Header::from_bytes(NEW32);
-    assert!(rt; Header::from(header) == Header::new(LITTLE32));
+    assert!(rt; is(rt, Header::from(header), Header::new(LITTLE32)));
     let header = header64::Header::from_bytes(NEW64);
-    assert!(rt; header.e_ident[5] == 2 && header.e_type == 0x300);
-    assert!(rt; header.e_version == 0x1000000 && header.e_ehsize == 0x4000);
+    assert!(rt; is(rt, (header.e_ident[5], header.e_type), (2, 0x300)));
+    assert!(rt; is(rt, (header.e_version, header.e_ehsize), (0x1000000, 0x4000)));
 }
 
 const SHORT: &str = "type is too big (52) for 51";
@@ -102,54 +96,47 @@ fn header_with(class: u8, order: u8) -> Header {
 }
 
 // What is refused writes nothing.
-fn refuses(alloc: Global, row: &(u8, u8, usize, &str, &str)) -> bool {
+fn refuses(rt: HostRuntime, row: &(u8, u8, usize, &str, &str)) -> bool {
     let (class, order, len, text, _) = *row;
     let mut room = [0xaa; 52];
     let room = &mut room[..len.min(52)];
-    says(
-        alloc,
-        header_with(class, order).try_into_ctx(room, BE),
-        text,
-    ) && room.iter().all(|byte| *byte == 0xaa) == (text != "Ok")
+    let written = header_with(class, order).try_into_ctx(room, BE);
+    let kept = room.iter().all(|byte| *byte == 0xaa);
+    says(rt, written, text) && is(rt, kept, text != "Ok")
 }
 
-fn refuses32(alloc: Global, row: &(u8, u8, usize, &str, &str)) -> bool {
+fn refuses32(rt: HostRuntime, row: &(u8, u8, usize, &str, &str)) -> bool {
     let (class, order, len, _, text) = *row;
     let mut room = [0xaa; 52];
     let room = &mut room[..len.min(52)];
-    let raw = header32::Header::from(header_with(class, order));
-    says(alloc, raw.try_into_ctx(room, BE), text)
-        && room.iter().all(|byte| *byte == 0xaa) == (text != "Ok")
+    let written = header32::Header::from(header_with(class, order)).try_into_ctx(room, BE);
+    let kept = room.iter().all(|byte| *byte == 0xaa);
+    says(rt, written, text) && is(rt, kept, text != "Ok")
 }
 
 #[test]
 fn refuses_to_write_in_order(rt: HostRuntime) {
-    let wrong = REFUSED.iter().position(|row| !refuses(rt.alloc(), row));
-    assert!(rt; wrong.is_none(), "row {wrong:?}");
+    assert!(rt; REFUSED.iter().all(|row| holds(rt, row, refuses(rt, row))));
 }
 
 #[test]
 fn refuses_to_write_a_raw_header_in_order(rt: HostRuntime) {
-    let wrong = REFUSED.iter().position(|row| !refuses32(rt.alloc(), row));
-    assert!(rt; wrong.is_none(), "row {wrong:?}");
+    assert!(rt; REFUSED.iter().all(|row| holds(rt, row, refuses32(rt, row))));
 }
 
-fn reads_back(ctx: Ctx) -> bool {
+fn reads_back(rt: HostRuntime, ctx: Ctx) -> bool {
     let mut header = Header::new(ctx);
     header.e_entry = 0x8000_1234;
     header.e_shstrndx = 0xffff;
     let mut room = [0; 64];
-    let Ok(size) = header.try_into_ctx(&mut room, LE) else {
-        return false;
-    };
-    match Header::try_from_ctx(&room, LE) {
-        Ok((read, counted)) => read == header && counted == size,
-        Err(_) => false,
+    match header.try_into_ctx(&mut room, LE) {
+        Ok(size) => answers(rt, Header::try_from_ctx(&room, LE), (header, size)),
+        Err(e) => differs(rt, &e, &header),
     }
 }
 
 #[test]
 fn reads_what_was_written(rt: HostRuntime) {
-    assert!(rt; reads_back(Ctx::new(Container::Little, BE)));
-    assert!(rt; reads_back(Ctx::new(Container::Big, LE)));
+    assert!(rt; reads_back(rt, Ctx::new(Container::Little, BE)));
+    assert!(rt; reads_back(rt, Ctx::new(Container::Big, LE)));
 }

@@ -1,0 +1,34 @@
+//! Cases with their answers: options.
+use crate::told::is;
+use goblin_base::options::{ParseMode, ParseOptions};
+
+// The mode of options, and whether it is permissive.
+fn mode(options: ParseOptions) -> (ParseMode, bool) {
+    (options.parse_mode, options.parse_mode.is_permissive())
+}
+
+#[test]
+fn makes_options(rt: HostRuntime) {
+    assert!(rt; is(rt, mode(ParseOptions::new()), (ParseMode::Strict, false)));
+    assert!(rt;
+        is(
+            rt,
+            mode(ParseOptions::default()),
+            (ParseMode::Strict, false)
+        )
+    );
+    assert!(rt; is(rt, mode(ParseOptions::strict()), (ParseMode::Strict, false)));
+}
+
+#[test]
+fn makes_permissive_options(rt: HostRuntime) {
+    assert!(rt;
+        is(
+            rt,
+            mode(ParseOptions::permissive()),
+            (ParseMode::Permissive, true)
+        )
+    );
+    let options = ParseOptions::strict().with_parse_mode(ParseMode::Permissive);
+    assert!(rt; is(rt, mode(options), (ParseMode::Permissive, true)));
+}
