@@ -1,5 +1,5 @@
 //! Cases of string tables with their answers.
-use crate::told::{answers, differs, gives, holds, is, says};
+use crate::told::{differs, gives, holds, is, says};
 use goblin_base::error::Result;
 use goblin_base::options::ParseOptions;
 use goblin_base::strtab::{Strtab, laws};
@@ -105,16 +105,17 @@ fn looks_up_offsets(rt: HostRuntime) {
 // Whether the plain reading, `get_unsafe` and `index` have this text, in a table of so many bytes.
 fn reads(rt: HostRuntime, table: &Strtab<'_>, len: usize, offset: usize, text: &str) -> bool {
     match table.get(offset) {
-        Some(answer) => {
-            answers(rt, answer, text)
-                && is(
-                    rt,
-                    (table.index(offset), table.get_unsafe(offset)),
-                    (text, Some(text)),
-                )
-                && is(rt, table.len(), len)
-        }
-        None => differs(rt, &"nothing", &text),
+        Some(Ok(found)) => is(
+            rt,
+            (
+                table.len(),
+                found,
+                table.index(offset),
+                table.get_unsafe(offset),
+            ),
+            (len, text, text, Some(text)),
+        ),
+        other => differs(rt, &other, &text),
     }
 }
 
