@@ -86,8 +86,9 @@ fn refuse_for<W: Sink>(alloc: Global, writer: &mut W, e: &Error) -> Outcome
     }
 }
 
-/// Reads up to the end, and writes the text of what was read, or one line that says why there is
-/// none: that the bytes are refused, or are too many, or found no memory.
+/// Reads up to the end, and then writes the text of what was read as it is made, or one line that says
+/// why there is none: that the bytes are refused, or are too many, or found no memory. That is decided
+/// before the first line of the text.
 ///
 /// An interrupted read is tried again. Any other error of the reader or the writer, or
 /// 33,554,432 read calls without an end, is `Failed`: after an error of the reader nothing was

@@ -1,4 +1,4 @@
-use Rattle.std.proofs.Common.{◌≡◌, arith}
+use Rattle.std.proofs.Common.{arith}
 use Rattle.std.proofs.lemmas.Grind.{common_steps}
 use Rattle.goblin_show.proofs.Puts.{more_put}
 use Rattle.goblin_show.proofs.text.put_symbols.Goals as goal

@@ -1,6 +1,5 @@
 use Rattle.std.proofs.Common.{◌≡◌, ◌+◌, ◌^◌, ◌<◌, false, drop, length, suc}
 use Rattle.std.specs.Fmt.{decimal, digits_onto}
-use Rattle.goblin.specs.Texts.{hexadecimal}
 use Rattle.goblin_show.proofs.digits.Digits.decimal.Given as goal
 
 -- the digits that are left stand before those that are written

@@ -1,5 +1,5 @@
 use Rattle.std.proofs.Common.{◌≡◌, ◌+◌, ◌^◌, ◌<◌, false, drop, length, suc}
-use Rattle.std.specs.Fmt.{decimal, digits_onto}
+use Rattle.std.specs.Fmt.{digits_onto}
 use Rattle.goblin.specs.Texts.{hexadecimal}
 use Rattle.goblin_show.proofs.digits.Digits.hexadecimal.Given as goal
 
