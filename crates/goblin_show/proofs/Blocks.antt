@@ -1,12 +1,15 @@
 -- Blocks of a file that are text, and the string tables that lie in them.
-use Rattle.std.proofs.Common.{◌≡◌, ℕ, ◌+◌, ◌-◌, ◌<◌, ◌≤◌, ◌≢◌, ◌&&◌, set, replicate, length-set, get_or-set_other, get_or-set_same, ltb, leb, Bool, true, false, cond, List, length, get_or, take, drop, sym, ap, subst, ⊎_elim, arith, Ok, slice_range}
-use Rattle.std.proofs.lemmas.Bool.{cases_eq, lt-ltb, le-ltb, both_ways}
+use Rattle.std.proofs.Common.{◌≡◌, ◌∙◌, ℕ, zero, suc, eqb, [], ◌∷◌, refl, ◌+◌, ◌-◌, ◌<◌, ◌≤◌, ◌≢◌, ◌&&◌, set, replicate, length-set, get_or-set_other, get_or-set_same, ltb, leb, Bool, true, false, cond, List, length, get_or, take, drop, sym, ap, subst, ⊎_elim, arith, Ok, slice_range}
+use Rattle.std.proofs.lemmas.Bool.{cases_eq, cases_lt, lt-ltb, le-ltb}
+use Rattle.std.proofs.lemmas.Bool.Decides.{nat_tests}
 use Rattle.std.proofs.lemmas.List.{get_or-replicate, length-replicate, length-drop, take_all}
 use Rattle.std.specs.Str.{IsUtf8}
 use Rattle.goblin.specs.declared.options.ParseMode.{ParseMode}
 use Rattle.goblin.specs.declared.options.ParseMode.TheVariants.{Strict, Permissive}
 use Rattle.goblin.specs.Strtab.{range_in}
-use Rattle.goblin_show.specs.Known.{ArePlain, AreTexts, IsBlockText, IsRange, IsRun, cut, past}
+use Rattle.goblin_show.specs.Known.{IsRange}
+use Rattle.goblin_show.specs.declared.runs.Kind.{Kind}
+use Rattle.goblin_show.specs.Runs.{AreEnds, IsEnd, IsRun, cut, past, unknown}
 
 -- ---- blocks
 past_bounds : (bytes : List ℕ) (p : ℕ) → (p ≤ past bytes p) × (past bytes p ≤ p + 1)
@@ -21,44 +24,69 @@ cut_bounds bytes place =
     let r = past_bounds bytes (past bytes (past bytes place)) in
     (omega arith, omega arith)
 
-pub none_known : (bytes : List ℕ) (n : ℕ) → AreTexts bytes (replicate n false)
-unfolding AreTexts
-none_known bytes n = λ k l e. absurd (both_ways _ (get_or-replicate n k false false (omega (arith, l, length-replicate n false))) e)
-
-pub block_known : (bytes : List ℕ) (blocks : List Bool) (k : ℕ) → AreTexts bytes blocks → k < length blocks → get_or blocks k false ≡ true → IsBlockText bytes k
-unfolding AreTexts
-block_known bytes blocks k h l e = h k l e
-
--- one block more
-pub block_more : (bytes : List ℕ) (blocks : List Bool) (i : ℕ) → AreTexts bytes blocks → IsBlockText bytes i → AreTexts bytes (set blocks i true)
-unfolding AreTexts
-block_more bytes blocks i h t = λ k l e. ⊎_elim
-    (λ (s : k ≡ i). subst (IsBlockText bytes) (sym s) t)
-    (λ (n : k ≢ i). h k (omega (arith, l, length-set {A = Bool})) (rw get_or-set_other at e))
-    (cases_eq k i)
-
-pub none_plain : (bytes : List ℕ) (n : ℕ) → ArePlain bytes (replicate n 0)
-unfolding ArePlain
-none_plain bytes n = λ k l j from to.
+-- of a block of which nothing is known nothing is kept
+pub none_known : (kind : Kind) (bytes : List ℕ) (n : ℕ) → AreEnds kind bytes (replicate n 0)
+unfolding AreEnds
+none_known kind bytes n = λ k l some.
     let z : ℕ = 0 in
     let size : length (replicate n z) ≡ n = length-replicate n z in
     let e : get_or (replicate n z) k z ≡ z = get_or-replicate n k z z (omega (arith, l, size)) in
-    absurd (omega (arith, e, to))
+    absurd (omega (arith, e, some))
 
-pub plain_known : (bytes : List ℕ) (nexts : List ℕ) (k : ℕ) → ArePlain bytes nexts → k < length nexts → IsRun bytes k (get_or nexts k 0)
-unfolding ArePlain
-plain_known bytes nexts k h l = h k l
+-- of so many blocks no more than all are unknown
+pub unknown_most : (n : ℕ) (ends : List ℕ) → unknown n ends ≤ n
+unfolding unknown
+unknown_most zero ends = omega arith
+unknown_most (suc n) [] = omega arith
+unknown_most (suc n) (end ∷ ends) = elim (eqb end 0) as (λ b. cond b 1 0 + unknown n ends ≤ suc n) [ true ↦ omega (arith, unknown_most n ends) | false ↦ omega (arith, unknown_most n ends) ]
 
-pub plain_more : (bytes : List ℕ) (nexts : List ℕ) (i n : ℕ) → i < length nexts → ArePlain bytes nexts → IsRun bytes i n → ArePlain bytes (set nexts i n)
-unfolding ArePlain
-plain_more bytes nexts i n m h t = λ k l. ⊎_elim
-    (λ (s : k ≡ i). λ j from to. t j (omega arith) (let e : get_or (set nexts i n) i 0 ≡ n = get_or-set_same nexts i n 0 m in omega (arith, to, e, ap (λ x. get_or (set nexts i n) x 0) s)))
-    (λ (d : k ≢ i). λ j from to. h k (omega (arith, l, length-set {A = ℕ})) j from (rw get_or-set_other at to))
+-- what is kept of a block
+pub end_known : (kind : Kind) (bytes ends : List ℕ) (k : ℕ) → AreEnds kind bytes ends → k < length ends → 0 < get_or ends k 0 → IsEnd kind bytes k (get_or ends k 0)
+unfolding AreEnds
+end_known kind bytes ends k h l some = h k l some
+
+-- one end more
+pub end_more : (kind : Kind) (bytes ends : List ℕ) (i n : ℕ) → AreEnds kind bytes ends → i < length ends → IsEnd kind bytes i n → AreEnds kind bytes (set ends i n)
+unfolding AreEnds
+end_more kind bytes ends i n h m t = λ k l some. ⊎_elim
+    (λ (s : k ≡ i).
+    let e : get_or (set ends i n) k 0 ≡ n = ap (λ x. get_or (set ends i n) x 0) s ∙ get_or-set_same ends i n 0 m in
+    subst (λ x. IsEnd kind bytes x (get_or (set ends i n) k 0)) (sym s) (subst (IsEnd kind bytes i) (sym e) t))
+    (λ (d : k ≢ i).
+    let e : get_or (set ends i n) k 0 ≡ get_or ends k 0 = rw get_or-set_other refl in
+    subst (IsEnd kind bytes k) (sym e) (h k (omega (arith, l, length-set {A = ℕ})) (omega (arith, e, some))))
     (cases_eq k i)
 
--- a range that is text, by other names of its ends
-pub text_moved : (bytes : List ℕ) (i j k l : ℕ) → i ≡ k → j ≡ l → IsUtf8 (slice_range bytes i j) → IsUtf8 (slice_range bytes k l)
-text_moved bytes i j k l e f u = subst (λ x. IsUtf8 (slice_range bytes x l)) e (subst (λ x. IsUtf8 (slice_range bytes i x)) f u)
+-- and so one unknown less
+pub unknown_less : (n : ℕ) (ends : List ℕ) (i v : ℕ) → i < n → i < length ends → get_or ends i 0 ≡ 0 → 0 < v → unknown n (set ends i v) + 1 ≤ unknown n ends
+unfolding unknown
+unknown_less zero ends i v l m z p = absurd (omega arith)
+unknown_less (suc n) [] i v l m z p = absurd (omega arith)
+unknown_less (suc n) (end ∷ ends) zero v l m z p =
+    let now : eqb v 0 ≡ false = grind (arith, nat_tests) in
+    let before : eqb end 0 ≡ true = grind (arith, nat_tests) in
+    rw (now, before) (omega arith)
+unknown_less (suc n) (end ∷ ends) (suc i) v l m z p =
+    let rest = unknown_less n ends i v (omega arith) (omega arith) z p in
+    elim (eqb end 0) as (λ b. cond b 1 0 + unknown n (set ends i v) + 1 ≤ cond b 1 0 + unknown n ends) [ true ↦ omega (arith, rest) | false ↦ omega (arith, rest) ]
+
+-- a run goes on to where the run ends that goes on from it
+pub end_behind : (kind : Kind) (bytes : List ℕ) (first k end : ℕ) → first ≤ k → IsRun kind bytes first k → IsEnd kind bytes k end → IsEnd kind bytes first end
+end_behind kind bytes first k end l run e = record {
+  order = omega (arith, e.order);
+  within = e.within;
+  run = λ j from to. ⊎_elim (λ (s : j < k). run j from s) (λ (s : k ≤ j). e.run j s to) (cases_lt j k);
+  stops = e.stops;
+}
+
+-- the end of a run is that of each run in it
+pub end_later : (kind : Kind) (bytes : List ℕ) (first k end : ℕ) → first ≤ k → k ≤ end → IsEnd kind bytes first end → IsEnd kind bytes k end
+end_later kind bytes first k end l m e = record {
+  order = m;
+  within = e.within;
+  run = λ j from to. e.run j (omega arith) to;
+  stops = e.stops;
+}
 
 -- ---- ranges
 pub range_whole : (mode : ParseMode) (file : List ℕ) (o n : ℕ) → o ≤ length file → n ≤ length file - o → IsRange mode file o n o (o + n)

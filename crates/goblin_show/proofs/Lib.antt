@@ -8,4 +8,6 @@ mod Printed
 mod Puts
 mod Reading
 mod Shows
+mod Spent
+mod Strict
 mod Tables

@@ -1,7 +1,8 @@
 -- The names that look-ups find.
 use Rattle.std.proofs.Common.{◌≡◌, ◌∙◌, ◌∷◌, ℕ, zero, suc, ◌+◌, ◌-◌, ◌<◌, ◌≤◌, if◌then◌else◌, Bool, true, false, List, [], length, take, drop, min, refl, sym, ap, subst, ⊎_elim, arith, slice_range, get_or, lit<, Ok, Err}
 use Rattle.std.proofs.lemmas.Bool.{cases_lt, false_from_ne_true}
-use Rattle.std.proofs.lemmas.Str.{IsUtf8-from_is_utf8}
+use Rattle.std.proofs.lemmas.Str.{IsUtf8-from_is_utf8, is_utf8-from_IsUtf8}
+use Rattle.std.specs.Str.{IsUtf8}
 use Rattle.std.proofs.lemmas.List.{drop-drop, get_or-drop, get_or-take, length-drop, take_all, drop-take}
 use Rattle.std.specs.Option.{unwrap_or}
 use Rattle.std.specs.Result.{result_ok}
@@ -10,7 +11,8 @@ use Rattle.goblin.specs.Pieces.{piece}
 use Rattle.goblin.specs.TextLaws.{name-later, name-past, names_are_plain}
 use Rattle.goblin.specs.Utf8.{invalid_utf8}
 use Rattle.goblin_show.proofs.Plain.{goes_on_with, length-range, past_is, split, stops}
-use Rattle.goblin_show.specs.Known.{LacksText, past, text_table, up_to_zero}
+use Rattle.goblin_show.specs.Known.{text_table}
+use Rattle.goblin_show.specs.Runs.{LacksText, past, up_to_zero}
 use Rattle.goblin_show.specs.Shown.{name_at}
 
 pub past_name : (bytes : List ℕ) (o : ℕ) → length bytes ≤ o → [] ≡ name_at (text_table bytes) o
@@ -50,6 +52,10 @@ name_later bytes i j o l m h on = ⊎_elim
     sym (name-later (slice_range bytes i j) 0 o (lit< tt) (omega arith) (omega (arith, byte, g.1.0)) (omega (arith, byte, g.1.1))))
     (λ (g : (past bytes (i + o) ≡ i + o) × ¬ (goes_on_with (get_or bytes (i + o) 0))). absurd (omega (arith, on, g.0)))
     (past_is bytes (i + o))
+
+-- bytes that are text are all of it
+pub text_length : (bytes text : List ℕ) → IsUtf8 bytes → text ≡ text_or_nothing bytes → length text ≡ length bytes
+text_length bytes text u e = ap length e ∙ ap (λ b. length (if b then bytes else [])) (is_utf8-from_IsUtf8 bytes u)
 
 -- where a text is lacking there is no name
 pub nothing : (bytes : List ℕ) → LacksText bytes → [] ≡ text_or_nothing (up_to_zero bytes)

@@ -45,3 +45,9 @@ range_refused Strict file o n strict out = ⊎_elim
     let behind : ltb (length file) (o + n) ≡ true = lt-ltb (length file) (o + n) (omega (arith, l.0, l.1)) in
     rw (before, behind) refl)
     out
+
+-- a strict table is that of its range's bytes
+pub strict_table : (mode : ParseMode) (file : List ℕ) (o n start end : ℕ) → (mode ≡ Permissive → ⊥) → IsRange mode file o n start end → strtab_of mode file o n 0 ≡ table_of Strict (slice_range file start end) 0
+unfolding strtab_of
+strict_table Permissive file o n start end strict range = absurd (strict refl)
+strict_table Strict file o n start end strict range = ap (λ r. refuse_as malformed r >>= (λ bytes. table_of Strict bytes 0)) range.is

@@ -28,6 +28,6 @@ parts_text bytes header sections parts =
     header_line header & section_lines (strings_in bytes parts.strings) 0 sections
     & symbols_text bytes (vec_items parts.symbols) & relocs_text (vec_items parts.relocs)
 
--- the text of a file that is accepted
-abbrev pub accepted_text : Accepted → List ℕ
-accepted_text a = parts_text a.bytes.now a.header (vec_items a.sections) a.parts
+-- the text of a file with these bytes that is accepted
+abbrev pub accepted_text : List ℕ → Accepted → List ℕ
+accepted_text bytes a = parts_text bytes a.header (vec_items a.sections) a.parts

@@ -92,6 +92,11 @@ IsReason mode old new marks line =
     ⊎ (((bytes : List ℕ) × ReadsTooMuch old new bytes × (line ≡ codes "input is longer than 16777216 bytes"))
     ⊎ (line ≡ codes "Out of memory"))
 
+-- why a line is written in place of the text of these bytes: they are refused, or memory ran out
+abbrev pub TellsWhy : ParseMode → List ℕ → List ℕ → Type 0
+TellsWhy mode bytes line =
+    ((r : Refusal) × (shown mode bytes ≡ Err r) × (line ≡ refusal_text r)) ⊎ (line ≡ codes "Out of memory")
+
 -- the exit status of a run
 abbrev pub status_of : Outcome → ℕ
 status_of outcomes.Shown = 0

@@ -1,12 +1,13 @@
 //! A file whose parts are accepted: of it nothing is refused any more, and its text takes no memory.
-ghost use Rattle.std.specs.Prelude.{◌≡◌, IfErr};
+ghost use Rattle.std.specs.Prelude.{◌≡◌, ◌+◌, ◌*◌, IfErr, IfOk, OnErr, length};
 ghost use Rattle.goblin.specs.Refusal.{Gives, Refuses};
 ghost use Rattle.goblin.specs.SectionHeaders.{section_headers_of_tested};
 ghost use Rattle.goblin_show.specs.Accepted.{accepted_text, parts_text, relocs_text, symbols_text};
-ghost use Rattle.goblin_show.specs.Known.{IsKnown, strings_in};
+ghost use Rattle.goblin_show.specs.Known.{strings_in};
+ghost use Rattle.goblin_show.specs.Looks.{IsShort, Spends, Spent, section_count, table_looks, tables_looks};
 ghost use Rattle.goblin_show.specs.Shown.{Adds, ctx_of, each_shown, file_shown, has_relocs, has_symbols, names_index, relocs_shown, sections_of, shown, sizes_checked, strings_at, strings_of, symbols_shown, tested};
 
-use crate::known::{Known, Strings};
+use crate::names::{Names, Strings};
 use goblin::container::Ctx;
 use goblin::elf::header::Header;
 use goblin::elf::reloc::{RelocSection, is_mips64el};
@@ -45,7 +46,6 @@ pub struct Parts<'a> {
 /// What is shown of a file.
 #[derive(Drop)]
 pub struct Accepted<'a> {
-    pub bytes: &'a [u8],
     pub header: Header,
     pub sections: Vec<SectionHeader>,
     pub parts: Parts<'a>,
@@ -118,115 +118,112 @@ fn has_relocs(section: &SectionHeader) -> bool
 
 // A file whose section headers are read.
 #[derive(Clone, Copy)]
-struct File<'a, 'b> {
-    bytes: &'a [u8],
+struct File<'b> {
     header: &'b Header,
     ctx: Ctx,
     sections: &'b [SectionHeader],
     opts: &'b ParseOptions,
 }
 
-impl<'a> File<'a, '_> {
-    // Turns to the string table that a section is.
-    fn turn_to(&self, alloc: Global, known: &mut Known, section: &SectionHeader) -> Result<()>
-        requires { IsKnown self.now.opts.now.parse_mode self.now.bytes.now known.old }
-        ensures known { IsKnown self.now.opts.now.parse_mode self.now.bytes.now known.new }
-        ensures given { let right = strings_of self.now.opts.now.parse_mode self.now.bytes.now
+impl File<'_> {
+    // The string table that a section is.
+    fn strings_of(&self, alloc: Global, names: &mut Names<'_>, section: &SectionHeader) -> Result<Strings>
+        ensures given { let right = strings_of self.now.opts.now.parse_mode names.old.bytes
             (Some section.now) in
-            Gives (λ _. strings_in self.now.bytes.now known.new.strings) result right }
+            Gives (strings_in names.old.bytes) result right }
+        ensures unchanged { names.new.bytes ≡ names.old.bytes }
+        ensures looks { IsShort names.old.bytes → Spent names.old names.new result table_looks }
     {
         if section.sh_type == SHT_NOBITS {
-            known.turn_to_none();
-            return Ok(());
+            return Ok(Strings::Missing);
         }
         let offset = section.sh_offset as usize;
         let size = section.sh_size as usize;
-        known.turn_to(alloc, self.bytes, offset, size, self.opts)
+        names.table(alloc, offset, size, self.opts)
     }
 
-    // Turns to the string table that is the section with an index: index 0 is no section.
+    // The string table that is the section with an index: index 0 is no section.
     #[tactic(auto, unfolding(crate::specs::Shown::strings_at))]
-    fn turn_to_index(&self, alloc: Global, known: &mut Known, index: usize) -> Result<()>
-        requires { IsKnown self.now.opts.now.parse_mode self.now.bytes.now known.old }
-        ensures known { IsKnown self.now.opts.now.parse_mode self.now.bytes.now known.new }
-        ensures given { let right = strings_at self.now.opts.now.parse_mode self.now.bytes.now
+    fn strings_at(&self, alloc: Global, names: &mut Names<'_>, index: usize) -> Result<Strings>
+        ensures given { let right = strings_at self.now.opts.now.parse_mode names.old.bytes
             self.now.sections.now index in
-            Gives (λ _. strings_in self.now.bytes.now known.new.strings) result right }
+            Gives (strings_in names.old.bytes) result right }
+        ensures unchanged { names.new.bytes ≡ names.old.bytes }
+        ensures looks { IsShort names.old.bytes → Spent names.old names.new result table_looks }
     {
         if index == 0 {
-            known.turn_to_none();
-            return Ok(());
+            return Ok(Strings::Missing);
         }
         match self.sections.get(index) {
-            Some(section) => self.turn_to(alloc, known, section),
-            None => {
-                known.turn_to_none();
-                Ok(())
-            }
+            Some(section) => self.strings_of(alloc, names, section),
+            None => Ok(Strings::Missing),
         }
     }
 
     // Adds the symbols of the section with a number to the parts, if it holds symbols.
     #[tactic(auto, unfolding(crate::specs::Shown::symbols_shown))]
-    fn accept_symbols(
+    fn accept_symbols<'a>(
         &self,
         alloc: Global,
-        known: &mut Known,
+        names: &mut Names<'a>,
         parts: &mut Vec<SymbolPart<'a>>,
         number: usize,
         section: &SectionHeader,
     ) -> Result<()>
-        requires { IsKnown self.now.opts.now.parse_mode self.now.bytes.now known.old }
-        ensures known { IsKnown self.now.opts.now.parse_mode self.now.bytes.now known.new }
-        ensures added { let right = symbols_shown self.now.opts.now.parse_mode self.now.bytes.now
+        ensures added { let right = symbols_shown self.now.opts.now.parse_mode names.old.bytes
             self.now.ctx self.now.sections.now number section.now in
-            Adds (symbols_text self.now.bytes.now parts.old.items)
-            (symbols_text self.now.bytes.now parts.new.items) result right }
+            Adds (symbols_text names.old.bytes parts.old.items)
+            (symbols_text names.old.bytes parts.new.items) result right }
+        ensures unchanged { names.new.bytes ≡ names.old.bytes }
+        ensures looks { IsShort names.old.bytes → Spent names.old names.new result table_looks }
     {
         if !has_symbols(section) {
             return Ok(());
         }
         let offset = section.sh_offset as usize;
         let count = section.sh_size as usize / Sym::size(self.ctx.container);
-        let table = Symtab::parse_with_opts(self.bytes, offset, count, self.ctx, self.opts)?;
-        self.turn_to_index(alloc, known, section.sh_link as usize)?;
+        let table = Symtab::parse_with_opts(names.bytes(), offset, count, self.ctx, self.opts)?;
+        let strings = self.strings_at(alloc, names, section.sh_link as usize)?;
         Ok(parts.push(SymbolPart {
             section: number,
             table,
-            strings: known.strings,
+            strings,
         })?)
     }
 
     // Adds the symbols of all sections to the parts.
-    fn accept_all_symbols(
+    fn accept_all_symbols<'a>(
         &self,
         alloc: Global,
-        known: &mut Known,
+        names: &mut Names<'a>,
         parts: &mut Vec<SymbolPart<'a>>,
     ) -> Result<()>
-        requires { IsKnown self.now.opts.now.parse_mode self.now.bytes.now known.old }
-        ensures { let shows = symbols_shown self.now.opts.now.parse_mode self.now.bytes.now
+        ensures added { let shows = symbols_shown self.now.opts.now.parse_mode names.old.bytes
             self.now.ctx self.now.sections.now in
-            Adds (symbols_text self.now.bytes.now parts.old.items)
-            (symbols_text self.now.bytes.now parts.new.items) result
+            Adds (symbols_text names.old.bytes parts.old.items)
+            (symbols_text names.old.bytes parts.new.items) result
             (each_shown shows 0 self.now.sections.now) }
+        ensures unchanged { names.new.bytes ≡ names.old.bytes }
+        ensures looks { let most = table_looks * length self.now.sections.now in
+            IsShort names.old.bytes → Spent names.old names.new result most }
     {
         for (number, section) in self.sections.iter().enumerate() {
-            self.accept_symbols(alloc, known, parts, number, section)?;
+            self.accept_symbols(alloc, names, parts, number, section)?;
         }
         Ok(())
     }
 
     // Adds the relocations of the section with a number to the parts, if it holds relocations.
     #[tactic(auto, unfolding(crate::specs::Shown::relocs_shown))]
-    fn accept_relocs(
+    fn accept_relocs<'a>(
         &self,
+        bytes: &'a [u8],
         parts: &mut Vec<RelocPart<'a>>,
         is_mips64el: bool,
         number: usize,
         section: &SectionHeader,
     ) -> Result<()>
-        ensures { let right = relocs_shown self.now.bytes.now self.now.ctx is_mips64el number
+        ensures { let right = relocs_shown bytes.now self.now.ctx is_mips64el number
             section.now in
             Adds (relocs_text parts.old.items) (relocs_text parts.new.items) result right }
     {
@@ -237,7 +234,7 @@ impl<'a> File<'a, '_> {
         let size = section.sh_size as usize;
         let is_rela = section.sh_type == SHT_RELA;
         let relocs = RelocSection::parse_inner(
-            self.bytes,
+            bytes,
             offset,
             size,
             is_rela,
@@ -251,31 +248,37 @@ impl<'a> File<'a, '_> {
     }
 
     // Adds the relocations of all sections to the parts.
-    fn accept_all_relocs(&self, parts: &mut Vec<RelocPart<'a>>, is_mips64el: bool) -> Result<()>
-        ensures { let shows = relocs_shown self.now.bytes.now self.now.ctx is_mips64el in
+    fn accept_all_relocs<'a>(
+        &self,
+        bytes: &'a [u8],
+        parts: &mut Vec<RelocPart<'a>>,
+        is_mips64el: bool,
+    ) -> Result<()>
+        ensures { let shows = relocs_shown bytes.now self.now.ctx is_mips64el in
             Adds (relocs_text parts.old.items) (relocs_text parts.new.items) result
             (each_shown shows 0 self.now.sections.now) }
     {
         for (number, section) in self.sections.iter().enumerate() {
-            self.accept_relocs(parts, is_mips64el, number, section)?;
+            self.accept_relocs(bytes, parts, is_mips64el, number, section)?;
         }
         Ok(())
     }
 
     // The strings of the sections' names, the symbols and the relocations.
     #[tactic(auto, unfolding(crate::specs::Shown::file_shown))]
-    fn parts(&self, alloc: Global) -> Result<Parts<'a>>
-        ensures { let right = file_shown self.now.opts.now.parse_mode self.now.bytes.now
+    fn parts<'a>(&self, alloc: Global, names: &mut Names<'a>) -> Result<Parts<'a>>
+        ensures given { let right = file_shown self.now.opts.now.parse_mode names.old.bytes
             self.now.header.now self.now.ctx self.now.sections.now in
-            Gives (parts_text self.now.bytes.now self.now.header.now self.now.sections.now) result right }
+            Gives (parts_text names.old.bytes self.now.header.now self.now.sections.now) result right }
+        ensures unchanged { names.new.bytes ≡ names.old.bytes }
+        ensures looks { let most = table_looks * (length self.now.sections.now + 1) in
+            IsShort names.old.bytes → Spent names.old names.new result most }
     {
-        let mut known = Known::new();
-        self.turn_to_index(alloc, &mut known, names_index(self.header, self.sections))?;
-        let strings = known.strings;
+        let strings = self.strings_at(alloc, names, names_index(self.header, self.sections))?;
         let mut symbols = Vec::new(alloc);
-        self.accept_all_symbols(alloc, &mut known, &mut symbols)?;
+        self.accept_all_symbols(alloc, names, &mut symbols)?;
         let mut relocs = Vec::new(alloc);
-        self.accept_all_relocs(&mut relocs, is_mips64el(self.header))?;
+        self.accept_all_relocs(names.bytes(), &mut relocs, is_mips64el(self.header))?;
         Ok(Parts {
             strings,
             symbols,
@@ -284,33 +287,42 @@ impl<'a> File<'a, '_> {
     }
 }
 
-/// The file with these bytes, of which the text can be shown.
+/// The file whose names are read here, of which the text can be shown.
 ///
 /// The errors, of which the first that applies is the answer: those of reading the header; those of
 /// reading the section headers from the offset and of the number that the header tells; where the
 /// options are strict, a section that does not lie in the file; those of the section names' table;
 /// for each section of symbols those of its symbol table and then of its string table; for each
 /// section of relocations those of reading it. Or memory is wanting.
-#[tactic(auto, unfolding(crate::specs::Shown::shown, crate::specs::Shown::tested))]
-pub fn accept<'a>(alloc: Global, bytes: &'a [u8], opts: &ParseOptions) -> Result<Accepted<'a>>
-    ensures text { Gives accepted_text result (shown opts.now.parse_mode bytes.now) }
+#[tactic(auto, unfolding(crate::specs::Shown::shown, crate::specs::Shown::tested, crate::specs::Looks::section_count))]
+pub fn accept<'a>(alloc: Global, names: &mut Names<'a>, opts: &ParseOptions) -> Result<Accepted<'a>>
+    ensures text { let right = shown opts.now.parse_mode names.old.bytes in
+        Gives (accepted_text names.old.bytes) result right }
 
     // Want of memory hides no refusal of the header, and none of the section headers' first tests.
-    ensures tested { IfErr (tested bytes.now) (λ refusal. Refuses result refusal) }
+    ensures tested { IfErr (tested names.old.bytes) (λ refusal. Refuses result refusal) }
+    ensures unchanged { names.new.bytes ≡ names.old.bytes }
+    ensures sections { IfOk result (λ file.
+        length file.sections.items ≡ section_count opts.now.parse_mode names.old.bytes) }
+
+    // What is looked at of string tables.
+    ensures looks { IsShort names.old.bytes → IfOk result (λ file.
+        Spends names.old names.new (table_looks * (length file.sections.items + 1))) }
+    ensures looks_refused { let most = tables_looks opts.now.parse_mode names.old.bytes in
+        IsShort names.old.bytes → OnErr result (Spends names.old names.new most) }
 {
+    let bytes = names.bytes();
     let (header, _) = Header::try_from_ctx(bytes, LE)?;
     let ctx = ctx_of(&header)?;
     let sections = sections_of(alloc, bytes, &header, ctx, opts)?;
     let file = File {
-        bytes,
         header: &header,
         ctx,
         sections: sections.as_slice(),
         opts,
     };
-    let parts = file.parts(alloc)?;
+    let parts = file.parts(alloc, names)?;
     Ok(Accepted {
-        bytes,
         header,
         sections,
         parts,

@@ -1,10 +1,13 @@
 //! A run: from the bytes that a reader gives to the text that a writer holds.
-ghost use Rattle.std.specs.Prelude.{◌≡◌, ◌≢◌, ℕ, ◌+◌, ◌≤◌, ◌⊎◌, List, IsTrue, OnOk, OnErr};
+ghost use Rattle.std.specs.Prelude.{◌≡◌, ◌≢◌, ℕ, ◌+◌, ◌*◌, ◌≤◌, ◌⊎◌, List, IsTrue, OnOk, OnErr, length};
 ghost use Rattle.std.specs.Io.KnownBytes.{Appends};
-ghost use Rattle.goblin_show.specs.Ran.{FailsToRead, IsReason, IsShown, ReadsAtMostOneMore, TellsError, WritesRefusal, read_limit, status_of};
+ghost use Rattle.goblin_show.specs.Looks.{IsShort, Spends, lines_in, shown_looks, tables_looks};
+ghost use Rattle.goblin_show.specs.Ran.{FailsToRead, IsReason, IsShown, ReadsAtMostOneMore, TellsError, TellsWhy, WritesRefusal, read_limit, status_of};
+ghost use Rattle.goblin_show.specs.Shown.{shown};
 
 use crate::accept::accept;
 use crate::input::{Input, input_of};
+use crate::names::Names;
 use crate::streams::{Sink, Source};
 use crate::text::write_text;
 use goblin::error::Error;
@@ -86,6 +89,47 @@ fn refuse_for<W: Sink>(alloc: Global, writer: &mut W, e: &Error) -> Outcome
     }
 }
 
+/// Writes the text of a file whose names are read here as it is made, or one line that says why there is none: that the
+/// bytes are refused, or found no memory. That is decided before the first line of the text.
+///
+/// Of a file that is shown, what is looked at for names is at most five times its bytes, its text's bytes, and 4,096 for
+/// each line of its text; of one that is refused, ten times its bytes, and 1,040 for each section header and one more.
+pub fn show_file<W: Sink>(
+    alloc: Global,
+    writer: &mut W,
+    names: &mut Names<'_>,
+    opts: &ParseOptions,
+) -> Outcome
+    // The text was written.
+    ensures shown { result ≡ Outcome.Shown → (text : List ℕ)
+        × (shown opts.now.parse_mode names.old.bytes ≡ Ok text)
+        × Appends (W.contents writer.old) (W.contents writer.new) text }
+
+    // One line with the reason was written.
+    ensures refused { result ≡ Outcome.Refused → (line : List ℕ)
+        × TellsWhy opts.now.parse_mode names.old.bytes line
+        × WritesRefusal (W.contents writer.old) (W.contents writer.new) line }
+    ensures heeded { result ≢ Outcome.Failed →
+        (W.marks writer.new).told_error ≡ (W.marks writer.old).told_error }
+    ensures failed { result ≡ Outcome.Failed → IsTrue (W.marks writer.new).told_error }
+    ensures unchanged { names.new.bytes ≡ names.old.bytes }
+
+    // What was looked at for names, where the text was written, and however it ended.
+    ensures looks_shown { IsShort names.old.bytes → (text : List ℕ) → result ≡ Outcome.Shown
+        → shown opts.now.parse_mode names.old.bytes ≡ Ok text
+        → Spends names.old names.new (length text + 4096 * lines_in text) }
+    ensures looks { IsShort names.old.bytes → Spends names.old names.new
+        (tables_looks opts.now.parse_mode names.old.bytes + shown_looks opts.now.parse_mode names.old.bytes) }
+{
+    match accept(alloc, names, opts) {
+        Ok(file) => match write_text(writer, names, &file) {
+            Ok(()) => Outcome::Shown,
+            Err(_) => Outcome::Failed,
+        },
+        Err(e) => refuse_for(alloc, writer, &e),
+    }
+}
+
 /// Reads up to the end, and then writes the text of what was read as it is made, or one line that says
 /// why there is none: that the bytes are refused, or are too many, or found no memory. That is decided
 /// before the first line of the text.
@@ -132,11 +176,6 @@ pub fn run<R: Source, W: Sink>(
         Input::OutOfMemory => return refuse(writer, OUT_OF_MEMORY),
         Input::Failed => return Outcome::Failed,
     };
-    match accept(alloc, bytes.as_slice(), opts) {
-        Ok(file) => match write_text(writer, &file) {
-            Ok(()) => Outcome::Shown,
-            Err(_) => Outcome::Failed,
-        },
-        Err(e) => refuse_for(alloc, writer, &e),
-    }
+    let mut names = Names::new(bytes.as_slice());
+    show_file(alloc, writer, &mut names, opts)
 }

@@ -1,9 +1,6 @@
 //! Names from tables that begin and end at the edges of the file's blocks: what is kept in mind gives the names that a walk
 //! over each table gives, as `Strtab::parse_with_opts` makes it, or refuses as it does.
-ghost use Rattle.goblin_show.specs.Known.{ArePlain};
-
-use crate::known::{Known, Strings};
-use crate::names::{name_in, none_plain};
+use crate::names::{Names, Strings};
 use crate::tests::{PERMISSIVE, STRICT};
 use goblin::error::Result;
 use goblin::options::ParseOptions;
@@ -53,29 +50,23 @@ fn bytes_of(
     Ok(bytes)
 }
 
-// Whether the strings that were turned to have the names that the table has, or were refused as it was.
+// Whether the strings have the names that the table has, or were refused as it was.
 fn agrees(
     alloc: Global,
-    bytes: &[u8],
-    plain: &mut [usize],
-    turned: Result<()>,
-    strings: Strings,
+    names: &mut Names<'_>,
+    strings: Result<Strings>,
     table: Result<Strtab<'_>>,
-) -> bool
-    requires { ArePlain bytes.now plain.old }
-    ensures { ArePlain bytes.now plain.new }
-{
-    match (turned, table) {
-        (Ok(()), Ok(table)) => {
+) -> bool {
+    match (strings, table) {
+        (Ok(strings), Ok(table)) => {
             for offset in OFFSETS {
-                let name = name_in(bytes, plain, strings, offset);
-                if name != table.get_at(offset).unwrap_or("") {
+                if names.name(strings, offset) != table.get_at(offset).unwrap_or("") {
                     return false;
                 }
             }
             true
         }
-        (Err(turned), Err(table)) => match (turned.line(alloc), table.line(alloc)) {
+        (Err(refused), Err(table)) => match (refused.line(alloc), table.line(alloc)) {
             (Ok(line), Ok(other)) => line.as_str() == other.as_str(),
             _ => false,
         },
@@ -91,12 +82,11 @@ fn agrees_on_both(
     other: (usize, usize),
     opts: &ParseOptions,
 ) -> bool {
-    let mut known = Known::new();
-    let mut plain = none_plain();
+    let mut names = Names::new(bytes);
     for (offset, size) in [one, other, one] {
         let table = Strtab::parse_with_opts(alloc, bytes, offset, size, 0, opts);
-        let turned = known.turn_to(alloc, bytes, offset, size, opts);
-        if !agrees(alloc, bytes, &mut plain, turned, known.strings, table) {
+        let strings = names.table(alloc, offset, size, opts);
+        if !agrees(alloc, &mut names, strings, table) {
             return false;
         }
     }
@@ -153,4 +143,27 @@ fn names_of_long_strings_round_block_ends(rt: HostRuntime) {
             .iter()
             .all(|damage| { names_are_walked(alloc, letters, 0, *damage) }))
     );
+}
+
+// How many looks the names at these offsets take, of a table of all the bytes that is asked for before.
+fn looks_at(alloc: Global, bytes: &[u8], offsets: &[usize], opts: &ParseOptions) -> Option<u128> {
+    let mut names = Names::new(bytes);
+    let strings = names.table(alloc, 0, bytes.len(), opts).ok()?;
+    for offset in offsets {
+        let _ = names.name(strings, *offset);
+    }
+    Some(names.count())
+}
+
+// A table of six bytes that must be text takes six looks. A name takes one at its first byte, one at each byte up to
+// the zero byte, and one at each of its own; past the table there is none.
+#[test]
+fn counts_looks(rt: HostRuntime) {
+    let alloc = rt.alloc();
+    let bytes = b"ab\0cde";
+    assert!(rt; looks_at(alloc, bytes, &[], &STRICT) == Some(6));
+    assert!(rt; looks_at(alloc, bytes, &[], &PERMISSIVE) == Some(0));
+    assert!(rt; looks_at(alloc, bytes, &[0], &PERMISSIVE) == Some(6));
+    assert!(rt; looks_at(alloc, bytes, &[3, 3], &PERMISSIVE) == Some(14));
+    assert!(rt; looks_at(alloc, bytes, &[6], &STRICT) == Some(6));
 }

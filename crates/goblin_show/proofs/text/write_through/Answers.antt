@@ -10,4 +10,4 @@ returns-clause-ok g c =
     let empty = c.args.target.now in
     let full = c.put_text.new.target in
     through (contents empty.writer.now) (held (contents empty.writer.now) empty.room empty.filled) (held (contents full.writer.now) full.room full.filled) (contents c.finish.new.self.writer.now)
-    empty.room empty.filled (accepted_text c.args.file.now) refl c.requires c.in_ok-put_text.ensures.put.0 c.in_ok-finish.ensures.bytes
+    empty.room empty.filled (accepted_text c.args.names.now.bytes c.args.file.now) refl c.requires c.in_ok-put_text.ensures.put.0 c.in_ok-finish.ensures.bytes

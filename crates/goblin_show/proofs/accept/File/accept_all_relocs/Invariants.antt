@@ -8,6 +8,6 @@ use Rattle.goblin_show.proofs.accept.File.accept_all_relocs.Given as goal
 abbrev pub invariant-loop-number : goal.invariant-loop-number
 invariant-loop-number l =
     let file = l.self in
-    let shows = relocs_shown file.bytes.now file.ctx l.is_mips64el in
+    let shows = relocs_shown l.bytes file.ctx l.is_mips64el in
     (lines : List ℕ) × (relocs_text l.parts.items ≡ relocs_text l.initial.parts.items ++ lines)
     × (each_shown shows 0 file.sections.now ≡ behind lines (each_shown shows l.number (drop l.number file.sections.now)))

@@ -7,4 +7,4 @@ use Rattle.goblin_show.proofs.accept.File.accept_symbols.Goals as goal
 
 pub returns-clause-added : goal.returns-clause-added
 unfolding symbols_shown
-returns-clause-added c = (symbol_lines (strings_in c.args.self.now.bytes.now c.turn_to_index.new.known.strings) c.args.number 0 c.in_ok-table.table.symbols, grind (arith, common_steps), grind (arith, common_steps, symbols_text-push))
+returns-clause-added c = (symbol_lines (strings_in c.args.names.now.bytes c.in_ok-strings.strings) c.args.number 0 c.in_ok-table.table.symbols, grind (arith, common_steps), grind (arith, common_steps, symbols_text-push))
