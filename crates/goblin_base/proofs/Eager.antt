@@ -1,15 +1,16 @@
 -- Laws of lists of records that are read at once.
-use Rattle.std.proofs.Common.{◌≡◌, ◌<◌, ◌≤◌, ◌+◌, ◌*◌, ◌/◌, ◌-◌, ℕ, suc, List, [], ◌∷◌, ◌++◌, length, take, drop, false, nat_lt, Result, Ok, Err, IfOk, IfErr, alloc_error, refl, sym, ap, ◌∙◌, arith}
+use Rattle.std.proofs.Common.{◌≡◌, ◌<◌, ◌≤◌, ◌+◌, ◌*◌, ◌/◌, ◌-◌, ℕ, zero, suc, List, [], ◌∷◌, ◌++◌, length, take, drop, false, nat_lt, Result, Ok, Err, refl, sym, ap, ◌∙◌, arith}
+use Rattle.std.proofs.Math.Nat.{le-div_iff_mul-le, div-lt_iff_lt-mul, div-mul-le_self}
 use Rattle.std.proofs.lemmas.Bool.Decides.{nat_tests}
 use Rattle.std.proofs.lemmas.List.{drop-drop, take_rest}
 use Rattle.goblin_base.specs.declared.error.Error.{Error}
 use Rattle.goblin_base.specs.declared.scroll.Error.{Error as Misplaced}
-use Rattle.goblin_base.specs.declared.error.Error.TheVariants.{Memory}
 use Rattle.goblin_base.specs.Eager.{room_of_each, records_from, records_in}
 use Rattle.goblin_base.specs.Record.{read_within, unless_fault}
-use Rattle.goblin_base.specs.RecordLaws.{fits-room_of, unless_fault-is, unless_fault-err}
-use Rattle.goblin_base.specs.Refusal.{Refusal, buffer_too_short, misplaced, refusal_of, Gives}
+use Rattle.goblin_base.specs.RecordLaws.{room_of_fits, fits-room_of, unless_fault-is, unless_fault-err}
+use Rattle.goblin_base.specs.Refusal.{buffer_too_short, misplaced, refusal_of}
 use Rattle.goblin_base.specs.Room.{room_of}
+use Rattle.goblin_base.specs.Steps.{◌>>=◌}
 use Rattle.goblin_base.specs.Table.{records}
 use Rattle.goblin_base.specs.TableLaws.{no_records}
 use Rattle.goblin_base.proofs.Records.{read_field, last_record}
@@ -89,11 +90,46 @@ no_room size s read bytes offset count i place items found e before same h enoug
     let fault = unless_fault-err (room_of (length bytes) place size) e (read (take size (drop place bytes))) is in
     refused size s read bytes offset count i place items found fault.0 before same h enough fault.1 ∙ ap (λ f. Err (refusal_of f)) (sym fault.2)
 
--- how far the test for room has come: i records have room, and the others stand from a place on
-pub record RoomSoFar (len offset size count i place : ℕ) : Type 0 where
-  pub there : place ≡ offset + i * size
-  pub left : room_of_each len place size (count - i) ≡ room_of_each len offset size count
-  pub within : 0 < i → place ≤ len
+-- one record more is one size more
+size_more : (k size : ℕ) → suc k * size ≡ size + k * size
+size_more k size = omega arith
+
+-- records that have room are passed over
+fitting : (len offset size count k : ℕ) → k ≤ count → offset + k * size ≤ len → room_of_each len offset size count ≡ room_of_each len (offset + k * size) size (count - k)
+fitting len offset size count zero h fits =
+    let there : offset + 0 * size ≡ offset = omega arith in
+    let left : count - 0 ≡ count = omega arith in
+    rw (there, left) refl
+fitting len offset size zero (suc k) h fits = absurd (omega arith)
+fitting len offset size (suc count) (suc k) h fits =
+    let more = size_more k size in
+    let there : offset + suc k * size ≡ offset + size + k * size = omega arith in
+    let left : suc count - suc k ≡ count - k = omega arith in
+    rw (room_of_fits len offset size (omega arith), there, left) (fitting len (offset + size) size count k (omega arith) (omega arith))
+
+-- so many records fit as the size goes into the room
+pub all_fit : (len offset size count : ℕ) → 0 < size → offset ≤ len → count ≤ (len - offset) / size → room_of_each len offset size count ≡ Ok tt
+all_fit len offset size count some before h =
+    let both = le-div_iff_mul-le {k = size} {x = count} {y = len - offset} some in
+    let room = both.0 h in
+    let none : count - count ≡ 0 = omega arith in
+    fitting len offset size count count (omega arith) (omega arith) ∙ rw none refl
+
+-- the first refusal is the answer
+refused_first : (room : Result (Unit {0}) Misplaced) (rest : Result (Unit {0}) Misplaced) → (room ≡ Ok tt → ⊥) → (room >>= (λ _. rest)) ≡ room
+refused_first (Ok u) rest fails = absurd (fails refl)
+refused_first (Err e) rest fails = refl
+
+-- where fewer fit, the record behind those that fit is the first without room
+pub first_without : (len offset size count : ℕ) → 0 < size → offset ≤ len → (len - offset) / size < count → room_of len (offset + (len - offset) / size * size) size ≡ room_of_each len offset size count
+first_without len offset size count some before h =
+    let k = (len - offset) / size in
+    let place = offset + k * size in
+    let here : k * size ≤ len - offset = div-mul-le_self (len - offset) size in
+    let behind = (div-lt_iff_lt-mul {k = size} {x = len - offset} {y = k + 1} some).0 (omega arith) in
+    let left : count - k ≡ suc (count - (k + 1)) = omega arith in
+    let fails : room_of len place size ≡ Ok tt → ⊥ = λ e. (let fits = fits-room_of len place size tt e in omega arith) in
+    sym (fitting len offset size count k (omega arith) (omega arith) ∙ rw left (refused_first (room_of len place size) (room_of_each len (place + size) size (count - (k + 1))) fails))
 
 -- the first without room
 pub in_range_refused : {R : Type 0} (size s : ℕ) (read : List ℕ → R) (bytes : List ℕ) (offset count : ℕ) (e : Misplaced) → s ≡ size → Err e ≡ room_of_each (length bytes) offset s count → records_in size read bytes offset count ≡ Err (misplaced e)
@@ -106,17 +142,16 @@ unfolding records_in
 in_range_none size read bytes offset count none = rw (none, no_records size read 0 (drop offset bytes) refl) refl
 
 -- each has room
-in_range_all : {R : Type 0} (size s : ℕ) (read : List ℕ → R) (bytes : List ℕ) (offset count : ℕ) (u : Unit {0}) → s ≡ size → Ok u ≡ room_of_each (length bytes) offset s count → records_in size read bytes offset count ≡ Ok (records size read count (drop offset bytes))
+pub in_range_all : {R : Type 0} (size s : ℕ) (read : List ℕ → R) (bytes : List ℕ) (offset count : ℕ) (u : Unit {0}) (found : List R) → s ≡ size → Ok u ≡ room_of_each (length bytes) offset s count → found ≡ records size read count (take (length bytes - offset) (drop offset bytes)) → records_in size read bytes offset count ≡ Ok found
 unfolding records_in
-in_range_all size s read bytes offset count u same each = rw (← same, ← each) refl
-
--- what is right, or want of memory
-given : {X Y : Type 0} (view : X → Y) (answer : Result X Error) (y : Y) (right : Result Y Refusal) → IfOk answer (λ x. view x ≡ y) → IfErr answer (λ e. e ≡ Memory alloc_error) → right ≡ Ok y → Gives view answer right
-given view (Ok x) y right ok err is = is ∙ ap Ok (sym ok)
-given view (Err e) y right ok err is = λ other. absurd (other (ap refusal_of err))
-
--- a list where each has room
-pub in_range_given : {R X : Type 0} (size s : ℕ) (read : List ℕ → R) (bytes : List ℕ) (offset count : ℕ) (u : Unit {0}) (view : X → List R) (answer : Result X Error) (items : List R) → s ≡ size → Ok u ≡ room_of_each (length bytes) offset s count → items ≡ records size read count (take (length bytes - offset) (drop offset bytes)) → IfOk answer (λ x. view x ≡ items) → IfErr answer (λ e. e ≡ Memory alloc_error) → Gives view answer (records_in size read bytes offset count)
-in_range_given size s read bytes offset count u view answer items same each is ok err =
+in_range_all size s read bytes offset count u found same each is =
     let all = rw (take_rest bytes offset) at is in
-    given view answer items (records_in size read bytes offset count) ok err (in_range_all size s read bytes offset count u same each ∙ ap Ok (sym all))
+    let room : room_of_each (length bytes) offset size count ≡ Ok u = rw (← same) (sym each) in
+    rw room (ap Ok (sym all))
+
+-- where there are not too many, the two ways to read records are one
+pub not_too_many : {R : Type 0} (size s : ℕ) (read : List ℕ → R) (bytes : List ℕ) (offset count : ℕ) (items : List ℕ) → s ≡ size → count ≤ length bytes / s → records_in size read bytes offset count ≡ records_from size read bytes offset count items
+unfolding records_in records_from
+not_too_many size s read bytes offset count items same enough =
+    let few : nat_lt (length bytes / size) count ≡ false = rw (← same) (grind (arith, nat_tests)) in
+    rw few refl

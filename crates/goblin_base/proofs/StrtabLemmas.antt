@@ -8,7 +8,6 @@ use Rattle.std.specs.Borrow.{Bor}
 use Rattle.std.specs.Option.{unwrap_or, option_map, MatchOption}
 use Rattle.std.specs.Str.{IsCharBoundary}
 use Rattle.std.specs.Prelude.{◌==◌}
-use Rattle.goblin_base.specs.declared.error.Fault.{Fault}
 use Rattle.goblin_base.specs.declared.options.ParseMode.{ParseMode}
 use Rattle.goblin_base.specs.declared.options.ParseMode.TheVariants.{Strict, Permissive}
 use Rattle.goblin_base.specs.Pieces.{piece, entry_text, entries, first_bad, text_at}
@@ -38,14 +37,14 @@ walked_entries Strict bytes d es h = ok_only (ltb (first_bad bytes d) (length by
 pub no_entries : (bytes : List ℕ) (d : ℕ) → bytes ≡ [] → entries bytes d ≡ []
 no_entries bytes d e = entries_past bytes d 0 (omega (arith, ap length e))
 
--- a table of a range is that of its bytes
-pub strtab_in_range : (mode : ParseMode) (file : List ℕ) (o n d : ℕ) (range : List ℕ) → range_in mode file o n ≡ Ok range → strtab_of mode file o n d ≡ table_of mode range d
+-- a table of a range by what is answered of the range
+pub strtab_by : (mode : ParseMode) (file : List ℕ) (o n d : ℕ) (range : Result (List ℕ) Refusal) → refuse_as malformed (range_in mode file o n) ≡ range → strtab_of mode file o n d ≡ (range >>= (λ b. table_of mode b d))
 unfolding strtab_of
-strtab_in_range mode file o n d range e = ap (λ r. refuse_as malformed r >>= (λ b. table_of mode b d)) e
+strtab_by mode file o n d range e = ap (λ r. r >>= (λ b. table_of mode b d)) e
 
-pub strtab_past_range : (mode : ParseMode) (file : List ℕ) (o n d : ℕ) (fault : Fault) → range_in mode file o n ≡ Err fault → strtab_of mode file o n d ≡ Err (malformed fault)
-unfolding strtab_of
-strtab_past_range mode file o n d fault e = ap (λ r. refuse_as malformed r >>= (λ b. table_of mode b d)) e
+-- it is that of the range's bytes
+pub strtab_in_range : (mode : ParseMode) (file : List ℕ) (o n d : ℕ) (range : List ℕ) → range_in mode file o n ≡ Ok range → strtab_of mode file o n d ≡ table_of mode range d
+strtab_in_range mode file o n d range e = strtab_by mode file o n d (Ok range) (ap (refuse_as malformed) e)
 
 -- the whole file is a range
 pub whole_range : (mode : ParseMode) (file : List ℕ) → range_in mode file 0 (length file) ≡ Ok file

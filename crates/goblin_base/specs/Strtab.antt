@@ -18,6 +18,10 @@ pub record StringTable : Type 0 where
   pub delim : ℕ
   pub is_parsed : Bool
 
+-- the table of these bytes that was not parsed
+abbrev pub unparsed : List ℕ → ℕ → StringTable
+unparsed bytes delim = record { bytes = bytes; delim = delim; is_parsed = false }
+
 -- what is done with a fault of the range: strict mode refuses by it, permissive mode goes on with these bytes
 abbrev pub or_cut : ParseMode → Fault → List ℕ → Result (List ℕ) Fault
 or_cut Strict fault bytes = Err fault

@@ -4,6 +4,11 @@ use Rattle.std.specs.List.{list_any}
 use Rattle.std.specs.Str.{bytes_eq, is_utf8}
 use Rattle.goblin_base.specs.Strtab.{StringTable}
 
+-- a name's bytes, and the delimiter of the strings that it is searched for among
+pub record Name : Type 0 where
+  pub bytes : List ℕ
+  pub delim : ℕ
+
 -- the table, and the name's bytes
 pub record Search : Type 0 where
   pub table : StringTable

@@ -4,9 +4,10 @@ ghost use Rattle.std.specs.Option.{option_map};
 ghost use Rattle.std.specs.Str.{IsCharBoundary};
 ghost use Rattle.goblin_base.specs.Entries.{places_of, text_of};
 ghost use Rattle.goblin_base.specs.Pieces.{piece};
-ghost use Rattle.goblin_base.specs.Refusal.{Answers, Gives};
+ghost use Rattle.goblin_base.specs.Refusal.{Answers, Gives, malformed};
 ghost use Rattle.goblin_base.specs.Search.{IsLastUpTo};
-ghost use Rattle.goblin_base.specs.Strtab.{RefusesFirst, has_name, look_up, plain, range_in, strings_of, strtab_of, table_of, texts_of};
+ghost use Rattle.goblin_base.specs.Steps.{refuse_as};
+ghost use Rattle.goblin_base.specs.Strtab.{RefusesFirst, has_name, look_up, plain, range_in, strings_of, strtab_of, table_of, texts_of, unparsed};
 ghost use Rattle.goblin_base.specs.Wanted.{can_be_string, stands_at};
 ghost use Rattle.goblin_base.specs.StrtabLaws.{ClosedForm, DependsOnRange, DigitsCount, JoinsAgain, LookUpHasPlain, PermissiveAccepts, StrictIsPermissive, StrictLookUpIsPlain, TextIsUtf8, NamesArePlain, TextIsTaken};
 
@@ -19,7 +20,6 @@ use crate::utf8::read_text;
 use crate::walk::walk;
 use std::alloc::Global;
 use std::marker::Model;
-use std::result;
 
 /// Bytes that a delimiter cuts into strings, which are asked for by their offsets.
 ///
@@ -168,10 +168,8 @@ impl<'a> Strtab<'a> {
             (λ range. RefusesFirst opts.now.parse_mode range delim result) }
         ensures none { (range_in opts.now.parse_mode bytes.now offset len ≡ Ok []) → IsOk result }
     {
-        match range(bytes, offset, len, opts.parse_mode) {
-            Ok(bytes) => Self::of_bytes(alloc, bytes, delim, opts.parse_mode),
-            Err(fault) => Err(Error::Malformed(fault)),
-        }
+        let range = bytes_in_range(bytes, offset, len, opts.parse_mode)?;
+        Self::of_bytes(alloc, range, delim, opts.parse_mode)
     }
 
     // The parsed table of all the bytes.
@@ -237,11 +235,7 @@ impl<'a> Strtab<'a> {
         ensures read { IfSome result (λ piece. let right = plain self.now.bytes self.now.delim offset in
             Answers (λ text. text.now) piece right) }
     {
-        if offset >= self.bytes.len() {
-            None
-        } else {
-            Some(get_str(offset, self.bytes, self.delim))
-        }
+        string_at(self.bytes, self.delim, offset)
     }
 
     /// Whether the piece at an offset is this name, given as its bytes. From `len()` on there is none, and
@@ -264,8 +258,7 @@ impl<'a> Strtab<'a> {
     {
         Wanted {
             table: self,
-            name,
-            is_possible: can_be_string(self.delim, name),
+            name: WantedName::new(name, self.delim),
         }
     }
 
@@ -279,43 +272,90 @@ impl<'a> Strtab<'a> {
     }
 }
 
-/// A search of a string table for a name, which was tested once: as no text, or with a delimiter in it, no
-/// string can have it.
+/// A name that is searched for, given as its bytes, and tested once: as no text, or with the delimiter in
+/// it, no string can have it.
 ///
 /// <!-- quoted: crates/goblin/src/elf/sym.rt -->
+/// ```
+/// let wanted = WantedName::new(name, delim);
+/// ```
+#[derive(Debug, Drop)]
+pub struct WantedName<'n> {
+    name: &'n [u8],
+    delim: u8,
+    is_possible: bool,
+}
+
+// It is seen as the name and the delimiter.
+impl<'n> Model for WantedName<'n> {
+    ghost use Rattle.std.specs.Prelude.{◌≡◌};
+    ghost use Rattle.goblin_base.specs.Wanted.{Name, can_be_string};
+
+    ghost Value = { Name };
+
+    ghost view = { λ w. record { bytes = w.name.now; delim = w.delim } };
+
+    ghost invariant = { λ w. w.is_possible ≡ can_be_string w.delim w.name.now };
+}
+
+impl<'n> WantedName<'n> {
+    /// A name that is searched for among strings that a delimiter cuts.
+    pub fn new(name: &'n [u8], delim: u8) -> Self
+        ensures { result ≡ record { bytes = name.now; delim = delim } }
+    {
+        WantedName {
+            name,
+            delim,
+            is_possible: can_be_string(delim, name),
+        }
+    }
+
+    /// Whether the piece at an offset of these strings is the name: what [`Strtab::has_name`] answers of
+    /// their table. It looks at the name no more than the strings ask for.
+    #[tactic(auto, using(crate::proofs::WantedLemmas::name_is_standing))]
+    pub fn is_at(&self, strings: &[u8], offset: usize) -> bool
+        ensures { let table = unparsed strings.now self.now.delim in
+            result ≡ has_name table offset self.now.bytes }
+    {
+        self.is_possible
+            && offset < strings.len()
+            && stands_at(strings, self.delim, offset, self.name)
+    }
+}
+
+/// A search of a string table for a name.
+///
+/// <!-- quoted: crates/goblin_headers/src/section_header.rt -->
 /// ```
 /// let wanted = names.wanted(name);
 /// ```
 #[derive(Debug, Drop)]
 pub struct Wanted<'n> {
     table: &'n Strtab<'n>,
-    name: &'n [u8],
-    is_possible: bool,
+    name: WantedName<'n>,
 }
 
 // It is seen as the table and the name.
 impl<'n> Model for Wanted<'n> {
     ghost use Rattle.std.specs.Prelude.{◌≡◌};
-    ghost use Rattle.goblin_base.specs.Wanted.{Search, can_be_string};
+    ghost use Rattle.goblin_base.specs.Wanted.{Search};
 
     ghost Value = { Search };
 
-    ghost view = { λ w. record { table = w.table.now; name = w.name.now } };
+    ghost view = { λ w. record { table = w.table.now; name = w.name.bytes } };
 
-    ghost invariant = { λ w. w.is_possible ≡ can_be_string w.table.now.delim w.name.now };
+    ghost invariant = { λ w. w.name.delim ≡ w.table.now.delim };
 }
 
 impl Wanted<'_> {
     /// Whether the piece at an offset is the name: [`Strtab::has_name`], which looks at the name no more
     /// than the table's bytes ask for.
-    #[tactic(auto, using(crate::proofs::WantedLemmas::name_is_standing))]
+    #[tactic(auto, unfolding(crate::specs::Strtab::has_name))]
     pub fn is_at(&self, offset: usize) -> bool
         ensures { result ≡ has_name self.now.table offset self.now.name }
     {
         let table: &Strtab<'_> = self.table;
-        self.is_possible
-            && offset < table.bytes.len()
-            && stands_at(table.bytes, table.delim, offset, self.name)
+        self.name.is_at(table.bytes, offset)
     }
 }
 
@@ -351,34 +391,53 @@ impl Default for Strtab<'_> {
     }
 }
 
-// The bytes of a range of the file, which permissive mode cuts to the file.
+/// The bytes of a table whose `len` bytes are asked for at an offset of a file.
+///
+/// In strict mode an offset past the file's end is a `StrtabOffset`; else an end past the file's end, or
+/// past `usize`, is a `StrtabRange`. Permissive mode cuts the range to the file, and refuses nothing.
 #[tactic(auto, unfolding(crate::specs::Strtab::range_in))]
-fn range(bytes: &[u8], offset: usize, len: usize, mode: ParseMode) -> result::Result<&[u8], Fault>
-    ensures { let right = range_in mode bytes.now offset len in
-        MatchResult result (λ range. right ≡ Ok range.now) (λ fault. right ≡ Err fault) }
+pub fn bytes_in_range(bytes: &[u8], offset: usize, len: usize, mode: ParseMode) -> Result<&[u8]>
+    ensures exact { let right = refuse_as malformed (range_in mode bytes.now offset len) in
+        Answers (λ range. range.now) result right }
+    ensures range { IfErr (range_in mode bytes.now offset len)
+        (λ fault. result ≡ Err (Error.Malformed fault)) }
 {
     if offset > bytes.len() {
         if mode.is_permissive() {
             return Ok(&[]);
         }
-        return Err(Fault::StrtabOffset {
+        return Err(Error::Malformed(Fault::StrtabOffset {
             offset,
             len: bytes.len(),
-        });
+        }));
     }
     let (end, overflow) = offset.overflowing_add(len);
     if overflow || end > bytes.len() {
         if mode.is_permissive() {
             return Ok(&bytes[offset..]);
         }
-        return Err(Fault::StrtabRange {
+        return Err(Error::Malformed(Fault::StrtabRange {
             size: len,
             offset,
             len: bytes.len(),
             overflow,
-        });
+        }));
     }
     Ok(&bytes[offset..end])
+}
+
+/// The piece at an offset of bytes that a delimiter cuts into strings, or `None` from their length on. A
+/// piece that is no text is a `BadInput`, whose size is the number of bytes from the offset on.
+pub fn string_at(bytes: &[u8], delim: u8, offset: usize) -> Option<Result<&str>>
+    ensures past { IsNone result ↔ (length bytes.now ≤ offset) }
+    ensures read { IfSome result (λ piece. let right = plain bytes.now delim offset in
+        Answers (λ text. text.now) piece right) }
+{
+    if offset >= bytes.len() {
+        None
+    } else {
+        Some(get_str(offset, bytes, delim))
+    }
 }
 
 // The texts of entries.

@@ -4,7 +4,7 @@ ghost use Rattle.std.specs.Iterator.{UpTo, YieldsFirst, item_count};
 ghost use Rattle.std.specs.Iterator.SizeHint.{IsWithinCount};
 ghost use Rattle.goblin_base.specs.Eager.{records_from, records_in, room_of_each};
 ghost use Rattle.goblin_base.specs.Record.{unless_fault};
-ghost use Rattle.goblin_base.specs.Refusal.{buffer_too_short, Gives, Refuses};
+ghost use Rattle.goblin_base.specs.Refusal.{buffer_too_short, Answers, Gives, Refuses};
 ghost use Rattle.goblin_base.specs.Room.{room_of};
 ghost use Rattle.goblin_base.specs.Table.{records};
 
@@ -51,6 +51,47 @@ impl<'a, R: Record<C>, C: Copy> Table<'a, R, C> {
             count,
             ctx,
             of: PhantomData,
+        }
+    }
+
+    /// The table of the `count` records that lie one after another from an offset on.
+    ///
+    /// The first record without room gives its fault. Where `count` is 0 the table is empty, whatever
+    /// the offset.
+    pub fn in_range(bytes: &'a [u8], offset: usize, count: usize, ctx: C) -> Result<Self>
+        ensures exact { let right =
+            records_in (R.size_of ctx) (R.read ctx) bytes.now offset count in
+            Answers (λ table. table) result right }
+        ensures range { IfErr (room_of_each (length bytes.now) offset (R.size_of ctx) count)
+            (λ e. result ≡ Err (Error.Scroll e)) }
+    {
+        room_for_each(bytes.len(), offset, R::size_with(&ctx), count)?;
+        if count == 0 {
+            return Ok(Table::of(&[], 0, ctx));
+        }
+        Ok(Table::of(&bytes[offset..], count, ctx))
+    }
+
+    /// The table of [`Table::in_range`], where the bytes could hold so many records.
+    ///
+    /// More records than they could hold anywhere are a `BufferTooShort` of these items, whatever the
+    /// offset.
+    pub fn counted(
+        bytes: &'a [u8],
+        offset: usize,
+        count: usize,
+        ctx: C,
+        items: &'static str,
+    ) -> Result<Self>
+        ensures { let right =
+            records_from (R.size_of ctx) (R.read ctx) bytes.now offset count items.now in
+            Answers (λ table. table) result right }
+    {
+        let most = bytes.len() / R::size_with(&ctx);
+        if count <= most {
+            Table::in_range(bytes, offset, count, ctx)
+        } else {
+            Err(Error::BufferTooShort(count, items))
         }
     }
 
@@ -216,25 +257,31 @@ pub fn read_all<R: Record<C>, C: Copy>(
 }
 
 // Whether there is room for each of `count` records of a size from an offset on, or the fault of the
-// first without.
+// first without: that of the place behind those that fit.
 fn room_for_each(
     len: usize,
     offset: usize,
     size: usize,
     count: usize,
 ) -> result::Result<(), scroll::Error>
+    requires { 0 < size }
     ensures exact { result ≡ room_of_each len offset size count }
     ensures fits { OnOk result (0 < count → offset + count * size ≤ len) }
 {
-    let mut place = offset;
-    'each: for _ in 0..count {
-        room(len, place, size)?;
-        place += size;
+    if count == 0 {
+        return Ok(());
     }
-    Ok(())
+    if offset > len {
+        return room(len, offset, size);
+    }
+    let fitting = (len - offset) / size;
+    if count <= fitting {
+        return Ok(());
+    }
+    room(len, offset + fitting * size, size)
 }
 
-/// The `count` records that lie one after another from an offset on, as a vector.
+/// The records of [`Table::in_range`] as a vector.
 ///
 /// The first record without room gives its fault, before any memory is taken, so that want of memory
 /// stands in place of no fault. Where `count` is 0 the list is empty, whatever the offset, and takes
@@ -253,11 +300,7 @@ pub fn read_in_range<R: Record<C>, C: Copy>(
         (λ e. result ≡ Err (Error.Scroll e)) }
     ensures none { (count ≡ 0) → IsOk result }
 {
-    room_for_each(bytes.len(), offset, R::size_with(&ctx), count)?;
-    if count == 0 {
-        return Ok(Vec::new(alloc));
-    }
-    Table::of(&bytes[offset..], count, ctx).to_vec(alloc)
+    Table::in_range(bytes, offset, count, ctx)?.to_vec(alloc)
 }
 
 /// A law: a list of records that fit, written one after another, is read as the same list.
