@@ -1,11 +1,12 @@
 -- New section headers, lists of them that are read at once, and whether a section lies in its file (System V gABI,
 -- "Section Header").
-use Rattle.std.specs.Prelude.{◌+◌, ◌/◌, ◌^◌, ◌||◌, ◌==◌, ℕ, nat_lt, nat_le, if◌then◌else◌, List, [], codes, drop, length, max, Bool, true, Result, Ok}
+use Rattle.std.specs.Prelude.{◌+◌, ◌/◌, ◌^◌, ◌||◌, ◌==◌, ℕ, nat_lt, nat_le, if◌then◌else◌, List, [], codes, drop, length, max, Bool, true, Option, Some, None, Result, Ok}
 use Rattle.goblin_base.specs.declared.container.Ctx.{Ctx}
 use Rattle.goblin_base.specs.declared.error.Error.{Error}
 use Rattle.goblin_base.specs.declared.error.Error.TheVariants.{Malformed}
 use Rattle.goblin_base.specs.declared.error.Fault.TheVariants.{SectionOffset, SectionAddr}
 use Rattle.goblin_base.specs.Eager.{records_in}
+use Rattle.goblin_base.specs.Record.{unless_fault}
 use Rattle.goblin_base.specs.Refusal.{Refusal, buffer_too_short, misplaced}
 use Rattle.goblin_base.specs.Room.{room_of}
 use Rattle.goblin_base.specs.Steps.{◌>>=◌, refuse_if, refuse_as}
@@ -35,6 +36,11 @@ count_told first count = if count == 0 then first.sh_size else count
 abbrev pub count_asked : List ℕ → ℕ → ℕ → Ctx → ℕ
 count_asked bytes offset count ctx = count_told (section_header_of ctx.container ctx.le (drop offset bytes)) count
 
+-- how many headers are read from an offset on, of which there is one at least; the first must have room
+abbrev pub count_from : List ℕ → ℕ → ℕ → Ctx → Result ℕ Error
+count_from bytes offset count ctx =
+    unless_fault (room_of (length bytes) offset (section_header_size ctx.container)) (max 1 (count_asked bytes offset count ctx))
+
 -- the tests before memory is taken: the first header has room, and there are not more than the bytes could hold
 -- anywhere
 unfoldable pub section_headers_from_tested : List ℕ → ℕ → ℕ → Ctx → Result (Unit {0}) Refusal
@@ -58,6 +64,15 @@ section_headers_of bytes offset count ctx =
 abbrev pub section_headers_of_tested : List ℕ → ℕ → ℕ → Ctx → Result (Unit {0}) Refusal
 section_headers_of_tested bytes offset count ctx =
     if offset == 0 then Ok tt else section_headers_from_tested bytes offset count ctx
+
+-- the index of the section that holds the sections' names: e_shstrndx, or where that is 0xffff the sh_link of the
+-- first section
+abbrev pub link_of : Option SectionHeader → ℕ
+link_of (Some section) = section.sh_link
+link_of None = 0
+
+abbrev pub names_index : ℕ → Option SectionHeader → ℕ
+names_index index first = if index == 0xffff then link_of first else index
 
 -- whether a section with bytes in the file (not of type 8) lies in a file of so many bytes, and its addresses end
 -- below 2 ^ 64

@@ -6,7 +6,7 @@ ghost use Rattle.goblin_base.specs.Fields.{values_of};
 ghost use Rattle.goblin_base.specs.Layout.{IsOneImage, IsSameInEachClass};
 ghost use Rattle.goblin_base.specs.LayoutLaws.{obeys};
 ghost use Rattle.goblin_base.specs.Record.{read_within, Writes};
-ghost use Rattle.goblin_base.specs.Refusal.{Gives, Refuses};
+ghost use Rattle.goblin_base.specs.Refusal.{Answers, Gives, Refuses};
 ghost use Rattle.goblin_base.specs.Steps.{with_size};
 ghost use Rattle.goblin_base.specs.declared.container.Container.{Container};
 ghost use Rattle.goblin_base.specs.declared.container.Endian.{Endian};
@@ -21,7 +21,7 @@ use goblin_base::error::Result;
 use goblin_base::number::room;
 use goblin_base::record::Record;
 use goblin_base::scroll::{SizeWith, TryFromCtx, TryIntoCtx};
-use goblin_base::table::read_all;
+use goblin_base::table::{Table, read_all};
 use std::alloc::Global;
 use std::ops::Range;
 
@@ -146,6 +146,20 @@ impl ProgramHeader {
         ensures none { (count ≡ 0) → IsOk result }
     {
         read_all(alloc, bytes, offset, count, ctx, "program headers")
+    }
+
+    /// The program headers of [`ProgramHeader::parse`], each of which is read as it is asked for, refused
+    /// for the same reasons. No memory is taken.
+    pub fn table(
+        bytes: &[u8],
+        offset: usize,
+        count: usize,
+        ctx: Ctx,
+    ) -> Result<Table<'_, ProgramHeader, Ctx>>
+        ensures { let right = program_headers_from bytes.now offset count ctx in
+            Answers (λ table. table) result right }
+    {
+        Table::counted(bytes, offset, count, ctx, "program headers")
     }
 
     // The program header at the start of the bytes.

@@ -1,19 +1,20 @@
 //! Section headers, which tell what a file holds: System V gABI, "Section Header".
 ghost use Rattle.std.specs.Int.{IsBitSet};
 ghost use Rattle.std.specs.Prelude.{◌≡◌, ◌≤◌, ◌↔◌, ◌++◌, IsTrue, IfErr, IsNone, IsOk, IfSome, length, drop, map, position, replicate};
+ghost use Rattle.std.specs.Option.{option_map};
 ghost use Rattle.goblin_base.specs.Fields.{values_of};
 ghost use Rattle.goblin_base.specs.Layout.{IsOneImage, IsSameInEachClass};
 ghost use Rattle.goblin_base.specs.LayoutLaws.{obeys};
 ghost use Rattle.goblin_base.specs.Record.{read_within, Writes};
-ghost use Rattle.goblin_base.specs.Refusal.{Gives, Refuses};
+ghost use Rattle.goblin_base.specs.Refusal.{Answers, Gives, Refuses};
 ghost use Rattle.goblin_base.specs.Steps.{with_size};
-ghost use Rattle.goblin_base.specs.Strtab.{has_name};
+ghost use Rattle.goblin_base.specs.Strtab.{has_name, unparsed};
 ghost use Rattle.goblin_base.specs.declared.container.Container.{Container};
 ghost use Rattle.goblin_base.specs.declared.container.Endian.{Endian};
 ghost use Rattle.goblin_headers.specs.Ranges.{span};
 ghost use Rattle.goblin_headers.specs.SectionHeader.{as64, section_header_size, section_header_of, section_header_image, section_header_low, SectionHeaderFits};
 ghost use Rattle.goblin_headers.specs.SectionHeader64.{section_header64_fields};
-ghost use Rattle.goblin_headers.specs.SectionHeaders.{new_section_header, count_told, section_headers_from, section_headers_from_tested, section_headers_of, section_headers_of_tested, size_checked, size_checked_in};
+ghost use Rattle.goblin_headers.specs.SectionHeaders.{new_section_header, count_from, count_told, names_index, section_headers_from, section_headers_from_tested, section_headers_of, section_headers_of_tested, size_checked, size_checked_in};
 ghost use Rattle.goblin_headers.specs.SectionNames.{section_flag_names};
 
 pub use crate::{section_header32, section_header64};
@@ -22,8 +23,8 @@ use goblin_base::error::{Error, Fault, Result};
 use goblin_base::number::room;
 use goblin_base::record::Record;
 use goblin_base::scroll::{IntoCtx, SizeWith, TryFromCtx, TryIntoCtx};
-use goblin_base::strtab::Strtab;
-use goblin_base::table::{read_all, read_at};
+use goblin_base::strtab::{Strtab, WantedName};
+use goblin_base::table::{Table, read_all, read_at};
 use std::alloc::Global;
 use std::ops::Range;
 
@@ -150,9 +151,55 @@ impl SectionHeader {
         ensures tested { IfErr (section_headers_from_tested bytes.now offset count ctx)
             (λ refusal. Refuses result refusal) }
     {
-        let first: SectionHeader = read_at(bytes, offset, ctx)?;
-        let asked = first.count_asked(count);
-        read_all(alloc, bytes, offset, asked.max(1), ctx, "section headers")
+        let asked = SectionHeader::count_from(bytes, offset, count, ctx)?;
+        read_all(alloc, bytes, offset, asked, ctx, "section headers")
+    }
+
+    /// The section headers of a file, each of which is read as it is asked for: those that
+    /// [`SectionHeader::parse`] reads at once, refused for the same reasons. No memory is taken.
+    #[tactic(auto, unfolding(goblin_base::specs::Table::records))]
+    pub fn table(
+        bytes: &[u8],
+        offset: usize,
+        count: usize,
+        ctx: Ctx,
+    ) -> Result<Table<'_, SectionHeader, Ctx>>
+        ensures { let right = section_headers_of bytes.now offset count ctx in
+            Answers (λ table. table) result right }
+    {
+        if offset == 0 {
+            return Ok(Table::of(&[], 0, ctx));
+        }
+        SectionHeader::table_from(bytes, offset, count, ctx)
+    }
+
+    // The section headers that lie one after another from an offset on, as a table.
+    fn table_from(
+        bytes: &[u8],
+        offset: usize,
+        count: usize,
+        ctx: Ctx,
+    ) -> Result<Table<'_, SectionHeader, Ctx>>
+        ensures { let right = section_headers_from bytes.now offset count ctx in
+            Answers (λ table. table) result right }
+    {
+        let most = SectionHeader::count_from(bytes, offset, count, ctx)?;
+        Table::counted(bytes, offset, most, ctx, "section headers")
+    }
+
+    /// The index of the section that holds the sections' names, by the header's `e_shstrndx`: that number,
+    /// or where it is 0xffff (`SHN_XINDEX`) the `sh_link` of the first section, or 0 where there is none.
+    pub fn names_index(e_shstrndx: u16, first: Option<&SectionHeader>) -> usize
+        ensures { let seen = option_map (λ section. section.now) first.entry in
+            result ≡ names_index e_shstrndx seen }
+    {
+        if u32::from(e_shstrndx) != SHN_XINDEX {
+            return usize::from(e_shstrndx);
+        }
+        match first {
+            Some(section) => section.sh_link as usize,
+            None => 0,
+        }
     }
 
     /// The index of the first section with this name, given as its bytes, or `None` where no section has
@@ -169,6 +216,23 @@ impl SectionHeader {
         sections
             .iter()
             .position(|section| wanted.is_at(section.sh_name))
+    }
+
+    /// The index in a table of the first section with this name, which is looked for in the bytes of the
+    /// sections' names as [`SectionHeader::find`] looks for it in their table.
+    pub fn find_in(
+        sections: &Table<'_, SectionHeader, Ctx>,
+        strings: &[u8],
+        delim: u8,
+        name: &[u8],
+    ) -> Option<usize>
+        ensures { let table = unparsed strings.now delim in result
+            ≡ position (λ section. has_name table section.sh_name name.now) sections.now }
+    {
+        let wanted = WantedName::new(name, delim);
+        sections
+            .iter()
+            .position(|section| wanted.is_at(strings, section.sh_name))
     }
 
     /// Whether the section lies inside a file of `size` bytes, and its addresses inside all addresses:
@@ -239,6 +303,14 @@ impl SectionHeader {
         ensures { IsTrue result ↔ IsBitSet self.now.sh_flags 1 }
     {
         self.sh_flags & u64::from(SHF_ALLOC) != 0
+    }
+
+    // How many headers are read from an offset on: as many as are asked for, and one at least.
+    fn count_from(bytes: &[u8], offset: usize, count: usize, ctx: Ctx) -> Result<usize>
+        ensures { result ≡ count_from bytes.now offset count ctx }
+    {
+        let first: SectionHeader = read_at(bytes, offset, ctx)?;
+        Ok(first.count_asked(count).max(1))
     }
 
     // How many headers are asked for, where this is the first of them.
