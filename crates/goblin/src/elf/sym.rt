@@ -3,13 +3,13 @@ ghost use Rattle.std.specs.Prelude.{◌≡◌, ◌≤◌, ◌<◌, ◌-◌, ◌*
 ghost use Rattle.std.specs.Option.{option_map};
 ghost use Rattle.goblin.specs.Addresses.{is_below, reaches, symbol_at, taken, SymbolAtComesFirst};
 ghost use Rattle.goblin.specs.Symtab.{symbols_at, symtab_by, symtab_of, DependsOnItsRange, PermissiveKeepsStrict};
-ghost use Rattle.goblin_base.specs.Strtab.{has_name};
+ghost use Rattle.goblin_base.specs.Strtab.{has_name, unparsed};
 ghost use Rattle.goblin_records.specs.Sym.{sym_size};
 
 use goblin_base::container::Ctx;
 use goblin_base::error::{Error, Fault, Result};
 use goblin_base::options::{ParseMode, ParseOptions};
-use goblin_base::strtab::Strtab;
+use goblin_base::strtab::{Strtab, WantedName};
 use goblin_base::table::{Table, TableIter};
 pub use goblin_records::sym::{
     STB_GLOBAL, STB_GNU_UNIQUE, STB_HIOS, STB_HIPROC, STB_LOCAL, STB_LOOS, STB_LOPROC, STB_NUM,
@@ -174,14 +174,17 @@ impl<'a> Symtab<'a> {
             ≡ position (λ symbol. has_name names.now symbol.st_name name.now) self.now.symbols }
     {
         let wanted = names.wanted(name);
-        for i in 0..self.len() {
-            if let Some(symbol) = self.get(i) {
-                if wanted.is_at(symbol.st_name) {
-                    return Some(i);
-                }
-            }
-        }
-        None
+        self.iter().position(|symbol| wanted.is_at(symbol.st_name))
+    }
+
+    /// The same, where the names are looked for in the bytes of a string table, which `delim` cuts.
+    pub fn find_in(&self, strings: &[u8], delim: u8, name: &[u8]) -> Option<usize>
+        ensures { let table = unparsed strings.now delim in result
+            ≡ position (λ symbol. has_name table symbol.st_name name.now) self.now.symbols }
+    {
+        let wanted = WantedName::new(name, delim);
+        self.iter()
+            .position(|symbol| wanted.is_at(strings, symbol.st_name))
     }
 
     /// The index of the symbol that an address lies in, or `None` where no symbol stands at it or below it.
