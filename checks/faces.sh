@@ -41,6 +41,18 @@ make_library() {
     fi
 }
 
+# What the toolchain says of the library just made: that nothing in it reaches a function which it takes for granted, of the
+# heap, the system or a C library.
+check_axioms() {
+    if ! awk '/^axioms / { all++; if ($0 !~ /: none reached of /) reached++ } /^logic=proved / { proved++; if (/ axioms=/) reached++ }
+        END { exit proved == 0 || all == 0 || reached > 0 }' "$folder/output"; then
+        echo "the library reaches what is taken for granted:"
+        grep -e '^axioms ' -e '^logic=' "$folder/output"
+        exit 1
+    fi
+    echo "the library reaches no function that the toolchain takes for granted"
+}
+
 # ---- C ----
 
 # The options for the sanitizers, where the compiler has them.
@@ -230,6 +242,7 @@ compare_relocations() {
 }
 
 quietly make_library
+check_axioms
 if ! has cc; then
     echo "no cc here: no C is compiled, and no Rust, which cc links"
     exit 0

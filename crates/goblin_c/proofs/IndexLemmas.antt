@@ -20,11 +20,11 @@ use Rattle.goblin_c.specs.declared.types.GoblinSection.{GoblinSection}
 use Rattle.goblin.specs.Header.{class_named, order_named}
 use Rattle.goblin.specs.ProgramHeaders.{program_headers_from}
 use Rattle.goblin.specs.RelocSection.{is_of_mips64el, relocs_of}
-use Rattle.goblin.specs.SectionHeaders.{section_headers_of}
+use Rattle.goblin.specs.SectionHeaders.{link_of, names_index, section_headers_of}
 use Rattle.goblin_headers.proofs.HeaderLaws.{header_laws}
 use Rattle.goblin_headers.proofs.RawTrips.{ident_byte}
 use Rattle.goblin_headers.proofs.ReadHeaderLemmas.{read_header-is}
-use Rattle.goblin_c.specs.Answers.{ctx_of, header_told, link_of, names_index, relocs_right, reloc_count_right, reloc_right, reloc_told, section_count_right, section_right, section_told, sections_right, segment_count_right, segment_right, segment_told, segments_right, symbol_count_right, symbol_right, symbol_told, symbols_right, table_at, told_from, with_bytes}
+use Rattle.goblin_c.specs.Answers.{ctx_of, header_told, relocs_right, reloc_count_right, reloc_right, reloc_told, section_count_right, section_right, section_told, sections_right, segment_count_right, segment_right, segment_told, segments_right, symbol_count_right, symbol_right, symbol_told, symbols_right, table_at, told_from, with_bytes}
 use Rattle.goblin_c.specs.Laws.{ContextIsTheHeaders, FilledByIndex, GivenFrom, HasHeader, NamesByIndex, NamesContext, RelocsByIndex, SectionsByIndex, SegmentsByIndex, SymbolsByIndex, TablesByIndex, TellsCount, TellsEach, symbols_in, table_told}
 
 -- a byte that names a class or a byte order names the one that C's number stands for
@@ -159,7 +159,7 @@ pub tables_by_index : TablesByIndex
 tables_by_index bytes h index = table_there (sections_right bytes h) index
 
 -- the table with the index in the header, or the one that the first section links to
-in_header : (all : Result (List SectionHeader) Refusal) (index : ℕ) → (index == 0xffff) ≡ false → (all >>= λ items. Ok (option_map section_told (table_at items (names_index items index)))) ≡ (all >>= λ items. Ok (option_map section_told (table_at items index)))
+in_header : (all : Result (List SectionHeader) Refusal) (index : ℕ) → (index == 0xffff) ≡ false → (all >>= λ items. Ok (option_map section_told (table_at items (names_index index (slice_get items 0))))) ≡ (all >>= λ items. Ok (option_map section_told (table_at items index)))
 in_header (Ok items) index other = rw other refl
 in_header (Err refusal) index other = refl
 

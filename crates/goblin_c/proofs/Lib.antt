@@ -2,7 +2,6 @@ pub mod CutLemmas
 pub mod DigitLemmas
 pub mod IndexLemmas
 pub mod KeptLemmas
-pub mod Lists
 pub mod NoteLaws
 pub mod PieceLemmas
 pub mod PlaceLaws

@@ -1,48 +1,25 @@
 -- Looking for the first item that passes a test, from an index on.
-use Rattle.std.proofs.Common.{◌≡◌, ◌≤◌, ◌+◌, ◌-◌, ◌==◌, ℕ, Bool, true, false, true≢false, List, drop, slice_get, Option, Some, None, Result, Ok, Err, position, refl, sym, ap, subst, ◌∙◌, arith}
+use Rattle.std.proofs.Common.{◌≡◌, ◌≤◌, ◌+◌, ◌-◌, ◌==◌, ℕ, Bool, false, true≢false, List, drop, slice_get, Option, Some, None, Result, Ok, Err, position, refl, sym, ap, subst, ◌∙◌, arith}
 use Rattle.std.proofs.lemmas.Bool.Decides.{nat_tests}
 use Rattle.std.specs.Bool.{Decides}
 use Rattle.std.specs.Option.{option_map}
 use Rattle.goblin_base.specs.Refusal.{Refusal}
 use Rattle.goblin_base.specs.Steps.{◌>>=◌}
-use Rattle.goblin.proofs.Positions.{SearchedTo, searched-more, searched-found}
 use Rattle.goblin_c.specs.declared.types.GoblinSection.{GoblinSection}
 use Rattle.goblin_c.specs.Answers.{section_told, sections_right}
 use Rattle.goblin_c.specs.Laws.{FindsFrom, SectionsByType}
 use Rattle.goblin_c.proofs.IndexLemmas.{behind}
 use Rattle.goblin_c.proofs.StringLaws.{all_fail, earlier_fail, first_passes, told_one}
 
--- no item from the first index on and below another passes
-abbrev pub SearchedFrom : {X : Type 0} → (X → Bool) → List X → ℕ → ℕ → Type 0
-SearchedFrom test items first i = (first ≤ i) × SearchedTo test (drop first items) (i - first)
-
 -- a number equals another, or not, by its test
-pub equal_test : (a b : ℕ) → a ≡ b → (a == b) ≡ true
-equal_test a b is = grind (arith, nat_tests)
-
-pub other_test : (a b : ℕ) → ¬ (a ≡ b) → (a == b) ≡ false
-other_test a b is = grind (arith, nat_tests)
-
 equal-Decides : (a b : ℕ) → Decides (a == b) (a ≡ b)
-equal-Decides a b = (λ is. grind (arith, nat_tests), equal_test a b)
+equal-Decides a b = (λ is. grind (arith, nat_tests), λ is. grind (arith, nat_tests))
 
 -- the item at an index is among those from the first index on
 there : {X : Type 0} (items : List X) (first i : ℕ) (x : X) → first ≤ i → slice_get items i ≡ Some x → slice_get (drop first items) (i - first) ≡ Some x
 there items first i x after found =
     let place : i ≡ first + (i - first) = omega (arith, after) in
     sym (behind items first (i - first)) ∙ ap (slice_get items) (sym place) ∙ found
-
--- an item that doesn't pass
-pub searched_from-more : {X : Type 0} (test : X → Bool) (items : List X) (first i : ℕ) (x : X) → slice_get items i ≡ Some x → test x ≡ false → SearchedFrom test items first i → SearchedFrom test items first (i + 1)
-searched_from-more test items first i x found fails so =
-    let next : (i - first) + 1 ≡ (i + 1) - first = omega (arith, so.0) in
-    (omega (arith, so.0), subst (SearchedTo test (drop first items)) next (searched-more test (drop first items) (i - first) x (there items first i x so.0 found) fails so.1))
-
--- the first that passes
-pub searched_from-found : {X : Type 0} (test : X → Bool) (items : List X) (first i : ℕ) (x : X) → slice_get items i ≡ Some x → test x ≡ true → SearchedFrom test items first i → Some i ≡ option_map (λ place. first + place) (position test (drop first items))
-searched_from-found test items first i x found passes so =
-    let place : i ≡ first + (i - first) = omega (arith, so.0) in
-    ap Some place ∙ ap (option_map (λ place. first + place)) (searched-found test (drop first items) (i - first) x (there items first i x so.0 found) passes so.1)
 
 -- what is told of the items from an index on that pass a test
 module _ {X Y : Type 0} (tell : X → Y) (IsSo : Y → Type 0) (test : X → Bool) (decides : (x : X) → Decides (test x) (IsSo (tell x))) where

@@ -1,5 +1,5 @@
 -- What is right of a file, in the terms of the library: an item, none past the last one, or why there is none.
-use Rattle.std.specs.Prelude.{ℕ, ◌+◌, ◌/◌, ◌==◌, ◌&&◌, not, nat_le, if◌then◌else◌, List, length, drop, map, position, slice_get, slice_index, Bool, false, pos, unwrap_or, Option, Some, None, Result, Ok}
+use Rattle.std.specs.Prelude.{ℕ, ◌+◌, ◌/◌, ◌==◌, ◌&&◌, not, nat_le, if◌then◌else◌, List, length, drop, map, position, slice_get, slice_index, Bool, pos, unwrap_or, Option, Some, None, Result, Ok}
 use Rattle.std.specs.Option.{option_map, is_some}
 use Rattle.goblin_base.specs.declared.container.Ctx.{Ctx}
 use Rattle.goblin_base.specs.declared.container.Container.TheVariants as class
@@ -7,12 +7,12 @@ use Rattle.goblin_base.specs.declared.container.Endian.TheVariants as endian
 use Rattle.goblin_base.specs.declared.options.ParseMode.TheVariants.{Strict}
 use Rattle.goblin_base.specs.Refusal.{Refusal, malformed, refusal_of}
 use Rattle.goblin_base.specs.Steps.{◌>>=◌, refuse_as}
-use Rattle.goblin_base.specs.Strtab.{range_in, plain, has_name}
+use Rattle.goblin_base.specs.Strtab.{range_in, plain, has_name, unparsed}
 use Rattle.goblin.specs.Addresses.{symbol_at}
 use Rattle.goblin.specs.declared.elf.header.Header.{Header}
 use Rattle.goblin.specs.declared.elf.section_header.SectionHeader.{SectionHeader}
 use Rattle.goblin.specs.ReadHeader.{read_header}
-use Rattle.goblin.specs.SectionHeaders.{section_headers_of}
+use Rattle.goblin.specs.SectionHeaders.{names_index, section_headers_of}
 use Rattle.goblin.specs.declared.elf.sym.Sym.{Sym}
 use Rattle.goblin.specs.Sym.{sym_size}
 use Rattle.goblin.specs.declared.elf.program_header.ProgramHeader.{ProgramHeader}
@@ -224,7 +224,7 @@ relocs_from_right bytes h range is_rela first = do
 
 -- whether the plain reading at an offset of some strings gives a name
 abbrev pub is_named : List ℕ → List ℕ → ℕ → Bool
-is_named strings name offset = has_name (record { bytes = strings; delim = 0; is_parsed = false }) offset name
+is_named strings name offset = has_name (unparsed strings 0) offset name
 
 -- the index of the first section, and of the first symbol, with a name
 abbrev pub section_by_name_right : List ℕ → GoblinHeader → GoblinRange → List ℕ → Result (Option ℕ) Refusal
@@ -260,16 +260,8 @@ table_right bytes h index = do
   sections ← sections_right bytes h
   Ok (option_map section_told (table_at sections index))
 
--- the index of the section that holds the sections' names: e_shstrndx, or where that is 0xffff the sh_link of the first
-abbrev pub link_of : Option SectionHeader → ℕ
-link_of (Some section) = section.sh_link
-link_of None = 0
-
-abbrev pub names_index : List SectionHeader → ℕ → ℕ
-names_index sections index = if index == 0xffff then link_of (slice_get sections 0) else index
-
--- that section, where it is a table
+-- the section that holds the sections' names, where it is a table
 abbrev pub section_names_right : List ℕ → GoblinHeader → Result (Option GoblinSection) Refusal
 section_names_right bytes h = do
   sections ← sections_right bytes h
-  Ok (option_map section_told (table_at sections (names_index sections h.e_shstrndx)))
+  Ok (option_map section_told (table_at sections (names_index h.e_shstrndx (slice_get sections 0))))

@@ -2,20 +2,18 @@
 ghost use Rattle.std.specs.Prelude.{◌≡◌, ◌+◌, ◌==◌, drop, position};
 ghost use Rattle.std.specs.Option.{option_map};
 ghost use Rattle.goblin.specs.Refusal.{Answers};
-ghost use Rattle.goblin.specs.SectionHeaders.{count_told, section_headers_from};
-ghost use Rattle.goblin_c.specs.Answers.{ctx_of, header_right, header_told, section_by_type_right, section_count_right, section_right, names_index, section_names_right, section_told, sections_right, segment_count_right, segment_right, segment_told, segments_right, table_at, table_right};
+ghost use Rattle.goblin_c.specs.Answers.{ctx_of, header_right, header_told, section_by_type_right, section_count_right, section_right, section_names_right, section_told, sections_right, segment_count_right, segment_right, segment_told, segments_right, table_at, table_right};
 
-use crate::table::table_of;
 use crate::types::{GoblinHeader, GoblinRange, GoblinSection, GoblinSegment};
 use goblin::container::{Container, Ctx, Endian};
 use goblin::elf::header::{
     EI_ABIVERSION, EI_CLASS, EI_DATA, EI_OSABI, EI_VERSION, ELFCLASS64, ELFDATA2MSB, Header,
 };
 use goblin::elf::program_header::ProgramHeader;
-use goblin::elf::section_header::{SHN_XINDEX, SHT_NOBITS, SectionHeader};
+use goblin::elf::section_header::{SHT_NOBITS, SectionHeader};
 use goblin::error::Result;
 use goblin::scroll::{LE, TryFromCtx};
-use goblin_base::table::{Table, read_at};
+use goblin_base::table::Table;
 
 /// The class and the byte order of a header.
 pub fn ctx_of(header: &GoblinHeader) -> Ctx
@@ -104,48 +102,18 @@ pub fn header_at(bytes: &[u8]) -> Result<Option<GoblinHeader>>
     Ok(Some(told_header(&header)))
 }
 
-// How many section headers are asked for, where this is the first of them.
-fn count_asked(first: &SectionHeader, count: usize) -> usize
-    ensures { result ≡ count_told first.now count }
-{
-    if count == 0 {
-        first.sh_size as usize
-    } else {
-        count
-    }
-}
-
-// The section headers from an offset on: what `SectionHeader::parse_from` reads at once.
-fn sections_from(
-    bytes: &[u8],
-    offset: usize,
-    count: usize,
-    ctx: Ctx,
-) -> Result<Table<'_, SectionHeader, Ctx>>
-    ensures { Answers (λ table. table) result (section_headers_from bytes.now offset count ctx) }
-{
-    let first: SectionHeader = read_at(bytes, offset, ctx)?;
-    let asked = count_asked(&first, count);
-    table_of(bytes, offset, asked.max(1), ctx, "section headers")
-}
-
 /// The section headers.
-#[tactic(auto, unfolding(goblin_base::specs::Table::records))]
 pub fn sections_of<'a>(
     bytes: &'a [u8],
     header: &GoblinHeader,
 ) -> Result<Table<'a, SectionHeader, Ctx>>
     ensures { Answers (λ table. table) result (sections_right bytes.now header.now) }
 {
-    let ctx = ctx_of(header);
-    if header.e_shoff == 0 {
-        return Ok(Table::of(&[], 0, ctx));
-    }
-    sections_from(
+    SectionHeader::table(
         bytes,
         header.e_shoff as usize,
         usize::from(header.e_shnum),
-        ctx,
+        ctx_of(header),
     )
 }
 
@@ -172,14 +140,11 @@ fn find_type(sections: &Table<'_, SectionHeader, Ctx>, sh_type: u32, first: usiz
         ≡ option_map (λ place. first + place)
         (position (λ section. section.sh_type == sh_type) (drop first sections.now)) }
 {
-    for i in first..sections.len() {
-        if let Some(section) = sections.get(i) {
-            if section.sh_type == sh_type {
-                return Some(i as u64);
-            }
-        }
-    }
-    None
+    sections
+        .iter()
+        .skip(first)
+        .position(|section| section.sh_type == sh_type)
+        .map(|place| (first + place) as u64)
 }
 
 /// The index of the first section of a type, from an index on.
@@ -194,19 +159,6 @@ pub fn section_by_type(
 {
     let sections = sections_of(bytes, header)?;
     Ok(find_type(&sections, sh_type, first as usize))
-}
-
-// The index of the section that holds the sections' names.
-fn names_index(sections: &Table<'_, SectionHeader, Ctx>, index: u16) -> usize
-    ensures { result ≡ names_index sections.now index }
-{
-    if u32::from(index) != SHN_XINDEX {
-        return usize::from(index);
-    }
-    match sections.get(0) {
-        Some(first) => first.sh_link as usize,
-        None => 0,
-    }
 }
 
 // What C is told of the section that is a table by its index.
@@ -238,19 +190,20 @@ pub fn section_names(bytes: &[u8], header: &GoblinHeader) -> Result<Option<Gobli
     ensures { Answers (λ found. found) result (section_names_right bytes.now header.now) }
 {
     let sections = sections_of(bytes, header)?;
-    Ok(told_table(&sections, names_index(&sections, header.e_shstrndx)))
+    let first = sections.get(0);
+    let index = SectionHeader::names_index(header.e_shstrndx, first.as_ref());
+    Ok(told_table(&sections, index))
 }
 
 // The program headers.
 fn segments_of<'a>(bytes: &'a [u8], header: &GoblinHeader) -> Result<Table<'a, ProgramHeader, Ctx>>
     ensures { Answers (λ table. table) result (segments_right bytes.now header.now) }
 {
-    table_of(
+    ProgramHeader::table(
         bytes,
         header.e_phoff as usize,
         usize::from(header.e_phnum),
         ctx_of(header),
-        "program headers",
     )
 }
 

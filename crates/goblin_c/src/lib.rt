@@ -27,7 +27,6 @@ mod layout;
 mod names;
 mod notes;
 mod status;
-mod table;
 mod tables;
 #[cfg(test)]
 mod tests;

@@ -1,19 +1,18 @@
 //! Symbols, relocations and strings, as the library gives them.
 ghost use Rattle.std.specs.Prelude.{◌≡◌, ◌+◌, ◌≤◌, IfOk, length, position};
-ghost use Rattle.goblin.specs.Strtab.{has_name};
 ghost use Rattle.goblin.specs.Refusal.{Answers};
 ghost use Rattle.goblin_c.specs.Answers.{is_mips64el, reloc_count_right, reloc_right, reloc_told, relocs_right, section_by_name_right, string_right, strings_right, symbol_by_address_right, symbol_by_name_right, symbol_count_right, symbol_right, is_named, symbol_told, symbols_right};
 
 use crate::headers::{ctx_of, sections_of};
 use crate::types::{GoblinHeader, GoblinRange, GoblinReloc, GoblinSymbol};
-use goblin::container::Ctx;
 use goblin::elf::header::{ELFCLASS64, ELFDATA2MSB, EM_MIPS};
 use goblin::elf::reloc::{Reloc, RelocSection};
 use goblin::elf::section_header::SectionHeader;
 use goblin::elf::sym::{Sym, Symtab};
-use goblin::error::{Error, Fault, Result};
-use goblin::strtab::Strtab;
-use goblin_base::table::Table;
+use goblin::error::Result;
+use goblin::options::ParseMode;
+use goblin::strtab;
+use goblin::strtab::bytes_in_range;
 
 /// What C is told of a symbol.
 pub fn told_symbol(s: &Sym) -> GoblinSymbol
@@ -142,22 +141,12 @@ pub fn strings_of<'a>(bytes: &'a [u8], range: &GoblinRange) -> Result<&'a [u8]>
         (strings_right bytes.now range.now) }
     ensures within { IfOk result (λ strings. range.now.offset + length strings.now ≤ length bytes.now) }
 {
-    let offset = range.offset as usize;
-    let size = range.size as usize;
-    let len = bytes.len();
-    if offset > len {
-        return Err(Error::Malformed(Fault::StrtabOffset { offset, len }));
-    }
-    let (end, overflow) = offset.overflowing_add(size);
-    if overflow || end > len {
-        return Err(Error::Malformed(Fault::StrtabRange {
-            size,
-            offset,
-            len,
-            overflow,
-        }));
-    }
-    Ok(&bytes[offset..end])
+    bytes_in_range(
+        bytes,
+        range.offset as usize,
+        range.size as usize,
+        ParseMode::Strict,
+    )
 }
 
 /// Where the string at an offset of a range of strings lies in the file.
@@ -165,32 +154,13 @@ pub fn string_at(bytes: &[u8], range: &GoblinRange, offset: u64) -> Result<Optio
     ensures { Answers (λ found. found) result (string_right bytes.now range.now offset) }
 {
     let strings = strings_of(bytes, range)?;
-    match Strtab::new(strings, 0).get(offset as usize) {
+    match strtab::string_at(strings, 0, offset as usize) {
         Some(text) => Ok(Some(GoblinRange {
             offset: range.offset + offset,
             size: text?.len() as u64,
         })),
         None => Ok(None),
     }
-}
-
-// The index of the first section with a name.
-fn find_section(
-    sections: &Table<'_, SectionHeader, Ctx>,
-    names: &Strtab<'_>,
-    name: &[u8],
-) -> Option<usize>
-    ensures { result ≡ position (λ section. has_name names.now section.sh_name name.now) sections.now }
-{
-    let wanted = names.wanted(name);
-    for i in 0..sections.len() {
-        if let Some(section) = sections.get(i) {
-            if wanted.is_at(section.sh_name) {
-                return Some(i);
-            }
-        }
-    }
-    None
 }
 
 /// The index of the first section with a name.
@@ -204,13 +174,9 @@ pub fn section_by_name(
         (section_by_name_right bytes.now header.now names.now name.now) }
 {
     let sections = sections_of(bytes, header)?;
-    let names = Strtab::new(strings_of(bytes, names)?, 0);
-    let found = find_section(&sections, &names, name);
-    std::mem::forget(names);
-    match found {
-        Some(index) => Ok(Some(index as u64)),
-        None => Ok(None),
-    }
+    let strings = strings_of(bytes, names)?;
+    let found = SectionHeader::find_in(&sections, strings, 0, name);
+    Ok(found.map(|index| index as u64))
 }
 
 /// The index of the first symbol with a name.
@@ -225,13 +191,9 @@ pub fn symbol_by_name(
         (symbol_by_name_right bytes.now header.now range.now names.now name.now) }
 {
     let symbols = symbols_of(bytes, header, range)?;
-    let names = Strtab::new(strings_of(bytes, names)?, 0);
-    let found = symbols.find(&names, name);
-    std::mem::forget(names);
-    match found {
-        Some(index) => Ok(Some(index as u64)),
-        None => Ok(None),
-    }
+    let strings = strings_of(bytes, names)?;
+    let found = symbols.find_in(strings, 0, name);
+    Ok(found.map(|index| index as u64))
 }
 
 /// The index of the symbol that an address lies in.
