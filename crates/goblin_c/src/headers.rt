@@ -1,5 +1,5 @@
 //! The header, the section headers and the program headers, as the library gives them.
-ghost use Rattle.std.specs.Prelude.{◌≡◌, ◌+◌, ◌==◌, drop, position};
+ghost use Rattle.std.specs.Prelude.{◌≡◌, ◌+◌, ◌<◌, ◌==◌, ◌^◌, IfSome, drop, position};
 ghost use Rattle.std.specs.Option.{option_map};
 ghost use Rattle.goblin.specs.Refusal.{Answers};
 ghost use Rattle.goblin_c.specs.Answers.{ctx_of, header_right, header_told, section_by_type_right, section_count_right, section_right, section_names_right, section_told, sections_right, segment_count_right, segment_right, segment_told, segments_right, table_at, table_right};
@@ -134,17 +134,16 @@ pub fn section_at(bytes: &[u8], header: &GoblinHeader, index: u64) -> Result<Opt
     }
 }
 
-// The index of the first section of a type, from an index on.
-fn find_type(sections: &Table<'_, SectionHeader, Ctx>, sh_type: u32, first: usize) -> Option<u64>
-    ensures { result
-        ≡ option_map (λ place. first + place)
-        (position (λ section. section.sh_type == sh_type) (drop first sections.now)) }
+// Where the first section of a type stands among those from an index on.
+fn find_type(sections: &Table<'_, SectionHeader, Ctx>, sh_type: u32, first: usize) -> Option<usize>
+    ensures place { result
+        ≡ position (λ section. section.sh_type == sh_type) (drop first sections.now) }
+    ensures bound { IfSome result (λ place. first + place < 2 ^ 64) }
 {
     sections
         .iter()
         .skip(first)
         .position(|section| section.sh_type == sh_type)
-        .map(|place| (first + place) as u64)
 }
 
 /// The index of the first section of a type, from an index on.
@@ -158,7 +157,11 @@ pub fn section_by_type(
         (section_by_type_right bytes.now header.now sh_type first) }
 {
     let sections = sections_of(bytes, header)?;
-    Ok(find_type(&sections, sh_type, first as usize))
+    let first = first as usize;
+    match find_type(&sections, sh_type, first) {
+        Some(place) => Ok(Some((first + place) as u64)),
+        None => Ok(None),
+    }
 }
 
 // What C is told of the section that is a table by its index.

@@ -1,13 +1,10 @@
-use Rattle.std.proofs.Common.{◌≡◌, ◌==◌, ◌+◌, ℕ, Option, rules, subst, ◌∙◌}
-use Rattle.std.specs.Option.{option_map}
-use Rattle.std.proofs.lemmas.Bool.Decides.{nat_tests}
+use Rattle.std.proofs.Common.{◌==◌, rules, ◌∙◌}
 use Rattle.std.proofs.lemmas.Iterator.Adapters.{YieldsList-from_skip}
 use Rattle.std.proofs.lemmas.Iterator.Consumers.{YieldsList-from_first}
 use Rattle.std.proofs.lemmas.Iterator.Search.{position_from_yields_List}
 use Rattle.goblin_c.proofs.headers.find_type.Goals as goal
 
-pub returns : goal.returns
-returns c =
+pub returns-clause-place : goal.returns-clause-place
+returns-clause-place c =
     let rest = YieldsList-from_skip c.args.first (YieldsList-from_first (λ x. x) (λ left. left) c.args.sections.now (c.skip.ensures.source ∙ c.iter.ensures.exact)) c.skip.ensures.count in
-    let found = position_from_yields_List (λ section. section.sh_type == c.args.sh_type) _ _ c.position.result c.position.ensures.ran rest (λ x b q k. search (rules, nat_tests)) in
-    subst (λ (place : Option ℕ). c.map.result ≡ option_map (λ place. c.args.first + place) place) found (search rules)
+    position_from_yields_List (λ section. section.sh_type == c.args.sh_type) _ _ c.position.result c.position.ensures.ran rest (λ x b q k. search rules)
