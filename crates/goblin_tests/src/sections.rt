@@ -5,6 +5,7 @@ use goblin_base::container::{BE, Ctx, LE};
 use goblin_base::error::Result as Answer;
 use goblin_base::scroll::{IntoCtx, SizeWith, TryFromCtx, TryIntoCtx};
 use goblin_base::strtab::Strtab;
+use goblin_base::table::Table;
 use goblin_headers::section_header::{
     SHF_ALLOC, SHF_EXCLUDE, SHF_EXECINSTR, SHF_FLAGS, SHF_ORDERED, SHF_WRITE, SHT_DYNSYM,
     SHT_GNU_VERSYM, SHT_HIUSER, SHT_NOBITS, SHT_NUM, SHT_PROGBITS, SHT_REL, SHT_RELA,
@@ -354,6 +355,20 @@ fn lists_so_many(
     says(rt, answer, text) && is(rt, read, count)
 }
 
+// The same of a table.
+fn tells_so_many(
+    rt: HostRuntime,
+    answer: Answer<Table<'_, SectionHeader, Ctx>>,
+    count: usize,
+    text: &str,
+) -> bool {
+    let told = match &answer {
+        Ok(headers) => headers.len(),
+        Err(_) => 0,
+    };
+    says(rt, answer, text) && is(rt, told, count)
+}
+
 // At offset 0 a file has no section headers; elsewhere it has those from there on.
 fn lists(rt: HostRuntime, row: &(usize, u8, usize, usize, usize, &str)) -> bool {
     let (len, size, offset, count, read, text) = *row;
@@ -363,7 +378,10 @@ fn lists(rt: HostRuntime, row: &(usize, u8, usize, usize, usize, &str)) -> bool 
     let from = SectionHeader::parse_from(rt.alloc(), bytes, offset, count, BIG64);
     let whole = SectionHeader::parse(rt.alloc(), bytes, offset, count, BIG64);
     let (of_file, told) = if offset == 0 { (0, "Ok") } else { (read, text) };
-    lists_so_many(rt, from, read, text) && lists_so_many(rt, whole, of_file, told)
+    let table = SectionHeader::table(bytes, offset, count, BIG64);
+    lists_so_many(rt, from, read, text)
+        && lists_so_many(rt, whole, of_file, told)
+        && tells_so_many(rt, table, of_file, told)
 }
 
 #[test]
@@ -389,7 +407,12 @@ fn first() -> SectionHeader {
 
 fn read(rt: HostRuntime, count: usize, headers: &[SectionHeader]) -> bool {
     let answer = SectionHeader::parse(rt.alloc(), &file(), 16, count, BIG64);
-    gives(rt, answer, headers)
+    let bytes = file();
+    let listed = match SectionHeader::table(&bytes, 16, count, BIG64) {
+        Ok(table) => table.to_vec(rt.alloc()),
+        Err(e) => Err(e),
+    };
+    gives(rt, answer, headers) && gives(rt, listed, headers)
 }
 
 // Where the count is 0, the first header's size is the count.

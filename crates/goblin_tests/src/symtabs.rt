@@ -222,9 +222,19 @@ fn found(name: &[u8]) -> Option<usize> {
     }
 }
 
+// The same over the bytes of the names.
+fn found_in(name: &[u8]) -> Option<usize> {
+    match Symtab::parse(PLACES, 0, 4, Ctx::new(Container::Little, LE)) {
+        Ok(table) => table.find_in(b"\0f\0\xff\0f\0", 0, name),
+        Err(_) => None,
+    }
+}
+
 #[test]
 fn finds_the_first_of_a_name(rt: HostRuntime) {
     assert!(rt; is(rt, found(b"f"), Some(1)));
     assert!(rt; is(rt, found(b"\xff"), None));
     assert!(rt; is(rt, found(b""), None));
+    assert!(rt; is(rt, found_in(b"f"), Some(1)));
+    assert!(rt; is(rt, found_in(b"\xff"), None));
 }
