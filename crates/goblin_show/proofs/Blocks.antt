@@ -1,12 +1,14 @@
 -- Blocks of a file that are text, and the string tables that lie in them.
-use Rattle.std.proofs.Common.{◌≡◌, ◌∙◌, ℕ, zero, suc, eqb, [], ◌∷◌, refl, ◌+◌, ◌-◌, ◌<◌, ◌≤◌, ◌≢◌, ◌&&◌, set, replicate, length-set, get_or-set_other, get_or-set_same, ltb, leb, Bool, true, false, cond, List, length, get_or, take, drop, sym, ap, subst, ⊎_elim, arith, Ok, slice_range}
+use Rattle.std.proofs.Common.{◌≡◌, ◌∙◌, ℕ, zero, suc, eqb, [], ◌∷◌, refl, ◌+◌, ◌-◌, ◌<◌, ◌≤◌, ◌≢◌, ◌&&◌, set, replicate, length-set, get_or-set_other, get_or-set_same, ltb, leb, Bool, true, false, cond, List, length, get_or, take, drop, sym, ap, subst, ⊎_elim, arith, Ok, slice_range, min}
 use Rattle.std.proofs.lemmas.Bool.{cases_eq, cases_lt, lt-ltb, le-ltb}
 use Rattle.std.proofs.lemmas.Bool.Decides.{nat_tests}
-use Rattle.std.proofs.lemmas.List.{get_or-replicate, length-replicate, length-drop, take_all}
+use Rattle.std.proofs.lemmas.List.{get_or-replicate, length-replicate, length-drop, length-take-le, take_all}
 use Rattle.std.specs.Str.{IsUtf8}
 use Rattle.goblin.specs.declared.options.ParseMode.{ParseMode}
 use Rattle.goblin.specs.declared.options.ParseMode.TheVariants.{Strict, Permissive}
-use Rattle.goblin.specs.Strtab.{range_in}
+use Rattle.goblin.specs.Strtab.{or_cut, range_in}
+use Rattle.goblin_base.specs.declared.error.Fault.TheVariants.{StrtabOffset, StrtabRange}
+use Prim.Native.Nat.{◌^◌}
 use Rattle.goblin_show.specs.Known.{IsRange}
 use Rattle.goblin_show.specs.declared.runs.Kind.{Kind}
 use Rattle.goblin_show.specs.Runs.{AreEnds, IsEnd, IsRun, cut, past, unknown}
@@ -89,27 +91,37 @@ end_later kind bytes first k end l m e = record {
 }
 
 -- ---- ranges
-pub range_whole : (mode : ParseMode) (file : List ℕ) (o n : ℕ) → o ≤ length file → n ≤ length file - o → IsRange mode file o n o (o + n)
-unfolding range_in
-range_whole mode file o n l m =
-    let before : ltb (length file) o ≡ false = le-ltb (length file) o l in
-    let within : o + n ≤ length file = omega arith in
-    let behind : ltb (length file) (o + n) ≡ false = le-ltb (length file) (o + n) within in
-    let size : n ≡ o + n - o = omega arith in
-    record { order = omega arith; within = within; is = rw (before, behind) (ap (λ k. Ok (take k (drop o file))) size) }
+-- bytes that stand somewhere in a file
+placed : (file : List ℕ) (s k : ℕ) (r : List ℕ) → s + k ≤ length file → r ≡ take k (drop s file) → (s + length r ≤ length file) × (r ≡ slice_range file s (s + length r))
+placed file s k r l e =
+    let len : length r ≡ k = ap length e ∙ length-take-le k (drop s file) (omega (arith, length-drop s file)) in
+    let n : k ≡ s + length r - s = omega (arith, len) in
+    (omega (arith, len), e ∙ ap (λ x. take x (drop s file)) n)
 
-pub range_cut : (mode : ParseMode) (file : List ℕ) (o n : ℕ) → mode ≡ Permissive → o ≤ length file → length file - o < n → IsRange mode file o n o (length file)
+-- where the bytes of a table stand
+stands : (mode : ParseMode) (file : List ℕ) (o n : ℕ) (r : List ℕ) → range_in mode file o n ≡ Ok r → (s : ℕ) × (k : ℕ) × (s ≡ min o (length file)) × (s + k ≤ length file) × (r ≡ take k (drop s file))
 unfolding range_in
-range_cut Strict file o n is l m = cc
-range_cut Permissive file o n is l m =
-    let before : ltb (length file) o ≡ false = le-ltb (length file) o l in
-    let behind : ltb (length file) (o + n) ≡ true = lt-ltb (length file) (o + n) (omega arith) in
-    record { order = l; within = omega arith; is = rw (before, behind) (ap Ok (sym (take_all (length file - o) (drop o file) (omega (arith, length-drop o file))))) }
+stands mode file o n r is = by mode (ltb (length file) o) (ltb (length file) (o + n)) refl refl is
+  where
+    by : (mode : ParseMode) (b c : Bool) → ltb (length file) o ≡ b → ltb (length file) (o + n) ≡ c
+        → cond b (or_cut mode (StrtabOffset o (length file)) []) (cond c (or_cut mode (StrtabRange n o (length file) (leb (2 ^ 64) (o + n))) (drop o file)) (Ok (take n (drop o file)))) ≡ Ok r
+        → (s : ℕ) × (k : ℕ) × (s ≡ min o (length file)) × (s + k ≤ length file) × (r ≡ take k (drop s file))
+    by Strict true c e f is = cc
+    by Permissive true c e f is = let l : length file < o = grind (arith, nat_tests) in (length file, 0, omega arith, omega arith, cc)
+    by Strict false true e f is = cc
+    by Permissive false true e f is =
+        let l : o ≤ length file = grind (arith, nat_tests) in
+        let r_is : drop o file ≡ r = cc in
+        (o, length file - o, omega arith, omega arith, sym r_is ∙ sym (take_all (length file - o) (drop o file) (omega (arith, length-drop o file))))
+    by Strict false false e f is = let l : o + n ≤ length file = grind (arith, nat_tests) in let r_is : take n (drop o file) ≡ r = cc in (o, n, omega arith, l, sym r_is)
+    by Permissive false false e f is = let l : o + n ≤ length file = grind (arith, nat_tests) in let r_is : take n (drop o file) ≡ r = cc in (o, n, omega arith, l, sym r_is)
 
-pub range_none : (mode : ParseMode) (file : List ℕ) (o n : ℕ) → mode ≡ Permissive → length file < o → IsRange mode file o n (length file) (length file)
-unfolding range_in
-range_none Strict file o n is l = cc
-range_none Permissive file o n is l =
-    let before : ltb (length file) o ≡ true = lt-ltb (length file) o l in
-    let size : length file - length file ≡ 0 = omega arith in
-    record { order = omega arith; within = omega arith; is = rw before (ap (λ k. Ok (take k (drop (length file) file))) (sym size)) }
+pub range_stands : (mode : ParseMode) (file : List ℕ) (o n : ℕ) (r : List ℕ) → range_in mode file o n ≡ Ok r → IsRange mode file o n (min o (length file)) (min o (length file) + length r)
+range_stands mode file o n r is =
+    let at = stands mode file o n r is in
+    let there = placed file at.0 at.1 r at.3 at.4 in
+    record {
+      order = omega arith;
+      within = omega (arith, there.0, at.2);
+      is = is ∙ ap Ok (subst (λ s. r ≡ slice_range file s (s + length r)) at.2 there.1);
+    }

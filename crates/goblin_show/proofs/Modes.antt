@@ -12,7 +12,9 @@ use Rattle.goblin.specs.StrtabLaws.{StrictIsPermissive}
 use Rattle.goblin.specs.Sym.{sym_size}
 use Rattle.goblin.specs.Symtab.{symtab_by}
 use Rattle.goblin.specs.SymtabLaws.{permissive_keeps_strict}
-use Rattle.goblin_show.specs.Shown.{ctx_of, each_shown, file_shown, has_symbols, names_index, sections_of, shown, sizes_checked, strings_at, strings_of, symbols_shown, PermissiveShowsStrict}
+use Rattle.goblin.specs.SectionHeaders.{names_index}
+use Rattle.std.specs.Prelude.{slice_get}
+use Rattle.goblin_show.specs.Shown.{ctx_of, each_shown, file_shown, has_symbols, sections_of, shown, sizes_checked, strings_at, strings_of, symbols_shown, PermissiveShowsStrict}
 
 -- the second answer is the first one, where that is a value
 abbrev pub Keeps : {A E : Type 0} → Result A E → Result A E → Type 0
@@ -76,7 +78,7 @@ file : StrictIsPermissive → (bytes : List ℕ) (h : Header) (ctx : Ctx) (found
     → Keeps (file_shown Strict bytes h ctx found) (file_shown Permissive bytes h ctx found)
 unfolding file_shown
 file strtabs bytes h ctx found =
-    steps (strings_at Strict bytes found (names_index h found)) _ _ _ (strings strtabs bytes found (names_index h found)) λ names.
+    steps (strings_at Strict bytes found (names_index h.e_shstrndx (slice_get found 0))) _ _ _ (strings strtabs bytes found (names_index h.e_shstrndx (slice_get found 0))) λ names.
     steps (each_shown (symbols_shown Strict bytes ctx found) 0 found) _ _ _
     (each _ _ (symbols strtabs bytes ctx found) 0 found) λ symbols. same _
 

@@ -12,7 +12,7 @@ use Rattle.goblin.specs.declared.options.ParseMode.TheVariants.{Strict, Permissi
 use Rattle.goblin.specs.Header.{class_of, order_of}
 use Rattle.goblin.specs.ReadHeader.{read_header}
 use Rattle.goblin.specs.Refusal.{Refusal, out_of_memory, refusal_of}
-use Rattle.goblin.specs.SectionHeaders.{section_headers_of, section_headers_of_tested, size_checked_in}
+use Rattle.goblin.specs.SectionHeaders.{names_index, section_headers_of, section_headers_of_tested, size_checked_in}
 use Rattle.goblin.specs.RelocSection.{is_of_mips64el, relocs_of}
 use Rattle.goblin.specs.Steps.{◌>>=◌, refuse_as}
 use Rattle.goblin.specs.Strtab.{StringTable, look_up, strtab_of}
@@ -59,11 +59,6 @@ strings_at mode bytes sections index =
 -- the string at an offset of a table, or an empty one where it has none
 abbrev pub name_at : StringTable → ℕ → List ℕ
 name_at strings offset = unwrap_or (look_up strings offset) []
-
--- the index of the section names' table, which the link of the first section tells where the header's field is 0xffff
-abbrev pub names_index : Header → List SectionHeader → ℕ
-names_index h [] = if h.e_shstrndx == 65535 then 0 else h.e_shstrndx
-names_index h (first ∷ sections) = if h.e_shstrndx == 65535 then first.sh_link else h.e_shstrndx
 
 -- the lines of sections, the first of which has this number
 abbrev pub section_lines : StringTable → ℕ → List SectionHeader → List ℕ
@@ -119,7 +114,7 @@ each_shown show number (s ∷ sections) = do
 -- section, and after these one for each symbol and then one for each relocation
 unfoldable pub file_shown : ParseMode → List ℕ → Header → Ctx → List SectionHeader → Result (List ℕ) Refusal
 file_shown mode bytes h ctx sections = do
-  names ← strings_at mode bytes sections (names_index h sections)
+  names ← strings_at mode bytes sections (names_index h.e_shstrndx (slice_get sections 0))
   symbols ← each_shown (symbols_shown mode bytes ctx sections) 0 sections
   relocs ← each_shown (relocs_shown bytes ctx (is_of_mips64el h)) 0 sections
   Ok (header_line h & section_lines names 0 sections & symbols & relocs)

@@ -5,14 +5,14 @@ ghost use Rattle.goblin.specs.SectionHeaders.{section_headers_of_tested};
 ghost use Rattle.goblin_show.specs.Accepted.{accepted_text, parts_text, relocs_text, symbols_text};
 ghost use Rattle.goblin_show.specs.Known.{strings_in};
 ghost use Rattle.goblin_show.specs.Looks.{IsShort, Spends, Spent, section_count, table_looks, tables_looks};
-ghost use Rattle.goblin_show.specs.Shown.{Adds, ctx_of, each_shown, file_shown, has_relocs, has_symbols, names_index, relocs_shown, sections_of, shown, sizes_checked, strings_at, strings_of, symbols_shown, tested};
+ghost use Rattle.goblin_show.specs.Shown.{Adds, ctx_of, each_shown, file_shown, has_relocs, has_symbols, relocs_shown, sections_of, shown, sizes_checked, strings_at, strings_of, symbols_shown, tested};
 
 use crate::names::{Names, Strings};
 use goblin::container::Ctx;
 use goblin::elf::header::Header;
 use goblin::elf::reloc::{RelocSection, is_mips64el};
 use goblin::elf::section_header::{
-    SHN_XINDEX, SHT_DYNSYM, SHT_NOBITS, SHT_REL, SHT_RELA, SHT_SYMTAB, SectionHeader,
+    SHT_DYNSYM, SHT_NOBITS, SHT_REL, SHT_RELA, SHT_SYMTAB, SectionHeader,
 };
 use goblin::elf::sym::{Sym, Symtab};
 use goblin::error::Result;
@@ -87,19 +87,6 @@ fn sections_of(
     let sections = SectionHeader::parse(alloc, bytes, offset, count, ctx)?;
     check_sizes(sections.as_slice(), bytes.len(), opts)?;
     Ok(sections)
-}
-
-// The index of the section names' table.
-fn names_index(header: &Header, sections: &[SectionHeader]) -> usize
-    ensures { result ≡ names_index header.now sections.now }
-{
-    if u32::from(header.e_shstrndx) != SHN_XINDEX {
-        return usize::from(header.e_shstrndx);
-    }
-    match sections {
-        [first, ..] => first.sh_link as usize,
-        [] => 0,
-    }
 }
 
 // Whether a section holds symbols.
@@ -274,7 +261,8 @@ impl File<'_> {
         ensures looks { let most = table_looks * (length self.now.sections.now + 1) in
             IsShort names.old.bytes → Spent names.old names.new result most }
     {
-        let strings = self.strings_at(alloc, names, names_index(self.header, self.sections))?;
+        let index = SectionHeader::names_index(self.header.e_shstrndx, self.sections.first());
+        let strings = self.strings_at(alloc, names, index)?;
         let mut symbols = Vec::new(alloc);
         self.accept_all_symbols(alloc, names, &mut symbols)?;
         let mut relocs = Vec::new(alloc);

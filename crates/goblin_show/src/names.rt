@@ -3,8 +3,8 @@
 ghost use Rattle.std.specs.Prelude.{◌≡◌, ◌↔◌, ◌+◌, ◌*◌, ◌<◌, ◌≤◌, ◌⊎◌, ◌-◌, ◌/◌, IfSome, IsErr, IsTrue, MatchOption, OnErr, OnOk, length, min, slice_range};
 ghost use Rattle.std.specs.Str.{IsUtf8};
 ghost use Rattle.goblin.specs.Refusal.{Gives};
-ghost use Rattle.goblin.specs.Strtab.{range_in, strtab_of};
-ghost use Rattle.goblin_show.specs.Known.{IsRange, strings_in, text_table};
+ghost use Rattle.goblin.specs.Strtab.{strtab_of};
+ghost use Rattle.goblin_show.specs.Known.{strings_in, text_table};
 ghost use Rattle.goblin_show.specs.Looks.{CountsAtLeast, IsShort, Spends, name_looks, table_looks};
 ghost use Rattle.goblin_show.specs.Runs.{LacksText, up_to_zero};
 ghost use Rattle.goblin_show.specs.Shown.{name_at};
@@ -13,7 +13,7 @@ use crate::runs::{BLOCK, BLOCKS, Kind, end_of, none_known};
 use crate::seen::Seen;
 use goblin::error::Result;
 use goblin::options::ParseOptions;
-use goblin::strtab::Strtab;
+use goblin::strtab::bytes_in_range;
 use std::alloc::Global;
 use std::marker::Model;
 
@@ -85,6 +85,7 @@ impl<'a> Names<'a> {
     ///
     /// It has no entries: a name is read where it stands. Strict options ask that its bytes are text. The errors are
     /// those of `Strtab::parse_with_opts`.
+    #[tactic(auto, using(crate::proofs::Blocks::range_stands, crate::proofs::Tables::range_taken))]
     pub fn table(
         &mut self,
         alloc: Global,
@@ -101,10 +102,9 @@ impl<'a> Names<'a> {
             → OnErr result (Spends self.old self.new (table_looks + 5 * length self.old.bytes)) }
     {
         let bytes = self.bytes();
-        let Some((start, end)) = range_of(bytes, offset, size, opts) else {
-            Strtab::parse_with_opts(alloc, bytes, offset, size, 0, opts)?;
-            return Ok(Strings::Missing);
-        };
+        let range = bytes_in_range(bytes, offset, size, opts.parse_mode)?;
+        let start = offset.min(bytes.len());
+        let end = start + range.len();
         if !opts.parse_mode.is_permissive() && !self.is_range_text(start, end) {
             self.seen.walk(alloc, start, end)?;
         }
@@ -259,24 +259,4 @@ fn last_block(end: usize) -> usize
     ensures { result ≡ min ((end - 3) / 512) 32768 }
 {
     (end.saturating_sub(3) / BLOCK).min(BLOCKS)
-}
-
-// From where to where a table's bytes stand, unless strict options refuse the range: permissive ones cut it
-// to the file.
-fn range_of(bytes: &[u8], offset: usize, size: usize, opts: &ParseOptions) -> Option<(usize, usize)>
-    ensures { let range = range_in opts.now.parse_mode bytes.now offset size in
-        MatchOption result (IsErr range) (λ range.
-        IsRange opts.now.parse_mode bytes.now offset size range.0 range.1) }
-{
-    let len = bytes.len();
-    if offset <= len && size <= len - offset {
-        return Some((offset, offset + size));
-    }
-    if !opts.parse_mode.is_permissive() {
-        return None;
-    }
-    if offset <= len {
-        return Some((offset, len));
-    }
-    Some((len, len))
 }
