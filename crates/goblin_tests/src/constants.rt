@@ -424,7 +424,12 @@ const FLAGS: [u32; 12] = [
 
 // Whether each constant is its number.
 fn are<T: PartialEq + Debug>(rt: HostRuntime, rows: &[(T, T)]) -> bool {
-    rows.iter().all(|row| holds(rt, row, row.0 == row.1))
+    for row in rows {
+        if !holds(rt, row, row.0 == row.1) {
+            return false;
+        }
+    }
+    true
 }
 
 #[test]

@@ -226,11 +226,9 @@ fn refuses(rt: HostRuntime, case: &Refused) -> bool {
 
 #[test]
 fn refuses_headers_in_order(rt: HostRuntime) {
-    assert!(rt;
-        REFUSED
-            .iter()
-            .all(|case| holds(rt, case, refuses(rt, case)))
-    );
+    for case in &REFUSED {
+        assert!(rt; holds(rt, case, refuses(rt, case)));
+    }
 }
 
 #[test]
@@ -300,25 +298,23 @@ static CLASSES: [(u8, &str); 5] = [
 
 #[test]
 fn names_machines(rt: HostRuntime) {
-    assert!(rt;
-        MACHINES
-            .iter()
-            .all(|row| is_named(rt, row, machine_to_str(row.0)))
-    );
+    for row in &MACHINES {
+        assert!(rt; is_named(rt, row, machine_to_str(row.0)));
+    }
 }
 
 #[test]
 fn names_file_types(rt: HostRuntime) {
-    assert!(rt; TYPES.iter().all(|row| is_named(rt, row, et_to_str(row.0))));
+    for row in &TYPES {
+        assert!(rt; is_named(rt, row, et_to_str(row.0)));
+    }
 }
 
 #[test]
 fn names_classes(rt: HostRuntime) {
-    assert!(rt;
-        CLASSES
-            .iter()
-            .all(|row| is_named(rt, row, class_to_str(row.0)))
-    );
+    for row in &CLASSES {
+        assert!(rt; is_named(rt, row, class_to_str(row.0)));
+    }
 }
 
 // The functions that the modules of the classes pass on are these.

@@ -308,7 +308,9 @@ const TYPES: &[(&str, u32, &str)] = &[
 
 #[test]
 fn names_types(rt: HostRuntime) {
-    assert!(rt; TYPES.iter().all(|row| is_named(rt, row)));
+    for row in TYPES {
+        assert!(rt; is_named(rt, row));
+    }
 }
 
 #[test]
@@ -535,5 +537,7 @@ const HOSTILE: &[(&[u8], Ctx)] = &[
 
 #[test]
 fn gives_the_plain_notes_of_hostile_ranges(rt: HostRuntime) {
-    assert!(rt; HOSTILE.iter().all(|notes| agree(rt, notes.0, notes.1)));
+    for notes in HOSTILE {
+        assert!(rt; agree(rt, notes.0, notes.1));
+    }
 }

@@ -195,7 +195,9 @@ fn asks(rt: HostRuntime, row: &(u64, [bool; 3])) -> bool {
 
 #[test]
 fn asks_for_flags(rt: HostRuntime) {
-    assert!(rt; FLAGS.iter().all(|row| asks(rt, row)));
+    for row in &FLAGS {
+        assert!(rt; asks(rt, row));
+    }
 }
 
 fn of_type(sh_type: u32) -> SectionHeader {
@@ -312,7 +314,9 @@ fn checks(rt: HostRuntime, case: &Checked) -> bool {
 
 #[test]
 fn checks_sizes(rt: HostRuntime) {
-    assert!(rt; CHECKED.iter().all(|case| holds(rt, case, checks(rt, case))));
+    for case in &CHECKED {
+        assert!(rt; holds(rt, case, checks(rt, case)));
+    }
 }
 
 #[test]
@@ -386,7 +390,9 @@ fn lists(rt: HostRuntime, row: &(usize, u8, usize, usize, usize, &str)) -> bool 
 
 #[test]
 fn reads_section_headers_at_once(rt: HostRuntime) {
-    assert!(rt; LISTED.iter().all(|row| holds(rt, row, lists(rt, row))));
+    for row in &LISTED {
+        assert!(rt; holds(rt, row, lists(rt, row)));
+    }
 }
 
 // 16 bytes of something else, and two section headers, of which the first has the size 2.
@@ -505,16 +511,16 @@ static FLAG_NAMES: [(u32, &str); 10] = [
 
 #[test]
 fn names_section_types(rt: HostRuntime) {
-    assert!(rt; TYPES.iter().all(|row| is_named(rt, row, sht_to_str(row.0))));
+    for row in &TYPES {
+        assert!(rt; is_named(rt, row, sht_to_str(row.0)));
+    }
 }
 
 #[test]
 fn names_section_flags(rt: HostRuntime) {
-    assert!(rt;
-        FLAG_NAMES
-            .iter()
-            .all(|row| is_named(rt, row, shf_to_str(row.0)))
-    );
+    for row in &FLAG_NAMES {
+        assert!(rt; is_named(rt, row, shf_to_str(row.0)));
+    }
     assert!(rt; is(rt, (SHF_FLAGS.len(), SHF_FLAGS[11]), (12, 0x40000000)));
 }
 

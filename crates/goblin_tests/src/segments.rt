@@ -224,7 +224,9 @@ fn lists(rt: HostRuntime, row: &(usize, usize, usize, usize, &str)) -> bool {
 
 #[test]
 fn reads_program_headers_at_once(rt: HostRuntime) {
-    assert!(rt; LISTED.iter().all(|row| holds(rt, row, lists(rt, row))));
+    for row in &LISTED {
+        assert!(rt; holds(rt, row, lists(rt, row)));
+    }
 }
 
 // 16 bytes of something else, and one program header.
@@ -309,7 +311,9 @@ static TYPES: [(u32, &str); 17] = [
 
 #[test]
 fn names_segment_types(rt: HostRuntime) {
-    assert!(rt; TYPES.iter().all(|row| is_named(rt, row, pt_to_str(row.0))));
+    for row in &TYPES {
+        assert!(rt; is_named(rt, row, pt_to_str(row.0)));
+    }
 }
 
 // The function that the modules of the classes pass on is this one.

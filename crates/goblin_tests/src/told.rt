@@ -66,10 +66,20 @@ pub(crate) fn says<T: Debug + Drop>(rt: HostRuntime, answer: Result<T>, text: &s
     }
 }
 
+// Whether all these bytes are as before, 0xaa.
+pub(crate) fn are_kept(bytes: &[u8]) -> bool {
+    for byte in bytes {
+        if *byte != 0xaa {
+            return false;
+        }
+    }
+    true
+}
+
 // Whether these bytes stand in front, and all behind them is as before, 0xaa.
 pub(crate) fn stands(rt: HostRuntime, room: &[u8], bytes: &[u8]) -> bool {
     let stands = match room.strip_prefix(bytes) {
-        Some(rest) => rest.iter().all(|byte| *byte == 0xaa),
+        Some(rest) => are_kept(rest),
         None => false,
     };
     stands || differs(rt, &room, &bytes)

@@ -21,7 +21,15 @@ fn is_entry(rt: HostRuntime, entries: &Entries<'_>, i: usize, want: (usize, &str
 
 // Whether the entries are these.
 fn are_entries(rt: HostRuntime, entries: &Entries<'_>, want: &[(usize, &str)]) -> bool {
-    is(rt, entries.len(), want.len()) && (0..want.len()).all(|i| is_entry(rt, entries, i, want[i]))
+    if !is(rt, entries.len(), want.len()) {
+        return false;
+    }
+    for i in 0..want.len() {
+        if !is_entry(rt, entries, i, want[i]) {
+            return false;
+        }
+    }
+    true
 }
 
 // Whether so many looks or probes are within the most.
@@ -84,9 +92,21 @@ const DAMAGED: &[(&[u8], u8, u128, &[(usize, &str)])] = &[
 
 #[test]
 fn walks_damaged_pieces(rt: HostRuntime) {
-    assert!(rt; DAMAGED.iter().all(|row| holds(rt, row, walks(rt, row.0, row.1, row.2, row.3))));
+    for row in DAMAGED {
+        assert!(rt; holds(rt, row, walks(rt, row.0, row.1, row.2, row.3)));
+    }
     assert!(rt; refuses(rt, b"a\xFFb\0", 0, 4));
     assert!(rt; refuses(rt, b"\xE2\x82\xAC", 0x82, 3));
+}
+
+// Whether there is an entry with no text at each of so many places.
+fn are_empty(rt: HostRuntime, entries: &Entries<'_>, count: usize) -> bool {
+    for i in 0..count {
+        if !is_entry(rt, entries, i, (i, "")) {
+            return false;
+        }
+    }
+    true
 }
 
 // Whether the permissive walk gives an entry with no text at each byte, within five looks a byte.
@@ -96,7 +116,7 @@ fn is_empty_at_each_byte(rt: HostRuntime, bytes: &[u8]) -> bool {
         Ok(entries) => {
             is(rt, entries.len(), bytes.len())
                 && is_within(rt, view.count(), 5 * bytes.len() as u128)
-                && (0..bytes.len()).all(|i| is_entry(rt, &entries, i, (i, "")))
+                && are_empty(rt, &entries, bytes.len())
         }
         Err(e) => differs(rt, &e, &bytes.len()),
     }
@@ -137,13 +157,21 @@ fn finds_one_within(rt: HostRuntime, entries: &Entries<'_>, offset: usize, most:
     is_within(rt, u128::from(probes.count()), u128::from(most))
 }
 
+// The same of each offset up to a last one.
+fn finds_each_within(rt: HostRuntime, entries: &Entries<'_>, last: usize, most: u64) -> bool {
+    for offset in 0..=last {
+        if !finds_one_within(rt, entries, offset, most) {
+            return false;
+        }
+    }
+    true
+}
+
 // Whether a search for each offset up to the length takes at most so many probes.
 fn finds_within(rt: HostRuntime, bytes: &[u8], delim: u8, most: u64) -> bool {
     let mut view = Looked::new(bytes);
     match walk(rt.alloc(), &mut view, delim, ParseMode::Permissive) {
-        Ok(entries) => {
-            (0..=bytes.len()).all(|offset| finds_one_within(rt, &entries, offset, most))
-        }
+        Ok(entries) => finds_each_within(rt, &entries, bytes.len(), most),
         Err(e) => differs(rt, &e, &most),
     }
 }
@@ -175,13 +203,23 @@ fn finds_within_the_digits(rt: HostRuntime) {
     assert!(rt; finds_none(rt));
 }
 
+// Whether each of so many offsets looks up the empty text.
+fn are_empty_texts(rt: HostRuntime, table: &Strtab<'_>, count: usize) -> bool {
+    for offset in 0..count {
+        if !is(rt, table.get_at(offset), Some("")) {
+            return false;
+        }
+    }
+    true
+}
+
 // Whether each offset of so many zero bytes looks up the empty text.
 fn looks_up_each(rt: HostRuntime, count: usize) -> bool {
     let Ok(bytes) = vec![in rt.alloc(); 0u8; count] else {
         return differs(rt, &"no memory", &count);
     };
     match Strtab::new_preparsed(rt.alloc(), &bytes, 0) {
-        Ok(table) => (0..count).all(|offset| is(rt, table.get_at(offset), Some(""))),
+        Ok(table) => are_empty_texts(rt, &table, count),
         Err(e) => differs(rt, &e, &count),
     }
 }
@@ -294,15 +332,31 @@ fn walks_plainly(
     same && is_within(rt, view.count(), most) && walks(rt, bytes, delim, most, want)
 }
 
-// Whether looking up each offset up to the length answers what the plain look-up does.
-fn looks_up_plainly(rt: HostRuntime, bytes: &[u8], delim: u8, pieces: &[Option<&str>]) -> bool {
-    let options = ParseOptions::permissive();
-    match Strtab::parse_with_opts(rt.alloc(), bytes, 0, bytes.len(), delim, &options) {
-        Ok(table) => (0..=bytes.len()).all(|offset| is(
+// Whether looking up each offset up to the length of the bytes answers what the plain look-up does.
+fn table_looks_up_plainly(
+    rt: HostRuntime,
+    table: &Strtab<'_>,
+    bytes: &[u8],
+    delim: u8,
+    pieces: &[Option<&str>],
+) -> bool {
+    for offset in 0..=bytes.len() {
+        if !is(
             rt,
             table.get_at(offset),
             plain_look_up(pieces, bytes, delim, offset),
-        )),
+        ) {
+            return false;
+        }
+    }
+    true
+}
+
+// The same of the table that these bytes are.
+fn looks_up_plainly(rt: HostRuntime, bytes: &[u8], delim: u8, pieces: &[Option<&str>]) -> bool {
+    let options = ParseOptions::permissive();
+    match Strtab::parse_with_opts(rt.alloc(), bytes, 0, bytes.len(), delim, &options) {
+        Ok(table) => table_looks_up_plainly(rt, &table, bytes, delim, pieces),
         Err(e) => differs(rt, &e, &pieces),
     }
 }
@@ -312,9 +366,7 @@ fn looks_up_plainly(rt: HostRuntime, bytes: &[u8], delim: u8, pieces: &[Option<&
 fn finds_plainly(rt: HostRuntime, bytes: &[u8], delim: u8, want: &[(usize, &str)]) -> bool {
     let mut view = Looked::new(bytes);
     match walk(rt.alloc(), &mut view, delim, ParseMode::Permissive) {
-        Ok(entries) => {
-            (0..=bytes.len()).all(|offset| finds_one_plainly(rt, &entries, offset, want))
-        }
+        Ok(entries) => finds_each_plainly(rt, &entries, bytes.len(), want),
         Err(e) => differs(rt, &e, &want),
     }
 }
@@ -333,6 +385,21 @@ fn finds_one_plainly(
             u128::from(probes.count()),
             u128::from(digits(want.len())),
         )
+}
+
+// The same for each offset up to a last one.
+fn finds_each_plainly(
+    rt: HostRuntime,
+    entries: &Entries<'_>,
+    last: usize,
+    want: &[(usize, &str)],
+) -> bool {
+    for offset in 0..=last {
+        if !finds_one_plainly(rt, entries, offset, want) {
+            return false;
+        }
+    }
+    true
 }
 
 // Whether all of this holds of the bytes.
@@ -375,12 +442,22 @@ fn spelled(number: usize) -> [u8; 4] {
 fn agrees_on(rt: HostRuntime, number: usize, len: usize) -> bool {
     let bytes = spelled(number);
     let bytes = bytes.get(..len).unwrap_or(&[]);
-    DELIMITERS.iter().all(|delim| holds(rt, &(bytes, *delim), agrees(rt, bytes, *delim)))
+    for delim in &DELIMITERS {
+        if !holds(rt, &(bytes, *delim), agrees(rt, bytes, *delim)) {
+            return false;
+        }
+    }
+    true
 }
 
 // Whether no string of this length, of which there are so many, shows a difference.
 fn agrees_on_all(rt: HostRuntime, len: usize, count: usize) -> bool {
-    (0..count).all(|number| agrees_on(rt, number, len))
+    for number in 0..count {
+        if !agrees_on(rt, number, len) {
+            return false;
+        }
+    }
+    true
 }
 
 #[test]

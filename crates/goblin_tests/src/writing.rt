@@ -1,6 +1,6 @@
 //! Cases with their answers: writing headers.
 use crate::header::{BIG64, LITTLE32, NEW32, NEW64};
-use crate::told::{answers, differs, holds, is, says, stands};
+use crate::told::{answers, are_kept, differs, holds, is, says, stands};
 use goblin_base::container::{BE, Container, Ctx, Endian, LE};
 use goblin_base::scroll::{IntoCtx, TryFromCtx, TryIntoCtx};
 use goblin_headers::header::Header;
@@ -101,7 +101,7 @@ fn refuses(rt: HostRuntime, row: &(u8, u8, usize, &str, &str)) -> bool {
     let mut room = [0xaa; 52];
     let room = &mut room[..len.min(52)];
     let written = header_with(class, order).try_into_ctx(room, BE);
-    let kept = room.iter().all(|byte| *byte == 0xaa);
+    let kept = are_kept(room);
     says(rt, written, text) && is(rt, kept, text != "Ok")
 }
 
@@ -110,18 +110,22 @@ fn refuses32(rt: HostRuntime, row: &(u8, u8, usize, &str, &str)) -> bool {
     let mut room = [0xaa; 52];
     let room = &mut room[..len.min(52)];
     let written = header32::Header::from(header_with(class, order)).try_into_ctx(room, BE);
-    let kept = room.iter().all(|byte| *byte == 0xaa);
+    let kept = are_kept(room);
     says(rt, written, text) && is(rt, kept, text != "Ok")
 }
 
 #[test]
 fn refuses_to_write_in_order(rt: HostRuntime) {
-    assert!(rt; REFUSED.iter().all(|row| holds(rt, row, refuses(rt, row))));
+    for row in &REFUSED {
+        assert!(rt; holds(rt, row, refuses(rt, row)));
+    }
 }
 
 #[test]
 fn refuses_to_write_a_raw_header_in_order(rt: HostRuntime) {
-    assert!(rt; REFUSED.iter().all(|row| holds(rt, row, refuses32(rt, row))));
+    for row in &REFUSED {
+        assert!(rt; holds(rt, row, refuses32(rt, row)));
+    }
 }
 
 fn reads_back(rt: HostRuntime, ctx: Ctx) -> bool {
