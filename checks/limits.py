@@ -16,17 +16,17 @@ MEMORY = 40 * 1024 * 1024
 READ = 100_000_000
 # file: strict, permissive
 LIMITS = {
-    'ascii': (3, 1),
+    'ascii': (1, 1),
     'damaged': (1, 1),
     'endless': (7, 7),
-    'failing': (1, 12),
-    'failing_wide': (2, 20),
+    'failing': (1, 6),
+    'failing_wide': (2, 11),
     'inside': (2, 2),
     'one': (1, 1),
     'strings': (1, 1),
     'symbols': (2, 2),
-    'turns': (7, 1),
-    'wide': (11, 1),
+    'turns': (1, 1),
+    'wide': (3, 1),
 }
 
 
