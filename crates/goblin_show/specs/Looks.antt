@@ -39,11 +39,11 @@ Spent old new (Err e) most = Spends old new (most + 5 * length old.bytes)
 abbrev pub block_looks : ℕ
 block_looks = 1036
 
--- how many looks a string table takes
+-- how many looks a string table takes: at its two ends, which are shorter than a block and a character
 abbrev pub table_looks : ℕ
 table_looks = 1040
 
--- how many looks a name takes beside its own length
+-- how many looks a name takes beside its own length: at no more than five blocks
 abbrev pub name_looks : ℕ
 name_looks = 2600
 

@@ -111,7 +111,8 @@ impl<'a> Names<'a> {
         Ok(Strings::Within { start, end })
     }
 
-    // Whether a range is text: its two ends are read, and what is between them where it isn't known.
+    // Whether a range is text: its two ends are read, with six looks at edges of blocks, and what is between them where
+    // it isn't known.
     fn is_range_text(&mut self, start: usize, end: usize) -> bool
         requires ordered { start ≤ end }
         requires within { end ≤ length self.old.bytes }
@@ -176,7 +177,8 @@ impl<'a> Names<'a> {
         }
     }
 
-    // Where the string from a place on ends, up to another, unless it is long and no text.
+    // Where the string from a place on ends, up to another, unless it is long and no text. It is a look at each of 512
+    // bytes, and then at 515 more of a table that ends there, or those of a long name.
     fn end_of_name(&mut self, place: usize, end: usize) -> Option<usize>
         requires ordered { place ≤ end }
         requires within { end ≤ length self.old.bytes }
@@ -201,7 +203,8 @@ impl<'a> Names<'a> {
         self.end_of_long_name(place, end)
     }
 
-    // Where the string from a place on ends, up to another that lies some blocks behind it, unless it is no text.
+    // Where the string from a place on ends, up to another that lies some blocks behind it, unless it is no text. It is
+    // nine looks at edges of blocks, one at each byte up to the first edge, and two in the block that the string ends in.
     fn end_of_long_name(&mut self, place: usize, end: usize) -> Option<usize>
         requires long { place / 512 + 1 < min ((end - 3) / 512) 32768 }
         requires within { end ≤ length self.old.bytes }
