@@ -45,7 +45,7 @@ cp -r --parents crates.txt crates/*/src crates/*/specs crates/*/proofs "$folder"
     sed '1,/^mod growths;$/d' checks/refused_show.main
 } > "$folder/crates/goblin_show/src/main.rt"
 cp crates/goblin_refused/src/growths.rt "$folder/crates/goblin_show/src"
-rm -r "$folder"/crates/goblin_show/src/tests*.rt "$folder"/crates/goblin_show/proofs/tests*
+rm -rf "$folder"/crates/goblin_show/src/tests*.rt "$folder"/crates/goblin_show/proofs/tests*
 
 # A run over a file with zeros behind it, with so many growths at most, which writes this where all memory is there.
 add_run() {
