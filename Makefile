@@ -59,9 +59,10 @@ bench-faces:
 	@sh checks/bench_faces.sh
 
 # Installs the library with its header, pkg-config file and Rust crate: make install PREFIX=/usr/local [DESTDIR=/tmp/root]
-# [CPU=x86-64-v2]; or puts the same into an archive, whose name has the version and the target.
+# [CPU=x86-64-v2] [TARGET=aarch64-unknown-linux-gnu]; or puts the same into an archive, whose name has the version and the
+# target: make dist [TARGET=aarch64-unknown-linux-gnu]
 PREFIX ?= /usr/local
-export CPU
+export CPU TARGET
 install:
 	sh faces/install.sh "$(DESTDIR)$(PREFIX)"
 

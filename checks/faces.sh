@@ -1,15 +1,16 @@
 #!/bin/sh
 # Whether C and Rust can call the library as faces/ says: goblin.h against the library; the C programs and the Rust crate
-# over files that they make themselves, whole and damaged; and over files of this machine, compared with what binutils' nm
-# and readelf list of them. What the machine has no compiler or no binutils for is said in a line, and passes. Run from the
-# repository's root, best behind `rt ci`, whose proofs it takes. Files named by words are taken in place of others.
+# over files that they make themselves, whole and damaged, those of C for aarch64 too, by an emulator; and over files of this
+# machine, compared with what binutils' nm and readelf list of them. What the machine has no compiler, emulator or binutils for
+# is said in a line, and passes. Run from the repository's root, best behind `rt ci`, whose proofs it takes. Files named by words
+# are taken in place of others.
 set -eu
 export LC_ALL=C
 folder=$(mktemp -d)
 trap 'rm -rf "$folder"' EXIT
 trap 'exit 1' HUP INT TERM
 root=$PWD
-library=$root/crates/goblin_c/out
+library=$folder
 strict='-Wall -Wextra -Werror -pedantic -O2'
 
 has() { command -v "$1" > /dev/null 2>&1; }
@@ -23,21 +24,22 @@ quietly() {
     fi
 }
 
-# Makes the library: over the libraries that `rt ci` has just proved, of which it keeps what others can cite, or else by
-# `rt lib`, which first proves these where that was not done.
+# Makes the library for a target in a folder: over the libraries that `rt ci` has just proved, of which it keeps what others
+# can cite, or else as it is installed, which first proves these where that was not done. What the first proves serves the next.
 make_library() {
     rlib() { echo "$root/crates/$1/out/rlib/$1.rlib"; }
     if [ -d "$(rlib goblin)" ] && [ ! -e crates/goblin_base/out/rlib/stamp ] \
         && [ -z "$(find crates/*/src crates/*/specs crates/*/proofs -newer "$(rlib goblin_base)")" ]; then
         kit=$(dirname "$(dirname "$(readlink -f "$(command -v rt)")")")
-        library=$folder
         (cd crates/goblin_c && "$kit/bin/rattle" build --crate-name goblin_c --crate-type staticlib --jobs 2 src/lib.rt \
             --extern std="$kit/rlibs/std.rlib" -L dependency="$kit/rlibs" --extern goblin="$(rlib goblin)" \
             --extern goblin_base="$(rlib goblin_base)" --extern goblin_headers="$(rlib goblin_headers)" \
             -L dependency="$(dirname "$(rlib goblin_records)")" --antt-project "$kit/rattle/logic/antt-project.json" \
-            --logic-built "$kit/logic_built" --toolchain "$kit/toolchain" -o "$library/libgoblin_c.a")
+            --logic-built "$kit/logic_built" --incremental "$folder/proved" --toolchain "$kit/toolchain" --target "$1" \
+            -o "$2/libgoblin_c.a")
     else
-        (cd crates/goblin_c && rt lib)
+        LIBRARY='' CPU='' TARGET=$1 sh faces/install.sh "$2/installed"
+        mv "$2/installed/lib/libgoblin_c.a" "$2/"
     fi
 }
 
@@ -138,7 +140,8 @@ check_c() {
     [ "$("$folder/size" "$folder/short" 2>&1 > "$folder/output")" = "size: $folder/short: Malformed entity: Too small" ] \
         || { echo "size.c: a short file"; exit 1; }
     echo "nm.c lists $(echo "$symbols_made" | wc -l) symbols in each class and order"
-    "$folder/damaged" 1000 "$folder"/files/*
+    "$folder/damaged" 1000 "$folder"/files/* > "$folder/told" || { echo "failed: damaged.c"; cat "$folder/told"; exit 1; }
+    cat "$folder/told"
 }
 
 # ---- Rust ----
@@ -164,6 +167,33 @@ check_rust() {
     else
         echo "no clippy here: the Rust crate is not linted"
     fi
+}
+
+# ---- another processor ----
+
+# The library for aarch64, called from C that an emulator runs: what it lists of the files made and of two programs of its own,
+# and all that it tells of damaged files, must be what was told here. Then its archive.
+check_aarch64() {
+    target=aarch64-unknown-linux-gnu
+    compiler='aarch64-linux-gnu-gcc -static'
+    other=$folder/aarch64
+    mkdir "$other"
+    quietly make_library $target "$other"
+    check_axioms
+    for program in layout nm damaged; do
+        quietly $compiler -std=c99 $strict -I"$folder" -o "$other/$program" "faces/c/$program.c" -L"$other" -lgoblin_c
+    done
+    quietly qemu-aarch64 "$other/layout"
+    for file in "$folder"/files/* "$other/nm" "$other/damaged"; do
+        "$folder/nm" "$file" > "$folder/wanted"
+        qemu-aarch64 "$other/nm" "$file" > "$folder/listed"
+        quietly diff "$folder/wanted" "$folder/listed"
+    done
+    qemu-aarch64 "$other/damaged" 1000 "$folder"/files/* > "$folder/listed" || true
+    quietly diff "$folder/told" "$folder/listed"
+    echo "for aarch64, under an emulator, the library tells the same"
+    quietly env TARGET=$target LIBRARY="$other/libgoblin_c.a" sh faces/install.sh --archive "$other/goblin_c.tar.gz"
+    sh checks/installed.sh "$other/goblin_c.tar.gz" "$compiler" qemu-aarch64
 }
 
 # ---- files of this machine ----
@@ -241,7 +271,7 @@ compare_relocations() {
     (cd "$folder" && awk -v least="$1" -f "$root/checks/relocations.awk" ours readelf)
 }
 
-quietly make_library
+quietly make_library x86_64-unknown-linux-gnu "$library"
 check_axioms
 if ! has cc; then
     echo "no cc here: no C is compiled, and no Rust, which cc links"
@@ -254,10 +284,13 @@ if cargo --version > "$folder/output" 2>&1 && rustc --version > "$folder/output"
 else
     echo "no cargo and rustc here: no Rust is compiled"
 fi
-LIBRARY=$library/libgoblin_c.a
-export LIBRARY
-quietly sh faces/install.sh --archive "$folder/goblin_c.tar.gz"
+quietly env TARGET= LIBRARY="$library/libgoblin_c.a" sh faces/install.sh --archive "$folder/goblin_c.tar.gz"
 sh checks/installed.sh "$folder/goblin_c.tar.gz"
+if has aarch64-linux-gnu-gcc && has qemu-aarch64; then
+    check_aarch64
+else
+    echo "no aarch64-linux-gnu-gcc and qemu-aarch64 here: the library for aarch64 is not tried"
+fi
 if ! has nm || ! has readelf; then
     echo "no nm and readelf here: no lists are compared"
     exit 0

@@ -1,14 +1,19 @@
 #!/bin/sh
 # Whether an archive of faces/install.sh can be used without the toolchain: unpacked elsewhere, in an environment in which
 # nothing stands but the compilers, C finds it by pkg-config, CMake by its module for that, and Rust by a path. What the
-# machine hasn't is left out. Run from the repository's root: installed.sh ARCHIVE
+# machine hasn't is left out. Run from the repository's root: installed.sh ARCHIVE [COMPILER RUNNER], the last two for an archive
+# of another target, whose programs the runner runs, linked with all that they call.
 set -eu
+compiler=${2:-cc}
+runner=${3:-}
+linker=${compiler%% *}
 folder=$(mktemp -d)
 trap 'rm -rf "$folder"' EXIT
 trap 'exit 1' HUP INT TERM
 tar -C "$folder" -xzf "$1"
 there=$(ls -d "$folder"/goblin_c-*)
 version=$(awk -F '"' '/^version = / { print $2; exit }' faces/rust/Cargo.toml)
+target=${there##*"/goblin_c-$version-"}
 cargo_folder=$(dirname "$(command -v cargo || echo /usr/bin/cargo)")
 
 bare() {
@@ -21,16 +26,16 @@ quietly() { "$@" > "$folder/output" 2>&1 || { echo "failed: $*"; cat "$folder/ou
 tried=
 if has rt; then echo "the toolchain stands on the bare PATH too"; fi
 cp faces/c/nm.c "$folder/"
-if has cc && has pkg-config; then
+if has "$linker" && has pkg-config; then
     [ "$(bare pkg-config --modversion goblin_c)" = "$version" ] || { echo "goblin_c.pc has another version"; exit 1; }
     # (each word is an option)
-    quietly bare cc -std=c99 -Wall -Wextra -Werror -pedantic -o "$folder/nm" "$folder/nm.c" \
+    quietly bare $compiler -std=c99 -Wall -Wextra -Werror -pedantic -o "$folder/nm" "$folder/nm.c" \
         $(bare pkg-config --cflags --libs goblin_c)
-    quietly bare "$folder/nm" "$folder/nm"
+    quietly bare $runner "$folder/nm" "$folder/nm"
     grep -q ' T [0-9]* main$' "$folder/output" || { echo "nm.c finds no main in itself"; exit 1; }
     tried="$tried, C by pkg-config"
 fi
-if has cc && has pkg-config && has cmake; then
+if has "$linker" && has pkg-config && has cmake; then
     mkdir "$folder/cmake"
     cat > "$folder/cmake/CMakeLists.txt" << END
 cmake_minimum_required(VERSION 3.10)
@@ -40,25 +45,32 @@ pkg_check_modules(GOBLIN REQUIRED IMPORTED_TARGET goblin_c=$version)
 add_executable(listing ../nm.c)
 target_link_libraries(listing PkgConfig::GOBLIN)
 END
-    quietly bare cmake -S "$folder/cmake" -B "$folder/built"
+    quietly bare CC="$compiler" cmake -S "$folder/cmake" -B "$folder/built"
     quietly bare cmake --build "$folder/built"
-    quietly bare "$folder/built/listing" "$folder/built/listing"
+    quietly bare $runner "$folder/built/listing" "$folder/built/listing"
     tried="$tried, CMake"
 fi
-if has cc && bare cargo --version > "$folder/output" 2>&1; then
+# (where Rust's own library is there for the target)
+if has "$linker" && bare cargo --version > "$folder/output" 2>&1 \
+    && [ -d "$(bare rustc --print target-libdir --target "$target")" ]; then
     mkdir -p "$folder/rust/src"
     printf '[package]\nname = "app"\nversion = "0.0.0"\nedition = "2021"\n\n[dependencies]\ngoblin_rs = { path = "%s" }\n' \
         "$there/share/goblin_c/rust" > "$folder/rust/Cargo.toml"
     cp faces/rust/examples/symbols.rs "$folder/rust/src/main.rs"
-    quietly bare cargo build --offline --manifest-path "$folder/rust/Cargo.toml"
-    quietly bare "$folder/target/debug/app" "$folder/target/debug/app"
+    app=$folder/target/$target/debug/app
+    build() {
+        bare "$@" "CARGO_TARGET_$(echo "$target" | tr a-z- A-Z_)_LINKER=$linker" ${runner:+RUSTFLAGS=-Ctarget-feature=+crt-static} \
+            cargo build --offline --target "$target" --manifest-path "$folder/rust/Cargo.toml"
+    }
+    quietly build
+    quietly bare $runner "$app" "$app"
     grep -q ' main$' "$folder/output" || { echo "symbols.rs finds no main in itself"; exit 1; }
     tried="$tried, Rust by its path"
     mv "$there/lib/libgoblin_c.a" "$folder/"
     touch "$there/share/goblin_c/rust/build.rs"
-    if bare env -u PKG_CONFIG_PATH cargo build --offline --manifest-path "$folder/rust/Cargo.toml" > "$folder/output" 2>&1 \
+    if build PKG_CONFIG_PATH= > "$folder/output" 2>&1 \
         || ! grep -q 'libgoblin_c.a is missing' "$folder/output"; then
         echo "without the library there is no clear message"; cat "$folder/output"; exit 1
     fi
 fi
-echo "the archive of goblin_c $version serves without the toolchain${tried}"
+echo "the archive of goblin_c $version for $target serves without the toolchain${tried}"

@@ -1,9 +1,22 @@
 #!/bin/sh
 # Installs what calls the library needs: install.sh FOLDER puts it below FOLDER, which can then be moved as a whole;
-# install.sh --archive ARCHIVE puts it into an archive. LIBRARY names a library to take; else one is made, for the processors
-# that CPU names, by default every x86-64. Run from the repository's root. The version is that of faces/rust/Cargo.toml.
+# install.sh --archive ARCHIVE puts it into an archive. It is for the TARGET, by default x86_64-unknown-linux-gnu. LIBRARY names
+# a library to take; else one is made, for the processors that CPU names, by default every one of the target. Run from the
+# repository's root. The version is that of faces/rust/Cargo.toml.
 set -eu
 version=$(awk -F '"' '/^version = / { print $2; exit }' faces/rust/Cargo.toml)
+target=${TARGET:-x86_64-unknown-linux-gnu}
+case $target in
+x86_64-unknown-linux-gnu) every=x86-64 ;;
+aarch64-unknown-linux-gnu) every=generic ;;
+*)
+    echo "goblin_c is not made for the target $target: only for x86_64-unknown-linux-gnu and aarch64-unknown-linux-gnu" >&2
+    exit 1
+    ;;
+esac
+folder=$(mktemp -d)
+trap 'rm -rf "$folder"' EXIT
+trap 'exit 1' HUP INT TERM
 
 install_below() {
     to=$1
@@ -18,20 +31,22 @@ install_below() {
 
 library=${LIBRARY:-}
 if [ -z "$library" ]; then
-    (cd crates/goblin_c && rt lib --cpu "${CPU:-x86-64}")
-    library=crates/goblin_c/out/libgoblin_c.a
+    made=crates/goblin_c/out/libgoblin_c.a
+    if [ -e $made ]; then cp -p $made "$folder/before"; fi
+    (cd crates/goblin_c && rt lib --target "$target" --cpu "${CPU:-$every}")
+    library=$folder/libgoblin_c.a
+    mv $made "$library"
+    # (what `rt lib` made there before stays, whatever it is for)
+    if [ -e "$folder/before" ]; then mv "$folder/before" $made; fi
 fi
 if [ "$1" != --archive ]; then
     install_below "$1"
-    echo "goblin_c $version is below $1"
+    echo "goblin_c $version for $target is below $1"
     exit 0
 fi
-folder=$(mktemp -d)
-trap 'rm -rf "$folder"' EXIT
-trap 'exit 1' HUP INT TERM
-name=goblin_c-$version-x86_64-linux
+name=goblin_c-$version-$target
 archive=${2:-out/$name.tar.gz}
 install_below "$folder/$name"
 mkdir -p "$(dirname "$archive")"
 tar -C "$folder" --sort=name --owner=0 --group=0 --mtime=@0 -czf "$archive" "$name"
-echo "goblin_c $version is in $archive"
+echo "goblin_c $version for $target is in $archive"

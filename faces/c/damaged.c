@@ -1,7 +1,8 @@
 /* Calls the whole library over damaged copies of files: damaged COUNT FILE.. makes so many copies of each, with bytes
    changed or the end cut off. Each copy lies between pages that can't be read, at the end of its own pages or at their
    start, so that a call that reads behind it or before it ends the program. What a call tells must be as goblin.h says:
-   untouched where it answers nothing, and inside the file where it is a range of it. */
+   untouched where it answers nothing, and inside the file where it is a range of it. What it prints sums up all that was
+   told, the same on each machine whose lowest byte comes first. */
 #define _DEFAULT_SOURCE
 #include "goblin.h"
 #include <stdio.h>
@@ -14,6 +15,7 @@ enum { PAGE = 0x10000, ROOM = 16 * PAGE, BATCH = 5 };
 static const uint8_t *bytes;
 static size_t len;
 static unsigned long answers[3], broken;
+static uint64_t sum = 0xcbf29ce484222325;
 static goblin_refusal_t why;
 
 /* The next number of a sequence that is the same in each run. */
@@ -21,6 +23,11 @@ static uint64_t any(uint64_t below) {
     static uint64_t state = 88172645463325252;
     state ^= state << 13, state ^= state >> 7, state ^= state << 17;
     return state % below;
+}
+
+/* Takes what was told into the sum. */
+static void add(const void *item, size_t size) {
+    for (size_t i = 0; i < size; i++) sum = (sum ^ ((const uint8_t *)item)[i]) * 0x100000001b3;
 }
 
 /* A number near an end, or any. */
@@ -43,7 +50,8 @@ static uint64_t place(uint64_t end) {
 /* A range that ends near the file's end, or any. */
 static goblin_range_t odd_range(void) {
     goblin_range_t range = {any(4) ? place(len) : odd(), 0};
-    range.size = any(4) ? len - range.offset + any(3) * any(5) : odd();
+    uint64_t times = any(3), more = times * any(5);
+    range.size = any(4) ? len - range.offset + more : odd();
     return range;
 }
 
@@ -70,6 +78,7 @@ static void text_of_refusal(uint32_t answer) {
     memset(text, 0x5a, sizeof text);
     if (goblin_refusal_text(&why, text, room) < strlen("bad offset 0")) wrong("a text's size", answer);
     if (!is_blank(text + room, sizeof text - room)) wrong("a text", answer);
+    add(&why, sizeof why), add(text, room);
 }
 
 static bool told(const char *what, uint32_t answer, const void *item, size_t size) {
@@ -77,6 +86,9 @@ static bool told(const char *what, uint32_t answer, const void *item, size_t siz
     if (answer != GOBLIN_OK && !is_blank(item, size)) wrong(what, answer);
     if (answer <= GOBLIN_END ? !is_blank(&why, sizeof why) : why.kind != answer) wrong("goblin_refusal_t", answer);
     if (answer > GOBLIN_END) text_of_refusal(answer);
+    add(&answer, sizeof answer);
+    /* (the last word of a record may have bytes that are no field's) */
+    if (answer == GOBLIN_OK) add(item, size > sizeof(goblin_range_t) ? size - 8 : size);
     return answer == GOBLIN_OK;
 }
 
@@ -124,6 +136,7 @@ static void notes(const goblin_header_t *h, goblin_range_t range) {
         if (filled > room || (answer != GOBLIN_OK && filled != 0)) wrong(#all, answer), filled = 0; \
         told(#all, answer, items, answer == GOBLIN_OK ? 0 : sizeof items); \
         if (!is_blank(items + filled, sizeof *items * (BATCH - filled))) wrong(#all " behind", answer); \
+        for (uint64_t i = 0; i < filled; i++) add(items + i, size); \
         for (uint64_t i = 0; i < filled; i++) \
             if (!TELLS(one, single, __VA_ARGS__, first + i) || memcmp(&single, items + i, size)) wrong(#all " item", answer); \
         if (answer == GOBLIN_OK && filled < room && TELLS(one, single, __VA_ARGS__, first + filled)) wrong(#all, answer); \
@@ -175,7 +188,8 @@ static void table(const goblin_header_t *h, goblin_range_t range, goblin_range_t
         if (!TELLS(goblin_reloc, last, h, &range, is_rela, number - 1) || TELLS(goblin_reloc, last, h, &range, is_rela, number))
             wrong("goblin_reloc_count", GOBLIN_OK);
     }
-    TELLS(goblin_number, number, h, any(2) ? place(len) : odd(), any(10));
+    uint64_t offset = any(2) ? place(len) : odd(), width = any(10);
+    TELLS(goblin_number, number, h, offset, width);
     SEVERAL(goblin_symbol, goblin_symbols, goblin_symbol_t, st_other, h, &range);
     SEVERAL(goblin_reloc, goblin_relocs, goblin_reloc_t, has_addend, h, &range, is_rela);
     notes(h, range);
@@ -241,7 +255,8 @@ int main(int argc, char **argv) {
         size_t size = fread(whole, 1, ROOM, from);
         fclose(from);
         for (unsigned long n = 0; n < wanted; n++, copies++) {
-            uint64_t end = any(2) * place(size) + any(80);
+            uint64_t end = any(2) ? place(size) : 0;
+            end += any(80);
             len = any(4) == 0 && end < size ? (size_t)end : size;
             uint8_t *own = malloc(len ? len : 1);
             uint8_t *copy = n % 3 == 0 ? own : n % 3 == 1 ? pages + PAGE : pages + PAGE + ROOM - len;
@@ -254,7 +269,7 @@ int main(int argc, char **argv) {
         }
     }
     free(whole);
-    printf("%lu damaged copies: %lu answers, %lu past the last, %lu refusals, %lu of them wrong\n", copies, answers[0],
-           answers[1], answers[2], broken);
+    printf("%lu damaged copies: %lu answers, %lu past the last, %lu refusals, %lu of them wrong; their sum is %08lx%08lx\n",
+           copies, answers[0], answers[1], answers[2], broken, (unsigned long)(sum >> 32), (unsigned long)(sum & 0xffffffff));
     return broken == 0 && answers[0] > copies && answers[1] > copies && answers[2] > copies ? EXIT_SUCCESS : EXIT_FAILURE;
 }
