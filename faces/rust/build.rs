@@ -16,7 +16,7 @@ fn serves(folder: &Path, processors: &str) -> bool {
     };
     let bytes = fs::read(folder.join(LIBRARY)).unwrap_or_default();
     let header = bytes.windows(4).position(|magic| magic == b"\x7fELF");
-    header.map_or(false, |start| bytes[start..].get(18..20) == Some(&machine.to_le_bytes()))
+    header.map_or(false, |at| bytes[at..].get(18..20) == Some(&machine.to_le_bytes()))
 }
 
 fn from_pkg_config() -> Option<PathBuf> {
