@@ -1,9 +1,8 @@
 -- Blocks of a file that are text, and the string tables that lie in them.
 use Rattle.std.proofs.Common.{◌≡◌, ◌∙◌, ℕ, zero, suc, eqb, [], ◌∷◌, refl, ◌+◌, ◌-◌, ◌<◌, ◌≤◌, ◌≢◌, ◌&&◌, set, replicate, length-set, get_or-set_other, get_or-set_same, ltb, leb, Bool, true, false, cond, List, length, get_or, take, drop, sym, ap, subst, ⊎_elim, arith, Ok, slice_range, min}
-use Rattle.std.proofs.lemmas.Bool.{cases_eq, cases_lt, lt-ltb, le-ltb}
+use Rattle.std.proofs.lemmas.Bool.{cases_eq, cases_lt}
 use Rattle.std.proofs.lemmas.Bool.Decides.{nat_tests}
 use Rattle.std.proofs.lemmas.List.{get_or-replicate, length-replicate, length-drop, length-take-le, take_all}
-use Rattle.std.specs.Str.{IsUtf8}
 use Rattle.goblin.specs.declared.options.ParseMode.{ParseMode}
 use Rattle.goblin.specs.declared.options.ParseMode.TheVariants.{Strict, Permissive}
 use Rattle.goblin.specs.Strtab.{or_cut, range_in}

@@ -302,8 +302,7 @@ text-cut bytes i p k l m h u =
     absurd (omega (arith, at.3.1 place (omega (arith, on.0)), on.1)))
     (λ (high : 192 ≤ get_or x n 0). high)
     (cases_lt (get_or x n 0) 192) in
-    let boundary : IsCharBoundary x n = (omega (arith, size), lead) in
-    (
+    let boundary : IsCharBoundary x n = (omega (arith, size), lead) in (
       subst IsUtf8 (ap (λ y. take n y) is ∙ ap (λ z. take z (slice_range bytes i c ++ slice_range bytes c k)) (sym front) ∙ take-append_seam (slice_range bytes i c) (slice_range bytes c k)) (IsUtf8-take x n u boundary),
       subst IsUtf8 (ap (λ y. drop n y) is ∙ ap (λ z. drop z (slice_range bytes i c ++ slice_range bytes c k)) (sym front) ∙ drop-append_seam (slice_range bytes i c) (slice_range bytes c k)) (IsUtf8-drop x n u boundary),
     )
@@ -369,6 +368,7 @@ between bytes p q l h =
         (λ (z : (past bytes (past bytes (past bytes p)) ≡ past bytes (past bytes p) + 1) × goes_on_with (get_or bytes (past bytes (past bytes p)) 0)). let e : past bytes (past bytes p) ≡ q = omega (arith, z.0) in subst (λ x. goes_on_with (get_or bytes x 0)) e z.1)
         (λ (z : (past bytes (past bytes (past bytes p)) ≡ past bytes (past bytes p)) × ¬ (goes_on_with (get_or bytes (past bytes (past bytes p)) 0))). absurd (omega (arith, z.0)))
         (past_is bytes (past bytes (past bytes p)))
+
     second : past bytes p ≤ q → goes_on_with (get_or bytes q 0)
     second s = ⊎_elim
         (λ (y : (past bytes (past bytes p) ≡ past bytes p + 1) × goes_on_with (get_or bytes (past bytes p) 0)). ⊎_elim

@@ -1,5 +1,5 @@
 -- What names took, and what is left to them.
-use Rattle.std.proofs.Common.{◌≡◌, ◌∙◌, ℕ, ◌+◌, ◌*◌, ◌≤◌, eqb, cond, Bool, true, false, List, [], ◌∷◌, ◌++◌, map, ap, arith, length, length-append, Ok, subst, sym}
+use Rattle.std.proofs.Common.{◌≡◌, ℕ, ◌+◌, ◌*◌, ◌≤◌, eqb, cond, true, false, List, [], ◌∷◌, ◌++◌, ap, arith, length, length-append, Ok, subst, sym}
 use Rattle.std.proofs.lemmas.List.{length-map}
 use Rattle.goblin.specs.SectionNames.{section_name}
 use Rattle.goblin.specs.SymParts.{bind_of, type_of, visibility_of, bind_name, type_name, visibility_name}

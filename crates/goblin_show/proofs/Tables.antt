@@ -1,12 +1,11 @@
 -- The string tables of a file, of which no entries are made.
-use Rattle.std.proofs.Common.{◌≡◌, ◌∙◌, ℕ, ◌+◌, ◌-◌, ◌<◌, ◌≤◌, true, false, List, length, Result, Ok, Err, IsErr, ap, arith, refl, sym, slice_range, ltb, ◌⊎◌, ⊎_elim}
-use Rattle.std.proofs.lemmas.Bool.{lt-ltb, le-ltb}
+use Rattle.std.proofs.Common.{◌≡◌, ℕ, List, Result, Ok, Err, ap, refl, slice_range}
 use Rattle.goblin.specs.declared.options.ParseMode.{ParseMode}
 use Rattle.goblin.specs.declared.options.ParseMode.TheVariants.{Strict, Permissive}
 use Rattle.goblin.specs.Refusal.{malformed}
 use Rattle.goblin_base.specs.declared.error.Fault.{Fault}
 use Rattle.goblin.specs.Steps.{◌>>=◌, refuse_as}
-use Rattle.goblin.specs.Strtab.{StringTable, range_in, strtab_of, table_of, walked}
+use Rattle.goblin.specs.Strtab.{strtab_of, table_of, walked}
 use Rattle.goblin_show.specs.Known.{IsRange, text_table}
 
 -- a permissive table is the bytes of its range

@@ -114,7 +114,12 @@ struct File<'b> {
 
 impl File<'_> {
     // The string table that a section is.
-    fn strings_of(&self, alloc: Global, names: &mut Names<'_>, section: &SectionHeader) -> Result<Strings>
+    fn strings_of(
+        &self,
+        alloc: Global,
+        names: &mut Names<'_>,
+        section: &SectionHeader,
+    ) -> Result<Strings>
         ensures given { let right = strings_of self.now.opts.now.parse_mode names.old.bytes
             (Some section.now) in
             Gives (strings_in names.old.bytes) result right }

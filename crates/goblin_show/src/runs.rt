@@ -68,12 +68,7 @@ fn is_block_of(seen: &mut Seen<'_>, kind: Kind, block: usize) -> bool
 
 // Looks for the end of the run from a block on: as far as a block is of the kind, and it isn't known of it where
 // its run ends.
-fn look_for_end(
-    seen: &mut Seen<'_>,
-    kind: Kind,
-    ends: &[u16; BLOCKS],
-    first: usize,
-) -> Found
+fn look_for_end(seen: &mut Seen<'_>, kind: Kind, ends: &[u16; BLOCKS], first: usize) -> Found
     requires first { first ≤ blocks seen.old.bytes }
     requires known { AreEnds kind seen.old.bytes ends.now }
     ensures end { IsEnd kind seen.old.bytes first result.end }
@@ -110,12 +105,7 @@ fn look_for_end(
 }
 
 /// Where the run of a kind from a block on ends. It is kept of each block that is read for it.
-pub fn end_of(
-    seen: &mut Seen<'_>,
-    kind: Kind,
-    ends: &mut [u16; BLOCKS],
-    first: usize,
-) -> usize
+pub fn end_of(seen: &mut Seen<'_>, kind: Kind, ends: &mut [u16; BLOCKS], first: usize) -> usize
     requires some { 0 < first }
     requires first { first ≤ blocks seen.old.bytes }
     requires known { AreEnds kind seen.old.bytes ends.old }

@@ -1,7 +1,7 @@
-use Rattle.std.proofs.Common.{◌≡◌, ◌∙◌, ◌+◌, ◌≤◌, ◌<◌, ◌≢◌, arith, get_or-set_other, length, refl}
+use Rattle.std.proofs.Common.{◌∙◌, ◌<◌, ◌≢◌, arith, get_or-set_other, length, refl}
 use Rattle.std.proofs.lemmas.Grind.{common_steps}
 use Rattle.goblin_show.proofs.Blocks.{end_later, end_more, unknown_less}
-use Rattle.goblin_show.specs.Runs.{IsEnd, blocks}
+use Rattle.goblin_show.specs.Runs.{blocks}
 use Rattle.goblin_show.proofs.runs.end_of.Goals as goal
 
 pub loop-block-preserved : goal.loop-block-preserved

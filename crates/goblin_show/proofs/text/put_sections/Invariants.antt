@@ -1,4 +1,4 @@
-use Rattle.std.proofs.Common.{◌≡◌, ◌+◌, ◌≤◌, drop}
+use Rattle.std.proofs.Common.{◌≡◌, drop}
 use Rattle.goblin_show.proofs.Puts.{PutSoFar}
 use Rattle.goblin_show.specs.Known.{strings_in}
 use Rattle.goblin_show.proofs.Spent.{SpentSoFar}

@@ -6,7 +6,7 @@ use Rattle.goblin.specs.TextLaws.{texts-join}
 use Rattle.goblin_show.proofs.Blocks.{cut_bounds}
 use Rattle.goblin_show.proofs.Plain.{EndsIn, IsTextIn, ends_behind, lacks-after, lacks-on, long_plain, string-behind, string-within, text_behind, whole-cut}
 use Rattle.goblin_show.specs.declared.runs.Kind.TheVariants.{Plain}
-use Rattle.goblin_show.specs.Runs.{IsBlock, IsEnd, IsPlain, IsRun, LacksText, blocks, cut, up_to_zero}
+use Rattle.goblin_show.specs.Runs.{IsBlock, IsEnd, IsPlain, LacksText, blocks, cut, up_to_zero}
 use Rattle.goblin_show.proofs.names.Names.end_of_long_name.Goals as goal
 
 pub returns-then-not-is_text-clause-stop : goal.returns-then-not-is_text-clause-stop

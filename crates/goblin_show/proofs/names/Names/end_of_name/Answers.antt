@@ -1,4 +1,4 @@
-use Rattle.std.proofs.Common.{◌≡◌, ◌+◌, ◌≤◌, ◌<◌, arith, length, slice_range, subst, sym}
+use Rattle.std.proofs.Common.{◌≡◌, ◌≤◌, arith, slice_range}
 use Rattle.std.proofs.lemmas.Grind.{common_steps}
 use Rattle.goblin_show.proofs.Plain.{string-behind, string-within}
 use Rattle.goblin_show.specs.Runs.{up_to_zero}

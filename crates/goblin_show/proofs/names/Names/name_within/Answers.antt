@@ -1,4 +1,4 @@
-use Rattle.std.proofs.Common.{◌≡◌, ◌∙◌, ◌+◌, ◌-◌, ◌≤◌, ap, arith, inl, inr, length, slice_range}
+use Rattle.std.proofs.Common.{◌≡◌, ◌∙◌, ◌+◌, ◌-◌, ap, arith, inl, inr, length, slice_range}
 use Rattle.std.proofs.lemmas.Grind.{common_steps}
 use Rattle.goblin_show.proofs.Looks.{name_in_range, name_later, nothing, past_name, text_length, text_or_nothing}
 use Rattle.goblin_show.proofs.Plain.{length-range}

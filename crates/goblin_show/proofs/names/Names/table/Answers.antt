@@ -36,9 +36,9 @@ returns-clause-given c =
     let at : min c.args.offset (length bytes) ≡ start = grind (arith, common_steps) in
     let stands : IsRange mode bytes c.args.offset c.args.size start (start + length range) = subst (λ s. IsRange mode bytes c.args.offset c.args.size s (s + length range)) at (range_stands mode bytes c.args.offset c.args.size range is) in
     elim c.if-not-is_permissive.branch [
-    | then-not-is_permissive+then-not-is_range_text+in_ok-walk w ↦ absurd (both_ways _ w.if-not-is_range_text.true (w.is_range_text.ensures.value.1 (grind (arith, common_steps))))
-    | else-not-is_permissive w ↦ elim w.else-not-is_permissive.branch [
+      | then-not-is_permissive+then-not-is_range_text+in_ok-walk w ↦ absurd (both_ways _ w.if-not-is_range_text.true (w.is_range_text.ensures.value.1 (grind (arith, common_steps))))
+      | else-not-is_permissive w ↦ elim w.else-not-is_permissive.branch [
         | else-not-is_permissive-via-then-not-is_permissive+else-not-is_range_text v ↦ text_is_taken mode bytes c.args.offset c.args.size 0 (slice_range bytes start (start + length range)) (lit< tt) stands.is (v.is_range_text.ensures.value.0 v.if-not-is_range_text.false)
         | else-not-is_permissive-via-else-not-is_permissive v ↦ permissive_table mode bytes c.args.offset c.args.size start (start + length range) (c.is_permissive.ensures.0 v.if-not-is_permissive.false) stands
+      ]
     ]
-  ]

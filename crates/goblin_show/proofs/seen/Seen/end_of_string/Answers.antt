@@ -1,4 +1,4 @@
-use Rattle.std.proofs.Common.{◌≡◌, ◌+◌, ℕ, List, ap, arith, length, slice_range, subst, sym}
+use Rattle.std.proofs.Common.{◌≡◌, ◌+◌, ap, arith, length, slice_range, subst, sym}
 use Rattle.goblin_show.specs.Runs.{up_to_zero}
 use Rattle.goblin_show.proofs.Plain.{up_to_place}
 use Rattle.goblin_show.proofs.seen.Seen.end_of_string.Goals as goal
