@@ -172,7 +172,7 @@ check_rust() {
 # ---- another processor ----
 
 # The library for aarch64, called from C that an emulator runs: what it lists of the files made and of two programs of its own,
-# and all that it tells of damaged files, must be what was told here. Then its archive.
+# and the sum of nearly all that it tells of damaged files, must be what was told here. Then its archive.
 check_aarch64() {
     target=aarch64-unknown-linux-gnu
     compiler='aarch64-linux-gnu-gcc -static'

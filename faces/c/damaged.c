@@ -1,8 +1,9 @@
 /* Calls the whole library over damaged copies of files: damaged COUNT FILE.. makes so many copies of each, with bytes
    changed or the end cut off. Each copy lies between pages that can't be read, at the end of its own pages or at their
    start, so that a call that reads behind it or before it ends the program. What a call tells must be as goblin.h says:
-   untouched where it answers nothing, and inside the file where it is a range of it. What it prints sums up all that was
-   told, the same on each machine whose lowest byte comes first. */
+   untouched where it answers nothing, and inside the file where it is a range of it. What it prints sums up nearly all that was
+   told: of a single record all but its last eight bytes, which may be no field's, and no names of numbers. The sum is the same on
+   each machine whose lowest byte comes first. */
 #define _DEFAULT_SOURCE
 #include "goblin.h"
 #include <stdio.h>
