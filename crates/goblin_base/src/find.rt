@@ -1,23 +1,26 @@
 //! A place among sorted places, by halves.
-ghost use Rattle.std.specs.Prelude.{◌≡◌, ◌+◌, ◌≤◌, length};
+ghost use Rattle.std.specs.Prelude.{◌≡◌, ◌+◌, ◌≤◌, min, length};
 ghost use Rattle.goblin_base.specs.Search.{FindsLast, digits};
 
 use crate::entries::Probes;
 
 /// The index of the last place at or before the offset, or `None` where there is none.
 ///
-/// It reads at most as many places as the number of places has binary digits.
+/// It reads as many places as their number has binary digits, or one fewer: at most 64.
 ///
 /// <!-- quoted: crates/goblin_uses/src/names.rt -->
 /// ```
-/// let before = probes.count();
-/// let _ = find(probes, offset);
-/// probes.count() - before
+/// let mut probes = Probes::of(entries);
+/// let _ = find(&mut probes, offset);
+/// probes.count()
 /// ```
 pub fn find(view: &mut Probes<'_>, offset: usize) -> Option<usize>
     ensures found { FindsLast view.old.places offset result }
     ensures unchanged { view.new.places ≡ view.old.places }
     ensures probes { view.new.count ≤ view.old.count + digits (length view.old.places) }
+    ensures probes_least { let least = view.old.count + digits (length view.old.places + 1) in
+        min least u64.MAX ≤ view.new.count + 1 }
+    ensures few { digits (length view.old.places + 1) ≤ 64 }
     ensures rising { view.old.count ≤ view.new.count }
 {
     let mut low = 0;

@@ -26,7 +26,7 @@ use std::result;
 /// ```
 /// let mut view = Looked::new(bytes);
 /// let entries = walk(alloc, &mut view, 0, ParseMode::Strict)?;
-/// let mut probes = Probes::of(&entries);
+/// let count = entries.len();
 /// ```
 pub fn walk<'a>(
     alloc: Global,

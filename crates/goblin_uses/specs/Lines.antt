@@ -141,11 +141,11 @@ names_line count end longest probes =
     decimal count & closed_text end & codes "the longest of " & decimal longest & codes " bytes, " & decimal probes
     & codes " probes to find one" & newline
 
--- a text is the line of the names in these bytes, where a search reads at most as many places as their number has digits
+-- a text is the line of the names in these bytes, where a search reads as many places as their number has digits, or one fewer
 abbrev pub IsNamesText : List ℕ → List ℕ → Type 0
 IsNamesText bytes text =
     (entries : List (ℕ × List ℕ)) × (probes : ℕ) × (walked Strict bytes 0 ≡ Ok entries)
-    × (probes ≤ digits (length entries))
+    × (probes ≤ digits (length entries)) × (digits (length entries + 1) ≤ probes + 1)
     × (text ≡ names_line (length entries) (last_zero (length bytes) bytes) (longest_step 0 (places_of entries)) probes)
 
 -- a text is the lines of these symbols' functions, the largest first, behind the line of the names

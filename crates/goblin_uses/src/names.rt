@@ -1,5 +1,6 @@
 //! The names of a file's symbols, read under a count of the bytes and places read.
-ghost use Rattle.std.specs.Prelude.{◌≡◌, ◌≤◌, ◌++◌, OnOk, length, string_bytes};
+ghost use Rattle.std.specs.Prelude.{◌≡◌, ◌≤◌, ◌+◌, ◌++◌, OnOk, length, string_bytes};
+ghost use Rattle.goblin_base.specs.Entries.{places_of};
 ghost use Rattle.goblin_base.specs.Search.{digits};
 ghost use Rattle.goblin_base.specs.Strtab.{RefusesFirst, walked};
 ghost use Rattle.goblin_uses.specs.Lines.{AddsSuch, IsNamesText, names_line};
@@ -7,7 +8,7 @@ ghost use Rattle.goblin_uses.specs.Listed.{last_zero, longest_step};
 
 use goblin::error::Result;
 use goblin::options::ParseMode;
-use goblin_base::entries::{Looked, Probes};
+use goblin_base::entries::{Entries, Looked, Probes};
 use goblin_base::find::find;
 use goblin_base::walk::walk;
 use std::alloc::{AllocError, Global};
@@ -42,13 +43,13 @@ pub fn longest(probes: &mut Probes<'_>) -> usize
 }
 
 /// How many places the search for an offset reads.
-pub fn probes_of(probes: &mut Probes<'_>, offset: usize) -> u64
-    ensures most { result ≤ digits (length probes.old.places) }
-    ensures unchanged { probes.new.places ≡ probes.old.places }
+pub fn probes_of(entries: &Entries<'_>, offset: usize) -> u64
+    ensures most { result ≤ digits (length (places_of entries.now)) }
+    ensures least { digits (length (places_of entries.now) + 1) ≤ result + 1 }
 {
-    let before = probes.count();
-    let _ = find(probes, offset);
-    probes.count() - before
+    let mut probes = Probes::of(entries);
+    let _ = find(&mut probes, offset);
+    probes.count()
 }
 
 // Adds the line of so many names.
@@ -81,10 +82,9 @@ pub fn push_names(alloc: Global, text: &mut String, bytes: &[u8], offset: usize)
 {
     let mut view = Looked::new(bytes);
     let entries = walk(alloc, &mut view, 0, ParseMode::Strict)?;
-    let mut probes = Probes::of(&entries);
     let count = entries.len();
-    let longest = longest(&mut probes);
-    let looked = probes_of(&mut probes, offset);
-    push_line(text, count, last_zero(&mut view), longest, looked)?;
+    let longest = longest(&mut Probes::of(&entries));
+    let probes = probes_of(&entries, offset);
+    push_line(text, count, last_zero(&mut view), longest, probes)?;
     Ok(())
 }

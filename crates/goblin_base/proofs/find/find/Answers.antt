@@ -1,7 +1,7 @@
 use Rattle.std.proofs.Common.{◌≡◌, ℕ, ◌+◌, ◌-◌, ◌/◌, ◌<◌, ◌≤◌, ⊎_elim, List, length, slice_index, sym, ap, subst, ◌∙◌, arith}
 use Rattle.std.proofs.lemmas.Bool.{cases_lt}
 use Rattle.goblin_base.specs.Search.{IsRising, digits}
-use Rattle.goblin_base.proofs.DigitsLemmas.{digits_step}
+use Rattle.goblin_base.proofs.DigitsLemmas.{digits_step, digits_step_back, digits_few, digits_one}
 use Rattle.goblin_base.proofs.find.find.Goals as goal
 
 -- what is known of the place in the middle holds of all places on that side
@@ -32,7 +32,8 @@ loop-size-preserved-then-at-offset c =
       before = subst (λ ps. (k : ℕ) → k < s.low + (s.size / 2 + 1) → slice_index ps k ≤ c.args.offset) (sym e) (λ k h. to_the_left s.view.places m c.args.offset rising inside here k (omega arith));
       after = subst (λ ps. (k : ℕ) → s.low + (s.size / 2 + 1) + (s.size - (s.size / 2 + 1)) ≤ k → k < length ps → c.args.offset < slice_index ps k) (sym e) (λ k h w. s.invariant.after k (omega arith) w);
       rising = omega arith;
-      probes = omega (arith, n, ap length e, digits_step s.size (s.size - (s.size / 2 + 1)) (omega arith) (omega arith), s.invariant.probes, ap (λ ps. digits (length ps)) e);
+      most = omega (arith, n, ap length e, digits_step s.size (s.size - (s.size / 2 + 1)) (omega arith) (omega arith), s.invariant.most, ap (λ ps. digits (length ps)) e);
+      least = omega (arith, n, digits_step_back (s.size + 1) (s.size - (s.size / 2 + 1) + 1) (omega arith), s.invariant.least, ap (λ ps. digits (length ps + 1)) e);
     }
 
 pub loop-size-preserved : goal.loop-size-preserved
@@ -49,5 +50,20 @@ loop-size-preserved c =
       before = subst (λ ps. (k : ℕ) → k < s.low → slice_index ps k ≤ c.args.offset) (sym e) s.invariant.before;
       after = subst (λ ps. (k : ℕ) → m ≤ k → k < length ps → c.args.offset < slice_index ps k) (sym e) (to_the_right s.view.places m c.args.offset rising here);
       rising = omega arith;
-      probes = omega (arith, n, ap length e, digits_step s.size (s.size / 2) (omega arith) (omega arith), s.invariant.probes, ap (λ ps. digits (length ps)) e);
+      most = omega (arith, n, ap length e, digits_step s.size (s.size / 2) (omega arith) (omega arith), s.invariant.most, ap (λ ps. digits (length ps)) e);
+      least = omega (arith, n, digits_step_back (s.size + 1) (s.size / 2 + 1) (omega arith), s.invariant.least, ap (λ ps. digits (length ps + 1)) e);
     }
+
+pub returns-then-low-eq0-clause-probes_least : goal.returns-then-low-eq0-clause-probes_least
+returns-then-low-eq0-clause-probes_least c = let e : c.loop-size.size ≡ 0 = omega (arith, c.loop-size-test.false) in
+    omega (arith, c.loop-size.invariant.least, ap (λ ps. digits (length ps + 1)) c.loop-size.invariant.same, ap (λ n. digits (n + 1)) e, digits_one)
+
+pub returns-then-low-eq0-clause-few : goal.returns-then-low-eq0-clause-few
+returns-then-low-eq0-clause-few c = digits_few (length c.args.view.now.places) (omega (arith, c.len-size.ensures.value, c.len-size.ensures.bound))
+
+pub returns-else-low-eq0-clause-probes_least : goal.returns-else-low-eq0-clause-probes_least
+returns-else-low-eq0-clause-probes_least c = let e : c.loop-size.size ≡ 0 = omega (arith, c.loop-size-test.false) in
+    omega (arith, c.loop-size.invariant.least, ap (λ ps. digits (length ps + 1)) c.loop-size.invariant.same, ap (λ n. digits (n + 1)) e, digits_one)
+
+pub returns-else-low-eq0-clause-few : goal.returns-else-low-eq0-clause-few
+returns-else-low-eq0-clause-few c = digits_few (length c.args.view.now.places) (omega (arith, c.len-size.ensures.value, c.len-size.ensures.bound))

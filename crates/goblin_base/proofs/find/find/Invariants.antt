@@ -1,4 +1,4 @@
-use Rattle.std.proofs.Common.{◌≡◌, ℕ, ◌+◌, ◌<◌, ◌≤◌, length, slice_index}
+use Rattle.std.proofs.Common.{◌≡◌, ℕ, ◌+◌, ◌<◌, ◌≤◌, ◌-◌, ◌^◌, min, length, slice_index}
 use Rattle.goblin_base.specs.Search.{digits}
 use Rattle.goblin_base.proofs.find.find.Given as goal
 
@@ -9,7 +9,8 @@ invariant-loop-size l = record {
   before : (k : ℕ) → k < l.low → slice_index l.view.places k ≤ l.offset;
   after : (k : ℕ) → l.low + l.size ≤ k → k < length l.view.places → l.offset < slice_index l.view.places k;
   rising : l.fn.view.count ≤ l.view.count;
-  probes : l.view.count + digits l.size ≤ l.fn.view.count + digits (length l.view.places);
+  most : l.view.count + digits l.size ≤ l.fn.view.count + digits (length l.view.places);
+  least : min (l.fn.view.count + digits (length l.view.places + 1)) (2 ^ 64 - 1) ≤ l.view.count + digits (l.size + 1);
 }
 
 abbrev pub decreases-loop-size : goal.decreases-loop-size
