@@ -23,6 +23,10 @@ digits-zero : digits 0 ≡ 0
 unfolding digits
 digits-zero = refl
 
+pub digits_one : digits 1 ≡ 1
+unfolding digits
+digits_one = refl
+
 within_mono : (n a b : ℕ) → a ≤ b → digits_within n a ≤ digits_within n b
 within_mono zero a b h = omega arith
 within_mono (suc n) zero b h = omega arith
@@ -36,6 +40,11 @@ digits_mono a b h = omega (arith, within_more a b a (omega arith) h, within_mono
 -- what is left after one probe, on either side, has a digit less
 pub digits_step : (s t : ℕ) → 0 < s → t ≤ s / 2 → digits t + 1 ≤ digits s
 digits_step s t h l = omega (arith, digits_half s h, digits_mono t (s / 2) l)
+
+-- and at most one less, where a half of it is left
+pub digits_step_back : (s t : ℕ) → s / 2 ≤ t → digits s ≤ digits t + 1
+digits_step_back zero t l = omega (arith, digits-zero)
+digits_step_back (suc s) t l = omega (arith, digits_half (suc s) (omega arith), digits_mono (suc s / 2) t l)
 
 pow_positive : (n : ℕ) → 0 < 2 ^ n
 pow_positive zero = omega arith
@@ -52,3 +61,7 @@ digits_count (suc k) (suc n) =
       λ h. let l = deeper.0 (omega (arith, half)) in omega (arith, two, l),
       λ h. let l = deeper.1 (omega (arith, two, h)) in omega (arith, half, l),
     )
+
+-- a number of places, and one more, has at most 64
+pub digits_few : (k : ℕ) → k + 1 < 2 ^ 64 → digits (k + 1) ≤ 64
+digits_few k h = (digits_count (k + 1) 64).1 h

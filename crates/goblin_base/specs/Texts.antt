@@ -1,8 +1,11 @@
 -- The texts of the errors.
-use Rattle.std.specs.Prelude.{ℕ, Bool, false, if◌then◌else◌, List, ◌++◌, codes}
+use Rattle.std.specs.Prelude.{ℕ, Bool, false, if◌then◌else◌, List, [], ◌∷◌, ◌++◌, codes}
 use Rattle.std.specs.Fmt.{decimal, digits}
 use Rattle.goblin_base.specs.declared.error.Fault.{Fault}
 use Rattle.goblin_base.specs.declared.error.Fault.TheVariants.{InvalidClass, InvalidEndianness, TooSmall, ElfClass, DataType, Data, NoteAlign, SymtabOffset, TooManySymbols, SymtabPast, StrtabOffset, StrtabRange, SectionOffset, SectionAddr, IntegerFit}
+use Rattle.goblin_base.specs.declared.texts.Piece.{Piece}
+use Rattle.goblin_base.specs.declared.texts.Piece.TheVariants as piece
+use Rattle.goblin_base.specs.declared.texts.Told.{Told}
 use Rattle.goblin_base.specs.Refusal.{Refusal, malformed, bad_magic, too_big, bad_offset, bad_input, buffer_too_short, out_of_memory}
 
 -- one text after another
@@ -56,3 +59,23 @@ refusal_text (bad_offset offset) = codes "bad offset " & decimal offset
 refusal_text (bad_input size msg) = codes "bad input " & msg & codes " (" & decimal size & codes ")"
 refusal_text (buffer_too_short count item) = codes "Buffer is too short for " & decimal count & codes " " & item
 refusal_text out_of_memory = codes "Out of memory"
+
+-- what a piece is in the text of what is told
+abbrev pub piece_text : Told → Piece → List ℕ
+piece_text told (piece.Text text) = text.now
+piece_text told piece.First = decimal told.first
+piece_text told piece.Second = decimal told.second
+piece_text told piece.Third = decimal told.third
+piece_text told piece.Hexadecimal = hexadecimal told.first
+piece_text told piece.Item = told.item.now
+piece_text told piece.Overflowed = word_of told.overflowed
+
+-- pieces, one after another
+abbrev pub joined : Told → List Piece → List ℕ
+joined told [] = []
+joined told (p ∷ []) = piece_text told p
+joined told (p ∷ q ∷ rest) = piece_text told p & joined told (q ∷ rest)
+
+-- the text of what is told
+abbrev pub told_text : Told → List ℕ
+told_text told = told.before.now & joined told told.pieces.now

@@ -1,12 +1,13 @@
 //! Why reading or writing is refused.
-ghost use Rattle.std.specs.Prelude.{◌≡◌, IfOk, string_bytes};
+ghost use Rattle.std.specs.Prelude.{false, ◌≡◌, IfOk, Some, string_bytes};
 ghost use Rattle.goblin_base.specs.Refusal.{misplaced, refusal_of};
-ghost use Rattle.goblin_base.specs.Texts.{fault_text, refusal_text};
+ghost use Rattle.goblin_base.specs.Texts.{◌&◌, fault_text, refusal_text, told_text};
 
-use crate::scroll;
+use crate::texts::{Piece, Told};
+use crate::{scroll, texts};
 use std::alloc::{AllocError, AllocFailed, Global};
 use std::num::TryFromIntError;
-use std::result;
+use std::{fmt, result};
 use thiserror::Error;
 
 /// What is wrong with a file, or with a record that is to be written.
@@ -16,28 +17,20 @@ use thiserror::Error;
 #[derive(Debug, Drop, Error)]
 pub enum Fault {
     /// The class byte of a header is neither 1 nor 2, where a header is asked or written.
-    #[error("Invalid class in Header: {0}")]
     InvalidClass(u8),
     /// The data byte of a header is neither 1 nor 2, where a header is asked.
-    #[error("Invalid endianness in Header: {0}")]
     InvalidEndianness(u8),
     /// The bytes are fewer than a header's identification takes.
-    #[error("Too small")]
     TooSmall,
     /// The class byte is neither 1 nor 2, where a header is read.
-    #[error("invalid ELF class {0:x}")]
     ElfClass(u8),
     /// The data byte is neither 1 nor 2, where a header is read.
-    #[error("invalid ELF endianness DATA type {0:x}")]
     DataType(u8),
     /// The data byte is neither 1 nor 2, where a raw header is parsed, or a header is written.
-    #[error("invalid ELF DATA type {0:x}")]
     Data(u8),
     /// Notes are aligned to neither 4 nor 8 bytes.
-    #[error("Notes has unimplemented alignment requirement: 0x{0:x}")]
     NoteAlign(usize),
     /// A symbol table starts at the file's end or past it.
-    #[error("Symbol table offset ({offset}) is beyond file boundary ({len})")]
     SymtabOffset {
         /// Where it starts.
         offset: usize,
@@ -45,7 +38,6 @@ pub enum Fault {
         len: usize,
     },
     /// The size of a symbol table passes `usize`.
-    #[error("Too many ELF symbols (offset 0x{offset:x}, count {count})")]
     TooManySymbols {
         /// Where it starts.
         offset: usize,
@@ -53,7 +45,6 @@ pub enum Fault {
         count: usize,
     },
     /// A symbol table ends past the file's end.
-    #[error("Symbol table extends beyond file boundary (requested: {requested}, available: {available})")]
     SymtabPast {
         /// How many bytes it takes.
         requested: usize,
@@ -61,7 +52,6 @@ pub enum Fault {
         available: usize,
     },
     /// A string table starts past the file's end.
-    #[error("String table offset ({offset}) is beyond file boundary ({len})")]
     StrtabOffset {
         /// Where it starts.
         offset: usize,
@@ -69,7 +59,6 @@ pub enum Fault {
         len: usize,
     },
     /// A string table ends past the file's end.
-    #[error("Strtable size ({size}) + offset ({offset}) is out of bounds for {len} #bytes. Overflowed: {overflow}")]
     StrtabRange {
         /// How many bytes it takes.
         size: usize,
@@ -81,7 +70,6 @@ pub enum Fault {
         overflow: bool,
     },
     /// The bytes of a section end past the file's end.
-    #[error("Section {name} size ({size}) + offset ({offset}) is out of bounds. Overflowed: {overflow}")]
     SectionOffset {
         /// Where the section's name lies in the string table.
         name: usize,
@@ -93,7 +81,6 @@ pub enum Fault {
         overflow: bool,
     },
     /// The addresses of a section pass the greatest one.
-    #[error("Section {name} size ({size}) + addr ({addr}) is out of bounds. Overflowed: {overflow}")]
     SectionAddr {
         /// Where the section's name lies in the string table.
         name: usize,
@@ -105,7 +92,6 @@ pub enum Fault {
         overflow: bool,
     },
     /// A number does not fit the type that it is wanted in.
-    #[error("Integer do not fit: {0}")]
     IntegerFit(TryFromIntError),
 }
 
@@ -113,19 +99,14 @@ pub enum Fault {
 #[derive(Debug, Drop, Error)]
 pub enum Error {
     /// The file, or what is to be written, is not well formed.
-    #[error("Malformed entity: {0}")]
     Malformed(Fault),
     /// The first eight bytes, read in little order, do not begin with the magic number of ELF.
-    #[error("Invalid magic number: 0x{0:x}")]
     BadMagic(u64),
     /// A place has no room for what is asked of it, or no value of the type.
-    #[error("{0}")]
     Scroll(scroll::Error),
     /// The bytes are too few for so many of these items, wherever they start.
-    #[error("Buffer is too short for {0} {1}")]
     BufferTooShort(usize, &'static str),
     /// There was no memory.
-    #[error("Out of memory")]
     Memory(AllocError),
 }
 
@@ -175,112 +156,164 @@ impl<T: Drop> From<AllocFailed<T>> for Error {
     }
 }
 
+// What is told by two numbers.
+fn told(before: &'static str, pieces: &'static [Piece], first: u64, second: u64) -> Told
+    ensures { result ≡ record { before = before.entry; pieces = pieces.entry; item = result.item; first = first; second = second; third = 0; overflowed = false } }
+{
+    Told {
+        before,
+        pieces,
+        item: "",
+        first,
+        second,
+        third: 0,
+        overflowed: false,
+    }
+}
+
 impl Fault {
-    // The text that `Display` writes, with its bytes known.
-    fn line(&self, alloc: Global) -> result::Result<String, AllocError>
-        ensures { IfOk result (λ text. string_bytes text ≡ fault_text self.now) }
+    // What the fault tells, behind a text.
+    fn told(&self, before: &'static str) -> Told
+        ensures { told_text result ≡ before.now & fault_text self.now }
     {
         match self {
-            Fault::InvalidClass(class) => format!(in alloc; "Invalid class in Header: {class}"),
-            Fault::InvalidEndianness(order) => {
-                format!(in alloc; "Invalid endianness in Header: {order}")
-            }
-            Fault::TooSmall => format!(in alloc; "Too small"),
-            Fault::ElfClass(class) => format!(in alloc; "invalid ELF class {class:x}"),
-            Fault::DataType(order) => {
-                format!(in alloc; "invalid ELF endianness DATA type {order:x}")
-            }
-            Fault::Data(order) => format!(in alloc; "invalid ELF DATA type {order:x}"),
-            Fault::NoteAlign(align) => {
-                format!(in alloc; "Notes has unimplemented alignment requirement: 0x{align:x}")
-            }
-            Fault::SymtabOffset { offset, len } => {
-                format!(in alloc; "Symbol table offset ({offset}) is beyond file boundary ({len})")
-            }
-            Fault::TooManySymbols { offset, count } => {
-                format!(in alloc; "Too many ELF symbols (offset 0x{offset:x}, count {count})")
-            }
+            Fault::InvalidClass(class) => told(before, texts::INVALID_CLASS, *class as u64, 0),
+            Fault::InvalidEndianness(order) => told(
+                before,
+                texts::INVALID_ENDIANNESS,
+                *order as u64,
+                0,
+            ),
+            Fault::TooSmall => told(before, texts::TOO_SMALL, 0, 0),
+            Fault::ElfClass(class) => told(before, texts::ELF_CLASS, *class as u64, 0),
+            Fault::DataType(order) => told(before, texts::DATA_TYPE, *order as u64, 0),
+            Fault::Data(order) => told(before, texts::DATA, *order as u64, 0),
+            Fault::NoteAlign(align) => told(before, texts::NOTE_ALIGN, *align as u64, 0),
+            Fault::SymtabOffset { offset, len } => told(
+                before,
+                texts::SYMTAB_OFFSET,
+                *offset as u64,
+                *len as u64,
+            ),
+            Fault::TooManySymbols { offset, count } => told(
+                before,
+                texts::TOO_MANY_SYMBOLS,
+                *offset as u64,
+                *count as u64,
+            ),
             Fault::SymtabPast {
                 requested,
                 available,
-            } => {
-                format!(in alloc;
-                    "Symbol table extends beyond file boundary (requested: {requested}, available: {available})"
-                )
-            }
-            Fault::StrtabOffset { offset, len } => {
-                format!(in alloc; "String table offset ({offset}) is beyond file boundary ({len})")
-            }
+            } => told(
+                before,
+                texts::SYMTAB_PAST,
+                *requested as u64,
+                *available as u64,
+            ),
+            Fault::StrtabOffset { offset, len } => told(
+                before,
+                texts::STRTAB_OFFSET,
+                *offset as u64,
+                *len as u64,
+            ),
             Fault::StrtabRange {
                 size,
                 offset,
                 len,
                 overflow,
-            } => {
-                format!(in alloc;
-                    "Strtable size ({size}) + offset ({offset}) is out of bounds for {len} #bytes. Overflowed: {overflow}"
-                )
-            }
+            } => Told {
+                third: *len as u64,
+                overflowed: *overflow,
+                ..told(before, texts::STRTAB_RANGE, *size as u64, *offset as u64)
+            },
             Fault::SectionOffset {
                 name,
                 size,
                 offset,
                 overflow,
-            } => {
-                format!(in alloc;
-                    "Section {name} size ({size}) + offset ({offset}) is out of bounds. Overflowed: {overflow}"
-                )
-            }
+            } => Told {
+                third: *offset,
+                overflowed: *overflow,
+                ..told(before, texts::SECTION_OFFSET, *name as u64, *size)
+            },
             Fault::SectionAddr {
                 name,
                 size,
                 addr,
                 overflow,
-            } => {
-                format!(in alloc;
-                    "Section {name} size ({size}) + addr ({addr}) is out of bounds. Overflowed: {overflow}"
-                )
-            }
-            Fault::IntegerFit(_) => {
-                format!(in alloc;
-                    "Integer do not fit: out of range integral type conversion attempted"
-                )
-            }
-        }
-    }
-}
-
-impl Error {
-    /// The text that `Display` writes, with its bytes known. Only want of memory is an error.
-    pub fn line(&self, alloc: Global) -> result::Result<String, AllocError>
-        ensures { IfOk result (λ text. string_bytes text ≡ refusal_text (refusal_of self.now)) }
-    {
-        match self {
-            Error::Malformed(fault) => {
-                let fault = fault.line(alloc)?;
-                format!(in alloc; "Malformed entity: {fault}")
-            }
-            Error::BadMagic(magic) => format!(in alloc; "Invalid magic number: 0x{magic:x}"),
-            Error::Scroll(e) => e.line(alloc),
-            Error::BufferTooShort(count, item) => {
-                format!(in alloc; "Buffer is too short for {count} {item}")
-            }
-            Error::Memory(_) => format!(in alloc; "Out of memory"),
+            } => Told {
+                third: *addr,
+                overflowed: *overflow,
+                ..told(before, texts::SECTION_ADDR, *name as u64, *size)
+            },
+            Fault::IntegerFit(_) => told(before, texts::INTEGER_FIT, 0, 0),
         }
     }
 }
 
 impl scroll::Error {
-    // The text that `Display` writes, with its bytes known.
-    fn line(&self, alloc: Global) -> result::Result<String, AllocError>
-        ensures { IfOk result (λ text. string_bytes text ≡ refusal_text (misplaced self.now)) }
+    // What the error tells.
+    fn told(&self) -> Told
+        ensures { told_text result ≡ refusal_text (misplaced self.now) }
     {
         match self {
             scroll::Error::TooBig { size, len } => {
-                format!(in alloc; "type is too big ({size}) for {len}")
+                told("", texts::TOO_BIG, *size as u64, *len as u64)
             }
-            scroll::Error::BadOffset(offset) => format!(in alloc; "bad offset {offset}"),
-            scroll::Error::BadInput { size, msg } => format!(in alloc; "bad input {msg} ({size})"),
+            scroll::Error::BadOffset(offset) => told("", texts::BAD_OFFSET, *offset as u64, 0),
+            scroll::Error::BadInput { size, msg } => Told {
+                item: msg,
+                ..told("", texts::BAD_INPUT, *size as u64, 0)
+            },
         }
+    }
+}
+
+impl Error {
+    // What the error tells.
+    fn told(&self) -> Told
+        ensures { told_text result ≡ refusal_text (refusal_of self.now) }
+    {
+        match self {
+            Error::Malformed(fault) => fault.told(texts::MALFORMED),
+            Error::BadMagic(magic) => told("", texts::BAD_MAGIC, *magic, 0),
+            Error::Scroll(e) => e.told(),
+            Error::BufferTooShort(count, item) => Told {
+                item,
+                ..told("", texts::BUFFER_TOO_SHORT, *count as u64, 0)
+            },
+            Error::Memory(_) => told("", texts::MEMORY, 0, 0),
+        }
+    }
+
+    /// The text that `Display` writes. Only want of memory is an error.
+    pub fn line(&self, alloc: Global) -> result::Result<String, AllocError>
+        ensures { IfOk result (λ text. string_bytes text ≡ refusal_text (refusal_of self.now)) }
+    {
+        self.to_string(alloc)
+    }
+}
+
+impl fmt::Display for Fault {
+    ghost output = { λ fault. Some (fault_text fault) };
+
+    fn fmt<W: fmt::Write>(&self, f: &mut fmt::Formatter<W>) -> fmt::Result {
+        write!(f, "{}", self.told(""))
+    }
+}
+
+impl fmt::Display for scroll::Error {
+    ghost output = { λ e. Some (refusal_text (misplaced e)) };
+
+    fn fmt<W: fmt::Write>(&self, f: &mut fmt::Formatter<W>) -> fmt::Result {
+        write!(f, "{}", self.told())
+    }
+}
+
+impl fmt::Display for Error {
+    ghost output = { λ e. Some (refusal_text (refusal_of e)) };
+
+    fn fmt<W: fmt::Write>(&self, f: &mut fmt::Formatter<W>) -> fmt::Result {
+        write!(f, "{}", self.told())
     }
 }

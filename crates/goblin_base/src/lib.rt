@@ -14,5 +14,6 @@ pub mod record;
 pub mod scroll;
 pub mod strtab;
 pub mod table;
+pub mod texts;
 pub mod utf8;
 pub mod walk;

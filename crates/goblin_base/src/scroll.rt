@@ -9,7 +9,6 @@ pub use crate::container::{BE, Endian, LE};
 #[derive(Debug, Drop, thiserror::Error)]
 pub enum Error {
     /// More bytes are asked for than there are.
-    #[error("type is too big ({size}) for {len}")]
     TooBig {
         /// How many are asked for.
         size: usize,
@@ -17,10 +16,8 @@ pub enum Error {
         len: usize,
     },
     /// The place is past the end, or at it where bytes are asked for.
-    #[error("bad offset {0}")]
     BadOffset(usize),
     /// The bytes are no value of the type.
-    #[error("bad input {msg} ({size})")]
     BadInput {
         /// How many there are from the place on.
         size: usize,

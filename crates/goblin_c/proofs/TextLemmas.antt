@@ -1,36 +1,34 @@
 -- Texts that are written piece by piece.
-use Rattle.std.proofs.Common.{◌≡◌, ◌+◌, ◌<◌, ◌≤◌, ℕ, zero, suc, Bool, true, false, true≢false, ◌&&◌, IsTrue, List, [], ◌∷◌, ◌++◌, length, get_or, take, drop, refl, sym, ap, ◌∙◌, append_assoc, length-append, inl, inr, arith}
-use Rattle.std.proofs.lemmas.List.{take_more}
+use Rattle.std.proofs.Common.{◌≡◌, ◌+◌, ◌<◌, ◌≤◌, ℕ, zero, suc, Bool, true, false, true≢false, ◌&&◌, IsTrue, nat_le, List, [], ◌∷◌, ◌++◌, length, get_or, take, drop, refl, sym, ap, ◌∙◌, length-append, inl, inr, arith}
+use Rattle.std.proofs.lemmas.Bool.{leb-true}
 use Rattle.goblin_base.specs.declared.error.Fault.{Fault}
 use Rattle.goblin_base.specs.declared.error.Fault.TheVariants as fault
+use Rattle.goblin_base.specs.declared.texts.Piece.{Piece}
+use Rattle.goblin_base.specs.declared.texts.Told.{Told}
 use Rattle.goblin_base.specs.Refusal.{malformed, bad_magic, too_big, bad_offset, bad_input, buffer_too_short, out_of_memory}
 use Rattle.goblin_base.specs.Texts.{refusal_text}
-use Rattle.goblin_c.specs.declared.texts.Piece.{Piece}
 use Rattle.goblin_c.specs.Status.{fault_told}
 use Rattle.goblin_c.specs.Cut.{cut}
 use Rattle.goblin_c.specs.Laws.{KindsAreAnswers}
-use Rattle.goblin_c.specs.Texts.{TextIsKept, are_short, is_short, joined, piece_text, told_text}
+use Rattle.goblin_c.specs.Texts.{TextIsKept, are_short, is_brief, is_short, told_text}
 use Rattle.goblin_c.proofs.CutLemmas.{cut-behind}
-
-joined_push : (ps : List Piece) (p : Piece) → joined (ps ++ p ∷ []) ≡ joined ps ++ piece_text p
-joined_push [] p = refl
-joined_push (q ∷ []) p = refl
-joined_push (q ∷ r ∷ rest) p =
-    ap (λ text. piece_text q ++ text) (joined_push (r ∷ rest) p) ∙ sym (append_assoc (piece_text q) (joined (r ∷ rest)) (piece_text p))
-
--- the text of one piece more
-pub joined_more : (ps : List Piece) (i : ℕ) (d : Piece) → i < length ps → joined (take (i + 1) ps) ≡ joined (take i ps) ++ piece_text (get_or ps i d)
-joined_more ps i d h = ap joined (take_more ps i d h) ∙ joined_push (take i ps) (get_or ps i d)
 
 both : (a b : Bool) → (a && b) ≡ true → (a ≡ true) × (b ≡ true)
 both true true e = (refl, refl)
 both true false e = (refl, e)
 both false b e = (e, absurd (true≢false (sym e)))
 
-pub short_at : (ps : List Piece) (i : ℕ) (d : Piece) → IsTrue (are_short ps) → i < length ps → IsTrue (is_short (get_or ps i d))
-short_at [] i d short h = absurd (omega arith)
-short_at (p ∷ ps) zero d short h = (both (is_short p) (are_short ps) short).0
-short_at (p ∷ ps) (suc i) d short h = short_at ps i d (both (is_short p) (are_short ps) short).1 (omega arith)
+short_at : (told : Told) (ps : List Piece) (i : ℕ) (d : Piece) → IsTrue (are_short told ps) → i < length ps → IsTrue (is_short told (get_or ps i d))
+short_at told [] i d short h = absurd (omega arith)
+short_at told (p ∷ ps) zero d short h = (both (is_short told p) (are_short told ps) short).0
+short_at told (p ∷ ps) (suc i) d short h = short_at told ps i d (both (is_short told p) (are_short told ps) short).1 (omega arith)
+
+-- what is brief begins with a short text, has few pieces, and each of them is short
+pub brief : (told : Told) → IsTrue (is_brief told) → (length told.before.now ≤ 100) × (length told.pieces.now ≤ 16) × ((i : ℕ) (d : Piece) → i < length told.pieces.now → IsTrue (is_short told (get_or told.pieces.now i d)))
+brief told is =
+    let all = both (nat_le (length told.before.now) 100 && nat_le (length told.pieces.now) 16) (are_short told told.pieces.now) is in
+    let few = both (nat_le (length told.before.now) 100) (nat_le (length told.pieces.now) 16) all.0 in
+    (leb-true _ _ few.0, leb-true _ _ few.1, λ i d h. short_at told told.pieces.now i d all.1 h)
 
 -- the step of a loop that writes pieces
 pub cut-piece : (text more part old now new : List ℕ) (len : ℕ) → more ≡ text ++ part → now ≡ cut text old → len ≡ length text → new ≡ take len now ++ cut part (drop len now) → new ≡ cut more old

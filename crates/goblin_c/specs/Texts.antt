@@ -1,13 +1,13 @@
 -- The text of a refusal, from what C is told of it.
-use Rattle.std.specs.Prelude.{◌≡◌, ◌⊎◌, ⊤, ℕ, Bool, true, ◌&&◌, nat_le, ◌==◌, not, if◌then◌else◌, List, [], ◌∷◌, ◌++◌, codes, length, Option, Some, None}
+use Rattle.std.specs.Prelude.{◌≡◌, ◌⊎◌, ⊤, ℕ, Bool, true, ◌&&◌, nat_le, ◌==◌, not, if◌then◌else◌, List, [], ◌∷◌, codes, length, Option, Some, None}
 use Rattle.std.specs.Option.{option_map}
-use Rattle.std.specs.Fmt.{decimal}
 use Rattle.goblin_base.specs.declared.error.Fault.{Fault}
 use Rattle.goblin_base.specs.declared.error.Fault.TheVariants as fault
+use Rattle.goblin_base.specs.declared.texts.Piece.{Piece}
+use Rattle.goblin_base.specs.declared.texts.Piece.TheVariants as piece
+use Rattle.goblin_base.specs.declared.texts.Told.{Told}
 use Rattle.goblin_base.specs.Refusal.{Refusal, malformed, bad_magic, too_big, bad_offset, bad_input, buffer_too_short, out_of_memory}
-use Rattle.goblin_base.specs.Texts.{hexadecimal, refusal_text, word_of}
-use Rattle.goblin_c.specs.declared.texts.Piece.{Piece}
-use Rattle.goblin_c.specs.declared.texts.Piece.TheVariants as piece
+use Rattle.goblin_base.specs.Texts.{refusal_text}
 use Rattle.goblin_c.specs.declared.types.GoblinRefusal.{GoblinRefusal}
 use Rattle.goblin_c.specs.Status.{refusal_told}
 
@@ -73,32 +73,25 @@ text_of_fault found = text_of (option_map malformed found)
 abbrev pub told_text : GoblinRefusal → List ℕ
 told_text why = text_of (refusal_from why)
 
--- what a piece of a text writes
-abbrev pub piece_text : Piece → List ℕ
-piece_text (piece.Text text) = text.now
-piece_text (piece.Decimal n) = decimal n
-piece_text (piece.Hexadecimal n) = hexadecimal n
-piece_text (piece.Word b) = word_of b
-piece_text (piece.Item item) = item_text item
-
--- the text that pieces are, one behind the other
-abbrev pub joined : List Piece → List ℕ
-joined [] = []
-joined (p ∷ []) = piece_text p
-joined (p ∷ q ∷ rest) = piece_text p ++ joined (q ∷ rest)
-
 -- a piece of at most 100 bytes: but for a text any one is
-abbrev pub is_short : Piece → Bool
-is_short (piece.Text text) = nat_le (length text.now) 100
-is_short (piece.Decimal n) = true
-is_short (piece.Hexadecimal n) = true
-is_short (piece.Word b) = true
-is_short (piece.Item item) = true
+abbrev pub is_short : Told → Piece → Bool
+is_short told (piece.Text text) = nat_le (length text.now) 100
+is_short told piece.Item = nat_le (length told.item.now) 100
+is_short told piece.First = true
+is_short told piece.Second = true
+is_short told piece.Third = true
+is_short told piece.Hexadecimal = true
+is_short told piece.Overflowed = true
 
 -- each piece is short
-abbrev pub are_short : List Piece → Bool
-are_short [] = true
-are_short (p ∷ rest) = is_short p && are_short rest
+abbrev pub are_short : Told → List Piece → Bool
+are_short told [] = true
+are_short told (p ∷ rest) = is_short told p && are_short told rest
+
+-- a text of at most 16 short pieces
+abbrev pub is_brief : Told → Bool
+is_brief told =
+    nat_le (length told.before.now) 100 && nat_le (length told.pieces.now) 16 && are_short told told.pieces.now
 
 -- the refusals whose whole text C can be told: such a one names no text, or one that has a number
 abbrev pub NamesKnown : Refusal → Type 0

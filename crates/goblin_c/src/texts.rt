@@ -1,23 +1,14 @@
 //! The text of a refusal, written into bytes of the caller's.
-ghost use Rattle.std.specs.Prelude.{◌≡◌, ◌+◌, ◌≤◌, ◌<◌, ◌^◌, ◌++◌, IsTrue, false, drop, length, take};
+ghost use Rattle.std.specs.Prelude.{◌≡◌, ◌+◌, ◌≤◌, ◌<◌, ◌^◌, ◌++◌, ◌==◌, IsTrue, false, not, drop, length, take};
 ghost use Rattle.std.specs.Fmt.{digit_glyph, digits};
-ghost use Rattle.goblin_base.specs.Texts.{word_of};
+ghost use Rattle.goblin_base.specs.Texts.{piece_text, told_text as text_of_told, word_of};
 ghost use Rattle.goblin_c.specs.Cut.{cut};
-ghost use Rattle.goblin_c.specs.Texts.{are_short, is_short, item_text, joined, piece_text, told_text, fault_from, range_fault_from, table_fault_from, text_of_fault, TextIsKept};
+ghost use Rattle.goblin_c.specs.Texts.{is_brief, is_short, item_text, told_text, fault_from, range_fault_from, table_fault_from, text_of_fault, TextIsKept};
 
 use crate::names::write_bytes;
 use crate::types::GoblinRefusal;
-use Piece::{Decimal, Hexadecimal, Item, Text, Word};
-
-// A piece of a text.
-#[derive(Clone, Copy)]
-enum Piece {
-    Text(&'static str),
-    Decimal(u64),
-    Hexadecimal(u64),
-    Word(bool),
-    Item(u32),
-}
+use goblin_base::texts;
+use goblin_base::texts::{Piece, Told};
 
 // Writes as much as there is room for behind the bytes so far, and answers how many they are then.
 fn write_part(part: &[u8], len: u64, room: &mut [u8]) -> u64
@@ -97,143 +88,112 @@ fn item_of(item: u32) -> &'static str
 }
 
 // Writes a piece behind the bytes so far, and answers how many they are then.
-fn write_piece(piece: &Piece, len: u64, room: &mut [u8]) -> u64
-    requires short { IsTrue (is_short piece.now) }
+fn write_piece(told: &Told, piece: &Piece, len: u64, room: &mut [u8]) -> u64
+    requires short { IsTrue (is_short told.now piece.now) }
     requires few { len ≤ 1000000 }
-    ensures written { room.new ≡ take len room.old ++ cut (piece_text piece.now) (drop len room.old) }
-    ensures whole { result ≡ len + length (piece_text piece.now) }
+    ensures written { room.new ≡ take len room.old ++ cut (piece_text told.now piece.now) (drop len room.old) }
+    ensures whole { result ≡ len + length (piece_text told.now piece.now) }
     ensures near { result ≤ len + 100 }
 {
     match piece {
-        Text(text) => write_part(text.as_bytes(), len, room),
-        Decimal(n) => write_number(*n, 10, len, room),
-        Hexadecimal(n) => write_number(*n, 16, len, room),
-        Word(b) => write_part(word_of(*b).as_bytes(), len, room),
-        Item(item) => write_part(item_of(*item).as_bytes(), len, room),
+        Piece::Text(text) => write_part(text.as_bytes(), len, room),
+        Piece::First => write_number(told.first, 10, len, room),
+        Piece::Second => write_number(told.second, 10, len, room),
+        Piece::Third => write_number(told.third, 10, len, room),
+        Piece::Hexadecimal => write_number(told.first, 16, len, room),
+        Piece::Item => write_part(told.item.as_bytes(), len, room),
+        Piece::Overflowed => write_part(word_of(told.overflowed).as_bytes(), len, room),
     }
 }
 
 // Writes as much of a text as there is room for, and answers how long the whole text is.
-fn write_pieces(pieces: &[Piece], room: &mut [u8]) -> u64
-    requires few { length pieces.now ≤ 16 }
-    requires short { IsTrue (are_short pieces.now) }
-    ensures written { room.new ≡ cut (joined pieces.now) room.old }
-    ensures whole { result ≡ length (joined pieces.now) }
+fn write_told(told: &Told, room: &mut [u8]) -> u64
+    requires brief { IsTrue (is_brief told.now) }
+    ensures written { room.new ≡ cut (text_of_told told.now) room.old }
+    ensures whole { result ≡ length (text_of_told told.now) }
 {
-    let mut len = 0;
-    for piece in pieces {
-        len = write_piece(piece, len, room);
+    let mut len = write_part(told.before.as_bytes(), 0, room);
+    for piece in told.pieces {
+        len = write_piece(told, piece, len, room);
     }
     len
 }
 
-// What stands before the text of each fault.
-const MALFORMED: Piece = Text("Malformed entity: ");
-
-// Writes the text of a fault of bytes that end past the file's end or the greatest address.
-fn write_range_fault(why: &GoblinRefusal, text: &mut [u8]) -> u64
-    ensures written { text.new ≡ cut (text_of_fault (range_fault_from why.now)) text.old }
-    ensures whole { result ≡ length (text_of_fault (range_fault_from why.now)) }
+// What C is told, with the pieces of its text.
+fn told_by(why: &GoblinRefusal, before: &'static str, pieces: &'static [Piece]) -> Told
+    ensures numbers { result ≡ record { before = before.entry; pieces = pieces.entry; item = result.item; first = why.now.first; second = why.now.second; third = why.now.third; overflowed = not (why.now.fourth == 0) } }
+    ensures item { result.item.now ≡ item_text why.now.item }
+    ensures short { length result.item.now ≤ 15 }
 {
-    let (first, second, third) = (Decimal(why.first), Decimal(why.second), Decimal(why.third));
-    let overflow = Word(why.fourth != 0);
-    let (section, size) = (Text("Section "), Text(" size ("));
-    let (offset, addr) = (Text(") + offset ("), Text(") + addr ("));
-    let end = Text(") is out of bounds. Overflowed: ");
-    match why.kind {
-        21 => {
-            let size = Text("Strtable size (");
-            let past = Text(") is out of bounds for ");
-            let end = Text(" #bytes. Overflowed: ");
-            let pieces = [
-                MALFORMED, size, first, offset, second, past, third, end, overflow,
-            ];
-            write_pieces(&pieces, text)
-        }
-        22 => {
-            let pieces = [
-                MALFORMED, section, first, size, second, offset, third, end, overflow,
-            ];
-            write_pieces(&pieces, text)
-        }
-        23 => {
-            let pieces = [
-                MALFORMED, section, first, size, second, addr, third, end, overflow,
-            ];
-            write_pieces(&pieces, text)
-        }
-        _ => 0,
+    Told {
+        before,
+        pieces,
+        item: item_of(why.item),
+        first: why.first,
+        second: why.second,
+        third: why.third,
+        overflowed: why.fourth != 0,
     }
 }
 
-// Writes the text of a fault of a table, or of such bytes.
-fn write_table_fault(why: &GoblinRefusal, text: &mut [u8]) -> u64
-    ensures written { text.new ≡ cut (text_of_fault (table_fault_from why.now)) text.old }
-    ensures whole { result ≡ length (text_of_fault (table_fault_from why.now)) }
+// What C is told of a fault of bytes that end past the file's end or the greatest address.
+fn range_fault(why: &GoblinRefusal) -> Told
+    ensures text { text_of_told result ≡ text_of_fault (range_fault_from why.now) }
+    ensures brief { IsTrue (is_brief result) }
 {
-    let (first, second) = (Decimal(why.first), Decimal(why.second));
-    let (past, close) = (Text(") is beyond file boundary ("), Text(")"));
     match why.kind {
-        17 => {
-            let offset = Text("Symbol table offset (");
-            write_pieces(&[MALFORMED, offset, first, past, second, close], text)
-        }
-        18 => {
-            let (offset, count) = (Text("Too many ELF symbols (offset 0x"), Text(", count "));
-            let first = Hexadecimal(why.first);
-            write_pieces(&[MALFORMED, offset, first, count, second, close], text)
-        }
-        19 => {
-            let requested = Text("Symbol table extends beyond file boundary (requested: ");
-            let available = Text(", available: ");
-            let pieces = [MALFORMED, requested, first, available, second, close];
-            write_pieces(&pieces, text)
-        }
-        20 => {
-            let offset = Text("String table offset (");
-            write_pieces(&[MALFORMED, offset, first, past, second, close], text)
-        }
-        _ => write_range_fault(why, text),
+        21 => told_by(why, texts::MALFORMED, texts::STRTAB_RANGE),
+        22 => told_by(why, texts::MALFORMED, texts::SECTION_OFFSET),
+        23 => told_by(why, texts::MALFORMED, texts::SECTION_ADDR),
+        _ => told_by(why, "", &[]),
     }
 }
 
-// Writes the text of a fault.
-fn write_fault(why: &GoblinRefusal, text: &mut [u8]) -> u64
-    ensures written { text.new ≡ cut (text_of_fault (fault_from why.now)) text.old }
-    ensures whole { result ≡ length (text_of_fault (fault_from why.now)) }
+// What C is told of a fault of a table, or of such bytes.
+fn table_fault(why: &GoblinRefusal) -> Told
+    ensures text { text_of_told result ≡ text_of_fault (table_fault_from why.now) }
+    ensures brief { IsTrue (is_brief result) }
 {
-    let (decimal, hexadecimal) = (Decimal(why.first), Hexadecimal(why.first));
     match why.kind {
-        10 => {
-            let class = Text("Invalid class in Header: ");
-            write_pieces(&[MALFORMED, class, decimal], text)
-        }
-        11 => {
-            let order = Text("Invalid endianness in Header: ");
-            write_pieces(&[MALFORMED, order, decimal], text)
-        }
-        12 => write_pieces(&[MALFORMED, Text("Too small")], text),
-        13 => {
-            let class = Text("invalid ELF class ");
-            write_pieces(&[MALFORMED, class, hexadecimal], text)
-        }
-        14 => {
-            let order = Text("invalid ELF endianness DATA type ");
-            write_pieces(&[MALFORMED, order, hexadecimal], text)
-        }
-        15 => {
-            let order = Text("invalid ELF DATA type ");
-            write_pieces(&[MALFORMED, order, hexadecimal], text)
-        }
-        16 => {
-            let align = Text("Notes has unimplemented alignment requirement: 0x");
-            write_pieces(&[MALFORMED, align, hexadecimal], text)
-        }
-        24 => {
-            let fit = Text("Integer do not fit: out of range integral type conversion attempted");
-            write_pieces(&[MALFORMED, fit], text)
-        }
-        _ => write_table_fault(why, text),
+        17 => told_by(why, texts::MALFORMED, texts::SYMTAB_OFFSET),
+        18 => told_by(why, texts::MALFORMED, texts::TOO_MANY_SYMBOLS),
+        19 => told_by(why, texts::MALFORMED, texts::SYMTAB_PAST),
+        20 => told_by(why, texts::MALFORMED, texts::STRTAB_OFFSET),
+        _ => range_fault(why),
+    }
+}
+
+// What C is told of a fault.
+fn fault(why: &GoblinRefusal) -> Told
+    ensures text { text_of_told result ≡ text_of_fault (fault_from why.now) }
+    ensures brief { IsTrue (is_brief result) }
+{
+    match why.kind {
+        10 => told_by(why, texts::MALFORMED, texts::INVALID_CLASS),
+        11 => told_by(why, texts::MALFORMED, texts::INVALID_ENDIANNESS),
+        12 => told_by(why, texts::MALFORMED, texts::TOO_SMALL),
+        13 => told_by(why, texts::MALFORMED, texts::ELF_CLASS),
+        14 => told_by(why, texts::MALFORMED, texts::DATA_TYPE),
+        15 => told_by(why, texts::MALFORMED, texts::DATA),
+        16 => told_by(why, texts::MALFORMED, texts::NOTE_ALIGN),
+        24 => told_by(why, texts::MALFORMED, texts::INTEGER_FIT),
+        _ => table_fault(why),
+    }
+}
+
+// What C is told of a refusal: of a kind that is none it has no text.
+fn refusal(why: &GoblinRefusal) -> Told
+    ensures text { text_of_told result ≡ told_text why.now }
+    ensures brief { IsTrue (is_brief result) }
+{
+    match why.kind {
+        2 => told_by(why, "", texts::BAD_MAGIC),
+        3 => told_by(why, "", texts::TOO_BIG),
+        4 => told_by(why, "", texts::BAD_OFFSET),
+        5 => told_by(why, "", texts::BAD_INPUT),
+        6 => told_by(why, "", texts::BUFFER_TOO_SHORT),
+        7 => told_by(why, "", texts::MEMORY),
+        _ => fault(why),
     }
 }
 
@@ -242,28 +202,7 @@ pub fn write_refusal(why: &GoblinRefusal, text: &mut [u8]) -> u64
     ensures written { text.new ≡ cut (told_text why.now) text.old }
     ensures whole { result ≡ length (told_text why.now) }
 {
-    let (first, item) = (Decimal(why.first), Item(why.item));
-    match why.kind {
-        2 => {
-            let magic = Text("Invalid magic number: 0x");
-            write_pieces(&[magic, Hexadecimal(why.first)], text)
-        }
-        3 => {
-            let (size, len) = (Text("type is too big ("), Text(") for "));
-            write_pieces(&[size, first, len, Decimal(why.second)], text)
-        }
-        4 => write_pieces(&[Text("bad offset "), first], text),
-        5 => write_pieces(
-            &[Text("bad input "), item, Text(" ("), first, Text(")")],
-            text,
-        ),
-        6 => {
-            let count = Text("Buffer is too short for ");
-            write_pieces(&[count, first, Text(" "), item], text)
-        }
-        7 => write_pieces(&[Text("Out of memory")], text),
-        _ => write_fault(why, text),
-    }
+    write_told(&refusal(why), text)
 }
 
 /// Law: what C is told of a refusal has the refusal's text.
