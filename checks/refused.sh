@@ -1,6 +1,6 @@
 #!/bin/sh
 # Whether each call that takes memory answers want of memory, or what it answers with ample memory, whichever one of its
-# growths is refused: each call that crates/goblin_refused lists in its stdin, and a run of goblin_show over files that
+# growths is refused: each call that crates/goblin_refused lists in its stdin, and a run of goblin_text over files that
 # reach each of its lines. Nothing is proved here. Run from the repository's root.
 set -eu
 export LC_ALL=C
@@ -37,15 +37,12 @@ while read -r name; do
 done < crates/goblin_refused/stdin
 run_cases crates/goblin_refused "$folder/calls"
 
-# The modules of goblin_show, with a main that tries growths.
+# A program over goblin_text that tries growths.
 cp -r --parents crates.txt crates/*/src crates/*/specs crates/*/proofs "$folder"
-{
-    sed '/^mod growths;$/q' checks/refused_show.main
-    grep '^mod ' crates/goblin_show/src/main.rt | grep -v '^mod tests'
-    sed '1,/^mod growths;$/d' checks/refused_show.main
-} > "$folder/crates/goblin_show/src/main.rt"
-cp crates/goblin_refused/src/growths.rt "$folder/crates/goblin_show/src"
-rm -rf "$folder"/crates/goblin_show/src/tests*.rt "$folder"/crates/goblin_show/proofs/tests*
+echo 'goblin_runs: goblin goblin_text' >> "$folder/crates.txt"
+mkdir -p "$folder/crates/goblin_runs/src"
+cp checks/refused_runs.main "$folder/crates/goblin_runs/src/main.rt"
+cp crates/goblin_refused/src/growths.rt "$folder/crates/goblin_runs/src"
 
 # A run over a file with zeros behind it, with so many growths at most, which writes this where all memory is there.
 add_run() {
@@ -60,5 +57,5 @@ add_run relocations 'strict 0' checks/files/relocations 20 < checks/files/reloca
 add_run names 'strict 0' "$names" 20 < crates/goblin_show/stdout
 sed 's/name=[.]s$/name=/' crates/goblin_show/stdout | add_run damaged 'permissive 0' "$folder/damaged" 20
 echo 'refused: Invalid magic number: 0x3736353433323130' | add_run longest 'strict 16777200' "$folder/magic" 12
-run_cases "$folder/crates/goblin_show" "$folder/runs"
+run_cases "$folder/crates/goblin_runs" "$folder/runs"
 echo 'each growth that is refused is answered by want of memory, or as with ample memory'

@@ -1,5 +1,5 @@
 //! Lists of many lengths: each call that takes memory gives as many items as it was asked for.
-ghost use Rattle.std.specs.Prelude.{◌≤◌};
+ghost use Rattle.std.specs.Prelude.{◌≡◌, ◌≤◌, length};
 
 use crate::told::{differs, holds, is};
 use goblin::container::{Container, Ctx, LE};
@@ -15,8 +15,14 @@ use goblin_base::table::Table;
 use goblin_base::walk::walk;
 use std::fmt::Debug;
 
-// As many zeros as the longest list takes, and 64 before it.
 static ZEROS: [u8; 262_272] = [0; 262_272];
+
+// As many zeros as the longest list takes, and 64 before it.
+fn zeros() -> &'static [u8]
+    ensures { length result.now ≡ 262_272 }
+{
+    &ZEROS
+}
 
 // The 64-bit class, in little byte order.
 const CTX: Ctx = Ctx {
@@ -34,66 +40,66 @@ fn lists<T: Debug + Drop>(rt: HostRuntime, answer: Result<Vec<T>>, count: usize)
 
 // Whether this call gives a list of so many items, and below it each of the others.
 fn segments(rt: HostRuntime, count: usize) -> bool {
-    let list = ProgramHeader::parse(rt.alloc(), &ZEROS, 0, count, CTX);
+    let list = ProgramHeader::parse(rt.alloc(), zeros(), 0, count, CTX);
     lists(rt, list, count)
 }
 
 fn segments32(rt: HostRuntime, count: usize) -> bool {
-    let list = program_header32::ProgramHeader::parse(rt.alloc(), &ZEROS, 0, count, LE);
+    let list = program_header32::ProgramHeader::parse(rt.alloc(), zeros(), 0, count, LE);
     lists(rt, list, count)
 }
 
 fn segments64(rt: HostRuntime, count: usize) -> bool {
-    let list = program_header64::ProgramHeader::parse(rt.alloc(), &ZEROS, 0, count, LE);
+    let list = program_header64::ProgramHeader::parse(rt.alloc(), zeros(), 0, count, LE);
     lists(rt, list, count)
 }
 
 fn segment_bytes32(rt: HostRuntime, count: usize) -> bool
     requires { count ≤ 4097 }
 {
-    let list = program_header32::ProgramHeader::from_bytes(rt.alloc(), &ZEROS, count);
+    let list = program_header32::ProgramHeader::from_bytes(rt.alloc(), zeros(), count);
     lists(rt, list, count)
 }
 
 fn segment_bytes64(rt: HostRuntime, count: usize) -> bool
     requires { count ≤ 4097 }
 {
-    let list = program_header64::ProgramHeader::from_bytes(rt.alloc(), &ZEROS, count);
+    let list = program_header64::ProgramHeader::from_bytes(rt.alloc(), zeros(), count);
     lists(rt, list, count)
 }
 
 // Section headers that none are asked of are one, whose size says how many there are.
 fn sections(rt: HostRuntime, count: usize) -> bool {
-    let list = SectionHeader::parse(rt.alloc(), &ZEROS, 64, count, CTX);
+    let list = SectionHeader::parse(rt.alloc(), zeros(), 64, count, CTX);
     lists(rt, list, count.max(1))
 }
 
 fn sections_from(rt: HostRuntime, count: usize) -> bool {
-    let list = SectionHeader::parse_from(rt.alloc(), &ZEROS, 0, count, CTX);
+    let list = SectionHeader::parse_from(rt.alloc(), zeros(), 0, count, CTX);
     lists(rt, list, count.max(1))
 }
 
 fn section_bytes32(rt: HostRuntime, count: usize) -> bool
     requires { count ≤ 4097 }
 {
-    let list = section_header32::SectionHeader::from_bytes(rt.alloc(), &ZEROS, count);
+    let list = section_header32::SectionHeader::from_bytes(rt.alloc(), zeros(), count);
     lists(rt, list, count)
 }
 
 fn section_bytes64(rt: HostRuntime, count: usize) -> bool
     requires { count ≤ 4097 }
 {
-    let list = section_header64::SectionHeader::from_bytes(rt.alloc(), &ZEROS, count);
+    let list = section_header64::SectionHeader::from_bytes(rt.alloc(), zeros(), count);
     lists(rt, list, count)
 }
 
 fn symbols(rt: HostRuntime, count: usize) -> bool {
-    let list = Sym::parse(rt.alloc(), &ZEROS, 0, count, CTX);
+    let list = Sym::parse(rt.alloc(), zeros(), 0, count, CTX);
     lists(rt, list, count)
 }
 
 fn symbol_table(rt: HostRuntime, count: usize) -> bool {
-    match Symtab::parse(&ZEROS, 0, count, CTX) {
+    match Symtab::parse(zeros(), 0, count, CTX) {
         Ok(table) => lists(rt, table.to_vec(rt.alloc()), count),
         Err(e) => differs(rt, &e, &count),
     }
@@ -102,7 +108,7 @@ fn symbol_table(rt: HostRuntime, count: usize) -> bool {
 fn relocations(rt: HostRuntime, count: usize) -> bool
     requires { count ≤ 4097 }
 {
-    match RelocSection::parse(&ZEROS, 0, 16 * count, false, CTX) {
+    match RelocSection::parse(zeros(), 0, 16 * count, false, CTX) {
         Ok(section) => lists(rt, section.to_vec(rt.alloc()), count),
         Err(e) => differs(rt, &e, &count),
     }
@@ -111,7 +117,7 @@ fn relocations(rt: HostRuntime, count: usize) -> bool
 fn records(rt: HostRuntime, count: usize) -> bool
     requires { count ≤ 4097 }
 {
-    let list = Table::<Sym, Ctx>::of(&ZEROS, count, CTX).to_vec(rt.alloc());
+    let list = Table::<Sym, Ctx>::of(zeros(), count, CTX).to_vec(rt.alloc());
     lists(rt, list, count)
 }
 
@@ -119,7 +125,7 @@ fn records(rt: HostRuntime, count: usize) -> bool
 fn strings(rt: HostRuntime, count: usize) -> bool
     requires { count ≤ 4097 }
 {
-    match Strtab::new_preparsed(rt.alloc(), &ZEROS[..count], 0) {
+    match Strtab::new_preparsed(rt.alloc(), &zeros()[..count], 0) {
         Ok(table) => lists(rt, table.to_vec(rt.alloc()), count),
         Err(e) => differs(rt, &e, &count),
     }
@@ -128,14 +134,14 @@ fn strings(rt: HostRuntime, count: usize) -> bool
 fn strings_unparsed(rt: HostRuntime, count: usize) -> bool
     requires { count ≤ 4097 }
 {
-    let list = Strtab::new(&ZEROS[..count], 0).to_vec(rt.alloc());
+    let list = Strtab::new(&zeros()[..count], 0).to_vec(rt.alloc());
     lists(rt, list, count)
 }
 
 fn walks(rt: HostRuntime, count: usize, mode: ParseMode) -> bool
     requires { count ≤ 4097 }
 {
-    match walk(rt.alloc(), &mut Looked::new(&ZEROS[..count]), 0, mode) {
+    match walk(rt.alloc(), &mut Looked::new(&zeros()[..count]), 0, mode) {
         Ok(entries) => is(rt, entries.len(), count),
         Err(e) => differs(rt, &e, &count),
     }

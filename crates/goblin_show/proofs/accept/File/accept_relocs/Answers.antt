@@ -1,9 +1,0 @@
-use Rattle.goblin_show.proofs.Parts.{relocs_text-push}
-use Rattle.std.proofs.Common.{arith}
-use Rattle.std.proofs.lemmas.Grind.{common_steps}
-use Rattle.goblin_show.specs.Shown.{reloc_lines, relocs_shown}
-use Rattle.goblin_show.proofs.accept.File.accept_relocs.Goals as goal
-
-pub returns : goal.returns
-unfolding relocs_shown
-returns c = (reloc_lines c.args.number 0 c.in_ok-relocs.relocs, grind (arith, common_steps), grind (arith, common_steps, relocs_text-push))

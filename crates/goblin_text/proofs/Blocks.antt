@@ -1,0 +1,126 @@
+-- Blocks of a file that are text, and the string tables that lie in them.
+use Rattle.std.proofs.Common.{◌≡◌, ◌∙◌, ℕ, zero, suc, eqb, [], ◌∷◌, refl, ◌+◌, ◌-◌, ◌<◌, ◌≤◌, ◌≢◌, ◌&&◌, set, replicate, length-set, get_or-set_other, get_or-set_same, ltb, leb, Bool, true, false, cond, List, length, get_or, take, drop, sym, ap, subst, ⊎_elim, arith, Ok, slice_range, min}
+use Rattle.std.proofs.lemmas.Bool.{cases_eq, cases_lt}
+use Rattle.std.proofs.lemmas.Bool.Decides.{nat_tests}
+use Rattle.std.proofs.lemmas.List.{get_or-replicate, length-replicate, length-drop, length-take-le, take_all}
+use Rattle.goblin.specs.declared.options.ParseMode.{ParseMode}
+use Rattle.goblin.specs.declared.options.ParseMode.TheVariants.{Strict, Permissive}
+use Rattle.goblin.specs.Strtab.{or_cut, range_in}
+use Rattle.goblin_base.specs.declared.error.Fault.TheVariants.{StrtabOffset, StrtabRange}
+use Prim.Native.Nat.{◌^◌}
+use Rattle.goblin_text.specs.Known.{IsRange}
+use Rattle.goblin_text.specs.declared.runs.Kind.{Kind}
+use Rattle.goblin_text.specs.Runs.{AreEnds, IsEnd, IsRun, cut, past, unknown}
+
+-- ---- blocks
+past_bounds : (bytes : List ℕ) (p : ℕ) → (p ≤ past bytes p) × (past bytes p ≤ p + 1)
+unfolding past
+past_bounds bytes p = elim (leb 128 (get_or bytes p 0) && ltb (get_or bytes p 0) 192) as (λ b. (p ≤ cond b (p + 1) p) × (cond b (p + 1) p ≤ p + 1)) [ true ↦ (omega arith, omega arith) | false ↦ (omega arith, omega arith) ]
+
+pub cut_bounds : (bytes : List ℕ) (place : ℕ) → (place ≤ cut bytes place) × (cut bytes place ≤ place + 3)
+unfolding cut
+cut_bounds bytes place =
+    let p = past_bounds bytes place in
+    let q = past_bounds bytes (past bytes place) in
+    let r = past_bounds bytes (past bytes (past bytes place)) in
+    (omega arith, omega arith)
+
+-- of a block of which nothing is known nothing is kept
+pub none_known : (kind : Kind) (bytes : List ℕ) (n : ℕ) → AreEnds kind bytes (replicate n 0)
+unfolding AreEnds
+none_known kind bytes n = λ k l some.
+    let z : ℕ = 0 in
+    let size : length (replicate n z) ≡ n = length-replicate n z in
+    let e : get_or (replicate n z) k z ≡ z = get_or-replicate n k z z (omega (arith, l, size)) in
+    absurd (omega (arith, e, some))
+
+-- of so many blocks no more than all are unknown
+pub unknown_most : (n : ℕ) (ends : List ℕ) → unknown n ends ≤ n
+unfolding unknown
+unknown_most zero ends = omega arith
+unknown_most (suc n) [] = omega arith
+unknown_most (suc n) (end ∷ ends) = elim (eqb end 0) as (λ b. cond b 1 0 + unknown n ends ≤ suc n) [ true ↦ omega (arith, unknown_most n ends) | false ↦ omega (arith, unknown_most n ends) ]
+
+-- what is kept of a block
+pub end_known : (kind : Kind) (bytes ends : List ℕ) (k : ℕ) → AreEnds kind bytes ends → k < length ends → 0 < get_or ends k 0 → IsEnd kind bytes k (get_or ends k 0)
+unfolding AreEnds
+end_known kind bytes ends k h l some = h k l some
+
+-- one end more
+pub end_more : (kind : Kind) (bytes ends : List ℕ) (i n : ℕ) → AreEnds kind bytes ends → i < length ends → IsEnd kind bytes i n → AreEnds kind bytes (set ends i n)
+unfolding AreEnds
+end_more kind bytes ends i n h m t = λ k l some. ⊎_elim
+    (λ (s : k ≡ i).
+    let e : get_or (set ends i n) k 0 ≡ n = ap (λ x. get_or (set ends i n) x 0) s ∙ get_or-set_same ends i n 0 m in
+    subst (λ x. IsEnd kind bytes x (get_or (set ends i n) k 0)) (sym s) (subst (IsEnd kind bytes i) (sym e) t))
+    (λ (d : k ≢ i).
+    let e : get_or (set ends i n) k 0 ≡ get_or ends k 0 = rw get_or-set_other refl in
+    subst (IsEnd kind bytes k) (sym e) (h k (omega (arith, l, length-set {A = ℕ})) (omega (arith, e, some))))
+    (cases_eq k i)
+
+-- and so one unknown less
+pub unknown_less : (n : ℕ) (ends : List ℕ) (i v : ℕ) → i < n → i < length ends → get_or ends i 0 ≡ 0 → 0 < v → unknown n (set ends i v) + 1 ≤ unknown n ends
+unfolding unknown
+unknown_less zero ends i v l m z p = absurd (omega arith)
+unknown_less (suc n) [] i v l m z p = absurd (omega arith)
+unknown_less (suc n) (end ∷ ends) zero v l m z p =
+    let now : eqb v 0 ≡ false = grind (arith, nat_tests) in
+    let before : eqb end 0 ≡ true = grind (arith, nat_tests) in
+    rw (now, before) (omega arith)
+unknown_less (suc n) (end ∷ ends) (suc i) v l m z p =
+    let rest = unknown_less n ends i v (omega arith) (omega arith) z p in
+    elim (eqb end 0) as (λ b. cond b 1 0 + unknown n (set ends i v) + 1 ≤ cond b 1 0 + unknown n ends) [ true ↦ omega (arith, rest) | false ↦ omega (arith, rest) ]
+
+-- a run goes on to where the run ends that goes on from it
+pub end_behind : (kind : Kind) (bytes : List ℕ) (first k end : ℕ) → first ≤ k → IsRun kind bytes first k → IsEnd kind bytes k end → IsEnd kind bytes first end
+end_behind kind bytes first k end l run e = record {
+  order = omega (arith, e.order);
+  within = e.within;
+  run = λ j from to. ⊎_elim (λ (s : j < k). run j from s) (λ (s : k ≤ j). e.run j s to) (cases_lt j k);
+  stops = e.stops;
+}
+
+-- the end of a run is that of each run in it
+pub end_later : (kind : Kind) (bytes : List ℕ) (first k end : ℕ) → first ≤ k → k ≤ end → IsEnd kind bytes first end → IsEnd kind bytes k end
+end_later kind bytes first k end l m e = record {
+  order = m;
+  within = e.within;
+  run = λ j from to. e.run j (omega arith) to;
+  stops = e.stops;
+}
+
+-- ---- ranges
+-- bytes that stand somewhere in a file
+placed : (file : List ℕ) (s k : ℕ) (r : List ℕ) → s + k ≤ length file → r ≡ take k (drop s file) → (s + length r ≤ length file) × (r ≡ slice_range file s (s + length r))
+placed file s k r l e =
+    let len : length r ≡ k = ap length e ∙ length-take-le k (drop s file) (omega (arith, length-drop s file)) in
+    let n : k ≡ s + length r - s = omega (arith, len) in
+    (omega (arith, len), e ∙ ap (λ x. take x (drop s file)) n)
+
+-- where the bytes of a table stand
+stands : (mode : ParseMode) (file : List ℕ) (o n : ℕ) (r : List ℕ) → range_in mode file o n ≡ Ok r → (s : ℕ) × (k : ℕ) × (s ≡ min o (length file)) × (s + k ≤ length file) × (r ≡ take k (drop s file))
+unfolding range_in
+stands mode file o n r is = by mode (ltb (length file) o) (ltb (length file) (o + n)) refl refl is
+  where
+    by : (mode : ParseMode) (b c : Bool) → ltb (length file) o ≡ b → ltb (length file) (o + n) ≡ c
+        → cond b (or_cut mode (StrtabOffset o (length file)) []) (cond c (or_cut mode (StrtabRange n o (length file) (leb (2 ^ 64) (o + n))) (drop o file)) (Ok (take n (drop o file)))) ≡ Ok r
+        → (s : ℕ) × (k : ℕ) × (s ≡ min o (length file)) × (s + k ≤ length file) × (r ≡ take k (drop s file))
+    by Strict true c e f is = cc
+    by Permissive true c e f is = let l : length file < o = grind (arith, nat_tests) in (length file, 0, omega arith, omega arith, cc)
+    by Strict false true e f is = cc
+    by Permissive false true e f is =
+        let l : o ≤ length file = grind (arith, nat_tests) in
+        let r_is : drop o file ≡ r = cc in
+        (o, length file - o, omega arith, omega arith, sym r_is ∙ sym (take_all (length file - o) (drop o file) (omega (arith, length-drop o file))))
+    by Strict false false e f is = let l : o + n ≤ length file = grind (arith, nat_tests) in let r_is : take n (drop o file) ≡ r = cc in (o, n, omega arith, l, sym r_is)
+    by Permissive false false e f is = let l : o + n ≤ length file = grind (arith, nat_tests) in let r_is : take n (drop o file) ≡ r = cc in (o, n, omega arith, l, sym r_is)
+
+pub range_stands : (mode : ParseMode) (file : List ℕ) (o n : ℕ) (r : List ℕ) → range_in mode file o n ≡ Ok r → IsRange mode file o n (min o (length file)) (min o (length file) + length r)
+range_stands mode file o n r is =
+    let at = stands mode file o n r is in
+    let there = placed file at.0 at.1 r at.3 at.4 in
+    record {
+      order = omega arith;
+      within = omega (arith, there.0, at.2);
+      is = is ∙ ap Ok (subst (λ s. r ≡ slice_range file s (s + length r)) at.2 there.1);
+    }

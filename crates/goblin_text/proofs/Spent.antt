@@ -1,0 +1,133 @@
+-- What names took, and what is left to them.
+use Rattle.std.proofs.Common.{◌≡◌, ℕ, ◌+◌, ◌*◌, ◌≤◌, eqb, cond, true, false, List, [], ◌∷◌, ◌++◌, ap, arith, length, length-append, Ok, subst, sym}
+use Rattle.std.proofs.lemmas.List.{length-map}
+use Rattle.goblin.specs.SectionNames.{section_name}
+use Rattle.goblin.specs.SymParts.{bind_of, type_of, visibility_of, bind_name, type_name, visibility_name}
+use Rattle.goblin.specs.Texts.{◌&◌, hexadecimal}
+use Rattle.goblin.specs.HeaderNames.{class_name, type_name as file_type_name}
+use Rattle.goblin.specs.Machines.{machine_name}
+use Rattle.goblin.specs.Strtab.{StringTable}
+use Rattle.goblin.specs.declared.options.ParseMode.{ParseMode}
+use Rattle.std.specs.Prelude.{codes, decimal, slice_index, vec_items}
+use Rattle.std.specs.Option.{unwrap_or}
+use Rattle.std.specs.Result.{result_ok}
+use Rattle.goblin.specs.declared.elf.header.Header.{Header}
+use Rattle.goblin.specs.declared.elf.section_header.SectionHeader.{SectionHeader}
+use Rattle.goblin.specs.declared.elf.sym.Sym.{Sym}
+use Rattle.goblin_text.specs.Accepted.{parts_text, relocs_text, symbols_text}
+use Rattle.goblin_text.specs.Known.{strings_in}
+use Rattle.goblin_text.specs.Shown.{name_at, section_lines, shown}
+use Rattle.goblin_text.specs.declared.accept.Parts.{Parts}
+use Rattle.goblin_text.specs.Lines.{header_line, newline, order_word, printable, printed, section_line, symbol_line}
+use Rattle.goblin_text.specs.Looks.{Named, Spends, lines_in, name_looks, names_looks, section_count, shown_looks, table_looks, tables_looks}
+
+-- of a text the looks so far were taken, and those of the rest are left
+abbrev pub SpentSoFar : Named → Named → List ℕ → List ℕ → Type 0
+SpentSoFar old new all rest = new.count + new.left + names_looks rest ≤ old.count + old.left + names_looks all
+
+pub lines-append : (a b : List ℕ) → lines_in (a ++ b) ≡ lines_in a + lines_in b
+lines-append [] b = omega arith
+lines-append (x ∷ a) b = elim (eqb x 10) as (λ t. cond t 1 0 + lines_in (a ++ b) ≡ cond t 1 0 + lines_in a + lines_in b) [ true ↦ omega (arith, lines-append a b) | false ↦ omega (arith, lines-append a b) ]
+
+pub looks-append : (a b : List ℕ) → names_looks (a ++ b) ≡ names_looks a + names_looks b
+unfolding names_looks
+looks-append a b = omega (arith, length-append a b, lines-append a b)
+
+pub looks-none : names_looks [] ≡ 0
+unfolding names_looks
+looks-none = omega arith
+
+-- a name with the rest of its line
+pub looks-line : (head name : List ℕ) → name_looks + length name ≤ names_looks (head & printed name & newline)
+unfolding names_looks
+looks-line head name =
+    let tail = printed name ++ newline in
+    let size = length-append head tail in
+    let more = length-append (printed name) newline in
+    let same : length (printed name) ≡ length name = length-map name printable in
+    let lines = lines-append head tail in
+    let last = lines-append (printed name) newline in
+    omega (arith, size, more, same, lines, last)
+
+-- and with what stands before that
+behind : {n : ℕ} (a b : List ℕ) → n ≤ names_looks b → n ≤ names_looks (a & b)
+behind a b l = omega (arith, looks-append a b, l)
+
+pub section_looks : (number : ℕ) (s : SectionHeader) (name : List ℕ) → name_looks + length name ≤ names_looks (section_line number s name)
+section_looks number s name =
+    behind (codes "section ") _ (behind (decimal number) _ (behind (codes " ") _ (behind (section_name s.sh_type) _ (behind (codes " offset 0x") _ (behind (hexadecimal s.sh_offset) _ (behind (codes " size ") _ (behind (decimal s.sh_size) _ (looks-line (codes " name=") name))))))))
+
+pub symbol_looks : (section number : ℕ) (s : Sym) (name : List ℕ) → name_looks + length name ≤ names_looks (symbol_line section number s name)
+symbol_looks section number s name =
+    behind (codes "symbol ") _ (behind (decimal section) _ (behind (codes " ") _ (behind (decimal number) _ (behind (codes " ") _ (behind (type_name (type_of s.st_info)) _ (behind (codes " ") _ (behind (bind_name (bind_of s.st_info)) _ (behind (codes " ") _ (behind (visibility_name (visibility_of s.st_other)) _ (behind (codes " value 0x") _ (behind (hexadecimal s.st_value) _ (behind (codes " size ") _ (behind (decimal s.st_size) _ (looks-line (codes " name=") name))))))))))))))
+
+-- before the first line
+pub none_spent : (s : Named) (all : List ℕ) → SpentSoFar s s all all
+none_spent s all = omega arith
+
+-- with one line more
+pub more_spent : (old mid new : Named) (all rest line next : List ℕ) → SpentSoFar old mid all rest → rest ≡ line ++ next → Spends mid new (names_looks line) → SpentSoFar old new all next
+more_spent old mid new all rest line next s e p = omega (arith, s, ap names_looks e, looks-append line next, p)
+
+-- where a line failed
+pub failed_spent : (old mid new : Named) (all rest line next : List ℕ) → SpentSoFar old mid all rest → rest ≡ line ++ next → Spends mid new (names_looks line) → Spends old new (names_looks all)
+failed_spent old mid new all rest line next s e p = omega (arith, s, ap names_looks e, looks-append line next, p)
+
+-- the parts of a file's text
+parts_looks : (bytes : List ℕ) (header : Header) (sections : List SectionHeader) (parts : Parts) → names_looks (section_lines (strings_in bytes parts.strings) 0 sections) + names_looks (symbols_text bytes (vec_items parts.symbols)) ≤ names_looks (parts_text bytes header sections parts)
+parts_looks bytes header sections parts =
+    let lines = section_lines (strings_in bytes parts.strings) 0 sections in
+    let symbols = symbols_text bytes (vec_items parts.symbols) in
+    let relocs = relocs_text (vec_items parts.relocs) in
+    omega (arith, looks-append (header_line header) (lines & symbols & relocs), looks-append lines (symbols & relocs), looks-append symbols relocs)
+
+pub sections_spend : (old new : Named) (bytes : List ℕ) (header : Header) (sections : List SectionHeader) (parts : Parts) → Spends old new (names_looks (section_lines (strings_in bytes parts.strings) 0 sections)) → Spends old new (names_looks (parts_text bytes header sections parts))
+sections_spend old new bytes header sections parts s = omega (arith, s, parts_looks bytes header sections parts)
+
+pub parts_spend : (old mid new : Named) (bytes : List ℕ) (header : Header) (sections : List SectionHeader) (parts : Parts) → Spends old mid (names_looks (section_lines (strings_in bytes parts.strings) 0 sections)) → Spends mid new (names_looks (symbols_text bytes (vec_items parts.symbols))) → Spends old new (names_looks (parts_text bytes header sections parts))
+parts_spend old mid new bytes header sections parts s t = omega (arith, s, t, parts_looks bytes header sections parts)
+
+-- ---- lines
+line-behind : (a b : List ℕ) → 1 ≤ lines_in b → 1 ≤ lines_in (a & b)
+line-behind a b l = omega (arith, lines-append a b, l)
+
+one-line : 1 ≤ lines_in newline
+one-line = omega arith
+
+header-line : (h : Header) → 1 ≤ lines_in (header_line h)
+header-line h =
+    line-behind (codes "header ") _ (line-behind (class_name (slice_index h.e_ident 4)) _ (line-behind (codes " ") _ (line-behind (order_word (slice_index h.e_ident 5)) _ (line-behind (codes " ") _ (line-behind (file_type_name h.e_type) _ (line-behind (codes " ") _ (line-behind (machine_name h.e_machine) _ (line-behind (codes " entry 0x") _ (line-behind (hexadecimal h.e_entry) _ (line-behind (codes " phnum ") _ (line-behind (decimal h.e_phnum) _ (line-behind (codes " shnum ") _ (line-behind (decimal h.e_shnum) _ one-line)))))))))))))
+
+section-line : (number : ℕ) (s : SectionHeader) (name : List ℕ) → 1 ≤ lines_in (section_line number s name)
+section-line number s name =
+    line-behind (codes "section ") _ (line-behind (decimal number) _ (line-behind (codes " ") _ (line-behind (section_name s.sh_type) _ (line-behind (codes " offset 0x") _ (line-behind (hexadecimal s.sh_offset) _ (line-behind (codes " size ") _ (line-behind (decimal s.sh_size) _ (line-behind (codes " name=") _ (line-behind (printed name) _ one-line)))))))))
+
+-- each section has a line
+section-count : (names : StringTable) (number : ℕ) (sections : List SectionHeader) → length sections ≤ lines_in (section_lines names number sections)
+section-count names number [] = omega arith
+section-count names number (s ∷ sections) =
+    let line = section_line number s (name_at names s.sh_name) in
+    omega (arith, section-line number s (name_at names s.sh_name), section-count names (number + 1) sections, lines-append line (section_lines names (number + 1) sections))
+
+lines_most : (bytes : List ℕ) (header : Header) (sections : List SectionHeader) (parts : Parts) → length sections + 1 ≤ lines_in (parts_text bytes header sections parts)
+lines_most bytes header sections parts =
+    let names = strings_in bytes parts.strings in
+    let lines = section_lines names 0 sections in
+    let rest = symbols_text bytes (vec_items parts.symbols) & relocs_text (vec_items parts.relocs) in
+    omega (arith, header-line header, section-count names 0 sections, lines-append (header_line header) (lines & rest), lines-append lines rest)
+
+-- the tables and the names of a file that is shown
+pub shown_spend : (old mid new : Named) (bytes : List ℕ) (header : Header) (sections : List SectionHeader) (parts : Parts) (text : List ℕ) → text ≡ parts_text bytes header sections parts → Spends old mid (table_looks * (length sections + 1)) → Spends mid new (names_looks (parts_text bytes header sections parts)) → Spends old new (length text + 4096 * lines_in text)
+unfolding names_looks
+shown_spend old mid new bytes header sections parts text is s t =
+    let all = parts_text bytes header sections parts in
+    subst (λ x. Spends old new (length x + 4096 * lines_in x)) (sym is) (by all (lines_most bytes header sections parts) t)
+  where
+    by : (x : List ℕ) → length sections + 1 ≤ lines_in x → Spends mid new (length x + name_looks * lines_in x) → Spends old new (length x + 4096 * lines_in x)
+    by x l p = omega (arith, s, l, p)
+
+-- and in any case
+pub any_spend : (old mid new : Named) (mode : ParseMode) (bytes : List ℕ) (count : ℕ) (text : List ℕ) → count ≡ section_count mode bytes → shown mode bytes ≡ Ok text → Spends old mid (table_looks * (count + 1)) → Spends mid new (names_looks text) → Spends old new (tables_looks mode bytes + shown_looks mode bytes)
+any_spend old mid new mode bytes count text e is s t =
+    let same : shown_looks mode bytes ≡ names_looks text = ap (λ r. names_looks (unwrap_or (result_ok r) [])) is in
+    omega (arith, e, same, s, t)

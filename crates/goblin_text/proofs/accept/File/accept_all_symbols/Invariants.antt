@@ -1,0 +1,16 @@
+use Rattle.std.proofs.Common.{◌≡◌, ◌++◌, ◌*◌, ℕ, List, drop}
+use Rattle.goblin_text.proofs.Shows.{behind}
+use Rattle.goblin_text.specs.Accepted.{symbols_text}
+use Rattle.goblin_text.specs.Looks.{IsShort, Spends, table_looks}
+use Rattle.goblin_text.specs.Shown.{each_shown, symbols_shown}
+use Rattle.goblin_text.proofs.accept.File.accept_all_symbols.Given as goal
+
+-- the lines so far stand before what is shown of the sections that are left, each of which asked for one table at most
+abbrev pub invariant-loop-number : goal.invariant-loop-number
+invariant-loop-number l =
+    let file = l.self in
+    let bytes = l.initial.names.bytes in
+    let shows = symbols_shown file.opts.now.parse_mode bytes file.ctx file.sections.now in
+    (l.names.bytes ≡ bytes) × (IsShort bytes → Spends l.initial.names l.names (table_looks * l.number))
+    × (lines : List ℕ) × (symbols_text bytes l.parts.items ≡ symbols_text bytes l.initial.parts.items ++ lines)
+    × (each_shown shows 0 file.sections.now ≡ behind lines (each_shown shows l.number (drop l.number file.sections.now)))

@@ -1,0 +1,16 @@
+use Rattle.std.proofs.Common.{◌≡◌, ◌+◌, ◌^◌, ◌<◌, false, drop, length, suc}
+use Rattle.std.specs.Fmt.{digits_onto}
+use Rattle.goblin.specs.Texts.{hexadecimal}
+use Rattle.goblin_text.proofs.digits.Digits.hexadecimal.Given as goal
+
+-- the digits that are left stand before those that are written
+abbrev pub invariant-loop-left : goal.invariant-loop-left
+invariant-loop-left l = record {
+  size : length l.bytes ≡ 20;
+  room : l.start < 20;
+  short : l.left < 16 ^ (suc l.start);
+  digits : digits_onto (suc (l.start + 44)) 16 false l.left (drop (l.start + 1) l.bytes) ≡ hexadecimal l.number;
+}
+
+abbrev pub decreases-loop-left : goal.decreases-loop-left
+decreases-loop-left l = l.start

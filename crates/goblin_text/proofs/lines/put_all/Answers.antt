@@ -1,0 +1,10 @@
+use Rattle.std.proofs.Common.{arith}
+use Rattle.std.proofs.lemmas.Grind.{common_steps}
+use Rattle.goblin_text.proofs.Puts.{more_put}
+use Rattle.goblin_text.proofs.lines.put_all.Goals as goal
+
+pub loop-text-preserved : goal.loop-text-preserved
+loop-text-preserved g c = record {
+  put = more_put _ _ _ _ _ _ _ c.loop-text.invariant.put (grind (arith, common_steps)) c.in_ok-put.ensures.put;
+  kept = grind (arith, common_steps);
+}

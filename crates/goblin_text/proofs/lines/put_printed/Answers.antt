@@ -1,0 +1,19 @@
+use Rattle.std.proofs.Common.{◌≡◌, ◌++◌, ◌∷◌, [], arith, subst}
+use Rattle.std.proofs.KnownBytes.{Appends-trans}
+use Rattle.std.proofs.lemmas.Grind.{common_steps}
+use Rattle.std.proofs.lemmas.Str.{encodes-append}
+use Rattle.std.specs.Io.KnownBytes.{Appends}
+use Rattle.std.specs.Prelude.{encode_utf8_all}
+use Rattle.goblin_text.proofs.Printed.{encode-printable}
+use Rattle.goblin_text.specs.Lines.{printed}
+use Rattle.goblin_text.proofs.lines.put_printed.Goals as goal
+
+pub loop-c-preserved : goal.loop-c-preserved
+loop-c-preserved g c =
+    let before = printed (encode_utf8_all c.loop-c.yielded) in
+    let is : before ++ c.encode_utf8.result.now ≡ printed (encode_utf8_all (c.loop-c.yielded ++ c.in-Some.c ∷ [])) = grind (arith, common_steps, encodes-append, encode-printable) in
+    record {
+      appends = subst (Appends _ _) is (Appends-trans _ _ _ _ _ c.loop-c.invariant.appends c.in_ok-put.ensures.put.0);
+      heeded = grind (arith, common_steps);
+      kept = grind (arith, common_steps);
+    }

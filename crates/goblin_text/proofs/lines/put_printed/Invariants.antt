@@ -1,0 +1,15 @@
+use Rattle.std.proofs.Common.{◌≡◌}
+use Rattle.std.specs.Io.KnownBytes.{Appends}
+use Rattle.std.specs.Prelude.{encode_utf8_all}
+use Rattle.goblin_text.specs.Lines.{printed}
+use Rattle.goblin_text.proofs.lines.put_printed.Given as goal
+
+-- what was passed is put as it prints
+abbrev pub invariant-loop-c : goal.invariant-loop-c
+invariant-loop-c g l =
+    let target = g.T.Target in
+    record {
+      appends : Appends (target.state l.initial.target).contents (target.state l.target).contents (printed (encode_utf8_all l.yielded));
+      heeded : (target.state l.target).told_error ≡ (target.state l.initial.target).told_error;
+      kept : target.kept l.target ≡ target.kept l.initial.target;
+    }

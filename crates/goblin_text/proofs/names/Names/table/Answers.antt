@@ -1,0 +1,44 @@
+use Rattle.std.proofs.Common.{◌≡◌, ◌+◌, Ok, arith, length, lit<, min, slice_range, subst, sym}
+use Rattle.std.proofs.lemmas.Bool.{both_ways}
+use Rattle.std.proofs.lemmas.Grind.{common_steps}
+use Rattle.goblin.specs.declared.options.ParseMode.TheVariants.{Permissive}
+use Rattle.goblin.specs.Refusal.{Gives}
+use Rattle.goblin.specs.Strtab.{range_in, strtab_of}
+use Rattle.goblin.specs.TextLaws.{text_is_taken}
+use Rattle.goblin_text.proofs.Blocks.{range_stands}
+use Rattle.goblin_text.proofs.Tables.{permissive_table, range_taken, strict_table}
+use Rattle.goblin_text.specs.Known.{IsRange, strings_in}
+use Rattle.goblin_text.proofs.names.Names.table.Goals.{then-not-is_permissive+then-not-is_range_text+in_ok-walk, else-not-is_permissive, else-not-is_permissive-via-then-not-is_permissive+else-not-is_range_text, else-not-is_permissive-via-else-not-is_permissive}
+use Rattle.goblin_text.proofs.names.Names.table.Goals as goal
+
+pub returns-in_err-range-clause-given : goal.returns-in_err-range-clause-given
+unfolding strtab_of
+returns-in_err-range-clause-given c = grind (arith, common_steps)
+
+pub returns-in_err-walk-clause-given : goal.returns-in_err-walk-clause-given
+returns-in_err-walk-clause-given c =
+    let mode = c.args.opts.now.parse_mode in
+    let bytes = c.args.self.now.bytes in
+    let range = c.in_ok-range.range.now in
+    let is : range_in mode bytes c.args.offset c.args.size ≡ Ok range = range_taken _ range (grind (arith, common_steps)) in
+    let at : min c.args.offset (length bytes) ≡ c.min-start.result = grind (arith, common_steps) in
+    let stands : IsRange mode bytes c.args.offset c.args.size c.min-start.result (c.min-start.result + length range) = subst (λ s. IsRange mode bytes c.args.offset c.args.size s (s + length range)) at (range_stands mode bytes c.args.offset c.args.size range is) in
+    let strict : mode ≡ Permissive → ⊥ = λ p. both_ways _ c.if-not-is_permissive.true (c.is_permissive.ensures.1 p) in
+    subst (Gives (strings_in bytes) c.from_residual-in_err-walk.result) (sym (strict_table mode bytes c.args.offset c.args.size c.min-start.result (c.min-start.result + length range) strict stands)) (grind (arith, common_steps))
+
+pub returns-clause-given : goal.returns-clause-given
+returns-clause-given c =
+    let mode = c.args.opts.now.parse_mode in
+    let bytes = c.args.self.now.bytes in
+    let range = c.in_ok-range.range.now in
+    let start = c.min-start.result in
+    let is : range_in mode bytes c.args.offset c.args.size ≡ Ok range = range_taken _ range (grind (arith, common_steps)) in
+    let at : min c.args.offset (length bytes) ≡ start = grind (arith, common_steps) in
+    let stands : IsRange mode bytes c.args.offset c.args.size start (start + length range) = subst (λ s. IsRange mode bytes c.args.offset c.args.size s (s + length range)) at (range_stands mode bytes c.args.offset c.args.size range is) in
+    elim c.if-not-is_permissive.branch [
+      | then-not-is_permissive+then-not-is_range_text+in_ok-walk w ↦ absurd (both_ways _ w.if-not-is_range_text.true (w.is_range_text.ensures.value.1 (grind (arith, common_steps))))
+      | else-not-is_permissive w ↦ elim w.else-not-is_permissive.branch [
+        | else-not-is_permissive-via-then-not-is_permissive+else-not-is_range_text v ↦ text_is_taken mode bytes c.args.offset c.args.size 0 (slice_range bytes start (start + length range)) (lit< tt) stands.is (v.is_range_text.ensures.value.0 v.if-not-is_range_text.false)
+        | else-not-is_permissive-via-else-not-is_permissive v ↦ permissive_table mode bytes c.args.offset c.args.size start (start + length range) (c.is_permissive.ensures.0 v.if-not-is_permissive.false) stands
+      ]
+    ]

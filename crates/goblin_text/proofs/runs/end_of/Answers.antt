@@ -1,0 +1,26 @@
+use Rattle.std.proofs.Common.{◌∙◌, ◌<◌, ◌≢◌, arith, get_or-set_other, length, refl}
+use Rattle.std.proofs.lemmas.Grind.{common_steps}
+use Rattle.goblin_text.proofs.Blocks.{end_later, end_more, unknown_less}
+use Rattle.goblin_text.specs.Runs.{blocks}
+use Rattle.goblin_text.proofs.runs.end_of.Goals as goal
+
+pub loop-block-preserved : goal.loop-block-preserved
+loop-block-preserved c =
+    let bytes = c.args.seen.now.bytes in
+    let ends = c.loop-block.ends in
+    let k = c.loop-block.block in
+    let found = c.look_for_end-found in
+    let here : k < found.result.read = grind (arith, common_steps) in
+    let there : k < length ends = grind (arith, common_steps) in
+    let among : k < blocks bytes = omega (arith, here, found.ensures.within) in
+    let some : 0 < found.result.end = omega (arith, here, found.ensures.to, c.requires.some, c.loop-block.invariant.from) in
+    let is = end_later c.args.kind bytes c.args.first k found.result.end c.loop-block.invariant.from (omega (arith, here, found.ensures.to)) found.ensures.end in
+    let less = unknown_less (blocks bytes) ends k found.result.end among there (c.loop-block.invariant.rest k (omega arith) here) some in
+    record {
+      from = omega (arith, c.loop-block.invariant.from);
+      known = end_more c.args.kind bytes ends k found.result.end c.loop-block.invariant.known there is;
+      fewer = omega (arith, less, c.loop-block.invariant.fewer, c.loop-block.invariant.from);
+      rest = λ j from to.
+          let other : j ≢ k = λ e. absurd (omega (arith, e, from)) in
+          (rw get_or-set_other refl) ∙ c.loop-block.invariant.rest j (omega (arith, from)) to;
+    }

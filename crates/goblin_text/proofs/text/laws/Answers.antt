@@ -1,0 +1,5 @@
+use Rattle.goblin_text.proofs.Modes.{permissive_shows_strict}
+use Rattle.goblin_text.proofs.text.laws.Goals as goal
+
+pub returns : goal.returns
+returns c = permissive_shows_strict c.laws.ensures.strict_is_permissive

@@ -1,0 +1,13 @@
+use Rattle.std.proofs.Common.{◌≡◌, drop}
+use Rattle.goblin_text.proofs.Puts.{PutSoFar}
+use Rattle.goblin_text.specs.Accepted.{relocs_text}
+use Rattle.goblin_text.proofs.text.put_all_relocs.Given as goal
+
+-- the lines so far were put
+abbrev pub invariant-loop-part : goal.invariant-loop-part
+invariant-loop-part g l =
+    let target = g.T.Target in
+    record {
+      put : PutSoFar (target.state l.initial.target) (target.state l.target) (relocs_text l.parts) (relocs_text (drop l.part-index l.parts));
+      kept : target.kept l.target ≡ target.kept l.initial.target;
+    }

@@ -1,0 +1,20 @@
+use Rattle.std.proofs.Common.{◌≡◌, drop}
+use Rattle.goblin_text.proofs.Puts.{PutSoFar}
+use Rattle.goblin_text.proofs.Spent.{SpentSoFar}
+use Rattle.goblin_text.specs.Accepted.{symbols_text}
+use Rattle.goblin_text.specs.Looks.{IsShort}
+use Rattle.goblin_text.proofs.text.put_all_symbols.Given as goal
+
+-- the lines so far were put, and took no more looks than they may
+abbrev pub invariant-loop-part : goal.invariant-loop-part
+invariant-loop-part g l =
+    let target = g.T.Target in
+    let old = l.initial.names in
+    let all = symbols_text old.bytes l.parts in
+    let rest = symbols_text old.bytes (drop l.part-index l.parts) in
+    record {
+      same : l.names.bytes ≡ old.bytes;
+      looks : IsShort old.bytes → SpentSoFar old l.names all rest;
+      put : PutSoFar (target.state l.initial.target) (target.state l.target) all rest;
+      kept : target.kept l.target ≡ target.kept l.initial.target;
+    }

@@ -1,0 +1,11 @@
+use Rattle.std.proofs.Common.{arith}
+use Rattle.std.proofs.lemmas.Grind.{common_steps}
+use Rattle.goblin_text.proofs.Puts.{more_put}
+use Rattle.goblin_text.proofs.text.put_relocs.Goals as goal
+
+pub loop-number-preserved : goal.loop-number-preserved
+loop-number-preserved g c = record {
+  count = grind (arith, common_steps);
+  put = more_put _ _ _ _ _ _ _ c.loop-number.invariant.put (grind (arith, common_steps)) c.in_ok-put_reloc.ensures.put;
+  kept = grind (arith, common_steps);
+}

@@ -1,0 +1,22 @@
+use Rattle.std.proofs.Common.{◌≡◌, drop}
+use Rattle.goblin_text.proofs.Puts.{PutSoFar}
+use Rattle.goblin_text.specs.Known.{strings_in}
+use Rattle.goblin_text.proofs.Spent.{SpentSoFar}
+use Rattle.goblin_text.specs.Looks.{IsShort}
+use Rattle.goblin_text.specs.Shown.{section_lines}
+use Rattle.goblin_text.proofs.text.put_sections.Given as goal
+
+-- the lines so far were put, and took no more looks than they may
+abbrev pub invariant-loop-number : goal.invariant-loop-number
+invariant-loop-number g l =
+    let target = g.T.Target in
+    let old = l.initial.names in
+    let strings = strings_in old.bytes l.file.parts.strings in
+    let all = section_lines strings 0 l.file.sections.items in
+    let rest = section_lines strings l.number (drop l.number l.file.sections.items) in
+    record {
+      same : l.names.bytes ≡ old.bytes;
+      looks : IsShort old.bytes → SpentSoFar old l.names all rest;
+      put : PutSoFar (target.state l.initial.target) (target.state l.target) all rest;
+      kept : target.kept l.target ≡ target.kept l.initial.target;
+    }

@@ -1,0 +1,24 @@
+use Rattle.std.proofs.Common.{◌≡◌, ◌+◌, ◌<◌, length}
+use Prim.Native.Nat.{◌^◌}
+use Rattle.goblin_text.proofs.Puts.{PutSoFar}
+use Rattle.goblin_text.proofs.Spent.{SpentSoFar}
+use Rattle.goblin_text.specs.Known.{strings_in}
+use Rattle.goblin_text.specs.Looks.{IsShort}
+use Rattle.goblin_text.specs.Shown.{symbol_lines}
+use Rattle.goblin_text.proofs.text.put_symbols.Given as goal
+
+-- the lines so far were put, and took no more looks than they may
+abbrev pub invariant-loop-number : goal.invariant-loop-number
+invariant-loop-number g l =
+    let target = g.T.Target in
+    let old = l.initial.names in
+    let strings = strings_in old.bytes l.part.strings in
+    let all = symbol_lines strings l.part.section 0 l.part.table.symbols in
+    let rest = symbol_lines strings l.part.section l.number l.symbol-iterator in
+    record {
+      same : l.names.bytes ≡ old.bytes;
+      looks : IsShort old.bytes → SpentSoFar old l.names all rest;
+      count : l.number + length l.symbol-iterator < 2 ^ 64;
+      put : PutSoFar (target.state l.initial.target) (target.state l.target) all rest;
+      kept : target.kept l.target ≡ target.kept l.initial.target;
+    }

@@ -1,0 +1,11 @@
+-- What clauses see of a `Counted`.
+use Rattle.goblin_text.specs.Marks.{Marks}
+use Rattle.goblin_text.specs.declared.counted.Counted.{Counted}
+
+-- the reader or writer inside
+abbrev pub inner_of : {T : Type 0} → Counted T → T
+inner_of c = c.inner
+
+-- what it has told so far
+abbrev pub marks_of : {T : Type 0} → Counted T → Marks
+marks_of c = record { read_calls = c.read_calls; told_error = c.told_error; told_failure = c.told_failure; told_end = c.told_end }

@@ -1,0 +1,72 @@
+-- What is looked at of a file for its names: the counted views, and what may be looked at.
+use Rattle.std.specs.Prelude.{ℕ, ◌+◌, ◌-◌, ◌*◌, ◌^◌, ◌≤◌, ◌==◌, if◌then◌else◌, min, List, [], ◌∷◌, length, Result, Ok, Err, unwrap_or}
+use Rattle.std.specs.Result.{result_ok}
+use Rattle.goblin.specs.declared.options.ParseMode.{ParseMode}
+use Rattle.goblin.specs.ReadHeader.{read_header}
+use Rattle.goblin.specs.Refusal.{refusal_of}
+use Rattle.goblin.specs.Steps.{◌>>=◌, refuse_as}
+use Rattle.goblin_text.specs.Shown.{ctx_of, sections_of, shown}
+
+-- the bytes of a file, and how many looks at them were taken
+pub record Seen : Type 0 where
+  pub bytes : List ℕ
+  pub count : ℕ
+
+-- the bytes of a file, how many looks at them were taken, and how many more the blocks may take that weren't read yet
+pub record Named : Type 0 where
+  pub bytes : List ℕ
+  pub count : ℕ
+  pub left : ℕ
+
+-- at least so many looks were taken since: a count stays at the greatest number once it is there
+abbrev pub CountsAtLeast : (before looks after : ℕ) → Type 0
+CountsAtLeast before looks after = min (before + looks) (2 ^ 128 - 1) ≤ after
+
+-- the file is no longer than the program takes
+abbrev pub IsShort : List ℕ → Type 0
+IsShort bytes = length bytes ≤ 16777216
+
+-- so many looks were taken at most, beside those that blocks took which weren't read before
+abbrev pub Spends : (old new : Named) (most : ℕ) → Type 0
+Spends old new most = new.count + new.left ≤ old.count + old.left + most
+
+-- and where bytes are refused, five more at each of them
+abbrev pub Spent : {T E : Type 0} → (old new : Named) → Result T E → (most : ℕ) → Type 0
+Spent old new (Ok done) most = Spends old new most
+Spent old new (Err e) most = Spends old new (most + 5 * length old.bytes)
+
+-- how many looks a block takes, which is read once: two at each of its bytes, and six at its edges
+abbrev pub block_looks : ℕ
+block_looks = 1036
+
+-- how many looks a string table takes: at its two ends, which are shorter than a block and a character
+abbrev pub table_looks : ℕ
+table_looks = 1040
+
+-- how many looks a name takes beside its own length: at no more than five blocks
+abbrev pub name_looks : ℕ
+name_looks = 2600
+
+-- how many section headers a file has, or 0 where they are refused
+unfoldable pub section_count : ParseMode → List ℕ → ℕ
+section_count mode bytes = length (unwrap_or (result_ok (do
+  header ← refuse_as refusal_of (read_header bytes)
+  ctx ← refuse_as refusal_of (ctx_of header.0)
+  sections_of mode bytes header.0 ctx)) [])
+
+-- how many lines a text has
+abbrev pub lines_in : List ℕ → ℕ
+lines_in [] = 0
+lines_in (b ∷ bytes) = (if b == 10 then 1 else 0) + lines_in bytes
+
+-- how many looks names may take that stand in a text, one a line at most
+unfoldable pub names_looks : List ℕ → ℕ
+names_looks text = length text + name_looks * lines_in text
+
+-- how many looks the string tables of a file may take, where they are refused
+abbrev pub tables_looks : ParseMode → List ℕ → ℕ
+tables_looks mode bytes = table_looks * (section_count mode bytes + 1) + 5 * length bytes
+
+-- how many looks names may take that stand in the text of a file
+abbrev pub shown_looks : ParseMode → List ℕ → ℕ
+shown_looks mode bytes = names_looks (unwrap_or (result_ok (shown mode bytes)) [])

@@ -1,0 +1,104 @@
+-- What a run read and wrote.
+use Rattle.std.specs.Prelude.{◌≡◌, ◌≢◌, ℕ, ◌+◌, ◌-◌, ◌^◌, ◌<◌, ◌≤◌, ◌⊎◌, min, IsTrue, List, length, codes, Option, Ok, Err, vec_items}
+use Rattle.std.specs.Io.KnownBytes.{Appends, Consumes, IsAtEnd}
+use Rattle.goblin.specs.Refusal.{Refusal, out_of_memory, refusal_of}
+use Rattle.goblin.specs.Texts.{◌&◌, refusal_text}
+use Rattle.goblin.specs.declared.error.Error.{Error}
+use Rattle.goblin.specs.declared.options.ParseMode.{ParseMode}
+use Rattle.goblin_text.specs.Lines.{newline}
+use Rattle.goblin_text.specs.Marks.{Marks}
+use Rattle.goblin_text.specs.Shown.{shown}
+use Rattle.goblin_text.specs.declared.input.Input.{Input}
+use Rattle.goblin_text.specs.declared.input.Input.TheVariants as inputs
+use Rattle.goblin_text.specs.declared.run.Outcome.{Outcome}
+use Rattle.goblin_text.specs.declared.run.Outcome.TheVariants as outcomes
+
+-- how many bytes of input the program takes
+abbrev pub input_limit : ℕ
+input_limit = 16777216
+
+-- how many times the reader is asked
+abbrev pub read_limit : ℕ
+read_limit = 33554432
+
+-- The reader gave these bytes, which are no more than the program takes, and told its end: none is left.
+pub record ReadsAll (old new : Option (List ℕ)) (marks : Marks) (bytes : List ℕ) : Type 0 where
+  pub taken : Consumes old new bytes
+  pub all : IsAtEnd new
+  pub short : length bytes ≤ input_limit
+  pub end : IsTrue marks.told_end
+
+-- The reader gave these bytes, which are more than the program takes.
+pub record ReadsTooMuch (old new : Option (List ℕ)) (bytes : List ℕ) : Type 0 where
+  pub taken : Consumes old new bytes
+  pub long : input_limit < length bytes
+
+-- the reader gave no more than one byte past those that the program takes
+abbrev pub ReadsAtMostOneMore : Option (List ℕ) → Option (List ℕ) → Type 0
+ReadsAtMostOneMore old new = (bytes : List ℕ) × Consumes old new bytes × (length bytes ≤ input_limit + 1)
+
+-- The reader was asked this often, and told no end.
+pub record ReadsInVain (limit : ℕ) (before after : Marks) : Type 0 where
+  pub calls : min (before.read_calls + limit) (2 ^ 64 - 1) ≤ after.read_calls
+  pub endless : after.told_end ≡ before.told_end
+
+-- The reader told an error, which was no interruption, or it was asked as often as it is in vain.
+pub record FailsToRead (before after : Marks) : Type 0 where
+  pub error : IsTrue after.told_error
+  pub reason : IsTrue after.told_failure ⊎ ReadsInVain read_limit before after
+
+-- what was read: memory runs out before a call that was still to be made
+abbrev pub IsInput : Input → Option (List ℕ) → Option (List ℕ) → Marks → Marks → Type 0
+IsInput (inputs.Whole v) old new before after = ReadsAll old new after (vec_items v)
+IsInput inputs.TooLong old new before after = (bytes : List ℕ) × ReadsTooMuch old new bytes
+IsInput inputs.OutOfMemory old new before after = after.read_calls < before.read_calls + read_limit
+IsInput inputs.Failed old new before after = FailsToRead before after
+
+-- what was read, where the reader is asked this often: asked less often than there may be bytes, it may tell no error
+abbrev pub IsInputWithin : (limit : ℕ) → Input → Option (List ℕ) → Option (List ℕ) → Marks → Marks → Type 0
+IsInputWithin limit (inputs.Whole v) old new before after = ReadsAll old new after (vec_items v)
+IsInputWithin limit inputs.TooLong old new before after = (bytes : List ℕ) × ReadsTooMuch old new bytes
+IsInputWithin limit inputs.OutOfMemory old new before after = after.read_calls < before.read_calls + limit
+IsInputWithin limit inputs.Failed old new before after =
+    (IsTrue after.told_failure ⊎ ReadsInVain limit before after) × (input_limit < limit → IsTrue after.told_error)
+
+-- the writer holds the text of all bytes more, and no other
+abbrev pub IsShown : ParseMode → (old new : Option (List ℕ)) → Marks → (held holds : Option (List ℕ)) → Type 0
+IsShown mode old new marks held holds =
+    (bytes : List ℕ) × ReadsAll old new marks bytes × (text : List ℕ) × (shown mode bytes ≡ Ok text)
+    × Appends held holds text
+
+-- the writer holds `refused: `, this line and a newline more, and no other
+abbrev pub WritesRefusal : Option (List ℕ) → Option (List ℕ) → List ℕ → Type 0
+WritesRefusal held holds line = Appends held holds (codes "refused: " & line & newline)
+
+-- how the program is called
+abbrev pub usage_line : List ℕ
+usage_line = codes "usage: goblin_show [permissive]" & newline
+
+-- the writer holds the line on how the program is called more, and no other, or it told an error
+abbrev pub TellsUsage : Option (List ℕ) → Option (List ℕ) → Marks → Type 0
+TellsUsage held holds marks = Appends held holds usage_line ⊎ IsTrue marks.told_error
+
+-- a line for an error: its text, unless memory ran out
+abbrev pub TellsError : Error → List ℕ → Type 0
+TellsError e line =
+    ((refusal_of e ≢ out_of_memory) × (line ≡ refusal_text (refusal_of e))) ⊎ (line ≡ codes "Out of memory")
+
+-- why a line is written in place of a text: all bytes were read and are refused, or they are too many, or memory ran out
+abbrev pub IsReason : ParseMode → (old new : Option (List ℕ)) → Marks → List ℕ → Type 0
+IsReason mode old new marks line =
+    ((bytes : List ℕ) × ReadsAll old new marks bytes × (r : Refusal) × (shown mode bytes ≡ Err r) × (line ≡ refusal_text r))
+    ⊎ (((bytes : List ℕ) × ReadsTooMuch old new bytes × (line ≡ codes "input is longer than 16777216 bytes"))
+    ⊎ (line ≡ codes "Out of memory"))
+
+-- why a line is written in place of the text of these bytes: they are refused, or memory ran out
+abbrev pub TellsWhy : ParseMode → List ℕ → List ℕ → Type 0
+TellsWhy mode bytes line =
+    ((r : Refusal) × (shown mode bytes ≡ Err r) × (line ≡ refusal_text r)) ⊎ (line ≡ codes "Out of memory")
+
+-- the exit status of a run
+abbrev pub status_of : Outcome → ℕ
+status_of outcomes.Shown = 0
+status_of outcomes.Refused = 1
+status_of outcomes.Failed = 2

@@ -1,0 +1,62 @@
+-- Runs of a file's blocks that are text, or text with no zero byte.
+use Rattle.std.specs.Prelude.{◌≡◌, ℕ, zero, suc, ◌+◌, ◌*◌, ◌/◌, ◌<◌, ◌≤◌, ◌==◌, ◌&&◌, nat_lt, nat_le, min, if◌then◌else◌, List, [], ◌∷◌, length, slice_index, slice_range}
+use Rattle.std.specs.List.{before_first}
+use Rattle.std.specs.Str.{IsUtf8}
+use Rattle.goblin_text.specs.declared.runs.Kind.{Kind}
+use Rattle.goblin_text.specs.declared.runs.Kind.TheVariants.{Text, Plain}
+
+-- the place behind a byte that goes on with a character, or the same place
+unfoldable pub past : List ℕ → ℕ → ℕ
+past bytes place =
+    if nat_le 128 (slice_index bytes place) && nat_lt (slice_index bytes place) 192 then place + 1 else place
+
+-- where the characters from a place on begin: behind up to three bytes that go on with a character
+unfoldable pub cut : List ℕ → ℕ → ℕ
+cut bytes place = past bytes (past bytes (past bytes place))
+
+-- the bytes before the first zero byte, or all
+unfoldable pub up_to_zero : List ℕ → List ℕ
+up_to_zero bytes = before_first (λ b. b == 0) bytes
+
+-- the bytes before the first zero byte are no text
+abbrev pub LacksText : List ℕ → Type 0
+LacksText bytes = ¬ (IsUtf8 (up_to_zero bytes))
+
+-- the bytes are text with no zero byte
+pub record IsPlain (bytes : List ℕ) : Type 0 where
+  pub text : IsUtf8 bytes
+  pub whole : up_to_zero bytes ≡ bytes
+
+-- the bytes are of a kind
+abbrev pub IsOf : Kind → List ℕ → Type 0
+IsOf Text bytes = IsUtf8 bytes
+IsOf Plain bytes = IsPlain bytes
+
+-- the block of 512 bytes with a number is of a kind, from where its characters begin to where those of the next one do
+unfoldable pub IsBlock : Kind → List ℕ → ℕ → Type 0
+IsBlock kind bytes block = IsOf kind (slice_range bytes (cut bytes (block * 512)) (cut bytes ((block + 1) * 512)))
+
+-- the blocks from one up to another are of a kind
+abbrev pub IsRun : Kind → List ℕ → ℕ → ℕ → Type 0
+IsRun kind bytes first next = (j : ℕ) → first ≤ j → j < next → IsBlock kind bytes j
+
+-- how many blocks are kept in mind: those that are whole, of the longest file that the program takes
+abbrev pub blocks : List ℕ → ℕ
+blocks bytes = min (length bytes / 512) 32768
+
+-- the run of a kind from a block on ends before another block, which is not of the kind, or at the last
+pub record IsEnd (kind : Kind) (bytes : List ℕ) (first end : ℕ) : Type 0 where
+  pub order : first ≤ end
+  pub within : end ≤ blocks bytes
+  pub run : IsRun kind bytes first end
+  pub stops : end < blocks bytes → ¬ (IsBlock kind bytes end)
+
+-- where it is kept where a run ends, that is right: 0 is kept of a block of which it isn't known
+unfoldable pub AreEnds : Kind → List ℕ → List ℕ → Type 0
+AreEnds kind bytes ends = (k : ℕ) → k < length ends → 0 < slice_index ends k → IsEnd kind bytes k (slice_index ends k)
+
+-- of how many of the first blocks it isn't known where their run ends
+unfoldable pub unknown : ℕ → List ℕ → ℕ
+unknown zero ends = 0
+unknown (suc n) [] = 0
+unknown (suc n) (end ∷ ends) = (if end == 0 then 1 else 0) + unknown n ends

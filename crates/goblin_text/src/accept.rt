@@ -1,0 +1,323 @@
+//! A file whose parts are accepted: of it nothing is refused any more, and its text takes no memory.
+ghost use Rattle.std.specs.Prelude.{◌≡◌, ◌+◌, ◌*◌, IfErr, IfOk, OnErr, length};
+ghost use Rattle.goblin.specs.Refusal.{Gives, Refuses};
+ghost use Rattle.goblin.specs.SectionHeaders.{section_headers_of_tested};
+ghost use Rattle.goblin_text.specs.Accepted.{accepted_text, parts_text, relocs_text, symbols_text};
+ghost use Rattle.goblin_text.specs.Known.{strings_in};
+ghost use Rattle.goblin_text.specs.Looks.{IsShort, Spends, Spent, section_count, table_looks, tables_looks};
+ghost use Rattle.goblin_text.specs.Shown.{Adds, ctx_of, each_shown, file_shown, has_relocs, has_symbols, relocs_shown, sections_of, shown, sizes_checked, strings_at, strings_of, symbols_shown, tested};
+
+use crate::names::{Names, Strings};
+use goblin::container::Ctx;
+use goblin::elf::header::Header;
+use goblin::elf::reloc::{RelocSection, is_mips64el};
+use goblin::elf::section_header::{
+    SHT_DYNSYM, SHT_NOBITS, SHT_REL, SHT_RELA, SHT_SYMTAB, SectionHeader,
+};
+use goblin::elf::sym::{Sym, Symtab};
+use goblin::error::Result;
+use goblin::options::ParseOptions;
+use goblin::scroll::{LE, TryFromCtx};
+use std::alloc::Global;
+
+/// The symbols of the section with a number, and the strings that their names are taken from.
+#[derive(Drop)]
+pub struct SymbolPart<'a> {
+    pub section: usize,
+    pub table: Symtab<'a>,
+    pub strings: Strings,
+}
+
+/// The relocations of the section with a number.
+#[derive(Drop)]
+pub struct RelocPart<'a> {
+    pub section: usize,
+    pub relocs: RelocSection<'a>,
+}
+
+/// The strings of the sections' names, and the parts of a file that hold symbols and relocations.
+#[derive(Drop)]
+pub struct Parts<'a> {
+    pub strings: Strings,
+    pub symbols: Vec<SymbolPart<'a>>,
+    pub relocs: Vec<RelocPart<'a>>,
+}
+
+/// What is shown of a file.
+#[derive(Drop)]
+pub struct Accepted<'a> {
+    pub header: Header,
+    pub sections: Vec<SectionHeader>,
+    pub parts: Parts<'a>,
+}
+
+// The class and the byte order that a header tells.
+fn ctx_of(header: &Header) -> Result<Ctx>
+    ensures { result ≡ ctx_of header.now }
+{
+    Ok(Ctx::new(header.container()?, header.endianness()?))
+}
+
+// Whether each section lies in a file of `len` bytes, which permissive options don't ask.
+fn check_sizes(sections: &[SectionHeader], len: usize, opts: &ParseOptions) -> Result<()>
+    ensures { result ≡ sizes_checked opts.now.parse_mode len sections.now }
+{
+    for section in sections {
+        section.check_size_with_opts(len, opts.parse_mode.is_permissive())?;
+    }
+    Ok(())
+}
+
+// The section headers of a file with this header, each of which is checked.
+#[tactic(auto, unfolding(crate::specs::Shown::sections_of))]
+fn sections_of(
+    alloc: Global,
+    bytes: &[u8],
+    header: &Header,
+    ctx: Ctx,
+    opts: &ParseOptions,
+) -> Result<Vec<SectionHeader>>
+    ensures given { let right = sections_of opts.now.parse_mode bytes.now header.now ctx in
+        Gives (λ v. v.items) result right }
+    ensures tested { let tested = section_headers_of_tested bytes.now header.now.e_shoff
+        header.now.e_shnum ctx in IfErr tested (λ refusal. Refuses result refusal) }
+{
+    let offset = header.e_shoff as usize;
+    let count = usize::from(header.e_shnum);
+    let sections = SectionHeader::parse(alloc, bytes, offset, count, ctx)?;
+    check_sizes(sections.as_slice(), bytes.len(), opts)?;
+    Ok(sections)
+}
+
+// Whether a section holds symbols.
+fn has_symbols(section: &SectionHeader) -> bool
+    ensures { result ≡ has_symbols section.now }
+{
+    (section.sh_type == SHT_SYMTAB || section.sh_type == SHT_DYNSYM) && section.sh_size > 0
+}
+
+// Whether a section holds relocations.
+fn has_relocs(section: &SectionHeader) -> bool
+    ensures { result ≡ has_relocs section.now }
+{
+    (section.sh_type == SHT_REL || section.sh_type == SHT_RELA) && section.sh_size > 0
+}
+
+// A file whose section headers are read.
+#[derive(Clone, Copy)]
+struct File<'b> {
+    header: &'b Header,
+    ctx: Ctx,
+    sections: &'b [SectionHeader],
+    opts: &'b ParseOptions,
+}
+
+impl File<'_> {
+    // The string table that a section is.
+    fn strings_of(
+        &self,
+        alloc: Global,
+        names: &mut Names<'_>,
+        section: &SectionHeader,
+    ) -> Result<Strings>
+        ensures given { let right = strings_of self.now.opts.now.parse_mode names.old.bytes
+            (Some section.now) in
+            Gives (strings_in names.old.bytes) result right }
+        ensures unchanged { names.new.bytes ≡ names.old.bytes }
+        ensures looks { IsShort names.old.bytes → Spent names.old names.new result table_looks }
+    {
+        if section.sh_type == SHT_NOBITS {
+            return Ok(Strings::Missing);
+        }
+        let offset = section.sh_offset as usize;
+        let size = section.sh_size as usize;
+        names.table(alloc, offset, size, self.opts)
+    }
+
+    // The string table that is the section with an index: index 0 is no section.
+    #[tactic(auto, unfolding(crate::specs::Shown::strings_at))]
+    fn strings_at(&self, alloc: Global, names: &mut Names<'_>, index: usize) -> Result<Strings>
+        ensures given { let right = strings_at self.now.opts.now.parse_mode names.old.bytes
+            self.now.sections.now index in
+            Gives (strings_in names.old.bytes) result right }
+        ensures unchanged { names.new.bytes ≡ names.old.bytes }
+        ensures looks { IsShort names.old.bytes → Spent names.old names.new result table_looks }
+    {
+        if index == 0 {
+            return Ok(Strings::Missing);
+        }
+        match self.sections.get(index) {
+            Some(section) => self.strings_of(alloc, names, section),
+            None => Ok(Strings::Missing),
+        }
+    }
+
+    // Adds the symbols of the section with a number to the parts, if it holds symbols.
+    #[tactic(auto, unfolding(crate::specs::Shown::symbols_shown))]
+    fn accept_symbols<'a>(
+        &self,
+        alloc: Global,
+        names: &mut Names<'a>,
+        parts: &mut Vec<SymbolPart<'a>>,
+        number: usize,
+        section: &SectionHeader,
+    ) -> Result<()>
+        ensures added { let right = symbols_shown self.now.opts.now.parse_mode names.old.bytes
+            self.now.ctx self.now.sections.now number section.now in
+            Adds (symbols_text names.old.bytes parts.old.items)
+            (symbols_text names.old.bytes parts.new.items) result right }
+        ensures unchanged { names.new.bytes ≡ names.old.bytes }
+        ensures looks { IsShort names.old.bytes → Spent names.old names.new result table_looks }
+    {
+        if !has_symbols(section) {
+            return Ok(());
+        }
+        let offset = section.sh_offset as usize;
+        let count = section.sh_size as usize / Sym::size(self.ctx.container);
+        let table = Symtab::parse_with_opts(names.bytes(), offset, count, self.ctx, self.opts)?;
+        let strings = self.strings_at(alloc, names, section.sh_link as usize)?;
+        Ok(parts.push(SymbolPart {
+            section: number,
+            table,
+            strings,
+        })?)
+    }
+
+    // Adds the symbols of all sections to the parts.
+    fn accept_all_symbols<'a>(
+        &self,
+        alloc: Global,
+        names: &mut Names<'a>,
+        parts: &mut Vec<SymbolPart<'a>>,
+    ) -> Result<()>
+        ensures added { let shows = symbols_shown self.now.opts.now.parse_mode names.old.bytes
+            self.now.ctx self.now.sections.now in
+            Adds (symbols_text names.old.bytes parts.old.items)
+            (symbols_text names.old.bytes parts.new.items) result
+            (each_shown shows 0 self.now.sections.now) }
+        ensures unchanged { names.new.bytes ≡ names.old.bytes }
+        ensures looks { let most = table_looks * length self.now.sections.now in
+            IsShort names.old.bytes → Spent names.old names.new result most }
+    {
+        for (number, section) in self.sections.iter().enumerate() {
+            self.accept_symbols(alloc, names, parts, number, section)?;
+        }
+        Ok(())
+    }
+
+    // Adds the relocations of the section with a number to the parts, if it holds relocations.
+    #[tactic(auto, unfolding(crate::specs::Shown::relocs_shown))]
+    fn accept_relocs<'a>(
+        &self,
+        bytes: &'a [u8],
+        parts: &mut Vec<RelocPart<'a>>,
+        is_mips64el: bool,
+        number: usize,
+        section: &SectionHeader,
+    ) -> Result<()>
+        ensures { let right = relocs_shown bytes.now self.now.ctx is_mips64el number
+            section.now in
+            Adds (relocs_text parts.old.items) (relocs_text parts.new.items) result right }
+    {
+        if !has_relocs(section) {
+            return Ok(());
+        }
+        let offset = section.sh_offset as usize;
+        let size = section.sh_size as usize;
+        let is_rela = section.sh_type == SHT_RELA;
+        let relocs = RelocSection::parse_inner(
+            bytes,
+            offset,
+            size,
+            is_rela,
+            self.ctx,
+            is_mips64el,
+        )?;
+        Ok(parts.push(RelocPart {
+            section: number,
+            relocs,
+        })?)
+    }
+
+    // Adds the relocations of all sections to the parts.
+    fn accept_all_relocs<'a>(
+        &self,
+        bytes: &'a [u8],
+        parts: &mut Vec<RelocPart<'a>>,
+        is_mips64el: bool,
+    ) -> Result<()>
+        ensures { let shows = relocs_shown bytes.now self.now.ctx is_mips64el in
+            Adds (relocs_text parts.old.items) (relocs_text parts.new.items) result
+            (each_shown shows 0 self.now.sections.now) }
+    {
+        for (number, section) in self.sections.iter().enumerate() {
+            self.accept_relocs(bytes, parts, is_mips64el, number, section)?;
+        }
+        Ok(())
+    }
+
+    // The strings of the sections' names, the symbols and the relocations.
+    #[tactic(auto, unfolding(crate::specs::Shown::file_shown))]
+    fn parts<'a>(&self, alloc: Global, names: &mut Names<'a>) -> Result<Parts<'a>>
+        ensures given { let right = file_shown self.now.opts.now.parse_mode names.old.bytes
+            self.now.header.now self.now.ctx self.now.sections.now in
+            Gives (parts_text names.old.bytes self.now.header.now self.now.sections.now) result right }
+        ensures unchanged { names.new.bytes ≡ names.old.bytes }
+        ensures looks { let most = table_looks * (length self.now.sections.now + 1) in
+            IsShort names.old.bytes → Spent names.old names.new result most }
+    {
+        let index = SectionHeader::names_index(self.header.e_shstrndx, self.sections.first());
+        let strings = self.strings_at(alloc, names, index)?;
+        let mut symbols = Vec::new(alloc);
+        self.accept_all_symbols(alloc, names, &mut symbols)?;
+        let mut relocs = Vec::new(alloc);
+        self.accept_all_relocs(names.bytes(), &mut relocs, is_mips64el(self.header))?;
+        Ok(Parts {
+            strings,
+            symbols,
+            relocs,
+        })
+    }
+}
+
+/// The file whose names are read here, of which the text can be shown.
+///
+/// The errors, of which the first that applies is the answer: those of reading the header; those of
+/// reading the section headers from the offset and of the number that the header tells; where the
+/// options are strict, a section that does not lie in the file; those of the section names' table;
+/// for each section of symbols those of its symbol table and then of its string table; for each
+/// section of relocations those of reading it. Or memory is wanting.
+#[tactic(auto, unfolding(crate::specs::Shown::shown, crate::specs::Shown::tested, crate::specs::Looks::section_count))]
+pub fn accept<'a>(alloc: Global, names: &mut Names<'a>, opts: &ParseOptions) -> Result<Accepted<'a>>
+    ensures text { let right = shown opts.now.parse_mode names.old.bytes in
+        Gives (accepted_text names.old.bytes) result right }
+
+    // Want of memory hides no refusal of the header, and none of the section headers' first tests.
+    ensures tested { IfErr (tested names.old.bytes) (λ refusal. Refuses result refusal) }
+    ensures unchanged { names.new.bytes ≡ names.old.bytes }
+    ensures sections { IfOk result (λ file.
+        length file.sections.items ≡ section_count opts.now.parse_mode names.old.bytes) }
+
+    // What is looked at of string tables.
+    ensures looks { IsShort names.old.bytes → IfOk result (λ file.
+        Spends names.old names.new (table_looks * (length file.sections.items + 1))) }
+    ensures looks_refused { let most = tables_looks opts.now.parse_mode names.old.bytes in
+        IsShort names.old.bytes → OnErr result (Spends names.old names.new most) }
+{
+    let bytes = names.bytes();
+    let (header, _) = Header::try_from_ctx(bytes, LE)?;
+    let ctx = ctx_of(&header)?;
+    let sections = sections_of(alloc, bytes, &header, ctx, opts)?;
+    let file = File {
+        header: &header,
+        ctx,
+        sections: sections.as_slice(),
+        opts,
+    };
+    let parts = file.parts(alloc, names)?;
+    Ok(Accepted {
+        header,
+        sections,
+        parts,
+    })
+}

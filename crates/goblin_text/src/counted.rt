@@ -1,0 +1,124 @@
+//! A reader or a writer of std, with the marks of what it told.
+ghost use Rattle.std.specs.Prelude.{◌≡◌};
+ghost use Rattle.goblin_text.specs.Counted.{inner_of, marks_of};
+ghost use Rattle.goblin_text.specs.Marks.{no_marks};
+
+use crate::streams::{Sink, Source, is_interruption};
+use std::io;
+use std::io::{Read, Write};
+
+/// A reader or a writer of std that counts its read calls, and marks that an error, a read error
+/// that is no interruption, or the end came.
+#[derive(Drop)]
+pub struct Counted<T> {
+    inner: T,
+    read_calls: u64,
+    told_error: bool,
+    told_failure: bool,
+    told_end: bool,
+}
+
+impl<T> Counted<T> {
+    /// A reader or writer with no mark set, and no read call counted.
+    pub fn new(inner: T) -> Self
+        ensures inner { inner_of result ≡ inner }
+        ensures marks { marks_of result ≡ no_marks }
+    {
+        Counted {
+            inner,
+            read_calls: 0,
+            told_error: false,
+            told_failure: false,
+            told_end: false,
+        }
+    }
+
+    /// The reader or writer inside.
+    pub fn into_inner(self) -> T
+        ensures { result ≡ inner_of self }
+    {
+        self.inner
+    }
+
+    /// The reader or writer inside, to look at.
+    pub fn inner(&self) -> &T
+        ensures { result.now ≡ inner_of self.now }
+    {
+        &self.inner
+    }
+
+    /// How many read calls there were, up to the greatest number.
+    pub fn read_calls(&self) -> u64
+        ensures { result ≡ (marks_of self.now).read_calls }
+    {
+        self.read_calls
+    }
+
+    /// Whether an error was told.
+    pub fn told_error(&self) -> bool
+        ensures { result ≡ (marks_of self.now).told_error }
+    {
+        self.told_error
+    }
+
+    /// Whether a read error was told that is no interruption.
+    pub fn told_failure(&self) -> bool
+        ensures { result ≡ (marks_of self.now).told_failure }
+    {
+        self.told_failure
+    }
+
+    /// Whether the end was told.
+    pub fn told_end(&self) -> bool
+        ensures { result ≡ (marks_of self.now).told_end }
+    {
+        self.told_end
+    }
+}
+
+impl<R: Read> Source for Counted<R> {
+    ghost remaining = { λ c. R.remaining (inner_of c) };
+
+    ghost marks = { marks_of };
+
+    fn read(&mut self, buf: &mut [u8]) -> io::Result<usize> {
+        let answer = self.inner.read(buf);
+        self.read_calls = self.read_calls.saturating_add(1);
+        match &answer {
+            Ok(count) => {
+                if *count == 0 && !buf.is_empty() {
+                    self.told_end = true;
+                }
+            }
+            Err(e) => {
+                self.told_error = true;
+                if !is_interruption(e) {
+                    self.told_failure = true;
+                }
+            }
+        }
+        answer
+    }
+}
+
+impl<W: Write> Sink for Counted<W> {
+    ghost contents = { λ c. W.contents (inner_of c) };
+
+    ghost marks = { marks_of };
+
+    fn write_all(&mut self, bytes: &[u8]) -> io::Result<()> {
+        let answer = self.inner.write_all(bytes);
+        if answer.is_err() {
+            self.told_error = true;
+        }
+        answer
+    }
+
+    fn flush(&mut self) -> io::Result<()> {
+        let answer = self.inner.flush();
+        if answer.is_err() {
+            self.told_error = true;
+        }
+        answer
+    }
+}

@@ -1,0 +1,124 @@
+//! The input: all bytes that a reader gives up to its end.
+ghost use Rattle.std.specs.Prelude.{◌≡◌, ◌≢◌, ◌+◌, ◌<◌, ◌≤◌, OnOk, drop, take, vec_len};
+ghost use Rattle.std.specs.Io.{ReadsAtMost};
+ghost use Rattle.std.specs.Io.KnownBytes.{ReadConsumes};
+ghost use Rattle.goblin_text.specs.Marks.{after_read};
+ghost use Rattle.goblin_text.specs.Ran.{IsInput, IsInputWithin, ReadsAtMostOneMore, read_limit};
+
+use crate::streams::{Source, is_interruption};
+use std::alloc::{AllocError, Global};
+use std::io;
+
+// How many bytes of input the program takes.
+const INPUT_LIMIT: usize = 16_777_216;
+
+// How many times the reader is asked.
+const READ_LIMIT: u64 = 33_554_432;
+
+// For how many bytes room is made at once.
+const ROOM: usize = 65_536;
+
+// How many bytes are filled with zeros at once: from 2 KiB on the C library fills fresh memory in a
+// way that takes longer.
+const PIECE: usize = 1_984;
+
+// How many times as much memory is asked for where it runs short.
+const GROWTH: usize = 4;
+
+/// What was read.
+#[derive(Drop)]
+pub enum Input {
+    /// All bytes, up to the end.
+    Whole(Vec<u8>),
+    /// More bytes than the program takes.
+    TooLong,
+    /// Bytes that found no memory.
+    OutOfMemory,
+    /// Bytes up to an error, or up to the last call that was to be made.
+    Failed,
+}
+
+// Makes room behind the filled bytes, where there is none.
+fn make_room(bytes: &mut Vec<u8>, filled: usize) -> Result<(), AllocError>
+    requires short { filled ≤ INPUT_LIMIT }
+    requires fits { vec_len bytes.old ≤ INPUT_LIMIT + 1 }
+    requires filled { filled ≤ vec_len bytes.old }
+    ensures kept { OnOk result (take filled bytes.new.items ≡ take filled bytes.old.items) }
+    ensures room { OnOk result (filled < vec_len bytes.new) }
+    ensures fits { OnOk result (vec_len bytes.new ≤ INPUT_LIMIT + 1) }
+{
+    if filled < bytes.len() {
+        return Ok(());
+    }
+    let end = (filled + ROOM).min(INPUT_LIMIT + 1);
+    if bytes.capacity() < end {
+        let most = (GROWTH * end).min(INPUT_LIMIT + 1);
+        bytes.reserve_exact(most - filled)?;
+    }
+    while bytes.len() < end {
+        bytes.resize((bytes.len() + PIECE).min(end), 0)?;
+    }
+    Ok(())
+}
+
+// Reads into the room behind the first `filled` bytes.
+fn read_behind<R: Source>(reader: &mut R, bytes: &mut Vec<u8>, filled: usize) -> io::Result<usize>
+    requires { filled < vec_len bytes.old }
+    ensures len { vec_len bytes.new ≡ vec_len bytes.old }
+    ensures front { take filled bytes.new.items ≡ take filled bytes.old.items }
+    ensures bound { ReadsAtMost result (drop filled bytes.new.items) }
+    ensures bytes { ReadConsumes (R.remaining reader.old) (R.remaining reader.new) result
+        (drop filled bytes.new.items) }
+    ensures marks { R.marks reader.new ≡
+        after_read (R.marks reader.old) result (drop filled bytes.new.items) }
+{
+    reader.read(&mut bytes[filled..])
+}
+
+/// Reads up to the end. An interrupted read is tried again.
+pub fn input_of<R: Source>(alloc: Global, reader: &mut R) -> Input
+    ensures input { IsInput result (R.remaining reader.old) (R.remaining reader.new)
+        (R.marks reader.old) (R.marks reader.new) }
+    ensures most { ReadsAtMostOneMore (R.remaining reader.old) (R.remaining reader.new) }
+    ensures calls { (R.marks reader.new).read_calls ≤ (R.marks reader.old).read_calls + read_limit }
+    ensures heeded { result ≢ Input.Failed →
+        (R.marks reader.new).told_failure ≡ (R.marks reader.old).told_failure }
+{
+    input_within(alloc, reader, READ_LIMIT)
+}
+
+/// Reads up to the end, in so many read calls at most.
+pub fn input_within<R: Source>(alloc: Global, reader: &mut R, limit: u64) -> Input
+    ensures input { IsInputWithin limit result (R.remaining reader.old) (R.remaining reader.new)
+        (R.marks reader.old) (R.marks reader.new) }
+    ensures most { ReadsAtMostOneMore (R.remaining reader.old) (R.remaining reader.new) }
+    ensures calls { (R.marks reader.new).read_calls ≤ (R.marks reader.old).read_calls + limit }
+    ensures heeded { result ≢ Input.Failed →
+        (R.marks reader.new).told_failure ≡ (R.marks reader.old).told_failure }
+{
+    let mut bytes = Vec::new(alloc);
+    let mut filled = 0;
+    for _ in 0..limit {
+        if make_room(&mut bytes, filled).is_err() {
+            return Input::OutOfMemory;
+        }
+        match read_behind(reader, &mut bytes, filled) {
+            Ok(0) => {
+                bytes.truncate(filled);
+                return Input::Whole(bytes);
+            }
+            Ok(count) => {
+                filled += count;
+                if filled > INPUT_LIMIT {
+                    return Input::TooLong;
+                }
+            }
+            Err(e) => {
+                if !is_interruption(&e) {
+                    return Input::Failed;
+                }
+            }
+        }
+    }
+    Input::Failed
+}

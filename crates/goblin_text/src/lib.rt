@@ -1,0 +1,18 @@
+//! The text that `goblin_show` shows of an ELF file: its header, sections, symbols and relocations, from bytes to a string,
+//! or from a reader to a writer.
+#![tactic(auto)]
+
+mod accept;
+pub mod command;
+pub mod counted;
+mod digits;
+pub mod input;
+mod lines;
+pub mod names;
+pub mod options;
+pub mod run;
+mod runs;
+mod seen;
+pub mod streams;
+mod targets;
+pub mod text;

@@ -1,0 +1,265 @@
+//! The string tables of a file and their names, read where they stand: so that no byte is read again and again, it is
+//! kept in mind of the file's blocks how far from each one text goes on.
+ghost use Rattle.std.specs.Prelude.{◌≡◌, ◌↔◌, ◌+◌, ◌*◌, ◌<◌, ◌≤◌, ◌⊎◌, ◌-◌, ◌/◌, IfSome, IsErr, IsTrue, MatchOption, OnErr, OnOk, length, min, slice_range};
+ghost use Rattle.std.specs.Str.{IsUtf8};
+ghost use Rattle.goblin.specs.Refusal.{Gives};
+ghost use Rattle.goblin.specs.Strtab.{strtab_of};
+ghost use Rattle.goblin_text.specs.Known.{strings_in, text_table};
+ghost use Rattle.goblin_text.specs.Looks.{CountsAtLeast, IsShort, Spends, name_looks, table_looks};
+ghost use Rattle.goblin_text.specs.Runs.{LacksText, up_to_zero};
+ghost use Rattle.goblin_text.specs.Shown.{name_at};
+
+use crate::runs::{BLOCK, BLOCKS, Kind, end_of, none_known};
+use crate::seen::Seen;
+use goblin::error::Result;
+use goblin::options::ParseOptions;
+use goblin::strtab::bytes_in_range;
+use std::alloc::Global;
+use std::marker::Model;
+
+/// The strings that names are taken from.
+#[derive(Clone, Copy)]
+pub enum Strings {
+    /// None, which have no names.
+    Missing,
+    /// Those of the file's bytes from one place to another.
+    Within { start: usize, end: usize },
+}
+
+/// The bytes of a file, and what is kept in mind of its blocks: where the run of text from each one on ends, and where
+/// that of text with no zero byte does.
+#[derive(Drop)]
+pub struct Names<'a> {
+    seen: Seen<'a>,
+    texts: [u16; BLOCKS],
+    plain: [u16; BLOCKS],
+}
+
+// They are seen as the bytes, the looks taken, and those that blocks may take which weren't read yet.
+impl<'a> Model for Names<'a> {
+    ghost use Rattle.std.specs.Prelude.{◌+◌, ◌*◌};
+    ghost use Rattle.goblin_text.specs.declared.runs.Kind.TheVariants.{Plain, Text};
+    ghost use Rattle.goblin_text.specs.Looks.{Named, block_looks};
+    ghost use Rattle.goblin_text.specs.Runs.{AreEnds, blocks, unknown};
+
+    ghost Value = { Named };
+
+    ghost view = { λ n. record {
+      bytes = n.seen.bytes;
+      count = n.seen.count;
+      left = block_looks * (unknown (blocks n.seen.bytes) n.texts + unknown (blocks n.seen.bytes) n.plain);
+    } };
+
+    ghost invariant = { λ n. AreEnds Text n.seen.bytes n.texts × AreEnds Plain n.seen.bytes n.plain };
+}
+
+impl<'a> Names<'a> {
+    /// Nothing was read yet.
+    pub fn new(bytes: &'a [u8]) -> Self
+        ensures bytes { result.bytes ≡ bytes.now }
+        ensures count { result.count ≡ 0 }
+        ensures left { result.left ≤ 5 * length bytes.now }
+    {
+        Names {
+            seen: Seen::new(bytes),
+            texts: none_known(),
+            plain: none_known(),
+        }
+    }
+
+    /// The bytes themselves, for what isn't a name: what is read of them here isn't counted.
+    pub fn bytes(&self) -> &'a [u8]
+        ensures { result.now ≡ self.now.bytes }
+    {
+        self.seen.bytes()
+    }
+
+    /// How many looks were taken, up to the greatest number.
+    pub fn count(&self) -> u128
+        ensures { result ≡ self.now.count }
+    {
+        self.seen.count()
+    }
+
+    /// The string table with the delimiter 0 of `size` bytes of the file from an offset on.
+    ///
+    /// It has no entries: a name is read where it stands. Strict options ask that its bytes are text. The errors are
+    /// those of `Strtab::parse_with_opts`.
+    #[tactic(auto, using(crate::proofs::Blocks::range_stands, crate::proofs::Tables::range_taken))]
+    pub fn table(
+        &mut self,
+        alloc: Global,
+        offset: usize,
+        size: usize,
+        opts: &ParseOptions,
+    ) -> Result<Strings>
+        ensures given { let right = strtab_of opts.now.parse_mode self.old.bytes offset size 0 in
+            Gives (strings_in self.old.bytes) result right }
+        ensures unchanged { self.new.bytes ≡ self.old.bytes }
+        ensures looks { IsShort self.old.bytes
+            → OnOk result (Spends self.old self.new table_looks) }
+        ensures looks_refused { IsShort self.old.bytes
+            → OnErr result (Spends self.old self.new (table_looks + 5 * length self.old.bytes)) }
+    {
+        let bytes = self.bytes();
+        let range = bytes_in_range(bytes, offset, size, opts.parse_mode)?;
+        let start = offset.min(bytes.len());
+        let end = start + range.len();
+        if !opts.parse_mode.is_permissive() && !self.is_range_text(start, end) {
+            self.seen.walk(alloc, start, end)?;
+        }
+        Ok(Strings::Within { start, end })
+    }
+
+    // Whether a range is text: its two ends are read, with six looks at edges of blocks, and what is between them where
+    // it isn't known.
+    fn is_range_text(&mut self, start: usize, end: usize) -> bool
+        requires ordered { start ≤ end }
+        requires within { end ≤ length self.old.bytes }
+        ensures value { IsTrue result ↔ IsUtf8 (slice_range self.old.bytes start end) }
+        ensures unchanged { self.new.bytes ≡ self.old.bytes }
+        ensures looks { IsShort self.old.bytes → Spends self.old self.new table_looks }
+    {
+        let first = start / BLOCK + 1;
+        let last = last_block(end);
+        if first >= last {
+            return self.seen.is_text(start, end);
+        }
+        let begin = self.seen.cut(first * BLOCK);
+        if !self.seen.is_text(start, begin) {
+            return false;
+        }
+        if end_of(&mut self.seen, Kind::Text, &mut self.texts, first) < last {
+            return false;
+        }
+        let rest = self.seen.cut(last * BLOCK);
+        self.seen.is_text(rest, end)
+    }
+
+    /// The string at an offset of a file's strings, or an empty one where there is none.
+    pub fn name(&mut self, strings: Strings, offset: usize) -> &'a str
+        ensures name { result.now ≡ name_at (strings_in self.old.bytes strings) offset }
+        ensures unchanged { self.new.bytes ≡ self.old.bytes }
+        ensures looks { IsShort self.old.bytes
+            → Spends self.old self.new (name_looks + length result.now) }
+        ensures looks_least { CountsAtLeast self.old.count (length result.now) self.new.count }
+    {
+        match strings {
+            Strings::Missing => "",
+            Strings::Within { start, end } => {
+                let end = end.min(self.seen.len());
+                self.name_within(start.min(end), end, offset)
+            }
+        }
+    }
+
+    // The string at an offset of the bytes from one place of the file to another.
+    fn name_within(&mut self, start: usize, end: usize, offset: usize) -> &'a str
+        requires ordered { start ≤ end }
+        requires within { end ≤ length self.old.bytes }
+        ensures name { let table = text_table (slice_range self.old.bytes start end) in
+            result.now ≡ name_at table offset }
+        ensures unchanged { self.new.bytes ≡ self.old.bytes }
+        ensures looks { IsShort self.old.bytes
+            → Spends self.old self.new (name_looks + length result.now) }
+        ensures looks_least { CountsAtLeast self.old.count (length result.now) self.new.count }
+    {
+        if offset >= end - start {
+            return "";
+        }
+        let place = start + offset;
+        if self.seen.past(place) > place {
+            return "";
+        }
+        match self.end_of_name(place, end) {
+            Some(stop) => self.seen.text(place, stop),
+            None => "",
+        }
+    }
+
+    // Where the string from a place on ends, up to another, unless it is long and no text. It is a look at each of 512
+    // bytes, and then at 515 more of a table that ends there, or those of a long name.
+    fn end_of_name(&mut self, place: usize, end: usize) -> Option<usize>
+        requires ordered { place ≤ end }
+        requires within { end ≤ length self.old.bytes }
+        ensures stop { let string = slice_range self.old.bytes place end in
+            MatchOption result (LacksText string) (λ stop. (place ≤ stop) × (stop ≤ end)
+            × (slice_range self.old.bytes place stop ≡ up_to_zero string)) }
+        ensures unchanged { self.new.bytes ≡ self.old.bytes }
+        ensures looks { IsShort self.old.bytes → MatchOption result
+            (Spends self.old self.new 2080)
+            (λ stop. ((stop ≤ place + 1027) × Spends self.old self.new 1570)
+            ⊎ (IsUtf8 (slice_range self.old.bytes place stop) × Spends self.old self.new 2080)) }
+        ensures looks_least { CountsAtLeast self.old.count 0 self.new.count }
+    {
+        let near = end.min(place.saturating_add(BLOCK));
+        let stop = self.seen.end_of_string(place, near);
+        if stop < near {
+            return Some(stop);
+        }
+        if place / BLOCK + 1 >= last_block(end) {
+            return Some(self.seen.end_of_string(near, end));
+        }
+        self.end_of_long_name(place, end)
+    }
+
+    // Where the string from a place on ends, up to another that lies some blocks behind it, unless it is no text. It is
+    // nine looks at edges of blocks, one at each byte up to the first edge, and two in the block that the string ends in.
+    fn end_of_long_name(&mut self, place: usize, end: usize) -> Option<usize>
+        requires long { place / 512 + 1 < min ((end - 3) / 512) 32768 }
+        requires within { end ≤ length self.old.bytes }
+        requires near { let near = slice_range self.old.bytes place (place + 512) in
+            up_to_zero near ≡ near }
+        ensures stop { let string = slice_range self.old.bytes place end in
+            MatchOption result (LacksText string) (λ stop. (place ≤ stop) × (stop ≤ end)
+            × (slice_range self.old.bytes place stop ≡ up_to_zero string)) }
+        ensures text { IfSome result (λ stop. IsUtf8 (slice_range self.old.bytes place stop)) }
+        ensures unchanged { self.new.bytes ≡ self.old.bytes }
+        ensures looks { IsShort self.old.bytes → Spends self.old self.new 1560 }
+        ensures looks_least { CountsAtLeast self.old.count 0 self.new.count }
+    {
+        let first = place / BLOCK + 1;
+        let last = last_block(end);
+        let begin = self.seen.cut(first * BLOCK);
+        if !self.seen.is_text(place, begin) {
+            return None;
+        }
+        let run = end_of(&mut self.seen, Kind::Plain, &mut self.plain, first).min(last);
+        let from = self.seen.cut(run * BLOCK);
+        if run == last {
+            return self.end_of_text(from, end);
+        }
+        let to = self.seen.cut((run + 1) * BLOCK);
+        let stop = self.end_of_text(from, to)?;
+        if stop == to {
+            return None;
+        }
+        Some(stop)
+    }
+
+    // Where the string from a place on ends, up to another, unless it is no text.
+    fn end_of_text(&mut self, from: usize, to: usize) -> Option<usize>
+        requires ordered { from ≤ to }
+        requires within { to ≤ length self.old.bytes }
+        ensures stop { let string = slice_range self.old.bytes from to in
+            MatchOption result (LacksText string) (λ stop. (from ≤ stop) × (stop ≤ to)
+            × (slice_range self.old.bytes from stop ≡ up_to_zero string)) }
+        ensures text { IfSome result (λ stop. IsUtf8 (slice_range self.old.bytes from stop)) }
+        ensures unchanged { self.new.bytes ≡ self.old.bytes }
+        ensures looks { Spends self.old self.new (2 * (to - from)) }
+        ensures looks_least { CountsAtLeast self.old.count 0 self.new.count }
+    {
+        let stop = self.seen.end_of_string(from, to);
+        if !self.seen.is_text(from, stop) {
+            return None;
+        }
+        Some(stop)
+    }
+}
+
+// The block that bytes up to a place end in, or before which their last character begins.
+fn last_block(end: usize) -> usize
+    ensures { result ≡ min ((end - 3) / 512) 32768 }
+{
+    (end.saturating_sub(3) / BLOCK).min(BLOCKS)
+}

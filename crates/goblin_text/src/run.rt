@@ -1,0 +1,181 @@
+//! A run: from the bytes that a reader gives to the text that a writer holds.
+ghost use Rattle.std.specs.Prelude.{◌≡◌, ◌≢◌, ℕ, ◌+◌, ◌*◌, ◌≤◌, ◌⊎◌, List, IsTrue, OnOk, OnErr, length};
+ghost use Rattle.std.specs.Io.KnownBytes.{Appends};
+ghost use Rattle.goblin_text.specs.Looks.{IsShort, Spends, lines_in, shown_looks, tables_looks};
+ghost use Rattle.goblin_text.specs.Ran.{FailsToRead, IsReason, IsShown, ReadsAtMostOneMore, TellsError, TellsWhy, WritesRefusal, read_limit, status_of};
+ghost use Rattle.goblin_text.specs.Shown.{shown};
+
+use crate::accept::accept;
+use crate::input::{Input, input_of};
+use crate::names::Names;
+use crate::streams::{Sink, Source};
+use crate::text::write_text;
+use goblin::error::Error;
+use goblin::options::ParseOptions;
+use std::alloc::Global;
+use std::io;
+
+/// How a run ended.
+#[derive(Clone, Copy, Debug, PartialEq)]
+pub enum Outcome {
+    /// The text was written.
+    Shown,
+    /// A line was written that says why there is no text.
+    Refused,
+    /// Reading or writing failed.
+    Failed,
+}
+
+impl Outcome {
+    /// The exit status of a run that ended so: 0, 1 or 2.
+    pub fn status(self) -> u8
+        ensures { result ≡ status_of self }
+    {
+        match self {
+            Outcome::Shown => 0,
+            Outcome::Refused => 1,
+            Outcome::Failed => 2,
+        }
+    }
+}
+
+const OUT_OF_MEMORY: &str = "Out of memory";
+
+const TOO_LONG: &str = "input is longer than 16777216 bytes";
+
+fn write_refusal<W: Sink>(writer: &mut W, line: &str) -> io::Result<()>
+    ensures ok { OnOk result
+        (WritesRefusal (W.contents writer.old) (W.contents writer.new) line.now) }
+    ensures heeded { OnOk result
+        ((W.marks writer.new).told_error ≡ (W.marks writer.old).told_error) }
+    ensures err { OnErr result (IsTrue (W.marks writer.new).told_error) }
+{
+    writer.write_all(b"refused: ")?;
+    writer.write_all(line.as_bytes())?;
+    writer.write_all(b"\n")?;
+    writer.flush()
+}
+
+// Writes `refused: ` and a line.
+fn refuse<W: Sink>(writer: &mut W, line: &str) -> Outcome
+    ensures shown { result ≢ Outcome.Shown }
+    ensures refused { result ≡ Outcome.Refused →
+        WritesRefusal (W.contents writer.old) (W.contents writer.new) line.now }
+    ensures heeded { result ≡ Outcome.Refused →
+        (W.marks writer.new).told_error ≡ (W.marks writer.old).told_error }
+    ensures failed { result ≡ Outcome.Failed → IsTrue (W.marks writer.new).told_error }
+{
+    match write_refusal(writer, line) {
+        Ok(()) => Outcome::Refused,
+        Err(_) => Outcome::Failed,
+    }
+}
+
+// Writes why the bytes are refused, or that memory ran out.
+fn refuse_for<W: Sink>(alloc: Global, writer: &mut W, e: &Error) -> Outcome
+    ensures shown { result ≢ Outcome.Shown }
+    ensures refused { result ≡ Outcome.Refused → (line : List ℕ) × TellsError e.now line
+        × WritesRefusal (W.contents writer.old) (W.contents writer.new) line }
+    ensures heeded { result ≡ Outcome.Refused →
+        (W.marks writer.new).told_error ≡ (W.marks writer.old).told_error }
+    ensures failed { result ≡ Outcome.Failed → IsTrue (W.marks writer.new).told_error }
+{
+    if let Error::Memory(_) = e {
+        return refuse(writer, OUT_OF_MEMORY);
+    }
+    match e.line(alloc) {
+        Ok(line) => refuse(writer, line.as_str()),
+        Err(_) => refuse(writer, OUT_OF_MEMORY),
+    }
+}
+
+/// Writes the text of a file whose names are read here as it is made, or one line that says why there is none: that the
+/// bytes are refused, or found no memory. That is decided before the first line of the text.
+///
+/// Of a file that is shown, what is looked at for names is at most five times its bytes, its text's bytes, and 4,096 for
+/// each line of its text; of one that is refused, ten times its bytes, and 1,040 for each section header and one more.
+pub fn show_file<W: Sink>(
+    alloc: Global,
+    writer: &mut W,
+    names: &mut Names<'_>,
+    opts: &ParseOptions,
+) -> Outcome
+    // The text was written.
+    ensures shown { result ≡ Outcome.Shown → (text : List ℕ)
+        × (shown opts.now.parse_mode names.old.bytes ≡ Ok text)
+        × Appends (W.contents writer.old) (W.contents writer.new) text }
+
+    // One line with the reason was written.
+    ensures refused { result ≡ Outcome.Refused → (line : List ℕ)
+        × TellsWhy opts.now.parse_mode names.old.bytes line
+        × WritesRefusal (W.contents writer.old) (W.contents writer.new) line }
+    ensures heeded { result ≢ Outcome.Failed →
+        (W.marks writer.new).told_error ≡ (W.marks writer.old).told_error }
+    ensures failed { result ≡ Outcome.Failed → IsTrue (W.marks writer.new).told_error }
+    ensures unchanged { names.new.bytes ≡ names.old.bytes }
+
+    // What was looked at for names, where the text was written, and however it ended.
+    ensures looks_shown { IsShort names.old.bytes → (text : List ℕ) → result ≡ Outcome.Shown
+        → shown opts.now.parse_mode names.old.bytes ≡ Ok text
+        → Spends names.old names.new (length text + 4096 * lines_in text) }
+    ensures looks { IsShort names.old.bytes → Spends names.old names.new
+        (tables_looks opts.now.parse_mode names.old.bytes + shown_looks opts.now.parse_mode names.old.bytes) }
+{
+    match accept(alloc, names, opts) {
+        Ok(file) => match write_text(writer, names, &file) {
+            Ok(()) => Outcome::Shown,
+            Err(_) => Outcome::Failed,
+        },
+        Err(e) => refuse_for(alloc, writer, &e),
+    }
+}
+
+/// Reads up to the end, and then writes the text of what was read as it is made, or one line that says
+/// why there is none: that the bytes are refused, or are too many, or found no memory. That is decided
+/// before the first line of the text.
+///
+/// An interrupted read is tried again. Any other error of the reader or the writer, or
+/// 33,554,432 read calls without an end, is `Failed`: after an error of the reader nothing was
+/// written, and after one of the writer it is open how much was.
+pub fn run<R: Source, W: Sink>(
+    alloc: Global,
+    reader: &mut R,
+    writer: &mut W,
+    opts: &ParseOptions,
+) -> Outcome
+    // The reader told its end, and the text of all its bytes was written.
+    ensures shown { result ≡ Outcome.Shown →
+        IsShown opts.now.parse_mode (R.remaining reader.old) (R.remaining reader.new) (R.marks reader.new)
+        (W.contents writer.old) (W.contents writer.new) }
+
+    // One line with the reason was written.
+    ensures refused { result ≡ Outcome.Refused → (line : List ℕ)
+        × IsReason opts.now.parse_mode (R.remaining reader.old) (R.remaining reader.new)
+        (R.marks reader.new) line
+        × WritesRefusal (W.contents writer.old) (W.contents writer.new) line }
+
+    // The reader told an error that was no interruption, or was asked as often as it is and told
+    // no end; or the writer told an error.
+    ensures failed { result ≡ Outcome.Failed →
+        FailsToRead (R.marks reader.old) (R.marks reader.new)
+        ⊎ IsTrue (W.marks writer.new).told_error }
+
+    // Where it did not, the reader told no error but interruptions, and the writer none.
+    ensures heeds_reader { result ≢ Outcome.Failed →
+        (R.marks reader.new).told_failure ≡ (R.marks reader.old).told_failure }
+    ensures heeds_writer { result ≢ Outcome.Failed →
+        (W.marks writer.new).told_error ≡ (W.marks writer.old).told_error }
+
+    // However it ended, the reader was not asked for more.
+    ensures most { ReadsAtMostOneMore (R.remaining reader.old) (R.remaining reader.new) }
+    ensures calls { (R.marks reader.new).read_calls ≤ (R.marks reader.old).read_calls + read_limit }
+{
+    let bytes = match input_of(alloc, reader) {
+        Input::Whole(bytes) => bytes,
+        Input::TooLong => return refuse(writer, TOO_LONG),
+        Input::OutOfMemory => return refuse(writer, OUT_OF_MEMORY),
+        Input::Failed => return Outcome::Failed,
+    };
+    let mut names = Names::new(bytes.as_slice());
+    show_file(alloc, writer, &mut names, opts)
+}

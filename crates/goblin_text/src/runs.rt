@@ -1,0 +1,125 @@
+//! Runs of a file's blocks that are text, or text with no zero byte. Each block is read once for either.
+ghost use Rattle.std.specs.Prelude.{◌≡◌, ◌↔◌, ◌+◌, ◌-◌, ◌*◌, ◌<◌, ◌≤◌, IsTrue, List, ℕ, length, slice_index, slice_range};
+ghost use Rattle.goblin_text.specs.Looks.{CountsAtLeast, block_looks};
+ghost use Rattle.goblin_text.specs.Runs.{AreEnds, IsBlock, IsEnd, IsOf, blocks, unknown};
+
+use crate::seen::Seen;
+
+/// How many bytes a block has.
+pub const BLOCK: usize = 512;
+
+/// How many blocks are kept in mind: those of the longest file that the program takes.
+pub const BLOCKS: usize = 32_768;
+
+/// What the blocks of a run are.
+#[derive(Clone, Copy)]
+pub enum Kind {
+    /// Text.
+    Text,
+    /// Text with no zero byte.
+    Plain,
+}
+
+// How far a run was looked for.
+#[derive(Clone, Copy)]
+struct Found {
+    // The first block behind those that were read.
+    read: usize,
+    // Where the run ends.
+    end: usize,
+}
+
+/// Of no block it is known where its run ends.
+pub fn none_known() -> [u16; BLOCKS]
+    ensures known { (kind : Kind) → (bytes : List ℕ) → AreEnds kind bytes result }
+    ensures unknown { (n : ℕ) → unknown n result ≤ n }
+{
+    [0; BLOCKS]
+}
+
+// Whether the bytes from one place up to another are of a kind. It is two looks at each, at most.
+fn is_of(seen: &mut Seen<'_>, kind: Kind, from: usize, to: usize) -> bool
+    requires ordered { from ≤ to }
+    requires within { to ≤ length seen.old.bytes }
+    ensures value { IsTrue result ↔ IsOf kind (slice_range seen.old.bytes from to) }
+    ensures unchanged { seen.new.bytes ≡ seen.old.bytes }
+    ensures looks { seen.new.count ≤ seen.old.count + 2 * (to - from) }
+    ensures looks_least { CountsAtLeast seen.old.count 0 seen.new.count }
+{
+    match kind {
+        Kind::Text => seen.is_text(from, to),
+        Kind::Plain => seen.end_of_string(from, to) == to && seen.is_text(from, to),
+    }
+}
+
+// Whether the block with a number is of a kind.
+fn is_block_of(seen: &mut Seen<'_>, kind: Kind, block: usize) -> bool
+    requires bound { block < 32768 }
+    requires within { (block + 1) * 512 ≤ length seen.old.bytes }
+    ensures value { IsTrue result ↔ IsBlock kind seen.old.bytes block }
+    ensures unchanged { seen.new.bytes ≡ seen.old.bytes }
+    ensures looks { seen.new.count ≤ seen.old.count + block_looks }
+    ensures looks_least { CountsAtLeast seen.old.count 0 seen.new.count }
+{
+    let from = seen.cut(block * BLOCK);
+    let to = seen.cut((block + 1) * BLOCK);
+    is_of(seen, kind, from, to)
+}
+
+// Looks for the end of the run from a block on: as far as a block is of the kind, and it isn't known of it where
+// its run ends.
+fn look_for_end(seen: &mut Seen<'_>, kind: Kind, ends: &[u16; BLOCKS], first: usize) -> Found
+    requires first { first ≤ blocks seen.old.bytes }
+    requires known { AreEnds kind seen.old.bytes ends.now }
+    ensures end { IsEnd kind seen.old.bytes first result.end }
+    ensures from { first ≤ result.read }
+    ensures within { result.read ≤ blocks seen.old.bytes }
+    ensures to { result.read ≤ result.end + 1 }
+    ensures unknown { (k : ℕ) → first ≤ k → k < result.read → slice_index ends.now k ≡ 0 }
+    ensures unchanged { seen.new.bytes ≡ seen.old.bytes }
+    ensures looks { seen.new.count ≤ seen.old.count + block_looks * (result.read - first) }
+    ensures looks_least { CountsAtLeast seen.old.count 0 seen.new.count }
+{
+    let blocks = (seen.len() / BLOCK).min(BLOCKS);
+    let mut block = first;
+    while block < blocks {
+        let known = usize::from(ends[block]);
+        if known > 0 {
+            return Found {
+                read: block,
+                end: known,
+            };
+        }
+        if !is_block_of(seen, kind, block) {
+            return Found {
+                read: block + 1,
+                end: block,
+            };
+        }
+        block += 1;
+    }
+    Found {
+        read: block,
+        end: blocks,
+    }
+}
+
+/// Where the run of a kind from a block on ends. It is kept of each block that is read for it.
+pub fn end_of(seen: &mut Seen<'_>, kind: Kind, ends: &mut [u16; BLOCKS], first: usize) -> usize
+    requires some { 0 < first }
+    requires first { first ≤ blocks seen.old.bytes }
+    requires known { AreEnds kind seen.old.bytes ends.old }
+    ensures end { IsEnd kind seen.old.bytes first result }
+    ensures known { AreEnds kind seen.old.bytes ends.new }
+    ensures unchanged { seen.new.bytes ≡ seen.old.bytes }
+    ensures looks { let n = blocks seen.old.bytes in
+        seen.new.count + block_looks * unknown n ends.new
+        ≤ seen.old.count + block_looks * unknown n ends.old }
+    ensures looks_least { CountsAtLeast seen.old.count 0 seen.new.count }
+{
+    let found = look_for_end(seen, kind, ends, first);
+    for block in first..found.read {
+        ends[block] = found.end as u16;
+    }
+    found.end
+}

@@ -1,0 +1,209 @@
+//! The bytes of a file, which are read for names under a count of the bytes looked at.
+//!
+//! The type here keeps its fields to itself and can't be copied, so that whoever reads through it reads counted.
+ghost use Rattle.std.specs.Prelude.{◌≡◌, ◌↔◌, ◌+◌, ◌-◌, ◌*◌, ◌<◌, ◌≤◌, ◌==◌, ◌≢◌, IfErr, IsTrue, OnOk, [], length, min, slice_range, if◌then◌else◌};
+ghost use Rattle.std.specs.List.{position};
+ghost use Rattle.std.specs.Str.{IsUtf8, is_utf8};
+ghost use Rattle.goblin.specs.declared.options.ParseMode.{ParseMode};
+ghost use Rattle.goblin.specs.Pieces.{first_bad, piece_end};
+ghost use Rattle.goblin.specs.Refusal.{Gives, out_of_memory, refusal_of};
+ghost use Rattle.goblin.specs.Strtab.{table_of};
+ghost use Rattle.goblin_text.specs.Looks.{CountsAtLeast};
+ghost use Rattle.goblin_text.specs.Known.{StrictIsText, text_table};
+ghost use Rattle.goblin_text.specs.Runs.{cut, past, up_to_zero};
+
+use goblin::error::Result;
+use goblin::options::ParseMode;
+use goblin_base::entries::Looked;
+use goblin_base::walk::walk;
+use std::alloc::Global;
+use std::marker::Model;
+
+/// The bytes of a file, and how many looks at them were taken for names.
+#[derive(Drop)]
+pub struct Seen<'a> {
+    bytes: &'a [u8],
+    count: u128,
+}
+
+// They are seen as the bytes and the count.
+impl<'a> Model for Seen<'a> {
+    ghost use Rattle.goblin_text.specs.Looks.{Seen};
+
+    ghost Value = { Seen };
+
+    ghost view = { λ seen. record { bytes = seen.bytes.now; count = seen.count } };
+}
+
+impl<'a> Seen<'a> {
+    /// The bytes, none of which has been looked at.
+    pub fn new(bytes: &'a [u8]) -> Self
+        ensures { result ≡ record { bytes = bytes.now; count = 0 } }
+    {
+        Seen { bytes, count: 0 }
+    }
+
+    /// The bytes themselves, for what isn't a name: what is read of them here isn't counted.
+    pub fn bytes(&self) -> &'a [u8]
+        ensures { result.now ≡ self.now.bytes }
+    {
+        self.bytes
+    }
+
+    /// How many looks were taken, up to the greatest number.
+    pub fn count(&self) -> u128
+        ensures { result ≡ self.now.count }
+    {
+        self.count
+    }
+
+    /// How many bytes there are.
+    pub fn len(&self) -> usize
+        ensures value { result ≡ length self.now.bytes }
+        ensures bound { result < usize.MAX }
+    {
+        self.bytes.len()
+    }
+
+    // Counts looks.
+    fn add(&mut self, looks: usize)
+        ensures unchanged { self.new.bytes ≡ self.old.bytes }
+        ensures looks { self.new.count ≤ self.old.count + looks }
+        ensures looks_least { CountsAtLeast self.old.count looks self.new.count }
+    {
+        self.count = self.count.saturating_add(looks as u128);
+    }
+
+    /// The place behind a byte that goes on with a character, or the same place. It is one look.
+    #[tactic(auto, unfolding(crate::specs::Runs::past))]
+    pub fn past(&mut self, place: usize) -> usize
+        requires { place ≤ length self.old.bytes }
+        ensures is { result ≡ past self.old.bytes place }
+        ensures within { result ≤ length self.old.bytes }
+        ensures from { place ≤ result }
+        ensures to { result ≤ place + 1 }
+        ensures unchanged { self.new.bytes ≡ self.old.bytes }
+        ensures looks { self.new.count ≤ self.old.count + 1 }
+        ensures looks_least { CountsAtLeast self.old.count 1 self.new.count }
+    {
+        self.add(1);
+        let bytes = self.bytes;
+        if place < bytes.len() && bytes[place] >= 0x80 && bytes[place] < 0xC0 {
+            place + 1
+        } else {
+            place
+        }
+    }
+
+    /// Where the characters from a place on begin: behind up to three bytes that go on with one. It is three looks.
+    #[tactic(auto, unfolding(crate::specs::Runs::cut))]
+    pub fn cut(&mut self, place: usize) -> usize
+        requires { place ≤ length self.old.bytes }
+        ensures is { result ≡ cut self.old.bytes place }
+        ensures within { result ≤ length self.old.bytes }
+        ensures from { place ≤ result }
+        ensures to { result ≤ place + 3 }
+        ensures unchanged { self.new.bytes ≡ self.old.bytes }
+        ensures looks { self.new.count ≤ self.old.count + 3 }
+        ensures looks_least { CountsAtLeast self.old.count 3 self.new.count }
+    {
+        let first = self.past(place);
+        let second = self.past(first);
+        self.past(second)
+    }
+
+    /// Where the string from one place on ends, up to another: at a zero byte, or there. It is a look at each byte up
+    /// to the zero byte.
+    pub fn end_of_string(&mut self, from: usize, to: usize) -> usize
+        requires ordered { from ≤ to }
+        requires within { to ≤ length self.old.bytes }
+        ensures is { slice_range self.old.bytes from result
+            ≡ up_to_zero (slice_range self.old.bytes from to) }
+        ensures from { from ≤ result }
+        ensures to { result ≤ to }
+        ensures unchanged { self.new.bytes ≡ self.old.bytes }
+        ensures looks { self.new.count ≤ self.old.count + (min (result + 1) to - from) }
+        ensures looks_least { let least = min (result + 1) to - from in
+            CountsAtLeast self.old.count least self.new.count }
+    {
+        let len = first_zero(&self.bytes[from..to]).unwrap_or(to - from);
+        self.add((len + 1).min(to - from));
+        from + len
+    }
+
+    /// Whether the bytes from one place up to another are text. It is a look at each of them.
+    pub fn is_text(&mut self, from: usize, to: usize) -> bool
+        requires ordered { from ≤ to }
+        requires within { to ≤ length self.old.bytes }
+        ensures value { IsTrue result ↔ IsUtf8 (slice_range self.old.bytes from to) }
+        ensures unchanged { self.new.bytes ≡ self.old.bytes }
+        ensures looks { self.new.count ≤ self.old.count + (to - from) }
+        ensures looks_least { CountsAtLeast self.old.count (to - from) self.new.count }
+    {
+        self.add(to - from);
+        std::str::from_utf8(&self.bytes[from..to]).is_ok()
+    }
+
+    /// The bytes from one place up to another as a text, or an empty one where they are none. It is a look at each of
+    /// them.
+    pub fn text(&mut self, from: usize, to: usize) -> &'a str
+        requires ordered { from ≤ to }
+        requires within { to ≤ length self.old.bytes }
+        ensures value { let bytes = slice_range self.old.bytes from to in
+            result.now ≡ (if is_utf8 bytes then bytes else []) }
+        ensures bound { length result.now ≤ to - from }
+        ensures unchanged { self.new.bytes ≡ self.old.bytes }
+        ensures looks { self.new.count ≤ self.old.count + (to - from) }
+        ensures looks_least { CountsAtLeast self.old.count (to - from) self.new.count }
+    {
+        self.add(to - from);
+        or_empty(&self.bytes[from..to])
+    }
+
+    /// Walks over the string table of the bytes from one place up to another for its refusal. It is five looks at each
+    /// of them, at most.
+    pub fn walk(&mut self, alloc: Global, from: usize, to: usize) -> Result<()>
+        requires ordered { from ≤ to }
+        requires within { to ≤ length self.old.bytes }
+        ensures given { let bytes = slice_range self.old.bytes from to in
+            Gives (λ _. text_table bytes) result (table_of ParseMode.Strict bytes 0) }
+        ensures text { OnOk result (IsUtf8 (slice_range self.old.bytes from to)) }
+        ensures unchanged { self.new.bytes ≡ self.old.bytes }
+        ensures looks { self.new.count ≤ self.old.count + 5 * (to - from) }
+        ensures looks_least { let bytes = slice_range self.old.bytes from to in
+            let least = piece_end bytes 0 (first_bad bytes 0) in
+            IfErr result (λ e. refusal_of e ≢ out_of_memory
+            → CountsAtLeast self.old.count least self.new.count) }
+    {
+        let mut looked = Looked::new(&self.bytes[from..to]);
+        let answer = walk(alloc, &mut looked, 0, ParseMode::Strict);
+        self.count = self.count.saturating_add(looked.count());
+        strict_is_text();
+        answer?;
+        Ok(())
+    }
+}
+
+// A law: a string table that a strict walk takes is text.
+fn strict_is_text()
+    ensures { StrictIsText }
+{
+    goblin::strtab::laws();
+}
+
+// Where a zero byte stands first.
+fn first_zero(bytes: &[u8]) -> Option<usize>
+    ensures { result ≡ position (λ b. b == 0) bytes.now }
+{
+    bytes.iter().position(|b| *b == 0)
+}
+
+// The bytes as a text, or an empty one where they are none.
+fn or_empty(bytes: &[u8]) -> &str
+    ensures { result.now ≡ (if is_utf8 bytes.now then bytes.now else []) }
+{
+    match std::str::from_utf8(bytes) {
+        Ok(text) => text,
+        Err(_) => "",
+    }
+}

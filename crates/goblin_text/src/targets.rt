@@ -1,0 +1,175 @@
+//! What takes a text piece by piece: a buffer of fixed size before a writer, and a text in memory.
+ghost use Rattle.std.specs.Prelude.{◌≡◌, ◌+◌, ◌≤◌, ◌++◌, IsTrue, OnErr, OnOk, Some, length, [], string_bytes, take};
+ghost use Rattle.std.specs.Borrow.{GName};
+ghost use Rattle.std.specs.Io.KnownBytes.{Keeps};
+ghost use Rattle.goblin_text.specs.Put.{Puts, State, held};
+
+use crate::streams::Sink;
+use std::alloc::{AllocError, Global};
+use std::io;
+
+/// What takes a text.
+pub trait Target {
+    /// Why a piece isn't taken.
+    type Error;
+
+    // The bytes that it holds, where they are told, and whether it told an error.
+    ghost state: { Self → State };
+
+    // The name of the reference that it keeps, or 0.
+    ghost kept: { Self → GName };
+
+    /// Takes a piece of the text. After an error it is open how much of it was taken.
+    fn put(&mut self, piece: &str) -> Result<(), Self::Error>
+        ensures put { Puts (state self.old) (state self.new) result piece.now }
+        ensures kept { kept self.new ≡ kept self.old };
+}
+
+// How many bytes a buffer has.
+const ROOM: usize = 32_768;
+
+/// A buffer before a writer.
+#[derive(Drop)]
+pub struct Buffered<'a, W> {
+    writer: &'a mut W,
+    room: [u8; ROOM],
+    filled: usize,
+}
+
+impl<'a, W: Sink> Buffered<'a, W> {
+    /// A buffer that is empty.
+    pub fn new(writer: &'a mut W) -> Self
+        ensures kept { result.writer.ghost_name ≡ writer.entry.ghost_name }
+        ensures writer { result.writer.now ≡ writer.old }
+        ensures filled { result.filled ≡ 0 }
+    {
+        Buffered {
+            writer,
+            room: [0; ROOM],
+            filled: 0,
+        }
+    }
+
+    // Writes what the buffer has.
+    fn pass_on(&mut self) -> io::Result<()>
+        ensures kept { self.new.writer.ghost_name ≡ self.old.writer.ghost_name }
+        ensures filled { OnOk result (self.new.filled ≡ 0) }
+        ensures bytes { OnOk result (Keeps
+            (held (W.contents self.old.writer.now) self.old.room self.old.filled)
+            (W.contents self.new.writer.now)) }
+        ensures heeded { OnOk result ((W.marks self.new.writer.now).told_error
+            ≡ (W.marks self.old.writer.now).told_error) }
+        ensures err { OnErr result (IsTrue (W.marks self.new.writer.now).told_error) }
+    {
+        self.writer.write_all(&self.room[..self.filled.min(ROOM)])?;
+        self.filled = 0;
+        Ok(())
+    }
+
+    // Writes what the buffer has, where it has no room for so many bytes more.
+    fn make_room(&mut self, len: usize) -> io::Result<()>
+        requires { len ≤ 32768 }
+        ensures kept { self.new.writer.ghost_name ≡ self.old.writer.ghost_name }
+        ensures room { OnOk result (self.new.filled + len ≤ 32768) }
+        ensures bytes { OnOk result (Keeps
+            (held (W.contents self.old.writer.now) self.old.room self.old.filled)
+            (held (W.contents self.new.writer.now) self.new.room self.new.filled)) }
+        ensures heeded { OnOk result ((W.marks self.new.writer.now).told_error
+            ≡ (W.marks self.old.writer.now).told_error) }
+        ensures err { OnErr result (IsTrue (W.marks self.new.writer.now).told_error) }
+    {
+        if self.filled <= ROOM && len <= ROOM - self.filled {
+            return Ok(());
+        }
+        self.pass_on()?;
+        Ok(())
+    }
+
+    // Adds bytes that the buffer has room for.
+    fn add(&mut self, bytes: &[u8])
+        requires { self.old.filled + length bytes.now ≤ 32768 }
+        ensures kept { self.new.writer.ghost_name ≡ self.old.writer.ghost_name }
+        ensures writer { self.new.writer.now ≡ self.old.writer.now }
+        ensures added { take self.new.filled self.new.room
+            ≡ take self.old.filled self.old.room ++ bytes.now }
+    {
+        let end = self.filled + bytes.len();
+        self.room[self.filled..end].copy_from_slice(bytes);
+        self.filled = end;
+    }
+
+    /// Writes what the buffer has, and passes it on.
+    pub fn finish(&mut self) -> io::Result<()>
+        ensures kept { self.new.writer.ghost_name ≡ self.old.writer.ghost_name }
+        ensures bytes { OnOk result (Keeps
+            (held (W.contents self.old.writer.now) self.old.room self.old.filled)
+            (W.contents self.new.writer.now)) }
+        ensures heeded { OnOk result ((W.marks self.new.writer.now).told_error
+            ≡ (W.marks self.old.writer.now).told_error) }
+        ensures err { OnErr result (IsTrue (W.marks self.new.writer.now).told_error) }
+    {
+        self.pass_on()?;
+        self.writer.flush()
+    }
+}
+
+impl<W: Sink> Target for Buffered<'_, W> {
+    type Error = io::Error;
+
+    ghost state = { λ b. record {
+      contents = held (W.contents b.writer.now) b.room b.filled;
+      told_error = (W.marks b.writer.now).told_error;
+    } };
+
+    ghost kept = { λ b. b.writer.ghost_name };
+
+    fn put(&mut self, piece: &str) -> io::Result<()> {
+        let bytes = piece.as_bytes();
+        if bytes.len() > ROOM {
+            self.pass_on()?;
+            self.writer.write_all(bytes)?;
+            return Ok(());
+        }
+        self.make_room(bytes.len())?;
+        self.add(bytes);
+        Ok(())
+    }
+}
+
+/// A text in memory.
+#[derive(Drop)]
+pub struct Gathered {
+    pub text: String,
+    told_error: bool,
+}
+
+impl Gathered {
+    /// An empty text.
+    pub fn new(alloc: Global) -> Self
+        ensures { string_bytes result.text ≡ [] }
+    {
+        Gathered {
+            text: String::new(alloc),
+            told_error: false,
+        }
+    }
+}
+
+impl Target for Gathered {
+    type Error = AllocError;
+
+    ghost state = { λ g. record {
+      contents = Some (string_bytes g.text);
+      told_error = g.told_error;
+    } };
+
+    ghost kept = { λ _. 0 };
+
+    fn put(&mut self, piece: &str) -> Result<(), AllocError> {
+        let answer = self.text.push_str(piece);
+        if answer.is_err() {
+            self.told_error = true;
+        }
+        answer
+    }
+}

@@ -1,0 +1,243 @@
+//! The text that is shown of a file, put as it is made.
+ghost use Rattle.std.specs.Prelude.{◌≡◌, IfErr, IsTrue, OnErr, OnOk, string_bytes};
+ghost use Rattle.std.specs.Io.KnownBytes.{Appends};
+ghost use Rattle.goblin.specs.Refusal.{Gives, Refuses};
+ghost use Rattle.goblin_text.specs.Accepted.{accepted_text, relocs_text, symbols_text};
+ghost use Rattle.goblin_text.specs.Known.{strings_in};
+ghost use Rattle.goblin_text.specs.Lines.{section_line, symbol_line};
+ghost use Rattle.goblin_text.specs.Looks.{IsShort, Spends, names_looks};
+ghost use Rattle.goblin_text.specs.Put.{Puts};
+ghost use Rattle.goblin_text.specs.Shown.{PermissiveShowsStrict, name_at, reloc_lines, section_lines, shown, symbol_lines, tested};
+
+use crate::accept::{Accepted, RelocPart, SymbolPart, accept};
+use crate::lines::{put_header, put_reloc, put_section, put_symbol};
+use crate::names::{Names, Strings};
+use crate::streams::Sink;
+use crate::targets::{Buffered, Gathered, Target};
+use goblin::elf::reloc::RelocSection;
+use goblin::elf::section_header::SectionHeader;
+use goblin::elf::sym::Sym;
+use goblin::error;
+use goblin::options::ParseOptions;
+use std::alloc::Global;
+use std::io;
+
+// Puts the line of the section with a number.
+#[tactic(auto, using(crate::proofs::Spent::section_looks))]
+fn put_named_section<T: Target>(
+    target: &mut T,
+    names: &mut Names<'_>,
+    strings: Strings,
+    number: usize,
+    section: &SectionHeader,
+) -> Result<(), T::Error>
+    ensures put { let name = name_at (strings_in names.old.bytes strings) section.now.sh_name in
+        Puts (T.state target.old) (T.state target.new) result
+        (section_line number section.now name) }
+    ensures kept { T.kept target.new ≡ T.kept target.old }
+    ensures unchanged { names.new.bytes ≡ names.old.bytes }
+    ensures looks { let name = name_at (strings_in names.old.bytes strings) section.now.sh_name in
+        IsShort names.old.bytes → Spends names.old names.new
+        (names_looks (section_line number section.now name)) }
+{
+    let name = names.name(strings, section.sh_name);
+    put_section(target, number, section, name)
+}
+
+// Puts the lines of all sections.
+fn put_sections<T: Target>(
+    target: &mut T,
+    names: &mut Names<'_>,
+    file: &Accepted<'_>,
+) -> Result<(), T::Error>
+    ensures put { let strings = strings_in names.old.bytes file.now.parts.strings in
+        Puts (T.state target.old) (T.state target.new) result
+        (section_lines strings 0 file.now.sections.items) }
+    ensures kept { T.kept target.new ≡ T.kept target.old }
+    ensures unchanged { names.new.bytes ≡ names.old.bytes }
+    ensures looks { let strings = strings_in names.old.bytes file.now.parts.strings in
+        IsShort names.old.bytes → Spends names.old names.new
+        (names_looks (section_lines strings 0 file.now.sections.items)) }
+{
+    let sections = file.sections.as_slice();
+    for (number, section) in sections.iter().enumerate() {
+        put_named_section(target, names, file.parts.strings, number, section)?;
+    }
+    Ok(())
+}
+
+// Puts the line of the symbol with a number, of a part.
+#[tactic(auto, using(crate::proofs::Spent::symbol_looks))]
+fn put_named_symbol<T: Target>(
+    target: &mut T,
+    names: &mut Names<'_>,
+    part: &SymbolPart<'_>,
+    number: usize,
+    symbol: &Sym,
+) -> Result<(), T::Error>
+    ensures put { let name = name_at (strings_in names.old.bytes part.now.strings) symbol.now.st_name in
+        Puts (T.state target.old) (T.state target.new) result
+        (symbol_line part.now.section number symbol.now name) }
+    ensures kept { T.kept target.new ≡ T.kept target.old }
+    ensures unchanged { names.new.bytes ≡ names.old.bytes }
+    ensures looks { let name = name_at (strings_in names.old.bytes part.now.strings) symbol.now.st_name in
+        IsShort names.old.bytes → Spends names.old names.new
+        (names_looks (symbol_line part.now.section number symbol.now name)) }
+{
+    let name = names.name(part.strings, symbol.st_name);
+    put_symbol(target, part.section, number, symbol, name)
+}
+
+// Puts the lines of the symbols of a part.
+fn put_symbols<T: Target>(
+    target: &mut T,
+    names: &mut Names<'_>,
+    part: &SymbolPart<'_>,
+) -> Result<(), T::Error>
+    ensures put { let strings = strings_in names.old.bytes part.now.strings in
+        Puts (T.state target.old) (T.state target.new) result
+        (symbol_lines strings part.now.section 0 part.now.table.symbols) }
+    ensures kept { T.kept target.new ≡ T.kept target.old }
+    ensures unchanged { names.new.bytes ≡ names.old.bytes }
+    ensures looks { let strings = strings_in names.old.bytes part.now.strings in
+        IsShort names.old.bytes → Spends names.old names.new
+        (names_looks (symbol_lines strings part.now.section 0 part.now.table.symbols)) }
+{
+    for (number, symbol) in part.table.iter().enumerate() {
+        put_named_symbol(target, names, part, number, &symbol)?;
+    }
+    Ok(())
+}
+
+// Puts the lines of the symbols of all parts.
+fn put_all_symbols<T: Target>(
+    target: &mut T,
+    names: &mut Names<'_>,
+    parts: &[SymbolPart<'_>],
+) -> Result<(), T::Error>
+    ensures put { Puts (T.state target.old) (T.state target.new) result
+        (symbols_text names.old.bytes parts.now) }
+    ensures kept { T.kept target.new ≡ T.kept target.old }
+    ensures unchanged { names.new.bytes ≡ names.old.bytes }
+    ensures looks { let text = symbols_text names.old.bytes parts.now in
+        IsShort names.old.bytes → Spends names.old names.new (names_looks text) }
+{
+    for part in parts {
+        put_symbols(target, names, part)?;
+    }
+    Ok(())
+}
+
+// Puts the lines of the relocations of the section with a number.
+fn put_relocs<T: Target>(
+    target: &mut T,
+    section: usize,
+    relocs: &RelocSection<'_>,
+) -> Result<(), T::Error>
+    ensures put { Puts (T.state target.old) (T.state target.new) result
+        (reloc_lines section 0 relocs.now) }
+    ensures kept { T.kept target.new ≡ T.kept target.old }
+{
+    for (number, reloc) in relocs.iter().enumerate() {
+        put_reloc(target, section, number, &reloc)?;
+    }
+    Ok(())
+}
+
+// Puts the lines of the relocations of all parts.
+fn put_all_relocs<T: Target>(target: &mut T, parts: &[RelocPart<'_>]) -> Result<(), T::Error>
+    ensures put { Puts (T.state target.old) (T.state target.new) result (relocs_text parts.now) }
+    ensures kept { T.kept target.new ≡ T.kept target.old }
+{
+    for part in parts {
+        put_relocs(target, part.section, &part.relocs)?;
+    }
+    Ok(())
+}
+
+// Puts the text of a file: the line of its header, one for each section, and after these one for
+// each symbol and then one for each relocation.
+fn put_text<T: Target>(
+    target: &mut T,
+    names: &mut Names<'_>,
+    file: &Accepted<'_>,
+) -> Result<(), T::Error>
+    ensures put { let text = accepted_text names.old.bytes file.now in
+        Puts (T.state target.old) (T.state target.new) result text }
+    ensures kept { T.kept target.new ≡ T.kept target.old }
+    ensures unchanged { names.new.bytes ≡ names.old.bytes }
+    ensures looks { let text = accepted_text names.old.bytes file.now in
+        IsShort names.old.bytes → Spends names.old names.new (names_looks text) }
+{
+    put_header(target, &file.header)?;
+    put_sections(target, names, file)?;
+    put_all_symbols(target, names, file.parts.symbols.as_slice())?;
+    put_all_relocs(target, file.parts.relocs.as_slice())
+}
+
+// Writes the text of a file through a buffer that is empty.
+fn write_through<W: Sink>(
+    target: &mut Buffered<'_, W>,
+    names: &mut Names<'_>,
+    file: &Accepted<'_>,
+) -> io::Result<()>
+    requires { target.old.filled ≡ 0 }
+    ensures kept { target.new.writer.ghost_name ≡ target.old.writer.ghost_name }
+    ensures ok { OnOk result (Appends (W.contents target.old.writer.now)
+        (W.contents target.new.writer.now) (accepted_text names.old.bytes file.now)) }
+    ensures heeded { OnOk result ((W.marks target.new.writer.now).told_error
+        ≡ (W.marks target.old.writer.now).told_error) }
+    ensures err { OnErr result (IsTrue (W.marks target.new.writer.now).told_error) }
+    ensures unchanged { names.new.bytes ≡ names.old.bytes }
+    ensures looks { let text = accepted_text names.old.bytes file.now in
+        IsShort names.old.bytes → Spends names.old names.new (names_looks text) }
+{
+    put_text(target, names, file)?;
+    target.finish()?;
+    Ok(())
+}
+
+/// Writes the text of a file whose names are read here, and takes no memory.
+pub fn write_text<W: Sink>(
+    writer: &mut W,
+    names: &mut Names<'_>,
+    file: &Accepted<'_>,
+) -> io::Result<()>
+    ensures ok { OnOk result (Appends (W.contents writer.old) (W.contents writer.new)
+        (accepted_text names.old.bytes file.now)) }
+    ensures heeded { OnOk result
+        ((W.marks writer.new).told_error ≡ (W.marks writer.old).told_error) }
+    ensures err { OnErr result (IsTrue (W.marks writer.new).told_error) }
+    ensures unchanged { names.new.bytes ≡ names.old.bytes }
+
+    // What is looked at of names.
+    ensures looks { let text = accepted_text names.old.bytes file.now in
+        IsShort names.old.bytes → Spends names.old names.new (names_looks text) }
+{
+    let mut target = Buffered::new(writer);
+    write_through(&mut target, names, file)
+}
+
+/// The text of a file with these bytes: the line of its header, one for each section, and after these
+/// one for each symbol and then one for each relocation.
+///
+/// The errors are those of `accept`, of which the first that applies is the answer. Or memory is wanting.
+pub fn text_of(alloc: Global, bytes: &[u8], opts: &ParseOptions) -> error::Result<String>
+    ensures text { Gives string_bytes result (shown opts.now.parse_mode bytes.now) }
+
+    // Want of memory hides no refusal of the header, and none of the section headers' first tests.
+    ensures tested { IfErr (tested bytes.now) (λ refusal. Refuses result refusal) }
+{
+    let mut names = Names::new(bytes);
+    let file = accept(alloc, &mut names, opts)?;
+    let mut target = Gathered::new(alloc);
+    put_text(&mut target, &mut names, &file)?;
+    Ok(target.text)
+}
+
+/// A law: where the text is shown by strict options, the same is shown by permissive ones.
+pub fn laws()
+    ensures { PermissiveShowsStrict }
+{
+    goblin::strtab::laws();
+}

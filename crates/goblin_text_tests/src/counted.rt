@@ -1,0 +1,146 @@
+//! A `Counted` alone, over readers and writers that are interrupted, fail, and give one byte a call.
+use goblin_text::counted::Counted;
+use goblin_text::streams::{Sink, Source};
+use std::io;
+use std::io::{ErrorKind, Read, Write};
+
+// A reader that gives one zero a call, so many, and a writer that takes one byte a call.
+#[derive(Drop)]
+struct Single {
+    left: u64,
+    writes: u64,
+}
+
+impl Read for Single {
+    fn read(&mut self, buf: &mut [u8]) -> io::Result<usize> {
+        match buf.first_mut() {
+            Some(first) if self.left > 0 => {
+                *first = 0;
+                self.left -= 1;
+                Ok(1)
+            }
+            _ => Ok(0),
+        }
+    }
+}
+
+impl Write for Single {
+    fn write(&mut self, buf: &[u8]) -> io::Result<usize> {
+        self.writes = self.writes.saturating_add(1);
+        Ok(buf.len().min(1))
+    }
+
+    fn flush(&mut self) -> io::Result<()> {
+        Ok(())
+    }
+}
+
+// Whether each read call gives a zero and is counted by itself, up to the one that tells the end.
+fn counts_reads(bytes: u64) -> bool {
+    let mut counted = Counted::new(Single {
+        left: bytes,
+        writes: 0,
+    });
+    for call in 0..bytes {
+        let is_one = matches!(Source::read(&mut counted, &mut [1; 8]), Ok(1));
+        if !is_one || counted.read_calls() != call.saturating_add(1) || counted.told_end() {
+            return false;
+        }
+    }
+    let is_end = matches!(Source::read(&mut counted, &mut [1; 8]), Ok(0));
+    is_end
+        && counted.told_end()
+        && !counted.told_error()
+        && !counted.told_failure()
+        && counted.read_calls() == bytes.saturating_add(1)
+}
+
+// Whether all bytes are written, one a call, and no read call is counted.
+fn writes_all(bytes: &[u8]) -> bool {
+    let mut counted = Counted::new(Single { left: 0, writes: 0 });
+    let is_written = Sink::write_all(&mut counted, bytes).is_ok();
+    let is_flushed = Sink::flush(&mut counted).is_ok();
+    let is_marked = counted.told_error() || counted.read_calls() > 0;
+    is_written && is_flushed && !is_marked && counted.into_inner().writes == bytes.len() as u64
+}
+
+// A reader and writer whose calls answer by turns an interruption, a failure and one byte. It counts its calls.
+#[derive(Drop)]
+struct Turning {
+    calls: u64,
+}
+
+impl Turning {
+    fn turn(&mut self) -> io::Result<()> {
+        let turn = self.calls % 3;
+        self.calls = self.calls.saturating_add(1);
+        match turn {
+            0 => Err(io::Error::from(ErrorKind::Interrupted)),
+            1 => Err(io::Error::from(ErrorKind::Other)),
+            _ => Ok(()),
+        }
+    }
+}
+
+impl Read for Turning {
+    fn read(&mut self, buf: &mut [u8]) -> io::Result<usize> {
+        self.turn()?;
+        Ok(buf.len().min(1))
+    }
+}
+
+impl Write for Turning {
+    fn write(&mut self, buf: &[u8]) -> io::Result<usize> {
+        self.turn()?;
+        Ok(buf.len().min(1))
+    }
+
+    fn flush(&mut self) -> io::Result<()> {
+        self.turn()
+    }
+}
+
+// Whether each read of so many bytes at most is one call inside, whose answer it hands on.
+fn hands_reads_on(room: &mut [u8]) -> bool {
+    let given = room.len().min(1);
+    let mut counted = Counted::new(Turning { calls: 0 });
+    for call in 0..9_u64 {
+        let is_handed_on = match Source::read(&mut counted, room) {
+            Ok(count) => call % 3 == 2 && count == given,
+            Err(e) => call % 3 < 2 && (e.kind() == ErrorKind::Interrupted) == (call % 3 == 0),
+        };
+        let is_counted = counted.read_calls() == call.saturating_add(1)
+            && counted.inner().calls == counted.read_calls();
+        let is_marked = counted.told_error()
+            && counted.told_failure() == (call > 0)
+            && !counted.told_end();
+        if !is_handed_on || !is_counted || !is_marked {
+            return false;
+        }
+    }
+    true
+}
+
+// Whether a write goes on after an interruption and ends at a failure, and a flush is one call.
+fn hands_writes_on(bytes: &[u8]) -> bool {
+    let mut counted = Counted::new(Turning { calls: 0 });
+    let is_ended = Sink::write_all(&mut counted, bytes).is_err() && counted.told_error();
+    let at_failure = counted.inner().calls;
+    let is_flushed = Sink::flush(&mut counted).is_ok();
+    is_ended && at_failure == 2 && is_flushed && counted.into_inner().calls == 3
+}
+
+#[test]
+fn hands_each_answer_on(rt: HostRuntime) {
+    assert!(rt; hands_reads_on(&mut []), "into no room");
+    assert!(rt; hands_reads_on(&mut [1]), "into room for one byte");
+    assert!(rt; hands_reads_on(&mut [1; 8]), "into room for eight bytes");
+    assert!(rt; hands_writes_on(b"0"), "of one byte");
+    assert!(rt; hands_writes_on(b"01234567"), "of eight bytes");
+}
+
+#[test]
+fn counts_calls_one_by_one(rt: HostRuntime) {
+    assert!(rt; counts_reads(0) && counts_reads(1) && counts_reads(40));
+    assert!(rt; writes_all(b"") && writes_all(b"0123456789"));
+}

@@ -1,0 +1,169 @@
+//! Names from tables that begin and end at the edges of the file's blocks: what is kept in mind gives the names that a walk
+//! over each table gives, as `Strtab::parse_with_opts` makes it, or refuses as it does.
+use crate::runs::{PERMISSIVE, STRICT};
+use goblin::error::Result;
+use goblin::options::ParseOptions;
+use goblin::strtab::Strtab;
+use goblin_text::names::{Names, Strings};
+use std::alloc::{AllocError, Global};
+
+// Letters of each width, with a zero byte behind.
+const LETTERS: [&[u8]; 4] = [
+    b"a\0",
+    b"\xC3\xA9\0",
+    b"\xE2\x82\xAC\0",
+    b"\xF0\x9F\x98\x80\0",
+];
+
+// Letters of each width, with none behind: strings of them go on through blocks.
+const LONG: [&[u8]; 4] = [b"a", b"\xC3\xA9", b"\xE2\x82\xAC", b"\xF0\x9F\x98\x80"];
+
+// Places round the ends of the first three blocks.
+const PLACES: [usize; 12] = [
+    0, 1, 4_094, 4_095, 4_096, 4_097, 4_099, 8_190, 8_192, 8_193, 8_195, 12_300,
+];
+
+// Offsets of names: at the begin of a table, and round where blocks end in it.
+const OFFSETS: [usize; 12] = [
+    0, 1, 2, 3, 4, 4_093, 4_094, 4_095, 4_096, 4_097, 8_191, 8_192,
+];
+
+// Bytes of letters, behind some bytes `a`, and one byte that is no text, if its place is among them.
+fn bytes_of(
+    alloc: Global,
+    letters: &[u8],
+    before: usize,
+    damage: usize,
+) -> std::result::Result<Vec<u8>, AllocError> {
+    let mut bytes = Vec::new(alloc);
+    for _ in 0..before {
+        bytes.push(b'a')?;
+    }
+    for _ in 0..12_300 {
+        if bytes.len() < 12_300 {
+            bytes.extend_from_slice(letters)?;
+        }
+    }
+    if let Some(byte) = bytes.get_mut(damage) {
+        *byte = 0xFF;
+    }
+    Ok(bytes)
+}
+
+// Whether the strings have the names that the table has, or were refused as it was.
+fn agrees(
+    alloc: Global,
+    names: &mut Names<'_>,
+    strings: Result<Strings>,
+    table: Result<Strtab<'_>>,
+) -> bool {
+    match (strings, table) {
+        (Ok(strings), Ok(table)) => {
+            for offset in OFFSETS {
+                if names.name(strings, offset) != table.get_at(offset).unwrap_or("") {
+                    return false;
+                }
+            }
+            true
+        }
+        (Err(refused), Err(table)) => match (refused.line(alloc), table.line(alloc)) {
+            (Ok(line), Ok(other)) => line.as_str() == other.as_str(),
+            _ => false,
+        },
+        _ => false,
+    }
+}
+
+// Whether it does for one table, for another one that lies over it, and for the first one again.
+fn agrees_on_both(
+    alloc: Global,
+    bytes: &[u8],
+    one: (usize, usize),
+    other: (usize, usize),
+    opts: &ParseOptions,
+) -> bool {
+    let mut names = Names::new(bytes);
+    for (offset, size) in [one, other, one] {
+        let table = Strtab::parse_with_opts(alloc, bytes, offset, size, 0, opts);
+        let strings = names.table(alloc, offset, size, opts);
+        if !agrees(alloc, &mut names, strings, table) {
+            return false;
+        }
+    }
+    true
+}
+
+// Whether it does for all tables that begin and end at these places.
+fn agrees_on_each(alloc: Global, bytes: &[u8], opts: &ParseOptions) -> bool {
+    for start in PLACES {
+        for size in PLACES {
+            if !agrees_on_both(alloc, bytes, (start, size), (size, 8_193), opts) {
+                return false;
+            }
+        }
+    }
+    true
+}
+
+fn names_are_walked(alloc: Global, letters: &[u8], before: usize, damage: usize) -> bool {
+    match bytes_of(alloc, letters, before, damage) {
+        Ok(bytes) => {
+            agrees_on_each(alloc, bytes.as_slice(), &STRICT)
+                && agrees_on_each(alloc, bytes.as_slice(), &PERMISSIVE)
+        }
+        Err(_) => false,
+    }
+}
+
+#[test]
+fn names_of_tables_round_block_ends(rt: HostRuntime) {
+    let alloc = rt.alloc();
+    assert!(rt;
+        LETTERS.iter().all(|letters| (0..5).all(|before| {
+            names_are_walked(alloc, letters, before, usize::MAX)
+        }))
+    );
+}
+
+#[test]
+fn names_of_damaged_tables_round_block_ends(rt: HostRuntime) {
+    let alloc = rt.alloc();
+    assert!(rt;
+        LETTERS.iter().all(|letters| PLACES
+            .iter()
+            .all(|damage| { names_are_walked(alloc, letters, 0, *damage) }))
+    );
+}
+
+#[test]
+fn names_of_long_strings_round_block_ends(rt: HostRuntime) {
+    let alloc = rt.alloc();
+    assert!(rt;
+        LONG.iter().all(|letters| PLACES
+            .iter()
+            .all(|damage| { names_are_walked(alloc, letters, 0, *damage) }))
+    );
+}
+
+// How many looks the names at these offsets take, of a table of all the bytes that is asked for before.
+fn looks_at(alloc: Global, bytes: &[u8], offsets: &[usize], opts: &ParseOptions) -> Option<u128> {
+    let mut names = Names::new(bytes);
+    let strings = names.table(alloc, 0, bytes.len(), opts).ok()?;
+    for offset in offsets {
+        let _ = names.name(strings, *offset);
+    }
+    Some(names.count())
+}
+
+// A table of six bytes that must be text takes six looks. A name takes one at its first byte, one at each byte up to
+// the zero byte, and one at each of its own; past the table there is none.
+#[test]
+fn counts_looks(rt: HostRuntime) {
+    let alloc = rt.alloc();
+    let bytes = b"ab\0cde";
+    assert!(rt; looks_at(alloc, bytes, &[], &STRICT) == Some(6));
+    assert!(rt; looks_at(alloc, bytes, &[], &PERMISSIVE) == Some(0));
+    assert!(rt; looks_at(alloc, bytes, &[0], &PERMISSIVE) == Some(6));
+    assert!(rt; looks_at(alloc, bytes, &[3, 3], &PERMISSIVE) == Some(14));
+    assert!(rt; looks_at(alloc, bytes, &[6], &STRICT) == Some(6));
+}
