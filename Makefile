@@ -21,14 +21,13 @@ test:
 
 # The pages' quotations, and whether each edit fits the code; growths that are refused, beside every proof from nothing, the
 # tests and the stored runs; every edit that the prover must refuse; then the library for C called from C and Rust, beside the
-# program's words and what hostile files may take.
+# program's words, what hostile files may take, and whether edits that test nothing are told from those that do.
 gate:
 	sh checks/quotes.sh
 	python3 checks/edits --fits
 	@$(MAKE) --no-print-directory -j2 refused proved
-	python3 checks/edits/planted.py
 	python3 checks/edits --anew $(if $(UNIT),--unit '$(UNIT)')
-	@$(MAKE) --no-print-directory -j2 faces words limits
+	@$(MAKE) --no-print-directory -j2 faces words limits planted
 
 refused:
 	sh checks/refused.sh
@@ -44,6 +43,9 @@ faces:
 
 limits:
 	python3 checks/limits.py
+
+planted:
+	python3 checks/edits/planted.py
 
 # The edits alone, of all crates or of some, over what earlier checks kept; those of another folder, which has a folder for
 # each crate; or one, by its name: make edits CRATES=goblin_base; make edits FROM=/tmp/bugs; make edits EDIT=one_early
@@ -69,4 +71,4 @@ install:
 dist:
 	sh faces/install.sh --archive
 
-.PHONY: install dist try show test gate refused proved words faces limits edits bench bench-faces
+.PHONY: install dist try show test gate refused proved words faces limits planted edits bench bench-faces

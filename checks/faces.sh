@@ -2,8 +2,8 @@
 # Whether C and Rust can call the library as faces/ says: goblin.h against the library; the C programs and the Rust crate
 # over files that they make themselves, whole and damaged, those of C for aarch64 too, by an emulator; and over files of this
 # machine, compared with what binutils' nm and readelf list of them. What the machine has no compiler, emulator or binutils for
-# is said in a line, and passes. Run from the repository's root, best behind `rt ci`, whose proofs it takes. Files named by words
-# are taken in place of others.
+# is said in a line, and passes. Run from the repository's root, best behind `checks/edits`, whose proofs it takes. Files named by
+# words are taken in place of others.
 set -eu
 export LC_ALL=C
 folder=$(mktemp -d)
@@ -24,23 +24,10 @@ quietly() {
     fi
 }
 
-# Makes the library for a target in a folder: over the libraries that `rt ci` has just proved, of which it keeps what others
-# can cite, or else as it is installed, which first proves these where that was not done. What the first proves serves the next.
+# Makes the library for a target in a folder, as it is installed: over what checks have proved, or else that is proved first.
 make_library() {
-    rlib() { echo "$root/crates/$1/out/rlib/$1.rlib"; }
-    if [ -d "$(rlib goblin)" ] && [ ! -e crates/goblin_base/out/rlib/stamp ] \
-        && [ -z "$(find crates/*/src crates/*/specs crates/*/proofs -newer "$(rlib goblin_base)")" ]; then
-        kit=$(dirname "$(dirname "$(readlink -f "$(command -v rt)")")")
-        (cd crates/goblin_c && "$kit/bin/rattle" build --crate-name goblin_c --crate-type staticlib --jobs 2 src/lib.rt \
-            --extern std="$kit/rlibs/std.rlib" -L dependency="$kit/rlibs" --extern goblin="$(rlib goblin)" \
-            --extern goblin_base="$(rlib goblin_base)" --extern goblin_headers="$(rlib goblin_headers)" \
-            -L dependency="$(dirname "$(rlib goblin_records)")" --antt-project "$kit/rattle/logic/antt-project.json" \
-            --logic-built "$kit/logic_built" --incremental "$folder/proved" --toolchain "$kit/toolchain" --target "$1" \
-            -o "$2/libgoblin_c.a")
-    else
-        LIBRARY='' CPU='' TARGET=$1 sh faces/install.sh "$2/installed"
-        mv "$2/installed/lib/libgoblin_c.a" "$2/"
-    fi
+    LIBRARY='' CPU='' TARGET=$1 sh faces/install.sh "$2/installed"
+    mv "$2/installed/lib/libgoblin_c.a" "$2/"
 }
 
 # What the toolchain says of the library just made: that nothing in it reaches a function which it takes for granted, of the

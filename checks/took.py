@@ -2,7 +2,7 @@
 """Runs the gate and says what it took: python3 checks/took.py COMMAND ..
 
 Processor seconds depend on the machine, and so does what they are divided by: those of the proof of the lowest crate, from
-nothing, in the same run. So the quotient says how long the gate is, whatever machine runs it and whatever runs beside it.
+nothing, in the same run. So the quotient compares gates of different machines, as far as what runs beside them stays the same.
 """
 import os
 import resource

@@ -46,27 +46,28 @@ def crates_listed():
     return {crate: below(crate) for crate in stands_on}
 
 
-def copied(to, with_kept):
-    """Makes a copy of the repository's crates there, with what checks have kept or without it."""
-    left_out = shutil.ignore_patterns('target', *([] if with_kept else ['out']))
-    shutil.copytree('crates', f'{to}/crates', ignore=left_out, symlinks=True)
+def copied(crate, below, room, is_anew):
+    """Makes a copy of the repository for one crate, with what its own checks have kept, unless it is to be proved anew, and the
+    libraries below it as they were proved: since no two crates share a folder, neither waits for the other's proof."""
+    to = f'{room}/{crate}'
+    for name in os.listdir('crates'):
+        shutil.copytree(f'crates/{name}', f'{to}/crates/{name}', ignore=shutil.ignore_patterns('target', 'out'), symlinks=True)
+    for name in below:
+        # no check writes into the library that another crate stands on
+        shutil.copytree(f'{room}/{name}/crates/{name}/out/rlib', f'{to}/crates/{name}/out/rlib', copy_function=os.link)
+    if not is_anew:
+        keep(f'crates/{crate}', f'{to}/crates/{crate}')
     for name in ('HANDLES', 'crates.txt'):
         shutil.copy(name, to)
-
-
-def trial_folder(room, crate, below):
-    """Makes a copy of a proved crate, and of the libraries below it, in which edits can be applied."""
-    to = f'{room}/tried/{crate}'
-    for name in os.listdir(f'{room}/crates'):
-        shutil.copytree(f'{room}/crates/{name}', f'{to}/crates/{name}', ignore=shutil.ignore_patterns('out'))
-        if name == crate:
-            shutil.copytree(f'{room}/crates/{name}/out/incremental', f'{to}/crates/{name}/out/incremental')
-        elif name in below:
-            # no check writes into the library that another crate stands on
-            shutil.copytree(f'{room}/crates/{name}/out/rlib', f'{to}/crates/{name}/out/rlib', copy_function=os.link)
-    for name in ('HANDLES', 'crates.txt'):
-        shutil.copy(f'{room}/{name}', to)
     return f'{to}/crates/{crate}'
+
+
+def keep(crate, to):
+    """Copies what checks in a crate's folder have kept, and its library, to another one."""
+    for part in ('incremental', 'rlib'):
+        shutil.rmtree(f'{to}/out/{part}', ignore_errors=True)
+        if os.path.isdir(f'{crate}/out/{part}'):
+            shutil.copytree(f'{crate}/out/{part}', f'{to}/out/{part}')
 
 
 def seconds_of(command, folder):
@@ -82,29 +83,33 @@ def seconds_of(command, folder):
 class Run:
     """All crates that are tried: each proved once those below it are, and its edits tried once it is."""
 
-    def __init__(self, room, edits, below, jobs):
-        self.room, self.edits, self.below, self.jobs = room, edits, below, jobs
+    def __init__(self, room, edits, below, words):
+        self.room, self.edits, self.below, self.jobs, self.is_anew = room, edits, below, words.jobs, words.anew
         self.wrong, self.ways, self.unit, self.said = [], set(), 0.0, {}
 
     def prove(self, crate, jobs):
-        """Proves a crate, as a library where others stand on it."""
+        """Proves a crate, as a library where others stand on it. What is proved anew the repository keeps, for later checks."""
         is_library = any(crate in below for below in self.below.values())
         verb = ['rt', 'lib' if is_library else 'check', '--jobs', str(jobs)]
-        status, said, used = seconds_of(verb, f'{self.room}/crates/{crate}')
+        folder = copied(crate, self.below[crate], self.room, self.is_anew)
+        status, said, used = seconds_of(verb, folder)
         if not self.below[crate]:
             self.unit = used
         self.said[crate] = Said(said, crate)
         if status:
             self.wrong.append(f'{crate}: it is not proved as it stands')
             say(f'{said[-3000:]}\n{self.wrong[-1]}')
+        elif self.is_anew:
+            keep(folder, f'crates/{crate}')
         return not status
 
     def try_edits(self, crate):
         """Tries the edits of a proved crate, and says how they were judged."""
         start = time.time()
-        trial = Trial(crate, trial_folder(self.room, crate, self.below[crate]), self.edits[crate], self.said[crate], say)
+        folder = f'{self.room}/{crate}/crates/{crate}'
+        trial = Trial(crate, folder, self.edits[crate], self.said[crate], say)
         trial.run()
-        shutil.rmtree(f'{self.room}/tried/{crate}')
+        shutil.rmtree(f'{folder}/out/incremental')
         self.wrong += trial.wrong
         self.ways |= set(trial.ways)
         ways = ', '.join(f'{trial.ways[way]} {way}' for way in WAYS)
@@ -179,8 +184,7 @@ def main():
         say(f'{count} edits fit the code')
         return 0
     with tempfile.TemporaryDirectory(prefix='edits-') as room:
-        copied(room, not words.anew)
-        run = Run(room, edits, below, words.jobs)
+        run = Run(room, edits, below, words)
         run.all()
     is_whole = not (words.crates or words.edit or words.folder)
     if is_whole and run.ways != set(WAYS):
