@@ -109,7 +109,8 @@ class Run:
         folder = f'{self.room}/{crate}/crates/{crate}'
         trial = Trial(crate, folder, self.edits[crate], self.said[crate], say)
         trial.run()
-        shutil.rmtree(f'{folder}/out/incremental')
+        for kept in (trial.kept, trial.proved):
+            shutil.rmtree(kept)
         self.wrong += trial.wrong
         self.ways |= set(trial.ways)
         ways = ', '.join(f'{trial.ways[way]} {way}' for way in WAYS)

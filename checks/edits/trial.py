@@ -4,8 +4,10 @@ A function is judged by its own clauses alone: those of other functions stay, wh
 bodies of different functions are applied at once, and one check judges them all. An edit is refused where a goal of its own
 function's is: one that only waits for another function, or that fails by names alone, is judged in a later group, without
 what it waits for, and in the end alone. An edit that changes more than bodies, as a constant or a definition, stands alone.
+Each check goes by what the crate's own proof left, so that none proves anew what an edit before it had changed.
 """
 import os
+import shutil
 import subprocess
 from collections import Counter
 
@@ -18,11 +20,13 @@ class Trial:
 
     def __init__(self, crate, folder, edits, before, say):
         self.crate, self.folder, self.edits, self.before, self.say = crate, folder, edits, before, say
-        self.told, self.ways, self.groups, self.wrong = 0, Counter(), [], []
+        self.ways, self.groups, self.wrong = Counter(), [], []
         self.waits, self.functions = {}, {}
+        self.kept, self.proved = f'{folder}/out/incremental', f'{folder}/out/proved'
 
     def run(self):
         """Judges every edit. Where the crate itself is not proved, before or after, none counts."""
+        os.rename(self.kept, self.proved)
         # a library whose proof was kept says nothing of its functions
         before = self.before if self.before.functions else self.check([])
         if not before.is_proved():
@@ -56,11 +60,17 @@ class Trial:
         before = {path: open(f'{self.folder}/{path}', encoding='utf-8').read() for path in texts}
         try:
             self.write(texts)
+            self.begin_anew()
             words = ['rt', 'check', '--jobs', '1']
             ran = subprocess.run(words, cwd=self.folder, stdin=subprocess.DEVNULL, capture_output=True, text=True, errors='replace')
         finally:
             self.write(before)
         return Said(ran.stdout + ran.stderr, self.crate)
+
+    def begin_anew(self):
+        """Puts what the crate's own proof left in the place of what the last check did; no check writes into a file that is there."""
+        shutil.rmtree(self.kept, ignore_errors=True)
+        shutil.copytree(self.proved, self.kept, copy_function=os.link)
 
     def write(self, texts):
         for path, text in texts.items():
