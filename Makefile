@@ -19,21 +19,26 @@ show:
 test:
 	@python3 checks/took.py $(MAKE) --no-print-directory gate
 
-# The pages' quotations, and whether each edit fits the code; growths that are refused, beside every proof from nothing, the
-# tests and the stored runs; every edit that the prover must refuse; then the library for C called from C and Rust, beside the
-# program's words, what hostile files may take, and whether edits that test nothing are told from those that do.
+# The pages' quotations, and whether each edit fits the code; side by side growths that are refused, every proof from nothing
+# with the tests and the stored runs, every edit that the prover must refuse, and whether edits that test nothing are told from
+# those that do; then, over what the edits' proofs left, the library for C called from C and Rust, beside the program's words
+# and what hostile files may take. (ROOM is a folder of the run's own, which `test` makes.)
 gate:
 	sh checks/quotes.sh
 	python3 checks/edits --fits
-	@$(MAKE) --no-print-directory -j2 refused proved
-	python3 checks/edits --anew $(if $(UNIT),--unit '$(UNIT)')
-	@$(MAKE) --no-print-directory -j2 faces words limits planted
+	@$(MAKE) --no-print-directory -j4 refused proved edited planted
+	@for crate in "$(ROOM)"/crates/*; do rm -rf "crates/$${crate##*/}/out/rlib"; cp -R "$$crate" crates/; done
+	@$(MAKE) --no-print-directory -j2 faces words limits
 
 refused:
 	sh checks/refused.sh
 
 proved:
 	rt ci
+
+# Two at a time, since the proofs of `rt ci` go on beside them.
+edited:
+	python3 checks/edits --anew "$(ROOM)" --jobs 2
 
 words:
 	sh checks/words.sh
@@ -71,4 +76,4 @@ install:
 dist:
 	sh faces/install.sh --archive
 
-.PHONY: install dist try show test gate refused proved words faces limits planted edits bench bench-faces
+.PHONY: install dist try show test gate refused proved edited words faces limits planted edits bench bench-faces

@@ -16,7 +16,7 @@ def main(command):
     start = time.time()
     with tempfile.TemporaryDirectory(prefix='took-') as room:
         unit = f'{room}/unit'
-        status = subprocess.run(command, env={**os.environ, 'UNIT': unit}).returncode
+        status = subprocess.run(command, env={**os.environ, 'ROOM': room}).returncode
         used = resource.getrusage(resource.RUSAGE_CHILDREN)
         seconds = used.ru_utime + used.ru_stime
         print(f'the gate took {(time.time() - start) / 60:.0f} minutes, {seconds / 60:.0f} processor minutes', flush=True)

@@ -6,8 +6,8 @@
     python3 checks/edits --edit NAME          the one of that name
     python3 checks/edits --from FOLDER ..     those of FOLDER/CRATE/ in place of the crates' own
     python3 checks/edits --fits               only whether each fits the code: nothing is proved
-    python3 checks/edits --anew ..            over proofs from nothing, not over what earlier checks kept
-    python3 checks/edits --unit FILE ..       writes to FILE how many processor seconds the lowest crate's proof took
+    python3 checks/edits --anew FOLDER ..     over proofs from nothing, not over what earlier checks kept: FOLDER/crates/ is given
+                                              what they keep, and FOLDER/unit the processor seconds of the lowest crate's
 
 Run from the repository's root. It works on copies, as many crates side by side as there are processors.
 """
@@ -84,14 +84,14 @@ class Run:
     """All crates that are tried: each proved once those below it are, and its edits tried once it is."""
 
     def __init__(self, room, edits, below, words):
-        self.room, self.edits, self.below, self.jobs, self.is_anew = room, edits, below, words.jobs, words.anew
+        self.room, self.edits, self.below, self.jobs, self.anew = room, edits, below, words.jobs, words.anew
         self.wrong, self.ways, self.unit, self.said = [], set(), 0.0, {}
 
     def prove(self, crate, jobs):
-        """Proves a crate, as a library where others stand on it. What is proved anew the repository keeps, for later checks."""
+        """Proves a crate, as a library where others stand on it."""
         is_library = any(crate in below for below in self.below.values())
         verb = ['rt', 'lib' if is_library else 'check', '--jobs', str(jobs)]
-        folder = copied(crate, self.below[crate], self.room, self.is_anew)
+        folder = copied(crate, self.below[crate], self.room, bool(self.anew))
         status, said, used = seconds_of(verb, folder)
         if not self.below[crate]:
             self.unit = used
@@ -99,8 +99,8 @@ class Run:
         if status:
             self.wrong.append(f'{crate}: it is not proved as it stands')
             say(f'{said[-3000:]}\n{self.wrong[-1]}')
-        elif self.is_anew:
-            keep(folder, f'crates/{crate}')
+        elif self.anew:
+            keep(folder, f'{self.anew}/crates/{crate}')
         return not status
 
     def try_edits(self, crate):
@@ -169,8 +169,7 @@ def main():
     parser.add_argument('--edit')
     parser.add_argument('--from', dest='folder')
     parser.add_argument('--fits', action='store_true')
-    parser.add_argument('--anew', action='store_true')
-    parser.add_argument('--unit')
+    parser.add_argument('--anew', metavar='FOLDER')
     parser.add_argument('--jobs', type=int, default=len(os.sched_getaffinity(0)))
     words = parser.parse_args()
     below = crates_listed()
@@ -192,8 +191,8 @@ def main():
         run.wrong.append('not every way of refusing was seen: the prover speaks of it in other words now')
     for line in run.wrong:
         say(f'edits: {line}')
-    if words.unit:
-        with open(words.unit, 'w', encoding='utf-8') as file:
+    if words.anew:
+        with open(f'{words.anew}/unit', 'w', encoding='utf-8') as file:
             file.write(f'{run.unit:.0f}\n')
     say(f'edits: {count} tried, {len(run.wrong)} wrong')
     return 1 if run.wrong else 0

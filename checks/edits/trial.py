@@ -25,7 +25,7 @@ class Trial:
         self.kept, self.proved = f'{folder}/out/incremental', f'{folder}/out/proved'
 
     def run(self):
-        """Judges every edit. Where the crate itself is not proved, before or after, none counts."""
+        """Judges every edit. Where the crate itself is not proved, none counts."""
         os.rename(self.kept, self.proved)
         # a library whose proof was kept says nothing of its functions
         before = self.before if self.before.functions else self.check([])
@@ -38,8 +38,6 @@ class Trial:
             pending = self.try_group(self.next_group(pending), pending)
         for edit in alone:
             self.try_alone(edit)
-        if not self.check([]).is_proved():
-            return self.fail('it is not proved any more once its edits are taken back')
         if self.edits and not self.ways:
             self.fail('not one edit was refused')
 

@@ -148,7 +148,7 @@ fn walks(rt: HostRuntime, count: usize, mode: ParseMode) -> bool
 }
 
 // A call that gives a list.
-#[derive(Clone, Copy, Debug)]
+#[derive(Clone, Copy)]
 enum Call {
     Segments,
     Segments32,
@@ -195,64 +195,64 @@ fn gives(rt: HostRuntime, call: Call, count: usize) -> bool
 }
 
 // Whether a call gives a list of each count up to 1,010, and of those about 4,096.
-fn gives_each(rt: HostRuntime, call: Call) -> bool {
+fn gives_each(rt: HostRuntime, call: Call, name: &str) -> bool {
     for count in 0..1_011 {
-        if !holds(rt, &(call, count), gives(rt, call, count)) {
+        if !holds(rt, &(name, count), gives(rt, call, count)) {
             return false;
         }
     }
     for count in 4_095..4_098 {
-        if !holds(rt, &(call, count), gives(rt, call, count)) {
+        if !holds(rt, &(name, count), gives(rt, call, count)) {
             return false;
         }
     }
     true
 }
 
-const OF_HEADERS: &[Call] = &[
-    Call::Segments,
-    Call::Segments32,
-    Call::Segments64,
-    Call::SegmentBytes32,
-    Call::SegmentBytes64,
-    Call::Sections,
-    Call::SectionsFrom,
-    Call::SectionBytes32,
-    Call::SectionBytes64,
+const OF_HEADERS: &[(Call, &str)] = &[
+    (Call::Segments, "segments"),
+    (Call::Segments32, "32-bit segments"),
+    (Call::Segments64, "64-bit segments"),
+    (Call::SegmentBytes32, "32-bit segments of bytes"),
+    (Call::SegmentBytes64, "64-bit segments of bytes"),
+    (Call::Sections, "sections"),
+    (Call::SectionsFrom, "sections from the first"),
+    (Call::SectionBytes32, "32-bit sections of bytes"),
+    (Call::SectionBytes64, "64-bit sections of bytes"),
 ];
 
-const OF_RECORDS: &[Call] = &[
-    Call::Symbols,
-    Call::SymbolTable,
-    Call::Relocations,
-    Call::Records,
+const OF_RECORDS: &[(Call, &str)] = &[
+    (Call::Symbols, "symbols"),
+    (Call::SymbolTable, "a symbol table"),
+    (Call::Relocations, "relocations"),
+    (Call::Records, "records"),
 ];
 
-const OF_STRINGS: &[Call] = &[
-    Call::Strings,
-    Call::StringsUnparsed,
-    Call::WalkStrict,
-    Call::WalkPermissive,
+const OF_STRINGS: &[(Call, &str)] = &[
+    (Call::Strings, "strings"),
+    (Call::StringsUnparsed, "strings of no parse"),
+    (Call::WalkStrict, "a strict walk"),
+    (Call::WalkPermissive, "a permissive walk"),
 ];
 
 // (`rt try` takes longer for these than for others: `--seconds 300`.)
 #[test]
 fn lists_each_count_of_headers(rt: HostRuntime) {
-    for call in OF_HEADERS {
-        assert!(rt; gives_each(rt, *call));
+    for (call, name) in OF_HEADERS {
+        assert!(rt; gives_each(rt, *call, name));
     }
 }
 
 #[test]
 fn lists_each_count_of_symbols(rt: HostRuntime) {
-    for call in OF_RECORDS {
-        assert!(rt; gives_each(rt, *call));
+    for (call, name) in OF_RECORDS {
+        assert!(rt; gives_each(rt, *call, name));
     }
 }
 
 #[test]
 fn lists_each_count_of_strings(rt: HostRuntime) {
-    for call in OF_STRINGS {
-        assert!(rt; gives_each(rt, *call));
+    for (call, name) in OF_STRINGS {
+        assert!(rt; gives_each(rt, *call, name));
     }
 }
