@@ -1,5 +1,5 @@
 -- What the proofs of notes' readers and iterators cite.
-use Rattle.std.proofs.Common.{◌≡◌, ◌+◌, ◌-◌, ◌<◌, ◌≤◌, ◌^◌, ℕ, min, List, [], ◌∷◌, length, take, drop, Result, Ok, Err, IfOk, inl, inr, refl, ◌∙◌, arith}
+use Rattle.std.proofs.Common.{◌≡◌, ◌+◌, ◌-◌, ◌<◌, ◌≤◌, ℕ, min, List, [], ◌∷◌, length, take, drop, Result, Ok, Err, IfOk, inl, inr, refl, ◌∙◌, arith}
 use Rattle.std.proofs.lemmas.Bool.{cases_lt, le-leb, lt-leb}
 use Rattle.std.proofs.lemmas.List.{length-drop, take_all}
 use Rattle.goblin_base.specs.declared.container.Ctx.{Ctx}
@@ -7,26 +7,40 @@ use Rattle.goblin_base.specs.declared.error.Error.{Error}
 use Rattle.goblin_base.specs.Refusal.{Answers, Refusal, bad_offset}
 use Rattle.goblin.specs.declared.elf.note.Note.{Note}
 use Rattle.goblin.specs.declared.elf.note.NoteDataIterator.{NoteDataIterator}
-use Rattle.goblin.specs.Note.{NoteParts, note_and_len, read_note, note_at, item_and_rest, note_items}
-use Rattle.goblin.specs.Notes.{items_left, most_left}
-use Rattle.goblin.specs.NoteLaws.{at_ok, note_by_note, notes_advance, few_notes}
+use Rattle.goblin.specs.declared.elf.note.NotePlaces.{NotePlaces}
+use Rattle.goblin.specs.Note.{NoteParts, parts_of, note_there, read_places, places_at, note_at, item_and_rest, note_items}
+use Rattle.goblin.specs.Notes.{LieWithin, items_left, most_left}
+use Rattle.goblin.specs.NoteLaws.{at_ok, note_by_note, places_lie_within, few_notes}
 
--- before the end of the bytes a note is read from those that are left
-pub note_at-before : (bytes : List ℕ) (offset : ℕ) (ctx : ℕ × Ctx) → offset < length bytes → note_at bytes offset ctx ≡ read_note ctx.0 ctx.1.le (take (length bytes - offset) (drop offset bytes))
-unfolding note_at
-note_at-before bytes offset ctx before =
+-- before the end of the bytes places are read from those that are left
+pub places_at-before : (bytes : List ℕ) (offset : ℕ) (ctx : ℕ × Ctx) → offset < length bytes → places_at bytes offset ctx ≡ read_places ctx.0 ctx.1.le (take (length bytes - offset) (drop offset bytes))
+unfolding places_at
+places_at-before bytes offset ctx before =
     let all = take_all (length bytes - offset) (drop offset bytes) (omega (arith, length-drop offset bytes)) in
     rw (lt-leb (length bytes) offset before, all) refl
 
--- from the end of the bytes on there is none
+-- from the end of the bytes on there are none
+pub places_at-past : (bytes : List ℕ) (offset : ℕ) (ctx : ℕ × Ctx) → length bytes ≤ offset → places_at bytes offset ctx ≡ Err (bad_offset offset)
+unfolding places_at
+places_at-past bytes offset ctx past = rw (le-leb (length bytes) offset past) refl
+
+-- nor is there a note
 pub note_at-past : (bytes : List ℕ) (offset : ℕ) (ctx : ℕ × Ctx) → length bytes ≤ offset → note_at bytes offset ctx ≡ Err (bad_offset offset)
 unfolding note_at
-note_at-past bytes offset ctx past = rw (le-leb (length bytes) offset past) refl
+note_at-past bytes offset ctx past = rw (places_at-past bytes offset ctx past) refl
 
--- the end of a note that was answered fits a machine word
-pub note_at-fits : (answer : Result (Note × ℕ) Error) (bytes : List ℕ) (offset : ℕ) (ctx : ℕ × Ctx) → length bytes < 2 ^ 63 → Answers note_and_len answer (note_at bytes offset ctx) → IfOk answer (λ note. offset + note.1 < 2 ^ 64)
-note_at-fits (Ok note) bytes offset ctx long is = let range = at_ok (note_at bytes offset ctx) (note_and_len note) _ is (notes_advance bytes offset ctx) in omega arith
-note_at-fits (Err e) bytes offset ctx long is = tt
+-- the note that was read is the one at the offset
+pub note_at-read : (answer : Result (Note × NotePlaces) Error) (bytes : List ℕ) (offset : ℕ) (ctx : ℕ × Ctx) → Answers (λ found. found.1) answer (places_at bytes offset ctx) → IfOk answer (λ found. parts_of found.0 ≡ note_there (take (length bytes - offset) (drop offset bytes)) found.1) → Answers (λ found. (parts_of found.0, found.1.next)) answer (note_at bytes offset ctx)
+unfolding note_at
+note_at-read (Ok found) bytes offset ctx is there =
+    let all = take_all (length bytes - offset) (drop offset bytes) (omega (arith, length-drop offset bytes)) in
+    rw (is, there, all) refl
+note_at-read (Err e) bytes offset ctx is there = rw is refl
+
+-- its places lie within
+pub read-within : (answer : Result (Note × NotePlaces) Error) (bytes : List ℕ) (offset : ℕ) (ctx : ℕ × Ctx) → Answers (λ found. found.1) answer (places_at bytes offset ctx) → IfOk answer (λ found. LieWithin (length bytes) offset found.1)
+read-within (Ok found) bytes offset ctx is = at_ok (places_at bytes offset ctx) found.1 _ is (places_lie_within bytes offset ctx)
+read-within (Err e) bytes offset ctx is = tt
 
 -- no item is left from the end of a range on
 pub note_items-past : (bytes : List ℕ) (size offset : ℕ) (ctx : ℕ × Ctx) → size ≤ offset → note_items bytes size offset ctx ≡ []

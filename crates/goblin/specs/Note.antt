@@ -10,7 +10,9 @@ use Rattle.goblin_base.specs.Room.{room_of}
 use Rattle.goblin_base.specs.Steps.{◌>>=◌, refuse_if, refuse_as}
 use Rattle.goblin_base.specs.Utf8.{text_or_fault}
 use Rattle.goblin_records.specs.Nhdr.{nhdr32_of, nhdr32_size}
+use Rattle.goblin_records.specs.declared.note.Nhdr32.{Nhdr32}
 use Rattle.goblin.specs.declared.elf.note.Note.{Note}
+use Rattle.goblin.specs.declared.elf.note.NotePlaces.{NotePlaces}
 
 -- what a note says: its type, its name without the zero byte that closes it, and its descriptor
 pub record NoteParts : Type 0 where
@@ -44,23 +46,56 @@ text_at bytes place size = do
   text ← bytes_at bytes place size
   text_or_fault text (length bytes - place)
 
--- The note at the start of some bytes, and how many bytes it takes. Behind its header lies its name, whose size counts
--- one byte more, unless it is 0. The descriptor lies from the next multiple of the alignment on, and the note takes
--- the bytes up to the next multiple behind that, be they there or not. All places count from the note's start.
-unfoldable pub read_note : ℕ → Endian → List ℕ → Result (NoteParts × ℕ) Refusal
-read_note alignment order bytes = do
+-- Where the parts of a note with a header lie, counted from the note's start. Behind its header lies its name, whose size
+-- counts one byte more, unless it is 0. The descriptor lies from the next multiple of the alignment on, and the next note
+-- from the next multiple behind that.
+abbrev pub places_of : ℕ → Nhdr32 → NotePlaces
+places_of align header =
+    let desc = next_multiple_of (nhdr32_size + header.n_namesz) align in
+    record {
+      n_type = header.n_type;
+      name = nhdr32_size;
+      name_size = header.n_namesz - 1;
+      desc = desc;
+      desc_size = header.n_descsz;
+      next = next_multiple_of (desc + header.n_descsz) align;
+    }
+
+-- the places of the note at the start of some bytes, which must have its name, a text, and its descriptor
+unfoldable pub read_places : ℕ → Endian → List ℕ → Result NotePlaces Refusal
+read_places alignment order bytes = do
   align ← note_align alignment
   header ← refuse_as refusal_of (read_within nhdr32_size (nhdr32_of order) bytes)
-  name ← text_at bytes nhdr32_size (header.n_namesz - 1)
-  place ← Ok (next_multiple_of (nhdr32_size + header.n_namesz) align)
-  desc ← bytes_at bytes place header.n_descsz
-  Ok (record { n_type = header.n_type; name = name; desc = desc }, next_multiple_of (place + header.n_descsz) align)
+  places ← Ok (places_of align header)
+  _ ← text_at bytes places.name places.name_size
+  _ ← bytes_at bytes places.desc places.desc_size
+  Ok places
 
--- the note at an offset, which must lie before the bytes' end
+-- the note that some bytes have at these places
+abbrev pub note_there : List ℕ → NotePlaces → NoteParts
+note_there bytes places = record {
+  n_type = places.n_type;
+  name = take places.name_size (drop places.name bytes);
+  desc = take places.desc_size (drop places.desc bytes);
+}
+
+-- the note at the start of some bytes, and how many bytes it takes, be they there or not
+unfoldable pub read_note : ℕ → Endian → List ℕ → Result (NoteParts × ℕ) Refusal
+read_note alignment order bytes = do
+  places ← read_places alignment order bytes
+  Ok (note_there bytes places, places.next)
+
+-- the places of the note at an offset, which must lie before the bytes' end
+unfoldable pub places_at : List ℕ → ℕ → ℕ × Ctx → Result NotePlaces Refusal
+places_at bytes offset ctx = do
+  _ ← refuse_if (nat_le (length bytes) offset) (bad_offset offset)
+  read_places ctx.0 ctx.1.le (drop offset bytes)
+
+-- the note there, and how many bytes it takes
 unfoldable pub note_at : List ℕ → ℕ → ℕ × Ctx → Result (NoteParts × ℕ) Refusal
 note_at bytes offset ctx = do
-  _ ← refuse_if (nat_le (length bytes) offset) (bad_offset offset)
-  read_note ctx.0 ctx.1.le (drop offset bytes)
+  places ← places_at bytes offset ctx
+  Ok (note_there (drop offset bytes) places, places.next)
 
 -- a refusal is the last item, and behind a note come the items from its end on
 abbrev pub item_and_rest : Result (NoteParts × ℕ) Refusal → (ℕ → List (Result NoteParts Refusal)) → List (Result NoteParts Refusal)

@@ -12,10 +12,12 @@ use Rattle.goblin_base.specs.RecordLaws.{fits-room_of}
 use Rattle.goblin_base.specs.Refusal.{Refusal, refusal_of, misplaced, bad_offset}
 use Rattle.goblin_base.specs.Room.{room_of}
 use Rattle.goblin_base.specs.Steps.{◌>>=◌, refuse_as, refuse_if}
+use Rattle.goblin_base.specs.Utf8.{text_or_fault}
 use Rattle.goblin_records.specs.declared.note.Nhdr32.{Nhdr32}
 use Rattle.goblin_records.specs.Nhdr.{nhdr32_of, nhdr32_size}
-use Rattle.goblin.specs.Note.{NoteParts, note_align, bytes_at, text_at, read_note, note_at, item_and_rest, items_within, note_items}
-use Rattle.goblin.specs.Notes.{NoteByNote, NotesAdvance, FewNotes}
+use Rattle.goblin.specs.declared.elf.note.NotePlaces.{NotePlaces}
+use Rattle.goblin.specs.Note.{NoteParts, note_align, bytes_at, text_at, places_of, read_places, places_at, note_at, item_and_rest, items_within, note_items}
+use Rattle.goblin.specs.Notes.{LieWithin, PlacesLieWithin, NoteByNote, NotesAdvance, FewNotes}
 
 -- what holds after each value of a step holds after the steps
 if_ok_then : {A B E : Type 0} (first : Result A E) (next : A → Result B E) (P : B → Type 0) → ((x : A) → first ≡ Ok x → IfOk (next x) P) → IfOk (first >>= next) P
@@ -31,6 +33,11 @@ if_ok_more (Err e) P Q h more = tt
 align_range : (alignment align : ℕ) → note_align alignment ≡ Ok align → (4 ≤ align) × (align ≤ 8)
 align_range alignment align is = grind (arith, nat_tests)
 
+-- steps that answer a value have gone through one of the first
+first_of : {A B E : Type 0} (first : Result A E) (next : A → Result B E) (y : B) → (first >>= next) ≡ Ok y → (x : A) × (first ≡ Ok x)
+first_of (Ok x) next y is = (x, refl)
+first_of (Err e) next y is = absurd (cc)
+
 -- what was read had room
 had_room : (room : Result (Unit {0}) Misplaced) (part other : List ℕ) → (refuse_as misplaced room >>= λ _. Ok other) ≡ Ok part → room ≡ Ok tt
 had_room (Ok u) part other is = refl
@@ -45,55 +52,61 @@ bytes_at-fits bytes place size part is =
 multiple_range : (place align : ℕ) → 4 ≤ align → (place ≤ next_multiple_of place align) × (next_multiple_of place align < place + align)
 multiple_range place align h = (omega arith, omega arith)
 
--- the last steps of reading a note: its descriptor and its end
-abbrev after_name : List ℕ → ℕ → Nhdr32 → List ℕ → Result (NoteParts × ℕ) Refusal
-after_name bytes align header name =
-    let place = next_multiple_of (nhdr32_size + header.n_namesz) align in
-    bytes_at bytes place header.n_descsz >>= λ desc.
-    Ok (record { n_type = header.n_type; name = name; desc = desc }, next_multiple_of (place + header.n_descsz) align)
+-- and so is text that is read
+text_at-fits : (bytes : List ℕ) (place size : ℕ) (text : List ℕ) → text_at bytes place size ≡ Ok text → place + size ≤ length bytes
+text_at-fits bytes place size text is =
+    let part = first_of (bytes_at bytes place size) (λ part. text_or_fault part (length bytes - place)) text is in
+    bytes_at-fits bytes place size part.0 part.1
 
--- how many bytes a note takes, of so many: at least those of its header, and at most 7 more than there are
-abbrev TakesFrom : ℕ → NoteParts × ℕ → Type 0
-TakesFrom available note = (nhdr32_size ≤ note.1) × (note.1 ≤ available + 7)
-
-after_name-range : (bytes : List ℕ) (align : ℕ) (header : Nhdr32) (name : List ℕ) → (4 ≤ align) × (align ≤ 8) → IfOk (after_name bytes align header name) (TakesFrom (length bytes))
-after_name-range bytes align header name range =
+-- places whose parts lie within
+places_fit : (available align : ℕ) (header : Nhdr32) → (4 ≤ align) × (align ≤ 8) → (let p = places_of align header in (p.name + p.name_size ≤ available) → (p.desc + p.desc_size ≤ available) → LieWithin available 0 p)
+places_fit available align header range name desc =
     let place = next_multiple_of (nhdr32_size + header.n_namesz) align in
     let first = multiple_range (nhdr32_size + header.n_namesz) align range.0 in
     let last = multiple_range (place + header.n_descsz) align range.0 in
-    if_ok_then (bytes_at bytes place header.n_descsz) _ (TakesFrom (length bytes)) λ (desc : List ℕ) described.
-    let fits = bytes_at-fits bytes place header.n_descsz desc described in
-    (omega arith, omega arith)
+    record { name = omega (arith, name); desc = omega (arith, desc); least = omega arith; most = omega (arith, desc) }
 
-read_note-range : (alignment : ℕ) (order : Endian) (bytes : List ℕ) → IfOk (read_note alignment order bytes) (TakesFrom (length bytes))
-unfolding read_note
-read_note-range alignment order bytes =
+-- the places that are read lie within
+read_places-fits : (alignment : ℕ) (order : Endian) (bytes : List ℕ) → IfOk (read_places alignment order bytes) (LieWithin (length bytes) 0)
+unfolding read_places
+read_places-fits alignment order bytes =
     let header : Result Nhdr32 Refusal = refuse_as refusal_of (read_within nhdr32_size (nhdr32_of order) bytes) in
-    let after_header = λ (align : ℕ) (h : Nhdr32). text_at bytes nhdr32_size (h.n_namesz - 1) >>= after_name bytes align h in
-    let Takes = TakesFrom (length bytes) in
-    if_ok_then (note_align alignment) (λ align. header >>= after_header align) Takes λ align aligned.
-    if_ok_then header (after_header align) Takes λ h begins.
-    if_ok_then (text_at bytes nhdr32_size (h.n_namesz - 1)) (after_name bytes align h) Takes λ name named.
-    after_name-range bytes align h name (align_range alignment align aligned)
+    let after_name = λ (p : NotePlaces). bytes_at bytes p.desc p.desc_size >>= λ _. Ok p in
+    let after_header = λ (p : NotePlaces). text_at bytes p.name p.name_size >>= λ _. after_name p in
+    let Within = LieWithin (length bytes) 0 in
+    if_ok_then (note_align alignment) (λ align. header >>= λ h. after_header (places_of align h)) Within λ align aligned.
+    if_ok_then header (λ h. after_header (places_of align h)) Within λ h begins.
+    let p = places_of align h in
+    if_ok_then (text_at bytes p.name p.name_size) (λ _. after_name p) Within λ name named.
+    if_ok_then (bytes_at bytes p.desc p.desc_size) (λ _. Ok p) Within λ desc described.
+    places_fit (length bytes) align h (align_range alignment align aligned) (text_at-fits bytes p.name p.name_size name named) (bytes_at-fits bytes p.desc p.desc_size desc described)
 
 -- what holds of each value holds of this one
 pub at_ok : {A E : Type 0} (answer : Result A E) (x : A) (P : A → Type 0) → answer ≡ Ok x → IfOk answer P → P x
 at_ok answer x P is h = rw is at h
 
 -- the test that an offset lies before the end lets nothing else through
-read_behind : (test : Bool) (refusal : Refusal) (answer : Result (NoteParts × ℕ) Refusal) (P : NoteParts × ℕ → Type 0) → (test ≡ false → IfOk answer P) → IfOk (refuse_if test refusal >>= λ _. answer) P
+read_behind : (test : Bool) (refusal : Refusal) (answer : Result NotePlaces Refusal) (P : NotePlaces → Type 0) → (test ≡ false → IfOk answer P) → IfOk (refuse_if test refusal >>= λ _. answer) P
 read_behind true refusal answer P h = tt
 read_behind false refusal answer P h = h refl
+
+-- the places of a note lie within the bytes that it is read from
+pub places_lie_within : PlacesLieWithin
+unfolding places_at
+places_lie_within bytes offset ctx =
+    read_behind (nat_le (length bytes) offset) (bad_offset offset) (read_places ctx.0 ctx.1.le (drop offset bytes)) _ λ before.
+    if_ok_more (read_places ctx.0 ctx.1.le (drop offset bytes)) _ _ (read_places-fits ctx.0 ctx.1.le (drop offset bytes)) λ p within.
+    let there = leb-false (length bytes) offset before in
+    let rest = length-drop offset bytes in
+    record { name = omega (arith, within.name); desc = omega (arith, within.desc); least = within.least; most = omega (arith, within.most) }
 
 -- a note takes at least the bytes of its header, and at most 7 more than there are
 pub notes_advance : NotesAdvance
 unfolding note_at
 notes_advance bytes offset ctx =
-    read_behind (nat_le (length bytes) offset) (bad_offset offset) (read_note ctx.0 ctx.1.le (drop offset bytes)) _ λ before.
-    if_ok_more (read_note ctx.0 ctx.1.le (drop offset bytes)) _ _ (read_note-range ctx.0 ctx.1.le (drop offset bytes)) λ note range.
-    let there = leb-false (length bytes) offset before in
-    let rest = length-drop offset bytes in
-    (range.0, omega arith)
+    if_ok_then (places_at bytes offset ctx) _ _ λ p is.
+    let within = at_ok (places_at bytes offset ctx) p _ is (places_lie_within bytes offset ctx) in
+    (within.least, within.most)
 
 -- nothing is left from the end of a range on
 items_past : (k : ℕ) (bytes : List ℕ) (size offset : ℕ) (ctx : ℕ × Ctx) → size ≤ offset → items_within k bytes size offset ctx ≡ []

@@ -10,7 +10,8 @@ use Rattle.goblin_records.specs.Nhdr.{nhdr32_size}
 use Rattle.goblin.specs.declared.elf.note.Note.{Note}
 use Rattle.goblin.specs.declared.elf.note.NoteDataIterator.{NoteDataIterator}
 use Rattle.goblin.specs.declared.elf.note.NoteIterator.{NoteIterator}
-use Rattle.goblin.specs.Note.{NoteParts, parts_of, note_at, note_items, item_and_rest}
+use Rattle.goblin.specs.declared.elf.note.NotePlaces.{NotePlaces}
+use Rattle.goblin.specs.Note.{NoteParts, parts_of, places_at, note_at, note_items, item_and_rest}
 
 -- the parts of a note, or what an error refuses
 abbrev pub item_of : Result Note Error → Result NoteParts Refusal
@@ -76,6 +77,19 @@ NoteByNote =
     → note_items bytes size offset ctx
     ≡ (if nat_le size offset then []
     else item_and_rest (note_at bytes offset ctx) (λ len. note_items bytes size (offset + len) ctx))
+
+-- of the note at an offset the parts lie within so many bytes; the next note begins at least a header behind the offset, and
+-- at most 7 bytes behind the end
+pub record LieWithin (size offset : ℕ) (places : NotePlaces) : Type 0 where
+  pub name : offset + places.name + places.name_size ≤ size
+  pub desc : offset + places.desc + places.desc_size ≤ size
+  pub least : nhdr32_size ≤ places.next
+  pub most : offset + places.next ≤ size + 7
+
+-- the places of a note lie within the bytes that it is read from
+abbrev pub PlacesLieWithin : Type 0
+PlacesLieWithin =
+    (bytes : List ℕ) (offset : ℕ) (ctx : ℕ × Ctx) → IfOk (places_at bytes offset ctx) (LieWithin (length bytes) offset)
 
 -- a note takes at least the bytes of its header, and at most 7 more than there are
 abbrev pub NotesAdvance : Type 0

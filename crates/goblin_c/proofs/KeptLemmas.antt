@@ -19,7 +19,7 @@ use Rattle.goblin_base.specs.Strtab.{plain, range_in}
 use Rattle.goblin_base.specs.Utf8.{text_or_fault}
 use Rattle.goblin.specs.Header.{class_named, class_of, header_size, magic, order_named, order_of}
 use Rattle.goblin.specs.Nhdr.{nhdr32_of, nhdr32_size}
-use Rattle.goblin.specs.Note.{bytes_at, note_align, note_at, read_note, text_at}
+use Rattle.goblin.specs.Note.{bytes_at, note_align, places_at, read_places, text_at}
 use Rattle.goblin.specs.ProgramHeader.{program_header_of, program_header_size}
 use Rattle.goblin.specs.ReadHeader.{needs, read_header}
 use Rattle.goblin.specs.RelocSection.{relocs_of}
@@ -172,24 +172,24 @@ aligned alignment =
     let align = max alignment 4 in
     either it ((align == 4) || (align == 8)) _ _ tt tt
 
-one_note : (alignment : ℕ) (order : Endian) (bytes : List ℕ) → Known it (read_note alignment order bytes)
-unfolding read_note
-one_note alignment order bytes =
+places : (alignment : ℕ) (order : Endian) (bytes : List ℕ) → Known it (read_places alignment order bytes)
+unfolding read_places
+places alignment order bytes =
     thence it (note_align alignment) _ (aligned alignment) λ align.
     thence it (refuse_as refusal_of (read_within nhdr32_size (nhdr32_of order) bytes)) _ (inside it refusal_of _ (head order bytes)) λ h.
     thence it (text_at bytes nhdr32_size (h.n_namesz - 1)) _ (name bytes nhdr32_size (h.n_namesz - 1)) λ named.
     thence it (bytes_at bytes _ h.n_descsz) _ (part bytes _ h.n_descsz) λ desc. tt
 
-note_there : (bytes : List ℕ) (offset : ℕ) (ctx : ℕ × Ctx) → Known it (note_at bytes offset ctx)
-unfolding note_at
-note_there bytes offset ctx =
+places_there : (bytes : List ℕ) (offset : ℕ) (ctx : ℕ × Ctx) → Known it (places_at bytes offset ctx)
+unfolding places_at
+places_there bytes offset ctx =
     thence it (refuse_if (nat_le (length bytes) offset) (bad_offset offset)) _ (refused it (nat_le (length bytes) offset) _ tt) λ u.
-    one_note ctx.0 ctx.1.le (drop offset bytes)
+    places ctx.0 ctx.1.le (drop offset bytes)
 
 note : (bytes : List ℕ) (h : GoblinHeader) (range : GoblinRange) (alignment offset : ℕ) → Known it (note_right bytes h range alignment offset)
 note bytes h range alignment offset =
     either it (nat_le (range.offset + range.size) offset) _ _ tt
-    (thence it (note_at bytes offset (alignment, ctx_of h)) _ (note_there bytes offset (alignment, ctx_of h)) λ found. tt)
+    (thence it (places_at bytes offset (alignment, ctx_of h)) _ (places_there bytes offset (alignment, ctx_of h)) λ found. tt)
 
 -- ranges of bytes
 placed : (bytes : List ℕ) (range : GoblinRange) → Known it (range_right bytes range)

@@ -3,7 +3,9 @@ ghost use Rattle.std.specs.Prelude.{◌≡◌, length};
 ghost use Rattle.goblin.specs.Notes.{items_left};
 
 use crate::told::{answers, differs, holds, is, says};
-use goblin::elf::note::{NT_GNU_BUILD_ID, NT_SIGINFO, Note, NoteDataIterator, NoteIterator};
+use goblin::elf::note::{
+    NT_GNU_BUILD_ID, NT_SIGINFO, Note, NoteDataIterator, NoteIterator, NotePlaces,
+};
 use goblin::{elf32, elf64};
 use goblin_base::container::{BE, Container, Ctx, Endian, LE};
 use goblin_base::error::{Error, Fault, Result};
@@ -73,6 +75,30 @@ fn reads_notes(rt: HostRuntime) {
     assert!(rt; reads(rt, BUILD_BIG, (4, BIG), 3, "GNU", desc, 20));
     assert!(rt; reads(rt, BARE, (4, LITTLE), 1, "GNU", b"", 16));
     assert!(rt; reads(rt, EMPTY, (0, LITTLE), 7, "", b"", 12));
+}
+
+// Whether the note of a program at an offset lies at these places.
+fn lies(rt: HostRuntime, offset: usize, alignment: usize, places: NotePlaces) -> bool {
+    match Note::at(THREE, offset, (alignment, LITTLE)) {
+        Ok((_, found)) => is(rt, found, places),
+        Err(e) => differs(rt, &e, &places),
+    }
+}
+
+#[test]
+fn tells_the_places_of_notes(rt: HostRuntime) {
+    let second = NotePlaces {
+        n_type: 3,
+        name: 12,
+        name_size: 3,
+        desc: 16,
+        desc_size: 20,
+        next: 36,
+    };
+    assert!(rt; lies(rt, 32, 4, second));
+    assert!(rt; lies(rt, 32, 8, NotePlaces { next: 40, ..second }));
+    let behind = Note::at(THREE, 132, (4, LITTLE));
+    assert!(rt; says(rt, behind, "bad offset 132"));
 }
 
 // Whether reading a note is refused with this text.

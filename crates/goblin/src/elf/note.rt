@@ -3,15 +3,15 @@ ghost use Rattle.std.specs.Prelude.{⊤, ◌≡◌, ◌+◌, ◌≤◌, ◌<◌,
 ghost use Rattle.std.specs.Iterator.{MakesProgress, UpTo, YieldsFirstBy, at_most};
 ghost use Rattle.std.specs.Iterator.SizeHint.{IsWithinCount};
 ghost use Rattle.goblin_base.specs.Refusal.{Answers};
-ghost use Rattle.goblin.specs.Notes.{NoteByNote, NotesAdvance, FewNotes};
+ghost use Rattle.goblin.specs.Notes.{NoteByNote, NotesAdvance, FewNotes, PlacesLieWithin};
 ghost use Rattle.goblin.specs.NoteType.{note_type_name};
-ghost use Rattle.goblin.specs.Note.{bytes_at, note_and_len, note_at, text_at};
+ghost use Rattle.goblin.specs.Note.{bytes_at, note_at, text_at};
 
 use goblin_base::container::Ctx;
 use goblin_base::error::{Error, Fault, Result};
 use goblin_base::number::room;
 use goblin_base::scroll;
-use goblin_base::scroll::{SizeWith, TryFromCtx};
+use goblin_base::scroll::{LE, SizeWith, TryFromCtx};
 use goblin_base::utf8::read_text;
 pub use goblin_records::note::{
     ELF_NOTE_ABI, ELF_NOTE_OS_FREEBSD, ELF_NOTE_OS_GNU, ELF_NOTE_OS_LINUX, ELF_NOTE_OS_SOLARIS2,
@@ -40,17 +40,6 @@ pub struct NoteDataIterator<'a> {
     pub ctx: (usize, Ctx),
 }
 
-// The note at an offset, and how many bytes it takes.
-fn note_at(bytes: &[u8], offset: usize, ctx: (usize, Ctx)) -> Result<(Note<'_>, usize)>
-    ensures given { Answers note_and_len result (note_at bytes.now offset ctx) }
-    ensures fits { IfOk result (λ note. offset + note.1 < 2 ^ 64) }
-{
-    if offset >= bytes.len() {
-        return Err(Error::Scroll(scroll::Error::BadOffset(offset)));
-    }
-    Note::try_from_ctx(&bytes[offset..], ctx)
-}
-
 impl<'a> NoteDataIterator<'a> {
     ghost use Rattle.goblin.specs.Notes.{after_next, item_of, items_left, most_left};
 
@@ -63,9 +52,9 @@ impl<'a> NoteDataIterator<'a> {
         if self.offset >= self.size {
             return None;
         }
-        match note_at(self.bytes, self.offset, self.ctx) {
-            Ok((note, len)) => {
-                self.offset += len;
+        match Note::at(self.bytes, self.offset, self.ctx) {
+            Ok((note, places)) => {
+                self.offset += places.next;
                 Some(Ok(note))
             }
             Err(e) => {
@@ -159,6 +148,46 @@ impl<'a> Iterator for NoteIterator<'a> {
     }
 }
 
+/// The places of a note: where its parts lie in bytes, counted from the note's start.
+#[derive(Clone, Copy, Debug, PartialEq)]
+pub struct NotePlaces {
+    /// The type, whose meaning depends on the name.
+    pub n_type: u32,
+    /// Where the name begins.
+    pub name: usize,
+    /// How many bytes the name has, without the zero byte that closes it.
+    pub name_size: usize,
+    /// Where the descriptor begins.
+    pub desc: usize,
+    /// How many bytes the descriptor has.
+    pub desc_size: usize,
+    /// Where the next note begins, which may lie behind the bytes.
+    pub next: usize,
+}
+
+impl NotePlaces {
+    ghost use Rattle.goblin.specs.Note.{places_of};
+
+    // The places of a note with this header.
+    fn of(header: &Nhdr32, alignment: usize) -> NotePlaces
+        requires { (4 ≤ alignment) × (alignment ≤ 8) }
+        ensures { result ≡ places_of alignment header.now }
+    {
+        let name_size = header.n_namesz as usize;
+        let desc_size = header.n_descsz as usize;
+        let name = Nhdr32::size_with(&LE);
+        let desc = (name + name_size).next_multiple_of(alignment);
+        NotePlaces {
+            n_type: header.n_type,
+            name,
+            name_size: name_size.saturating_sub(1),
+            desc,
+            desc_size,
+            next: (desc + desc_size).next_multiple_of(alignment),
+        }
+    }
+}
+
 /// A note of either class.
 #[derive(Debug, Drop)]
 pub struct Note<'a> {
@@ -171,6 +200,42 @@ pub struct Note<'a> {
 }
 
 impl<'a> Note<'a> {
+    ghost use Rattle.goblin.specs.Note.{note_there, parts_of, places_at, read_places};
+    ghost use Rattle.goblin.specs.Notes.{LieWithin};
+
+    /// The note at an offset of some bytes, and where its parts lie. The offset must lie before the
+    /// bytes' end, or it is a `BadOffset`; then a note is read from it on, and refused as that is.
+    pub fn at(bytes: &'a [u8], offset: usize, ctx: (usize, Ctx)) -> Result<(Self, NotePlaces)>
+        ensures note { Answers (λ found. (parts_of found.0, found.1.next)) result
+            (note_at bytes.now offset ctx) }
+        ensures places { Answers (λ found. found.1) result (places_at bytes.now offset ctx) }
+        ensures within { IfOk result (λ found. LieWithin (length bytes.now) offset found.1) }
+    {
+        if offset >= bytes.len() {
+            return Err(Error::Scroll(scroll::Error::BadOffset(offset)));
+        }
+        Note::with_places(&bytes[offset..], ctx)
+    }
+
+    // The note at the start of the bytes, cut from them at its places.
+    #[tactic(auto, unfolding(crate::specs::Note::read_places))]
+    fn with_places(bytes: &'a [u8], ctx: (usize, Ctx)) -> Result<(Self, NotePlaces)>
+        ensures places { Answers (λ found. found.1) result (read_places ctx.0 ctx.1.le bytes.now) }
+        ensures there { IfOk result (λ found. parts_of found.0 ≡ note_there bytes.now found.1) }
+    {
+        let (alignment, ctx) = ctx;
+        let alignment = alignment.max(4);
+        if alignment != 4 && alignment != 8 {
+            return Err(Error::Malformed(Fault::NoteAlign(alignment)));
+        }
+        let (header, _) = Nhdr32::try_from_ctx(bytes, ctx.le)?;
+        let places = NotePlaces::of(&header, alignment);
+        let name = text_at(bytes, places.name, places.name_size)?;
+        let desc = bytes_at(bytes, places.desc, places.desc_size)?;
+        let n_type = places.n_type;
+        Ok((Note { n_type, name, desc }, places))
+    }
+
     /// The name of the type of the note, as its name gives it a meaning, or `NT_UNKNOWN`.
     #[tactic(auto, unfolding(crate::specs::NoteType::note_type_name))]
     pub fn type_to_str(&self) -> &'static str
@@ -198,6 +263,7 @@ impl<'a> Note<'a> {
 // So many bytes from a place on, or the fault of room.
 fn bytes_at(bytes: &[u8], place: usize, size: usize) -> Result<&[u8]>
     ensures given { Answers (λ part. part.now) result (bytes_at bytes.now place size) }
+    ensures there { IfOk result (λ part. part.now ≡ take size (drop place bytes.now)) }
     ensures fits { IfOk result (λ _. place + size ≤ length bytes.now) }
 {
     room(bytes.len(), place, size)?;
@@ -206,7 +272,8 @@ fn bytes_at(bytes: &[u8], place: usize, size: usize) -> Result<&[u8]>
 
 // So many bytes of text from a place on, or else why there are none.
 fn text_at(bytes: &[u8], place: usize, size: usize) -> Result<&str>
-    ensures { Answers (λ text. text.now) result (text_at bytes.now place size) }
+    ensures given { Answers (λ text. text.now) result (text_at bytes.now place size) }
+    ensures there { IfOk result (λ text. text.now ≡ take size (drop place bytes.now)) }
 {
     let part = bytes_at(bytes, place, size)?;
     read_text(part, bytes.len() - place)
@@ -224,25 +291,8 @@ impl<'a> TryFromCtx<'a, (usize, Ctx)> for Note<'a> {
 
     #[tactic(auto, unfolding(crate::specs::Note::read_note))]
     fn try_from_ctx(bytes: &'a [u8], ctx: (usize, Ctx)) -> Result<(Self, usize)> {
-        let (alignment, ctx) = ctx;
-        let alignment = alignment.max(4);
-        if alignment != 4 && alignment != 8 {
-            return Err(Error::Malformed(Fault::NoteAlign(alignment)));
-        }
-        let (header, start) = Nhdr32::try_from_ctx(bytes, ctx.le)?;
-        let name_size = header.n_namesz as usize;
-        let name = text_at(bytes, start, name_size.saturating_sub(1))?;
-        let place = (start + name_size).next_multiple_of(alignment);
-        let desc = bytes_at(bytes, place, header.n_descsz as usize)?;
-        let end = (place + desc.len()).next_multiple_of(alignment);
-        Ok((
-            Note {
-                n_type: header.n_type,
-                name,
-                desc,
-            },
-            end,
-        ))
+        let (note, places) = Note::with_places(bytes, ctx)?;
+        Ok((note, places.next))
     }
 }
 
@@ -258,10 +308,11 @@ pub fn constants()
         ≡ 1 ∷ 3 ∷ 0x5349_4749 ∷ 0x4649_4c45 ∷ [] }
 {}
 
-/// Laws: how the items of a range follow one another, how far a note reaches, and how many items a
-/// range has.
+/// Laws: how the items of a range follow one another, where the parts of a note lie, how far it
+/// reaches, and how many items a range has.
 pub fn laws()
     ensures items { NoteByNote }
+    ensures places { PlacesLieWithin }
     ensures advance { NotesAdvance }
     ensures few { FewNotes }
 {}

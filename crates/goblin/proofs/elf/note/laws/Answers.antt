@@ -1,8 +1,11 @@
-use Rattle.goblin.specs.NoteLaws.{note_by_note, notes_advance, few_notes}
+use Rattle.goblin.specs.NoteLaws.{note_by_note, notes_advance, few_notes, places_lie_within}
 use Rattle.goblin.proofs.elf.note.laws.Goals as goal
 
 pub returns-clause-items : goal.returns-clause-items
 returns-clause-items c = note_by_note
+
+pub returns-clause-places : goal.returns-clause-places
+returns-clause-places c = places_lie_within
 
 pub returns-clause-advance : goal.returns-clause-advance
 returns-clause-advance c = notes_advance
