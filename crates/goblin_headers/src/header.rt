@@ -1,8 +1,9 @@
 //! The header of an ELF file: System V gABI, "ELF Header" and "ELF Identification".
-ghost use Rattle.std.specs.Prelude.{◌≡◌, ◌≤◌, ◌++◌, length, take, drop};
+ghost use Rattle.std.specs.Prelude.{◌≡◌, ◌≤◌, ◌++◌, length, drop};
 ghost use Rattle.goblin_headers.specs.Header.{header_size, magic, order_named};
 ghost use Rattle.goblin_headers.specs.HeaderTrips.{OneImage, ReadsBack, WrittenAndReadBack, ImageOfRead, WritesBack, NewIsOfContext, NewIsReadBack};
 
+use crate::ident::order_of;
 pub use crate::{header32, header64};
 use crate::{program_header32, program_header64, section_header32, section_header64};
 use goblin_base::container::{Container, Ctx, Endian};
@@ -227,36 +228,6 @@ impl IntoCtx<Ctx> for Header {
             Container::Big => header64::Header::from(self).put(bytes, order),
         }
     }
-}
-
-// The byte order that a data byte names.
-pub(crate) fn order_of(byte: u8) -> Option<Endian>
-    ensures { result ≡ order_named byte }
-{
-    match byte {
-        ELFDATA2LSB => Some(LE),
-        ELFDATA2MSB => Some(BE),
-        _ => None,
-    }
-}
-
-// The identification at the start of the bytes.
-pub(crate) fn ident_of(bytes: &[u8]) -> [u8; SIZEOF_IDENT]
-    requires { SIZEOF_IDENT ≤ length bytes.now }
-    ensures { result ≡ take SIZEOF_IDENT bytes.now }
-{
-    let mut ident = [0; SIZEOF_IDENT];
-    ident.copy_from_slice(&bytes[..SIZEOF_IDENT]);
-    ident
-}
-
-// Puts an identification at the start of the bytes.
-pub(crate) fn put_ident(bytes: &mut [u8], ident: &[u8; SIZEOF_IDENT])
-    requires { SIZEOF_IDENT ≤ length bytes.old }
-    ensures front { bytes.new ≡ ident.now ++ drop SIZEOF_IDENT bytes.old }
-    ensures long { length ident.now ≡ SIZEOF_IDENT }
-{
-    bytes[..SIZEOF_IDENT].copy_from_slice(ident);
 }
 
 /// Laws: the image of a header is the one list of bytes that reads so. What fits the class that it

@@ -7,7 +7,8 @@ ghost use Rattle.goblin_headers.specs.HeaderTrips.{IsOneHeaderImage, IsReadBack,
 ghost use Rattle.goblin_headers.specs.ReadHeader.{read_header64};
 ghost use Rattle.goblin_headers.specs.WriteHeader.{WritesHeader64};
 
-use crate::header::{Header as ElfHeader, ident_of, order_of, put_ident};
+use crate::header::Header as ElfHeader;
+use crate::ident::{ident_of, order_of, put_ident};
 use goblin_base::container::Endian;
 use goblin_base::error::{Error, Fault, Result};
 use goblin_base::number::{get_u16, get_u32, get_u64, put_u16, put_u32, put_u64, room};

@@ -7,6 +7,7 @@ mod constants_section_header;
 pub mod header;
 pub mod header32;
 pub mod header64;
+mod ident;
 pub mod program_header;
 pub mod program_header32;
 pub mod program_header64;

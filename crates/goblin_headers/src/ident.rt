@@ -1,0 +1,36 @@
+//! What lies at the head of a file: System V gABI, "ELF Identification".
+ghost use Rattle.std.specs.Prelude.{◌≡◌, ◌≤◌, ◌++◌, length, take, drop};
+ghost use Rattle.goblin_headers.specs.Header.{order_named};
+
+use crate::constants_header::{ELFDATA2LSB, ELFDATA2MSB, SIZEOF_IDENT};
+use goblin_base::container::{BE, Endian, LE};
+
+/// The byte order that a data byte names.
+pub(crate) fn order_of(byte: u8) -> Option<Endian>
+    ensures { result ≡ order_named byte }
+{
+    match byte {
+        ELFDATA2LSB => Some(LE),
+        ELFDATA2MSB => Some(BE),
+        _ => None,
+    }
+}
+
+/// The identification at the start of the bytes.
+pub(crate) fn ident_of(bytes: &[u8]) -> [u8; SIZEOF_IDENT]
+    requires { SIZEOF_IDENT ≤ length bytes.now }
+    ensures { result ≡ take SIZEOF_IDENT bytes.now }
+{
+    let mut ident = [0; SIZEOF_IDENT];
+    ident.copy_from_slice(&bytes[..SIZEOF_IDENT]);
+    ident
+}
+
+/// Puts an identification at the start of the bytes.
+pub(crate) fn put_ident(bytes: &mut [u8], ident: &[u8; SIZEOF_IDENT])
+    requires { SIZEOF_IDENT ≤ length bytes.old }
+    ensures front { bytes.new ≡ ident.now ++ drop SIZEOF_IDENT bytes.old }
+    ensures long { length ident.now ≡ SIZEOF_IDENT }
+{
+    bytes[..SIZEOF_IDENT].copy_from_slice(ident);
+}
