@@ -7,6 +7,7 @@ use Rattle.goblin_base.specs.Record.{unless_fault}
 use Rattle.goblin_base.specs.Room.{room_of}
 use Rattle.goblin_base.specs.Table.{records}
 use Rattle.goblin_headers.specs.declared.header.Header.{Header}
+use Rattle.goblin_headers.specs.Header.{class_byte, data_byte}
 use Rattle.goblin_records.specs.declared.reloc.Reloc.{Reloc}
 use Rattle.goblin_records.specs.Reloc.{reloc_size, reloc_in, reloc_image_in}
 
@@ -20,7 +21,12 @@ relocs_of bytes offset filesz is_rela ctx is_mips64el =
     if filesz == 0 then Ok []
     else unless_fault (room_of (length bytes) offset filesz) (records size read (filesz / size) (take filesz (drop offset bytes)))
 
--- whether a header is that of a MIPS64 file of little order: its machine is 8, its class byte 2 and its data byte 1
+-- whether a file of this machine, class and byte order is a MIPS64 file of little order: its machine is 8, its class byte
+-- 2 and its data byte 1
+abbrev pub is_mips64el_in : ℕ → Ctx → Bool
+is_mips64el_in machine ctx = (machine == 8) && (class_byte ctx.container == 2) && (data_byte ctx.le == 1)
+
+-- whether a header is that of one
 abbrev pub is_of_mips64el : Header → Bool
 is_of_mips64el header = (header.e_machine == 8) && (slice_index header.e_ident 4 == 2) && (slice_index header.e_ident 5 == 1)
 

@@ -17,7 +17,7 @@ use Rattle.goblin_base.specs.Steps.{◌>>=◌, or_refuse, refuse_as}
 use Rattle.goblin.specs.declared.elf.header.Header.{Header}
 use Rattle.goblin.specs.declared.elf.section_header.SectionHeader.{SectionHeader}
 use Rattle.goblin_c.specs.declared.types.GoblinSection.{GoblinSection}
-use Rattle.goblin.specs.Header.{class_named, order_named}
+use Rattle.goblin.specs.Header.{class_byte, class_named, data_byte, order_named}
 use Rattle.goblin.specs.ProgramHeaders.{program_headers_from}
 use Rattle.goblin.specs.RelocSection.{is_of_mips64el, relocs_of}
 use Rattle.goblin.specs.SectionHeaders.{link_of, names_index, section_headers_of}
@@ -34,9 +34,19 @@ class_is byte named is = grind (arith, nat_tests)
 order_is : (byte : ℕ) (named : Endian) → order_named byte ≡ Some named → order_named byte ≡ Some (if byte == 2 then endian.Big else endian.Little)
 order_is byte named is = grind (arith, nat_tests)
 
+-- the class byte of the class that C's number stands for is 2 where that is
+class_is_big : (is_two : Bool) → (class_byte (if is_two then class.Big else class.Little) == 2) ≡ is_two
+class_is_big true = refl
+class_is_big false = refl
+
+-- the data byte of the order that C's number stands for is 1 where that is not 2
+order_of_number : (is_two : Bool) → (data_byte (if is_two then endian.Big else endian.Little) == 1) ≡ not is_two
+order_of_number true = refl
+order_of_number false = refl
+
 -- a byte that names a byte order is 1 where it is not 2
-order_is_little : (byte : ℕ) (named : Endian) → order_named byte ≡ Some named → not (byte == 2) ≡ (byte == 1)
-order_is_little byte named is = grind (arith, nat_tests)
+order_is_little : (byte : ℕ) (named : Endian) → order_named byte ≡ Some named → (data_byte (if byte == 2 then endian.Big else endian.Little) == 1) ≡ (byte == 1)
+order_is_little byte named is = order_of_number (byte == 2) ∙ grind (arith, nat_tests)
 
 -- what a file's header tells of its class and its byte order
 ordered : (bytes : List ℕ) (h : Header) → HasHeader bytes h → (named : Endian) × (order_named (slice_index h.e_ident 5) ≡ Some named)
@@ -59,8 +69,9 @@ context bytes h has =
 pub context_is_the_headers : ContextIsTheHeaders
 context_is_the_headers bytes h has =
     let order = ordered bytes h has in
-    let before = (h.e_machine == 8) && (slice_index h.e_ident 4 == 2) in
-    (context bytes h has, ap (λ (little : Bool). before && little) (order_is_little (slice_index h.e_ident 5) order.0 order.1))
+    let big = class_is_big (slice_index h.e_ident 4 == 2) in
+    let little = order_is_little (slice_index h.e_ident 5) order.0 order.1 in
+    (context bytes h has, λ j. (h.e_machine == 8) && big j && little j)
 
 same : {A E : Type 0} (x y : A) → ◌≡◌ {A = Result A E} (Ok x) (Ok y) → x ≡ y
 same x y is = cc

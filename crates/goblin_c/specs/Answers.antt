@@ -1,5 +1,5 @@
 -- What is right of a file, in the terms of the library: an item, none past the last one, or why there is none.
-use Rattle.std.specs.Prelude.{ℕ, ◌+◌, ◌/◌, ◌==◌, ◌&&◌, not, nat_le, if◌then◌else◌, List, length, drop, map, position, slice_get, slice_index, Bool, pos, unwrap_or, Option, Some, None, Result, Ok}
+use Rattle.std.specs.Prelude.{ℕ, ◌+◌, ◌/◌, ◌==◌, nat_le, if◌then◌else◌, List, length, drop, map, position, slice_get, slice_index, Bool, pos, unwrap_or, Option, Some, None, Result, Ok}
 use Rattle.std.specs.Option.{option_map, is_some}
 use Rattle.goblin_base.specs.declared.container.Ctx.{Ctx}
 use Rattle.goblin_base.specs.declared.container.Container.TheVariants as class
@@ -18,7 +18,7 @@ use Rattle.goblin.specs.Sym.{sym_size}
 use Rattle.goblin.specs.declared.elf.program_header.ProgramHeader.{ProgramHeader}
 use Rattle.goblin.specs.ProgramHeaders.{program_headers_from}
 use Rattle.goblin.specs.declared.elf.reloc.Reloc.{Reloc}
-use Rattle.goblin.specs.RelocSection.{relocs_of}
+use Rattle.goblin.specs.RelocSection.{is_mips64el_in, relocs_of}
 use Rattle.goblin.specs.Symtab.{symtab_of}
 use Rattle.goblin_c.specs.declared.types.GoblinHeader.{GoblinHeader}
 use Rattle.goblin_c.specs.declared.types.GoblinRange.{GoblinRange}
@@ -167,9 +167,9 @@ symbol_count_right bytes h range = do
   symbols ← symbols_right bytes h range
   Ok (Some (length symbols))
 
--- whether a file is a MIPS64 one of little order, which each order but 2 stands for
+-- whether a file is a MIPS64 one of little order
 abbrev pub is_mips64el : GoblinHeader → Bool
-is_mips64el h = (h.e_machine == 8) && (h.ei_class == 2) && not (h.ei_data == 2)
+is_mips64el h = is_mips64el_in h.e_machine (ctx_of h)
 
 -- the relocations of a range
 abbrev pub relocs_right : List ℕ → GoblinHeader → GoblinRange → Bool → Result (List Reloc) Refusal

@@ -1,12 +1,11 @@
 //! Symbols, relocations and strings, as the library gives them.
 ghost use Rattle.std.specs.Prelude.{◌≡◌, ◌+◌, ◌≤◌, IfOk, length, position};
 ghost use Rattle.goblin.specs.Refusal.{Answers};
-ghost use Rattle.goblin_c.specs.Answers.{is_mips64el, reloc_count_right, reloc_right, reloc_told, relocs_right, section_by_name_right, string_right, strings_right, symbol_by_address_right, symbol_by_name_right, symbol_count_right, symbol_right, is_named, symbol_told, symbols_right};
+ghost use Rattle.goblin_c.specs.Answers.{reloc_count_right, reloc_right, reloc_told, relocs_right, section_by_name_right, string_right, strings_right, symbol_by_address_right, symbol_by_name_right, symbol_count_right, symbol_right, is_named, symbol_told, symbols_right};
 
 use crate::headers::{ctx_of, sections_of};
 use crate::types::{GoblinHeader, GoblinRange, GoblinReloc, GoblinSymbol};
-use goblin::elf::header::{ELFCLASS64, ELFDATA2MSB, EM_MIPS};
-use goblin::elf::reloc::{Reloc, RelocSection};
+use goblin::elf::reloc::{Reloc, RelocSection, is_mips64el_in};
 use goblin::elf::section_header::SectionHeader;
 use goblin::elf::sym::{Sym, Symtab};
 use goblin::error::Result;
@@ -77,13 +76,6 @@ pub fn symbol_count(bytes: &[u8], header: &GoblinHeader, range: &GoblinRange) ->
     Ok(Some(symbols_of(bytes, header, range)?.len() as u64))
 }
 
-// Whether a file is a MIPS64 one of little order.
-fn is_mips64el(header: &GoblinHeader) -> bool
-    ensures { result ≡ is_mips64el header.now }
-{
-    header.e_machine == EM_MIPS && header.ei_class == ELFCLASS64 && header.ei_data != ELFDATA2MSB
-}
-
 /// The relocations of a range.
 pub fn relocs_of<'a>(
     bytes: &'a [u8],
@@ -94,13 +86,14 @@ pub fn relocs_of<'a>(
     ensures { Answers (λ relocs. relocs) result
         (relocs_right bytes.now header.now range.now is_rela) }
 {
+    let ctx = ctx_of(header);
     RelocSection::parse_inner(
         bytes,
         range.offset as usize,
         range.size as usize,
         is_rela,
-        ctx_of(header),
-        is_mips64el(header),
+        ctx,
+        is_mips64el_in(header.e_machine, ctx),
     )
 }
 

@@ -1,8 +1,8 @@
 //! Cases with their answers: relocation sections.
 use crate::told::{differs, gives, is};
-use goblin::elf::header::{EM_MIPS, EM_MIPS_RS3_LE, Header};
+use goblin::elf::header::{EI_CLASS, EM_MIPS, EM_MIPS_RS3_LE, Header};
 use goblin::elf::reloc;
-use goblin::elf::reloc::{Reloc, RelocIterator, RelocSection, is_mips64el};
+use goblin::elf::reloc::{Reloc, RelocIterator, RelocSection, is_mips64el, is_mips64el_in};
 use goblin::{elf32, elf64};
 use goblin_base::container::{BE, Container, Ctx, Endian, LE};
 use goblin_base::error::Error;
@@ -185,9 +185,14 @@ fn has_no_relocations_by_default(rt: HostRuntime) {
 
 // Whether a header of a machine, a class and an order is one of a MIPS64 file of little order.
 fn is_mips(rt: HostRuntime, machine: u16, container: Container, le: Endian, wanted: bool) -> bool {
-    let mut header = Header::new(Ctx::new(container, le));
+    let ctx = Ctx::new(container, le);
+    let mut header = Header::new(ctx);
     header.e_machine = machine;
-    is(rt, is_mips64el(&header), wanted)
+    is(
+        rt,
+        (is_mips64el(&header), is_mips64el_in(machine, ctx)),
+        (wanted, wanted),
+    )
 }
 
 #[test]
@@ -198,6 +203,10 @@ fn knows_a_mips64_file_of_little_order(rt: HostRuntime) {
     assert!(rt; is_mips(rt, EM_MIPS, Container::Little, LE, false));
     assert!(rt; is_mips(rt, EM_MIPS_RS3_LE, big, LE, false));
     assert!(rt; is_mips(rt, 0, big, LE, false));
+    let mut header = Header::new(Ctx::new(big, LE));
+    header.e_machine = EM_MIPS;
+    header.e_ident[EI_CLASS] = 3;
+    assert!(rt; is(rt, is_mips64el(&header), false));
 }
 
 #[test]

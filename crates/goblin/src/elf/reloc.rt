@@ -1,12 +1,12 @@
 //! Relocations and relocation sections: System V gABI, "Relocation".
 ghost use Rattle.std.specs.Prelude.{◌≡◌, ◌<◌, ◌^◌, ◌↔◌, [], false, length, slice_get, IsTrue, IfOk, IfErr, IsOk, alloc_error};
-ghost use Rattle.goblin.specs.RelocSection.{relocs_of, is_of_mips64el, DependsOnItsRange, WritesItsBytes};
+ghost use Rattle.goblin.specs.RelocSection.{relocs_of, is_mips64el_in, is_of_mips64el, DependsOnItsRange, WritesItsBytes};
 
 use goblin_base::container::Ctx;
 use goblin_base::error::{Error, Result};
 use goblin_base::number::room;
 use goblin_base::table::{Table, TableIter};
-use goblin_headers::header::{EI_CLASS, EI_DATA, ELFCLASS64, ELFDATA2LSB, EM_MIPS, Header};
+use goblin_headers::header::{EM_MIPS, Header};
 pub use goblin_records::reloc::{Reloc, RelocCtx, reloc32, reloc64};
 use std::alloc::Global;
 use std::marker::Model;
@@ -163,14 +163,23 @@ impl<'a, 'b> IntoIterator for &'b RelocSection<'a> {
 /// An iterator over the relocations of a section: from the first to the last, and `None` from then on.
 pub type RelocIterator<'a> = TableIter<'a, Reloc, RelocCtx>;
 
-/// Whether a file is a MIPS64 file of little order, whose relocations go through the pair: its machine is
-/// `EM_MIPS`, its class byte `ELFCLASS64` and its data byte `ELFDATA2LSB`.
+/// Whether a file of this machine, class and byte order is a MIPS64 file of little order, whose
+/// relocations go through the pair.
+pub fn is_mips64el_in(machine: u16, ctx: Ctx) -> bool
+    ensures { result ≡ is_mips64el_in machine ctx }
+{
+    machine == EM_MIPS && ctx.is_big() && ctx.is_little_endian()
+}
+
+/// Whether a file with this header is one: its machine is `EM_MIPS`, its class byte `ELFCLASS64` and its
+/// data byte `ELFDATA2LSB`.
 pub fn is_mips64el(header: &Header) -> bool
     ensures { result ≡ is_of_mips64el header.now }
 {
-    header.e_machine == EM_MIPS
-        && header.e_ident[EI_CLASS] == ELFCLASS64
-        && header.e_ident[EI_DATA] == ELFDATA2LSB
+    match (header.container(), header.endianness()) {
+        (Ok(container), Ok(order)) => is_mips64el_in(header.e_machine, Ctx::new(container, order)),
+        _ => false,
+    }
 }
 
 /// Laws: that a relocation section depends on its own bytes alone, and is written as them.
