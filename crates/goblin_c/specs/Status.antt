@@ -5,6 +5,7 @@ use Rattle.goblin_base.specs.declared.error.Error.{Error}
 use Rattle.goblin_base.specs.declared.error.Fault.{Fault}
 use Rattle.goblin_base.specs.declared.error.Fault.TheVariants as fault
 use Rattle.goblin_base.specs.Refusal.{Refusal, malformed, bad_magic, too_big, bad_offset, bad_input, buffer_too_short, out_of_memory, refusal_of}
+use Rattle.goblin_c.specs.declared.kinds.TheConstants.{OK, END, BAD_MAGIC, TOO_BIG, BAD_OFFSET, BAD_INPUT, BUFFER_TOO_SHORT, OUT_OF_MEMORY, INVALID_CLASS, INVALID_ENDIANNESS, TOO_SMALL, ELF_CLASS, DATA_TYPE, DATA, NOTE_ALIGN, SYMTAB_OFFSET, TOO_MANY_SYMBOLS, SYMTAB_PAST, STRTAB_OFFSET, STRTAB_RANGE, SECTION_OFFSET, SECTION_ADDR, INTEGER_FIT, INVALID_UTF8, SECTION_HEADERS, PROGRAM_HEADERS}
 use Rattle.goblin_c.specs.declared.types.GoblinRefusal.{GoblinRefusal}
 use Rattle.goblin_c.specs.Cut.{cut}
 
@@ -24,52 +25,52 @@ number_of_bool b = if b then 1 else 0
 
 -- what C is told of a fault: its kind and its numbers
 abbrev pub fault_told : Fault → GoblinRefusal
-fault_told (fault.InvalidClass class) = with_numbers 10 class 0 0 0
-fault_told (fault.InvalidEndianness order) = with_numbers 11 order 0 0 0
-fault_told fault.TooSmall = with_numbers 12 0 0 0 0
-fault_told (fault.ElfClass class) = with_numbers 13 class 0 0 0
-fault_told (fault.DataType order) = with_numbers 14 order 0 0 0
-fault_told (fault.Data order) = with_numbers 15 order 0 0 0
-fault_told (fault.NoteAlign align) = with_numbers 16 align 0 0 0
-fault_told (fault.SymtabOffset offset len) = with_numbers 17 offset len 0 0
-fault_told (fault.TooManySymbols offset count) = with_numbers 18 offset count 0 0
-fault_told (fault.SymtabPast requested available) = with_numbers 19 requested available 0 0
-fault_told (fault.StrtabOffset offset len) = with_numbers 20 offset len 0 0
-fault_told (fault.StrtabRange size offset len overflow) = with_numbers 21 size offset len (number_of_bool overflow)
-fault_told (fault.SectionOffset name size offset overflow) = with_numbers 22 name size offset (number_of_bool overflow)
-fault_told (fault.SectionAddr name size addr overflow) = with_numbers 23 name size addr (number_of_bool overflow)
-fault_told (fault.IntegerFit e) = with_numbers 24 0 0 0 0
+fault_told (fault.InvalidClass class) = with_numbers INVALID_CLASS class 0 0 0
+fault_told (fault.InvalidEndianness order) = with_numbers INVALID_ENDIANNESS order 0 0 0
+fault_told fault.TooSmall = with_numbers TOO_SMALL 0 0 0 0
+fault_told (fault.ElfClass class) = with_numbers ELF_CLASS class 0 0 0
+fault_told (fault.DataType order) = with_numbers DATA_TYPE order 0 0 0
+fault_told (fault.Data order) = with_numbers DATA order 0 0 0
+fault_told (fault.NoteAlign align) = with_numbers NOTE_ALIGN align 0 0 0
+fault_told (fault.SymtabOffset offset len) = with_numbers SYMTAB_OFFSET offset len 0 0
+fault_told (fault.TooManySymbols offset count) = with_numbers TOO_MANY_SYMBOLS offset count 0 0
+fault_told (fault.SymtabPast requested available) = with_numbers SYMTAB_PAST requested available 0 0
+fault_told (fault.StrtabOffset offset len) = with_numbers STRTAB_OFFSET offset len 0 0
+fault_told (fault.StrtabRange size offset len overflow) = with_numbers STRTAB_RANGE size offset len (number_of_bool overflow)
+fault_told (fault.SectionOffset name size offset overflow) = with_numbers SECTION_OFFSET name size offset (number_of_bool overflow)
+fault_told (fault.SectionAddr name size addr overflow) = with_numbers SECTION_ADDR name size addr (number_of_bool overflow)
+fault_told (fault.IntegerFit e) = with_numbers INTEGER_FIT 0 0 0 0
 
 -- the number of a text that a refusal names: 0 for any other
 abbrev pub item_number : List ℕ → ℕ
 item_number text =
-    if bytes_eq text (codes "invalid utf8") then 1
-    else if bytes_eq text (codes "section headers") then 2
-    else if bytes_eq text (codes "program headers") then 3
+    if bytes_eq text (codes "invalid utf8") then INVALID_UTF8
+    else if bytes_eq text (codes "section headers") then SECTION_HEADERS
+    else if bytes_eq text (codes "program headers") then PROGRAM_HEADERS
     else 0
 
 -- what C is told of a refusal
 abbrev pub refusal_told : Refusal → GoblinRefusal
-refusal_told (bad_magic magic) = with_numbers 2 magic 0 0 0
-refusal_told (too_big size len) = with_numbers 3 size len 0 0
-refusal_told (bad_offset offset) = with_numbers 4 offset 0 0 0
-refusal_told (bad_input size msg) = with_item 5 (item_number msg) size
-refusal_told (buffer_too_short count item) = with_item 6 (item_number item) count
-refusal_told out_of_memory = with_numbers 7 0 0 0 0
+refusal_told (bad_magic magic) = with_numbers BAD_MAGIC magic 0 0 0
+refusal_told (too_big size len) = with_numbers TOO_BIG size len 0 0
+refusal_told (bad_offset offset) = with_numbers BAD_OFFSET offset 0 0 0
+refusal_told (bad_input size msg) = with_item BAD_INPUT (item_number msg) size
+refusal_told (buffer_too_short count item) = with_item BUFFER_TOO_SHORT (item_number item) count
+refusal_told out_of_memory = with_numbers OUT_OF_MEMORY 0 0 0 0
 refusal_told (malformed f) = fault_told f
 
 -- What a call that finds `right` answers, and what it leaves where an item and a refusal stood: 0 and the item; 1 past
 -- the last item; or the kind of the refusal, and what is told of it. All else is as it was.
 abbrev pub Tells : {X : Type 0} → Result (Option X) Refusal → X → GoblinRefusal → ℕ → X → GoblinRefusal → Type 0
-Tells (Ok (Some x)) old was status new why = (status ≡ 0) × (new ≡ x) × (why ≡ was)
-Tells (Ok None) old was status new why = (status ≡ 1) × (new ≡ old) × (why ≡ was)
+Tells (Ok (Some x)) old was status new why = (status ≡ OK) × (new ≡ x) × (why ≡ was)
+Tells (Ok None) old was status new why = (status ≡ END) × (new ≡ old) × (why ≡ was)
 Tells (Err refusal) old was status new why =
     (status ≡ (refusal_told refusal).kind) × (new ≡ old) × (why ≡ refusal_told refusal)
 
 -- the same of an answer whose error is still whole
 abbrev pub TellsOf : {X : Type 0} → Result (Option X) Error → X → GoblinRefusal → ℕ → X → GoblinRefusal → Type 0
-TellsOf (Ok (Some x)) old was status new why = (status ≡ 0) × (new ≡ x) × (why ≡ was)
-TellsOf (Ok None) old was status new why = (status ≡ 1) × (new ≡ old) × (why ≡ was)
+TellsOf (Ok (Some x)) old was status new why = (status ≡ OK) × (new ≡ x) × (why ≡ was)
+TellsOf (Ok None) old was status new why = (status ≡ END) × (new ≡ old) × (why ≡ was)
 TellsOf (Err e) old was status new why =
     (status ≡ (refusal_told (refusal_of e)).kind) × (new ≡ old) × (why ≡ refusal_told (refusal_of e))
 
@@ -78,7 +79,7 @@ TellsOf (Err e) old was status new why =
 -- of it. All else is as it was.
 abbrev pub Fills : {X : Type 0} → Result (Option (List X)) Refusal → List X → ℕ → GoblinRefusal → ℕ → List X → ℕ → GoblinRefusal → Type 0
 Fills (Ok (Some xs)) old count was status new filled why =
-    (status ≡ 0) × (new ≡ cut xs old) × (filled ≡ min (length xs) (length old)) × (why ≡ was)
-Fills (Ok None) old count was status new filled why = (status ≡ 1) × (new ≡ old) × (filled ≡ count) × (why ≡ was)
+    (status ≡ OK) × (new ≡ cut xs old) × (filled ≡ min (length xs) (length old)) × (why ≡ was)
+Fills (Ok None) old count was status new filled why = (status ≡ END) × (new ≡ old) × (filled ≡ count) × (why ≡ was)
 Fills (Err refusal) old count was status new filled why =
     (status ≡ (refusal_told refusal).kind) × (new ≡ old) × (filled ≡ count) × (why ≡ refusal_told refusal)

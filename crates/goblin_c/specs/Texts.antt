@@ -8,56 +8,57 @@ use Rattle.goblin_base.specs.declared.texts.Piece.TheVariants as piece
 use Rattle.goblin_base.specs.declared.texts.Told.{Told}
 use Rattle.goblin_base.specs.Refusal.{Refusal, malformed, bad_magic, too_big, bad_offset, bad_input, buffer_too_short, out_of_memory}
 use Rattle.goblin_base.specs.Texts.{refusal_text}
+use Rattle.goblin_c.specs.declared.kinds.TheConstants.{BAD_MAGIC, TOO_BIG, BAD_OFFSET, BAD_INPUT, BUFFER_TOO_SHORT, OUT_OF_MEMORY, INVALID_CLASS, INVALID_ENDIANNESS, TOO_SMALL, ELF_CLASS, DATA_TYPE, DATA, NOTE_ALIGN, SYMTAB_OFFSET, TOO_MANY_SYMBOLS, SYMTAB_PAST, STRTAB_OFFSET, STRTAB_RANGE, SECTION_OFFSET, SECTION_ADDR, INTEGER_FIT, INVALID_UTF8, SECTION_HEADERS, PROGRAM_HEADERS}
 use Rattle.goblin_c.specs.declared.types.GoblinRefusal.{GoblinRefusal}
 use Rattle.goblin_c.specs.Status.{refusal_told}
 
 -- the text that a number of item_number's stands for, and the empty one for every other number
 abbrev pub item_text : ℕ → List ℕ
 item_text item =
-    if item == 1 then codes "invalid utf8"
-    else if item == 2 then codes "section headers"
-    else if item == 3 then codes "program headers"
+    if item == INVALID_UTF8 then codes "invalid utf8"
+    else if item == SECTION_HEADERS then codes "section headers"
+    else if item == PROGRAM_HEADERS then codes "program headers"
     else []
 
 -- the fault of bytes that end past the file's end or the greatest address, of which C is told
 abbrev pub range_fault_from : GoblinRefusal → Option Fault
 range_fault_from why =
-    if why.kind == 21 then Some (fault.StrtabRange why.first why.second why.third (not (why.fourth == 0)))
-    else if why.kind == 22 then Some (fault.SectionOffset why.first why.second why.third (not (why.fourth == 0)))
-    else if why.kind == 23 then Some (fault.SectionAddr why.first why.second why.third (not (why.fourth == 0)))
+    if why.kind == STRTAB_RANGE then Some (fault.StrtabRange why.first why.second why.third (not (why.fourth == 0)))
+    else if why.kind == SECTION_OFFSET then Some (fault.SectionOffset why.first why.second why.third (not (why.fourth == 0)))
+    else if why.kind == SECTION_ADDR then Some (fault.SectionAddr why.first why.second why.third (not (why.fourth == 0)))
     else None
 
 -- the fault of a table, or of such bytes
 abbrev pub table_fault_from : GoblinRefusal → Option Fault
 table_fault_from why =
-    if why.kind == 17 then Some (fault.SymtabOffset why.first why.second)
-    else if why.kind == 18 then Some (fault.TooManySymbols why.first why.second)
-    else if why.kind == 19 then Some (fault.SymtabPast why.first why.second)
-    else if why.kind == 20 then Some (fault.StrtabOffset why.first why.second)
+    if why.kind == SYMTAB_OFFSET then Some (fault.SymtabOffset why.first why.second)
+    else if why.kind == TOO_MANY_SYMBOLS then Some (fault.TooManySymbols why.first why.second)
+    else if why.kind == SYMTAB_PAST then Some (fault.SymtabPast why.first why.second)
+    else if why.kind == STRTAB_OFFSET then Some (fault.StrtabOffset why.first why.second)
     else range_fault_from why
 
 -- the fault that C is told of
 abbrev pub fault_from : GoblinRefusal → Option Fault
 fault_from why =
-    if why.kind == 10 then Some (fault.InvalidClass why.first)
-    else if why.kind == 11 then Some (fault.InvalidEndianness why.first)
-    else if why.kind == 12 then Some fault.TooSmall
-    else if why.kind == 13 then Some (fault.ElfClass why.first)
-    else if why.kind == 14 then Some (fault.DataType why.first)
-    else if why.kind == 15 then Some (fault.Data why.first)
-    else if why.kind == 16 then Some (fault.NoteAlign why.first)
-    else if why.kind == 24 then Some (fault.IntegerFit (record { 0 = tt }))
+    if why.kind == INVALID_CLASS then Some (fault.InvalidClass why.first)
+    else if why.kind == INVALID_ENDIANNESS then Some (fault.InvalidEndianness why.first)
+    else if why.kind == TOO_SMALL then Some fault.TooSmall
+    else if why.kind == ELF_CLASS then Some (fault.ElfClass why.first)
+    else if why.kind == DATA_TYPE then Some (fault.DataType why.first)
+    else if why.kind == DATA then Some (fault.Data why.first)
+    else if why.kind == NOTE_ALIGN then Some (fault.NoteAlign why.first)
+    else if why.kind == INTEGER_FIT then Some (fault.IntegerFit (record { 0 = tt }))
     else table_fault_from why
 
 -- the refusal that C is told of: none where the kind is none
 abbrev pub refusal_from : GoblinRefusal → Option Refusal
 refusal_from why =
-    if why.kind == 2 then Some (bad_magic why.first)
-    else if why.kind == 3 then Some (too_big why.first why.second)
-    else if why.kind == 4 then Some (bad_offset why.first)
-    else if why.kind == 5 then Some (bad_input why.first (item_text why.item))
-    else if why.kind == 6 then Some (buffer_too_short why.first (item_text why.item))
-    else if why.kind == 7 then Some out_of_memory
+    if why.kind == BAD_MAGIC then Some (bad_magic why.first)
+    else if why.kind == TOO_BIG then Some (too_big why.first why.second)
+    else if why.kind == BAD_OFFSET then Some (bad_offset why.first)
+    else if why.kind == BAD_INPUT then Some (bad_input why.first (item_text why.item))
+    else if why.kind == BUFFER_TOO_SHORT then Some (buffer_too_short why.first (item_text why.item))
+    else if why.kind == OUT_OF_MEMORY then Some out_of_memory
     else option_map malformed (fault_from why)
 
 -- the text of a refusal, and none without one

@@ -22,6 +22,7 @@ mod bytes;
 mod bytes_tests;
 mod fill;
 mod headers;
+mod kinds;
 mod laws;
 mod layout;
 mod names;
@@ -46,7 +47,7 @@ use headers::{
 use layout::{GoblinLayout, marked_layout};
 use names::{note_type, write_text};
 use notes::note_from;
-use status::{END, OK, refusal, tell};
+use status::{refusal, tell};
 use tables::{
     reloc_at, reloc_count, relocs_of, section_by_name, string_at, symbol_at, symbol_by_address,
     symbol_by_name, symbol_count, symbols_of,
@@ -317,10 +318,10 @@ pub extern "C" fn goblin_sections(
     match sections_of(bytes, header) {
         Ok(all) => {
             if first >= all.len() as u64 {
-                return END;
+                return kinds::END;
             }
             *filled = fill_sections(&all, first as usize, sections) as u64;
-            OK
+            kinds::OK
         }
         Err(e) => {
             *why = refusal(&e);
@@ -346,10 +347,10 @@ pub extern "C" fn goblin_symbols(
     match symbols_of(bytes, header, table) {
         Ok(all) => {
             if first >= all.len() as u64 {
-                return END;
+                return kinds::END;
             }
             *filled = fill_symbols(&all, first as usize, symbols) as u64;
-            OK
+            kinds::OK
         }
         Err(e) => {
             *why = refusal(&e);
@@ -376,10 +377,10 @@ pub extern "C" fn goblin_relocs(
     match relocs_of(bytes, header, relocs, is_rela) {
         Ok(all) => {
             if first >= all.len() as u64 {
-                return END;
+                return kinds::END;
             }
             *filled = fill_relocs(&all, first as usize, items) as u64;
-            OK
+            kinds::OK
         }
         Err(e) => {
             *why = refusal(&e);

@@ -3,14 +3,15 @@ ghost use Rattle.std.specs.Prelude.{◌≡◌};
 ghost use Rattle.goblin.specs.Refusal.{refusal_of};
 ghost use Rattle.goblin_c.specs.Status.{fault_told, item_number, number_of_bool, refusal_told, with_item, with_numbers, TellsOf};
 
+use crate::kinds::{
+    BAD_INPUT, BAD_MAGIC, BAD_OFFSET, BUFFER_TOO_SHORT, DATA, DATA_TYPE, ELF_CLASS, END,
+    INTEGER_FIT, INVALID_CLASS, INVALID_ENDIANNESS, INVALID_UTF8, NOTE_ALIGN, OK, OUT_OF_MEMORY,
+    PROGRAM_HEADERS, SECTION_ADDR, SECTION_HEADERS, SECTION_OFFSET, STRTAB_OFFSET, STRTAB_RANGE,
+    SYMTAB_OFFSET, SYMTAB_PAST, TOO_BIG, TOO_MANY_SYMBOLS, TOO_SMALL,
+};
 use crate::types::GoblinRefusal;
 use goblin::error::{Error, Fault, Result};
 use goblin::scroll;
-
-/// There is such an item.
-pub const OK: u32 = 0;
-/// The index or the offset is past the last item, or nothing has that name.
-pub const END: u32 = 1;
 
 // A refusal of a kind, with its numbers.
 fn numbers(kind: u32, first: u64, second: u64, third: u64, fourth: u64) -> GoblinRefusal
@@ -31,9 +32,9 @@ fn item(kind: u32, text: &str, first: usize) -> GoblinRefusal
     ensures { result ≡ with_item kind (item_number text.now) first }
 {
     let item = match text {
-        "invalid utf8" => 1,
-        "section headers" => 2,
-        "program headers" => 3,
+        "invalid utf8" => INVALID_UTF8,
+        "section headers" => SECTION_HEADERS,
+        "program headers" => PROGRAM_HEADERS,
         _ => 0,
     };
     GoblinRefusal {
@@ -51,27 +52,33 @@ fn fault(fault: &Fault) -> GoblinRefusal
     ensures { result ≡ fault_told fault.now }
 {
     match fault {
-        Fault::InvalidClass(class) => numbers(10, *class as u64, 0, 0, 0),
-        Fault::InvalidEndianness(order) => numbers(11, *order as u64, 0, 0, 0),
-        Fault::TooSmall => numbers(12, 0, 0, 0, 0),
-        Fault::ElfClass(class) => numbers(13, *class as u64, 0, 0, 0),
-        Fault::DataType(order) => numbers(14, *order as u64, 0, 0, 0),
-        Fault::Data(order) => numbers(15, *order as u64, 0, 0, 0),
-        Fault::NoteAlign(align) => numbers(16, *align as u64, 0, 0, 0),
-        Fault::SymtabOffset { offset, len } => numbers(17, *offset as u64, *len as u64, 0, 0),
-        Fault::TooManySymbols { offset, count } => numbers(18, *offset as u64, *count as u64, 0, 0),
+        Fault::InvalidClass(class) => numbers(INVALID_CLASS, *class as u64, 0, 0, 0),
+        Fault::InvalidEndianness(order) => numbers(INVALID_ENDIANNESS, *order as u64, 0, 0, 0),
+        Fault::TooSmall => numbers(TOO_SMALL, 0, 0, 0, 0),
+        Fault::ElfClass(class) => numbers(ELF_CLASS, *class as u64, 0, 0, 0),
+        Fault::DataType(order) => numbers(DATA_TYPE, *order as u64, 0, 0, 0),
+        Fault::Data(order) => numbers(DATA, *order as u64, 0, 0, 0),
+        Fault::NoteAlign(align) => numbers(NOTE_ALIGN, *align as u64, 0, 0, 0),
+        Fault::SymtabOffset { offset, len } => {
+            numbers(SYMTAB_OFFSET, *offset as u64, *len as u64, 0, 0)
+        }
+        Fault::TooManySymbols { offset, count } => {
+            numbers(TOO_MANY_SYMBOLS, *offset as u64, *count as u64, 0, 0)
+        }
         Fault::SymtabPast {
             requested,
             available,
-        } => numbers(19, *requested as u64, *available as u64, 0, 0),
-        Fault::StrtabOffset { offset, len } => numbers(20, *offset as u64, *len as u64, 0, 0),
+        } => numbers(SYMTAB_PAST, *requested as u64, *available as u64, 0, 0),
+        Fault::StrtabOffset { offset, len } => {
+            numbers(STRTAB_OFFSET, *offset as u64, *len as u64, 0, 0)
+        }
         Fault::StrtabRange {
             size,
             offset,
             len,
             overflow,
         } => numbers(
-            21,
+            STRTAB_RANGE,
             *size as u64,
             *offset as u64,
             *len as u64,
@@ -82,14 +89,26 @@ fn fault(fault: &Fault) -> GoblinRefusal
             size,
             offset,
             overflow,
-        } => numbers(22, *name as u64, *size, *offset, number_of(*overflow)),
+        } => numbers(
+            SECTION_OFFSET,
+            *name as u64,
+            *size,
+            *offset,
+            number_of(*overflow),
+        ),
         Fault::SectionAddr {
             name,
             size,
             addr,
             overflow,
-        } => numbers(23, *name as u64, *size, *addr, number_of(*overflow)),
-        Fault::IntegerFit(_) => numbers(24, 0, 0, 0, 0),
+        } => numbers(
+            SECTION_ADDR,
+            *name as u64,
+            *size,
+            *addr,
+            number_of(*overflow),
+        ),
+        Fault::IntegerFit(_) => numbers(INTEGER_FIT, 0, 0, 0, 0),
     }
 }
 
@@ -104,14 +123,16 @@ pub fn refusal(e: &Error) -> GoblinRefusal
     ensures { result ≡ refusal_told (refusal_of e.now) }
 {
     match e {
-        Error::BadMagic(magic) => numbers(2, *magic, 0, 0, 0),
+        Error::BadMagic(magic) => numbers(BAD_MAGIC, *magic, 0, 0, 0),
         Error::Scroll(scroll::Error::TooBig { size, len }) => {
-            numbers(3, *size as u64, *len as u64, 0, 0)
+            numbers(TOO_BIG, *size as u64, *len as u64, 0, 0)
         }
-        Error::Scroll(scroll::Error::BadOffset(offset)) => numbers(4, *offset as u64, 0, 0, 0),
-        Error::Scroll(scroll::Error::BadInput { size, msg }) => item(5, msg, *size),
-        Error::BufferTooShort(count, items) => item(6, items, *count),
-        Error::Memory(_) => numbers(7, 0, 0, 0, 0),
+        Error::Scroll(scroll::Error::BadOffset(offset)) => {
+            numbers(BAD_OFFSET, *offset as u64, 0, 0, 0)
+        }
+        Error::Scroll(scroll::Error::BadInput { size, msg }) => item(BAD_INPUT, msg, *size),
+        Error::BufferTooShort(count, items) => item(BUFFER_TOO_SHORT, items, *count),
+        Error::Memory(_) => numbers(OUT_OF_MEMORY, 0, 0, 0, 0),
         Error::Malformed(f) => fault(f),
     }
 }

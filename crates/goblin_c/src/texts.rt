@@ -5,6 +5,7 @@ ghost use Rattle.goblin_base.specs.Texts.{piece_text, told_text as text_of_told,
 ghost use Rattle.goblin_c.specs.Cut.{cut};
 ghost use Rattle.goblin_c.specs.Texts.{is_brief, is_short, item_text, told_text, fault_from, range_fault_from, table_fault_from, text_of_fault, TextIsKept};
 
+use crate::kinds;
 use crate::names::write_bytes;
 use crate::types::GoblinRefusal;
 use goblin_base::texts;
@@ -80,9 +81,9 @@ fn item_of(item: u32) -> &'static str
     ensures short { length result.now ≤ 15 }
 {
     match item {
-        1 => "invalid utf8",
-        2 => "section headers",
-        3 => "program headers",
+        kinds::INVALID_UTF8 => "invalid utf8",
+        kinds::SECTION_HEADERS => "section headers",
+        kinds::PROGRAM_HEADERS => "program headers",
         _ => "",
     }
 }
@@ -142,9 +143,9 @@ fn range_fault(why: &GoblinRefusal) -> Told
     ensures brief { IsTrue (is_brief result) }
 {
     match why.kind {
-        21 => told_by(why, texts::MALFORMED, texts::STRTAB_RANGE),
-        22 => told_by(why, texts::MALFORMED, texts::SECTION_OFFSET),
-        23 => told_by(why, texts::MALFORMED, texts::SECTION_ADDR),
+        kinds::STRTAB_RANGE => told_by(why, texts::MALFORMED, texts::STRTAB_RANGE),
+        kinds::SECTION_OFFSET => told_by(why, texts::MALFORMED, texts::SECTION_OFFSET),
+        kinds::SECTION_ADDR => told_by(why, texts::MALFORMED, texts::SECTION_ADDR),
         _ => told_by(why, "", &[]),
     }
 }
@@ -155,10 +156,10 @@ fn table_fault(why: &GoblinRefusal) -> Told
     ensures brief { IsTrue (is_brief result) }
 {
     match why.kind {
-        17 => told_by(why, texts::MALFORMED, texts::SYMTAB_OFFSET),
-        18 => told_by(why, texts::MALFORMED, texts::TOO_MANY_SYMBOLS),
-        19 => told_by(why, texts::MALFORMED, texts::SYMTAB_PAST),
-        20 => told_by(why, texts::MALFORMED, texts::STRTAB_OFFSET),
+        kinds::SYMTAB_OFFSET => told_by(why, texts::MALFORMED, texts::SYMTAB_OFFSET),
+        kinds::TOO_MANY_SYMBOLS => told_by(why, texts::MALFORMED, texts::TOO_MANY_SYMBOLS),
+        kinds::SYMTAB_PAST => told_by(why, texts::MALFORMED, texts::SYMTAB_PAST),
+        kinds::STRTAB_OFFSET => told_by(why, texts::MALFORMED, texts::STRTAB_OFFSET),
         _ => range_fault(why),
     }
 }
@@ -169,14 +170,14 @@ fn fault(why: &GoblinRefusal) -> Told
     ensures brief { IsTrue (is_brief result) }
 {
     match why.kind {
-        10 => told_by(why, texts::MALFORMED, texts::INVALID_CLASS),
-        11 => told_by(why, texts::MALFORMED, texts::INVALID_ENDIANNESS),
-        12 => told_by(why, texts::MALFORMED, texts::TOO_SMALL),
-        13 => told_by(why, texts::MALFORMED, texts::ELF_CLASS),
-        14 => told_by(why, texts::MALFORMED, texts::DATA_TYPE),
-        15 => told_by(why, texts::MALFORMED, texts::DATA),
-        16 => told_by(why, texts::MALFORMED, texts::NOTE_ALIGN),
-        24 => told_by(why, texts::MALFORMED, texts::INTEGER_FIT),
+        kinds::INVALID_CLASS => told_by(why, texts::MALFORMED, texts::INVALID_CLASS),
+        kinds::INVALID_ENDIANNESS => told_by(why, texts::MALFORMED, texts::INVALID_ENDIANNESS),
+        kinds::TOO_SMALL => told_by(why, texts::MALFORMED, texts::TOO_SMALL),
+        kinds::ELF_CLASS => told_by(why, texts::MALFORMED, texts::ELF_CLASS),
+        kinds::DATA_TYPE => told_by(why, texts::MALFORMED, texts::DATA_TYPE),
+        kinds::DATA => told_by(why, texts::MALFORMED, texts::DATA),
+        kinds::NOTE_ALIGN => told_by(why, texts::MALFORMED, texts::NOTE_ALIGN),
+        kinds::INTEGER_FIT => told_by(why, texts::MALFORMED, texts::INTEGER_FIT),
         _ => table_fault(why),
     }
 }
@@ -187,12 +188,12 @@ fn refusal(why: &GoblinRefusal) -> Told
     ensures brief { IsTrue (is_brief result) }
 {
     match why.kind {
-        2 => told_by(why, "", texts::BAD_MAGIC),
-        3 => told_by(why, "", texts::TOO_BIG),
-        4 => told_by(why, "", texts::BAD_OFFSET),
-        5 => told_by(why, "", texts::BAD_INPUT),
-        6 => told_by(why, "", texts::BUFFER_TOO_SHORT),
-        7 => told_by(why, "", texts::MEMORY),
+        kinds::BAD_MAGIC => told_by(why, "", texts::BAD_MAGIC),
+        kinds::TOO_BIG => told_by(why, "", texts::TOO_BIG),
+        kinds::BAD_OFFSET => told_by(why, "", texts::BAD_OFFSET),
+        kinds::BAD_INPUT => told_by(why, "", texts::BAD_INPUT),
+        kinds::BUFFER_TOO_SHORT => told_by(why, "", texts::BUFFER_TOO_SHORT),
+        kinds::OUT_OF_MEMORY => told_by(why, "", texts::MEMORY),
         _ => fault(why),
     }
 }
