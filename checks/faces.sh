@@ -183,6 +183,16 @@ check_aarch64() {
     sh checks/installed.sh "$other/goblin_c.tar.gz" "$compiler" qemu-aarch64
 }
 
+# ---- WebAssembly ----
+
+# The module, called from JavaScript, beside C over the same files; and the page, in a browser.
+check_web() {
+    quietly env LIBRARY= CPU= TARGET=wasm64-unknown-unknown sh faces/install.sh --archive "$folder/goblin_web.tar.gz"
+    check_axioms
+    build dump -std=c99
+    sh checks/web.sh "$folder/goblin_web.tar.gz" "$folder/dump" "$folder"/files/*
+}
+
 # ---- files of this machine ----
 
 # The first so many ELF files among those that `find` finds with these words, spread over them.
@@ -278,6 +288,7 @@ if has aarch64-linux-gnu-gcc && has qemu-aarch64; then
 else
     echo "no aarch64-linux-gnu-gcc and qemu-aarch64 here: the library for aarch64 is not tried"
 fi
+if has node; then check_web; else echo "no node here: the module for WebAssembly is not tried"; fi
 if ! has nm || ! has readelf; then
     echo "no nm and readelf here: no lists are compared"
     exit 0

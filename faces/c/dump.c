@@ -1,0 +1,198 @@
+/* Tells all that the library tells of files, for faces/web/test.mjs: dump FILE.. prints a line for each answer, with each field
+   of its struct as goblin.h declares it (fields.h is made of that by checks/fields.awk). */
+#include "goblin.h"
+#include <elf.h>
+#include <inttypes.h>
+#include <stdio.h>
+#include <stdlib.h>
+
+/* How many items are told of sections that don't hold them. */
+enum { FEW = 3 };
+
+static uint8_t bytes[0x1000000];
+static size_t len;
+static goblin_header_t h;
+static goblin_refusal_t why;
+
+/* put_NAME(item) for each struct: prints its fields. */
+#define STRUCT(name) } static void put_##name(const goblin_##name##_t *item) {
+#define FIELD(name, field, number) printf(" " #field "=%" PRIx64, (uint64_t)item->field);
+static void put_nothing(void) {
+#include "fields.h"
+}
+#undef FIELD
+#undef STRUCT
+static void put_number(const uint64_t *number) { printf(" %" PRIx64, *number); }
+
+/* The text of a call, behind what it is told of. */
+#define TEXT(call, ...) \
+    do { \
+        uint8_t text[256]; \
+        uint64_t size = call(__VA_ARGS__, text, sizeof text); \
+        printf(" %.*s", (int)size, (const char *)text); \
+    } while (0)
+
+static void put_bytes(goblin_range_t range) {
+    putchar(' ');
+    for (uint64_t i = 0; i < range.size; i++) printf("%02x", bytes[range.offset + i]);
+}
+
+/* The name of what is asked, and unless it is GOBLIN_OK the answer, with the refusal. */
+static bool told(const char *what, uint32_t answer) {
+    printf("%s", what);
+    if (answer == GOBLIN_END) puts(" none");
+    if (answer > GOBLIN_END) {
+        put_refusal(&why);
+        TEXT(goblin_refusal_text, &why);
+        putchar('\n');
+    }
+    return answer == GOBLIN_OK;
+}
+
+#define ASK(call, item, ...) told(#call, call(bytes, len, __VA_ARGS__, &(item), &why))
+#define PUT(kind, item) (put_##kind(&(item)), putchar('\n'))
+#define SHOW(call, kind, item, ...) (ASK(call, item, __VA_ARGS__) && (PUT(kind, item), true))
+
+static goblin_range_t range_of(const goblin_section_t *section) {
+    goblin_range_t none = {0, 0};
+    return section->sh_type == SHT_NOBITS ? none : section->file;
+}
+
+/* Where the strings of a section that a call told lie: nowhere where there is none. */
+static bool strings_told(const char *what, uint32_t answer, const goblin_section_t *section, goblin_range_t *strings) {
+    if (answer > GOBLIN_END) return told(what, answer);
+    goblin_range_t none = {0, 0};
+    *strings = answer == GOBLIN_OK ? range_of(section) : none;
+    printf("%s", what);
+    PUT(range, *strings);
+    return true;
+}
+
+/* The string at an offset, as text and as bytes. */
+static void string(goblin_range_t strings, uint64_t offset) {
+    goblin_range_t found;
+    if (ASK(goblin_string, found, &strings, offset)) put_bytes(found), putchar('\n');
+    if (ASK(goblin_string_bytes, found, &strings, offset)) put_bytes(found), putchar('\n');
+}
+
+static void one_symbol(goblin_range_t table, goblin_range_t names, uint64_t at) {
+    goblin_symbol_t symbol;
+    goblin_range_t name;
+    uint64_t index;
+    if (!ASK(goblin_symbol, symbol, &h, &table, at)) return;
+    put_symbol(&symbol);
+    TEXT(goblin_bind_to_str, symbol.st_info >> 4);
+    TEXT(goblin_type_to_str, symbol.st_info & 15);
+    TEXT(goblin_visibility_to_str, symbol.st_other & 7);
+    putchar('\n');
+    string(names, symbol.st_name);
+    if (goblin_string(bytes, len, &names, symbol.st_name, &name, &why) == GOBLIN_OK)
+        SHOW(goblin_symbol_by_name, number, index, &h, &table, &names, bytes + name.offset, (size_t)name.size);
+    SHOW(goblin_symbol_by_address, number, index, &h, &table, symbol.st_value);
+}
+
+static void symbols(const goblin_section_t *section) {
+    goblin_section_t strings;
+    goblin_range_t table = range_of(section), names;
+    uint64_t count;
+    uint32_t answer = goblin_table(bytes, len, &h, section->sh_link, &strings, &why);
+    if (!strings_told("goblin_table", answer, &strings, &names)) return;
+    if (!SHOW(goblin_symbol_count, number, count, &h, &table)) return;
+    bool is_table = section->sh_type == SHT_SYMTAB || section->sh_type == SHT_DYNSYM;
+    for (uint64_t i = 0; i < count && (is_table || i < FEW); i++) one_symbol(table, names, i);
+    one_symbol(table, names, count - (count > 0)), one_symbol(table, names, count);
+}
+
+static void one_reloc(goblin_range_t range, bool is_rela, uint64_t at) {
+    goblin_reloc_t reloc;
+    if (!ASK(goblin_reloc, reloc, &h, &range, is_rela, at)) return;
+    put_reloc(&reloc);
+    printf(" %" PRId64 "\n", reloc.r_addend);
+}
+
+static void relocs(const goblin_section_t *section) {
+    goblin_range_t range = range_of(section);
+    bool is_rela = section->sh_type == SHT_RELA, is_list = is_rela || section->sh_type == SHT_REL;
+    uint64_t count;
+    if (!SHOW(goblin_reloc_count, number, count, &h, &range, is_rela)) return;
+    for (uint64_t i = 0; i < count && (is_list || i < FEW); i++) one_reloc(range, is_rela, i);
+    one_reloc(range, is_rela, count);
+}
+
+static void notes(goblin_range_t range, uint64_t alignment) {
+    goblin_note_t note;
+    for (uint64_t next = range.offset; ASK(goblin_note, note, &h, &range, alignment, next);) {
+        next = note.next, note.next = 0; /* (which no caller of goblin.js sees) */
+        put_note(&note);
+        TEXT(goblin_note_type_to_str, bytes + note.name.offset, (size_t)note.name.size, note.n_type);
+        put_bytes(note.name), put_bytes(note.desc), putchar('\n');
+    }
+}
+
+static void segments(void) {
+    uint64_t count;
+    if (!SHOW(goblin_segment_count, number, count, &h)) return;
+    for (uint64_t i = 0; i <= count; i++) {
+        goblin_segment_t segment;
+        goblin_range_t range;
+        if (!ASK(goblin_segment, segment, &h, i)) return;
+        put_segment(&segment);
+        TEXT(goblin_pt_to_str, segment.p_type);
+        putchar('\n');
+        SHOW(goblin_segment_bytes, range, range, &segment);
+        notes(segment.file, segment.p_align);
+    }
+}
+
+static void sections(void) {
+    uint64_t count, index;
+    goblin_section_t names, section;
+    goblin_range_t strings, range, name;
+    if (!SHOW(goblin_section_count, number, count, &h)) return;
+    uint32_t answer = goblin_section_names(bytes, len, &h, &names, &why);
+    if (!strings_told("goblin_section_names", answer, &names, &strings)) return;
+    for (uint64_t i = 0; i <= count; i++) {
+        if (!ASK(goblin_section, section, &h, i)) return;
+        put_section(&section);
+        TEXT(goblin_sht_to_str, section.sh_type);
+        for (int bit = 0; bit < 32; bit++)
+            if (section.sh_flags >> bit & 1) TEXT(goblin_shf_to_str, 1U << bit);
+        putchar('\n');
+        string(strings, section.sh_name);
+        if (goblin_string(bytes, len, &strings, section.sh_name, &name, &why) == GOBLIN_OK)
+            SHOW(goblin_section_by_name, number, index, &h, &strings, bytes + name.offset, (size_t)name.size);
+        SHOW(goblin_section_by_type, number, index, &h, section.sh_type, i / 2);
+        SHOW(goblin_section_by_type, number, index, &h, section.sh_type, i + 1);
+        SHOW(goblin_section_bytes, range, range, &section);
+        symbols(&section), relocs(&section), notes(range_of(&section), section.sh_addralign);
+    }
+}
+
+static void numbers(void) {
+    uint64_t number;
+    for (uint64_t width = 0; width <= 9; width++)
+        for (uint64_t i = 0; i < 3; i++) SHOW(goblin_number, number, number, &h, i * (len / 2) - (i == 2) * 4, width);
+}
+
+static bool load(const char *path) {
+    FILE *file = fopen(path, "rb");
+    if (!file) return false;
+    len = fread(bytes, 1, sizeof bytes, file);
+    return fclose(file) == 0;
+}
+
+int main(int argc, char **argv) {
+    put_nothing();
+    for (int i = 1; i < argc; i++) {
+        if (!load(argv[i])) return EXIT_FAILURE;
+        printf("file %d\n", i);
+        if (!told("goblin_header", goblin_header(bytes, len, &h, &why))) continue;
+        put_header(&h);
+        TEXT(goblin_class_to_str, h.ei_class);
+        TEXT(goblin_et_to_str, h.e_type);
+        TEXT(goblin_machine_to_str, h.e_machine);
+        putchar('\n');
+        segments(), sections(), numbers();
+    }
+    return argc > 1 ? EXIT_SUCCESS : EXIT_FAILURE;
+}

@@ -1,0 +1,760 @@
+/**
+ * ELF files in JavaScript, read by `goblin_c.wasm`: the library of a verified port of goblin's ELF layer, as one WebAssembly
+ * module with a memory of 64 bits, which needs nothing from outside.
+ *
+ * A file is an array of bytes: `Elf.parse` copies it into a memory of its own and reads its header; all else is read when it is
+ * asked for. What the library answers is proved; this file hands it on. Names are goblin's where goblin has the thing. What has 64
+ * bits in `goblin.h` is a BigInt, other numbers are Numbers, names are strings, and bytes are copies of the file's.
+ *
+ * ```js
+ * import init, { Elf } from './goblin.js';
+ * await init();
+ * for (const section of Elf.parse(bytes).section_headers()) console.log(section.sh_offset);
+ * ```
+ */
+
+/** The version of `goblin.h` whose calls and structs this file knows. */
+export const VERSION = 3;
+
+/** The numbers of refusals, as in `goblin.h`. */
+export const Kind = Object.freeze({
+    BAD_MAGIC: 2, TOO_BIG: 3, BAD_OFFSET: 4, BAD_INPUT: 5, BUFFER_TOO_SHORT: 6, OUT_OF_MEMORY: 7, INVALID_CLASS: 10,
+    INVALID_ENDIANNESS: 11, TOO_SMALL: 12, ELF_CLASS: 13, DATA_TYPE: 14, DATA: 15, NOTE_ALIGN: 16, SYMTAB_OFFSET: 17,
+    TOO_MANY_SYMBOLS: 18, SYMTAB_PAST: 19, STRTAB_OFFSET: 20, STRTAB_RANGE: 21, SECTION_OFFSET: 22, SECTION_ADDR: 23,
+    INTEGER_FIT: 24,
+});
+
+export const SHT_SYMTAB = 2, SHT_RELA = 4, SHT_NOTE = 7, SHT_NOBITS = 8, SHT_REL = 9, SHT_DYNSYM = 11, PT_NOTE = 4;
+
+/**
+ * A file's header. `goblin.h` says what each field is.
+ * @typedef {object} Header
+ * @property {bigint} e_entry the address at which the program starts, or 0
+ * @property {bigint} e_phoff where the program headers start, or 0
+ * @property {bigint} e_shoff where the section headers start, or 0 for none
+ * @property {number} e_version the version of the format
+ * @property {number} e_flags flags of the machine
+ * @property {number} e_type what the file is, an ET_ number: see `et_to_str`
+ * @property {number} e_machine the machine, an EM_ number: see `machine_to_str`
+ * @property {number} e_ehsize the header's size in bytes, as it says
+ * @property {number} e_phentsize the size of a program header in bytes, as it says
+ * @property {number} e_phnum how many program headers there are
+ * @property {number} e_shentsize the size of a section header in bytes, as it says
+ * @property {number} e_shnum how many section headers there are; where it is 0, the first one's `sh_size` tells
+ * @property {number} e_shstrndx the index of the section that holds the sections' names
+ * @property {number} ei_class 2 for 64 bits, 1 for 32
+ * @property {number} ei_data 2 where the highest byte comes first, 1 for the other order
+ * @property {number} ei_version the version of the format once more
+ * @property {number} ei_osabi the operating system
+ * @property {number} ei_abiversion its version
+ */
+
+/**
+ * A section header.
+ * @typedef {object} SectionHeader
+ * @property {bigint} sh_offset where the section starts, in bytes from the file's start
+ * @property {bigint} sh_size how many bytes it has
+ * @property {bigint} sh_name where its name lies in the section names
+ * @property {bigint} sh_flags SHF_ flags: see `shf_to_str`
+ * @property {bigint} sh_addr its address in memory, or 0
+ * @property {bigint} sh_addralign what the address is aligned to, in bytes
+ * @property {bigint} sh_entsize the size of an entry in bytes, where it is a table of them
+ * @property {number} sh_type what it holds, an SHT_ number: see `sht_to_str`
+ * @property {number} sh_link the index of a section that belongs to it
+ * @property {number} sh_info more, as its type says
+ */
+
+/**
+ * A program header.
+ * @typedef {object} ProgramHeader
+ * @property {bigint} p_offset where the segment starts, in bytes from the file's start
+ * @property {bigint} p_filesz how many bytes of the file it takes
+ * @property {bigint} p_vaddr its address in memory
+ * @property {bigint} p_paddr its physical address, where there are such
+ * @property {bigint} p_memsz how many bytes it takes in memory
+ * @property {bigint} p_align what it is aligned to, in bytes
+ * @property {number} p_type what it is, a PT_ number: see `pt_to_str`
+ * @property {number} p_flags PF_ flags: 1 executed, 2 written, 4 read
+ */
+
+/**
+ * A symbol.
+ * @typedef {object} Sym
+ * @property {bigint} st_name where the name lies in the string table; 0 for none
+ * @property {bigint} st_value the value, an address for most symbols
+ * @property {bigint} st_size how many bytes it stands for
+ * @property {bigint} st_shndx the index of its section, or an SHN_ number: 0 for a symbol that is not defined here
+ * @property {number} st_info the binding in the high four bits, the type in the low four
+ * @property {number} st_other the visibility in the low three bits
+ */
+
+/**
+ * A relocation.
+ * @typedef {object} Reloc
+ * @property {bigint} r_offset the place, as the file's type says: an offset in a section, or an address
+ * @property {bigint} r_sym the index of the symbol, 0 for none
+ * @property {bigint | undefined} r_addend what is added; none where the place itself holds it
+ * @property {number} r_type the type, which the machine gives its meaning
+ */
+
+/**
+ * Some bytes of the file.
+ * @typedef {object} Range
+ * @property {bigint} offset where they start, in bytes from the file's start
+ * @property {bigint} size how many bytes they are
+ */
+
+// ---- what crosses to the library ----
+
+const METHODS = { 1: 'Uint8', 2: 'Uint16', 4: 'Uint32', 8: 'BigUint64', s: 'BigInt64' };
+
+// The fields of the structs of goblin.h in their order, each with the number of its bytes; `s` for a signed one.
+const records = {
+    refusal: record('kind 4 item 4 first 8 second 8 third 8 fourth 8'),
+    range: record('offset 8 size 8'),
+    header: record('e_entry 8 e_phoff 8 e_shoff 8 e_version 4 e_flags 4 e_type 2 e_machine 2 e_ehsize 2 e_phentsize 2 e_phnum 2'
+        + ' e_shentsize 2 e_shnum 2 e_shstrndx 2 ei_class 1 ei_data 1 ei_version 1 ei_osabi 1 ei_abiversion 1'),
+    section: record('sh_offset 8 sh_size 8 sh_name 8 sh_flags 8 sh_addr 8 sh_addralign 8 sh_entsize 8 sh_type 4 sh_link 4'
+        + ' sh_info 4'),
+    segment: record('p_offset 8 p_filesz 8 p_vaddr 8 p_paddr 8 p_memsz 8 p_align 8 p_type 4 p_flags 4'),
+    symbol: record('st_name 8 st_value 8 st_size 8 st_shndx 8 st_info 1 st_other 1'),
+    reloc: record('r_offset 8 r_sym 8 r_addend s r_type 4 has_addend 4'),
+    note: record('name_offset 8 name_size 8 desc_offset 8 desc_size 8 next 8 n_type 4'),
+    number: record('value 8'),
+};
+
+// The fields with their places, and the size of the whole, as C lays them out: each at a multiple of its own size.
+function record(text) {
+    const fields = [];
+    let end = 0, widest = 1;
+    for (const [, name, width] of text.matchAll(/(\w+) (\w)/g)) {
+        const bytes = width === 's' ? 8 : Number(width);
+        const at = Math.ceil(end / bytes) * bytes;
+        fields.push({ name, at, get: `get${METHODS[width]}`, set: `set${METHODS[width]}` });
+        end = at + bytes;
+        widest = Math.max(widest, bytes);
+    }
+    return { fields, size: Math.ceil(end / widest) * widest };
+}
+
+function read(view, at, { fields }) {
+    const item = {};
+    for (const field of fields) item[field.name] = view[field.get](at + field.at, true);
+    return item;
+}
+
+function write(view, at, { fields }, item) {
+    for (const field of fields) view[field.set](at + field.at, item[field.name], true);
+}
+
+// A number as the library takes it: an integer of so many bits.
+function unsigned(number, bits) {
+    const big = BigInt(number);
+    if (big < 0n || big >> BigInt(bits) !== 0n) throw new RangeError(`${number} is no unsigned number of ${bits} bits`);
+    return bits === 64 ? big : Number(big);
+}
+
+// ---- the module ----
+
+const PAGE = 0x10000;
+
+// How many items are asked for at once.
+const BATCH = 64;
+
+// Where things lie behind the library's own data: the header, why a file is refused, an item, what is handed over beside the
+// header, room for a batch or a text, and the file.
+const HEADER = 0, WHY = 0x80, ITEM = 0x100, GIVEN = 0x180, NAMES = 0x1d0, ROOM = 0x200, ROOM_SIZE = 0x1800, FILE = ROOM + ROOM_SIZE;
+
+// A module with a memory of 64 bits and nothing else.
+const WITH_MEMORY = new Uint8Array([0, 0x61, 0x73, 0x6d, 1, 0, 0, 0, 5, 3, 1, 4, 0]);
+
+const decoder = new TextDecoder('utf-8', { fatal: true, ignoreBOM: true });
+const encoder = new TextEncoder();
+
+/** @type {WebAssembly.Module | undefined} */
+let compiled;
+/** @type {Memory | undefined} */
+let shared;
+
+/**
+ * Makes the library ready, which each call of this file needs.
+ * @param {URL | BufferSource | WebAssembly.Module} [source] the module, its bytes, or where it lies: by default beside this file
+ * @returns {Promise<void>}
+ * @throws where the engine has no memories of 64 bits, or the module is of another version
+ */
+export default async function init(source = new URL('goblin_c.wasm', import.meta.url)) {
+    if (!WebAssembly.validate(WITH_MEMORY)) throw new Error('this engine has no WebAssembly memories of 64 bits');
+    const content = source instanceof URL ? await load(source) : source;
+    compiled = content instanceof WebAssembly.Module ? content : await WebAssembly.compile(content);
+    shared = new Memory(new Uint8Array(0));
+    const version = shared.calls.goblin_version();
+    if (version !== VERSION) throw new Error(`goblin.js knows version ${VERSION} of the library, which is of version ${version}`);
+}
+
+async function load(url) {
+    if (url.protocol === 'file:' && globalThis.process?.versions?.node) {
+        const { readFile } = await import('node:fs/promises');
+        return readFile(url);
+    }
+    const response = await fetch(url);
+    if (!response.ok) throw new Error(`${url}: ${response.status}`);
+    return response.arrayBuffer();
+}
+
+// (engines take the number of pages as a BigInt since memories of 64 bits are in the standard, and before as a Number)
+function grow(memory, pages) {
+    try {
+        memory.grow(BigInt(pages));
+    } catch (error) {
+        if (!(error instanceof TypeError)) throw error;
+        memory.grow(pages);
+    }
+}
+
+// The library with a memory that holds a file's bytes.
+class Memory {
+    constructor(bytes) {
+        if (!compiled) throw new Error('goblin.js is not ready: await init() first');
+        this.calls = new WebAssembly.Instance(compiled, {}).exports;
+        this.base = Math.ceil(Number(this.calls.__heap_base.value) / 16) * 16;
+        this.length = bytes.length;
+        this.reserve(FILE + bytes.length);
+        this.part(FILE, bytes.length).set(bytes);
+        // What every call is handed first: where the file is, and its length.
+        this.file = [this.address(FILE), BigInt(bytes.length)];
+    }
+
+    // Grows the memory where it ends before so many bytes of ours.
+    reserve(size) {
+        const missing = this.base + size - this.calls.memory.buffer.byteLength;
+        if (missing > 0) grow(this.calls.memory, Math.ceil(missing / PAGE));
+    }
+
+    get view() {
+        const { buffer } = this.calls.memory;
+        if (this.seen?.buffer !== buffer) this.seen = new DataView(buffer);
+        return this.seen;
+    }
+
+    part(at, size) { return new Uint8Array(this.calls.memory.buffer, this.base + at, size); }
+
+    address(at) { return BigInt(this.base + at); }
+
+    // Hands over a record, at a place of its own.
+    give(at, kind, item) {
+        write(this.view, this.base + at, records[kind], item);
+        return this.address(at);
+    }
+
+    // Hands over bytes behind the file.
+    give_bytes(bytes) {
+        this.reserve(FILE + this.length + bytes.length);
+        this.part(FILE + this.length, bytes.length).set(bytes);
+        return [this.address(FILE + this.length), BigInt(bytes.length)];
+    }
+
+    // What a call answers: an item of a kind, or nothing past the last one.
+    ask(call, kind, ...given) {
+        const answer = this.calls[call](...this.file, ...given, this.address(ITEM), this.address(WHY)) >>> 0;
+        if (answer > 1) throw new GoblinError(this);
+        return answer === 0 ? read(this.view, this.base + ITEM, records[kind]) : undefined;
+    }
+
+    // The items from an index on that a call fills: at most so many, and at most a batch.
+    ask_many(call, kind, most, first, ...given) {
+        const room = [this.address(ROOM), BigInt(Math.min(most, BATCH))];
+        const { value } = this.ask(call, 'number', ...given, first, ...room) ?? { value: 0n };
+        const { size } = records[kind];
+        return Array.from({ length: Number(value) }, (_, i) => read(this.view, this.base + ROOM + i * size, records[kind]));
+    }
+
+    // The text that a call writes.
+    text(call, ...given) {
+        const size = Number(this.calls[call](...given, this.address(ROOM), BigInt(ROOM_SIZE)));
+        return decoder.decode(this.part(ROOM, size));
+    }
+
+    bytes({ offset, size }) { return this.part(FILE + Number(offset), Number(size)).slice(); }
+
+    string({ offset, size }) { return decoder.decode(this.part(FILE + Number(offset), Number(size))); }
+}
+
+/** Why a file is refused. Its message is the library's text. */
+export class GoblinError extends Error {
+    /** @param {Memory} memory */
+    constructor(memory) {
+        super(memory.text('goblin_refusal_text', memory.address(WHY)));
+        const why = read(memory.view, memory.base + WHY, records.refusal);
+        this.name = 'GoblinError';
+        /** @type {number} which refusal it is, a number of `Kind` */
+        this.kind = why.kind;
+        /** @type {number} 1 for invalid UTF-8, 2 for section headers, 3 for program headers, else 0 */
+        this.item = why.item;
+        /** @type {bigint[]} the four numbers that belong to it, as `goblin.h` says, and behind them 0 */
+        this.numbers = [why.first, why.second, why.third, why.fourth];
+    }
+}
+
+// ---- files ----
+
+/** A file, and its header. All else is read when it is asked for; a part that is refused throws a `GoblinError`. */
+export class Elf {
+    #memory;
+
+    /**
+     * Reads the header of a file.
+     * @param {Uint8Array} bytes
+     * @returns {Elf}
+     */
+    static parse(bytes) { return new Elf(bytes); }
+
+    constructor(bytes) {
+        this.#memory = new Memory(bytes);
+        const header = this.#memory.ask('goblin_header', 'header');
+        this.#memory.give(HEADER, 'header', header);
+        /** @type {Readonly<Header>} */
+        this.header = Object.freeze(header);
+    }
+
+    // A call that is handed the header.
+    #ask(call, kind, ...given) { return this.#memory.ask(call, kind, this.#memory.address(HEADER), ...given); }
+
+    /** Whether the file is of the 64-bit class. */
+    is_64() { return this.header.ei_class === 2; }
+
+    /** Whether the lowest byte of a number comes first. */
+    little_endian() { return this.header.ei_data !== 2; }
+
+    /**
+     * All program headers.
+     * @returns {List<ProgramHeader>}
+     */
+    program_headers() { return new List(this.#memory, 'segment', [], { has_many: false }); }
+
+    /**
+     * All section headers.
+     * @returns {List<SectionHeader>}
+     */
+    section_headers() { return new List(this.#memory, 'section', []); }
+
+    /**
+     * The index of the first section with a name.
+     * @param {string} name
+     * @returns {number | undefined}
+     */
+    section_by_name(name) {
+        const bytes = this.#memory.give_bytes(encoder.encode(name));
+        const names = this.#memory.give(NAMES, 'range', this.shdr_strtab().range);
+        return as_index(this.#ask('goblin_section_by_name', 'number', names, ...bytes));
+    }
+
+    /**
+     * The index of the first section of a type, an SHT_ number, from an index on.
+     * @param {number} sh_type
+     * @param {number | bigint} [first]
+     * @returns {number | undefined}
+     */
+    section_by_type(sh_type, first = 0) {
+        return as_index(this.#ask('goblin_section_by_type', 'number', unsigned(sh_type, 32), unsigned(first, 64)));
+    }
+
+    /**
+     * Where the bytes of a section lie in the file, or nothing where it has none there.
+     * @param {SectionHeader} section
+     * @returns {Range | undefined}
+     */
+    section_range(section) {
+        return this.#memory.ask('goblin_section_bytes', 'range', this.#memory.give(GIVEN, 'section', section));
+    }
+
+    /**
+     * Where the bytes of a segment lie in the file, or nothing where it has none there.
+     * @param {ProgramHeader} segment
+     * @returns {Range | undefined}
+     */
+    segment_range(segment) {
+        return this.#memory.ask('goblin_segment_bytes', 'range', this.#memory.give(GIVEN, 'segment', segment));
+    }
+
+    /**
+     * The bytes of a section, or nothing where it has none in the file.
+     * @param {SectionHeader} section
+     * @returns {Uint8Array | undefined}
+     */
+    section_data(section) {
+        const range = this.section_range(section);
+        return range && this.#memory.bytes(range);
+    }
+
+    /**
+     * The bytes of a segment, or nothing where it has none in the file.
+     * @param {ProgramHeader} segment
+     * @returns {Uint8Array | undefined}
+     */
+    segment_data(segment) {
+        const range = this.segment_range(segment);
+        return range && this.#memory.bytes(range);
+    }
+
+    /**
+     * The number that 1, 2, 4 or 8 bytes at an offset of the file stand for, in the file's order. There is none of another width.
+     * @param {number | bigint} offset
+     * @param {number} width
+     * @returns {bigint | undefined}
+     */
+    number(offset, width) {
+        return this.#ask('goblin_number', 'number', unsigned(offset, 64), unsigned(width, 64))?.value;
+    }
+
+    /**
+     * The sections' names: an empty table where the file has none.
+     * @returns {Strtab}
+     */
+    shdr_strtab() { return new Strtab(this.#memory, range_of(this.#ask('goblin_section_names', 'section'))); }
+
+    /**
+     * The strings of a section: an empty table where it has no bytes in the file.
+     * @param {SectionHeader} section
+     * @returns {Strtab}
+     */
+    strtab(section) { return new Strtab(this.#memory, range_of(section)); }
+
+    /**
+     * The symbols of a section, with the names that the section at its `sh_link` holds: none where there is no such section.
+     * @param {SectionHeader} section
+     * @returns {Symtab}
+     */
+    symtab(section) {
+        const names = this.#ask('goblin_table', 'section', unsigned(section.sh_link, 64));
+        return new Symtab(this.#memory, range_of(section), new Strtab(this.#memory, range_of(names)));
+    }
+
+    /**
+     * The first table of symbols that has all of them, if there is one.
+     * @returns {Symtab | undefined}
+     */
+    syms() { return this.#first_symtab(SHT_SYMTAB); }
+
+    /**
+     * The first table of the symbols that are wanted when the program runs, if there is one.
+     * @returns {Symtab | undefined}
+     */
+    dynsyms() { return this.#first_symtab(SHT_DYNSYM); }
+
+    #first_symtab(sh_type) {
+        const at = this.section_by_type(sh_type);
+        const section = at === undefined ? undefined : this.section_headers().get(at);
+        return section && this.symtab(section);
+    }
+
+    /**
+     * The relocations of a section of type SHT_RELA or SHT_REL.
+     * @param {SectionHeader} section
+     * @returns {List<Reloc>}
+     */
+    relocs(section) {
+        return new List(this.#memory, 'reloc', [Number(section.sh_type === SHT_RELA)], { range: range_of(section), made: reloc });
+    }
+
+    /**
+     * All sections of relocations, each with its relocations.
+     * @returns {Generator<[SectionHeader, List<Reloc>]>}
+     */
+    *shdr_relocs() {
+        for (const section of this.section_headers()) {
+            if (section.sh_type === SHT_RELA || section.sh_type === SHT_REL) yield [section, this.relocs(section)];
+        }
+    }
+
+    /**
+     * The notes of a section.
+     * @param {SectionHeader} section
+     * @returns {Generator<Note>}
+     */
+    notes(section) { return this.#notes_of(range_of(section), section.sh_addralign); }
+
+    /**
+     * The notes of a segment.
+     * @param {ProgramHeader} segment
+     * @returns {Generator<Note>}
+     */
+    segment_notes(segment) { return this.#notes_of({ offset: segment.p_offset, size: segment.p_filesz }, segment.p_align); }
+
+    *#notes_of(range, alignment) {
+        for (let next = range.offset; ;) {
+            const given = this.#memory.give(GIVEN, 'range', range);
+            const told = this.#ask('goblin_note', 'note', given, unsigned(alignment, 64), next);
+            if (!told) return;
+            next = told.next;
+            yield new Note(this.#memory, told);
+        }
+    }
+
+    /**
+     * The notes of all segments of type PT_NOTE.
+     * @returns {Generator<Note>}
+     */
+    *iter_note_headers() {
+        for (const segment of this.program_headers()) if (segment.p_type === PT_NOTE) yield* this.segment_notes(segment);
+    }
+
+    /**
+     * The notes of all sections of type SHT_NOTE.
+     * @returns {Generator<Note>}
+     */
+    *iter_note_sections() {
+        for (const section of this.section_headers()) if (section.sh_type === SHT_NOTE) yield* this.notes(section);
+    }
+}
+
+const as_index = (told) => (told ? Number(told.value) : undefined);
+
+// The bytes of a section in the file: none of no section, and of one that has none there, whatever its size.
+function range_of(section) {
+    if (!section || section.sh_type === SHT_NOBITS) return { offset: 0n, size: 0n };
+    return { offset: section.sh_offset, size: section.sh_size };
+}
+
+function reloc({ r_offset, r_sym, r_addend, r_type, has_addend }) {
+    return { r_offset, r_sym, r_addend: has_addend ? r_addend : undefined, r_type };
+}
+
+/**
+ * A list of a file. To go over it asks for some items at a time.
+ * @template T
+ */
+export class List {
+    #memory; #kind; #given; #range; #made; #has_many;
+
+    /** @param {Memory} memory */
+    constructor(memory, kind, given, { range = undefined, made = (item) => item, has_many = true } = {}) {
+        this.#memory = memory;
+        this.#kind = kind;
+        this.#given = given;
+        this.#range = range;
+        this.#made = made;
+        this.#has_many = has_many;
+    }
+
+    #hand_over() {
+        const range = this.#range ? [this.#memory.give(GIVEN, 'range', this.#range)] : [];
+        return [this.#memory.address(HEADER), ...range, ...this.#given];
+    }
+
+    /** How many items there are. @returns {number} */
+    get length() { return Number(this.#memory.ask(`goblin_${this.#kind}_count`, 'number', ...this.#hand_over()).value); }
+
+    /**
+     * The item at an index, or nothing past the last one.
+     * @param {number | bigint} index
+     * @returns {T | undefined}
+     */
+    get(index) {
+        const item = this.#memory.ask(`goblin_${this.#kind}`, this.#kind, ...this.#hand_over(), unsigned(index, 64));
+        return item && this.#made(item);
+    }
+
+    /**
+     * At most so many items from an index on, some at a time.
+     * @param {number | bigint} [first]
+     * @param {number} [most]
+     * @returns {Generator<T>}
+     */
+    *from(first = 0, most = Infinity) {
+        for (let next = unsigned(first, 64), left = most; left > 0;) {
+            const items = this.#has_many
+                ? this.#memory.ask_many(`goblin_${this.#kind}s`, this.#kind, left, next, ...this.#hand_over())
+                : [this.get(next)].filter((item) => item);
+            if (items.length === 0) return;
+            for (const item of items) yield this.#has_many ? this.#made(item) : item;
+            next += BigInt(items.length);
+            left -= items.length;
+        }
+    }
+
+    /** @returns {Generator<T>} */
+    [Symbol.iterator]() { return this.from(); }
+}
+
+/**
+ * A table of symbols, with their names.
+ * @extends {List<Sym>}
+ */
+export class Symtab extends List {
+    #memory; #range;
+
+    constructor(memory, range, strtab) {
+        super(memory, 'symbol', [], { range });
+        this.#memory = memory;
+        this.#range = range;
+        /** @type {Strtab} */
+        this.strtab = strtab;
+    }
+
+    /**
+     * The name of a symbol, or nothing where it lies past the string table. Refused where it is no text.
+     * @param {Sym} symbol
+     * @returns {string | undefined}
+     */
+    name(symbol) { return this.strtab.get(symbol.st_name); }
+
+    /**
+     * The bytes of a symbol's name, text or not, or nothing where it lies past the string table.
+     * @param {Sym} symbol
+     * @returns {Uint8Array | undefined}
+     */
+    name_bytes(symbol) { return this.strtab.get_bytes(symbol.st_name); }
+
+    /**
+     * The index of the symbol that an address lies in: the highest one at it or below it, as `goblin.h` says.
+     * @param {number | bigint} address
+     * @returns {number | undefined}
+     */
+    at(address) {
+        const memory = this.#memory;
+        const table = memory.give(GIVEN, 'range', this.#range);
+        return as_index(memory.ask('goblin_symbol_by_address', 'number', memory.address(HEADER), table, unsigned(address, 64)));
+    }
+
+    /**
+     * The index of the first symbol with a name.
+     * @param {string} name
+     * @returns {number | undefined}
+     */
+    find(name) {
+        const memory = this.#memory;
+        const bytes = memory.give_bytes(encoder.encode(name));
+        const table = memory.give(GIVEN, 'range', this.#range);
+        const names = memory.give(NAMES, 'range', this.strtab.range);
+        return as_index(memory.ask('goblin_symbol_by_name', 'number', memory.address(HEADER), table, names, ...bytes));
+    }
+}
+
+/** A string table: a range of the file. */
+export class Strtab {
+    #memory;
+
+    constructor(memory, range) {
+        this.#memory = memory;
+        /** @type {Range} */
+        this.range = range;
+    }
+
+    #ask(call, range, offset) {
+        return this.#memory.ask(call, 'range', this.#memory.give(NAMES, 'range', range), unsigned(offset, 64));
+    }
+
+    /**
+     * The string at an offset from the table's start, or nothing past its end. Refused where it is no UTF-8.
+     * @param {number | bigint} offset
+     * @returns {string | undefined}
+     */
+    get(offset) {
+        const place = this.#ask('goblin_string', this.range, offset);
+        return place && this.#memory.string(place);
+    }
+
+    /**
+     * The bytes of the string at an offset, text or not, or nothing past the table's end.
+     * @param {number | bigint} offset
+     * @returns {Uint8Array | undefined}
+     */
+    get_bytes(offset) {
+        const place = this.#ask('goblin_string_bytes', this.range, offset);
+        return place && this.#memory.bytes(place);
+    }
+
+    /**
+     * The first bytes of that string, at most so many: it looks at no more of them. Refused as `get_bytes` is.
+     * @param {number | bigint} offset
+     * @param {number} most
+     * @returns {Uint8Array | undefined}
+     */
+    get_start(offset, most) {
+        const { offset: start, size } = this.range;
+        this.#ask('goblin_string_bytes', this.range, size);
+        const at = unsigned(offset, 64);
+        if (at >= size) return undefined;
+        const left = size - at < BigInt(most) ? size - at : BigInt(most);
+        const place = this.#ask('goblin_string_bytes', { offset: start + at, size: left }, 0);
+        return place && this.#memory.bytes(place);
+    }
+}
+
+/** A note. */
+export class Note {
+    #memory;
+
+    constructor(memory, { name_offset, name_size, desc_offset, desc_size, n_type }) {
+        this.#memory = memory;
+        /** @type {number} its type, which the name gives its meaning: see `type_to_str` */
+        this.n_type = n_type;
+        /** @type {Range} where its name lies, without the zero byte that closes it */
+        this.name_range = { offset: name_offset, size: name_size };
+        /** @type {Range} where its descriptor lies */
+        this.desc_range = { offset: desc_offset, size: desc_size };
+    }
+
+    /** Its name. @returns {string} */
+    get name() { return this.#memory.string(this.name_range); }
+
+    /** Its descriptor. @returns {Uint8Array} */
+    get desc() { return this.#memory.bytes(this.desc_range); }
+
+    /** The name of its type, as NT_GNU_BUILD_ID, or NT_UNKNOWN. @returns {string} */
+    type_to_str() {
+        const { offset, size } = this.name_range;
+        return this.#memory.text('goblin_note_type_to_str', this.#memory.address(FILE + Number(offset)), size, this.n_type);
+    }
+}
+
+// ---- names of numbers ----
+
+const name_of = (call, number, bits) => {
+    if (!shared) throw new Error('goblin.js is not ready: await init() first');
+    return shared.text(call, unsigned(number, bits));
+};
+
+/** The name of a class, as ELF64, or UNKNOWN_CLASS. @param {number} ei_class */
+export const class_to_str = (ei_class) => name_of('goblin_class_to_str', ei_class, 8);
+/** The name of a file's type, as DYN, or UNKNOWN_ET. @param {number} e_type */
+export const et_to_str = (e_type) => name_of('goblin_et_to_str', e_type, 16);
+/** The name of a machine, as X86_64, or EM_UNKNOWN. @param {number} e_machine */
+export const machine_to_str = (e_machine) => name_of('goblin_machine_to_str', e_machine, 16);
+/** The name of a segment's type, as PT_LOAD, or UNKNOWN_PT. @param {number} p_type */
+export const pt_to_str = (p_type) => name_of('goblin_pt_to_str', p_type, 32);
+/** The name of a section's type, as SHT_PROGBITS, or UNKNOWN_SHT. @param {number} sh_type */
+export const sht_to_str = (sh_type) => name_of('goblin_sht_to_str', sh_type, 32);
+/** The name of one flag of a section, as SHF_WRITE, or SHF_UNKNOWN. @param {number} flag */
+export const shf_to_str = (flag) => name_of('goblin_shf_to_str', flag, 32);
+/** The name of a symbol's binding, as GLOBAL, or UNKNOWN_STB. @param {number} binding */
+export const bind_to_str = (binding) => name_of('goblin_bind_to_str', binding, 8);
+/** The name of a symbol's type, as FUNC, or UNKNOWN_STT. @param {number} type */
+export const type_to_str = (type) => name_of('goblin_type_to_str', type, 8);
+/** The name of a symbol's visibility, as HIDDEN, or UNKNOWN_STV. @param {number} visibility */
+export const visibility_to_str = (visibility) => name_of('goblin_visibility_to_str', visibility, 8);
+
+/** The binding in an `st_info`: its high four bits. @param {number} info */
+export const st_bind = (info) => info >> 4;
+/** The type in an `st_info`: its low four bits. @param {number} info */
+export const st_type = (info) => info & 0xf;
+/** The visibility in an `st_other`: its low three bits. @param {number} other */
+export const st_visibility = (other) => other & 0x7;
+
+/**
+ * What `goblin_layout` fills, read by the records of this file, each beside the library's size of it: for the test.
+ * @returns {Record<string, { item: object, size: number, told: bigint }>}
+ */
+export function layout() {
+    if (!shared) throw new Error('goblin.js is not ready: await init() first');
+    shared.calls.goblin_layout(shared.address(ROOM));
+    const kinds = ['refusal', 'range', 'header', 'section', 'segment', 'symbol', 'reloc', 'note'];
+    const start = shared.base + ROOM;
+    let at = start + 8 * kinds.length;
+    return Object.fromEntries(kinds.map((kind, i) => {
+        const { size } = records[kind];
+        const item = read(shared.view, at, records[kind]);
+        at += size;
+        return [kind, { item, size, told: shared.view.getBigUint64(start + 8 * i, true) }];
+    }));
+}

@@ -1,0 +1,256 @@
+// Whether goblin.js tells of files what a C program over the same library tells: test.mjs FOLDER DUMP FILE.. compares, line for
+// line, all that DUMP, made of faces/c/dump.c, prints of these files and of damaged copies of them with what goblin.js of the FOLDER
+// tells. And whether the module needs nothing from outside, and goblin.js knows the structs and refusals as goblin.h has them.
+import assert from 'node:assert/strict';
+import { spawnSync } from 'node:child_process';
+import { mkdtempSync, readFileSync, rmSync, writeFileSync } from 'node:fs';
+import { tmpdir } from 'node:os';
+import { join, resolve } from 'node:path';
+import { pathToFileURL } from 'node:url';
+
+const COPIES = 150, FEW = 3;
+const [, , web, dump, ...files] = process.argv;
+const goblin = await import(pathToFileURL(resolve(web, 'goblin.js')));
+
+// ---- what goblin.h says ----
+
+const header = readFileSync(new URL('../c/goblin.h', import.meta.url), 'utf8');
+
+// Each byte of a struct's first field is 1, of its second 2, and so on, by the library's own word.
+function check_layout() {
+    const fields = { refusal: 6, range: 2, header: 18, section: 10, segment: 8, symbol: 6, reloc: 5, note: 6 };
+    const layout = goblin.layout();
+    assert.deepEqual(Object.keys(layout), Object.keys(fields));
+    for (const [kind, { item, size, told }] of Object.entries(layout)) {
+        assert.equal(BigInt(size), told, kind);
+        const values = Object.values(item);
+        assert.equal(values.length, fields[kind], kind);
+        values.forEach((value, i) => assert.match(value.toString(16), new RegExp(`^(0?${(i + 1).toString(16)})+$`), kind));
+    }
+}
+
+function check_module() {
+    const module = new WebAssembly.Module(readFileSync(join(web, 'goblin_c.wasm')));
+    assert.deepEqual(WebAssembly.Module.imports(module), []);
+    const exported = WebAssembly.Module.exports(module).map(({ name }) => name).filter((name) => name.startsWith('goblin_'));
+    const declared = [...header.matchAll(/^uint\d+_t (goblin_\w+)\(|^void (goblin_\w+)\(/gm)].map(([, call, other]) => call ?? other);
+    assert.deepEqual(exported.sort(), declared.sort());
+    console.log(`goblin_c.wasm needs nothing from outside, and has the ${declared.length} calls of goblin.h`);
+}
+
+function check_kinds() {
+    const refusals = header.split('GOBLIN_END = 1,\n')[1].split('};')[0];
+    const kinds = Object.fromEntries([...refusals.matchAll(/GOBLIN_(\w+) = (\d+)/g)].map(([, name, number]) => [name, Number(number)]));
+    assert.equal(Object.keys(kinds).length, 21);
+    assert.deepEqual({ ...goblin.Kind }, kinds);
+    assert.equal(goblin.VERSION, Number(/GOBLIN_VERSION (\d+)/.exec(header)[1]));
+}
+
+function check_arguments() {
+    const elf = goblin.Elf.parse(readFileSync(files[0]));
+    for (const wrong of [-1, 1.5, 1n << 64n]) assert.throws(() => elf.section_headers().get(wrong), RangeError);
+    assert.throws(() => elf.section_by_type(1n << 32n), RangeError);
+    assert.throws(() => goblin.machine_to_str(0x10000), RangeError);
+    const long = 'x'.repeat(1 << 20); // (for which the memory grows, with the file in it)
+    assert.equal(elf.section_by_name(long), undefined);
+    assert.equal(elf.section_by_name('.text'), 1);
+    const [first, ...rest] = [...elf.syms()].map((symbol) => elf.syms().name(symbol));
+    assert.equal(first, '');
+    assert.deepEqual([...elf.syms().from(1)].map((symbol) => elf.syms().name(symbol)), rest);
+    assert.deepEqual([...elf.syms().from(2, 3)].map((symbol) => elf.syms().name(symbol)), rest.slice(1, 4));
+    const names = elf.syms().strtab;
+    assert.equal(Buffer.from(names.get_start(1, 4)).toString(), names.get(1).slice(0, 4));
+    assert.equal(names.get_start(names.range.size, 4), undefined);
+}
+
+// ---- what dump.c prints ----
+
+// The names of goblin.js's fields where goblin.h has them otherwise.
+const IN_C = {
+    sh_offset: 'file.offset', sh_size: 'file.size', p_offset: 'file.offset', p_filesz: 'file.size', name_offset: 'name.offset',
+    name_size: 'name.size', desc_offset: 'desc.offset', desc_size: 'desc.size',
+};
+const hex = (number) => BigInt.asUintN(64, BigInt(number)).toString(16);
+const fields = (item) => Object.entries(item).map(([name, value]) => ` ${IN_C[name] ?? name}=${hex(value)}`).join('');
+const bytes = (array) => ` ${Buffer.from(array).toString('hex')}`;
+
+// All that goblin.js tells of a file, in the lines of dump.c.
+class Dump {
+    lines = [];
+
+    // A line for what is asked: what is told of it, or none, or why it is refused. Whether something was told.
+    ask(what, told, put = (item) => (typeof item === 'object' ? fields(item) : ` ${hex(item)}`)) {
+        let item;
+        try {
+            item = told();
+        } catch (error) {
+            if (!(error instanceof goblin.GoblinError)) throw error;
+            const { kind, item, numbers: [first, second, third, fourth], message } = error;
+            this.lines.push(`${what}${fields({ kind, item, first, second, third, fourth })} ${message}`);
+            return undefined;
+        }
+        this.lines.push(what + (item === undefined ? ' none' : put(item)));
+        return item;
+    }
+
+    string(strtab, offset) {
+        const text = this.ask('goblin_string', () => strtab.get(offset), (told) => bytes(Buffer.from(told)));
+        this.ask('goblin_string_bytes', () => strtab.get_bytes(offset), bytes);
+        return text;
+    }
+
+    symbol(symtab, index, told = () => symtab.get(index)) {
+        const names = ({ st_info, st_other }) => ` ${goblin.bind_to_str(goblin.st_bind(st_info))} `
+            + `${goblin.type_to_str(goblin.st_type(st_info))} ${goblin.visibility_to_str(goblin.st_visibility(st_other))}`;
+        const symbol = this.ask('goblin_symbol', told, (item) => fields(item) + names(item));
+        if (!symbol) return;
+        const name = this.string(symtab.strtab, symbol.st_name);
+        if (name !== undefined) this.ask('goblin_symbol_by_name', () => symtab.find(name));
+        this.ask('goblin_symbol_by_address', () => symtab.at(symbol.st_value));
+    }
+
+    symbols(elf, section) {
+        const symtab = this.ask('goblin_table', () => elf.symtab(section), ({ strtab }) => fields(strtab.range));
+        if (!symtab) return;
+        const count = this.ask('goblin_symbol_count', () => symtab.length);
+        if (count === undefined) return;
+        const is_table = section.sh_type === goblin.SHT_SYMTAB || section.sh_type === goblin.SHT_DYNSYM;
+        let index = 0;
+        for (const symbol of symtab.from(0, is_table ? count : FEW)) this.symbol(symtab, index++, () => symbol);
+        this.symbol(symtab, Math.max(count - 1, 0));
+        this.symbol(symtab, count);
+    }
+
+    relocs(elf, section) {
+        const relocs = elf.relocs(section);
+        const is_list = section.sh_type === goblin.SHT_RELA || section.sh_type === goblin.SHT_REL;
+        const put = ({ r_offset, r_sym, r_addend, r_type }) =>
+            fields({ r_offset, r_sym, r_addend: r_addend ?? 0, r_type, has_addend: Number(r_addend !== undefined) })
+                + ` ${r_addend ?? 0}`;
+        const count = this.ask('goblin_reloc_count', () => relocs.length);
+        if (count === undefined) return;
+        for (const reloc of relocs.from(0, is_list ? count : FEW)) this.ask('goblin_reloc', () => reloc, put);
+        this.ask('goblin_reloc', () => relocs.get(count), put);
+    }
+
+    notes(notes) {
+        const put = ({ name_range, desc_range, n_type, name, desc, type }) => fields({
+            name_offset: name_range.offset, name_size: name_range.size, desc_offset: desc_range.offset, desc_size: desc_range.size,
+            next: 0, n_type,
+        }) + ` ${type}${bytes(Buffer.from(name))}${bytes(desc)}`;
+        const whole = (note) => note && { ...note, name: note.name, desc: note.desc, type: note.type_to_str() };
+        while (this.ask('goblin_note', () => whole(notes.next().value), put));
+    }
+
+    segments(elf) {
+        const list = elf.program_headers();
+        if (this.ask('goblin_segment_count', () => list.length) === undefined) return;
+        for (const segment of list) {
+            this.ask('goblin_segment', () => segment, (item) => `${fields(item)} ${goblin.pt_to_str(item.p_type)}`);
+            this.ask('goblin_segment_bytes', () => elf.segment_range(segment));
+            this.notes(elf.segment_notes(segment));
+        }
+        this.ask('goblin_segment', () => list.get(list.length));
+    }
+
+    sections(elf) {
+        const list = elf.section_headers();
+        if (this.ask('goblin_section_count', () => list.length) === undefined) return;
+        const names = this.ask('goblin_section_names', () => elf.shdr_strtab(), ({ range }) => fields(range));
+        if (!names) return;
+        let index = 0;
+        for (const section of list) {
+            const flags = Array.from({ length: 32 }, (_, bit) => 2 ** bit).filter((flag) => section.sh_flags & BigInt(flag));
+            this.ask('goblin_section', () => section, (item) =>
+                fields(item) + [goblin.sht_to_str(item.sh_type), ...flags.map(goblin.shf_to_str)].map((name) => ` ${name}`).join(''));
+            const name = this.string(names, section.sh_name);
+            if (name !== undefined) this.ask('goblin_section_by_name', () => elf.section_by_name(name));
+            this.ask('goblin_section_by_type', () => elf.section_by_type(section.sh_type, Math.floor(index / 2)));
+            this.ask('goblin_section_by_type', () => elf.section_by_type(section.sh_type, index + 1));
+            this.ask('goblin_section_bytes', () => elf.section_range(section));
+            this.symbols(elf, section);
+            this.relocs(elf, section);
+            this.notes(elf.notes(section));
+            index++;
+        }
+        this.ask('goblin_section', () => list.get(index));
+    }
+
+    numbers(elf, length) {
+        const half = BigInt(Math.floor(length / 2));
+        for (let width = 0; width <= 9; width++) {
+            for (const place of [0n, half, 2n * half - 4n]) {
+                this.ask('goblin_number', () => elf.number(BigInt.asUintN(64, place), width));
+            }
+        }
+    }
+
+    file(content, number) {
+        this.lines.push(`file ${number}`);
+        const elf = this.ask('goblin_header', () => goblin.Elf.parse(content), ({ header }) => fields(header)
+            + ` ${goblin.class_to_str(header.ei_class)} ${goblin.et_to_str(header.e_type)} ${goblin.machine_to_str(header.e_machine)}`);
+        if (!elf) return;
+        this.segments(elf);
+        this.sections(elf);
+        this.numbers(elf, content.length);
+    }
+}
+
+// ---- damaged copies ----
+
+// The next number of a sequence that is the same in each run.
+let state = 88172645463325252n;
+function any(below) {
+    for (const [by, left] of [[13n, true], [7n, false], [17n, true]]) {
+        state ^= BigInt.asUintN(64, left ? state << by : state >> by);
+    }
+    return Number(state % BigInt(below));
+}
+
+// A copy with some bytes changed, most of them among those that tell where things lie, or with the end cut off.
+function damaged(content) {
+    const copy = Buffer.from(any(4) ? content : content.subarray(0, any(content.length + 1)));
+    for (let changes = any(9); changes > 0 && copy.length > 0; changes--) {
+        const near = any(2) ? any(Math.min(64, copy.length)) : copy.length - 1 - any(Math.min(0x800, copy.length));
+        copy[any(3) ? any(copy.length) : near] = any(2) ? [0, 1, 0x7f, 0x80, 0xff][any(5)] : any(256);
+    }
+    return copy;
+}
+
+// Compares what both tell of files that lie in a folder, some at a time.
+function compare(paths) {
+    const { stdout, status } = spawnSync(dump, paths, { maxBuffer: 1 << 30 });
+    assert.equal(status, 0, 'dump.c');
+    const own = new Dump();
+    paths.forEach((path, i) => own.file(readFileSync(path), i + 1));
+    const [wanted, found] = [stdout.toString().split('\n'), [...own.lines, '']];
+    const differs = wanted.findIndex((line, i) => line !== found[i]);
+    if (differs >= 0 || wanted.length !== found.length) {
+        console.log(`line ${differs} differs:\n  C:  ${wanted[differs]}\n  JS: ${found[differs]}`);
+        process.exit(1);
+    }
+    return found;
+}
+
+await goblin.default();
+check_module();
+check_layout();
+check_kinds();
+check_arguments();
+const folder = mkdtempSync(join(tmpdir(), 'goblin-'));
+try {
+    let lines = compare(files).length, refusals = 0, copies = 0;
+    for (const file of files) {
+        const content = readFileSync(file);
+        const paths = Array.from({ length: content.length > 0x4000 ? COPIES / 10 : COPIES }, (_, i) => join(folder, `${i}`));
+        for (const path of paths) writeFileSync(path, damaged(content));
+        const told = compare(paths);
+        copies += paths.length;
+        lines += told.length;
+        refusals += told.filter((line) => line.includes(' kind=')).length;
+    }
+    assert.ok(copies >= 4 * COPIES && refusals > copies && lines > 100 * copies, 'too little was compared');
+    console.log(`goblin.js tells what C does of ${files.length} files and ${copies} damaged copies: ${lines} lines, ${refusals} refusals`);
+} finally {
+    rmSync(folder, { recursive: true });
+}
