@@ -21,3 +21,18 @@ if ! node $option -e "$memories" 2> "$folder/output"; then
     exit 0
 fi
 node $option faces/web/test.mjs "$web" "$dump" "$@" "$dump"
+
+# The page, which a headless browser opens from its folder.
+size=$(wc -c < "$web/index.html")
+if [ "$size" -gt 300000 ]; then echo "the page has $size bytes"; exit 1; fi
+for browser in chromium chromium-browser google-chrome; do
+    if command -v "$browser" > "$folder/output" 2>&1; then break; fi
+    browser=
+done
+if [ -z "$browser" ]; then
+    echo "no chromium here: the page is not opened"
+elif ! command -v readelf > "$folder/output" 2>&1; then
+    echo "no readelf here: the page is not opened"
+else
+    node faces/web/browser.mjs "$browser" "$web/index.html" "$dump" "$1" /bin/true
+fi

@@ -35,13 +35,14 @@ install_library() {
     sed 's|^license-file = .*|license-file = "LICENSE"|' faces/rust/Cargo.toml > "$to/share/goblin_c/rust/Cargo.toml"
 }
 
-# The module, and the JavaScript over it.
+# The module, the JavaScript over it, and the page, which holds both.
 install_web() {
     to=$1/share/goblin_c/web
     mkdir -p "$to"
     cp "$library" "$to/goblin_c.wasm"
     cp LICENSE faces/web/goblin.js "$to/"
     sed "s/@VERSION@/$version/" faces/web/package.json.in > "$to/package.json"
+    python3 faces/web/pack.py "$library" > "$to/index.html"
 }
 
 # Links the module; the toolchain's linker stands beside `rt`.

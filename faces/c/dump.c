@@ -121,8 +121,7 @@ static void relocs(const goblin_section_t *section) {
 
 static void notes(goblin_range_t range, uint64_t alignment) {
     goblin_note_t note;
-    for (uint64_t next = range.offset; ASK(goblin_note, note, &h, &range, alignment, next);) {
-        next = note.next, note.next = 0; /* (which no caller of goblin.js sees) */
+    for (uint64_t next = range.offset; ASK(goblin_note, note, &h, &range, alignment, next); next = note.next) {
         put_note(&note);
         TEXT(goblin_note_type_to_str, bytes + note.name.offset, (size_t)note.name.size, note.n_type);
         put_bytes(note.name), put_bytes(note.desc), putchar('\n');

@@ -24,7 +24,13 @@ export const Kind = Object.freeze({
     INTEGER_FIT: 24,
 });
 
-export const SHT_SYMTAB = 2, SHT_RELA = 4, SHT_NOTE = 7, SHT_NOBITS = 8, SHT_REL = 9, SHT_DYNSYM = 11, PT_NOTE = 4;
+export const SHT_SYMTAB = 2;
+export const SHT_RELA = 4;
+export const SHT_NOTE = 7;
+export const SHT_NOBITS = 8;
+export const SHT_REL = 9;
+export const SHT_DYNSYM = 11;
+export const PT_NOTE = 4;
 
 /**
  * A file's header. `goblin.h` says what each field is.
@@ -685,7 +691,7 @@ export class Strtab {
 export class Note {
     #memory;
 
-    constructor(memory, { name_offset, name_size, desc_offset, desc_size, n_type }) {
+    constructor(memory, { name_offset, name_size, desc_offset, desc_size, next, n_type }) {
         this.#memory = memory;
         /** @type {number} its type, which the name gives its meaning: see `type_to_str` */
         this.n_type = n_type;
@@ -693,6 +699,8 @@ export class Note {
         this.name_range = { offset: name_offset, size: name_size };
         /** @type {Range} where its descriptor lies */
         this.desc_range = { offset: desc_offset, size: desc_size };
+        /** @type {bigint} the offset at which the next note is asked for */
+        this.next = next;
     }
 
     /** Its name. @returns {string} */

@@ -134,9 +134,9 @@ class Dump {
     }
 
     notes(notes) {
-        const put = ({ name_range, desc_range, n_type, name, desc, type }) => fields({
+        const put = ({ name_range, desc_range, next, n_type, name, desc, type }) => fields({
             name_offset: name_range.offset, name_size: name_range.size, desc_offset: desc_range.offset, desc_size: desc_range.size,
-            next: 0, n_type,
+            next, n_type,
         }) + ` ${type}${bytes(Buffer.from(name))}${bytes(desc)}`;
         const whole = (note) => note && { ...note, name: note.name, desc: note.desc, type: note.type_to_str() };
         while (this.ask('goblin_note', () => whole(notes.next().value), put));
