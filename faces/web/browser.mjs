@@ -15,7 +15,7 @@ const folder = mkdtempSync(join(tmpdir(), 'goblin-'));
 
 const options = ['--headless', '--no-sandbox', '--disable-gpu', '--remote-debugging-pipe', `--user-data-dir=${folder}/profile`];
 const browser = spawn(program, options, { stdio: ['ignore', 'ignore', 'ignore', 'pipe', 'pipe'] });
-const waiting = new Map(), requests = [], faults = [];
+const waiting = new Map(), requests = [], faults = [], refusals = [];
 let asked = 0, rest = '';
 
 function receive({ id, result, error, method, params }) {
@@ -25,6 +25,8 @@ function receive({ id, result, error, method, params }) {
     }
     if (method === 'Network.requestWillBeSent') requests.push(params.request.url);
     if (method === 'Runtime.exceptionThrown') faults.push(params.exceptionDetails.exception?.description ?? params.exceptionDetails.text);
+    // (what a policy refuses is told as a message)
+    if (method === 'Log.entryAdded') refusals.push(params.entry.text);
     if (method === 'Target.attachedToTarget') watch(params.sessionId);
 }
 
@@ -44,7 +46,7 @@ function send(method, params, sessionId) {
 // Hears of the requests and faults of a page, and of its workers before they start.
 async function watch(session) {
     await Promise.all([
-        send('Network.enable', {}, session), send('Runtime.enable', {}, session),
+        send('Network.enable', {}, session), send('Runtime.enable', {}, session), send('Log.enable', {}, session),
         send('Target.setAutoAttach', { autoAttach: true, waitForDebuggerOnStart: true, flatten: true }, session),
     ]);
     await send('Runtime.runIfWaitingForDebugger', {}, session);
@@ -163,9 +165,11 @@ async function check_names() {
 async function check_requests() {
     const blocked = await evaluate(`new Promise((told) => {
         document.addEventListener('securitypolicyviolation', ({ blockedURI }) => told(blockedURI));
-        fetch('http://127.0.0.1:9/').catch(() => setTimeout(() => told('not refused by the policy'), 500));
+        fetch('http://127.0.0.1:9/asked').catch(() => setTimeout(() => told('not refused by the policy'), 500));
     })`);
-    assert.match(blocked, /^http:\/\/127\.0\.0\.1:9/);
+    assert.match(blocked, /^http:\/\/127\.0\.0\.1:9\//);
+    assert.ok(refusals.length > 0 && refusals.every((text) => text.includes('http://127.0.0.1:9/asked') && text.includes('Content Security Policy')),
+        refusals.join('\n'));
     const url = pathToFileURL(page).href;
     assert.ok(requests.includes(url));
     const others = requests.filter((request) => request !== url && !/^(blob:|data:)/.test(request));

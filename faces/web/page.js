@@ -46,7 +46,7 @@ function put_text(element, text) {
 // ---- the worker ----
 
 const waiting = new Map();
-let worker, asked = 0, on_progress = () => {};
+let worker, ready, asked = 0, on_progress = () => {};
 
 function start_worker() {
     const source = new Blob([get('worker').textContent], { type: 'text/javascript' });
@@ -742,7 +742,7 @@ async function open(file) {
     document.body.setAttribute('aria-busy', 'true');
     get('trouble').hidden = true;
     try {
-        const buffer = await file.arrayBuffer();
+        const [buffer] = await Promise.all([file.arrayBuffer(), ready]);
         const size = buffer.byteLength;
         const answer = await ask('open', buffer, [buffer]);
         if (mine !== opened) return;
@@ -793,11 +793,11 @@ async function start() {
     if (!get('worker')) return; // (the page as it stands in the repository, which says what makes it)
     get('unmade').hidden = true;
     get('drop').hidden = false;
-    set_up_files();
     set_up_map();
     set_up_tabs();
+    set_up_files();
     try {
-        await start_worker();
+        await (ready = start_worker());
     } catch (error) {
         trouble(`This page can’t read files here: ${error.message}. It needs WebAssembly memories of 64 bits: Chromium 133, Firefox 134, or later.`);
     }
