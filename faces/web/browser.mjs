@@ -78,7 +78,7 @@ async function pick(path) {
 }
 
 async function open_tab(name) {
-    await evaluate(`document.getElementById('tab-${name}').click()`);
+    await evaluate(`document.getElementById('panel').replaceChildren(); document.getElementById('tab-${name}').click()`);
     const is_open = `document.querySelector('#panel .grid[aria-label=${name}]')`;
     await until(`${is_open}?.getAttribute('aria-rowcount') === '1' || ${is_open}?.querySelector('.body .row')?.row !== undefined`);
 }

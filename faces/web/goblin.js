@@ -639,6 +639,7 @@ export class Symtab extends List {
 /** A string table: a range of the file. */
 export class Strtab {
     #memory;
+    #is_accepted = false;
 
     constructor(memory, range) {
         this.#memory = memory;
@@ -678,7 +679,8 @@ export class Strtab {
      */
     get_start(offset, most) {
         const { offset: start, size } = this.range;
-        this.#ask('goblin_string_bytes', this.range, size);
+        if (!this.#is_accepted) this.#ask('goblin_string_bytes', this.range, size);
+        this.#is_accepted = true;
         const at = unsigned(offset, 64);
         if (at >= size) return undefined;
         const left = size - at < BigInt(most) ? size - at : BigInt(most);

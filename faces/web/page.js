@@ -173,6 +173,10 @@ class Grid {
         const row = this.block(Math.floor(at / BLOCK))?.[at % BLOCK];
         if (line.row === row && row) return;
         line.row = row;
+        // (behind the cells of an item whose bytes are refused stands a word)
+        const mark = row?.[this.columns.length];
+        line.classList.toggle('bad', Boolean(mark));
+        line.title = mark ? `its bytes are ${mark}` : '';
         this.columns.forEach((column, i) => {
             const cell = line.children[i];
             if (column.put) column.put(cell, row?.[i]);
@@ -260,23 +264,24 @@ function hex_view(at, size) {
 }
 
 // Why something is refused: the library's words, what was being read, and the bytes that say where it is.
-async function refusal_of({ text, kind, what, marks }) {
+async function refusal_of({ text, kind, what, marks }, each = 16) {
     const box = make('div', { class: 'refused', role: 'group', 'aria-label': 'Refusal' },
         make('h3', {}, 'Refused: ', put_text(make('span'), text)),
         make('p', { class: 'what' }, `Refusal ${kind}, while reading ${what}.`));
     if (marks.length === 0) return box;
     const least = Math.min(...marks.map(({ at }) => at)), most = Math.max(...marks.map(({ at, size }) => at + size));
-    const first = Math.floor(least / 16) * 16;
-    const bytes = await ask('bytes', [first, Math.min(Math.ceil((most - first) / 16) * 16, 256)]);
+    const first = Math.floor(least / each) * each;
+    const bytes = await ask('bytes', [first, Math.min(Math.ceil((most - first) / each) * each, 256)]);
     const block = make('pre', { 'aria-label': 'The bytes that say so' });
-    for (let line = 0; line < bytes.length; line += 16) {
+    for (let line = 0; line < bytes.length; line += each) {
+        const row = [...bytes.subarray(line, line + each)];
+        const put = (text, i) => {
+            const place = first + line + i;
+            return marks.some(({ at, size }) => place >= at && place < at + size) ? make('b', {}, text) : text;
+        };
         block.append(make('span', {}, (first + line).toString(16).padStart(8, '0')), '  ');
-        const row = [...bytes.subarray(line, line + 16)];
-        const is_marked = row.map((_, i) => marks.some(({ at, size }) => first + line + i >= at && first + line + i < at + size));
-        row.forEach((byte, i) => block.append(is_marked[i] ? make('b', {}, byte.toString(16).padStart(2, '0')) : byte.toString(16).padStart(2, '0'), ' '));
-        block.append('   '.repeat(16 - row.length), ' ');
-        row.forEach((byte, i) => block.append(is_marked[i] ? make('b', {}, printed(byte)) : printed(byte)));
-        block.append('\n');
+        row.forEach((byte, i) => block.append(put(byte.toString(16).padStart(2, '0'), i), ' '));
+        block.append('   '.repeat(each - row.length), ' ', ...row.map((byte, i) => put(printed(byte), i)), '\n');
     }
     box.append(block);
     return box;
@@ -287,7 +292,7 @@ async function refusal_of({ text, kind, what, marks }) {
 let shown_side = 0;
 async function show_side(told) {
     const mine = ++shown_side;
-    const refused = told.refused ? await refusal_of(told.refused) : undefined;
+    const refused = told.refused ? await refusal_of(told.refused, EACH) : undefined;
     if (mine !== shown_side) return;
     const about = [told.what, told.at === undefined ? 'no bytes in the file' : `${hex(told.at)} to ${hex(told.at + told.size)}, ${plural(told.size, 'byte')}`];
     const dot = told.kind ? [make('i', { 'data-kind': told.kind })] : [];
@@ -304,6 +309,8 @@ async function show_side(told) {
 
 const LEFT = 86, BAND = 15, STEP = 23, TOP = 8, ROWS = 16;
 const map = { part: -1, over: -1, view: { start: 0, each: 1 } };
+const KIND_WORDS = { header: 'ELF header', tables: 'header tables', names: 'symbols and names' };
+const words_of = (kind) => KIND_WORDS[kind] ?? kind;
 const colour = (kind) => getComputedStyle(document.documentElement).getPropertyValue(`--${kind}`);
 
 async function show_map(size) {
@@ -327,7 +334,7 @@ function show_legend() {
     const items = [...map.KINDS, 'gap'].filter((name) => sums.has(name)).map((name) => {
         const dot = make('i');
         if (name !== 'gap') dot.style.background = colour(name);
-        return make('li', {}, dot, `${name} ${part(sums.get(name))}`);
+        return make('li', {}, dot, `${words_of(name)} ${part(sums.get(name))}`);
     });
     if (overlapped) items.push(make('li', {}, `overlapping ${part(overlapped)}`));
     if (map.segments.length) items.push(make('li', {}, 'line below: loaded'));
@@ -373,9 +380,12 @@ function draw_map() {
     const shades = map.KINDS.map(colour), gap = colour('sunk'), hatch = hatching(pen);
     const { start, each } = map.view, end = start + each * ROWS, named = [];
     const line = colour('raised');
+    let seen = { x: 0, y: -1 }; // (of parts within half a point one is drawn)
     for (let part = Math.max(part_at(start), 0); part < map.kinds.length && map.starts[part] < end; part++) {
         const from = map.starts[part], to = map.starts[part + 1];
         over_rows(from, to, (x, width, y) => {
+            if (y === seen.y && x + width < seen.x + 0.5) return;
+            seen = { x, y };
             pen.fillStyle = map.kinds[part] < 0 ? gap : shades[map.kinds[part]];
             pen.fillRect(x, y, width, BAND);
             if (map.depths[part] > 1) { pen.fillStyle = hatch; pen.fillRect(x, y, width, BAND); }
@@ -462,8 +472,9 @@ async function tell_part(part, is_chosen = false) {
     if ((is_chosen ? map.part : map.over) !== part) return;
     const size = told.end - told.start;
     const name = told.pieces[0]?.title ?? 'gap';
-    const words = [told.pieces[0]?.kind ?? 'no piece', `${hex(told.start)} to ${hex(told.end)}`, plural(size, 'byte')];
-    if (told.depth > 1) words.push(`${told.depth} pieces overlap: ${told.pieces.slice(0, 4).map(({ title }) => title).join(', ')}${told.depth > 4 ? ', …' : ''}`);
+    const kind = told.pieces[0] ? words_of(told.pieces[0].kind) : 'between pieces';
+    const words = [kind, `${hex(told.start)} to ${hex(told.end)}`, plural(size, 'byte')];
+    if (told.depth > 1) words.push(`${number(told.depth)} pieces overlap: ${told.pieces.slice(0, 4).map(({ title }) => title).join(', ')}${told.depth > 4 ? ', …' : ''}`);
     put_text(readout, `${words.join(' · ')}`);
     readout.prepend(put_text(make('b'), name), '  ');
     if (!is_chosen) return;
@@ -473,7 +484,7 @@ async function tell_part(part, is_chosen = false) {
     const top = told.pieces[0];
     const others = told.pieces.slice(1).map(({ title, start, end }) => [title, `${hex(start)} to ${hex(end)}`]);
     show_side({
-        title: name, kind: top?.kind, what: top ? `${top.kind}${told.depth > 1 ? `, ${told.depth} overlap` : ''}` : 'between pieces',
+        title: name, kind: top?.kind, what: `${kind}${told.depth > 1 ? `, ${number(told.depth)} overlap` : ''}`,
         at: top?.start ?? told.start, size: (top?.end ?? told.end) - (top?.start ?? told.start), fields: others,
     });
 }
@@ -583,6 +594,7 @@ let told, chosen_tab;
 // The tabs with how many items each has; those that are refused say so.
 function show_tabs() {
     const sum = ({ found, all }) => {
+        if (found.length > 0 && found.every(({ length }) => length === undefined)) return 'refused';
         const known = found.filter(({ length }) => length !== undefined).reduce((total, { length }) => total + length, 0);
         return all > found.length ? `${number(known)}+` : number(known);
     };
@@ -623,13 +635,13 @@ async function open_tab(name, of) {
 }
 
 function header_panel() {
-    const rows = told.header.map(({ name, at, size, value, meaning }) => {
+    const rows = told.header.map(({ name, at, size, value, meaning, words }) => {
         const row = make('tr', { tabindex: '0' }, make('th', { scope: 'row' }, name), make('td', {}, value), make('td', {}, meaning),
-            make('td', { class: 'dim' }, `${hex(at)}, ${plural(size, 'byte')}`));
+            make('td', { class: 'words' }, words), make('td', { class: 'dim' }, `${hex(at)}, ${plural(size, 'byte')}`));
         const choose = () => {
             for (const other of row.parentElement.children) other.removeAttribute('aria-selected');
             row.setAttribute('aria-selected', 'true');
-            show_side({ title: name, kind: 'header', what: 'a field of the header', at, size, fields: [['value', value], ...(meaning ? [['name', meaning]] : [])] });
+            show_side({ title: name, kind: 'header', what: words, at, size, fields: [['value', value], ...(meaning ? [['name', meaning]] : [])] });
         };
         row.addEventListener('click', choose);
         row.addEventListener('keydown', (event) => { if (event.key === 'Enter' || event.key === ' ') { event.preventDefault(); choose(); } });
@@ -746,11 +758,11 @@ async function open(file) {
         const size = buffer.byteLength;
         const answer = await ask('open', buffer, [buffer]);
         if (mine !== opened) return;
-        const first = [put_text(make('b'), file.name), plural(size, 'byte')];
+        document.title = `${file.name.replace(UNSEEN, shown)}: goblin`;
         get('start').hidden = true;
         get('refused').hidden = !answer.refused;
         get('told').hidden = Boolean(answer.refused);
-        get('file').replaceChildren(...first.map((item) => (typeof item === 'string' ? make('span', {}, item) : item)));
+        get('file').replaceChildren(put_text(make('b'), file.name), make('span', {}, plural(size, 'byte')));
         if (answer.refused) {
             get('refused').replaceChildren(...(await refusal_of(answer.refused)).childNodes);
             return;

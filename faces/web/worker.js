@@ -28,16 +28,28 @@ function text_of(bytes) {
     try {
         return strict.decode(bytes);
     } catch {
-        let text = '';
+        const units = [];
         for (let at = 0; at < bytes.length;) {
-            const width = bytes[at] < 0x80 ? 1 : bytes[at] < 0xe0 ? 2 : bytes[at] < 0xf0 ? 3 : 4;
-            let piece;
-            try { piece = strict.decode(bytes.subarray(at, at + width)); } catch { /* told below */ }
-            text += piece ?? String.fromCharCode(0xdc00 + bytes[at]);
-            at += piece === undefined ? 1 : width;
+            const { code, size } = sign_at(bytes, at);
+            if (code < 0x10000) units.push(code); else units.push(0xd7c0 + (code >> 10), 0xdc00 + (code & 0x3ff));
+            at += size;
         }
-        return text;
+        return String.fromCharCode(...units);
     }
+}
+
+// The sign at a place, or U+DC00 and the byte that stands there.
+function sign_at(bytes, at) {
+    const first = bytes[at], size = first < 0x80 ? 1 : first < 0xe0 ? 2 : first < 0xf0 ? 3 : 4;
+    let code = size === 1 ? first : first & (0x7f >> size);
+    let is_text = first < 0x80 || (first >= 0xc2 && first < 0xf5);
+    for (let i = 1; i < size && is_text; i++) {
+        is_text = (bytes[at + i] & 0xc0) === 0x80;
+        code = (code << 6) | (bytes[at + i] & 0x3f);
+    }
+    const least = [0, 0x80, 0x800, 0x10000][size - 1];
+    is_text &&= code >= least && code < 0x110000 && (code < 0xd800 || code > 0xdfff);
+    return is_text ? { code, size } : { code: 0xdc00 + first, size: 1 };
 }
 
 // The name at an offset of a table: cut where it is long, empty where there is none. A table that is refused has no names.
@@ -49,7 +61,10 @@ function name_at(strtab, offset) {
         if (!(error instanceof GoblinError)) throw error;
     }
     if (!bytes) return '';
-    return bytes.length > NAME ? `${text_of(bytes.subarray(0, NAME))}…` : text_of(bytes);
+    if (bytes.length <= NAME) return text_of(bytes);
+    let end = NAME;
+    while (end > NAME - 3 && (bytes[end] & 0xc0) === 0x80) end--;
+    return `${text_of(bytes.subarray(0, end))}…`;
 }
 
 const without = (prefix, name) => (name.startsWith(prefix) ? name.slice(prefix.length) : name);
@@ -95,6 +110,16 @@ function section_refusal(error, what, index) {
     return refusal(error, told, places_of_section(index));
 }
 
+// What a part tells, or that it is refused.
+function part(told, refused) {
+    try {
+        return told();
+    } catch (error) {
+        if (!(error instanceof GoblinError)) throw error;
+        return { refused: refused(error) };
+    }
+}
+
 // ---- lists ----
 
 const RELOC_TYPES = [goblin.SHT_REL, goblin.SHT_RELA], SYMBOL_TYPES = [goblin.SHT_SYMTAB, goblin.SHT_DYNSYM];
@@ -110,9 +135,10 @@ const sources = {
     sections() {
         const list = elf.section_headers(), names = elf.shdr_strtab();
         const name = ({ sh_name }) => name_at(names, sh_name);
+        const mark = (item) => part(() => { elf.section_range(item); return ''; }, () => true).refused && 'refused';
         const cells = (item) => [name(item), without('SHT_', goblin.sht_to_str(item.sh_type)), hex(item.sh_addr), hex(item.sh_offset),
             hex(item.sh_size), flags_of(item.sh_flags), `${item.sh_link}`, `${item.sh_info}`, `${item.sh_addralign}`,
-            `${item.sh_entsize}`];
+            `${item.sh_entsize}`, mark(item)];
         const keys = { 3: 'sh_addr', 4: 'sh_offset', 5: 'sh_size', 7: 'sh_link', 8: 'sh_info', 9: 'sh_addralign', 10: 'sh_entsize' };
         return { list, cells, name, keys, texts: { 1: name, 2: ({ sh_type }) => goblin.sht_to_str(sh_type) } };
     },
@@ -121,8 +147,9 @@ const sources = {
         const list = elf.program_headers();
         const name = ({ p_type }) => without('PT_', goblin.pt_to_str(p_type));
         const flags = ({ p_flags }) => [[4, 'R'], [2, 'W'], [1, 'X']].map(([bit, sign]) => (p_flags & bit ? sign : '·')).join(' ');
+        const mark = (item) => part(() => { elf.segment_range(item); return ''; }, () => true).refused && 'refused';
         const cells = (item) => [name(item), flags(item), hex(item.p_offset), hex(item.p_filesz), hex(item.p_vaddr), hex(item.p_memsz),
-            hex(item.p_paddr), hex(item.p_align)];
+            hex(item.p_paddr), hex(item.p_align), mark(item)];
         const keys = { 3: 'p_offset', 4: 'p_filesz', 5: 'p_vaddr', 6: 'p_memsz', 7: 'p_paddr', 8: 'p_align' };
         return { list, cells, name, keys, texts: { 1: name, 2: flags } };
     },
@@ -328,6 +355,16 @@ function map() {
 const EACH_HEADER = ['e_type', 'e_machine', 'e_version', 'e_entry', 'e_phoff', 'e_shoff', 'e_flags', 'e_ehsize', 'e_phentsize', 'e_phnum',
     'e_shentsize', 'e_shnum', 'e_shstrndx'];
 
+// What the fields are, in a few words.
+const WORDS = {
+    ei_class: 'class', ei_data: 'order of bytes', ei_version: 'version of the format', ei_osabi: 'operating system',
+    ei_abiversion: 'its version', e_type: 'what the file is', e_machine: 'machine', e_version: 'version of the format, once more',
+    e_entry: 'address at which the program starts', e_phoff: 'offset of the program headers', e_shoff: 'offset of the section headers',
+    e_flags: 'flags of the machine', e_ehsize: 'size of this header', e_phentsize: 'size of a program header',
+    e_phnum: 'number of program headers', e_shentsize: 'size of a section header', e_shnum: 'number of section headers',
+    e_shstrndx: 'index of the section with the names of sections',
+};
+
 function header_rows() {
     const { header } = elf;
     const sizes = [2, 2, 4, wide() ? 8 : 4, wide() ? 8 : 4, wide() ? 8 : 4, 4, 2, 2, 2, 2, 2, 2];
@@ -341,7 +378,7 @@ function header_rows() {
     return [...of_name, ...others].map(({ name, at, size }) => {
         const value = header[name];
         const is_address = ['e_entry', 'e_phoff', 'e_shoff', 'e_flags'].includes(name);
-        return { name, at, size, value: is_address ? hex(value) : `${value}`, meaning: names[name] ?? '' };
+        return { name, at, size, value: is_address ? hex(value) : `${value}`, meaning: names[name] ?? '', words: WORDS[name] };
     });
 }
 
@@ -358,15 +395,6 @@ function tables(types, list_of) {
         found.push({ index, name: name_at(names, section.sh_name) || `section ${index}`, length });
     }
     return { found, all };
-}
-
-// What a part tells, or that it is refused.
-function part(told, refused) {
-    try {
-        return told();
-    } catch (error) {
-        return { refused: refused(error) };
-    }
 }
 
 const calls = {
@@ -397,12 +425,12 @@ const calls = {
     },
 
     notes() {
+        // (where the headers are refused, that is told with them)
         const tell = (by) => {
-            const { items, refusals, is_cut } = notes_of(by);
-            return { length: items.length, refusals, is_cut };
+            const { refused, items, refusals, is_cut } = part(() => notes_of(by), () => []);
+            return refused ? { length: 0, refusals: refused } : { length: items.length, refusals, is_cut };
         };
-        const nothing = () => ({ length: 0, refusals: [] });
-        return { sections: part(() => tell('sections'), nothing), segments: part(() => tell('segments'), nothing) };
+        return { sections: tell('sections'), segments: tell('segments') };
     },
 
     map() {
