@@ -1,7 +1,7 @@
 #!/bin/sh
-# Whether an archive of faces/install.sh for wasm64-unknown-unknown serves: JavaScript tells of files, whole and damaged, what C does.
-# Run from the repository's root: web.sh ARCHIVE DUMP FILE.., where DUMP is made of faces/c/dump.c. What the machine hasn't is said
-# in a line, and passes.
+# Whether an archive of faces/install.sh for wasm64-unknown-unknown serves: JavaScript tells of files, whole and damaged, what C
+# does, and the page shows them in a browser. Run from the repository's root: web.sh ARCHIVE DUMP FILE.., where DUMP is made of
+# faces/c/dump.c and each FILE by faces/c/made.c. What the machine hasn't is said in a line, and passes.
 set -eu
 archive=$1
 dump=$2
@@ -12,15 +12,15 @@ trap 'exit 1' HUP INT TERM
 tar -C "$folder" -xzf "$archive"
 web=$(ls -d "$folder"/goblin_c-*)/share/goblin_c/web
 
-# Runs node with memories of 64 bits, which older ones have by a word alone.
+# (older ones have memories of 64 bits by a word alone)
 memories='process.exit(WebAssembly.validate(new Uint8Array([0, 97, 115, 109, 1, 0, 0, 0, 5, 3, 1, 4, 0])) ? 0 : 1)'
 option=
 if ! node -e "$memories"; then option=--experimental-wasm-memory64; fi
-if ! node $option -e "$memories" 2> "$folder/output"; then
-    echo "node has no memories of 64 bits here: the module for WebAssembly is not called"
-    exit 0
+if node $option -e "$memories" 2> "$folder/output"; then
+    node $option faces/web/test.mjs "$web" "$dump" "$@" "$dump"
+else
+    echo "node has no memories of 64 bits here: the module for WebAssembly is not called from it"
 fi
-node $option faces/web/test.mjs "$web" "$dump" "$@" "$dump"
 
 # The page, which a headless browser opens from its folder.
 size=$(wc -c < "$web/index.html")
@@ -29,10 +29,8 @@ for browser in chromium chromium-browser google-chrome; do
     if command -v "$browser" > "$folder/output" 2>&1; then break; fi
     browser=
 done
-if [ -z "$browser" ]; then
-    echo "no chromium here: the page is not opened"
-elif ! command -v readelf > "$folder/output" 2>&1; then
-    echo "no readelf here: the page is not opened"
+if [ -z "$browser" ] || ! command -v readelf > "$folder/output" 2>&1; then
+    echo "no chromium and readelf here: the page is not opened"
 else
     node faces/web/browser.mjs "$browser" "$web/index.html" "$dump" "$1" /bin/true
 fi

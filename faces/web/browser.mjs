@@ -1,5 +1,5 @@
 // Whether the page shows files in a browser as readelf and C tell of them: browser.mjs BROWSER PAGE DUMP MADE FILE.., where DUMP is
-// made of faces/c/dump.c and MADE is little64 of faces/c/made.c. The browser is spoken to by its pipe, and picks each file as a person
+// made of faces/c/dump.c and MADE is a file that faces/c/made.c makes. The browser is spoken to by its pipe, and picks each file as a person
 // does. No request may leave, and no name may be markup.
 import assert from 'node:assert/strict';
 import { spawn, spawnSync } from 'node:child_process';

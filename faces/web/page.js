@@ -89,7 +89,7 @@ class Grid {
         this.body = make('div', { class: 'body', role: 'rowgroup' });
         this.box = make('div', { class: `grid ${kind}`, role: 'grid', tabindex: '0', 'aria-label': label, 'aria-colcount': columns.length },
             ...(columns.some(({ title }) => title) ? [this.head] : []), this.body);
-        const least = columns.reduce((all, { least: own = 70 }) => all + own + 14, 24);
+        const least = columns.reduce((all, { least: own = 70 }) => all + own + 12, 12);
         if (kind !== 'hex') this.box.style.setProperty('--least', `${least}px`);
         this.box.style.setProperty('--high', `${high}px`);
         this.make_head();
@@ -552,12 +552,12 @@ function set_up_map() {
 const right = { is_right: true };
 const COLUMNS = {
     sections: [
-        { title: '#', wide: '48px', least: 48, is_dim: true, ...right }, { title: 'Name', wide: 'minmax(130px, 2fr)', least: 130 },
-        { title: 'Type', wide: 'minmax(90px, 1.2fr)', least: 90 }, { title: 'Address', wide: '104px', least: 104, ...right },
-        { title: 'Offset', wide: '82px', least: 82, ...right }, { title: 'Size', wide: '78px', least: 78, ...right },
-        { title: 'Flags', wide: 'minmax(90px, 1.6fr)', least: 90, sorts: false }, { title: 'Link', wide: '36px', least: 36, ...right },
-        { title: 'Info', wide: '40px', least: 40, ...right }, { title: 'Align', wide: '42px', least: 42, ...right },
-        { title: 'Entry', wide: '42px', least: 42, ...right },
+        { title: '#', wide: '36px', least: 36, is_dim: true, ...right }, { title: 'Name', wide: 'minmax(120px, 2fr)', least: 120 },
+        { title: 'Type', wide: 'minmax(84px, 1fr)', least: 84 }, { title: 'Address', wide: '90px', least: 90, ...right },
+        { title: 'Offset', wide: '68px', least: 68, ...right }, { title: 'Size', wide: '66px', least: 66, ...right },
+        { title: 'Flags', wide: 'minmax(84px, 1.6fr)', least: 84, sorts: false }, { title: 'Link', wide: '32px', least: 32, ...right },
+        { title: 'Info', wide: '32px', least: 32, ...right }, { title: 'Align', wide: '36px', least: 36, ...right },
+        { title: 'Entry', wide: '36px', least: 36, ...right },
     ],
     segments: [
         { title: '#', wide: '48px', least: 48, is_dim: true, ...right }, { title: 'Type', wide: 'minmax(110px, 1fr)', least: 110 },
