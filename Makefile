@@ -67,7 +67,7 @@ bench-faces:
 
 # Installs the library with its header, pkg-config file and Rust crate: make install PREFIX=/usr/local [DESTDIR=/tmp/root]
 # [CPU=x86-64-v2] [TARGET=aarch64-unknown-linux-gnu]; or puts the same into an archive, whose name has the version and the
-# target: make dist [TARGET=aarch64-unknown-linux-gnu]
+# target: make dist [TARGET=aarch64-unknown-linux-gnu]. TARGET=wasm64-unknown-unknown makes the module, its JavaScript and the page.
 PREFIX ?= /usr/local
 export CPU TARGET
 install:
