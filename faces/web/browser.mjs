@@ -161,6 +161,30 @@ async function check_names() {
     assert.deepEqual(await cells(7), [markup]);
 }
 
+async function press(...keys) {
+    for (const key of keys) {
+        await send('Input.dispatchKeyEvent', { type: 'keyDown', key, code: key }, tab);
+        await send('Input.dispatchKeyEvent', { type: 'keyUp', key, code: key }, tab);
+    }
+}
+
+// By the keyboard: the map's parts, in words too, a row of a list, and the next tab.
+async function check_keys() {
+    await pick(made);
+    await open_tab('sections');
+    await evaluate(`document.getElementById('canvas').focus()`);
+    await press('ArrowRight');
+    await until(`document.getElementById('canvas').ariaValueText?.startsWith('ELF header: ')`);
+    await evaluate(`document.querySelector('#panel .grid').focus()`);
+    await press('ArrowDown', 'ArrowDown', 'ArrowDown', 'ArrowUp');
+    await until(`document.querySelector('#side h2').textContent === '.text'`);
+    const active = await evaluate(`document.getElementById(document.activeElement.getAttribute('aria-activedescendant')).children[1].textContent`);
+    assert.equal(active, '.text');
+    await evaluate(`document.getElementById('tab-sections').focus()`);
+    await press('ArrowRight');
+    await until(`document.activeElement.id === 'tab-segments' && document.activeElement.ariaSelected === 'true'`);
+}
+
 // (that requests are heard of is known by that for the page)
 async function check_requests() {
     const blocked = await evaluate(`new Promise((told) => {
@@ -189,8 +213,10 @@ try {
     await check_refusal(content.subarray(0, 40), 'the file’s header');
     await check_refusal(Buffer.concat([Buffer.from('MZ'), content.subarray(2)]), 'the file’s header');
     await check_names();
+    await check_keys();
     await check_requests();
-    console.log(`the page shows ${files.length + 1} files as readelf does, refuses in words, shows names as text, and asks for nothing`);
+    console.log(`the page shows ${files.length + 1} files as readelf does, refuses in words, shows names as text, goes by keys,`
+        + ' and asks for nothing');
 } finally {
     const ended = new Promise((resolve) => browser.on('exit', resolve));
     browser.kill();
