@@ -1,6 +1,6 @@
 // Whether the page shows files in a browser as readelf and C tell of them: browser.mjs BROWSER PAGE DUMP MADE FILE.., where DUMP is
-// made of faces/c/dump.c and MADE is a file that faces/c/made.c makes. The browser is spoken to by its pipe, and picks each file as a person
-// does. No request may leave, and no name may be markup.
+// made of faces/c/dump.c and MADE is a file that faces/c/made.c makes. The browser is spoken to by its pipe, and picks each file as a
+// person does. No request may leave, and no name may be markup.
 import assert from 'node:assert/strict';
 import { spawn, spawnSync } from 'node:child_process';
 import { mkdtempSync, readFileSync, rmSync, writeFileSync } from 'node:fs';
@@ -178,8 +178,8 @@ async function check_keys() {
     await evaluate(`document.querySelector('#panel .grid').focus()`);
     await press('ArrowDown', 'ArrowDown', 'ArrowDown', 'ArrowUp');
     await until(`document.querySelector('#side h2').textContent === '.text'`);
-    const active = await evaluate(`document.getElementById(document.activeElement.getAttribute('aria-activedescendant')).children[1].textContent`);
-    assert.equal(active, '.text');
+    const active = `document.activeElement.getAttribute('aria-activedescendant')`;
+    assert.equal(await evaluate(`document.getElementById(${active}).children[1].textContent`), '.text');
     await evaluate(`document.getElementById('tab-sections').focus()`);
     await press('ArrowRight');
     await until(`document.activeElement.id === 'tab-segments' && document.activeElement.ariaSelected === 'true'`);
@@ -192,8 +192,8 @@ async function check_requests() {
         fetch('http://127.0.0.1:9/asked').catch(() => setTimeout(() => told('not refused by the policy'), 500));
     })`);
     assert.match(blocked, /^http:\/\/127\.0\.0\.1:9\//);
-    assert.ok(refusals.length > 0 && refusals.every((text) => text.includes('http://127.0.0.1:9/asked') && text.includes('Content Security Policy')),
-        refusals.join('\n'));
+    const is_asked = (text) => text.includes('http://127.0.0.1:9/asked') && text.includes('Content Security Policy');
+    assert.ok(refusals.length > 0 && refusals.every(is_asked), refusals.join('\n'));
     const url = pathToFileURL(page).href;
     assert.ok(requests.includes(url));
     const others = requests.filter((request) => request !== url && !/^(blob:|data:)/.test(request));

@@ -25,7 +25,8 @@ const UNSEEN = /[\p{Cc}\p{Cf}\p{Zl}\p{Zp}\p{Cs}\p{Co}\p{Cn}]|(?! )\p{Zs}/gu;
 
 function shown(sign) {
     const code = sign.codePointAt(0);
-    return code >= 0xdc80 && code <= 0xdcff ? `\\x${(code - 0xdc00).toString(16)}` : `U+${code.toString(16).toUpperCase().padStart(4, '0')}`;
+    if (code >= 0xdc80 && code <= 0xdcff) return `\\x${(code - 0xdc00).toString(16)}`;
+    return `U+${code.toString(16).toUpperCase().padStart(4, '0')}`;
 }
 
 function put_text(element, text) {
@@ -294,15 +295,17 @@ async function show_side(told) {
     const mine = ++shown_side;
     const refused = told.refused ? await refusal_of(told.refused, EACH) : undefined;
     if (mine !== shown_side) return;
-    const about = [told.what, told.at === undefined ? 'no bytes in the file' : `${hex(told.at)} to ${hex(told.at + told.size)}, ${plural(told.size, 'byte')}`];
+    const { at, size } = told;
+    const lies = at === undefined ? 'no bytes in the file' : `${hex(at)} to ${hex(at + size)}, ${plural(size, 'byte')}`;
     const dot = told.kind ? [make('i', { 'data-kind': told.kind })] : [];
     dot.forEach((element) => { element.style.background = colour(told.kind); });
     const title = put_text(make('h2'), told.title);
-    const rows = (told.fields ?? []).map(([name, value]) => make('tr', {}, make('th', { scope: 'row' }, name), put_text(make('td'), value)));
+    const rows = (told.fields ?? []).map(([name, value]) =>
+        make('tr', {}, make('th', { scope: 'row' }, name), put_text(make('td'), value)));
     const list = rows.length ? [make('div', { class: 'list' }, make('table', { class: 'fields' }, make('tbody', {}, ...rows)))] : [];
-    const sub = refused ? [told.what ?? ''] : about.filter((text) => text);
-    get('side').replaceChildren(title, make('p', { class: 'sub' }, ...dot, sub.join(' · ')), ...(refused ? [refused] : []), ...list,
-        ...(told.size > 0 ? [hex_view(told.at, told.size)] : []));
+    const sub = refused ? told.what : `${told.what} · ${lies}`;
+    get('side').replaceChildren(title, make('p', { class: 'sub' }, ...dot, sub), ...(refused ? [refused] : []), ...list,
+        ...(size > 0 ? [hex_view(at, size)] : []));
 }
 
 // ---- the map ----
@@ -474,7 +477,9 @@ async function tell_part(part, is_chosen = false) {
     const name = told.pieces[0]?.title ?? 'gap';
     const kind = told.pieces[0] ? words_of(told.pieces[0].kind) : 'between pieces';
     const words = [kind, `${hex(told.start)} to ${hex(told.end)}`, plural(size, 'byte')];
-    if (told.depth > 1) words.push(`${number(told.depth)} pieces overlap: ${told.pieces.slice(0, 4).map(({ title }) => title).join(', ')}${told.depth > 4 ? ', …' : ''}`);
+    const titles = told.pieces.slice(0, 4).map(({ title }) => title);
+    if (told.depth > 4) titles.push('…');
+    if (told.depth > 1) words.push(`${number(told.depth)} pieces overlap: ${titles.join(', ')}`);
     put_text(readout, `${words.join(' · ')}`);
     readout.prepend(put_text(make('b'), name), '  ');
     if (!is_chosen) return;
@@ -533,8 +538,8 @@ function set_up_map() {
             ArrowRight: () => choose_part(map.part + 1), ArrowLeft: () => choose_part(map.part - 1), Home: () => choose_part(0),
             ArrowDown: () => choose_part(Math.max(part_at(middle() + map.view.each), map.part + 1)),
             ArrowUp: () => choose_part(Math.min(part_at(Math.max(middle() - map.view.each, 0)), Math.max(map.part - 1, 0))),
-            End: () => choose_part(map.kinds.length), '+': () => look(middle(), map.view.each / 2), '-': () => look(middle(), map.view.each * 2),
-            0: () => look(0, map.whole),
+            End: () => choose_part(map.kinds.length), 0: () => look(0, map.whole),
+            '+': () => look(middle(), map.view.each / 2), '-': () => look(middle(), map.view.each * 2),
         };
         if (!(event.key in keys) || event.ctrlKey || event.metaKey) return;
         event.preventDefault();
@@ -549,43 +554,34 @@ function set_up_map() {
 
 // ---- tabs ----
 
-const right = { is_right: true };
+// Columns: their titles, and how wide they are at least, with a share of what is left or without.
+const wide = (least, share) => (share ? `minmax(${least}px, ${share}fr)` : `${least}px`);
+const left = (title, least, share, sorts = true) => ({ title, least, wide: wide(least, share), sorts });
+const right = (title, least, share, sorts = true) => ({ ...left(title, least, share, sorts), is_right: true });
+const place = (least) => ({ ...right('#', least), is_dim: true });
+
 const COLUMNS = {
     sections: [
-        { title: '#', wide: '36px', least: 36, is_dim: true, ...right }, { title: 'Name', wide: 'minmax(120px, 2fr)', least: 120 },
-        { title: 'Type', wide: 'minmax(84px, 1fr)', least: 84 }, { title: 'Address', wide: '90px', least: 90, ...right },
-        { title: 'Offset', wide: '68px', least: 68, ...right }, { title: 'Size', wide: '66px', least: 66, ...right },
-        { title: 'Flags', wide: 'minmax(84px, 1.6fr)', least: 84, sorts: false }, { title: 'Link', wide: '32px', least: 32, ...right },
-        { title: 'Info', wide: '32px', least: 32, ...right }, { title: 'Align', wide: '36px', least: 36, ...right },
-        { title: 'Entry', wide: '36px', least: 36, ...right },
+        place(36), left('Name', 120, 2), left('Type', 84, 1), right('Address', 90), right('Offset', 68), right('Size', 66),
+        left('Flags', 84, 1.6, false), right('Link', 32), right('Info', 32), right('Align', 36), right('Entry', 36),
     ],
     segments: [
-        { title: '#', wide: '48px', least: 48, is_dim: true, ...right }, { title: 'Type', wide: 'minmax(110px, 1fr)', least: 110 },
-        { title: 'Flags', wide: '56px', least: 56 }, { title: 'Offset', wide: 'minmax(80px, 1fr)', ...right },
-        { title: 'In the file', wide: 'minmax(80px, 1fr)', ...right }, { title: 'Address', wide: 'minmax(96px, 1fr)', ...right },
-        { title: 'In memory', wide: 'minmax(80px, 1fr)', ...right }, { title: 'Physical', wide: 'minmax(96px, 1fr)', ...right },
-        { title: 'Align', wide: '72px', ...right },
+        place(48), left('Type', 110, 1), left('Flags', 56), right('Offset', 80, 1), right('In the file', 80, 1), right('Address', 96, 1),
+        right('In memory', 80, 1), right('Physical', 96, 1), right('Align', 72),
     ],
     symbols: [
-        { title: '#', wide: '64px', least: 64, is_dim: true, ...right }, { title: 'Value', wide: 'minmax(90px, 150px)', least: 90, ...right },
-        { title: 'Size', wide: '74px', least: 74, ...right }, { title: 'Type', wide: '76px', least: 76 }, { title: 'Binding', wide: '64px', least: 64 },
-        { title: 'Visibility', wide: '78px', least: 78 }, { title: 'Section', wide: 'minmax(84px, 0.5fr)', least: 84 },
-        { title: 'Name', wide: 'minmax(180px, 2fr)', least: 180 },
+        place(64), right('Value', 90, 0.6), right('Size', 74), left('Type', 76), left('Binding', 64), left('Visibility', 78),
+        left('Section', 84, 0.5), left('Name', 180, 2),
     ],
     relocations: [
-        { title: '#', wide: '64px', least: 64, is_dim: true, ...right }, { title: 'Offset', wide: 'minmax(96px, 160px)', least: 96, ...right },
-        { title: 'Type', wide: '60px', least: 60, ...right }, { title: 'Index', wide: '70px', least: 70, ...right },
-        { title: 'Addend', wide: 'minmax(90px, 150px)', least: 90, ...right }, { title: 'Symbol', wide: 'minmax(180px, 2fr)', least: 180 },
+        place(64), right('Offset', 96, 0.6), right('Type', 60), right('Index', 70), right('Addend', 90, 0.6), left('Symbol', 180, 2),
     ],
     notes: [
-        { title: '#', wide: '48px', least: 48, is_dim: true, ...right }, { title: 'From', wide: 'minmax(120px, 1fr)', least: 120, sorts: false },
-        { title: 'Name', wide: 'minmax(80px, 0.6fr)', least: 80 }, { title: 'Type', wide: 'minmax(150px, 1fr)', least: 150 },
-        { title: 'Bytes', wide: '56px', least: 56, sorts: false, ...right }, { title: 'Descriptor', wide: 'minmax(200px, 2fr)', least: 200, sorts: false },
+        place(48), left('From', 120, 1, false), left('Name', 80, 0.6), left('Type', 150, 1), right('Bytes', 56, 0, false),
+        left('Descriptor', 200, 2, false),
     ],
     layout: [
-        { title: '#', wide: '56px', least: 56, is_dim: true, ...right }, { title: 'From', wide: '96px', least: 96, ...right }, { title: 'To', wide: '96px', least: 96, ...right },
-        { title: 'Bytes', wide: '96px', least: 96, ...right }, { title: 'Part', wide: '72px', least: 72, ...right },
-        { title: 'What', wide: 'minmax(160px, 2fr)', least: 160 }, { title: 'Overlap', wide: 'minmax(120px, 1fr)', least: 120 },
+        place(56), right('From', 96), right('To', 96), right('Bytes', 96), right('Part', 72), left('What', 160, 2), left('Overlap', 120, 1),
     ],
 };
 
@@ -641,19 +637,28 @@ function header_panel() {
         const choose = () => {
             for (const other of row.parentElement.children) other.removeAttribute('aria-selected');
             row.setAttribute('aria-selected', 'true');
-            show_side({ title: name, kind: 'header', what: words, at, size, fields: [['value', value], ...(meaning ? [['name', meaning]] : [])] });
+            const fields = [['value', value], ...(meaning ? [['name', meaning]] : [])];
+            show_side({ title: name, kind: 'header', what: words, at, size, fields });
         };
         row.addEventListener('click', choose);
-        row.addEventListener('keydown', (event) => { if (event.key === 'Enter' || event.key === ' ') { event.preventDefault(); choose(); } });
+        row.addEventListener('keydown', (event) => {
+            if (event.key !== 'Enter' && event.key !== ' ') return;
+            event.preventDefault();
+            choose();
+        });
         return row;
     });
-    return [make('div', { class: 'scroll' }, make('table', { class: 'fields', 'aria-label': 'Fields of the header' }, make('tbody', {}, ...rows)))];
+    const table = make('table', { class: 'fields', 'aria-label': 'Fields of the header' }, make('tbody', {}, ...rows));
+    return [make('div', { class: 'scroll' }, table)];
 }
 
 // Which tables of symbols, relocations or notes there are to choose from.
 function choices(name) {
     if (name === 'notes') {
-        return ['sections', 'segments'].map((by) => ({ of: by, text: `of ${by} (${number(told.notes[by].length)})`, length: told.notes[by].length }));
+        return ['sections', 'segments'].map((by) => {
+            const { length } = told.notes[by];
+            return { of: by, text: `of ${by} (${number(length)})`, length };
+        });
     }
     return told[name].found.map(({ index, name: title, length }) =>
         ({ of: index, text: `${title} (${length === undefined ? 'refused' : number(length)})`, length }));
@@ -713,7 +718,9 @@ function tools(name, list, state, refresh, output, below) {
     const hidden = (told[name]?.all ?? 0) - (told[name]?.found?.length ?? 0);
     if (hidden > 0) bar.append(make('span', {}, `and ${number(hidden)} more: choose them among the sections`));
     const hint = name === 'symbols' ? 'name, or 0x… for an address' : 'name';
-    const search = make('input', { type: 'search', placeholder: `Search: ${hint}`, 'aria-label': `Search ${name} by ${hint}`, spellcheck: 'false', autocomplete: 'off' });
+    const search = make('input', {
+        type: 'search', placeholder: `Search: ${hint}`, 'aria-label': `Search ${name} by ${hint}`, spellcheck: 'false', autocomplete: 'off',
+    });
     let soon;
     search.addEventListener('input', () => {
         clearTimeout(soon);
@@ -783,7 +790,8 @@ async function show_file(answer, size) {
     told.notes = await ask('notes');
     await show_map(size);
     show_tabs();
-    show_side({ title: 'ELF header', kind: 'header', what: 'at the file’s start', at: 0, size: Math.min(meaning('ei_class') === 'ELF64' ? 64 : 52, size) });
+    const header_size = Math.min(meaning('ei_class') === 'ELF64' ? 64 : 52, size);
+    show_side({ title: 'ELF header', kind: 'header', what: 'at the file’s start', at: 0, size: header_size });
     await open_tab(told.sections.refused || told.sections.length === 0 ? 'header' : 'sections');
 }
 
@@ -811,7 +819,8 @@ async function start() {
     try {
         await (ready = start_worker());
     } catch (error) {
-        trouble(`This page can’t read files here: ${error.message}. It needs WebAssembly memories of 64 bits: Chromium 133, Firefox 134, or later.`);
+        const needs = 'It needs WebAssembly memories of 64 bits: Chromium 133, Firefox 134, or later.';
+        trouble(`This page can’t read files here: ${error.message}. ${needs}`);
     }
 }
 

@@ -169,8 +169,9 @@ const sources = {
         const type = ({ st_info }) => goblin.type_to_str(goblin.st_type(st_info));
         const bind = ({ st_info }) => goblin.bind_to_str(goblin.st_bind(st_info));
         const visibility = ({ st_other }) => goblin.visibility_to_str(goblin.st_visibility(st_other));
-        const cells = (item) => [hex(item.st_value), `${item.st_size}`, type(item), bind(item), visibility(item), section(item), name(item)];
-        const holds = ({ st_value, st_size }, address) => st_value === address || (st_value < address && address < st_value + st_size);
+        const cells = (item) =>
+            [hex(item.st_value), `${item.st_size}`, type(item), bind(item), visibility(item), section(item), name(item)];
+        const holds = ({ st_value: value, st_size: size }, address) => value === address || (value < address && address < value + size);
         return {
             list, cells, name, holds, keys: { 1: 'st_value', 2: 'st_size' },
             texts: { 3: type, 4: bind, 5: visibility, 6: section, 7: name },
@@ -579,7 +580,8 @@ async function arranged(source, run, { query, column, is_descending, list }) {
         const wanted = query.toLowerCase(), found = [];
         const address = source.holds && /^0x[0-9a-f]{1,16}$/.test(wanted) ? BigInt(wanted) : undefined;
         await go_over(source, run, list, (item, index) => {
-            if ((address !== undefined && source.holds(item, address)) || source.name(item).toLowerCase().includes(wanted)) found.push(index);
+            const is_there = address !== undefined && source.holds(item, address);
+            if (is_there || source.name(item).toLowerCase().includes(wanted)) found.push(index);
         });
         order = Uint32Array.from(found);
     }
