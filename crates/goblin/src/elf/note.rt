@@ -11,7 +11,7 @@ use goblin_base::container::Ctx;
 use goblin_base::error::{Error, Fault, Result};
 use goblin_base::number::room;
 use goblin_base::scroll;
-use goblin_base::scroll::{LE, SizeWith, TryFromCtx};
+use goblin_base::scroll::{SizeWith, TryFromCtx};
 use goblin_base::utf8::read_text;
 pub use goblin_records::note::{
     ELF_NOTE_ABI, ELF_NOTE_OS_FREEBSD, ELF_NOTE_OS_GNU, ELF_NOTE_OS_LINUX, ELF_NOTE_OS_SOLARIS2,
@@ -165,29 +165,6 @@ pub struct NotePlaces {
     pub next: usize,
 }
 
-impl NotePlaces {
-    ghost use Rattle.goblin.specs.Note.{places_of};
-
-    // The places of a note with this header.
-    fn of(header: &Nhdr32, alignment: usize) -> NotePlaces
-        requires { (4 ≤ alignment) × (alignment ≤ 8) }
-        ensures { result ≡ places_of alignment header.now }
-    {
-        let name_size = header.n_namesz as usize;
-        let desc_size = header.n_descsz as usize;
-        let name = Nhdr32::size_with(&LE);
-        let desc = (name + name_size).next_multiple_of(alignment);
-        NotePlaces {
-            n_type: header.n_type,
-            name,
-            name_size: name_size.saturating_sub(1),
-            desc,
-            desc_size,
-            next: (desc + desc_size).next_multiple_of(alignment),
-        }
-    }
-}
-
 /// A note of either class.
 #[derive(Debug, Drop)]
 pub struct Note<'a> {
@@ -217,7 +194,7 @@ impl<'a> Note<'a> {
         Note::with_places(&bytes[offset..], ctx)
     }
 
-    // The note at the start of the bytes, cut from them at its places.
+    // The note at the start of the bytes, and where its parts lie.
     #[tactic(auto, unfolding(crate::specs::Note::read_places))]
     fn with_places(bytes: &'a [u8], ctx: (usize, Ctx)) -> Result<(Self, NotePlaces)>
         ensures places { Answers (λ found. found.1) result (read_places ctx.0 ctx.1.le bytes.now) }
@@ -228,11 +205,20 @@ impl<'a> Note<'a> {
         if alignment != 4 && alignment != 8 {
             return Err(Error::Malformed(Fault::NoteAlign(alignment)));
         }
-        let (header, _) = Nhdr32::try_from_ctx(bytes, ctx.le)?;
-        let places = NotePlaces::of(&header, alignment);
-        let name = text_at(bytes, places.name, places.name_size)?;
-        let desc = bytes_at(bytes, places.desc, places.desc_size)?;
-        let n_type = places.n_type;
+        let (header, start) = Nhdr32::try_from_ctx(bytes, ctx.le)?;
+        let name_size = header.n_namesz as usize;
+        let name = text_at(bytes, start, name_size.saturating_sub(1))?;
+        let place = (start + name_size).next_multiple_of(alignment);
+        let desc = bytes_at(bytes, place, header.n_descsz as usize)?;
+        let n_type = header.n_type;
+        let places = NotePlaces {
+            n_type,
+            name: start,
+            name_size: name.len(),
+            desc: place,
+            desc_size: desc.len(),
+            next: (place + desc.len()).next_multiple_of(alignment),
+        };
         Ok((Note { n_type, name, desc }, places))
     }
 
