@@ -176,5 +176,6 @@ def blocks_named(head):
     kind = re.match(r'[\s]*([\w:]+)', kind)[1]
     if not split:
         return [kind]
-    taken = re.findall(r'\w+', trait)
-    return [kind.rsplit('::', 1)[-1] + ''.join(taken[:count]) for count in range(1, len(taken) + 1)]
+    taken = re.findall(r'\w+', re.sub(r'\w+::', '', trait))
+    kind = ''.join(part[:1].upper() + part[1:] for part in kind.split('::'))
+    return [kind + ''.join(taken[:count]) for count in range(1, len(taken) + 1)]
