@@ -3,6 +3,7 @@
 
 Processor seconds depend on the machine, and so does what they are divided by: those of the proof of the lowest crate, from
 nothing, in the same run. So the quotient compares gates of different machines, as far as what runs beside them stays the same.
+Where the toolchain had that proof from an earlier run on this machine, no quotient is told.
 """
 import os
 import resource
@@ -24,6 +25,8 @@ def main(command):
             with open(unit, encoding='utf-8') as file:
                 proof = float(file.read())
             print(f'that is {seconds / proof:.1f} times the proof of the lowest crate, which took {proof:.0f} processor seconds', flush=True)
+        else:
+            print('the lowest crate was not proved from nothing in this run, so these are no units to compare', flush=True)
     return status
 
 

@@ -6,8 +6,9 @@
     python3 checks/edits --edit NAME          the one of that name
     python3 checks/edits --from FOLDER ..     those of FOLDER/CRATE/ in place of the crates' own
     python3 checks/edits --fits               only whether each fits the code: nothing is proved
-    python3 checks/edits --anew FOLDER ..     over proofs from nothing, not over what earlier checks kept: FOLDER/crates/ is given
-                                              what they keep, and FOLDER/unit the processor seconds of the lowest crate's
+    python3 checks/edits --anew FOLDER ..     over proofs of their own, not over what earlier checks here kept: FOLDER/crates/ is
+                                              given what they keep, and FOLDER/unit the processor seconds of the lowest crate's,
+                                              unless the toolchain had it from another copy on this machine
 
 Run from the repository's root. It works on copies, as many crates side by side as there are processors.
 """
@@ -85,7 +86,7 @@ class Run:
 
     def __init__(self, room, edits, below, words):
         self.room, self.edits, self.below, self.jobs, self.anew = room, edits, below, words.jobs, words.anew
-        self.wrong, self.ways, self.unit, self.said = [], set(), 0.0, {}
+        self.wrong, self.ways, self.unit, self.said = [], set(), None, {}
 
     def prove(self, crate, jobs):
         """Proves a crate, as a library where others stand on it."""
@@ -93,9 +94,9 @@ class Run:
         verb = ['rt', 'lib' if is_library else 'check', '--jobs', str(jobs)]
         folder = copied(crate, self.below[crate], self.room, bool(self.anew))
         status, said, used = seconds_of(verb, folder)
-        if not self.below[crate]:
-            self.unit = used
         self.said[crate] = Said(said, crate)
+        if not self.below[crate] and self.said[crate].is_from_nothing():
+            self.unit = used
         if status:
             self.wrong.append(f'{crate}: it is not proved as it stands')
             say(f'{said[-3000:]}\n{self.wrong[-1]}')
@@ -191,7 +192,7 @@ def main():
         run.wrong.append('not every way of refusing was seen: the prover speaks of it in other words now')
     for line in run.wrong:
         say(f'edits: {line}')
-    if words.anew:
+    if words.anew and run.unit:
         with open(f'{words.anew}/unit', 'w', encoding='utf-8') as file:
             file.write(f'{run.unit:.0f}\n')
     say(f'edits: {count} tried, {len(run.wrong)} wrong')
