@@ -3,6 +3,7 @@ use crate::told::{differs, is, tells};
 use goblin_base::error::{Error, Fault};
 use goblin_base::scroll;
 use std::alloc::{AllocError, AllocFailed};
+use std::fmt::Display;
 use std::num::TryFromIntError;
 
 // Whether both `line` and `Display` tell an error by this text. Each text that has a number has one of 10 and more, so
@@ -14,12 +15,29 @@ fn tells_twice(rt: HostRuntime, error: &Error, text: &str) -> bool {
     }
 }
 
-// Whether a fault is told by this text behind that of all malformed files.
+// Whether a fault is told by this text, and as an error by the same behind that of all malformed files.
 fn tells_fault(rt: HostRuntime, fault: Fault, text: &str) -> bool {
+    shows(rt, &fault, text) && tells_malformed(rt, fault, text)
+}
+
+// Whether `Display` tells a part of an error by this text.
+fn shows<E: Display>(rt: HostRuntime, part: &E, text: &str) -> bool {
+    match format!(in rt.alloc(); "{part}") {
+        Ok(shown) => is(rt, shown.as_str(), text),
+        Err(e) => differs(rt, &e, &text),
+    }
+}
+
+fn tells_malformed(rt: HostRuntime, fault: Fault, text: &str) -> bool {
     match format!(in rt.alloc(); "Malformed entity: {text}") {
         Ok(text) => tells_twice(rt, &Error::Malformed(fault), text.as_str()),
         Err(e) => differs(rt, &e, &text),
     }
+}
+
+// Whether scroll's error is told by this text, alone and as an error.
+fn tells_misplaced(rt: HostRuntime, e: scroll::Error, text: &str) -> bool {
+    shows(rt, &e, text) && tells_twice(rt, &Error::from(e), text)
 }
 
 #[test]
@@ -175,16 +193,16 @@ fn tells_faults_of_sections(rt: HostRuntime) {
 }
 
 // The error of a range that is too long.
-fn too_big() -> Error {
-    Error::from(scroll::Error::TooBig { size: 64, len: 52 })
+fn too_big() -> scroll::Error {
+    scroll::Error::TooBig { size: 64, len: 52 }
 }
 
 // The error of bytes that are no text.
-fn bad_input() -> Error {
-    Error::from(scroll::Error::BadInput {
+fn bad_input() -> scroll::Error {
+    scroll::Error::BadInput {
         size: 30,
         msg: "invalid utf8",
-    })
+    }
 }
 
 #[test]
@@ -192,15 +210,9 @@ fn tells_errors(rt: HostRuntime) {
     assert!(rt; tells_twice(rt, &Error::BadMagic(0xabc), "Invalid magic number: 0xabc"));
     let short = Error::BufferTooShort(17, "symbols");
     assert!(rt; tells_twice(rt, &short, "Buffer is too short for 17 symbols"));
-    assert!(rt; tells_twice(rt, &too_big(), "type is too big (64) for 52"));
-    assert!(rt;
-        tells_twice(
-            rt,
-            &Error::from(scroll::Error::BadOffset(20)),
-            "bad offset 20"
-        )
-    );
-    assert!(rt; tells_twice(rt, &bad_input(), "bad input invalid utf8 (30)"));
+    assert!(rt; tells_misplaced(rt, too_big(), "type is too big (64) for 52"));
+    assert!(rt; tells_misplaced(rt, scroll::Error::BadOffset(20), "bad offset 20"));
+    assert!(rt; tells_misplaced(rt, bad_input(), "bad input invalid utf8 (30)"));
     assert!(rt; tells_twice(rt, &Error::from(AllocError), "Out of memory"));
     let failed = Error::from(AllocFailed { value: 5u8 });
     assert!(rt; tells_twice(rt, &failed, "Out of memory"));
