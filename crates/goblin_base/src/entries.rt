@@ -260,6 +260,7 @@ impl<'e> Probes<'e> {
     pub fn of(entries: &'e Entries<'e>) -> Probes<'e>
         ensures { result ≡ record { places = places_of entries.now; count = 0 } }
     {
+        // (what the entries' invariant says of their places is known where they are read)
         let _places = &entries.places;
         Probes { entries, count: 0 }
     }

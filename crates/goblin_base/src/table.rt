@@ -249,6 +249,7 @@ pub fn read_all<R: Record<C>, C: Copy>(
     }
     let mut all = Vec::with_capacity(alloc, count)?;
     let mut place = offset;
+    // (the proof names the loop by its label)
     'each: for _ in 0..count {
         all.push(read_at(bytes, place, ctx)?)?;
         place += size;

@@ -463,7 +463,7 @@ pub const EM_CSKY: u16 = 252;
 /// LoongArch.
 pub const EM_LOONGARCH: u16 = 258;
 
-static MACHINES: [(u32, &str); 178] = [
+static MACHINES: &[(u32, &str)] = &[
     (EM_M32 as u32, "M32"),
     (EM_SPARC as u32, "SPARC"),
     (EM_386 as u32, "386"),
@@ -651,7 +651,7 @@ static MACHINES: [(u32, &str); 178] = [
 pub fn machine_to_str(machine: u16) -> &'static str
     ensures { result.now ≡ machine_name machine }
 {
-    name_of(&MACHINES, machine as u32, "EM_UNKNOWN")
+    name_of(MACHINES, machine as u32, "EM_UNKNOWN")
 }
 
 /// The name of a class byte: `NONE`, `ELF32`, `ELF64`, or `UNKNOWN_CLASS`.

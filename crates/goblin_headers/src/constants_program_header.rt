@@ -65,7 +65,7 @@ pub const PF_MASKOS: u32 = 0x0ff0_0000;
 pub const PF_MASKPROC: u32 = 0xf000_0000;
 
 // The names of segment types.
-static TYPES: [(u32, &str); 20] = [
+static TYPES: &[(u32, &str)] = &[
     (PT_NULL, "PT_NULL"),
     (PT_LOAD, "PT_LOAD"),
     (PT_DYNAMIC, "PT_DYNAMIC"),
@@ -94,5 +94,5 @@ static TYPES: [(u32, &str); 20] = [
 pub fn pt_to_str(pt: u32) -> &'static str
     ensures { result.now ≡ segment_name pt }
 {
-    name_of(&TYPES, pt, "UNKNOWN_PT")
+    name_of(TYPES, pt, "UNKNOWN_PT")
 }

@@ -160,7 +160,7 @@ pub const SHF_FLAGS: [u32; SHF_NUM_REGULAR_FLAGS] = [
 ];
 
 // The names of section types.
-static TYPES: [(u32, &str); 34] = [
+static TYPES: &[(u32, &str)] = &[
     (SHT_NULL, "SHT_NULL"),
     (SHT_PROGBITS, "SHT_PROGBITS"),
     (SHT_SYMTAB, "SHT_SYMTAB"),
@@ -203,7 +203,7 @@ static TYPES: [(u32, &str); 34] = [
 pub fn sht_to_str(sht: u32) -> &'static str
     ensures { result.now ≡ section_name sht }
 {
-    name_of(&TYPES, sht, "UNKNOWN_SHT")
+    name_of(TYPES, sht, "UNKNOWN_SHT")
 }
 
 // The names of flags.

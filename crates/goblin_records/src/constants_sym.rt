@@ -72,7 +72,7 @@ pub const STV_SINGLETON: u8 = 5;
 pub const STV_ELIMINATE: u8 = 6;
 
 // The names of bindings.
-static BINDS: [(u32, &str); 5] = [
+static BINDS: &[(u32, &str)] = &[
     (STB_LOCAL as u32, "LOCAL"),
     (STB_GLOBAL as u32, "GLOBAL"),
     (STB_WEAK as u32, "WEAK"),
@@ -85,11 +85,11 @@ static BINDS: [(u32, &str); 5] = [
 pub fn bind_to_str(typ: u8) -> &'static str
     ensures { result.now ≡ bind_name typ }
 {
-    name_of(&BINDS, typ as u32, "UNKNOWN_STB")
+    name_of(BINDS, typ as u32, "UNKNOWN_STB")
 }
 
 // The names of types.
-static TYPES: [(u32, &str); 9] = [
+static TYPES: &[(u32, &str)] = &[
     (STT_NOTYPE as u32, "NOTYPE"),
     (STT_OBJECT as u32, "OBJECT"),
     (STT_FUNC as u32, "FUNC"),
@@ -106,11 +106,11 @@ static TYPES: [(u32, &str); 9] = [
 pub fn type_to_str(typ: u8) -> &'static str
     ensures { result.now ≡ type_name typ }
 {
-    name_of(&TYPES, typ as u32, "UNKNOWN_STT")
+    name_of(TYPES, typ as u32, "UNKNOWN_STT")
 }
 
 // The names of visibilities.
-static VISIBILITIES: [(u32, &str); 7] = [
+static VISIBILITIES: &[(u32, &str)] = &[
     (STV_DEFAULT as u32, "DEFAULT"),
     (STV_INTERNAL as u32, "INTERNAL"),
     (STV_HIDDEN as u32, "HIDDEN"),
@@ -125,5 +125,5 @@ static VISIBILITIES: [(u32, &str); 7] = [
 pub fn visibility_to_str(typ: u8) -> &'static str
     ensures { result.now ≡ visibility_name typ }
 {
-    name_of(&VISIBILITIES, typ as u32, "UNKNOWN_STV")
+    name_of(VISIBILITIES, typ as u32, "UNKNOWN_STV")
 }
