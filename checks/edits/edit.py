@@ -1,11 +1,11 @@
-"""An edit, which plants a wrong body, and the functions that it changes.
+"""An edit, which plants a wrong body, and where its changes stand.
 
 An edit is a file: a line 'file: src/lib.rt', or of specs/ or proofs/, and behind it pairs of lines 'old: TEXT' and
 'new: TEXT'. Each old text stands just once in that file as it is committed.
 """
 import os
 import re
-from dataclasses import dataclass
+from dataclasses import dataclass, replace
 
 
 class Misfit(Exception):
@@ -21,14 +21,40 @@ class Change:
     new: str
 
 
+# Where a change stands: in a function's body, in its head, in a list of constants that a module passes on, or elsewhere.
+BODY, HEAD, LIST, ELSEWHERE = 'body', 'head', 'list', 'elsewhere'
+# The function of a module that says what number each of its constants is.
+LAW = 'constants'
+
+
+@dataclass(frozen=True)
+class Place:
+    """Where a change stands, the function that is to be refused for it, if there is one, and the module that a list is taken from."""
+    kind: str
+    function: tuple = None
+    source: str = ''
+
+
 @dataclass(frozen=True)
 class Edit:
-    """A wrong body: its name, its changes, the functions that hold them, whether all stand in functions, and in their bodies."""
+    """A wrong body, or another wrong text: its name, its changes, and where they stand."""
     name: str
     changes: tuple
-    functions: frozenset
-    is_of_functions: bool
-    is_of_bodies: bool
+    places: tuple
+
+    def functions(self):
+        """The functions that are to be refused."""
+        return {place.function for place in self.places if place.function}
+
+    def stands_in(self, *kinds):
+        return all(place.kind in kinds for place in self.places)
+
+    def among(self, known):
+        """The edit as it is judged where the prover names these functions: by the law of a list's module, unless it has none, or
+        the list is taken from a module with a law of its own, whose lists may be edited too."""
+        has_law = lambda place: law_among(place.function[0], known) and not law_among(place.source, known)
+        places = (Place(ELSEWHERE) if it.kind == LIST and not has_law(it) else it for it in self.places)
+        return replace(self, places=tuple(places))
 
 
 def edits_of(folder, crate, source):
@@ -58,17 +84,14 @@ def read_edit(path, name, crate, source):
                 if not file or not old:
                     raise Misfit(f'{crate}/{name}: a new text without a file or an old one')
                 new = line[len('new: '):]
-                changes.append(Change(file, place_of(old, f'{source}/{file}', f'{crate}/{name}'), old, new))
+                changes.append(Change(file, start_of(old, f'{source}/{file}', f'{crate}/{name}'), old, new))
                 old = None
     if not changes or old:
         raise Misfit(f'{crate}/{name}: an old text without a new one, or no pair at all')
-    found = [function_at(crate, source, change) for change in changes]
-    functions = frozenset(function for function, _ in found if function)
-    is_of_functions = all(function for function, _ in found)
-    return Edit(name, tuple(changes), functions, is_of_functions, all(is_body for _, is_body in found))
+    return Edit(name, tuple(changes), tuple(place_in(crate, source, change) for change in changes))
 
 
-def place_of(old, path, label):
+def start_of(old, path, label):
     """Where an old text stands in its file."""
     try:
         with open(path, encoding='utf-8') as file:
@@ -96,24 +119,28 @@ def apply(edits, source):
 UNREAD = re.compile(r'//[^\n]*|/\*.*?\*/|b?"(?:\\.|[^"\\])*"|b?\'(?:\\[^\']+|[^\'\\])\'', re.S)
 FUNCTION = re.compile(r'\bfn\s+(\w+)')
 BLOCK = re.compile(r'^[ \t]*(?:pub\s+)?(impl|trait|mod)\b([^{;]*)\{', re.M)
+PASSED_ON = re.compile(r'^pub use ((?:\w+::)+)(\{[^}]*\});', re.M)
 CLAUSE = re.compile(r'\b(?:requires|ensures|ghost)\b[^{]*$')
 
 
-def function_at(crate, source, change):
-    """The function that holds a change, as (module, block, name) or None, and whether its body does."""
+def place_in(crate, source, change):
+    """The place of a change: the innermost function round it, or the list that a module passes on."""
     if not re.fullmatch(r'src/.*\.rt', change.file):
-        return None, False
+        return Place(ELSEWHERE)
     with open(f'{source}/{change.file}', encoding='utf-8') as file:
         text = UNREAD.sub(lambda found: re.sub(r'[^\n]', ' ', found[0]), file.read())
-    end = change.start + len(change.old)
-    inside, is_body = None, False
+    module, end = module_of(crate, change.file), change.start + len(change.old)
+    inside, kind = None, ELSEWHERE
     for found in FUNCTION.finditer(text):
         start, stop = body_of(text, found.end())
         if found.start() < end and change.start < stop:
-            inside, is_body = found, start < change.start and end <= stop
-    if not inside:
-        return None, False
-    return (module_of(crate, change.file), block_at(text, inside.start()), inside[1]), is_body
+            inside, kind = found, BODY if start < change.start and end <= stop else HEAD
+    if inside:
+        return Place(kind, (module, block_at(text, inside.start()), inside[1]))
+    for found in PASSED_ON.finditer(text):
+        if found.start(2) <= change.start and end <= found.end():
+            return Place(LIST, (module, '', LAW), found[1][:-len('::')].replace('crate', crate, 1))
+    return Place(ELSEWHERE)
 
 
 def body_of(text, at):
@@ -161,12 +188,19 @@ def module_of(crate, file):
 def path_among(function, known):
     """The path by which the prover names a function, among those that it knows, or None where that can't be told."""
     module, block, name = function
+    if name == LAW:
+        return law_among(module, known)
     ends = [f'::{part}::{name}' for part in blocks_named(block)] if block else [f'{module}::{name}']
     same = [path for path in known if any(path.endswith(end) for end in ends)]
     here = [path for path in same if path.startswith(f'{module}::')]
     # a block whose name holds more than its head shows, as of a tuple, is known where its module has one such function
     more = [path for path in known if re.fullmatch(rf'{module}::\w+::{name}', path)] if block and not same else []
     return next((found[0] for found in (here, same, more) if len(found) == 1), None)
+
+
+def law_among(module, known):
+    """The path by which the prover names the law of a module, which stands in it or below it, or None where it has none."""
+    return next((path for path in known if re.fullmatch(rf'{module}::(\w+::)?{LAW}', path)), None)
 
 
 def blocks_named(head):

@@ -8,10 +8,15 @@ import subprocess
 import sys
 import tempfile
 
-CODE = '''//! A crate in which edits are planted.
+CODE = {
+    'src/lib.rt': '''//! A crate in which edits are planted.
 #![tactic(auto)]
 
 ghost use Rattle.std.specs.Prelude.{◌≡◌, ◌+◌, ◌<◌, ◌≤◌};
+
+pub mod left;
+pub mod numbers;
+pub mod right;
 
 /// One more.
 pub fn next(x: u8) -> u8
@@ -44,28 +49,75 @@ pub fn no_more(x: u8) -> u8
 {
     x / 2
 }
-'''
+''',
+    'src/numbers.rt': '''//! The numbers that two modules pass on.
 
-ANSWERS = '''use Rattle.std.proofs.Common.{arith}
+/// One.
+pub const ONE: u8 = 1;
+/// Two.
+pub const TWO: u8 = 2;
+''',
+    'src/left.rt': '''//! A module whose law says what it passes on.
+ghost use Rattle.std.specs.Prelude.{◌≡◌};
+
+pub use crate::numbers::{ONE, TWO};
+
+/// A law.
+pub fn constants()
+    ensures one { ONE ≡ 1 }
+    ensures two { TWO ≡ 2 }
+{
+}
+''',
+    'src/right.rt': '''//! A module whose law says half of it.
+ghost use Rattle.std.specs.Prelude.{◌≡◌};
+
+pub use crate::numbers::{ONE, TWO};
+
+/// A law.
+pub fn constants()
+    ensures { ONE ≡ 1 }
+{
+}
+
+/// Two.
+pub fn two() -> u8
+    ensures { result ≡ 2 }
+{
+    TWO
+}
+''',
+    'proofs/third/Answers.antt': '''use Rattle.std.proofs.Common.{arith}
 use Rattle.planted.proofs.third.Goals as goal
 
 pub returns : goal.returns
 returns c = omega (arith, c.next-one.ensures)
-'''
+''',
+}
 
-# The edit's name, its old and its new text, and what is to be said of it.
-PLANTED = [
-    ('adds_nothing', '    x + 1', '    x', 'refused with values: planted::next'),
-    ('changes_nothing', '    next(next(x))', '    next(next(x))', 'NOT REFUSED: the crate is still proved with it'),
-    ('counts_by_itself', '    next(next(x))', '    next(x) + 1', 'NOT REFUSED: the crate is still proved with it'),
-    ('counts_once', '    next(next(x))', '    next(x)', 'refused with values: planted::second'),
-    ('lacks_its_brace', '    x / 2', '    x / 2 }', 'NOT REFUSED: it can not be read, so no contract was tried'),
-    ('gives_less', '    x / 2', '    x / 3', 'NOT REFUSED: the crate is still proved with it'),
-    ('says_less', '    ensures { result ≡ x + 1 }', '    ensures { x < result }',
-     'NOT REFUSED: its own function is still proved with it, though planted::'),
-    ('takes_a_name_away', '    let one = next(x);', '    let two = next(x); let one = two;',
-     'NOT REFUSED: no goal of its own function is refused, but by names that the edit took away'),
-]
+# The edits of each file: their names, their old and new texts, and what is to be said of each.
+PLANTED = {
+    'src/lib.rt': [
+        ('adds_nothing', '    x + 1', '    x', 'refused with values: planted::next'),
+        ('changes_nothing', '    next(next(x))', '    next(next(x))', 'NOT REFUSED: the crate is still proved with it'),
+        ('counts_by_itself', '    next(next(x))', '    next(x) + 1', 'NOT REFUSED: the crate is still proved with it'),
+        ('counts_once', '    next(next(x))', '    next(x)', 'refused with values: planted::second'),
+        ('lacks_its_brace', '    x / 2', '    x / 2 }', 'NOT REFUSED: it can not be read, so no contract was tried'),
+        ('gives_less', '    x / 2', '    x / 3', 'NOT REFUSED: the crate is still proved with it'),
+        ('says_less', '    ensures { result ≡ x + 1 }', '    ensures { x < result }',
+         'NOT REFUSED: its own function is still proved with it, though planted::'),
+        ('takes_a_name_away', '    let one = next(x);', '    let two = next(x); let one = two;',
+         'NOT REFUSED: no goal of its own function is refused, but by names that the edit took away'),
+    ],
+    'src/left.rt': [
+        ('left_exchanges_two', '{ONE, TWO}', '{TWO as ONE, ONE as TWO}', 'refused with values: planted::left::constants'),
+    ],
+    'src/right.rt': [
+        ('right_exchanges_two', '{ONE, TWO}', '{TWO as ONE, ONE as TWO}', 'refused with values: planted::right::constants'),
+        ('right_passes_on_what_its_law_leaves_out', '{ONE, TWO}', '{ONE, ONE as TWO}',
+         'NOT REFUSED: its own function is still proved with it, though planted::right::two'),
+    ],
+}
 
 
 def write(path, text):
@@ -76,21 +128,23 @@ def write(path, text):
 
 def main():
     script = os.path.dirname(os.path.abspath(__file__))
+    wanted = {name: said for edits in PLANTED.values() for name, _, _, said in edits}
     with tempfile.TemporaryDirectory(prefix='planted-') as room:
         write(f'{room}/HANDLES', 'Handles allowed: none.\n')
         write(f'{room}/crates.txt', 'planted:\n')
-        write(f'{room}/crates/planted/src/lib.rt', CODE)
-        write(f'{room}/crates/planted/proofs/third/Answers.antt', ANSWERS)
-        for name, old, new, _ in PLANTED:
-            write(f'{room}/crates/planted/edits/{name}.edit', f'file: src/lib.rt\nold: {old}\nnew: {new}\n')
+        for path, text in CODE.items():
+            write(f'{room}/crates/planted/{path}', text)
+        for file, edits in PLANTED.items():
+            for name, old, new, _ in edits:
+                write(f'{room}/crates/planted/edits/{name}.edit', f'file: {file}\nold: {old}\nnew: {new}\n')
         ran = subprocess.run([sys.executable, script, 'planted'], cwd=room, capture_output=True, text=True)
-    said = ran.stdout.split('\n')
-    lacking = [name for name, _, _, wanted in PLANTED if not any(line.startswith(f'planted/{name}: {wanted}') for line in said)]
-    wrong = sum(wanted.startswith('NOT REFUSED') for _, _, _, wanted in PLANTED)
-    if lacking or ran.returncode != 1 or f'edits: {len(PLANTED)} tried, {wrong} wrong' not in said:
+    lines = ran.stdout.split('\n')
+    lacking = [name for name in wanted if not any(line.startswith(f'planted/{name}: {wanted[name]}') for line in lines)]
+    wrong = sum(said.startswith('NOT REFUSED') for said in wanted.values())
+    if lacking or ran.returncode != 1 or f'edits: {len(wanted)} tried, {wrong} wrong' not in lines:
         print(f'{ran.stdout}{ran.stderr}\nplanted: judged otherwise than they are: {lacking or "their number"}')
         return 1
-    print(f'planted: {len(PLANTED)} edits are told as what they are, {wrong} of which test nothing')
+    print(f'planted: {len(wanted)} edits are told as what they are, {wrong} of which test nothing')
     return 0
 
 

@@ -3,15 +3,16 @@
 A function is judged by its own clauses alone: those of other functions stay, whatever their bodies are. So edits that change
 bodies of different functions are applied at once, and one check judges them all. An edit is refused where a goal of its own
 function's is: one that only waits for another function, or that fails by names alone, is judged in a later group, without
-what it waits for, and in the end alone. An edit that changes more than bodies, as a constant or a definition, stands alone.
-Each check goes by what the crate's own proof left, so that none proves anew what an edit before it had changed.
+what it waits for, and in the end alone. So are edits of lists of constants that different modules pass on, each by its module's
+law, which says what number each name is there. An edit that changes more, as a constant or a definition, stands alone, and
+whatever cites that may refuse it. Each check goes by what the crate's own proof left, so that none proves anew what an edit before it had changed.
 """
 import os
 import shutil
 import subprocess
 from collections import Counter
 
-from edit import apply, path_among
+from edit import BODY, HEAD, LIST, apply, path_among
 from verdict import Said
 
 
@@ -31,13 +32,14 @@ class Trial:
         before = self.before if self.before.functions else self.check([])
         if not before.is_proved():
             return self.fail(f'it is not proved as it stands\n{before.text[-2000:]}')
-        edits = [edit for edit in self.edits if self.place(edit, before)]
-        pending = [edit for edit in edits if edit.is_of_bodies]
-        alone = [edit for edit in edits if not edit.is_of_bodies]
-        while pending:
-            pending = self.try_group(self.next_group(pending), pending)
-        for edit in alone:
-            self.try_alone(edit)
+        edits = [edit for edit in (it.among(before.functions) for it in self.edits) if self.place(edit, before)]
+        for kind in (BODY, LIST):
+            pending = [edit for edit in edits if edit.stands_in(kind)]
+            while pending:
+                pending = self.try_group(self.next_group(pending), pending)
+        for edit in edits:
+            if not edit.stands_in(BODY) and not edit.stands_in(LIST):
+                self.try_alone(edit)
         if self.edits and not self.ways:
             self.fail('not one edit was refused')
 
@@ -46,7 +48,7 @@ class Trial:
 
     def place(self, edit, said):
         """Finds the functions of an edit among those that the prover names."""
-        paths = {path_among(it, said.functions) for it in edit.functions}
+        paths = {path_among(it, said.functions) for it in edit.functions()}
         self.functions[edit.name] = frozenset(paths - {None})
         if None in paths:
             self.tell_wrong(edit, 'its function is none that the prover names')
@@ -152,7 +154,7 @@ class Trial:
         elif any(it and it.refused for it in own.values()):
             path = next(path for path, it in own.items() if it and it.refused)
             self.tell_refused(edit, own[path].refused, path)
-        elif refused and not edit.is_of_functions:
+        elif refused and not edit.stands_in(BODY, HEAD, LIST):
             # it changes a definition, a constant or a type: whatever cites it may refuse it
             self.tell_refused(edit, self.way(said, refused[0]), ' and '.join(refused[:3]))
         elif own and all(it and it.is_proved() for it in own.values()):
