@@ -19,10 +19,10 @@ show:
 test:
 	@python3 checks/took.py $(MAKE) --no-print-directory gate
 
-# The pages' quotations, and whether each edit fits the code; side by side growths that are refused, every proof from nothing
-# with the tests and the stored runs, every edit that the prover must refuse, and whether edits that test nothing are told from
-# those that do; then, over what the edits' proofs left, the library for C called from C and Rust, beside the program's words
-# and what hostile files may take. (ROOM is a folder of the run's own, which `test` makes.)
+# The pages' quotations, and whether each edit fits the code; side by side growths that are refused, every proof that the
+# toolchain hasn't kept on this machine, with the tests and the stored runs, every edit that the prover must refuse, and whether
+# edits that test nothing are told from those that do; then, over what the edits' proofs left, the library for C called from C
+# and Rust, beside the program's words and what hostile files may take. (ROOM is a folder of the run's own, which `test` makes.)
 gate:
 	sh checks/quotes.sh
 	python3 checks/edits --fits
