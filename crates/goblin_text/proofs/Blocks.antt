@@ -97,6 +97,22 @@ placed file s k r l e =
     let n : k ≡ s + length r - s = omega (arith, len) in
     (omega (arith, len), e ∙ ap (λ x. take x (drop s file)) n)
 
+-- a strict range lies in the file, and has the size that is asked for
+pub strict_range : (mode : ParseMode) (file : List ℕ) (o n : ℕ) (r : List ℕ) → (mode ≡ Permissive → ⊥) → range_in mode file o n ≡ Ok r → (o ≤ length file) × (length r ≡ n)
+unfolding range_in
+strict_range mode file o n r strict is = by mode (ltb (length file) o) (ltb (length file) (o + n)) refl refl strict is
+  where
+    by : (mode : ParseMode) (b c : Bool) → ltb (length file) o ≡ b → ltb (length file) (o + n) ≡ c → (mode ≡ Permissive → ⊥)
+        → cond b (or_cut mode (StrtabOffset o (length file)) []) (cond c (or_cut mode (StrtabRange n o (length file) (leb (2 ^ 64) (o + n))) (drop o file)) (Ok (take n (drop o file)))) ≡ Ok r
+        → (o ≤ length file) × (length r ≡ n)
+    by Permissive b c e f strict is = absurd (strict refl)
+    by Strict true c e f strict is = cc
+    by Strict false true e f strict is = cc
+    by Strict false false e f strict is =
+        let l : o + n ≤ length file = grind (arith, nat_tests) in
+        let r_is : take n (drop o file) ≡ r = cc in
+        (omega arith, ap length (sym r_is) ∙ length-take-le n (drop o file) (omega (arith, length-drop o file)))
+
 -- where the bytes of a table stand
 stands : (mode : ParseMode) (file : List ℕ) (o n : ℕ) (r : List ℕ) → range_in mode file o n ≡ Ok r → (s : ℕ) × (k : ℕ) × (s ≡ min o (length file)) × (s + k ≤ length file) × (r ≡ take k (drop s file))
 unfolding range_in

@@ -1,5 +1,5 @@
 -- What was put of a text, and what is left of it.
-use Rattle.std.proofs.Common.{◌≡◌, ◌∙◌, ◌++◌, ◌≤◌, ℕ, List, [], Option, None, Some, ap, append_assoc, append-nil, arith, length, min, refl, subst, sym, take, ⊎_elim, ◌<◌}
+use Rattle.std.proofs.Common.{◌≡◌, ◌∙◌, ◌++◌, ◌∷◌, ◌≤◌, ℕ, List, [], Option, None, Some, ap, append_assoc, get_or, set, append-nil, arith, length, min, refl, subst, sym, take, ⊎_elim, ◌<◌}
 use Rattle.std.proofs.KnownBytes.{Appends-kept, Appends-nil, Appends-trans, append_known-grown, append_known-moved}
 use Rattle.std.proofs.lemmas.Bool.{cases_lt}
 use Rattle.std.proofs.lemmas.List.{take_all}
@@ -65,3 +65,11 @@ added a b old new filled more text p e = append_known-grown a b (take filled old
 -- a text went through a room that was empty, and is written
 pub through : (a b c d : Option (List ℕ)) (room : List ℕ) (filled : ℕ) (text : List ℕ) → b ≡ held a room filled → filled ≡ 0 → Appends b c text → Keeps c d → Appends a d text
 through a b c d room filled text is none p q = subst (λ k. Appends k d text) (is ∙ emptied a room filled none) (Appends-kept b c d text p q)
+
+-- a single byte in the place of another
+pub set_single : (xs ys : List ℕ) → length xs ≡ 1 → length ys ≡ 1 → set xs 0 (get_or ys 0 0) ≡ ys
+set_single [] ys e f = absurd (omega (arith, e))
+set_single (x ∷ xs) [] e f = absurd (omega (arith, f))
+set_single (x ∷ []) (y ∷ []) e f = refl
+set_single (x ∷ (z ∷ xs)) (y ∷ ys) e f = absurd (omega (arith, e))
+set_single (x ∷ []) (y ∷ (z ∷ ys)) e f = absurd (omega (arith, f))

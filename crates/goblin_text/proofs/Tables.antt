@@ -24,3 +24,8 @@ pub strict_table : (mode : ParseMode) (file : List ℕ) (o n start end : ℕ) �
 unfolding strtab_of
 strict_table Permissive file o n start end strict range = absurd (strict refl)
 strict_table Strict file o n start end strict range = ap (λ r. refuse_as malformed r >>= (λ bytes. table_of Strict bytes 0)) range.is
+
+-- a mode is one alone
+pub is_one_mode : (mode : ParseMode) → mode ≡ Strict → mode ≡ Permissive → ⊥
+is_one_mode Strict e f = cc
+is_one_mode Permissive e f = cc

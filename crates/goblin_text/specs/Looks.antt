@@ -1,5 +1,5 @@
 -- What is looked at of a file for its names: the counted views, and what may be looked at.
-use Rattle.std.specs.Prelude.{ℕ, ◌+◌, ◌-◌, ◌*◌, ◌^◌, ◌≤◌, ◌==◌, if◌then◌else◌, min, List, [], ◌∷◌, length, Result, Ok, Err, unwrap_or}
+use Rattle.std.specs.Prelude.{◌≡◌, ℕ, ◌+◌, ◌-◌, ◌*◌, ◌^◌, ◌≤◌, ◌==◌, if◌then◌else◌, min, List, [], ◌∷◌, length, Result, Ok, Err, unwrap_or}
 use Rattle.std.specs.Result.{result_ok}
 use Rattle.goblin.specs.declared.options.ParseMode.{ParseMode}
 use Rattle.goblin.specs.ReadHeader.{read_header}
@@ -12,11 +12,18 @@ pub record Seen : Type 0 where
   pub bytes : List ℕ
   pub count : ℕ
 
--- the bytes of a file, how many looks at them were taken, and how many more the blocks may take that weren't read yet
+-- the bytes of a file, how many looks at them were taken, how many more the blocks may take that weren't read yet, and
+-- where the range stands that was last found to be text
 pub record Named : Type 0 where
   pub bytes : List ℕ
   pub count : ℕ
   pub left : ℕ
+  pub text_start : ℕ
+  pub text_end : ℕ
+
+-- the range that is kept as text is the one from one place to another
+abbrev pub IsKept : Named → (start end : ℕ) → Type 0
+IsKept names start end = (names.text_start ≡ start) × (names.text_end ≡ end)
 
 -- at least so many looks were taken since: a count stays at the greatest number once it is there
 abbrev pub CountsAtLeast : (before looks after : ℕ) → Type 0

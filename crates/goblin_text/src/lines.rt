@@ -40,6 +40,19 @@ fn printable(c: char) -> char
     if c < ' ' || c == '\x7f' { '?' } else { c }
 }
 
+// Puts a name character by character, with a question mark for each control character.
+#[cold]
+#[inline(never)]
+fn put_replaced<T: Target>(target: &mut T, name: &str) -> Result<(), T::Error>
+    ensures put { Puts (T.state target.old) (T.state target.new) result (printed name.now) }
+    ensures kept { T.kept target.new ≡ T.kept target.old }
+{
+    for c in name.chars() {
+        target.put(printable(c).encode_utf8(&mut [0; 4]))?;
+    }
+    Ok(())
+}
+
 // Puts a name, with a question mark for each control character.
 fn put_printed<T: Target>(target: &mut T, name: &str) -> Result<(), T::Error>
     ensures put { Puts (T.state target.old) (T.state target.new) result (printed name.now) }
@@ -48,10 +61,7 @@ fn put_printed<T: Target>(target: &mut T, name: &str) -> Result<(), T::Error>
     if !name.as_bytes().iter().any(|byte| is_control(*byte)) {
         return target.put(name);
     }
-    for c in name.chars() {
-        target.put(printable(c).encode_utf8(&mut [0; 4]))?;
-    }
-    Ok(())
+    put_replaced(target, name)
 }
 
 // Puts a name as it prints, and the end of its line.

@@ -2,10 +2,11 @@
 //! kept in mind of the file's blocks how far from each one text goes on.
 ghost use Rattle.std.specs.Prelude.{◌≡◌, ◌↔◌, ◌+◌, ◌*◌, ◌<◌, ◌≤◌, ◌⊎◌, ◌-◌, ◌/◌, IfSome, IsErr, IsTrue, MatchOption, OnErr, OnOk, length, min, slice_range};
 ghost use Rattle.std.specs.Str.{IsUtf8};
+ghost use Rattle.goblin.specs.declared.options.ParseMode.{ParseMode};
 ghost use Rattle.goblin.specs.Refusal.{Gives};
 ghost use Rattle.goblin.specs.Strtab.{strtab_of};
 ghost use Rattle.goblin_text.specs.Known.{strings_in, text_table};
-ghost use Rattle.goblin_text.specs.Looks.{CountsAtLeast, IsShort, Spends, name_looks, table_looks};
+ghost use Rattle.goblin_text.specs.Looks.{CountsAtLeast, IsKept, IsShort, Spends, name_looks, table_looks};
 ghost use Rattle.goblin_text.specs.Runs.{LacksText, up_to_zero};
 ghost use Rattle.goblin_text.specs.Shown.{name_at};
 
@@ -33,11 +34,16 @@ pub struct Names<'a> {
     seen: Seen<'a>,
     texts: [u16; BLOCKS],
     plain: [u16; BLOCKS],
+    // The range that was last found to be text.
+    text_start: usize,
+    text_end: usize,
 }
 
-// They are seen as the bytes, the looks taken, and those that blocks may take which weren't read yet.
+// They are seen as the bytes, the looks taken, those that blocks may take which weren't read yet, and the range that was
+// last found to be text.
 impl<'a> Model for Names<'a> {
-    ghost use Rattle.std.specs.Prelude.{◌+◌, ◌*◌};
+    ghost use Rattle.std.specs.Prelude.{◌+◌, ◌*◌, slice_range};
+    ghost use Rattle.std.specs.Str.{IsUtf8};
     ghost use Rattle.goblin_text.specs.declared.runs.Kind.TheVariants.{Plain, Text};
     ghost use Rattle.goblin_text.specs.Looks.{Named, block_looks};
     ghost use Rattle.goblin_text.specs.Runs.{AreEnds, blocks, unknown};
@@ -48,9 +54,12 @@ impl<'a> Model for Names<'a> {
       bytes = n.seen.bytes;
       count = n.seen.count;
       left = block_looks * (unknown (blocks n.seen.bytes) n.texts + unknown (blocks n.seen.bytes) n.plain);
+      text_start = n.text_start;
+      text_end = n.text_end;
     } };
 
-    ghost invariant = { λ n. AreEnds Text n.seen.bytes n.texts × AreEnds Plain n.seen.bytes n.plain };
+    ghost invariant = { λ n. AreEnds Text n.seen.bytes n.texts × AreEnds Plain n.seen.bytes n.plain
+        × IsUtf8 (slice_range n.seen.bytes n.text_start n.text_end) };
 }
 
 impl<'a> Names<'a> {
@@ -64,6 +73,8 @@ impl<'a> Names<'a> {
             seen: Seen::new(bytes),
             texts: none_known(),
             plain: none_known(),
+            text_start: 0,
+            text_end: 0,
         }
     }
 
@@ -100,6 +111,12 @@ impl<'a> Names<'a> {
             → OnOk result (Spends self.old self.new table_looks) }
         ensures looks_refused { IsShort self.old.bytes
             → OnErr result (Spends self.old self.new (table_looks + 5 * length self.old.bytes)) }
+
+        // A strict table that is asked for again at once takes no look.
+        ensures kept { OnOk result (opts.now.parse_mode ≡ ParseMode.Strict
+            → IsKept self.new offset (offset + size)) }
+        ensures looks_kept { IsKept self.old offset (offset + size)
+            → self.new.count ≡ self.old.count }
     {
         let bytes = self.bytes();
         let range = bytes_in_range(bytes, offset, size, opts.parse_mode)?;
@@ -111,9 +128,31 @@ impl<'a> Names<'a> {
         Ok(Strings::Within { start, end })
     }
 
+    // Whether a range is text: it is read, unless it is the one that was last found to be.
+    fn is_range_text(&mut self, start: usize, end: usize) -> bool
+        requires ordered { start ≤ end }
+        requires within { end ≤ length self.old.bytes }
+        ensures value { IsTrue result ↔ IsUtf8 (slice_range self.old.bytes start end) }
+        ensures unchanged { self.new.bytes ≡ self.old.bytes }
+        ensures looks { IsShort self.old.bytes → Spends self.old self.new table_looks }
+        ensures kept { IsTrue result → IsKept self.new start end }
+        ensures looks_kept { IsKept self.old start end
+            → IsTrue result × (self.new.count ≡ self.old.count) }
+    {
+        if start == self.text_start && end == self.text_end {
+            return true;
+        }
+        if !self.reads_as_text(start, end) {
+            return false;
+        }
+        self.text_start = start;
+        self.text_end = end;
+        true
+    }
+
     // Whether a range is text: its two ends are read, with six looks at edges of blocks, and what is between them where
     // it isn't known.
-    fn is_range_text(&mut self, start: usize, end: usize) -> bool
+    fn reads_as_text(&mut self, start: usize, end: usize) -> bool
         requires ordered { start ≤ end }
         requires within { end ≤ length self.old.bytes }
         ensures value { IsTrue result ↔ IsUtf8 (slice_range self.old.bytes start end) }
@@ -140,6 +179,7 @@ impl<'a> Names<'a> {
     pub fn name(&mut self, strings: Strings, offset: usize) -> &'a str
         ensures name { result.now ≡ name_at (strings_in self.old.bytes strings) offset }
         ensures unchanged { self.new.bytes ≡ self.old.bytes }
+        ensures kept { IsKept self.new self.old.text_start self.old.text_end }
         ensures looks { IsShort self.old.bytes
             → Spends self.old self.new (name_looks + length result.now) }
         ensures looks_least { CountsAtLeast self.old.count (length result.now) self.new.count }
@@ -160,6 +200,7 @@ impl<'a> Names<'a> {
         ensures name { let table = text_table (slice_range self.old.bytes start end) in
             result.now ≡ name_at table offset }
         ensures unchanged { self.new.bytes ≡ self.old.bytes }
+        ensures kept { IsKept self.new self.old.text_start self.old.text_end }
         ensures looks { IsShort self.old.bytes
             → Spends self.old self.new (name_looks + length result.now) }
         ensures looks_least { CountsAtLeast self.old.count (length result.now) self.new.count }
@@ -186,6 +227,7 @@ impl<'a> Names<'a> {
             MatchOption result (LacksText string) (λ stop. (place ≤ stop) × (stop ≤ end)
             × (slice_range self.old.bytes place stop ≡ up_to_zero string)) }
         ensures unchanged { self.new.bytes ≡ self.old.bytes }
+        ensures kept { IsKept self.new self.old.text_start self.old.text_end }
         ensures looks { IsShort self.old.bytes → MatchOption result
             (Spends self.old self.new 2080)
             (λ stop. ((stop ≤ place + 1027) × Spends self.old self.new 1570)
@@ -215,6 +257,7 @@ impl<'a> Names<'a> {
             × (slice_range self.old.bytes place stop ≡ up_to_zero string)) }
         ensures text { IfSome result (λ stop. IsUtf8 (slice_range self.old.bytes place stop)) }
         ensures unchanged { self.new.bytes ≡ self.old.bytes }
+        ensures kept { IsKept self.new self.old.text_start self.old.text_end }
         ensures looks { IsShort self.old.bytes → Spends self.old self.new 1560 }
         ensures looks_least { CountsAtLeast self.old.count 0 self.new.count }
     {
@@ -246,6 +289,7 @@ impl<'a> Names<'a> {
             × (slice_range self.old.bytes from stop ≡ up_to_zero string)) }
         ensures text { IfSome result (λ stop. IsUtf8 (slice_range self.old.bytes from stop)) }
         ensures unchanged { self.new.bytes ≡ self.old.bytes }
+        ensures kept { IsKept self.new self.old.text_start self.old.text_end }
         ensures looks { Spends self.old self.new (2 * (to - from)) }
         ensures looks_least { CountsAtLeast self.old.count 0 self.new.count }
     {

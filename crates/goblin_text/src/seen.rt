@@ -75,7 +75,6 @@ impl<'a> Seen<'a> {
     }
 
     /// The place behind a byte that goes on with a character, or the same place. It is one look.
-    #[tactic(auto, unfolding(crate::specs::Runs::past))]
     pub fn past(&mut self, place: usize) -> usize
         requires { place ≤ length self.old.bytes }
         ensures is { result ≡ past self.old.bytes place }
@@ -87,12 +86,7 @@ impl<'a> Seen<'a> {
         ensures looks_least { CountsAtLeast self.old.count 1 self.new.count }
     {
         self.add(1);
-        let bytes = self.bytes;
-        if place < bytes.len() && bytes[place] >= 0x80 && bytes[place] < 0xC0 {
-            place + 1
-        } else {
-            place
-        }
+        behind(self.bytes, place)
     }
 
     /// Where the characters from a place on begin: behind up to three bytes that go on with one. It is three looks.
@@ -107,9 +101,9 @@ impl<'a> Seen<'a> {
         ensures looks { self.new.count ≤ self.old.count + 3 }
         ensures looks_least { CountsAtLeast self.old.count 3 self.new.count }
     {
-        let first = self.past(place);
-        let second = self.past(first);
-        self.past(second)
+        self.add(3);
+        let bytes = self.bytes;
+        behind(bytes, behind(bytes, behind(bytes, place)))
     }
 
     /// Where the string from one place on ends, up to another: at a zero byte, or there. It is a look at each byte up
@@ -181,6 +175,22 @@ impl<'a> Seen<'a> {
         strict_is_text();
         answer?;
         Ok(())
+    }
+}
+
+// The place behind a byte that goes on with a character, or the same place.
+#[tactic(auto, unfolding(crate::specs::Runs::past))]
+fn behind(bytes: &[u8], place: usize) -> usize
+    requires { place ≤ length bytes.now }
+    ensures is { result ≡ past bytes.now place }
+    ensures within { result ≤ length bytes.now }
+    ensures from { place ≤ result }
+    ensures to { result ≤ place + 1 }
+{
+    if place < bytes.len() && bytes[place] >= 0x80 && bytes[place] < 0xC0 {
+        place + 1
+    } else {
+        place
     }
 }
 

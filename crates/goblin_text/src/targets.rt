@@ -1,7 +1,7 @@
 //! What takes a text piece by piece: a buffer of fixed size before a writer, and a text in memory.
 ghost use Rattle.std.specs.Prelude.{◌≡◌, ◌+◌, ◌≤◌, ◌++◌, IsTrue, OnErr, OnOk, Some, length, [], string_bytes, take};
 ghost use Rattle.std.specs.Borrow.{GName};
-ghost use Rattle.std.specs.Io.KnownBytes.{Keeps};
+ghost use Rattle.std.specs.Io.KnownBytes.{Appends, Keeps};
 ghost use Rattle.goblin_text.specs.Put.{Puts, State, held};
 
 use crate::streams::Sink;
@@ -66,23 +66,11 @@ impl<'a, W: Sink> Buffered<'a, W> {
         Ok(())
     }
 
-    // Writes what the buffer has, where it has no room for so many bytes more.
-    fn make_room(&mut self, len: usize) -> io::Result<()>
-        requires { len ≤ 32768 }
-        ensures kept { self.new.writer.ghost_name ≡ self.old.writer.ghost_name }
-        ensures room { OnOk result (self.new.filled + len ≤ 32768) }
-        ensures bytes { OnOk result (Keeps
-            (held (W.contents self.old.writer.now) self.old.room self.old.filled)
-            (held (W.contents self.new.writer.now) self.new.room self.new.filled)) }
-        ensures heeded { OnOk result ((W.marks self.new.writer.now).told_error
-            ≡ (W.marks self.old.writer.now).told_error) }
-        ensures err { OnErr result (IsTrue (W.marks self.new.writer.now).told_error) }
+    // Whether the buffer has room for so many bytes more.
+    fn has_room(&self, len: usize) -> bool
+        ensures { IsTrue result → self.now.filled + len ≤ 32768 }
     {
-        if self.filled <= ROOM && len <= ROOM - self.filled {
-            return Ok(());
-        }
-        self.pass_on()?;
-        Ok(())
+        self.filled <= ROOM && len <= ROOM - self.filled
     }
 
     // Adds bytes that the buffer has room for.
@@ -94,8 +82,29 @@ impl<'a, W: Sink> Buffered<'a, W> {
             ≡ take self.old.filled self.old.room ++ bytes.now }
     {
         let end = self.filled + bytes.len();
-        self.room[self.filled..end].copy_from_slice(bytes);
+        copy(&mut self.room[self.filled..end], bytes);
         self.filled = end;
+    }
+
+    // Puts bytes behind those of the buffer, which are written first.
+    #[cold]
+    #[inline(never)]
+    fn put_behind(&mut self, bytes: &[u8]) -> io::Result<()>
+        ensures kept { self.new.writer.ghost_name ≡ self.old.writer.ghost_name }
+        ensures bytes { OnOk result (Appends
+            (held (W.contents self.old.writer.now) self.old.room self.old.filled)
+            (held (W.contents self.new.writer.now) self.new.room self.new.filled) bytes.now) }
+        ensures heeded { OnOk result ((W.marks self.new.writer.now).told_error
+            ≡ (W.marks self.old.writer.now).told_error) }
+        ensures err { OnErr result (IsTrue (W.marks self.new.writer.now).told_error) }
+    {
+        self.pass_on()?;
+        if bytes.len() > ROOM {
+            self.writer.write_all(bytes)?;
+            return Ok(());
+        }
+        self.add(bytes);
+        Ok(())
     }
 
     /// Writes what the buffer has, and passes it on.
@@ -125,15 +134,25 @@ impl<W: Sink> Target for Buffered<'_, W> {
 
     fn put(&mut self, piece: &str) -> io::Result<()> {
         let bytes = piece.as_bytes();
-        if bytes.len() > ROOM {
-            self.pass_on()?;
-            self.writer.write_all(bytes)?;
+        if self.has_room(bytes.len()) {
+            self.add(bytes);
             return Ok(());
         }
-        self.make_room(bytes.len())?;
-        self.add(bytes);
-        Ok(())
+        self.put_behind(bytes)
     }
+}
+
+// Copies bytes over as many others. A single one, as most pieces are, is copied without a call.
+#[tactic(auto, using(crate::proofs::Puts::set_single))]
+fn copy(room: &mut [u8], bytes: &[u8])
+    requires { length room.old ≡ length bytes.now }
+    ensures { room.new ≡ bytes.now }
+{
+    if bytes.len() == 1 {
+        room[0] = bytes[0];
+        return;
+    }
+    room.copy_from_slice(bytes);
 }
 
 /// A text in memory.

@@ -6,7 +6,7 @@ use Rattle.std.specs.Io.KnownBytes.{Appends}
 use Rattle.std.specs.Prelude.{encode_utf8_all}
 use Rattle.goblin_text.proofs.Printed.{encode-printable}
 use Rattle.goblin_text.specs.Lines.{printed}
-use Rattle.goblin_text.proofs.lines.put_printed.Goals as goal
+use Rattle.goblin_text.proofs.lines.put_replaced.Goals as goal
 
 pub loop-c-preserved : goal.loop-c-preserved
 loop-c-preserved g c =

@@ -7,7 +7,7 @@ use Rattle.goblin_text.proofs.Blocks.{cut_bounds}
 use Rattle.goblin_text.proofs.Plain.{block_of_text, text-cut, text_up_to}
 use Rattle.goblin_text.specs.declared.runs.Kind.TheVariants.{Text}
 use Rattle.goblin_text.specs.Runs.{IsEnd, IsRun, blocks, cut}
-use Rattle.goblin_text.proofs.names.Names.is_range_text.Goals as goal
+use Rattle.goblin_text.proofs.names.Names.reads_as_text.Goals as goal
 
 pub returns-then-not-is_text-clause-value : goal.returns-then-not-is_text-clause-value
 returns-then-not-is_text-clause-value c = (
