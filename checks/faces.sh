@@ -42,6 +42,19 @@ check_axioms() {
     echo "the library reaches no function that the toolchain takes for granted"
 }
 
+# What the library needs and has: memcpy alone, and neither unwind tables nor notes for control-flow enforcement.
+check_needs() {
+    nm -u "$library/libgoblin_c.a" | awk 'NF == 2 { print $2 }' > "$folder/needs"
+    readelf -SW "$library/libgoblin_c.a" > "$folder/sections"
+    if [ "$(cat "$folder/needs")" != memcpy ] || ! grep -q '\.text\.goblin_header ' "$folder/sections" \
+        || grep -e '\.eh_frame' -e '\.note\.gnu\.property' "$folder/sections"; then
+        echo "the library needs or has more than memcpy:"
+        cat "$folder/needs"
+        exit 1
+    fi
+    echo "the library needs memcpy alone"
+}
+
 # ---- C ----
 
 # The options for the sanitizers, where the compiler has them.
@@ -293,6 +306,7 @@ if ! has nm || ! has readelf; then
     echo "no nm and readelf here: no lists are compared"
     exit 0
 fi
+check_needs
 if [ $# -gt 0 ]; then printf '%s\n' "$@"; else
     pick 60 /usr/bin; pick 60 /usr/lib -name '*.so*'; pick 60 /usr/lib -name '*.o'
 fi > "$folder/list"

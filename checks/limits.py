@@ -2,8 +2,8 @@
 """Whether files made to ask for much work stay cheap: python3 checks/limits.py, from the repository's root, once the program is built.
 
 Of each file of checks/hostile.sh: the processor seconds that a strict and a permissive run may take, at most some 20 times what
-they took when the limits were set, and for all the memory. Of a text without end the first 100 MB are read, and then no more. What
-is there for speed alone, and no contract says, is noticed here when it is undone.
+they took when the limits were set, and for all the memory and the main stack. Of a text without end the first 100 MB are read,
+and then no more. What is there for speed alone, and no contract says, is noticed here when it is undone.
 """
 import os
 import resource
@@ -13,6 +13,7 @@ import tempfile
 
 PROGRAM = 'crates/goblin_show/out/goblin_show'
 MEMORY = 40 * 1024 * 1024
+STACK = 256 * 1024
 READ = 100_000_000
 # file: strict, permissive
 LIMITS = {
@@ -45,6 +46,7 @@ def took(path, words, limit):
     is_endless = path.endswith('/endless')
     def limited():
         resource.setrlimit(resource.RLIMIT_CPU, (limit, limit))
+        resource.setrlimit(resource.RLIMIT_STACK, (STACK, STACK))
     with open(path, 'rb') as file:
         started = subprocess.Popen([PROGRAM, *words], stdin=file, preexec_fn=limited,
                                    stdout=subprocess.PIPE if is_endless else subprocess.DEVNULL)
