@@ -1,7 +1,7 @@
 #!/bin/sh
 # Whether each call that takes memory answers want of memory, or what it answers with ample memory, whichever one of its
-# growths is refused: each call that crates/goblin_refused lists in its stdin, and a run of goblin_text over files that
-# reach each of its lines. Nothing is proved here. Run from the repository's root.
+# growths is refused: each call that crates/goblin_refused lists in its stdin, a run of goblin_text over files that reach
+# each of its lines, and text_of over two of them. Nothing is proved here. Run from the repository's root.
 set -eu
 export LC_ALL=C
 folder=$(mktemp -d)
@@ -57,5 +57,7 @@ add_run relocations 'strict 0' checks/files/relocations 20 < checks/files/reloca
 add_run names 'strict 0' "$names" 20 < crates/goblin_show/stdout
 sed 's/name=[.]s$/name=/' crates/goblin_show/stdout | add_run damaged 'permissive 0' "$folder/damaged" 20
 echo 'refused: Invalid magic number: 0x3736353433323130' | add_run longest 'strict 16777200' "$folder/magic" 12
+add_run text 'text 0' checks/files/symbols 20 < checks/files/symbols.shown
+echo refused | add_run text_damaged 'text 0' "$folder/damaged" 20
 run_cases "$folder/crates/goblin_runs" "$folder/runs"
 echo 'each growth that is refused is answered by want of memory, or as with ample memory'

@@ -53,9 +53,9 @@ enum {
     GOBLIN_OUT_OF_MEMORY = 7,
 
     /* Numbers of the library that no call here answers so far are kept for it: 10, 11, 15, 18, 22, 23 and 24. */
-    /* A class byte that is neither 1 nor 2, of a header that is written: the byte. */
+    /* A class byte that is neither 1 nor 2, of a header that is asked or written: the byte. */
     GOBLIN_INVALID_CLASS = 10,
-    /* An order byte that is neither 1 nor 2, of a header that is written: the byte. */
+    /* An order byte that is neither 1 nor 2, of a header that is asked: the byte. */
     GOBLIN_INVALID_ENDIANNESS = 11,
     /* The file has fewer than 16 bytes. */
     GOBLIN_TOO_SMALL = 12,
@@ -63,7 +63,7 @@ enum {
     GOBLIN_ELF_CLASS = 13,
     /* The order byte is neither 1 nor 2: the byte. */
     GOBLIN_DATA_TYPE = 14,
-    /* The order byte of a raw header is neither 1 nor 2: the byte. */
+    /* The order byte is neither 1 nor 2, of a raw header or one that is written: the byte. */
     GOBLIN_DATA = 15,
     /* Notes are aligned to neither 4 nor 8: the alignment. */
     GOBLIN_NOTE_ALIGN = 16,

@@ -1,6 +1,6 @@
 //! Bytes that are read under a count, and the entries of a string table that are kept as places in them.
 //!
-//! The types here keep their fields to themselves and can't be copied, so that whoever reads through them
+//! The views here keep their fields to themselves and can't be copied, so that whoever reads through them
 //! can't read uncounted.
 ghost use Rattle.std.specs.Prelude.{◌≡◌, ◌↔◌, ◌+◌, ◌-◌, ◌*◌, ◌^◌, ◌<◌, ◌≤◌, [], min, length, IsTrue, slice_index, slice_index_or, slice_range};
 ghost use Rattle.std.specs.Str.{IsUtf8};

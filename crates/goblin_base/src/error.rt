@@ -80,7 +80,7 @@ pub enum Fault {
         /// Whether size and offset together pass `u64`.
         overflow: bool,
     },
-    /// The addresses of a section pass the greatest one.
+    /// The addresses of a section end at the greatest one or past it.
     SectionAddr {
         /// Where the section's name lies in the string table.
         name: usize,

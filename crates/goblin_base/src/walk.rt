@@ -1,4 +1,4 @@
-//! The walk that makes the entries of a string table, within five looks at each byte.
+//! The walk that makes the entries of a string table, within five looks a byte.
 ghost use Rattle.std.specs.Prelude.{◌≡◌, ◌+◌, ◌-◌, ◌*◌, ◌<◌, ◌≤◌, ◌≢◌, [], false, min, length, IfErr, IfOk, IsOk};
 ghost use Rattle.goblin_base.specs.Entries.{CountsAtLeast};
 ghost use Rattle.goblin_base.specs.Pieces.{first_bad, piece_end};

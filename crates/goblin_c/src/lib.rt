@@ -390,7 +390,7 @@ pub extern "C" fn goblin_relocs(
 }
 
 /// The section at an index, where it is a table that something names by this index: not at index 0, and
-/// not where the section has no bytes in the file.
+/// not where its type is that of a section without bytes in the file.
 #[unsafe(no_mangle)]
 pub extern "C" fn goblin_table(
     bytes: &[u8],

@@ -307,6 +307,10 @@ fn tells_why_sections_are_refused(rt: HostRuntime) {
     // The section headers start 8 bytes late.
     let line = "refused: type is too big (40) for 32\n";
     assert!(rt; refuses(rt.alloc(), &STRICT, SYMBOLS, &[(32, 96)], line));
+    // A string table of no bytes that starts past the file's end.
+    let line =
+        "refused: Malformed entity: String table offset (209) is beyond file boundary (208)\n";
+    assert!(rt; refuses(rt.alloc(), &STRICT, SYMBOLS, &[(144, 209), (148, 0)], line));
 }
 
 // sh_addr of the second section is the greatest u64.

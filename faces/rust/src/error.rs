@@ -35,9 +35,9 @@ pub enum Kind {
     BufferTooShort(u64, &'static str),
     /// Memory is wanting. No call here takes any.
     OutOfMemory,
-    /// The class byte of a header that is written.
+    /// The class byte of a header that is asked or written.
     InvalidClass(u8),
-    /// The order byte of a header that is written.
+    /// The order byte of a header that is asked.
     InvalidEndianness(u8),
     /// The file has fewer than 16 bytes.
     TooSmall,
@@ -45,7 +45,7 @@ pub enum Kind {
     ElfClass(u8),
     /// The order byte is neither 1 nor 2.
     DataType(u8),
-    /// The order byte of a raw header is neither 1 nor 2.
+    /// The order byte is neither 1 nor 2, of a raw header or one that is written.
     Data(u8),
     /// Notes are aligned to neither 4 nor 8.
     NoteAlign(u64),

@@ -182,7 +182,8 @@ pub fn is_mips64el(header: &Header) -> bool
     }
 }
 
-/// Laws: that a relocation section depends on its own bytes alone, and is written as them.
+/// Laws: that a relocation section depends on its own bytes and on how many there are in all, alone, and is
+/// written as them.
 pub fn laws()
     ensures range { DependsOnItsRange }
     ensures bytes { WritesItsBytes }

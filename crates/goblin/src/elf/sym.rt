@@ -190,9 +190,9 @@ impl<'a> Symtab<'a> {
     /// The index of the symbol that an address lies in, or `None` where no symbol stands at it or below it.
     ///
     /// It is the one with the highest value that isn't above the address; of those with the same value the
-    /// first that reaches the address by its size, or else the first. Symbols of sections, files and threads,
-    /// and those that no section of the file has, are left out. Whether the symbol reaches the address, where
-    /// it has a size, is left to the caller.
+    /// first that reaches the address by its size, or else the first. Only symbols of a section of the file count, and
+    /// of these only those without a type, objects, functions and indirect functions. Whether the symbol reaches
+    /// the address, where it has a size, is left to the caller.
     pub fn at(&self, address: u64) -> Option<usize>
         ensures { result ≡ symbol_at address self.now.symbols }
     {
@@ -322,7 +322,7 @@ pub fn constants()
 {}
 
 /// Laws: where a table is accepted strictly, the permissive reading gives the same table; and a
-/// table depends on the bytes of its range alone.
+/// table depends on the bytes of its range and on how many there are in all, alone.
 pub fn laws()
     ensures permissive { PermissiveKeepsStrict }
     ensures range { DependsOnItsRange }
