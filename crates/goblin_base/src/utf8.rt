@@ -20,7 +20,7 @@ pub fn read_text(bytes: &[u8], size: usize) -> Result<&str>
 }
 
 /// The fault of bytes that are no text, with how many bytes there are from their start on.
-pub(crate) fn invalid_utf8(size: usize) -> Error
+pub fn invalid_utf8(size: usize) -> Error
     ensures { refusal_of result ≡ invalid_utf8 size }
 {
     Error::Scroll(scroll::Error::BadInput {

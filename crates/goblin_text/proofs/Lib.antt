@@ -1,4 +1,5 @@
 mod Blocks
+mod Faults
 mod Glyphs
 mod Looks
 mod Modes
@@ -9,5 +10,4 @@ mod Puts
 mod Reading
 mod Shows
 mod Spent
-mod Strict
 mod Tables

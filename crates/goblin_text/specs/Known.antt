@@ -1,9 +1,7 @@
 -- The string tables of a file: ranges of its bytes, of which names are read where they stand.
 use Rattle.std.specs.Prelude.{◌≡◌, ℕ, ◌≤◌, true, List, length, slice_range, Ok}
-use Rattle.std.specs.Str.{IsUtf8}
 use Rattle.goblin.specs.declared.options.ParseMode.{ParseMode}
-use Rattle.goblin.specs.declared.options.ParseMode.TheVariants.{Strict}
-use Rattle.goblin.specs.Strtab.{StringTable, range_in, table_of}
+use Rattle.goblin.specs.Strtab.{StringTable, range_in}
 use Rattle.goblin_text.specs.declared.names.Strings.{Strings}
 use Rattle.goblin_text.specs.declared.names.Strings.TheVariants.{Missing, Within}
 use Rattle.goblin_text.specs.Shown.{no_strings}
@@ -22,7 +20,3 @@ text_table bytes = record { bytes = bytes; delim = 0; is_parsed = true }
 abbrev pub strings_in : List ℕ → Strings → StringTable
 strings_in bytes Missing = no_strings
 strings_in bytes (Within start end) = text_table (slice_range bytes start end)
-
--- the bytes of a string table that strict mode takes are text
-abbrev pub StrictIsText : Type 0
-StrictIsText = (bytes : List ℕ) (table : StringTable) → table_of Strict bytes 0 ≡ Ok table → IsUtf8 bytes

@@ -37,10 +37,10 @@ IsShort bytes = length bytes ≤ 16777216
 abbrev pub Spends : (old new : Named) (most : ℕ) → Type 0
 Spends old new most = new.count + new.left ≤ old.count + old.left + most
 
--- and where bytes are refused, five more at each of them
+-- and where bytes are refused, two more at each of them
 abbrev pub Spent : {T E : Type 0} → (old new : Named) → Result T E → (most : ℕ) → Type 0
 Spent old new (Ok done) most = Spends old new most
-Spent old new (Err e) most = Spends old new (most + 5 * length old.bytes)
+Spent old new (Err e) most = Spends old new (most + 2 * length old.bytes)
 
 -- how many looks a block takes, which is read once: two at each of its bytes, and six at its edges
 abbrev pub block_looks : ℕ
@@ -72,7 +72,7 @@ names_looks text = length text + name_looks * lines_in text
 
 -- how many looks the string tables of a file may take, where they are refused
 abbrev pub tables_looks : ParseMode → List ℕ → ℕ
-tables_looks mode bytes = table_looks * (section_count mode bytes + 1) + 5 * length bytes
+tables_looks mode bytes = table_looks * (section_count mode bytes + 1) + 2 * length bytes
 
 -- how many looks names may take that stand in the text of a file
 abbrev pub shown_looks : ParseMode → List ℕ → ℕ

@@ -1,6 +1,6 @@
 //! A file whose parts are accepted: of it nothing is refused any more, and its text takes no memory.
 ghost use Rattle.std.specs.Prelude.{◌≡◌, ◌+◌, ◌*◌, IfErr, IfOk, OnErr, length};
-ghost use Rattle.goblin.specs.Refusal.{Gives, Refuses};
+ghost use Rattle.goblin.specs.Refusal.{Answers, Gives, Refuses};
 ghost use Rattle.goblin.specs.SectionHeaders.{section_headers_of_tested};
 ghost use Rattle.goblin_text.specs.Accepted.{accepted_text, parts_text, relocs_text, symbols_text};
 ghost use Rattle.goblin_text.specs.Known.{strings_in};
@@ -114,15 +114,10 @@ struct File<'b> {
 
 impl File<'_> {
     // The string table that a section is.
-    fn strings_of(
-        &self,
-        alloc: Global,
-        names: &mut Names<'_>,
-        section: &SectionHeader,
-    ) -> Result<Strings>
-        ensures given { let right = strings_of self.now.opts.now.parse_mode names.old.bytes
+    fn strings_of(&self, names: &mut Names<'_>, section: &SectionHeader) -> Result<Strings>
+        ensures exact { let right = strings_of self.now.opts.now.parse_mode names.old.bytes
             (Some section.now) in
-            Gives (strings_in names.old.bytes) result right }
+            Answers (strings_in names.old.bytes) result right }
         ensures unchanged { names.new.bytes ≡ names.old.bytes }
         ensures looks { IsShort names.old.bytes → Spent names.old names.new result table_looks }
     {
@@ -131,15 +126,15 @@ impl File<'_> {
         }
         let offset = section.sh_offset as usize;
         let size = section.sh_size as usize;
-        names.table(alloc, offset, size, self.opts)
+        names.table(offset, size, self.opts)
     }
 
     // The string table that is the section with an index: index 0 is no section.
     #[tactic(auto, unfolding(crate::specs::Shown::strings_at))]
-    fn strings_at(&self, alloc: Global, names: &mut Names<'_>, index: usize) -> Result<Strings>
-        ensures given { let right = strings_at self.now.opts.now.parse_mode names.old.bytes
+    fn strings_at(&self, names: &mut Names<'_>, index: usize) -> Result<Strings>
+        ensures exact { let right = strings_at self.now.opts.now.parse_mode names.old.bytes
             self.now.sections.now index in
-            Gives (strings_in names.old.bytes) result right }
+            Answers (strings_in names.old.bytes) result right }
         ensures unchanged { names.new.bytes ≡ names.old.bytes }
         ensures looks { IsShort names.old.bytes → Spent names.old names.new result table_looks }
     {
@@ -147,7 +142,7 @@ impl File<'_> {
             return Ok(Strings::Missing);
         }
         match self.sections.get(index) {
-            Some(section) => self.strings_of(alloc, names, section),
+            Some(section) => self.strings_of(names, section),
             None => Ok(Strings::Missing),
         }
     }
@@ -156,7 +151,6 @@ impl File<'_> {
     #[tactic(auto, unfolding(crate::specs::Shown::symbols_shown))]
     fn accept_symbols<'a>(
         &self,
-        alloc: Global,
         names: &mut Names<'a>,
         parts: &mut Vec<SymbolPart<'a>>,
         number: usize,
@@ -175,7 +169,7 @@ impl File<'_> {
         let offset = section.sh_offset as usize;
         let count = section.sh_size as usize / Sym::size(self.ctx.container);
         let table = Symtab::parse_with_opts(names.bytes(), offset, count, self.ctx, self.opts)?;
-        let strings = self.strings_at(alloc, names, section.sh_link as usize)?;
+        let strings = self.strings_at(names, section.sh_link as usize)?;
         Ok(parts.push(SymbolPart {
             section: number,
             table,
@@ -186,7 +180,6 @@ impl File<'_> {
     // Adds the symbols of all sections to the parts.
     fn accept_all_symbols<'a>(
         &self,
-        alloc: Global,
         names: &mut Names<'a>,
         parts: &mut Vec<SymbolPart<'a>>,
     ) -> Result<()>
@@ -200,7 +193,7 @@ impl File<'_> {
             IsShort names.old.bytes → Spent names.old names.new result most }
     {
         for (number, section) in self.sections.iter().enumerate() {
-            self.accept_symbols(alloc, names, parts, number, section)?;
+            self.accept_symbols(names, parts, number, section)?;
         }
         Ok(())
     }
@@ -267,9 +260,9 @@ impl File<'_> {
             IsShort names.old.bytes → Spent names.old names.new result most }
     {
         let index = SectionHeader::names_index(self.header.e_shstrndx, self.sections.first());
-        let strings = self.strings_at(alloc, names, index)?;
+        let strings = self.strings_at(names, index)?;
         let mut symbols = Vec::new(alloc);
-        self.accept_all_symbols(alloc, names, &mut symbols)?;
+        self.accept_all_symbols(names, &mut symbols)?;
         let mut relocs = Vec::new(alloc);
         self.accept_all_relocs(names.bytes(), &mut relocs, is_mips64el(self.header))?;
         Ok(Parts {

@@ -3,7 +3,7 @@
 ghost use Rattle.std.specs.Prelude.{◌≡◌, ◌↔◌, ◌+◌, ◌*◌, ◌<◌, ◌≤◌, ◌⊎◌, ◌-◌, ◌/◌, IfSome, IsErr, IsTrue, MatchOption, OnErr, OnOk, length, min, slice_range};
 ghost use Rattle.std.specs.Str.{IsUtf8};
 ghost use Rattle.goblin.specs.declared.options.ParseMode.{ParseMode};
-ghost use Rattle.goblin.specs.Refusal.{Gives};
+ghost use Rattle.goblin.specs.Refusal.{Answers};
 ghost use Rattle.goblin.specs.Strtab.{strtab_of};
 ghost use Rattle.goblin_text.specs.Known.{strings_in, text_table};
 ghost use Rattle.goblin_text.specs.Looks.{CountsAtLeast, IsKept, IsShort, Spends, name_looks, table_looks};
@@ -15,7 +15,6 @@ use crate::seen::Seen;
 use goblin::error::Result;
 use goblin::options::ParseOptions;
 use goblin::strtab::bytes_in_range;
-use std::alloc::Global;
 use std::marker::Model;
 
 /// The strings that names are taken from.
@@ -97,20 +96,14 @@ impl<'a> Names<'a> {
     /// It has no entries: a name is read where it stands. Strict options ask that its bytes are text. The errors are
     /// those of `Strtab::parse_with_opts`.
     #[tactic(auto, using(crate::proofs::Blocks::range_stands, crate::proofs::Tables::range_taken))]
-    pub fn table(
-        &mut self,
-        alloc: Global,
-        offset: usize,
-        size: usize,
-        opts: &ParseOptions,
-    ) -> Result<Strings>
-        ensures given { let right = strtab_of opts.now.parse_mode self.old.bytes offset size 0 in
-            Gives (strings_in self.old.bytes) result right }
+    pub fn table(&mut self, offset: usize, size: usize, opts: &ParseOptions) -> Result<Strings>
+        ensures exact { let right = strtab_of opts.now.parse_mode self.old.bytes offset size 0 in
+            Answers (strings_in self.old.bytes) result right }
         ensures unchanged { self.new.bytes ≡ self.old.bytes }
         ensures looks { IsShort self.old.bytes
             → OnOk result (Spends self.old self.new table_looks) }
         ensures looks_refused { IsShort self.old.bytes
-            → OnErr result (Spends self.old self.new (table_looks + 5 * length self.old.bytes)) }
+            → OnErr result (Spends self.old self.new (table_looks + 2 * length self.old.bytes)) }
 
         // A strict table that is asked for again at once takes no look.
         ensures kept { OnOk result (opts.now.parse_mode ≡ ParseMode.Strict
@@ -123,7 +116,7 @@ impl<'a> Names<'a> {
         let start = offset.min(bytes.len());
         let end = start + range.len();
         if !opts.parse_mode.is_permissive() && !self.is_range_text(start, end) {
-            self.seen.walk(alloc, start, end)?;
+            self.seen.refuse_unless_text(start, end)?;
         }
         Ok(Strings::Within { start, end })
     }

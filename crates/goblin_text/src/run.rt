@@ -93,7 +93,7 @@ fn refuse_for<W: Sink>(alloc: Global, writer: &mut W, e: &Error) -> Outcome
 /// bytes are refused, or found no memory. That is decided before the first line of the text.
 ///
 /// Of a file that is shown, what is looked at for names is at most five times its bytes, its text's bytes, and 4,096 for
-/// each line of its text; of one that is refused, ten times its bytes, and 1,040 for each section header and one more.
+/// each line of its text; of one that is refused, seven times its bytes, and 1,040 for each section header and one more.
 pub fn show_file<W: Sink>(
     alloc: Global,
     writer: &mut W,

@@ -1,22 +1,20 @@
 //! The bytes of a file, which are read for names under a count of the bytes looked at.
 //!
 //! The type here keeps its fields to itself and can't be copied, so that whoever reads through it reads counted.
-ghost use Rattle.std.specs.Prelude.{◌≡◌, ◌↔◌, ◌+◌, ◌-◌, ◌*◌, ◌<◌, ◌≤◌, ◌==◌, ◌≢◌, IfErr, IsTrue, OnOk, [], length, min, slice_range, if◌then◌else◌};
+ghost use Rattle.std.specs.Prelude.{◌≡◌, ◌↔◌, ◌+◌, ◌-◌, ◌*◌, ◌<◌, ◌≤◌, ◌==◌, IsTrue, OnOk, [], length, min, slice_range, if◌then◌else◌};
 ghost use Rattle.std.specs.List.{position};
 ghost use Rattle.std.specs.Str.{IsUtf8, is_utf8};
 ghost use Rattle.goblin.specs.declared.options.ParseMode.{ParseMode};
-ghost use Rattle.goblin.specs.Pieces.{first_bad, piece_end};
-ghost use Rattle.goblin.specs.Refusal.{Gives, out_of_memory, refusal_of};
+ghost use Rattle.goblin.specs.Pieces.{piece_start};
+ghost use Rattle.goblin.specs.Refusal.{Answers};
 ghost use Rattle.goblin.specs.Strtab.{table_of};
 ghost use Rattle.goblin_text.specs.Looks.{CountsAtLeast};
-ghost use Rattle.goblin_text.specs.Known.{StrictIsText, text_table};
+ghost use Rattle.goblin_text.specs.Known.{text_table};
 ghost use Rattle.goblin_text.specs.Runs.{cut, past, up_to_zero};
 
 use goblin::error::Result;
 use goblin::options::ParseMode;
-use goblin_base::entries::Looked;
-use goblin_base::walk::walk;
-use std::alloc::Global;
+use goblin_base::utf8::invalid_utf8;
 use std::marker::Model;
 
 /// The bytes of a file, and how many looks at them were taken for names.
@@ -154,28 +152,43 @@ impl<'a> Seen<'a> {
         or_empty(&self.bytes[from..to])
     }
 
-    /// Walks over the string table of the bytes from one place up to another for its refusal. It is five looks at each
-    /// of them, at most.
-    pub fn walk(&mut self, alloc: Global, from: usize, to: usize) -> Result<()>
+    /// Refuses the string table of the bytes from one place up to another, unless it is text. The first whole piece that
+    /// is none is the one round the first fault: no others are looked for. It is at most two looks at each byte.
+    pub fn refuse_unless_text(&mut self, from: usize, to: usize) -> Result<()>
         requires ordered { from ≤ to }
         requires within { to ≤ length self.old.bytes }
-        ensures given { let bytes = slice_range self.old.bytes from to in
-            Gives (λ _. text_table bytes) result (table_of ParseMode.Strict bytes 0) }
+        ensures exact { let bytes = slice_range self.old.bytes from to in
+            Answers (λ _. text_table bytes) result (table_of ParseMode.Strict bytes 0) }
         ensures text { OnOk result (IsUtf8 (slice_range self.old.bytes from to)) }
         ensures unchanged { self.new.bytes ≡ self.old.bytes }
-        ensures looks { self.new.count ≤ self.old.count + 5 * (to - from) }
-        ensures looks_least { let bytes = slice_range self.old.bytes from to in
-            let least = piece_end bytes 0 (first_bad bytes 0) in
-            IfErr result (λ e. refusal_of e ≢ out_of_memory
-            → CountsAtLeast self.old.count least self.new.count) }
+        ensures looks { self.new.count ≤ self.old.count + 2 * (to - from) }
+        ensures looks_least { CountsAtLeast self.old.count (to - from) self.new.count }
     {
-        let mut looked = Looked::new(&self.bytes[from..to]);
-        let answer = walk(alloc, &mut looked, 0, ParseMode::Strict);
-        self.count = self.count.saturating_add(looked.count());
-        strict_is_text();
-        answer?;
-        Ok(())
+        self.add(to - from);
+        let table = &self.bytes[from..to];
+        match std::str::from_utf8(table) {
+            Ok(_) => Ok(()),
+            Err(fault) => {
+                let place = fault.valid_up_to();
+                let start = start_of_string(table, place);
+                self.add(place - start);
+                Err(invalid_utf8(table.len() - start))
+            }
+        }
     }
+}
+
+// The place behind the last zero byte before a place, or the start.
+fn start_of_string(bytes: &[u8], place: usize) -> usize
+    requires { place ≤ length bytes.now }
+    ensures is { result ≡ piece_start bytes.now 0 place }
+    ensures to { result ≤ place }
+{
+    let mut start = place;
+    while start > 0 && bytes[start - 1] != 0 {
+        start -= 1;
+    }
+    start
 }
 
 // The place behind a byte that goes on with a character, or the same place.
@@ -192,13 +205,6 @@ fn behind(bytes: &[u8], place: usize) -> usize
     } else {
         place
     }
-}
-
-// A law: a string table that a strict walk takes is text.
-fn strict_is_text()
-    ensures { StrictIsText }
-{
-    goblin::strtab::laws();
 }
 
 // Where a zero byte stands first.

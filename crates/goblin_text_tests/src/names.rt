@@ -85,7 +85,7 @@ fn agrees_on_both(
     let mut names = Names::new(bytes);
     for (offset, size) in [one, other, one] {
         let table = Strtab::parse_with_opts(alloc, bytes, offset, size, 0, opts);
-        let strings = names.table(alloc, offset, size, opts);
+        let strings = names.table(offset, size, opts);
         if !agrees(alloc, &mut names, strings, table) {
             return false;
         }
@@ -146,9 +146,9 @@ fn names_of_long_strings_round_block_ends(rt: HostRuntime) {
 }
 
 // How many looks the names at these offsets take, of a table of all the bytes that is asked for before.
-fn looks_at(alloc: Global, bytes: &[u8], offsets: &[usize], opts: &ParseOptions) -> Option<u128> {
+fn looks_at(bytes: &[u8], offsets: &[usize], opts: &ParseOptions) -> Option<u128> {
     let mut names = Names::new(bytes);
-    let strings = names.table(alloc, 0, bytes.len(), opts).ok()?;
+    let strings = names.table(0, bytes.len(), opts).ok()?;
     for offset in offsets {
         let _ = names.name(strings, *offset);
     }
@@ -159,11 +159,10 @@ fn looks_at(alloc: Global, bytes: &[u8], offsets: &[usize], opts: &ParseOptions)
 // the zero byte, and one at each of its own; past the table there is none.
 #[test]
 fn counts_looks(rt: HostRuntime) {
-    let alloc = rt.alloc();
     let bytes = b"ab\0cde";
-    assert!(rt; looks_at(alloc, bytes, &[], &STRICT) == Some(6));
-    assert!(rt; looks_at(alloc, bytes, &[], &PERMISSIVE) == Some(0));
-    assert!(rt; looks_at(alloc, bytes, &[0], &PERMISSIVE) == Some(6));
-    assert!(rt; looks_at(alloc, bytes, &[3, 3], &PERMISSIVE) == Some(14));
-    assert!(rt; looks_at(alloc, bytes, &[6], &STRICT) == Some(6));
+    assert!(rt; looks_at(bytes, &[], &STRICT) == Some(6));
+    assert!(rt; looks_at(bytes, &[], &PERMISSIVE) == Some(0));
+    assert!(rt; looks_at(bytes, &[0], &PERMISSIVE) == Some(6));
+    assert!(rt; looks_at(bytes, &[3, 3], &PERMISSIVE) == Some(14));
+    assert!(rt; looks_at(bytes, &[6], &STRICT) == Some(6));
 }

@@ -1,0 +1,194 @@
+-- The first piece of a string table that is no text: the first fault lies in it.
+use Rattle.std.proofs.Common.{◌≡◌, ◌≢◌, ◌∙◌, ℕ, zero, suc, ◌+◌, ◌-◌, ◌<◌, ◌≤◌, true, false, eqb, List, [], ◌∷◌, length, get_or, take, drop, refl, sym, ap, subst, ⊎_elim, arith, slice_range, Ok, Err, Result, if◌then◌else◌, ltb}
+use Rattle.std.proofs.lemmas.Bool.{and_left, both_ways, cases_Bool, cases_eq, cases_lt, cond-false, cond-true, eq-eqb, false_from_ne_true, le-ltb, lt-ltb, ne_eqb}
+use Rattle.std.proofs.lemmas.List.{drop-take, drop_more, get_or-take, length-take-le, take-take, take_all}
+use Rattle.std.proofs.lemmas.Str.{IsCharBoundary-after_ascii, IsCharBoundary-start, IsUtf8-drop, IsUtf8-from_is_utf8, IsUtf8-take, is_utf8-from_IsUtf8}
+use Rattle.std.specs.Str.{IsCharBoundary, IsUtf8, IsValidUpTo}
+use lib.Utf8.{encode}
+use Rattle.goblin.specs.Pieces.{entries, first_bad, is_bad_start, is_readable, piece, piece_end, piece_start}
+use Rattle.goblin.specs.Refusal.{Refusal}
+use Rattle.goblin.specs.Steps.{◌>>=◌}
+use Rattle.goblin.specs.Strtab.{StringTable, table_of, walked}
+use Rattle.goblin.specs.TextLaws.{texts-join}
+use Rattle.goblin.specs.Utf8.{invalid_utf8}
+use Rattle.goblin.specs.declared.options.ParseMode.TheVariants.{Strict}
+use Rattle.goblin_base.proofs.PiecesLemmas.{at_end, end_from, end_within, inside_piece, piece_is_range, start_after_delim, start_more, start_to}
+use Rattle.goblin_base.proofs.WalkLemmas.{bad_start_from, first_bad_is, no_bad_start_readable}
+use Rattle.goblin_text.specs.Known.{text_table}
+
+module _ (bytes : List ℕ) where
+  -- ---- where a piece begins
+  -- the piece round a piece's beginning begins there
+  start_of_start : (o : ℕ) → piece_start bytes 0 (piece_start bytes 0 o) ≡ piece_start bytes 0 o
+  unfolding piece_start
+  start_of_start zero = refl
+  start_of_start (suc o) = ⊎_elim
+      (λ (e : eqb (get_or bytes o 0) 0 ≡ true). let s : piece_start bytes 0 (suc o) ≡ suc o = cond-true _ _ _ e in ap (piece_start bytes 0) s)
+      (λ (e : eqb (get_or bytes o 0) 0 ≡ false). let s : piece_start bytes 0 (suc o) ≡ piece_start bytes 0 o = cond-false _ _ _ e in ap (piece_start bytes 0) s ∙ start_of_start o ∙ sym s)
+      (cases_Bool (eqb (get_or bytes o 0) 0))
+
+  -- before a place where one begins a zero byte stands
+  zero_before : (o : ℕ) → piece_start bytes 0 (suc o) ≡ suc o → get_or bytes o 0 ≡ 0
+  unfolding piece_start
+  zero_before o h = ⊎_elim
+      (λ (e : eqb (get_or bytes o 0) 0 ≡ true). grind arith)
+      (λ (e : eqb (get_or bytes o 0) 0 ≡ false). absurd (omega (arith, cond-false _ (suc o) (piece_start bytes 0 o) e, h, start_to bytes 0 o)))
+      (cases_Bool (eqb (get_or bytes o 0) 0))
+
+  -- and behind a zero byte one begins
+  start_behind : (q p : ℕ) → q < p → get_or bytes q 0 ≡ 0 → q < piece_start bytes 0 p
+  unfolding piece_start
+  start_behind q zero l z = absurd (omega arith)
+  start_behind q (suc o) l z = ⊎_elim
+      (λ (e : eqb (get_or bytes o 0) 0 ≡ true). let s : piece_start bytes 0 (suc o) ≡ suc o = cond-true _ _ _ e in omega (arith, s))
+      (λ (e : eqb (get_or bytes o 0) 0 ≡ false).
+      let s : piece_start bytes 0 (suc o) ≡ piece_start bytes 0 o = cond-false _ _ _ e in
+      ⊎_elim
+      (λ (m : q ≡ o). let is : get_or bytes o 0 ≡ 0 = subst (λ x. get_or bytes x 0 ≡ 0) m z in absurd (both_ways _ e (eq-eqb _ _ is)))
+      (λ (n : q ≢ o). omega (arith, s, n, start_behind q o (omega (arith, n)) z))
+      (cases_eq q o))
+      (cases_Bool (eqb (get_or bytes o 0) 0))
+
+  -- the place before, where no zero byte stands there
+  pub start_back : (o : ℕ) → 0 < o → get_or bytes (o - 1) 0 ≢ 0 → piece_start bytes 0 (o - 1) ≡ piece_start bytes 0 o
+  start_back o l n = let e : o ≡ suc (o - 1) = omega arith in sym (ap (piece_start bytes 0) e ∙ start_more bytes 0 (o - 1) (ne_eqb _ _ n))
+
+  -- the place itself, where one does, or nothing stands before it
+  pub start_here : (o : ℕ) → 0 < o → get_or bytes (o - 1) 0 ≡ 0 → o ≡ piece_start bytes 0 o
+  start_here o l z = let e : o ≡ suc (o - 1) = omega arith in e ∙ sym (ap (piece_start bytes 0) e ∙ start_after_delim bytes 0 (o - 1) (eq-eqb _ _ z))
+
+  pub start_first : (o : ℕ) → o ≤ 0 → o ≡ piece_start bytes 0 o
+  unfolding piece_start
+  start_first zero l = refl
+  start_first (suc o) l = absurd (omega arith)
+
+  zero_at_end : (o : ℕ) → o ≤ length bytes → piece_end bytes 0 o < length bytes → get_or bytes (piece_end bytes 0 o) 0 ≡ 0
+  zero_at_end o l m = let e = at_end bytes 0 o l m in grind (arith, e)
+
+  -- a piece ends before the next one begins
+  end_before : (k s : ℕ) → k < s → piece_start bytes 0 s ≡ s → piece_end bytes 0 k < s
+  end_before k zero l h = absurd (omega arith)
+  end_before k (suc o) l h = ⊎_elim
+      (λ (m : o < piece_end bytes 0 k). absurd (both_ways _ (inside_piece bytes 0 k o (omega arith) m) (eq-eqb _ _ (zero_before o h))))
+      (λ (m : piece_end bytes 0 k ≤ o). omega arith)
+      (cases_lt o (piece_end bytes 0 k))
+
+  -- ---- pieces of a front that is text
+  -- it may be cut where a piece begins
+  cut_at_start : (p o : ℕ) → p ≤ length bytes → IsUtf8 (take p bytes) → o ≤ p → piece_start bytes 0 o ≡ o → IsCharBoundary (take p bytes) o
+  cut_at_start p zero w front l h = IsCharBoundary-start (take p bytes) front
+  cut_at_start p (suc o) w front l h =
+      let size = length-take-le p bytes w in
+      let z : get_or (take p bytes) o 0 ≡ 0 = get_or-take p bytes o 0 (omega arith) ∙ zero_before o h in
+      let next : o + 1 ≡ suc o = omega arith in
+      subst (IsCharBoundary (take p bytes)) next (IsCharBoundary-after_ascii (take p bytes) o front (omega (arith, size)) (omega (arith, z)))
+
+  up_to_start : (p o : ℕ) → p ≤ length bytes → IsUtf8 (take p bytes) → o ≤ p → piece_start bytes 0 o ≡ o → IsUtf8 (take o bytes)
+  up_to_start p o w front l h = subst IsUtf8 (take-take o p bytes l) (IsUtf8-take (take p bytes) o front (cut_at_start p o w front l h))
+
+  -- and where one ends
+  up_to_end : (p o : ℕ) → p ≤ length bytes → IsUtf8 (take p bytes) → o ≤ length bytes → piece_end bytes 0 o ≤ p → IsUtf8 (take (piece_end bytes 0 o) bytes)
+  up_to_end p o w front l m =
+      let e = piece_end bytes 0 o in
+      let size = length-take-le p bytes w in
+      let at : IsCharBoundary (take p bytes) e = (
+        omega (arith, size, m),
+        λ short high.
+            let z : get_or (take p bytes) e 0 ≡ 0 = get_or-take p bytes e 0 (omega (arith, short, size)) ∙ zero_at_end o l (omega (arith, short, size, w)) in
+            absurd (omega (arith, z, high)),
+      ) in
+      subst IsUtf8 (take-take e p bytes m) (IsUtf8-take (take p bytes) e front at)
+
+  -- so a piece that begins and ends in it is text
+  readable_within : (p o : ℕ) → p ≤ length bytes → IsUtf8 (take p bytes) → piece_start bytes 0 o ≡ o → piece_end bytes 0 o ≤ p → is_readable bytes 0 o ≡ true
+  unfolding is_readable
+  readable_within p o w front h m =
+      let e = piece_end bytes 0 o in
+      let from : o ≤ e = end_from bytes 0 o in
+      let head : IsUtf8 (take e bytes) = up_to_end p o w front (omega (arith, from, m, w)) m in
+      let rest : IsUtf8 (drop o (take e bytes)) = IsUtf8-drop (take e bytes) o head (cut_at_start e o (omega (arith, m, w)) head from h) in
+      let len : e ≡ o + (e - o) = omega (arith, from) in
+      let is : drop o (take e bytes) ≡ piece bytes 0 o = ap (λ n. drop o (take n bytes)) len ∙ drop-take o (e - o) bytes ∙ sym (piece_is_range bytes 0 o) in
+      is_utf8-from_IsUtf8 _ (subst IsUtf8 is rest)
+
+  no_bad_start : (p k : ℕ) → p ≤ length bytes → IsUtf8 (take p bytes) → piece_end bytes 0 k ≤ p → is_bad_start bytes 0 k ≡ false
+  unfolding is_bad_start
+  no_bad_start p k w front m = ⊎_elim
+      (λ (e : piece_start bytes 0 k ≡ k). no_bad_start_readable bytes 0 k (readable_within p k w front e m))
+      (λ (n : piece_start bytes 0 k ≢ k). and_left _ _ (ne_eqb _ _ n))
+      (cases_eq (piece_start bytes 0 k) k)
+
+  -- ---- the piece that a fault lies in
+  -- a front that is text and a range that is, right behind it
+  front_more : (i j : ℕ) → i ≤ j → IsUtf8 (take i bytes) → IsUtf8 (slice_range bytes i j) → IsUtf8 (take j bytes)
+  front_more i j l u v = let m : i - 0 ≡ i = omega arith in let n : j - 0 ≡ j = omega arith in
+      subst (λ x. IsUtf8 (take x bytes)) n (texts-join bytes 0 i j (omega arith) l (subst (λ x. IsUtf8 (take x bytes)) (sym m) u) v)
+
+  zero_is_text : (p : ℕ) → p < length bytes → get_or bytes p 0 ≡ 0 → IsUtf8 (slice_range bytes p (p + 1))
+  unfolding encode
+  zero_is_text p l z =
+      let one : p + 1 - p ≡ 1 = omega arith in
+      let is : slice_range bytes p (p + 1) ≡ 0 ∷ [] = ap (λ n. take n (drop p bytes)) one ∙ ap (take 1) (drop_more bytes p 0 l) ∙ ap (λ b. b ∷ []) z in
+      subst IsUtf8 (sym is) (0 ∷ [], (refl, refl))
+
+  -- the fault stands before the end of the piece that it lies in
+  fault_inside : (p : ℕ) → IsValidUpTo bytes p → p < piece_end bytes 0 (piece_start bytes 0 p)
+  fault_inside p v =
+      let s = piece_start bytes 0 p in
+      let e = piece_end bytes 0 s in
+      let to = start_to bytes 0 p in
+      let from = end_from bytes 0 s in
+      let z : e ≤ p → get_or bytes e 0 ≡ 0 = λ m. zero_at_end s (omega (arith, to, v.short)) (omega (arith, m, v.short)) in
+      ⊎_elim
+      (λ (l : p < e). l)
+      (λ (m : e ≤ p). ⊎_elim
+      (λ (l : e < p). absurd (omega (arith, from, start_behind e p l (z m))))
+      (λ (l : p ≤ e).
+      let same : e ≡ p = omega arith in
+      absurd (v.longest (p + 1) (omega arith) (front_more p (p + 1) (omega arith) v.front (zero_is_text p v.short (subst (λ x. get_or bytes x 0 ≡ 0) same (z m))))))
+      (cases_lt e p))
+      (cases_lt p e)
+
+  fault_unreadable : (p : ℕ) → IsValidUpTo bytes p → is_readable bytes 0 (piece_start bytes 0 p) ≡ false
+  unfolding is_readable
+  fault_unreadable p v =
+      let s = piece_start bytes 0 p in
+      let e = piece_end bytes 0 s in
+      let inside : p < e = fault_inside p v in
+      let to = start_to bytes 0 p in
+      let head : IsUtf8 (take s bytes) = up_to_start p s (omega (arith, v.short)) v.front to (start_of_start p) in
+      false_from_ne_true _ (λ r.
+      let text : IsUtf8 (slice_range bytes s e) = subst IsUtf8 (piece_is_range bytes 0 s) (IsUtf8-from_is_utf8 _ r) in
+      v.longest e inside (front_more s e (end_from bytes 0 s) head text))
+
+  first_bad_at : (p : ℕ) → IsValidUpTo bytes p → first_bad bytes 0 ≡ piece_start bytes 0 p
+  first_bad_at p v =
+      let s = piece_start bytes 0 p in
+      let to = start_to bytes 0 p in
+      first_bad_is bytes 0 s (omega (arith, to, v.short))
+      (λ k l. no_bad_start p k (omega (arith, v.short)) v.front (omega (arith, to, end_before k s l (start_of_start p))))
+      (λ _. bad_start_from bytes 0 s (start_of_start p) (fault_unreadable p v))
+
+  first_bad_of_text : IsUtf8 bytes → first_bad bytes 0 ≡ length bytes
+  first_bad_of_text u =
+      let n = length bytes in
+      let all : IsUtf8 (take n bytes) = subst IsUtf8 (sym (take_all n bytes (omega arith))) u in
+      first_bad_is bytes 0 n (omega arith)
+      (λ k l. no_bad_start n k (omega arith) all (end_within bytes 0 k (omega arith)))
+      (λ l. absurd (omega arith))
+
+  -- ---- the table
+  -- what a strict walk answers whose first bad piece begins there
+  walk_to : ℕ → Result StringTable Refusal
+  walk_to first =
+      (if ltb first (length bytes) then Err (invalid_utf8 (length bytes - first)) else Ok (entries bytes 0)) >>= (λ _. Ok (text_table bytes))
+
+  pub table_refused : (p : ℕ) → IsValidUpTo bytes p → table_of Strict bytes 0 ≡ Err (invalid_utf8 (length bytes - piece_start bytes 0 p))
+  unfolding walked walk_to
+  table_refused p v =
+      let to = start_to bytes 0 p in
+      ap walk_to (first_bad_at p v) ∙ rw (lt-ltb (piece_start bytes 0 p) (length bytes) (omega (arith, to, v.short))) refl
+
+  pub table_taken : IsUtf8 bytes → table_of Strict bytes 0 ≡ Ok (text_table bytes)
+  unfolding walked
+  table_taken u = rw (le-ltb (first_bad bytes 0) (length bytes) (omega (arith, first_bad_of_text u))) refl
