@@ -277,9 +277,10 @@ impl File<'_> {
 ///
 /// The errors, of which the first that applies is the answer: those of reading the header; those of
 /// reading the section headers from the offset and of the number that the header tells; where the
-/// options are strict, a section that does not lie in the file; those of the section names' table;
-/// for each section of symbols those of its symbol table and then of its string table; for each
-/// section of relocations those of reading it. Or memory is wanting.
+/// options are strict, a section that does not lie in the file or whose addresses end at the greatest
+/// one or past it; those of the section names' table; for each section of symbols those of its symbol
+/// table and then of its string table; for each section of relocations those of reading it. Or memory
+/// is wanting.
 #[tactic(auto, unfolding(crate::specs::Shown::shown, crate::specs::Shown::tested, crate::specs::Looks::section_count))]
 pub fn accept<'a>(alloc: Global, names: &mut Names<'a>, opts: &ParseOptions) -> Result<Accepted<'a>>
     ensures text { let right = shown opts.now.parse_mode names.old.bytes in
