@@ -70,7 +70,9 @@ fn put_name<T: Target>(target: &mut T, name: &str) -> Result<(), T::Error>
         (printed name.now & newline) }
     ensures kept { T.kept target.new ≡ T.kept target.old }
 {
-    put_printed(target, name)?;
+    if !name.is_empty() {
+        put_printed(target, name)?;
+    }
     target.put("\n")
 }
 
