@@ -1,5 +1,5 @@
 -- The first piece of a string table that is no text: the first fault lies in it.
-use Rattle.std.proofs.Common.{◌≡◌, ◌≢◌, ◌∙◌, ℕ, zero, suc, ◌+◌, ◌-◌, ◌<◌, ◌≤◌, true, false, eqb, List, [], ◌∷◌, length, get_or, take, drop, refl, sym, ap, subst, ⊎_elim, arith, slice_range, Ok, Err, Result, if◌then◌else◌, ltb}
+use Rattle.std.proofs.Common.{◌≡◌, ◌≢◌, ◌∙◌, ℕ, zero, suc, ◌+◌, ◌-◌, ◌<◌, ◌≤◌, ◌==◌, true, false, eqb, List, [], ◌∷◌, length, get_or, take, drop, refl, sym, ap, subst, ⊎_elim, arith, slice_range, Ok, Err, Result, if◌then◌else◌, ltb}
 use Rattle.std.proofs.lemmas.Bool.{and_left, both_ways, cases_Bool, cases_eq, cases_lt, cond-false, cond-true, eq-eqb, false_from_ne_true, le-ltb, lt-ltb, ne_eqb}
 use Rattle.std.proofs.lemmas.List.{drop-take, drop_more, get_or-take, length-take-le, take-take, take_all}
 use Rattle.std.proofs.lemmas.Str.{IsCharBoundary-after_ascii, IsCharBoundary-start, IsUtf8-drop, IsUtf8-from_is_utf8, IsUtf8-take, is_utf8-from_IsUtf8}
@@ -12,7 +12,7 @@ use Rattle.goblin.specs.Strtab.{StringTable, table_of, walked}
 use Rattle.goblin.specs.TextLaws.{texts-join}
 use Rattle.goblin.specs.Utf8.{invalid_utf8}
 use Rattle.goblin.specs.declared.options.ParseMode.TheVariants.{Strict}
-use Rattle.goblin_base.proofs.PiecesLemmas.{at_end, end_from, end_within, inside_piece, piece_is_range, start_after_delim, start_more, start_to}
+use Rattle.goblin_base.proofs.PiecesLemmas.{at_end, end_from, end_within, inside_piece, piece_is_range, start_after_delim, start_same, start_to}
 use Rattle.goblin_base.proofs.WalkLemmas.{bad_start_from, first_bad_is, no_bad_start_readable}
 use Rattle.goblin_text.specs.Known.{text_table}
 
@@ -49,21 +49,33 @@ module _ (bytes : List ℕ) where
       (cases_eq q o))
       (cases_Bool (eqb (get_or bytes o 0) 0))
 
-  -- the place before, where no zero byte stands there
-  pub start_back : (o : ℕ) → 0 < o → get_or bytes (o - 1) 0 ≢ 0 → piece_start bytes 0 (o - 1) ≡ piece_start bytes 0 o
-  start_back o l n = let e : o ≡ suc (o - 1) = omega arith in sym (ap (piece_start bytes 0) e ∙ start_more bytes 0 (o - 1) (ne_eqb _ _ n))
-
-  -- the place itself, where one does, or nothing stands before it
-  pub start_here : (o : ℕ) → 0 < o → get_or bytes (o - 1) 0 ≡ 0 → o ≡ piece_start bytes 0 o
-  start_here o l z = let e : o ≡ suc (o - 1) = omega arith in e ∙ sym (ap (piece_start bytes 0) e ∙ start_after_delim bytes 0 (o - 1) (eq-eqb _ _ z))
-
-  pub start_first : (o : ℕ) → o ≤ 0 → o ≡ piece_start bytes 0 o
-  unfolding piece_start
-  start_first zero l = refl
-  start_first (suc o) l = absurd (omega arith)
-
   zero_at_end : (o : ℕ) → o ≤ length bytes → piece_end bytes 0 o < length bytes → get_or bytes (piece_end bytes 0 o) 0 ≡ 0
   zero_at_end o l m = let e = at_end bytes 0 o l m in grind (arith, e)
+
+  -- where the last one begins, behind which no zero byte stands
+  start_of_last : (s : ℕ) → s ≤ length bytes → piece_start bytes 0 s ≡ s → ((i : ℕ) → s ≤ i → i < length bytes → get_or bytes i 0 ≢ 0) → s ≡ piece_start bytes 0 (length bytes)
+  start_of_last s l h none = ⊎_elim
+      (λ (m : piece_end bytes 0 s < length bytes). absurd (none (piece_end bytes 0 s) (end_from bytes 0 s) m (zero_at_end s l m)))
+      (λ (m : length bytes ≤ piece_end bytes 0 s). sym (start_same bytes 0 s (length bytes) l m ∙ h))
+      (cases_lt (piece_end bytes 0 s) (length bytes))
+
+  pub start_behind_last : (k : ℕ) → k < length bytes → get_or bytes k 0 ≡ 0 → ((i : ℕ) → k < i → i < length bytes → get_or bytes i 0 ≢ 0) → k + 1 ≡ piece_start bytes 0 (length bytes)
+  start_behind_last k l z none =
+      let next : k + 1 ≡ suc k = omega arith in
+      let here : piece_start bytes 0 (k + 1) ≡ k + 1 = ap (piece_start bytes 0) next ∙ start_after_delim bytes 0 k (eq-eqb _ _ z) ∙ sym next in
+      start_of_last (k + 1) (omega arith) here (λ i from to. none i (omega arith) to)
+
+  pub start_of_only : ((i : ℕ) → i < length bytes → get_or bytes i 0 ≢ 0) → 0 ≡ piece_start bytes 0 (length bytes)
+  unfolding piece_start
+  start_of_only none = start_of_last 0 (omega arith) refl (λ i from to. none i to)
+
+  -- it depends on the bytes before the place
+  start_of_front : (o p : ℕ) → o ≤ p → piece_start (take p bytes) 0 o ≡ piece_start bytes 0 o
+  unfolding piece_start
+  start_of_front zero p l = refl
+  start_of_front (suc o) p l =
+      ap (λ b. if b == 0 then suc o else piece_start (take p bytes) 0 o) (get_or-take p bytes o 0 (omega arith))
+      ∙ ap (λ s. if get_or bytes o 0 == 0 then suc o else s) (start_of_front o p (omega arith))
 
   -- a piece ends before the next one begins
   end_before : (k s : ℕ) → k < s → piece_start bytes 0 s ≡ s → piece_end bytes 0 k < s
@@ -183,11 +195,13 @@ module _ (bytes : List ℕ) where
   walk_to first =
       (if ltb first (length bytes) then Err (invalid_utf8 (length bytes - first)) else Ok (entries bytes 0)) >>= (λ _. Ok (text_table bytes))
 
-  pub table_refused : (p : ℕ) → IsValidUpTo bytes p → table_of Strict bytes 0 ≡ Err (invalid_utf8 (length bytes - piece_start bytes 0 p))
+  pub table_refused : (p : ℕ) → IsValidUpTo bytes p → table_of Strict bytes 0 ≡ Err (invalid_utf8 (length bytes - piece_start (take p bytes) 0 (length (take p bytes))))
   unfolding walked walk_to
   table_refused p v =
       let to = start_to bytes 0 p in
-      ap walk_to (first_bad_at p v) ∙ rw (lt-ltb (piece_start bytes 0 p) (length bytes) (omega (arith, to, v.short))) refl
+      let size : length (take p bytes) ≡ p = length-take-le p bytes (omega (arith, v.short)) in
+      let same : piece_start (take p bytes) 0 (length (take p bytes)) ≡ piece_start bytes 0 p = ap (piece_start (take p bytes) 0) size ∙ start_of_front p p (omega arith) in
+      rw same (ap walk_to (first_bad_at p v) ∙ rw (lt-ltb (piece_start bytes 0 p) (length bytes) (omega (arith, to, v.short))) refl)
 
   pub table_taken : IsUtf8 bytes → table_of Strict bytes 0 ≡ Ok (text_table bytes)
   unfolding walked

@@ -170,7 +170,9 @@ impl<'a> Seen<'a> {
             Ok(_) => Ok(()),
             Err(fault) => {
                 let place = fault.valid_up_to();
-                let start = start_of_string(table, place);
+                // What stands before the fault is text, and isn't tested again.
+                let text = unsafe { std::str::from_utf8_unchecked(&table[..place]) };
+                let start = start_of_last_string(text);
                 self.add(place - start);
                 Err(invalid_utf8(table.len() - start))
             }
@@ -178,17 +180,15 @@ impl<'a> Seen<'a> {
     }
 }
 
-// The place behind the last zero byte before a place, or the start.
-fn start_of_string(bytes: &[u8], place: usize) -> usize
-    requires { place ≤ length bytes.now }
-    ensures is { result ≡ piece_start bytes.now 0 place }
-    ensures to { result ≤ place }
+// Where the last string of a text begins: behind its last zero byte, or at its start.
+fn start_of_last_string(text: &str) -> usize
+    ensures is { result ≡ piece_start text.now 0 (length text.now) }
+    ensures to { result ≤ length text.now }
 {
-    let mut start = place;
-    while start > 0 && bytes[start - 1] != 0 {
-        start -= 1;
+    match text.rfind('\0') {
+        Some(place) => place + 1,
+        None => 0,
     }
-    start
 }
 
 // The place behind a byte that goes on with a character, or the same place.
