@@ -16,6 +16,10 @@ from edit import BODY, HEAD, LIST, apply, path_among
 from verdict import Said
 
 
+# From this status on a check was killed.
+KILLED = 128
+
+
 class Trial:
     """A copy of a crate, with what checks have kept of it and what its proof said, and its edits."""
 
@@ -55,14 +59,17 @@ class Trial:
         return None not in paths
 
     def check(self, edits):
-        """What the prover says of the crate with these edits."""
+        """What the prover says of the crate with these edits. A check that is killed, as where memory is short, is made once more."""
         texts = apply(edits, self.folder)
         before = {path: open(f'{self.folder}/{path}', encoding='utf-8').read() for path in texts}
         try:
             self.write(texts)
-            self.begin_anew()
-            words = ['rt', 'check', '--jobs', '1']
-            ran = subprocess.run(words, cwd=self.folder, stdin=subprocess.DEVNULL, capture_output=True, text=True, errors='replace')
+            for _ in range(2):
+                self.begin_anew()
+                words = ['rt', 'check', '--jobs', '1']
+                ran = subprocess.run(words, cwd=self.folder, stdin=subprocess.DEVNULL, capture_output=True, text=True, errors='replace')
+                if ran.returncode < KILLED:
+                    break
         finally:
             self.write(before)
         return Said(ran.stdout + ran.stderr, self.crate)
