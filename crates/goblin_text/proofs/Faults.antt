@@ -189,6 +189,12 @@ module _ (bytes : List ℕ) where
       (λ k l. no_bad_start n k (omega arith) all (end_within bytes 0 k (omega arith)))
       (λ l. absurd (omega arith))
 
+  -- it begins where the last string of the front does
+  pub first_bad_of_front : (p : ℕ) → IsValidUpTo bytes p → first_bad bytes 0 ≡ piece_start (take p bytes) 0 (length (take p bytes))
+  first_bad_of_front p v =
+      let size : length (take p bytes) ≡ p = length-take-le p bytes (omega (arith, v.short)) in
+      first_bad_at p v ∙ sym (ap (piece_start (take p bytes) 0) size ∙ start_of_front p p (omega arith))
+
   -- ---- the table
   -- what a strict walk answers whose first bad piece begins there
   walk_to : ℕ → Result StringTable Refusal
@@ -198,10 +204,10 @@ module _ (bytes : List ℕ) where
   pub table_refused : (p : ℕ) → IsValidUpTo bytes p → table_of Strict bytes 0 ≡ Err (invalid_utf8 (length bytes - piece_start (take p bytes) 0 (length (take p bytes))))
   unfolding walked walk_to
   table_refused p v =
+      let s = piece_start (take p bytes) 0 (length (take p bytes)) in
+      let at : first_bad bytes 0 ≡ s = first_bad_of_front p v in
       let to = start_to bytes 0 p in
-      let size : length (take p bytes) ≡ p = length-take-le p bytes (omega (arith, v.short)) in
-      let same : piece_start (take p bytes) 0 (length (take p bytes)) ≡ piece_start bytes 0 p = ap (piece_start (take p bytes) 0) size ∙ start_of_front p p (omega arith) in
-      rw same (ap walk_to (first_bad_at p v) ∙ rw (lt-ltb (piece_start bytes 0 p) (length bytes) (omega (arith, to, v.short))) refl)
+      ap walk_to at ∙ rw (lt-ltb s (length bytes) (omega (arith, at, first_bad_at p v, to, v.short))) refl
 
   pub table_taken : IsUtf8 bytes → table_of Strict bytes 0 ≡ Ok (text_table bytes)
   unfolding walked

@@ -1,11 +1,12 @@
 //! The bytes of a file, which are read for names under a count of the bytes looked at.
 //!
 //! The type here keeps its fields to itself and can't be copied, so that whoever reads through it reads counted.
-ghost use Rattle.std.specs.Prelude.{◌≡◌, ◌↔◌, ◌+◌, ◌-◌, ◌*◌, ◌<◌, ◌≤◌, ◌==◌, IsTrue, OnOk, [], length, min, slice_range, if◌then◌else◌};
+ghost use Rattle.std.specs.Prelude.{◌≡◌, ◌↔◌, ◌+◌, ◌-◌, ◌*◌, ◌<◌, ◌≤◌, ◌==◌, IfErr, IsTrue, OnOk, [], length, min, slice_range, if◌then◌else◌};
 ghost use Rattle.std.specs.List.{position};
 ghost use Rattle.std.specs.Str.{IsUtf8, is_utf8};
+ghost use Rattle.std.specs.Str.Lossy.{utf8_valid_len};
 ghost use Rattle.goblin.specs.declared.options.ParseMode.{ParseMode};
-ghost use Rattle.goblin.specs.Pieces.{piece_start};
+ghost use Rattle.goblin.specs.Pieces.{first_bad, piece_start};
 ghost use Rattle.goblin.specs.Refusal.{Answers};
 ghost use Rattle.goblin.specs.Strtab.{table_of};
 ghost use Rattle.goblin_text.specs.Looks.{CountsAtLeast};
@@ -163,6 +164,10 @@ impl<'a> Seen<'a> {
         ensures unchanged { self.new.bytes ≡ self.old.bytes }
         ensures looks { self.new.count ≤ self.old.count + 2 * (to - from) }
         ensures looks_least { CountsAtLeast self.old.count (to - from) self.new.count }
+        ensures looks_least_refused { let bytes = slice_range self.old.bytes from to in
+            let searched = utf8_valid_len bytes - first_bad bytes 0 in
+            IfErr result (λ _.
+            CountsAtLeast self.old.count (to - from + searched) self.new.count) }
     {
         self.add(to - from);
         let table = &self.bytes[from..to];
