@@ -9,33 +9,61 @@ trap 'rm -rf "$folder"' EXIT
 trap 'exit 1' HUP INT TERM
 mkdir "$folder/calls" "$folder/runs"
 
-# The cases of a call or a run: its line and its file, with the growths from one number to another refused, one a case.
-# The instrument tells whether all is well, and of the last also whether no more growths than these are asked for.
+# Which allocation of a program is refused. The instruments take so many before a call that it is one of the call's growths.
+refused=1000
+well='as it should be'
+more='it asks for more growths than were refused'
+
+# The cases of a call in a folder: its line and its file, with the growths from one number to another refused, one a case; and
+# before the first what it writes where none is, if that is known.
 add_cases() {
-    growth=$4
-    while [ "$growth" -le "$5" ]; do
+    growth=$3
+    while [ "$growth" -le "$4" ]; do
         is_last=
-        [ "$growth" -lt "$5" ] || is_last=' last'
-        { echo "$2 $growth$is_last"; cat "$3"; } > "$1.$growth"
-        echo 'as it should be' > "$1.$growth.stdout"
+        [ "$growth" -lt "$4" ] || is_last=' last'
+        { echo "$(cat "$1/$2.line") $growth $refused$is_last"; cat "$1/$2.file"; } > "$1/cases/$2.$growth"
+        echo "$well" > "$1/cases/$2.$growth.stdout"
         growth=$((growth + 1))
     done
-}
-
-# Runs a crate's program over each case of a folder, with its hundredth allocation refused.
-run_cases() {
-    if ! (cd "$1" && rt try --steps 100000 --fail-alloc 100 --cases "$2") > "$folder/out" 2>&1; then
-        grep -v output=expected "$folder/out"
-        exit 1
+    if [ "$3" -eq 1 ] && [ -e "$1/$2.shown" ]; then
+        { echo "$(cat "$1/$2.line") 0 $refused"; cat "$1/$2.file"; } > "$1/cases/$2.0"
+        cp "$1/$2.shown" "$1/cases/$2.0.stdout"
     fi
 }
 
-# (Records take their memory at once. The last growth tells where more are asked for than are tried.)
+# Runs a crate's program over the calls of a folder, with so many growths of each refused, and as many more of those calls that
+# ask for more, until none does.
+try_growths() {
+    first=1
+    while [ -s "$2/names" ]; do
+        rm -rf "$2/cases"
+        mkdir "$2/cases"
+        while read -r name; do
+            add_cases "$2" "$name" "$first" $((first + $3 - 1))
+        done < "$2/names"
+        (cd "$1" && rt try --steps 100000 --fail-alloc "$refused" --cases "$2/cases") > "$folder/out" 2>&1 || true
+        sed -n "s/^the output differs from .\(.*\)[.][0-9]*[.]stdout.: at byte 0, expected \"$well.n\", found \"$more.n\"$/\1/p" \
+            "$folder/out" > "$2/names"
+        asked=$(find "$2/cases" -name '*.stdout' | wc -l)
+        told=$(grep -c '^case=.* output=expected' "$folder/out" || true)
+        if [ $((told + $(wc -l < "$2/names"))) -ne "$asked" ]; then
+            grep -v output=expected "$folder/out"
+            exit 1
+        fi
+        first=$((first + $3))
+    done
+}
+
+# A call in a folder: its name, its line and its file.
+add_call() {
+    echo "$2" >> "$1/names"
+    echo "$3" > "$1/$2.line"
+    cp "$4" "$1/$2.file"
+}
 while read -r name; do
-    case $name in segments-* | sections-* | symbols-*) last=3 ;; *) last=8 ;; esac
-    add_cases "$folder/calls/$name" "$name" /dev/null 1 $last
+    add_call "$folder/calls" "$name" "$name" /dev/null
 done < crates/goblin_refused/stdin
-run_cases crates/goblin_refused "$folder/calls"
+try_growths crates/goblin_refused "$folder/calls" 8
 
 # A program over goblin_text that tries growths.
 cp -r --parents crates.txt crates/*/src crates/*/specs crates/*/proofs "$folder"
@@ -44,20 +72,20 @@ mkdir -p "$folder/crates/goblin_runs/src"
 cp checks/refused_runs.main "$folder/crates/goblin_runs/src/main.rt"
 cp crates/goblin_refused/src/growths.rt "$folder/crates/goblin_runs/src"
 
-# A run over a file with zeros behind it, with so many growths at most, which writes this where all memory is there.
+# A run over a file with zeros behind it, which writes this where all memory is there.
 add_run() {
-    add_cases "$folder/runs/$1" "$2" "$3" 0 "$4"
-    cat > "$folder/runs/$1.0.stdout"
+    add_call "$folder/runs" "$1" "$2" "$3"
+    cat > "$folder/runs/$1.shown"
 }
 names=crates/goblin_show/stdin
 { head -c 53 "$names"; printf '\377'; tail -c +55 "$names"; } > "$folder/damaged"
 printf 0123456789abcdef > "$folder/magic"
-add_run symbols 'strict 0' checks/files/symbols 20 < checks/files/symbols.shown
-add_run relocations 'strict 0' checks/files/relocations 20 < checks/files/relocations.shown
-add_run names 'strict 0' "$names" 20 < crates/goblin_show/stdout
-sed 's/name=[.]s$/name=/' crates/goblin_show/stdout | add_run damaged 'permissive 0' "$folder/damaged" 20
-echo 'refused: Invalid magic number: 0x3736353433323130' | add_run longest 'strict 16777200' "$folder/magic" 12
-add_run text 'text 0' checks/files/symbols 20 < checks/files/symbols.shown
-echo refused | add_run text_damaged 'text 0' "$folder/damaged" 20
-run_cases "$folder/crates/goblin_runs" "$folder/runs"
+add_run symbols 'strict 0' checks/files/symbols < checks/files/symbols.shown
+add_run relocations 'strict 0' checks/files/relocations < checks/files/relocations.shown
+add_run names 'strict 0' "$names" < crates/goblin_show/stdout
+sed 's/name=[.]s$/name=/' crates/goblin_show/stdout | add_run damaged 'permissive 0' "$folder/damaged"
+echo 'refused: Invalid magic number: 0x3736353433323130' | add_run longest 'strict 16777200' "$folder/magic"
+add_run text 'text 0' checks/files/symbols < checks/files/symbols.shown
+echo refused | add_run text_damaged 'text 0' "$folder/damaged"
+try_growths "$folder/crates/goblin_runs" "$folder/runs" 20
 echo 'each growth that is refused is answered by want of memory, or as with ample memory'

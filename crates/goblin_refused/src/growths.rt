@@ -1,8 +1,6 @@
-//! Growths before and after a call, so that one of its own is the hundredth, and what is said of its answer.
+//! Growths before and after a call, so that one of its own is the allocation that the runner refuses, and what is said of
+//! its answer.
 use std::alloc::Global;
-
-// Which allocation of the program is refused.
-const REFUSED: u64 = 100;
 
 // Whether memory for one byte is refused.
 fn is_refused(alloc: Global) -> bool {
@@ -10,11 +8,11 @@ fn is_refused(alloc: Global) -> bool {
     room.push(1).is_err()
 }
 
-/// Takes as much memory before a call as makes its growth with this number the hundredth. Answers
-/// whether none of it was refused.
-pub(crate) fn takes_all_before(alloc: Global, growth: u64) -> bool {
+/// Takes as much memory before a call as makes its growth with this number the program's allocation that is refused.
+/// Answers whether none of it was refused.
+pub(crate) fn takes_all_before(alloc: Global, growth: u64, refused: u64) -> bool {
     let mut takes_all = true;
-    for _ in growth..REFUSED {
+    for _ in growth..refused {
         takes_all = !is_refused(alloc) && takes_all;
     }
     takes_all

@@ -1,9 +1,9 @@
 //! What each call that takes memory answers where a growth is refused.
 //!
-//! A line `NAME` of standard input names a call, whose answer is printed. A line `NAME N` asks for the same
+//! A line `NAME` of standard input names a call, whose answer is printed. A line `NAME N R` asks for the same
 //! with growth N of the call refused, and beside it with ample memory, and prints whether the two answers
-//! are as they should be. The runner refuses the hundredth allocation of the program, so 100 - N come before
-//! the call. By `NAME N last` the call is not to ask for growth N. `checks/refused.sh` goes over all.
+//! are as they should be. The runner refuses allocation R of the program, so R - N come before the call.
+//! By `NAME N R last` it is printed too where the call asks for growth N. `checks/refused.sh` goes over all.
 #![tactic(auto)]
 
 ghost use Rattle.std.specs.Prelude.{◌≤◌, IfOk};
@@ -44,10 +44,14 @@ fn read_input(rt: &HostRuntime, buffer: &mut [u8; MOST]) -> io::Result<usize>
     Ok(filled.min(MOST))
 }
 
-// Makes a call where its growth is refused and where none is, and says whether the answers are as they
-// should be.
-fn tried(alloc: Global, name: &str, growth: u64, is_last: bool) -> Result<&'static str> {
-    let takes_all = takes_all_before(alloc, growth);
+// Makes the call of a line where its growth is refused and where none is, and says whether the answers are as
+// they should be.
+fn tried(alloc: Global, name: &str, numbers: &str) -> Result<&'static str> {
+    let mut words = numbers.split(' ');
+    let growth = words.next().unwrap_or("").parse::<u64>().unwrap_or(0);
+    let refused = words.next().unwrap_or("").parse::<u64>().unwrap_or(0);
+    let is_last = words.next() == Some("last");
+    let takes_all = takes_all_before(alloc, growth, refused);
     let answer = answer_to(alloc, name);
     let is_met = was_met(alloc, growth);
     let (Some(answer), Some(ample)) = (answer, answer_to(alloc, name)) else {
@@ -69,13 +73,8 @@ fn tried(alloc: Global, name: &str, growth: u64, is_last: bool) -> Result<&'stat
 
 // Prints what a line asks for.
 fn tell(rt: &HostRuntime, line: &str) -> io::Result<()> {
-    let (line, is_last) = match line.strip_suffix(" last") {
-        Some(line) => (line, true),
-        None => (line, false),
-    };
-    if let Some((name, growth)) = line.split_once(' ') {
-        let growth = growth.parse::<u64>().unwrap_or(0);
-        return match tried(rt.alloc(), name, growth, is_last) {
+    if let Some((name, numbers)) = line.split_once(' ') {
+        return match tried(rt.alloc(), name, numbers) {
             Ok(judged) => println!(rt; "{judged}"),
             Err(e) => println!(rt; "{e}"),
         };
