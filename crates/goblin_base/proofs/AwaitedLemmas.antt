@@ -1,6 +1,6 @@
 -- One step of the reading of UTF-8.
-use Rattle.std.proofs.Common.{◌≡◌, ℕ, zero, suc, ◌-◌, ◌<◌, ◌≤◌, ◌⊎◌, true, false, ◌&&◌, eqb, leb, List, ◌∷◌, sym, ap, ◌∙◌, subst, inl, inr, ⊎_elim, arith, lt-ltb, le-ltb, le-leb, ne_eqb, Some, None}
-use Rattle.std.proofs.lemmas.Bool.{cases_lt, and_from, and_left, and_right, cond-true, cond-false, lt-leb}
+use Rattle.std.proofs.Common.{◌≡◌, ℕ, zero, suc, ◌-◌, ◌<◌, ◌≤◌, Bool, true, false, cond, ◌&&◌, eqb, ltb, leb, List, ◌∷◌, refl, sym, subst, inl, inr, arith, lt-ltb, le-leb, ne_eqb, Option, Some, None}
+use Rattle.std.proofs.lemmas.Bool.{and_parts, and_from, both_ways, cond-true, ltb-true, ltb-false, leb-true}
 use Rattle.std.specs.Str.{continuation_len}
 use Rattle.std.specs.Str.Lossy.{second_byte_min, second_byte_max}
 use Rattle.goblin_base.specs.declared.utf8.Awaited.{Awaited}
@@ -25,15 +25,6 @@ pub record Steps (s : Awaited) (b : ℕ) (t : Awaited) : Type 0 where
 
 abbrev of_first : ℕ → Awaited
 of_first b = record { more = continuation_len b; least = second_byte_min b; most = second_byte_max b }
-
-within : (lo hi b : ℕ) → (((lo ≤ b) × (b ≤ hi)) × ((leb lo b && leb b hi) ≡ true)) ⊎ (((lo ≤ b) × (b ≤ hi) → ⊥) × ((leb lo b && leb b hi) ≡ false))
-within lo hi b = ⊎_elim
-    (λ (l : b < lo). inr (λ h. omega (arith, h), and_left _ _ (lt-leb lo b l)))
-    (λ (l : lo ≤ b). ⊎_elim
-    (λ (m : hi < b). inr (λ h. omega (arith, h), and_right _ _ (lt-leb b hi m)))
-    (λ (m : b ≤ hi). inl ((l, m), and_from _ _ (le-leb lo b l) (le-leb b hi m)))
-    (cases_lt hi b))
-    (cases_lt b lo)
 
 -- ---- a first byte
 ascii_steps : (lo hi b : ℕ) → b < 128 → Steps (record { more = 0; least = lo; most = hi }) b awaits_first
@@ -62,47 +53,29 @@ later_steps n lo hi b l m h = record {
 }
 
 -- ---- what a step of the code says
-pub after_some : (s t : Awaited) (b : ℕ) → IsInner s → after_byte s b ≡ Some t → Steps s b t
-after_some s t b inner e = by s.more s.least s.most inner e
-  where
-    by : (n lo hi : ℕ) → IsInner (record { more = n; least = lo; most = hi }) → after_byte (record { more = n; least = lo; most = hi }) b ≡ Some t → Steps (record { more = n; least = lo; most = hi }) b t
-    by zero lo hi inner e = ⊎_elim
-        (λ (h : b < 128). let is : Some awaits_first ≡ Some t = sym (cond-true _ _ _ (lt-ltb b 128 h)) ∙ e in let same : awaits_first ≡ t = cc in subst (Steps (record { more = 0; least = lo; most = hi }) b) same (ascii_steps lo hi b h))
-        (λ (h : 128 ≤ b). ⊎_elim
-        (λ (p : ((0xc2 ≤ b) × (b ≤ 0xf4)) × ((leb 0xc2 b && leb b 0xf4) ≡ true)).
-        let is : Some (of_first b) ≡ Some t = sym (cond-false _ _ _ (le-ltb b 128 h) ∙ cond-true _ _ _ p.1) ∙ e in let same : of_first b ≡ t = cc in
-        subst (Steps (record { more = 0; least = lo; most = hi }) b) same (first_steps lo hi b p.0))
-        (λ (p : ((0xc2 ≤ b) × (b ≤ 0xf4) → ⊥) × ((leb 0xc2 b && leb b 0xf4) ≡ false)).
-        let is : None ≡ Some t = sym (cond-false _ _ _ (le-ltb b 128 h) ∙ cond-false _ _ _ p.1) ∙ e in cc)
-        (within 0xc2 0xf4 b))
-        (cases_lt b 128)
-    by (suc n) lo hi inner e =
-        let past : eqb (suc n) 0 ≡ false = ne_eqb (suc n) 0 (λ (z : suc n ≡ 0). omega arith) in ⊎_elim
-        (λ (p : ((lo ≤ b) × (b ≤ hi)) × ((leb lo b && leb b hi) ≡ true)).
-        let one : suc n - 1 ≡ n = omega arith in
-        let is : Some (record { more = suc n - 1; least = 0x80; most = 0xbf }) ≡ Some t = sym (cond-false _ _ _ past ∙ cond-true _ _ _ p.1) ∙ e in
-        let same : record { more = suc n - 1; least = 0x80; most = 0xbf } ≡ t = cc in
-        subst (Steps (record { more = suc n; least = lo; most = hi }) b) (ap (λ k. record { more = k; least = 0x80; most = 0xbf }) (sym one) ∙ same) (later_steps n lo hi b inner.least inner.most p.0))
-        (λ (p : ((lo ≤ b) × (b ≤ hi) → ⊥) × ((leb lo b && leb b hi) ≡ false)).
-        let is : None ≡ Some t = sym (cond-false _ _ _ past ∙ cond-false _ _ _ p.1) ∙ e in cc)
-        (within lo hi b)
+-- and whether there is one: what begins with a byte that may not come completes nothing
+abbrev pub StepsTo : Awaited → ℕ → Option Awaited → Type 0
+StepsTo s b (Some t) = Steps s b t
+StepsTo s b None = (bs : List ℕ) → CompletesFrom s (b ∷ bs) → ⊥
 
-pub after_none : (s : Awaited) (b : ℕ) (bs : List ℕ) → after_byte s b ≡ None → CompletesFrom s (b ∷ bs) → ⊥
-after_none s b bs e v = by s.more s.least s.most e v
+in_range : (lo hi b : ℕ) → (leb lo b && leb b hi) ≡ true → (lo ≤ b) × (b ≤ hi)
+in_range lo hi b e = let parts = and_parts _ _ e in (leb-true lo b parts.0, leb-true b hi parts.1)
+
+out_of_range : (lo hi b : ℕ) → (leb lo b && leb b hi) ≡ false → (lo ≤ b) × (b ≤ hi) → ⊥
+out_of_range lo hi b e h = both_ways _ e (and_from _ _ (le-leb lo b h.0) (le-leb b hi h.1))
+
+pub steps : (s : Awaited) (b : ℕ) → IsInner s → StepsTo s b (after_byte s b)
+steps s b inner = by s.more s.least s.most inner
   where
-    by : (n lo hi : ℕ) → after_byte (record { more = n; least = lo; most = hi }) b ≡ None → Completes n lo hi (b ∷ bs) → ⊥
-    by zero lo hi e v = ⊎_elim
-        (λ (h : b < 128). let is : Some awaits_first ≡ None = sym (cond-true _ _ _ (lt-ltb b 128 h)) ∙ e in cc)
-        (λ (h : 128 ≤ b). ⊎_elim
-        (λ (p : ((0xc2 ≤ b) × (b ≤ 0xf4)) × ((leb 0xc2 b && leb b 0xf4) ≡ true)).
-        let is : Some (of_first b) ≡ None = sym (cond-false _ _ _ (le-ltb b 128 h) ∙ cond-true _ _ _ p.1) ∙ e in cc)
-        (λ (p : ((0xc2 ≤ b) × (b ≤ 0xf4) → ⊥) × ((leb 0xc2 b && leb b 0xf4) ≡ false)).
-        p.0 (let f : IsFirst b = v.0 in omega arith))
-        (within 0xc2 0xf4 b))
-        (cases_lt b 128)
-    by (suc n) lo hi e v =
-        let past : eqb (suc n) 0 ≡ false = ne_eqb (suc n) 0 (λ (z : suc n ≡ 0). omega arith) in ⊎_elim
-        (λ (p : ((lo ≤ b) × (b ≤ hi)) × ((leb lo b && leb b hi) ≡ true)).
-        let is : Some (record { more = suc n - 1; least = 0x80; most = 0xbf }) ≡ None = sym (cond-false _ _ _ past ∙ cond-true _ _ _ p.1) ∙ e in cc)
-        (λ (p : ((lo ≤ b) × (b ≤ hi) → ⊥) × ((leb lo b && leb b hi) ≡ false)). p.0 v.0)
-        (within lo hi b)
+    first : (lo hi : ℕ) (x y : Bool) → ltb b 128 ≡ x → (leb 0xc2 b && leb b 0xf4) ≡ y → StepsTo (record { more = 0; least = lo; most = hi }) b (cond x (Some awaits_first) (cond y (Some (of_first b)) None))
+    first lo hi true y e f = ascii_steps lo hi b (ltb-true b 128 e)
+    first lo hi false true e f = first_steps lo hi b (in_range _ _ b f)
+    first lo hi false false e f = λ bs v. out_of_range _ _ b f (let is : IsFirst b = v.0 in omega (arith, ltb-false b 128 e))
+
+    later : (n lo hi : ℕ) (x : Bool) → IsInner (record { more = suc n; least = lo; most = hi }) → (leb lo b && leb b hi) ≡ x → StepsTo (record { more = suc n; least = lo; most = hi }) b (cond x (Some (record { more = n; least = 0x80; most = 0xbf })) None)
+    later n lo hi true inner e = later_steps n lo hi b inner.least inner.most (in_range lo hi b e)
+    later n lo hi false inner e = λ bs v. out_of_range lo hi b e v.0
+
+    by : (n lo hi : ℕ) → IsInner (record { more = n; least = lo; most = hi }) → StepsTo (record { more = n; least = lo; most = hi }) b (after_byte (record { more = n; least = lo; most = hi }) b)
+    by zero lo hi inner = first lo hi _ _ refl refl
+    by (suc n) lo hi inner = let one : suc n - 1 ≡ n = omega arith in rw (ne_eqb (suc n) 0 (λ (z : suc n ≡ 0). omega arith), one) (later n lo hi _ inner refl)

@@ -9,7 +9,7 @@ use Rattle.goblin_base.specs.Utf8.{awaits_first, after_byte}
 use Rattle.goblin_base.specs.Pieces.{piece_end, piece, is_readable}
 use Rattle.goblin_base.specs.Scan.{IsScan, NoneReadable, found_end, scan_end}
 use Rattle.goblin_base.proofs.Utf8Lemmas.{Completes, any_bounds, IsUtf8-from_Completes, Completes-from_IsUtf8}
-use Rattle.goblin_base.proofs.AwaitedLemmas.{CompletesFrom, IsInner, after_some, after_none}
+use Rattle.goblin_base.proofs.AwaitedLemmas.{CompletesFrom, IsInner, Steps, StepsTo, steps}
 use Rattle.goblin_base.proofs.WalkLemmas.{bad_within}
 use Rattle.goblin_base.proofs.PiecesLemmas.{end_is, end_same, end_from, at_end, piece_more, piece_at_end}
 
@@ -56,7 +56,7 @@ module _ (bytes : List ℕ) (d : ℕ) where
   scan_steps o p s t l n e h =
       let b = get_or bytes p 0 in
       let split = piece_at_byte p l n in
-      let step = after_some s t b h.inner e in
+      let step : Steps s b t = subst (StepsTo s b) e (steps s b h.inner) in
       let from = h.from in
       record {
         from = omega arith;
@@ -78,7 +78,7 @@ module _ (bytes : List ℕ) (d : ℕ) where
       let b = get_or bytes p 0 in
       let split = piece_at_byte p l n in
       let from = h.from in
-      let no : CompletesFrom s (piece bytes d p) → ⊥ = λ v. after_none s b _ e (subst (CompletesFrom s) split v) in (
+      let no : CompletesFrom s (piece bytes d p) → ⊥ = λ v. subst (StepsTo s b) e (steps s b h.inner) _ (subst (CompletesFrom s) split v) in (
         λ q x y. false_from_ne_true _ (λ (r : is_readable bytes d q ≡ true). ⊎_elim
             (λ (z : q < p). no (h.forth q x z r))
             (λ (z : p ≤ q). let same : q ≡ p = omega arith in let start : p ≡ o = omega arith in
