@@ -1,5 +1,5 @@
-//! What the layers of the ELF port share: the context of a file, its errors, options, the numbers
-//! that bytes stand for, and records and tables of them.
+//! What the layers of the ELF port share: the context of a file, its errors, options, whether a place
+//! has room, the numbers that bytes stand for, and records and tables of them.
 #![tactic(auto)]
 
 mod ascii;
@@ -11,6 +11,7 @@ pub mod names;
 pub mod number;
 pub mod options;
 pub mod record;
+pub mod room;
 pub mod scroll;
 pub mod strtab;
 pub mod table;

@@ -1,34 +1,12 @@
-//! Whether a place has room, and the numbers that bytes there stand for: System V gABI, "Data
-//! Representation" and "Data Encoding".
-ghost use Rattle.std.specs.Prelude.{◌≡◌, ◌≤◌, ◌+◌, ◌↔◌, length, IsOk};
+//! The numbers that bytes at a place stand for: System V gABI, "Data Representation" and "Data Encoding".
+ghost use Rattle.std.specs.Prelude.{◌≡◌, ◌≤◌, ◌+◌, length};
 ghost use Rattle.goblin_base.specs.declared.container.Endian.{Endian};
 ghost use Rattle.goblin_base.specs.Number.{number_at, ReadsSpelling, SpellsBack, SpellsWidth};
 ghost use Rattle.goblin_base.specs.Place.{with_number, ReadsWhatWasPut};
-ghost use Rattle.goblin_base.specs.Room.{room_of};
 ghost use Rattle.goblin_base.specs.Signed.{signed_number_at, complement, ReadsSigned, SpellsSigned, IsSignedSlice, ReadsSignedThere};
 
 use crate::container::Endian;
-use crate::scroll;
 use byteorder::{BigEndian, ByteOrder, LittleEndian};
-
-/// Whether a slice of `len` bytes has room for `size` bytes at `offset`.
-///
-/// A place past the end is a `BadOffset`, and so is the end itself where `size` is above 0. Else
-/// more bytes than there are from the place on are `TooBig`.
-#[tactic(auto, unfolding(crate::specs::Room::room_of))]
-pub fn room(len: usize, offset: usize, size: usize) -> Result<(), scroll::Error>
-    ensures exact { result ≡ room_of len offset size }
-    ensures fits { IsOk result ↔ (offset + size ≤ len) }
-{
-    if offset > len || (offset == len && size > 0) {
-        return Err(scroll::Error::BadOffset(offset));
-    }
-    let rest = len - offset;
-    if size > rest {
-        return Err(scroll::Error::TooBig { size, len: rest });
-    }
-    Ok(())
-}
 
 /// The number that the byte at a place stands for, which is the same in both orders.
 pub fn get_u8(bytes: &[u8], place: usize) -> u8

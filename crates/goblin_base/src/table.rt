@@ -9,8 +9,8 @@ ghost use Rattle.goblin_base.specs.Room.{room_of};
 ghost use Rattle.goblin_base.specs.Table.{records};
 
 use crate::error::{Error, Result};
-use crate::number::room;
 use crate::record::Record;
+use crate::room::room;
 use crate::scroll;
 use crate::scroll::SizeWith;
 use std::alloc::Global;

@@ -10,7 +10,8 @@ use crate::types::{GoblinHeader, GoblinRange, GoblinSection, GoblinSegment};
 use goblin::elf::program_header::PT_NULL;
 use goblin::elf::section_header::{SHT_NOBITS, SHT_NULL};
 use goblin::error::Result;
-use goblin_base::number::{get_u8, get_u16, get_u32, get_u64, room};
+use goblin_base::number::{get_u8, get_u16, get_u32, get_u64};
+use goblin_base::room::room;
 
 // A range, where there is room for it in the file.
 fn range_in(bytes: &[u8], range: &GoblinRange) -> Result<Option<GoblinRange>>

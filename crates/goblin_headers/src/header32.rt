@@ -11,7 +11,8 @@ use crate::header::Header as ElfHeader;
 use crate::ident::{ident_of, order_of, put_ident};
 use goblin_base::container::Endian;
 use goblin_base::error::{Error, Fault, Result};
-use goblin_base::number::{get_u16, get_u32, put_u16, put_u32, room};
+use goblin_base::number::{get_u16, get_u32, put_u16, put_u32};
+use goblin_base::room::room;
 use goblin_base::scroll::{LE, TryFromCtx, TryIntoCtx};
 
 /// How many bytes a header has.

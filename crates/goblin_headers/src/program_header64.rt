@@ -14,8 +14,9 @@ ghost use Rattle.goblin_headers.specs.ProgramHeader64.{program_header64_fields, 
 use crate::program_header::ProgramHeader as ElfProgramHeader;
 use goblin_base::container::Endian;
 use goblin_base::error::{Error, Result};
-use goblin_base::number::{get_u32, get_u64, put_u32, put_u64, room};
+use goblin_base::number::{get_u32, get_u64, put_u32, put_u64};
 use goblin_base::record::Record;
+use goblin_base::room::room;
 use goblin_base::scroll::{LE, SizeWith, TryFromCtx, TryIntoCtx};
 use goblin_base::table::{Table, read_in_range};
 use std::alloc::Global;

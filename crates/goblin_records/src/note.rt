@@ -8,8 +8,9 @@ ghost use Rattle.goblin_records.specs.Nhdr.{nhdr32_of, nhdr32_image, nhdr32_low,
 
 use goblin_base::container::Endian;
 use goblin_base::error::Result;
-use goblin_base::number::{get_u32, get_u64, put_u32, put_u64, room};
+use goblin_base::number::{get_u32, get_u64, put_u32, put_u64};
 use goblin_base::record::Record;
+use goblin_base::room::room;
 use goblin_base::scroll::{SizeWith, TryFromCtx, TryIntoCtx};
 
 /// The header of a note, in words of 4 bytes. Notes of both classes are read with it.

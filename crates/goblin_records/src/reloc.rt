@@ -8,8 +8,8 @@ ghost use Rattle.goblin_records.specs.Reloc.{reloc_size, reloc_of, reloc_image, 
 pub use crate::{reloc32, reloc64};
 use goblin_base::container::{Container, Ctx};
 use goblin_base::error::Result;
-use goblin_base::number::room;
 use goblin_base::record::Record;
+use goblin_base::room::room;
 use goblin_base::scroll::{IntoCtx, SizeWith, TryFromCtx, TryIntoCtx};
 
 /// A relocation of either class, with an addend or without.

@@ -12,8 +12,9 @@ ghost use Rattle.goblin_records.specs.RelocInfo.{symbol_in, type_in, info_of, Jo
 use crate::reloc::Reloc;
 use goblin_base::container::Endian;
 use goblin_base::error::Result;
-use goblin_base::number::{get_i32, get_u32, put_i32, put_u32, room};
+use goblin_base::number::{get_i32, get_u32, put_i32, put_u32};
 use goblin_base::record::Record;
+use goblin_base::room::room;
 use goblin_base::scroll::{SizeWith, TryFromCtx, TryIntoCtx};
 
 /// A relocation with an addend, of the 32-bit class.

@@ -12,8 +12,9 @@ ghost use Rattle.goblin_records.specs.declared.sym32.Sym.{Sym};
 use crate::sym::Sym as ElfSym;
 use goblin_base::container::Endian;
 use goblin_base::error::Result;
-use goblin_base::number::{get_u8, get_u16, get_u32, put_u8, put_u16, put_u32, room};
+use goblin_base::number::{get_u8, get_u16, get_u32, put_u8, put_u16, put_u32};
 use goblin_base::record::Record;
+use goblin_base::room::room;
 use goblin_base::scroll::{SizeWith, TryFromCtx, TryIntoCtx};
 
 /// A symbol of the 32-bit class.

@@ -5,8 +5,9 @@ use crate::told::{differs, is};
 use goblin_base::container::{BE, Endian, LE};
 use goblin_base::number::{
     get_i32, get_i64, get_u8, get_u16, get_u32, get_u64, put_i32, put_i64, put_u8, put_u16,
-    put_u32, put_u64, room, signed_spellings, spellings,
+    put_u32, put_u64, signed_spellings, spellings,
 };
+use goblin_base::room::room;
 use goblin_base::scroll;
 
 // Whether there is room.

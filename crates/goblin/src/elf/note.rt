@@ -9,7 +9,7 @@ ghost use Rattle.goblin.specs.Note.{bytes_at, note_at, text_at};
 
 use goblin_base::container::Ctx;
 use goblin_base::error::{Error, Fault, Result};
-use goblin_base::number::room;
+use goblin_base::room::room;
 use goblin_base::scroll;
 use goblin_base::scroll::{SizeWith, TryFromCtx};
 use goblin_base::utf8::read_text;

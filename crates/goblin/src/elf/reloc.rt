@@ -4,7 +4,7 @@ ghost use Rattle.goblin.specs.RelocSection.{relocs_of, is_mips64el_in, is_of_mip
 
 use goblin_base::container::Ctx;
 use goblin_base::error::{Error, Result};
-use goblin_base::number::room;
+use goblin_base::room::room;
 use goblin_base::table::{Table, TableIter};
 use goblin_headers::header::{EM_MIPS, Header};
 pub use goblin_records::reloc::{Reloc, RelocCtx, reloc32, reloc64};
