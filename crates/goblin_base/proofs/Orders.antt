@@ -8,8 +8,10 @@ use Rattle.byteorder.specs.Numbers.{big_from-cons, little_from-cons}
 use Rattle.goblin_base.specs.declared.container.Endian.{Endian}
 use Rattle.goblin_base.specs.declared.container.Endian.TheVariants.{Little, Big}
 use Rattle.goblin_base.specs.Number.{weighted_sum, number, digits, spelled, number_at}
-use Rattle.goblin_base.specs.NumberLaws.{weighted_sum-cons, weighted_sum-last, number-one, spelled-one}
+use Rattle.goblin_base.specs.NumberLaws.{weighted_sum-cons, weighted_sum-last, number-one, spelled-one, length-spelled, number-spelled, spelled-number}
+use Rattle.goblin_base.specs.FieldLaws.{number_at-with_number}
 use Rattle.goblin_base.specs.Place.{with_number}
+use Rattle.goblin_base.specs.SignedLaws.{signed_number-spelled, spelled-signed_number, signed_number_at-is, signed_number_at-with_number}
 use borrow.Rule.Slice.PartMut.{put_mid}
 use mathlib.Core.List.{reverse-cons}
 
@@ -107,3 +109,6 @@ unfolding with_number
 write_one order bytes place x h fits =
     let next : place + 1 ≡ suc place = omega arith in
     set_split bytes place x (omega arith) ∙ rw (spelled-one order x fits, next) (sym (append_assoc (take place bytes) (x ∷ []) (drop (suc place) bytes)))
+
+-- what reading and writing answer, and the laws of numbers, for the goals of the functions that do it
+pub ruleset numbers = (read_one, read_little, read_big, write_one, write_little, write_big, length-spelled, number-spelled, spelled-number, number_at-with_number, signed_number-spelled, spelled-signed_number, signed_number_at-is, signed_number_at-with_number)

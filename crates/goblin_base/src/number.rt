@@ -1,4 +1,6 @@
 //! The numbers that bytes at a place stand for: System V gABI, "Data Representation" and "Data Encoding".
+#![tactic(auto, using(crate::proofs::Orders::numbers))]
+
 ghost use Rattle.std.specs.Prelude.{◌≡◌, ◌≤◌, ◌+◌, length};
 ghost use Rattle.goblin_base.specs.declared.container.Endian.{Endian};
 ghost use Rattle.goblin_base.specs.Number.{number_at, ReadsSpelling, SpellsBack, SpellsWidth};
