@@ -3,11 +3,10 @@ use Rattle.std.proofs.Common.{◌≡◌, ℕ, zero, suc, ◌+◌, ◌<◌, ◌�
 use Rattle.std.proofs.lemmas.Bool.{cases_lt, cases_eq, both_ways, false_from_ne_true, cond-true, cond-false}
 use Rattle.std.proofs.lemmas.Str.{IsUtf8-from_is_utf8, is_utf8-from_IsUtf8}
 use Rattle.goblin_base.specs.declared.utf8.Awaited.{Awaited}
-use Rattle.goblin_base.specs.declared.walk.Found.{Found}
 use Rattle.goblin_base.specs.declared.walk.Found.TheVariants.{Whole, Fault}
 use Rattle.goblin_base.specs.Utf8.{awaits_first, after_byte}
 use Rattle.goblin_base.specs.Pieces.{piece_end, piece, is_readable}
-use Rattle.goblin_base.specs.Scan.{IsScan, NoneReadable, found_end, scan_end}
+use Rattle.goblin_base.specs.Scan.{IsScan, NoneReadable, scan_end}
 use Rattle.goblin_base.proofs.Utf8Lemmas.{Completes, any_bounds, IsUtf8-from_Completes, Completes-from_IsUtf8}
 use Rattle.goblin_base.proofs.AwaitedLemmas.{CompletesFrom, IsInner, Steps, StepsTo, steps}
 use Rattle.goblin_base.proofs.WalkLemmas.{bad_within}
@@ -117,23 +116,10 @@ module _ (bytes : List ℕ) (d : ℕ) where
       missing : (s : Awaited) → (s.more ≡ 0 → ⊥) → CompletesFrom s [] → ⊥
       missing s e v = e (none_missing s.more s.least s.most v)
 
--- an attempt that came to the end of its piece found something that ends there
-pub found_end_of : (s : Awaited) (p : ℕ) (r : Found) → r ≡ scan_end s p → found_end r ≡ p
-found_end_of s p r e = ap found_end e
-    ∙ ⊎_elim
-    (λ (h : s.more ≡ 0). ap found_end (cond-true _ (Whole p) (Fault p) (eq-eqb _ _ h)))
-    (λ (h : s.more ≡ 0 → ⊥). ap found_end (cond-false _ (Whole p) (Fault p) (ne_eqb _ _ h)))
-    (cases_eq s.more 0)
-
--- what an attempt inside a piece found, of bytes that it left as they were
-module _ (bytes seen : List ℕ) (d from end i : ℕ) (same : seen ≡ bytes) (is_end : end ≡ piece_end bytes d from) (l : from ≤ i) (m : i ≤ end) (n : end ≤ length bytes) where
-  same_end : piece_end bytes d i ≡ end
-  same_end = end_same bytes d from i (omega arith) l (omega (arith, is_end)) ∙ sym is_end
-
-  pub attempt_whole : (e : ℕ) → IsScan seen d i (Whole e) → (is_readable bytes d i ≡ true) × (e ≡ piece_end bytes d i) × (e ≡ end)
-  attempt_whole e h = let found : IsScan bytes d i (Whole e) = subst (λ bs. IsScan bs d i (Whole e)) same h in (found.0, found.1, found.1 ∙ same_end)
-
-  pub attempt_fault : (next : ℕ) → IsScan seen d i (Fault next) → NoneReadable bytes d i next × (i < next) × (next ≤ end)
-  attempt_fault next h =
-      let found : IsScan bytes d i (Fault next) = subst (λ bs. IsScan bs d i (Fault next)) same h in
-      (found.0, found.1, omega (arith, same_end, bad_within bytes d i next found.2 found.0 (omega arith)))
+-- what an attempt inside a piece that fails says, of bytes that it left as they were
+pub attempt_fault : (bytes seen : List ℕ) (d end i next : ℕ) → seen ≡ bytes → piece_end bytes d i ≡ end → i ≤ end → end ≤ length bytes → IsScan seen d i (Fault next)
+    → NoneReadable bytes d i next × (i < next) × (next ≤ end) × (piece_end bytes d next ≡ end)
+attempt_fault bytes seen d end i next same ends l m h =
+    let found : IsScan bytes d i (Fault next) = subst (λ bs. IsScan bs d i (Fault next)) same h in
+    let until = bad_within bytes d i next found.2 found.0 (omega arith) in
+    (found.0, found.1, omega (arith, until, ends), end_same bytes d i next (omega arith) (omega (arith, found.1)) until ∙ ends)

@@ -3,7 +3,7 @@ use Rattle.std.proofs.lemmas.Bool.{eq-eqb, ne_eqb}
 use Rattle.goblin_base.specs.Utf8.{after_byte}
 use Rattle.goblin_base.specs.Scan.{IsScan}
 use Rattle.goblin_base.specs.declared.walk.Found.TheVariants.{Fault}
-use Rattle.goblin_base.proofs.ScanLemmas.{found_end_of, scan_starts, scan_steps, scan_faults, scan_ends}
+use Rattle.goblin_base.proofs.ScanLemmas.{scan_starts, scan_steps, scan_faults, scan_ends}
 use Rattle.goblin_base.proofs.walk.scan.Goals as goal
 
 pub loop-at-init : goal.loop-at-init
@@ -44,18 +44,3 @@ pub returns-clause-found : goal.returns-clause-found
 returns-clause-found c =
     let i = c.loop-at.invariant in
     rw c.ended-2.ensures (scan_ends c.args.view.now.bytes c.args.delim c.args.from c.loop-at.at c.loop-at.awaited (λ h. absurd (omega (arith, ap length i.same, h))) i.scanned)
-
-pub returns-then-byte-delim-clause-looks_least : goal.returns-then-byte-delim-clause-looks_least
-returns-then-byte-delim-clause-looks_least c =
-    let i = c.loop-at.invariant in
-    omega (arith, found_end_of c.loop-at.awaited c.loop-at.at c.ended.result c.ended.ensures, ap (λ v. v.count) c.at-byte.ensures.counted, i.scanned.from, i.least)
-
-pub returns-in-None-clause-looks_least : goal.returns-in-None-clause-looks_least
-returns-in-None-clause-looks_least c =
-    let i = c.loop-at.invariant in
-    omega (arith, c.max.ensures, ap (λ v. v.count) c.at-byte.ensures.counted, i.scanned.from, i.least)
-
-pub returns-clause-looks_least : goal.returns-clause-looks_least
-returns-clause-looks_least c =
-    let i = c.loop-at.invariant in
-    omega (arith, found_end_of c.loop-at.awaited c.loop-at.at c.ended-2.result c.ended-2.ensures, i.scanned.from, i.least)

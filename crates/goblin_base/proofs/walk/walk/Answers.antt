@@ -1,9 +1,9 @@
-use Rattle.std.proofs.Common.{◌≡◌, ◌+◌, ◌-◌, ◌<◌, ◌≤◌, ℕ, List, true, false, length, refl, sym, ap, subst, ◌∙◌, Ok, Err, arith}
-use Rattle.std.proofs.lemmas.Bool.{false≢true}
+use Rattle.std.proofs.Common.{rules, ◌≡◌, ◌+◌, ◌-◌, ◌<◌, ◌≤◌, ℕ, List, true, length, refl, sym, ap, subst, ◌∙◌, Ok, Err, arith}
+use Rattle.std.proofs.lemmas.Bool.{both_ways, false≢true}
 use Rattle.std.specs.Str.{IsUtf8}
 use Rattle.std.specs.List.{slice_range}
 use Rattle.goblin_base.specs.Entries.{entries_between}
-use Rattle.goblin_base.specs.Pieces.{piece_end, is_readable, first_bad}
+use Rattle.goblin_base.specs.Pieces.{piece_end, is_readable}
 use Rattle.goblin_base.specs.Strtab.{walked}
 use Rattle.goblin_base.specs.Utf8.{invalid_utf8}
 use Rattle.goblin_base.proofs.EntriesLemmas.{walked_none, walked_text}
@@ -15,10 +15,6 @@ readable_here : (bytes seen then : List ℕ) (d i e : ℕ) → seen ≡ bytes �
 readable_here bytes seen then d i e same unchanged is u =
     let end : e ≡ piece_end bytes d i = is ∙ ap (λ bs. piece_end bs d i) same in
     (end, readable_from_text bytes d i e end (subst (λ bs. IsUtf8 (slice_range bs i e)) (unchanged ∙ same) u))
-
-bad_piece : (bytes seen then : List ℕ) (d i e : ℕ) → seen ≡ bytes → then ≡ seen → e ≡ piece_end seen d i → ¬ (IsUtf8 (slice_range then i e)) → is_readable bytes d i ≡ false
-bad_piece bytes seen then d i e same unchanged is u =
-    bad_from_fault bytes d i e (is ∙ ap (λ bs. piece_end bs d i) same) (subst (λ bs. ¬ (IsUtf8 (slice_range bs i e))) (unchanged ∙ same) u)
 
 pub loop-i-init : goal.loop-i-init
 loop-i-init c = record {
@@ -33,13 +29,10 @@ loop-i-init c = record {
 pub returns-in_err-push-clause-first : goal.returns-in_err-push-clause-first
 returns-in_err-push-clause-first c = λ m r.
     let s = c.loop-i.invariant in
-    let bytes = c.args.view.now.bytes in
-    let d = c.args.delim in
-    let i = c.loop-i.i in
-    let here = readable_here bytes _ _ d i _ s.same c.end_of_piece-end.ensures.unchanged c.end_of_piece-end.ensures.value (c.if-text.ensures.value.0 refl) in
-    let in_range : i < length bytes = omega (arith, ap length s.same, c.len.ensures.value, c.loop-i-test.true) in
-    let none = nothing_passed bytes d (piece_end bytes d i + 1) r (text_so_far_more bytes d i in_range here.1 (s.strict m)) in
-    absurd (omega (arith, none.0))
+    let e = c.end_of_piece-end.ensures in
+    let here = readable_here c.args.view.now.bytes _ _ c.args.delim c.loop-i.i _ s.same e.unchanged e.value (c.if-text.ensures.value.0 refl) in
+    let none = nothing_passed c.args.view.now.bytes c.args.delim c.loop-i.i r (s.strict m) in
+    absurd (both_ways _ r (ap (is_readable c.args.view.now.bytes c.args.delim) (sym none.0) ∙ here.1))
 
 pub loop-i-preserved-then-text : goal.loop-i-preserved-then-text
 loop-i-preserved-then-text c =
@@ -59,40 +52,33 @@ loop-i-preserved-then-text c =
       least = omega (arith, ap (λ v. v.count) c.text.ensures.counted, e.looks_least, e.within, e.ordered, s.least, ap length s.same);
     }
 
-pub returns-else-is_permissive-clause-given : goal.returns-else-is_permissive-clause-given
-returns-else-is_permissive-clause-given c = λ _.
+pub returns-else-is_permissive : goal.returns-else-is_permissive
+returns-else-is_permissive c =
     let s = c.loop-i.invariant in
     let bytes = c.args.view.now.bytes in
     let d = c.args.delim in
     let i = c.loop-i.i in
     let e = c.end_of_piece-end.ensures in
-    let here = bad_piece bytes _ _ d i _ s.same e.unchanged e.value (λ u. false≢true (c.if-text.ensures.value.1 u)) in
+    let end : c.end_of_piece-end.result ≡ piece_end bytes d i = e.value ∙ ap (λ bs. piece_end bs d i) s.same in
+    let text = ap (λ bs. slice_range bs i c.end_of_piece-end.result) (e.unchanged ∙ s.same) in
+    let bad = bad_from_fault bytes d i _ end (λ u. false≢true (c.if-text.ensures.value.1 (subst IsUtf8 (sym text) u))) in
     let in_range : i < length bytes = omega (arith, ap length s.same, c.len.ensures.value, c.loop-i-test.true) in
-    let n : c.len-else-is_permissive.result ≡ length bytes = c.len-else-is_permissive.ensures.value ∙ ap length (ap (λ v. v.bytes) c.text.ensures.counted ∙ e.unchanged ∙ s.same) in
+    let left : c.len-else-is_permissive.result ≡ length bytes = c.len-else-is_permissive.ensures.value ∙ ap length (ap (λ v. v.bytes) c.text.ensures.counted ∙ e.unchanged ∙ s.same) in
     let strict = strict_if_not_permissive c.args.mode c.if-is_permissive.ensures.1 in
-    ap (λ m. walked m bytes d) strict ∙ walked_fault bytes d i in_range here (s.strict strict) ∙ ap (λ k. Err (invalid_utf8 (k - i))) (sym n) ∙ ap Err (sym c.invalid_utf8.ensures)
-
-pub returns-else-is_permissive-clause-first : goal.returns-else-is_permissive-clause-first
-returns-else-is_permissive-clause-first c = λ m r.
-    let s = c.loop-i.invariant in
-    let bytes = c.args.view.now.bytes in
-    let n : c.len-else-is_permissive.result ≡ length bytes = c.len-else-is_permissive.ensures.value ∙ ap length (ap (λ v. v.bytes) c.text.ensures.counted ∙ c.end_of_piece-end.ensures.unchanged ∙ s.same) in
-    let none = nothing_passed bytes c.args.delim c.loop-i.i r (s.strict m) in
-    let all : c.len-else-is_permissive.result - c.loop-i.i ≡ length bytes = omega (arith, n, none.0) in
-    c.invalid_utf8.ensures ∙ ap invalid_utf8 all
-
-pub returns-else-is_permissive-clause-looks_refused : goal.returns-else-is_permissive-clause-looks_refused
-returns-else-is_permissive-clause-looks_refused c = λ _.
-    let s = c.loop-i.invariant in
-    let bytes = c.args.view.now.bytes in
-    let d = c.args.delim in
-    let i = c.loop-i.i in
-    let e = c.end_of_piece-end.ensures in
-    let unread = bad_piece bytes _ _ d i _ s.same e.unchanged e.value (λ u. false≢true (c.if-text.ensures.value.1 u)) in
-    let in_range : i < length bytes = omega (arith, ap length s.same, c.len.ensures.value, c.loop-i-test.true) in
-    let strict = strict_if_not_permissive c.args.mode c.if-is_permissive.ensures.1 in
-    let here : piece_end bytes d (first_bad bytes d) ≡ c.end_of_piece-end.result = ap (piece_end bytes d) (bad_here bytes d i in_range unread (s.strict strict)) ∙ ap (λ bs. piece_end bs d i) (sym s.same) ∙ sym e.value in
-    omega (arith, here, ap (λ v. v.count) c.text.ensures.counted, e.looks_least, e.within, e.ordered, s.least, ap length s.same)
+    let so_far = s.strict strict in
+    record {
+      given = λ _. ap (λ m. walked m bytes d) strict ∙ walked_fault bytes d i in_range bad so_far ∙ ap (λ k. Err (invalid_utf8 (k - i))) (sym left) ∙ ap Err (sym c.invalid_utf8.ensures);
+      unchanged = search rules;
+      looks = search rules;
+      looks_least = search rules;
+      looks_refused = λ _.
+          let here = ap (piece_end bytes d) (bad_here bytes d i in_range bad so_far) ∙ sym end in
+          omega (arith, here, ap (λ v. v.count) c.text.ensures.counted, e.looks_least, e.within, e.ordered, s.least, ap length s.same);
+      first = λ m r.
+          let none = nothing_passed bytes d i r so_far in
+          c.invalid_utf8.ensures ∙ ap invalid_utf8 (omega (arith, left, none.0));
+      none = search rules;
+    }
 
 pub returns-clause-given : goal.returns-clause-given
 returns-clause-given c =
@@ -106,8 +92,3 @@ returns-clause-first c = λ m r.
     let past : length c.args.view.now.bytes ≤ c.loop-i.i = omega (arith, ap length i.same, c.len.ensures.value, c.loop-i-test.false) in
     let none = nothing_passed c.args.view.now.bytes c.args.delim c.loop-i.i r (i.strict m) in
     absurd (omega (arith, none.0, none.1))
-
-pub returns-clause-looks_least : goal.returns-clause-looks_least
-returns-clause-looks_least c =
-    let i = c.loop-i.invariant in
-    omega (arith, i.least, ap length i.same, c.len.ensures.value, c.loop-i-test.false)

@@ -1,72 +1,40 @@
-use Rattle.std.proofs.Common.{◌≡◌, subst, ◌∙◌, arith}
+use Rattle.std.proofs.Common.{◌≡◌, ap, subst, sym, ◌∙◌, arith}
+use Rattle.goblin_base.specs.Pieces.{piece_end, is_readable}
 use Rattle.goblin_base.specs.Scan.{IsWalkedTo}
 use Rattle.goblin_base.proofs.EntriesLemmas.{walked_empty, walked_text}
-use Rattle.goblin_base.proofs.ScanLemmas.{attempt_whole, attempt_fault}
+use Rattle.goblin_base.proofs.ScanLemmas.{attempt_fault}
 use Rattle.goblin_base.proofs.walk.walk_damaged.Goals as goal
-
-pub returns-in_err-push-in-Whole-clause-looks : goal.returns-in_err-push-in-Whole-clause-looks
-returns-in_err-push-in-Whole-clause-looks c =
-    let s = c.loop-i.invariant in
-    let found = attempt_whole _ _ _ _ _ _ s.same c.requires.piece s.from s.within c.requires.within _ c.in-Whole.ensures.found in
-    omega (arith, found.2, c.in-Whole.ensures.looks, s.looks)
-
-pub overflow_add-result : goal.overflow_add-result
-overflow_add-result c =
-    let s = c.loop-i.invariant in
-    let found = attempt_whole _ _ _ _ _ _ s.same c.requires.piece s.from s.within c.requires.within _ c.in-Whole.ensures.found in
-    omega (arith, found.2, c.requires.bound)
 
 pub returns-in-Whole-clause-walked : goal.returns-in-Whole-clause-walked
 returns-in-Whole-clause-walked c =
     let s = c.loop-i.invariant in
-    let found = attempt_whole _ _ _ _ _ _ s.same c.requires.piece s.from s.within c.requires.within _ c.in-Whole.ensures.found in
-    walked_text c.args.view.now.bytes c.args.delim _ _ c.loop-i.i c.in-Whole.end (omega (arith, c.requires.within)) (omega (arith, found.2)) (omega (arith, found.2, c.requires.within)) found.1 found.0 c.in_ok-push-in-Whole.ensures.items s.walked
-
-pub returns-in-Whole-clause-reached : goal.returns-in-Whole-clause-reached
-returns-in-Whole-clause-reached c =
-    let s = c.loop-i.invariant in
-    let found = attempt_whole _ _ _ _ _ _ s.same c.requires.piece s.from s.within c.requires.within _ c.in-Whole.ensures.found in
-    omega (arith, found.2)
-
-pub returns-in-Whole-clause-past : goal.returns-in-Whole-clause-past
-returns-in-Whole-clause-past c =
-    let s = c.loop-i.invariant in
-    let found = attempt_whole _ _ _ _ _ _ s.same c.requires.piece s.from s.within c.requires.within _ c.in-Whole.ensures.found in
-    omega (arith, found.2)
-
-pub returns-in-Whole-clause-looks : goal.returns-in-Whole-clause-looks
-returns-in-Whole-clause-looks c =
-    let s = c.loop-i.invariant in
-    let found = attempt_whole _ _ _ _ _ _ s.same c.requires.piece s.from s.within c.requires.within _ c.in-Whole.ensures.found in
-    omega (arith, found.2, c.in-Whole.ensures.looks, s.looks)
-
-pub returns-in-Whole-clause-looks_least : goal.returns-in-Whole-clause-looks_least
-returns-in-Whole-clause-looks_least c =
-    let s = c.loop-i.invariant in
-    let found = attempt_whole _ _ _ _ _ _ s.same c.requires.piece s.from s.within c.requires.within _ c.in-Whole.ensures.found in
-    omega (arith, found.2, s.from, s.within, c.in-Whole.ensures.looks_least, s.least)
+    let found = c.in-Whole.ensures.found in
+    let end : c.in-Whole.end ≡ piece_end c.args.view.now.bytes c.args.delim c.loop-i.i = found.1 ∙ ap (λ bs. piece_end bs c.args.delim c.loop-i.i) s.same in
+    let text = ap (λ bs. is_readable bs c.args.delim c.loop-i.i) (sym s.same) ∙ found.0 in
+    walked_text c.args.view.now.bytes c.args.delim _ _ c.loop-i.i c.in-Whole.end (omega (arith, c.requires.within)) found.2 (omega (arith, end, s.ends, c.requires.within)) end text c.in_ok-push-in-Whole.ensures.items s.walked
 
 pub returns-in_err-push-in-Fault-clause-looks : goal.returns-in_err-push-in-Fault-clause-looks
 returns-in_err-push-in-Fault-clause-looks c =
     let s = c.loop-i.invariant in
-    let found = attempt_fault _ _ _ _ _ _ s.same c.requires.piece s.from s.within c.requires.within _ c.in-Fault.ensures.found in
+    let found = attempt_fault _ _ _ _ _ _ s.same s.ends s.within c.requires.within c.in-Fault.ensures.found in
     omega (arith, found.1, found.2, c.in-Fault.ensures.looks, s.looks)
 
 pub loop-place-preserved : goal.loop-place-preserved
 loop-place-preserved c =
     let s = c.loop-i.invariant in
-    let found = attempt_fault _ _ _ _ _ _ s.same c.requires.piece s.from s.within c.requires.within _ c.in-Fault.ensures.found in
+    let found = attempt_fault _ _ _ _ _ _ s.same s.ends s.within c.requires.within c.in-Fault.ensures.found in
     walked_empty c.args.view.now.bytes c.args.delim _ _ c.loop-place.place (omega (arith, found.2, c.requires.within)) (found.0 c.loop-place.place (omega arith) (omega arith)) c.in_ok-push-in-Fault.ensures.items c.loop-place.invariant
 
 pub loop-i-preserved : goal.loop-i-preserved
 loop-i-preserved c =
     let s = c.loop-i.invariant in
-    let found = attempt_fault _ _ _ _ _ _ s.same c.requires.piece s.from s.within c.requires.within _ c.in-Fault.ensures.found in
+    let found = attempt_fault _ _ _ _ _ _ s.same s.ends s.within c.requires.within c.in-Fault.ensures.found in
     let e : c.loop-place.place ≡ c.in-Fault.next = omega (arith, found.1) in
     record {
       same = c.in-Fault.ensures.unchanged ∙ s.same;
       from = omega (arith, found.1, s.from);
       within = found.2;
+      ends = found.3;
       walked = subst (IsWalkedTo c.args.view.now.bytes c.args.delim c.loop-place.places.items) e c.loop-place.invariant;
       looks = omega (arith, found.1, c.in-Fault.ensures.looks, s.looks);
       least = omega (arith, found.1, s.from, c.in-Fault.ensures.looks_least, s.least);

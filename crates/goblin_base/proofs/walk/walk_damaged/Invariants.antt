@@ -1,5 +1,6 @@
 use Rattle.std.proofs.Common.{◌≡◌, ◌+◌, ◌-◌, ◌*◌, ◌≤◌}
 use Rattle.goblin_base.specs.Entries.{CountsAtLeast}
+use Rattle.goblin_base.specs.Pieces.{piece_end}
 use Rattle.goblin_base.specs.Scan.{IsWalkedTo}
 use Rattle.goblin_base.proofs.walk.walk_damaged.Given as goal
 
@@ -8,6 +9,7 @@ invariant-loop-i l = record {
   same : l.view.bytes ≡ l.fn.view.bytes;
   from : l.from ≤ l.i;
   within : l.i ≤ l.end;
+  ends : piece_end l.fn.view.bytes l.delim l.i ≡ l.end;
   walked : IsWalkedTo l.fn.view.bytes l.delim l.places.items l.i;
   looks : l.view.count ≤ l.fn.view.count + 2 * (l.i - l.from);
   least : CountsAtLeast l.fn.view.count (l.i - l.from) l.view.count;
