@@ -1,5 +1,5 @@
 -- One step of the reading of UTF-8.
-use Rattle.std.proofs.Common.{◌≡◌, ℕ, zero, suc, ◌-◌, ◌<◌, ◌≤◌, Bool, true, false, cond, ◌&&◌, eqb, ltb, leb, List, ◌∷◌, refl, sym, subst, inl, inr, arith, lt-ltb, le-leb, ne_eqb, Option, Some, None}
+use Rattle.std.proofs.Common.{◌≡◌, ℕ, zero, suc, ◌-◌, ◌<◌, ◌≤◌, Bool, true, false, cond, ◌&&◌, ltb, leb, List, ◌∷◌, refl, sym, subst, inl, inr, arith, lt-ltb, le-leb, ne_eqb, Option, Some, None}
 use Rattle.std.proofs.lemmas.Bool.{and_parts, and_from, both_ways, cond-true, ltb-true, ltb-false, leb-true}
 use Rattle.std.specs.Str.{continuation_len}
 use Rattle.std.specs.Str.Lossy.{second_byte_min, second_byte_max}

@@ -3,15 +3,6 @@ use Rattle.goblin_base.specs.declared.texts.Told.{Told}
 use Rattle.goblin_base.specs.Texts.{told_text}
 use Rattle.goblin_base.proofs.error.Fault.told.Goals as goal
 
-pub returns-in-InvalidClass : goal.returns-in-InvalidClass
-returns-in-InvalidClass c = rw c.in-InvalidClass.is (ap told_text c.told.ensures)
-
-pub returns-in-InvalidEndianness : goal.returns-in-InvalidEndianness
-returns-in-InvalidEndianness c = rw c.in-InvalidEndianness.is (ap told_text c.told-in-InvalidEndianness.ensures)
-
-pub returns-in-TooSmall : goal.returns-in-TooSmall
-returns-in-TooSmall c = rw c.in-TooSmall.is (ap told_text c.told-in-TooSmall.ensures)
-
 pub returns-in-ElfClass : goal.returns-in-ElfClass
 returns-in-ElfClass c = rw c.in-ElfClass.is (ap told_text c.told-in-ElfClass.ensures)
 
@@ -29,9 +20,6 @@ returns-in-SymtabOffset c = rw c.in-SymtabOffset.is (ap told_text c.told-in-Symt
 
 pub returns-in-TooManySymbols : goal.returns-in-TooManySymbols
 returns-in-TooManySymbols c = rw c.in-TooManySymbols.is (ap told_text c.told-in-TooManySymbols.ensures)
-
-pub returns-in-SymtabPast : goal.returns-in-SymtabPast
-returns-in-SymtabPast c = rw c.in-SymtabPast.is (ap told_text c.told-in-SymtabPast.ensures)
 
 pub returns-in-StrtabOffset : goal.returns-in-StrtabOffset
 returns-in-StrtabOffset c = rw c.in-StrtabOffset.is (ap told_text c.told-in-StrtabOffset.ensures)
