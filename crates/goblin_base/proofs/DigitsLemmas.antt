@@ -23,9 +23,9 @@ digits-zero : digits 0 ≡ 0
 unfolding digits
 digits-zero = refl
 
-pub digits_one : digits 1 ≡ 1
+pub digits_one : (k : ℕ) → k ≡ 1 → digits k ≡ 1
 unfolding digits
-digits_one = refl
+digits_one k e = rw e refl
 
 within_mono : (n a b : ℕ) → a ≤ b → digits_within n a ≤ digits_within n b
 within_mono zero a b h = omega arith
@@ -65,3 +65,6 @@ digits_count (suc k) (suc n) =
 -- a number of places, and one more, has at most 64
 pub digits_few : (k : ℕ) → k + 1 < 2 ^ 64 → digits (k + 1) ≤ 64
 digits_few k h = (digits_count (k + 1) 64).1 h
+
+-- how many probes there are where nothing is left, and at most, for the goals of a search
+pub ruleset probes = (digits_one, digits_few)

@@ -14,6 +14,7 @@ use crate::entries::Probes;
 /// let _ = find(&mut probes, offset);
 /// probes.count()
 /// ```
+#[tactic(auto, using(crate::proofs::DigitsLemmas::probes))]
 pub fn find(view: &mut Probes<'_>, offset: usize) -> Option<usize>
     ensures found { FindsLast view.old.places offset result }
     ensures unchanged { view.new.places ≡ view.old.places }
