@@ -1,8 +1,5 @@
 -- Entries kept as places.
-use Rattle.std.proofs.lemmas.Bool.{both_ways, ne_eqb}
-use Rattle.std.specs.Prelude.{◌==◌}
-use Rattle.std.specs.Bool.{IsTrue}
-use Rattle.std.proofs.Common.{Bool, ◌≡◌, ℕ, zero, suc, ◌+◌, ◌-◌, ◌<◌, ◌≤◌, true, false, take, drop, List, [], ◌∷◌, ◌++◌, length, get_or, refl, sym, ap, subst, ◌∙◌, arith}
+use Rattle.std.proofs.Common.{◌≡◌, ℕ, zero, suc, ◌+◌, ◌-◌, ◌<◌, ◌≤◌, true, false, take, drop, List, [], ◌∷◌, ◌++◌, length, get_or, refl, sym, ap, subst, ◌∙◌, arith}
 use Rattle.std.specs.List.{slice_range}
 use Rattle.std.specs.Str.{is_utf8}
 use Rattle.goblin_base.specs.Entries.{places_of, text_of}
@@ -72,7 +69,12 @@ module _ (bytes : List ℕ) where
   kept_push [] q c a e = (e, tt)
   kept_push (p ∷ ps) q c a e = (subst (IsKeptEntry bytes p) (sym (next_of-push ps q c)) a.0, kept_push ps q c a.1 e)
 
-pub ruleset kept = (length-between)
+-- no entries stand at no places
+pub none_between : (bytes ps : List ℕ) (c : ℕ) → length ps ≡ 0 → entries_between bytes ps c ≡ []
+none_between bytes [] c e = refl
+none_between bytes (p ∷ ps) c e = absurd (omega arith)
+
+pub ruleset kept = (length-between, places_between, none_between)
 
 -- one more place, in the walk
 module _ (bytes : List ℕ) (d : ℕ) where
@@ -103,11 +105,3 @@ module _ (bytes : List ℕ) (d : ℕ) where
 
   pub walked_none : IsWalkedTo bytes d [] 0
   walked_none = record { kept = tt; found = refl }
-
--- no entries stand at no places
-pub none_between : (bytes ps : List ℕ) (c n : ℕ) (r : Bool) {es : List (ℕ × List ℕ)} → entries_between bytes ps c ≡ es → n ≡ length ps → r ≡ (n == 0) → (IsTrue r → es ≡ []) × (es ≡ [] → IsTrue r)
-none_between bytes [] c n r v e f = (λ _. sym v, λ _. f ∙ ap (λ k. k == 0) e)
-none_between bytes (p ∷ ps) c n r v e f = (
-  λ t. absurd (both_ways _ (f ∙ ne_eqb n 0 (λ (z : n ≡ 0). omega arith)) t),
-  λ h. absurd (let x = v ∙ h in cc),
-)

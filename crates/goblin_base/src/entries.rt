@@ -255,6 +255,7 @@ impl<'e> Model for Probes<'e> {
     ghost invariant = { λ p. IsRising (places_of p.entries.now) };
 }
 
+#[tactic(auto, using(crate::proofs::EntriesLemmas::kept))]
 impl<'e> Probes<'e> {
     /// The places of these entries, none of which has been read.
     pub fn of(entries: &'e Entries<'e>) -> Probes<'e>
