@@ -229,6 +229,7 @@ fn ends(places: &[usize], closing: usize, i: usize) -> (usize, usize)
 }
 
 // The text from a place up to one before the next entry's.
+#[tactic(auto, using(crate::proofs::TextTests::utf8_tests))]
 fn text_before(bytes: &[u8], from: usize, next: usize) -> &str
     requires { IsKeptEntry bytes.now from next }
     ensures { result.now ≡ slice_range bytes.now from (next - 1) }
