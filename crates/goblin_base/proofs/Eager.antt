@@ -6,45 +6,14 @@ use Rattle.std.proofs.lemmas.List.{drop-drop, take_rest}
 use Rattle.goblin_base.specs.declared.error.Error.{Error}
 use Rattle.goblin_base.specs.declared.scroll.Error.{Error as Misplaced}
 use Rattle.goblin_base.specs.Eager.{room_of_each, records_from, records_in}
-use Rattle.goblin_base.specs.Record.{read_within, unless_fault}
+use Rattle.goblin_base.specs.Record.{unless_fault}
 use Rattle.goblin_base.specs.RecordLaws.{room_of_fits, fits-room_of, unless_fault-is, unless_fault-err}
 use Rattle.goblin_base.specs.Refusal.{buffer_too_short, misplaced, refusal_of}
 use Rattle.goblin_base.specs.Room.{room_of}
 use Rattle.goblin_base.specs.Steps.{◌>>=◌}
 use Rattle.goblin_base.specs.Table.{records}
-use Rattle.goblin_base.specs.TableLaws.{no_records}
+use Rattle.goblin_base.specs.TableLaws.{no_records, records-take}
 use Rattle.goblin_base.proofs.Records.{read_field, last_record}
-
--- a record that is read from just its own bytes, where there is room for them
-pub read_piece : {R : Type 0} (size s : ℕ) (read : List ℕ → R) (bytes : List ℕ) (place : ℕ) (u : Unit {0}) (found : Result R Error) → s ≡ size → Ok u ≡ room_of (length bytes) place s → found ≡ read_within size read (take (place + s - place) (drop place bytes)) → found ≡ unless_fault (room_of (length bytes) place size) (read (take size (drop place bytes)))
-read_piece size s read bytes place u found same room is =
-    let fits = fits-room_of (length bytes) place s u (sym room) in
-    rw (← same, ← room) (is ∙ rw (← same) (read_field s read bytes place fits))
-
--- more records than the bytes could hold anywhere
-pub too_many : {R : Type 0} (size s : ℕ) (read : List ℕ → R) (bytes : List ℕ) (offset count : ℕ) (items : List ℕ) → s ≡ size → length bytes / s < count → records_from size read bytes offset count items ≡ Err (buffer_too_short count items)
-unfolding records_from
-too_many size s read bytes offset count items same h = rw (← same) (grind (arith, nat_tests))
-
--- none are asked for
-pub none_asked : {R : Type 0} (size : ℕ) (read : List ℕ → R) (bytes : List ℕ) (offset count : ℕ) (items : List ℕ) → count ≡ 0 → records_from size read bytes offset count items ≡ Ok []
-unfolding records_from
-none_asked size read bytes offset count items none =
-    let few : nat_lt (length bytes / size) 0 ≡ false = grind (arith, nat_tests) in
-    rw (none, few, no_records size read 0 (drop offset bytes) refl) refl
-
--- how far reading has come: i records were read, and the others stand from a place on
-pub record ReadSoFar {R : Type 0} (size : ℕ) (read : List ℕ → R) (bytes : List ℕ) (offset count i place : ℕ) (found : List R) : Type 0 where
-  pub there : place ≡ offset + i * size
-  pub left : room_of_each (length bytes) place size (count - i) ≡ room_of_each (length bytes) offset size count
-  pub gave : found ≡ records size read i (drop offset bytes)
-
-pub none_read : {R : Type 0} (size : ℕ) (read : List ℕ → R) (bytes : List ℕ) (offset count : ℕ) → ReadSoFar size read bytes offset count 0 offset []
-none_read size read bytes offset count = record {
-  there = omega arith;
-  left = ap (room_of_each (length bytes) offset size) (omega arith);
-  gave = sym (no_records size read 0 (drop offset bytes) refl);
-}
 
 -- one record less is left
 one_less : (len place size count i : ℕ) (u : Unit {0}) → i < count → room_of len place size ≡ Ok u → room_of_each len place size (count - i) ≡ room_of_each len (place + size) size (count - (i + 1))
@@ -52,43 +21,62 @@ one_less len place size count i u h room =
     let e : count - i ≡ suc (count - (i + 1)) = omega arith in
     rw (e, room) refl
 
--- and one more was read
-one_more : {R : Type 0} (size : ℕ) (read : List ℕ → R) (bytes : List ℕ) (offset i place : ℕ) → place ≡ offset + i * size → records size read (i + 1) (drop offset bytes) ≡ records size read i (drop offset bytes) ++ read (take size (drop place bytes)) ∷ []
-one_more size read bytes offset i place at =
-    let there : drop (i * size) (drop offset bytes) ≡ drop place bytes = drop-drop (i * size) offset bytes ∙ ap (λ (k : ℕ). drop k bytes) (sym at) in
-    last_record size read i (drop offset bytes) ∙ ap (λ (part : List ℕ). records size read i (drop offset bytes) ++ read (take size part) ∷ []) there
+-- so many records of one size from an offset on, which are read one after another
+module _ {R : Type 0} (size : ℕ) (read : List ℕ → R) (bytes : List ℕ) (offset count : ℕ) where
+  -- how far reading has come: i records were read, and the others stand from a place on
+  pub record ReadSoFar (i place : ℕ) (found : List R) : Type 0 where
+    pub there : place ≡ offset + i * size
+    pub left : room_of_each (length bytes) place size (count - i) ≡ room_of_each (length bytes) offset size count
+    pub gave : found ≡ records size read i (drop offset bytes)
 
-pub next_read : {R : Type 0} (size s : ℕ) (read : List ℕ → R) (bytes : List ℕ) (offset count i place : ℕ) (found : List R) (x : R) → ReadSoFar size read bytes offset count i place found → s ≡ size → i < count → Ok x ≡ unless_fault (room_of (length bytes) place size) (read (take size (drop place bytes))) → ReadSoFar size read bytes offset count (i + 1) (place + s) (found ++ x ∷ [])
-next_read size s read bytes offset count i place found x before same h e =
-    let is = unless_fault-is (room_of (length bytes) place size) x (read (take size (drop place bytes))) e in
-    record {
-      there = let at = before.there in omega arith;
-      left = rw same (sym (one_less (length bytes) place size count i tt h is.0) ∙ before.left);
-      gave = rw (before.gave, is.1) (sym (one_more size read bytes offset i place before.there));
-    }
+  -- what reading the record at a place answers
+  abbrev read_there : ℕ → Result R Error
+  read_there place = unless_fault (room_of (length bytes) place size) (read (take size (drop place bytes)))
 
--- all were read
-pub all_read : {R : Type 0} (size s : ℕ) (read : List ℕ → R) (bytes : List ℕ) (offset count i place : ℕ) (items : List ℕ) (found : List R) → ReadSoFar size read bytes offset count i place found → s ≡ size → i ≡ count → count ≤ length bytes / s → records_from size read bytes offset count items ≡ Ok found
-unfolding records_from
-all_read size s read bytes offset count i place items found before same all enough =
-    let none : count - i ≡ 0 = omega arith in
-    let each : room_of_each (length bytes) offset size count ≡ Ok tt = sym before.left ∙ ap (room_of_each (length bytes) place size) none in
-    let few : nat_lt (length bytes / size) count ≡ false = rw (← same) (grind (arith, nat_tests)) in
-    rw (few, each, before.gave, all) refl
+  pub none_read : ReadSoFar 0 offset []
+  none_read = record {
+    there = omega arith;
+    left = ap (room_of_each (length bytes) offset size) (omega arith);
+    gave = sym (no_records size read 0 (drop offset bytes) refl);
+  }
 
--- the next one has no room
-refused : {R : Type 0} (size s : ℕ) (read : List ℕ → R) (bytes : List ℕ) (offset count i place : ℕ) (items : List ℕ) (found : List R) (e : Misplaced) → ReadSoFar size read bytes offset count i place found → s ≡ size → i < count → count ≤ length bytes / s → room_of (length bytes) place size ≡ Err e → records_from size read bytes offset count items ≡ Err (misplaced e)
-unfolding records_from
-refused size s read bytes offset count i place items found e before same h enough fault =
-    let some : count - i ≡ suc (count - (i + 1)) = omega arith in
-    let each : room_of_each (length bytes) offset size count ≡ Err e = sym before.left ∙ rw (some, fault) refl in
-    let few : nat_lt (length bytes / size) count ≡ false = rw (← same) (grind (arith, nat_tests)) in
-    rw (few, each) refl
+  -- one more was read
+  one_more : (i place : ℕ) → place ≡ offset + i * size → records size read (i + 1) (drop offset bytes) ≡ records size read i (drop offset bytes) ++ read (take size (drop place bytes)) ∷ []
+  one_more i place at =
+      let there : drop (i * size) (drop offset bytes) ≡ drop place bytes = drop-drop (i * size) offset bytes ∙ ap (λ (k : ℕ). drop k bytes) (sym at) in
+      last_record size read i (drop offset bytes) ∙ ap (λ (part : List ℕ). records size read i (drop offset bytes) ++ read (take size part) ∷ []) there
 
-pub no_room : {R : Type 0} (size s : ℕ) (read : List ℕ → R) (bytes : List ℕ) (offset count i place : ℕ) (items : List ℕ) (found : List R) (e : Error) → ReadSoFar size read bytes offset count i place found → s ≡ size → i < count → count ≤ length bytes / s → Err e ≡ unless_fault (room_of (length bytes) place size) (read (take size (drop place bytes))) → records_from size read bytes offset count items ≡ Err (refusal_of e)
-no_room size s read bytes offset count i place items found e before same h enough is =
-    let fault = unless_fault-err (room_of (length bytes) place size) e (read (take size (drop place bytes))) is in
-    refused size s read bytes offset count i place items found fault.0 before same h enough fault.1 ∙ ap (λ f. Err (refusal_of f)) (sym fault.2)
+  pub next_read : (s i place : ℕ) (found : List R) (x : R) → ReadSoFar i place found → s ≡ size → i < count → Ok x ≡ read_there place → ReadSoFar (i + 1) (place + s) (found ++ x ∷ [])
+  next_read s i place found x before same h e =
+      let is = unless_fault-is (room_of (length bytes) place size) x (read (take size (drop place bytes))) e in
+      record {
+        there = let at = before.there in omega arith;
+        left = rw same (sym (one_less (length bytes) place size count i tt h is.0) ∙ before.left);
+        gave = rw (before.gave, is.1) (sym (one_more i place before.there));
+      }
+
+  -- all were read
+  pub all_read : (s i place : ℕ) (items : List ℕ) (found : List R) → ReadSoFar i place found → s ≡ size → i ≡ count → count ≤ length bytes / s → records_from size read bytes offset count items ≡ Ok found
+  unfolding records_from
+  all_read s i place items found before same all enough =
+      let none : count - i ≡ 0 = omega arith in
+      let each : room_of_each (length bytes) offset size count ≡ Ok tt = sym before.left ∙ ap (room_of_each (length bytes) place size) none in
+      let few : nat_lt (length bytes / size) count ≡ false = rw (← same) (grind (arith, nat_tests)) in
+      rw (few, each, before.gave, all) refl
+
+  -- the next one has no room
+  refused : (s i place : ℕ) (items : List ℕ) (found : List R) (d : Misplaced) → ReadSoFar i place found → s ≡ size → i < count → count ≤ length bytes / s → room_of (length bytes) place size ≡ Err d → records_from size read bytes offset count items ≡ Err (misplaced d)
+  unfolding records_from
+  refused s i place items found d before same h enough fault =
+      let some : count - i ≡ suc (count - (i + 1)) = omega arith in
+      let each : room_of_each (length bytes) offset size count ≡ Err d = sym before.left ∙ rw (some, fault) refl in
+      let few : nat_lt (length bytes / size) count ≡ false = rw (← same) (grind (arith, nat_tests)) in
+      rw (few, each) refl
+
+  pub no_room : (s i place : ℕ) (items : List ℕ) (found : List R) (e : Error) → ReadSoFar i place found → s ≡ size → i < count → count ≤ length bytes / s → Err e ≡ read_there place → records_from size read bytes offset count items ≡ Err (refusal_of e)
+  no_room s i place items found e before same h enough is =
+      let fault = unless_fault-err (room_of (length bytes) place size) e (read (take size (drop place bytes))) is in
+      refused s i place items found fault.0 before same h enough fault.1 ∙ ap (λ f. Err (refusal_of f)) (sym fault.2)
 
 -- one record more is one size more
 size_more : (k size : ℕ) → suc k * size ≡ size + k * size
@@ -121,7 +109,7 @@ refused_first (Ok u) rest fails = absurd (fails refl)
 refused_first (Err e) rest fails = refl
 
 -- where fewer fit, the record behind those that fit is the first without room
-pub first_without : (len offset size count : ℕ) → 0 < size → offset ≤ len → (len - offset) / size < count → room_of len (offset + (len - offset) / size * size) size ≡ room_of_each len offset size count
+pub first_without : (len offset size count : ℕ) → 0 < size → offset ≤ len → (len - offset) / size < count → room_of_each len offset size count ≡ room_of len (offset + (len - offset) / size * size) size
 first_without len offset size count some before h =
     let k = (len - offset) / size in
     let place = offset + k * size in
@@ -129,25 +117,12 @@ first_without len offset size count some before h =
     let behind = (div-lt_iff_lt-mul {k = size} {x = len - offset} {y = k + 1} some).0 (omega arith) in
     let left : count - k ≡ suc (count - (k + 1)) = omega arith in
     let fails : room_of len place size ≡ Ok tt → ⊥ = λ e. (let fits = fits-room_of len place size tt e in omega arith) in
-    sym (fitting len offset size count k (omega arith) (omega arith) ∙ rw left (refused_first (room_of len place size) (room_of_each len (place + size) size (count - (k + 1))) fails))
+    fitting len offset size count k (omega arith) (omega arith) ∙ rw left (refused_first (room_of len place size) (room_of_each len (place + size) size (count - (k + 1))) fails)
 
--- the first without room
-pub in_range_refused : {R : Type 0} (size s : ℕ) (read : List ℕ → R) (bytes : List ℕ) (offset count : ℕ) (e : Misplaced) → s ≡ size → Err e ≡ room_of_each (length bytes) offset s count → records_in size read bytes offset count ≡ Err (misplaced e)
-unfolding records_in
-in_range_refused size s read bytes offset count e same fault = rw (← same, ← fault) refl
-
--- none are asked for
-pub in_range_none : {R : Type 0} (size : ℕ) (read : List ℕ → R) (bytes : List ℕ) (offset count : ℕ) → count ≡ 0 → records_in size read bytes offset count ≡ Ok []
-unfolding records_in
-in_range_none size read bytes offset count none = rw (none, no_records size read 0 (drop offset bytes) refl) refl
-
--- each has room
-pub in_range_all : {R : Type 0} (size s : ℕ) (read : List ℕ → R) (bytes : List ℕ) (offset count : ℕ) (u : Unit {0}) (found : List R) → s ≡ size → Ok u ≡ room_of_each (length bytes) offset s count → found ≡ records size read count (take (length bytes - offset) (drop offset bytes)) → records_in size read bytes offset count ≡ Ok found
-unfolding records_in
-in_range_all size s read bytes offset count u found same each is =
-    let all = rw (take_rest bytes offset) at is in
-    let room : room_of_each (length bytes) offset size count ≡ Ok u = rw (← same) (sym each) in
-    rw room (ap Ok (sym all))
+-- more records than the bytes could hold anywhere
+pub too_many : {R : Type 0} (size s : ℕ) (read : List ℕ → R) (bytes : List ℕ) (offset count : ℕ) (items : List ℕ) → s ≡ size → length bytes / s < count → records_from size read bytes offset count items ≡ Err (buffer_too_short count items)
+unfolding records_from
+too_many size s read bytes offset count items same h = rw (← same) (grind (arith, nat_tests))
 
 -- where there are not too many, the two ways to read records are one
 pub not_too_many : {R : Type 0} (size s : ℕ) (read : List ℕ → R) (bytes : List ℕ) (offset count : ℕ) (items : List ℕ) → s ≡ size → count ≤ length bytes / s → records_in size read bytes offset count ≡ records_from size read bytes offset count items
@@ -155,3 +130,14 @@ unfolding records_in records_from
 not_too_many size s read bytes offset count items same enough =
     let few : nat_lt (length bytes / size) count ≡ false = rw (← same) (grind (arith, nat_tests)) in
     rw few refl
+
+-- the records of a range depend on that range alone
+pub take_same : {R : Type 0} (size : ℕ) (read : List ℕ → R) (n : ℕ) (bytes : List ℕ) → records size read n bytes ≡ records size read n (take (n * size) bytes)
+take_same size read n bytes = sym (records-take size read n bytes)
+
+-- for the goals of the functions that read lists, and of the law that a range is all they depend on
+pub ruleset lists = (no_records, take_rest, read_field, fits-room_of)
+
+pub ruleset rooms = (all_fit, first_without)
+
+pub ruleset same = (take_same)

@@ -58,6 +58,7 @@ impl<'a, R: Record<C>, C: Copy> Table<'a, R, C> {
     ///
     /// The first record without room gives its fault. Where `count` is 0 the table is empty, whatever
     /// the offset.
+    #[tactic(auto, using(crate::proofs::Eager::lists), unfolding(crate::specs::Eager::records_in, crate::specs::Eager::records_from))]
     pub fn in_range(bytes: &'a [u8], offset: usize, count: usize, ctx: C) -> Result<Self>
         ensures exact { let right =
             records_in (R.size_of ctx) (R.read ctx) bytes.now offset count in
@@ -76,6 +77,7 @@ impl<'a, R: Record<C>, C: Copy> Table<'a, R, C> {
     ///
     /// More records than they could hold anywhere are a `BufferTooShort` of these items, whatever the
     /// offset.
+    #[tactic(auto, using(crate::proofs::Eager::lists), unfolding(crate::specs::Eager::records_in, crate::specs::Eager::records_from))]
     pub fn counted(
         bytes: &'a [u8],
         offset: usize,
@@ -208,6 +210,7 @@ impl<'a, R: Record<C>, C: Copy> ExactSizeIterator for TableIter<'a, R, C> {
 }
 
 /// The record that the piece at a place stands for, or the fault of room there.
+#[tactic(auto, using(crate::proofs::Eager::lists))]
 pub fn read_at<R: Record<C>, C: Copy>(bytes: &[u8], place: usize, ctx: C) -> Result<R>
     ensures exact { let size = R.size_of ctx in
         let piece = take size (drop place bytes.now) in
@@ -225,6 +228,7 @@ pub fn read_at<R: Record<C>, C: Copy>(bytes: &[u8], place: usize, ctx: C) -> Res
 /// is taken for all of them at once, and the first record without room gives its fault. Where `count`
 /// is 0 the list is empty, whatever the offset, and takes no memory. So want of memory can stand in
 /// place of a record's fault, but never of a `BufferTooShort`.
+#[tactic(auto, using(crate::proofs::Eager::lists), unfolding(crate::specs::Eager::records_in, crate::specs::Eager::records_from))]
 pub fn read_all<R: Record<C>, C: Copy>(
     alloc: Global,
     bytes: &[u8],
@@ -259,6 +263,7 @@ pub fn read_all<R: Record<C>, C: Copy>(
 
 // Whether there is room for each of `count` records of a size from an offset on, or the fault of the
 // first without: that of the place behind those that fit.
+#[tactic(auto, using(crate::proofs::Eager::rooms))]
 fn room_for_each(
     len: usize,
     offset: usize,
@@ -287,6 +292,7 @@ fn room_for_each(
 /// The first record without room gives its fault, before any memory is taken, so that want of memory
 /// stands in place of no fault. Where `count` is 0 the list is empty, whatever the offset, and takes
 /// no memory.
+#[tactic(auto, using(crate::proofs::Eager::lists), unfolding(crate::specs::Eager::records_in, crate::specs::Eager::records_from))]
 pub fn read_in_range<R: Record<C>, C: Copy>(
     alloc: Global,
     bytes: &[u8],
@@ -313,6 +319,7 @@ pub fn read_back<R: Record<C>, C: Copy>()
 
 /// A law: the records of a range depend on that range alone, so that byte lists that agree on it
 /// hold the same records there.
+#[tactic(auto, using(crate::proofs::Eager::same))]
 pub fn same_range<R: Record<C>, C: Copy>()
     ensures { (ctx : C) (count : ℕ) (bytes others : List ℕ)
         → take (count * R.size_of ctx) bytes ≡ take (count * R.size_of ctx) others

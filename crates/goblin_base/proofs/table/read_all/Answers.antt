@@ -1,14 +1,6 @@
 use Rattle.std.proofs.Common.{rules, arith}
-use Rattle.goblin_base.proofs.Eager.{too_many, none_asked, none_read, next_read, all_read, no_room}
+use Rattle.goblin_base.proofs.Eager.{none_read, next_read, all_read, no_room}
 use Rattle.goblin_base.proofs.table.read_all.Goals as goal
-
-pub returns-then-count-bytes-clause-given : goal.returns-then-count-bytes-clause-given
-returns-then-count-bytes-clause-given g c _ =
-    too_many (g.R.SizeWith.size_of c.args.ctx) c.size_with-size.result (g.R.Record.read c.args.ctx) c.args.bytes.now c.args.offset c.args.count c.args.items.now c.size_with-size.ensures c.if-count-bytes.true
-
-pub returns-then-count-eq0-clause-given : goal.returns-then-count-eq0-clause-given
-returns-then-count-eq0-clause-given g c =
-    rw c.new.ensures.items (none_asked (g.R.SizeWith.size_of c.args.ctx) (g.R.Record.read c.args.ctx) c.args.bytes.now c.args.offset c.args.count c.args.items.now c.if-count-eq0.true)
 
 pub each-init : goal.each-init
 each-init g c =
@@ -16,13 +8,13 @@ each-init g c =
 
 pub each-preserved : goal.each-preserved
 each-preserved g c =
-    rw c.in_ok-push.ensures.items (next_read (g.R.SizeWith.size_of c.args.ctx) c.size_with-size.result (g.R.Record.read c.args.ctx) c.args.bytes.now c.args.offset c.args.count c.each.counter c.each.place c.each.all.items c.in_ok-read_at.field-0 c.each.invariant c.size_with-size.ensures c.each-test.true c.in_ok-read_at.ensures.exact)
+    rw c.in_ok-push.ensures.items (next_read (g.R.SizeWith.size_of c.args.ctx) (g.R.Record.read c.args.ctx) c.args.bytes.now c.args.offset c.args.count c.size_with-size.result c.each.counter c.each.place c.each.all.items c.in_ok-read_at.field-0 c.each.invariant c.size_with-size.ensures c.each-test.true c.in_ok-read_at.ensures.exact)
 
 pub returns-in_err-read_at-clause-given : goal.returns-in_err-read_at-clause-given
 returns-in_err-read_at-clause-given g c =
-    let is = no_room (g.R.SizeWith.size_of c.args.ctx) c.size_with-size.result (g.R.Record.read c.args.ctx) c.args.bytes.now c.args.offset c.args.count c.each.counter c.each.place c.args.items.now c.each.all.items c.in_err-read_at.field-0.0 c.each.invariant c.size_with-size.ensures c.each-test.true c.if-count-bytes.false c.in_err-read_at.ensures.exact in
+    let is = no_room (g.R.SizeWith.size_of c.args.ctx) (g.R.Record.read c.args.ctx) c.args.bytes.now c.args.offset c.args.count c.size_with-size.result c.each.counter c.each.place c.args.items.now c.each.all.items c.in_err-read_at.field-0.0 c.each.invariant c.size_with-size.ensures c.each-test.true c.if-count-bytes.false c.in_err-read_at.ensures.exact in
     search (rules, is)
 
 pub returns-clause-given : goal.returns-clause-given
 returns-clause-given g c =
-    all_read (g.R.SizeWith.size_of c.args.ctx) c.size_with-size.result (g.R.Record.read c.args.ctx) c.args.bytes.now c.args.offset c.args.count c.each.counter c.each.place c.args.items.now c.each.all.items c.each.invariant c.size_with-size.ensures (omega arith) c.if-count-bytes.false
+    all_read (g.R.SizeWith.size_of c.args.ctx) (g.R.Record.read c.args.ctx) c.args.bytes.now c.args.offset c.args.count c.size_with-size.result c.each.counter c.each.place c.args.items.now c.each.all.items c.each.invariant c.size_with-size.ensures (omega arith) c.if-count-bytes.false
