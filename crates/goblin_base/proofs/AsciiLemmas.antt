@@ -1,13 +1,12 @@
 -- Runs of ASCII in a string, from the lanes of a load to the piece.
-use Rattle.std.proofs.Common.{◌≡◌, ℕ, ◌+◌, ◌-◌, ◌%◌, ◌^◌, ◌<◌, ◌≤◌, ◌==◌, eqb, leb, cond, Bool, true, false, not, ◌||◌, bit_or, List, map, take, drop, length, get_or, refl, sym, ap, ◌∙◌, ⊎_elim, arith, Option, Ok}
+use Rattle.std.proofs.Common.{◌≡◌, ℕ, ◌+◌, ◌-◌, ◌%◌, ◌^◌, ◌<◌, ◌≤◌, ◌==◌, eqb, leb, cond, Bool, true, false, not, ◌||◌, bit_or, List, map, take, drop, length, get_or, refl, ap, ◌∙◌, ⊎_elim, arith, Ok}
 use Rattle.std.proofs.lemmas.Bool.{cases_lt, cond-true, cond-false, eq-eqb, ne_eqb, leb-false, or_parts}
-use Rattle.std.proofs.lemmas.List.{length-map, length-take, get_or-take, get_or_past}
+use Rattle.std.proofs.lemmas.List.{length-map, length-take, get_or-take, get_or_past, take_rest}
 use Rattle.std.proofs.lemmas.List.Folds.{prefix_len-append}
 use Rattle.std.proofs.lemmas.List.Sums.{prefix_len-le-length, fails_before_first, position_or_len_is}
 use Rattle.std.proofs.lemmas.Simd.{map-map, mask_l-mod, first_set_mask_l, chunk-drop, length-chunk}
 use Rattle.std.proofs.lemmas.Str.{IsUtf8-from_ascii, is_utf8-from_IsUtf8}
-use Rattle.std.specs.List.{position, position_or_len, prefix_len}
-use Rattle.std.specs.Option.{unwrap_or}
+use Rattle.std.specs.List.{position_or_len, prefix_len}
 use Rattle.std.specs.Str.{IsAscii, IsUtf8}
 use lib.Lanes.{chunk, mask_l, top}
 use Rattle.goblin_base.proofs.StrtabLemmas.{first_or_length}
@@ -36,22 +35,21 @@ pub run_is : (d : ℕ) (v z : List ℕ) (r : ℕ) → length v ≡ 16 → z ≡ 
 run_is d v z r long lanes found = found ∙ ap (λ m. lowest_set m 16) (mask_is d v z long lanes) ∙ first_set_mask_l (ends_run d) v 16 long (omega arith)
 
 -- a run from a place on: of the next bytes alone where it ends in them, or on behind them
-pub ends_here : (d : ℕ) (bytes : List ℕ) (at run : ℕ) → at + 16 ≤ length bytes → run ≡ position_or_len (ends_run d) (take 16 (drop at bytes)) → run < 16 → position_or_len (ends_run d) (drop at bytes) ≡ run
-ends_here d bytes at run room is short =
+pub ends_here : (d : ℕ) (bytes : List ℕ) (at : ℕ) → at + 16 ≤ length bytes → position_or_len (ends_run d) (take 16 (drop at bytes)) < 16 → position_or_len (ends_run d) (drop at bytes) ≡ position_or_len (ends_run d) (take 16 (drop at bytes))
+ends_here d bytes at room short =
     let p : ℕ → Bool = λ b. not (ends_run d b) in
     let long = length-chunk at 16 bytes room in
-    let apart : ¬ (prefix_len p (chunk at 16 bytes) ≡ length (chunk at 16 bytes)) = λ e. absurd (omega (arith, e, long, is, short)) in
-    ap (prefix_len p) (chunk-drop at 16 bytes) ∙ prefix_len-append p (chunk at 16 bytes) (drop (at + 16) bytes) ∙ cond-false _ _ _ (ne_eqb _ _ apart) ∙ sym is
+    let apart : ¬ (prefix_len p (chunk at 16 bytes) ≡ length (chunk at 16 bytes)) = λ e. absurd (omega (arith, e, long, short)) in
+    ap (prefix_len p) (chunk-drop at 16 bytes) ∙ prefix_len-append p (chunk at 16 bytes) (drop (at + 16) bytes) ∙ cond-false _ _ _ (ne_eqb _ _ apart)
 
-pub goes_on : (d : ℕ) (bytes : List ℕ) (at run : ℕ) → at + 16 ≤ length bytes → run ≡ position_or_len (ends_run d) (take 16 (drop at bytes)) → 16 ≤ run → position_or_len (ends_run d) (drop at bytes) ≡ 16 + position_or_len (ends_run d) (drop (at + 16) bytes)
-goes_on d bytes at run room is all =
+pub goes_on : (d : ℕ) (bytes : List ℕ) (at : ℕ) → at + 16 ≤ length bytes → 16 ≤ position_or_len (ends_run d) (take 16 (drop at bytes)) → position_or_len (ends_run d) (drop at bytes) ≡ 16 + position_or_len (ends_run d) (drop (at + 16) bytes)
+goes_on d bytes at room all =
     let p : ℕ → Bool = λ b. not (ends_run d b) in
     let long = length-chunk at 16 bytes room in
-    let same : prefix_len p (chunk at 16 bytes) ≡ length (chunk at 16 bytes) = omega (arith, long, is, all, prefix_len-le-length p (chunk at 16 bytes)) in
+    let same : prefix_len p (chunk at 16 bytes) ≡ length (chunk at 16 bytes) = omega (arith, long, all, prefix_len-le-length p (chunk at 16 bytes)) in
     ap (prefix_len p) (chunk-drop at 16 bytes) ∙ prefix_len-append p (chunk at 16 bytes) (drop (at + 16) bytes) ∙ cond-true _ _ _ (eq-eqb _ _ same) ∙ ap (λ n. n + prefix_len p (drop (at + 16) bytes)) long
 
-pub end_is : (d n : ℕ) (rest : List ℕ) (r : Option ℕ) → r ≡ position (ends_run d) rest → n ≡ unwrap_or r (length rest) → n ≡ position_or_len (ends_run d) rest
-end_is d n rest r f g = g ∙ ap (λ x. unwrap_or x (length rest)) f ∙ first_or_length (ends_run d) rest
+pub ruleset runs = (ends_here, goes_on, first_or_length, take_rest)
 
 -- what a run says of each byte in it, and of the one that ends it
 module _ (d n : ℕ) (bytes : List ℕ) (is : n ≡ position_or_len (ends_run d) bytes) where

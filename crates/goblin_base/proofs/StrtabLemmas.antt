@@ -1,22 +1,20 @@
 -- From ranges and walks to string tables.
-use Rattle.std.proofs.Common.{◌≡◌, ℕ, ◌+◌, ◌-◌, ◌≤◌, Bool, true, false, cond, ltb, take, drop, List, [], length, get_or, refl, sym, ap, subst, ◌∙◌, ◌<◌, ⊎_elim, not, arith, Option, None, Result, Ok, Err}
+use Rattle.std.proofs.Common.{◌≡◌, ℕ, ◌+◌, ◌-◌, ◌≤◌, Bool, true, false, cond, ltb, drop, List, [], length, get_or, refl, sym, ap, subst, ◌∙◌, ◌<◌, ⊎_elim, not, arith, Option, None, Result, Ok, Err}
 use Rattle.std.proofs.lemmas.Bool.{cases_lt, cond-true, cond-false, lt-ltb, le-ltb}
-use Rattle.std.proofs.lemmas.List.{length-drop, take_all}
+use Rattle.std.proofs.lemmas.List.{take_all, take_rest}
 use Rattle.std.proofs.lemmas.List.Sums.{prefix_len-le-length}
 use Rattle.std.specs.List.{EachIndex, position_or_len, position}
 use Rattle.std.specs.Borrow.{Bor}
 use Rattle.std.specs.Option.{unwrap_or, option_map, MatchOption}
 use Rattle.std.specs.Str.{IsCharBoundary}
-use Rattle.std.specs.Prelude.{◌==◌}
 use Rattle.goblin_base.specs.declared.options.ParseMode.{ParseMode}
 use Rattle.goblin_base.specs.declared.options.ParseMode.TheVariants.{Strict, Permissive}
-use Rattle.goblin_base.specs.Pieces.{piece, entry_text, entries, first_bad, text_at}
+use Rattle.goblin_base.specs.Pieces.{entry_text, entries, first_bad, text_at}
 use Rattle.goblin_base.specs.Entries.{places_of, text_of}
 use Rattle.goblin_base.specs.Search.{IsLastUpTo}
 use Rattle.goblin_base.specs.Refusal.{Refusal, malformed}
 use Rattle.goblin_base.specs.Steps.{◌>>=◌, refuse_as}
-use Rattle.goblin_base.specs.Strtab.{StringTable, look_up, range_in, strtab_of, table_of, walked, plain}
-use Rattle.goblin_base.specs.Utf8.{text_or_fault}
+use Rattle.goblin_base.specs.Strtab.{StringTable, look_up, range_in, strtab_of, table_of, walked}
 use Rattle.goblin_base.proofs.LookUpLemmas.{IsLookUp, text_at_past, found_look_up, not_all_after, answered, entry_text_at}
 use Rattle.goblin_base.proofs.WalkLemmas.{entries_past}
 
@@ -51,6 +49,12 @@ pub whole_range : (mode : ParseMode) (file : List ℕ) → range_in mode file 0 
 unfolding range_in
 whole_range mode file = cond-false _ _ _ (le-ltb (length file) 0 (omega arith)) ∙ cond-false _ _ _ (le-ltb (length file) (0 + length file) (omega arith)) ∙ ap Ok (take_all (length file) file (omega arith))
 
+-- so the table of the whole file is that of its bytes
+pub whole_table : (mode : ParseMode) (file : List ℕ) (d : ℕ) → strtab_of mode file 0 (length file) d ≡ table_of mode file d
+whole_table mode file d = strtab_in_range mode file 0 (length file) d file (whole_range mode file)
+
+pub ruleset wholes = (whole_range, whole_table)
+
 -- where the delimiter stands first, or the length
 pub first_or_length : (t : ℕ → Bool) (xs : List ℕ) → unwrap_or (position t xs) (length xs) ≡ position_or_len t xs
 first_or_length t xs = ⊎_elim
@@ -58,22 +62,7 @@ first_or_length t xs = ⊎_elim
     (λ (l : length xs ≤ position_or_len t xs). ap (λ r. unwrap_or r (length xs)) (cond-false _ _ _ (le-ltb (position_or_len t xs) (length xs) l)) ∙ (let e : length xs ≡ position_or_len t xs = omega (arith, prefix_len-le-length (λ b. not (t b)) xs) in e))
     (cases_lt (position_or_len t xs) (length xs))
 
--- the piece at a place, cut from the bytes from there on
-pub piece_of_rest : (bytes : List ℕ) (d o n : ℕ) (rest cut : List ℕ) (r : Option ℕ) → rest ≡ drop o bytes → r ≡ position (λ b. b == d) rest → n ≡ unwrap_or r (length rest) → cut ≡ take n rest → text_or_fault cut (length rest) ≡ plain bytes d o
-unfolding piece
-piece_of_rest bytes d o n rest cut r e f g h =
-    let t : ℕ → Bool = λ b. b == d in
-    let len : n ≡ position_or_len t (drop o bytes) = g ∙ ap (λ x. unwrap_or x (length rest)) f ∙ first_or_length t rest ∙ ap (position_or_len t) e in
-    let is : cut ≡ piece bytes d o = h ∙ ap (λ k. take k rest) len ∙ ap (take (position_or_len t (drop o bytes))) e in
-    let left : length rest ≡ length bytes - o = ap length e ∙ length-drop o bytes in
-    ap (λ b. text_or_fault b (length rest)) is ∙ ap (text_or_fault (piece bytes d o)) left
-
--- and read there as from the front
-pub plain_of_rest : (bytes : List ℕ) (d o : ℕ) (rest : List ℕ) → rest ≡ drop o bytes → plain rest d 0 ≡ plain bytes d o
-unfolding piece
-plain_of_rest bytes d o rest e =
-    let left : length (drop o bytes) - 0 ≡ length bytes - o = omega (arith, length-drop o bytes) in
-    ap (λ r. plain r d 0) e ∙ ap (text_or_fault (piece bytes d o)) left
+pub ruleset rests = (first_or_length, take_rest)
 
 -- a look-up in a table that was parsed
 module _ (bytes : List ℕ) (d : ℕ) (is_parsed : Bool) (t : StringTable) (es : List (ℕ × List ℕ)) (o : ℕ) (is : record { bytes = bytes; delim = d; is_parsed = is_parsed } ≡ t) (parsed : is_parsed ≡ true) (walked_is : es ≡ entries bytes d) (l : o < length bytes) where

@@ -20,6 +20,7 @@ pub(crate) fn ascii_piece(bytes: &[u8], delim: u8) -> Option<&str>
 }
 
 // How many bytes stand before the first that ends the run.
+#[tactic(auto, using(crate::proofs::AsciiLemmas::runs))]
 fn run_len(bytes: &[u8], delim: u8) -> usize
     ensures { result ≡ position_or_len (ends_run delim) bytes.now }
 {

@@ -46,6 +46,7 @@ impl<'a> Model for Strtab<'a> {
 }
 
 // The piece at an offset, or the fault of bytes that are no text.
+#[tactic(auto, using(crate::proofs::StrtabLemmas::rests), unfolding(crate::specs::Pieces::piece))]
 fn get_str(offset: usize, bytes: &[u8], delim: u8) -> Result<&str>
     requires { offset ≤ length bytes.now }
     ensures { Answers (λ text. text.now) result (plain bytes.now delim offset) }
@@ -152,6 +153,7 @@ impl<'a> Strtab<'a> {
     ///
     /// The range and the first piece are tested before memory is taken, and a table of no bytes takes none.
     /// Want of memory for an entry comes before a later piece's fault.
+    #[tactic(auto, unfolding(crate::specs::Strtab::strtab_of))]
     pub fn parse_with_opts(
         alloc: Global,
         bytes: &'a [u8],
@@ -187,6 +189,7 @@ impl<'a> Strtab<'a> {
     }
 
     /// The table of all the bytes, each piece of which must be text: that of `parse`.
+    #[tactic(auto, using(crate::proofs::StrtabLemmas::wholes))]
     pub fn new_preparsed(alloc: Global, bytes: &'a [u8], delim: u8) -> Result<Self>
         ensures given { let right = table_of ParseMode.Strict bytes.now delim in
             Gives (λ table. table) result right }
