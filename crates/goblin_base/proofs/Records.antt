@@ -50,13 +50,6 @@ unfolding records piece
 last_record size read n bytes =
     map-range_with_len_more (λ i. read (piece size bytes i)) 0 n n (omega arith) ∙ ap (λ part. map (λ i. read (piece size bytes i)) (range_with_len 0 n) ++ read part ∷ []) (piece-is size bytes n)
 
--- what a table answers at an index below its length: `items` is its list, and `found` what reading its bytes there gave
-pub get_is : {R : Type 0} (size : ℕ) (read : List ℕ → R) (n : ℕ) (bytes : List ℕ) (i s : ℕ) (items : List R) (found : Result R Error) (answer : Option R) → s ≡ size → records size read n bytes ≡ items → n * size ≤ length bytes → i < n → found ≡ read_within size read (take (i * s + s - i * s) (drop (i * s) bytes)) → answer ≡ result_ok found → answer ≡ slice_get items i
-get_is size read n bytes i s items found answer same is fits below read_is ok_is =
-    let room : i * size + size ≤ length bytes = grind (arith, common_steps, rows) in
-    rw same at (ok_is ∙ ap result_ok read_is) ∙ ap result_ok (read_field size read bytes (i * size) room)
-    ∙ sym (ap (λ l. slice_get l i) (sym is) ∙ get_records size read n bytes i below)
-
 -- what an iterator answers where records are left
 pub next_is : {R : Type 0} (size : ℕ) (read : List ℕ → R) (n : ℕ) (bytes : List ℕ) (s : ℕ) (items : List R) (found : Result R Error) (answer : Option R) → s ≡ size → records size read n bytes ≡ items → n * size ≤ length bytes → 0 < n → found ≡ read_within size read (take s bytes) → answer ≡ result_ok found → (answer ≡ Some (read (take size bytes))) × (items ≡ read (take size bytes) ∷ records size read (n - 1) (take (length bytes - s) (drop s bytes)))
 next_is size read n bytes s items found answer same is fits below read_is ok_is =
@@ -65,4 +58,4 @@ next_is size read n bytes s items found answer same is fits below read_is ok_is 
       sym is ∙ first_record size read n bytes below ∙ ap (λ (left : List ℕ). read (take size bytes) ∷ records size read (n - 1) left) (sym (rw same (take_rest bytes size))),
     )
 
-pub ruleset record_steps = (length_records, get_records, past_records, read_field, read_first, no_records, first_record)
+pub ruleset record_steps = (length_records, get_records, past_records, read_field, read_first, no_records, first_record, rows)

@@ -35,6 +35,13 @@ walked_entries Strict bytes d es h = ok_only (ltb (first_bad bytes d) (length by
 pub no_entries : (bytes : List ℕ) (d : ℕ) → bytes ≡ [] → entries bytes d ≡ []
 no_entries bytes d e = entries_past bytes d 0 (omega (arith, ap length e))
 
+pub none_walked : (mode : ParseMode) (bytes : List ℕ) (d : ℕ) → bytes ≡ [] → walked mode bytes d ≡ Ok []
+unfolding walked
+none_walked Permissive bytes d e = ap Ok (no_entries bytes d e)
+none_walked Strict bytes d e = rw (le-ltb (first_bad bytes d) (length bytes) (omega (arith, ap length e)), no_entries bytes d e) refl
+
+pub ruleset empties = (no_entries, none_walked)
+
 -- a table of a range by what is answered of the range
 pub strtab_by : (mode : ParseMode) (file : List ℕ) (o n d : ℕ) (range : Result (List ℕ) Refusal) → refuse_as malformed (range_in mode file o n) ≡ range → strtab_of mode file o n d ≡ (range >>= (λ b. table_of mode b d))
 unfolding strtab_of

@@ -201,6 +201,7 @@ impl<'a> Strtab<'a> {
 
     /// The strings of the table: the texts of its entries, or where it was not parsed those of a strict
     /// walk, whose fault is a `BadInput`.
+    #[tactic(auto, using(crate::proofs::StrtabLemmas::empties))]
     pub fn to_vec(&self, alloc: Global) -> Result<Vec<&'a str>>
         ensures given { Gives (λ v. map (λ text. text.now) v.items) result (strings_of self.now) }
         ensures first { (self.now.is_parsed ≡ false)
@@ -220,6 +221,7 @@ impl<'a> Strtab<'a> {
     /// The rest of the string round an offset: of the last entry at or before it, from the offset on.
     ///
     /// It is `None` from `len()` on, inside a character, and for every offset of a table that was not parsed.
+    #[tactic(auto, using(crate::proofs::StrtabLemmas::look_up_past))]
     pub fn get_at(&self, offset: usize) -> Option<&'a str>
         ensures { option_map (λ text. text.now) result ≡ look_up self.now offset }
     {

@@ -1,10 +1,7 @@
-use Rattle.std.proofs.Common.{◌≡◌, length, sym, ap, subst, IfSome, arith}
+use Rattle.std.proofs.Common.{◌≡◌, sym, subst, IfSome, arith}
 use Rattle.goblin_base.specs.Pieces.{entries}
-use Rattle.goblin_base.proofs.StrtabLemmas.{look_up_past, look_up_some, look_up_among}
+use Rattle.goblin_base.proofs.StrtabLemmas.{look_up_some, look_up_among}
 use Rattle.goblin_base.proofs.strtab.Strtab.get_at.Goals as goal
-
-pub returns-then-offset-self : goal.returns-then-offset-self
-returns-then-offset-self c = sym (look_up_past c.args.self.now c.args.offset (omega (arith, ap (λ t. length t.bytes) c.self.view_is)))
 
 pub returns-in_err-k : goal.returns-in_err-k
 returns-in_err-k c =
