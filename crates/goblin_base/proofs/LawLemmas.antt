@@ -1,5 +1,5 @@
 -- The laws of string tables.
-use Rattle.std.proofs.Common.{◌≡◌, ℕ, zero, suc, ◌+◌, ◌-◌, ◌^◌, ◌<◌, ◌≤◌, ⊎_elim, Bool, true, false, cond, not, eqb, ltb, leb, List, [], length, get_or, take, drop, map, refl, sym, ap, ◌∙◌, arith, Some, Result, Ok, Err}
+use Rattle.std.proofs.Common.{◌≡◌, ℕ, ◌+◌, ◌-◌, ◌^◌, ◌<◌, ◌≤◌, ⊎_elim, Bool, true, false, cond, not, ltb, leb, List, [], length, take, drop, map, refl, sym, ap, ◌∙◌, arith, Some, Result, Ok, Err}
 use Rattle.std.proofs.lemmas.Bool.{cases_lt, cases_Bool, cond-true, cond-false, lt-ltb, le-ltb, both_ways}
 use Rattle.std.proofs.lemmas.List.{length-drop, take_all}
 use Rattle.std.proofs.lemmas.List.FromFn.{length-range_with_len}
@@ -19,7 +19,7 @@ use Rattle.goblin_base.specs.Steps.{◌>>=◌, refuse_as}
 use Rattle.goblin_base.specs.Strtab.{StringTable, or_cut, range_in, strtab_of, table_of, walked, plain, look_up}
 use Rattle.goblin_base.specs.StrtabLaws.{TextIsUtf8, ClosedForm, JoinsAgain, PermissiveAccepts, StrictIsPermissive, LookUpHasPlain, StrictLookUpIsPlain, DependsOnRange, joined}
 use Rattle.goblin_base.specs.Utf8.{invalid_utf8}
-use Rattle.goblin_base.proofs.PiecesLemmas.{start_to, start_after_delim, start_more}
+use Rattle.goblin_base.proofs.PiecesLemmas.{start_to, start_of_start}
 use Rattle.goblin_base.proofs.WalkLemmas.{entries_closed, no_entry_place}
 use Rattle.goblin_base.proofs.LookUpLemmas.{text_at_readable, text_at_inside}
 use Rattle.goblin_base.proofs.JoinedLemmas.{joined_again, readable_start}
@@ -117,14 +117,6 @@ pub look_up_has_plain : LookUpHasPlain
 look_up_has_plain t o text parsed l h =
     let read = readable_if_plain t.bytes t.delim o text h in
     cond-true t.is_parsed _ _ parsed ∙ text_at_readable t.bytes t.delim o l read.0 ∙ ap Some read.1
-
-start_of_start : (bytes : List ℕ) (d o : ℕ) → piece_start bytes d (piece_start bytes d o) ≡ piece_start bytes d o
-unfolding piece_start
-start_of_start bytes d zero = refl
-start_of_start bytes d (suc o) = ⊎_elim
-    (λ (r : eqb (get_or bytes o 0) d ≡ true). let e = start_after_delim bytes d o r in ap (piece_start bytes d) e)
-    (λ (r : eqb (get_or bytes o 0) d ≡ false). let e = start_more bytes d o r in ap (piece_start bytes d) e ∙ start_of_start bytes d o ∙ sym e)
-    (cases_Bool (eqb (get_or bytes o 0) d))
 
 look_up_is_plain : (bytes : List ℕ) (d o : ℕ) → first_bad bytes d ≡ length bytes → o < length bytes → text_at bytes d o ≡ result_ok (plain bytes d o)
 unfolding is_readable

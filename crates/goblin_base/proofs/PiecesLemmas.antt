@@ -1,7 +1,7 @@
 -- Where pieces begin and end.
-use Rattle.std.proofs.Common.{◌≡◌, ℕ, zero, suc, ◌+◌, ◌-◌, ◌<◌, ◌≤◌, Bool, true, false, cond, not, eqb, List, [], ◌∷◌, length, get_or, take, drop, refl, sym, ap, ◌∙◌, arith}
-use Rattle.std.proofs.lemmas.Bool.{cond-true, cond-false}
-use Rattle.std.proofs.lemmas.List.{get_or-drop, length-drop, length-take-le, drop_more}
+use Rattle.std.proofs.Common.{◌≡◌, ℕ, zero, suc, ◌+◌, ◌-◌, ◌<◌, ◌≤◌, ⊎_elim, Bool, true, false, cond, not, eqb, List, [], ◌∷◌, length, get_or, take, drop, refl, sym, ap, ◌∙◌, arith}
+use Rattle.std.proofs.lemmas.Bool.{cases_Bool, cases_lt, both_ways, cond-true, cond-false}
+use Rattle.std.proofs.lemmas.List.{get_or-drop, get_or-take, length-drop, length-take-le, drop_more}
 use Rattle.std.proofs.lemmas.List.Sums.{prefix_len-le-length, fails_before_first, passes_at_first, position_or_len_is}
 use Rattle.std.specs.List.{slice_range, position_or_len}
 use Rattle.goblin_base.specs.Pieces.{piece_end, piece, piece_start}
@@ -98,3 +98,44 @@ module _ (bytes : List ℕ) (d : ℕ) where
   start_next o h l =
       let e : piece_end bytes d o + 1 ≡ suc (piece_end bytes d o) = omega arith in
       ap (piece_start bytes d) e ∙ start_after_delim (piece_end bytes d o) (at_end o h l) ∙ sym e
+
+  -- the whole piece round a whole piece's beginning begins there
+  pub start_of_start : (o : ℕ) → piece_start bytes d (piece_start bytes d o) ≡ piece_start bytes d o
+  unfolding piece_start
+  start_of_start zero = refl
+  start_of_start (suc o) = ⊎_elim
+      (λ (r : eqb (get_or bytes o 0) d ≡ true). let e = start_after_delim o r in ap (piece_start bytes d) e)
+      (λ (r : eqb (get_or bytes o 0) d ≡ false). let e = start_more o r in ap (piece_start bytes d) e ∙ start_of_start o ∙ sym e)
+      (cases_Bool (eqb (get_or bytes o 0) d))
+
+  -- before a place where one begins a delimiter stands
+  pub delim_before : (o : ℕ) → piece_start bytes d (suc o) ≡ suc o → eqb (get_or bytes o 0) d ≡ true
+  delim_before o h = ⊎_elim
+      (λ (e : eqb (get_or bytes o 0) d ≡ true). e)
+      (λ (e : eqb (get_or bytes o 0) d ≡ false). absurd (omega (arith, start_more o e, h, start_to o)))
+      (cases_Bool (eqb (get_or bytes o 0) d))
+
+  -- and behind a delimiter one begins
+  pub start_behind : (q p : ℕ) → q < p → eqb (get_or bytes q 0) d ≡ true → q < piece_start bytes d p
+  start_behind q zero l z = absurd (omega arith)
+  start_behind q (suc o) l z = ⊎_elim
+      (λ (e : eqb (get_or bytes o 0) d ≡ true). omega (arith, start_after_delim o e))
+      (λ (e : eqb (get_or bytes o 0) d ≡ false). ⊎_elim
+      (λ (m : q < o). omega (arith, start_more o e, start_behind q o m z))
+      (λ (m : o ≤ q). let same : o ≡ q = omega arith in absurd (both_ways _ (ap (λ k. eqb (get_or bytes k 0) d) (sym same) ∙ e) z))
+      (cases_lt q o))
+      (cases_Bool (eqb (get_or bytes o 0) d))
+
+  -- it depends on the bytes before the place
+  pub start_of_front : (o p : ℕ) → o ≤ p → piece_start (take p bytes) d o ≡ piece_start bytes d o
+  unfolding piece_start
+  start_of_front zero p l = refl
+  start_of_front (suc o) p l = rw (get_or-take p bytes o 0 (omega arith), start_of_front o p (omega arith)) refl
+
+  -- a piece ends before the next one begins
+  pub end_before : (k s : ℕ) → k < s → piece_start bytes d s ≡ s → piece_end bytes d k < s
+  end_before k zero l h = absurd (omega arith)
+  end_before k (suc o) l h = ⊎_elim
+      (λ (m : o < piece_end bytes d k). absurd (both_ways _ (inside_piece k o (omega arith) m) (delim_before o h)))
+      (λ (m : piece_end bytes d k ≤ o). omega arith)
+      (cases_lt o (piece_end bytes d k))
