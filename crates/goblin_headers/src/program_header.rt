@@ -1,7 +1,7 @@
 //! Program headers, which tell how a file is loaded: System V gABI, "Program Header".
 ghost use Rattle.std.specs.Int.{IsBitSet};
 ghost use Rattle.std.specs.Int.Bits.{bit_or};
-ghost use Rattle.std.specs.Prelude.{◌≡◌, ◌≤◌, ◌↔◌, ◌++◌, IsTrue, IfErr, IsOk, length, drop, replicate};
+ghost use Rattle.std.specs.Prelude.{◌≡◌, ◌↔◌, IsTrue, IfErr, IsOk, replicate};
 ghost use Rattle.goblin_base.specs.Fields.{values_of};
 ghost use Rattle.goblin_base.specs.Layout.{IsOneImage, IsSameInEachClass};
 ghost use Rattle.goblin_base.specs.LayoutLaws.{obeys};
@@ -161,29 +161,6 @@ impl ProgramHeader {
     {
         Table::counted(bytes, offset, count, ctx, "program headers")
     }
-
-    // The program header at the start of the bytes.
-    fn at(bytes: &[u8], ctx: Ctx) -> ProgramHeader
-        requires { program_header_size ctx.container ≤ length bytes.now }
-        ensures { result ≡ program_header_of ctx.container ctx.le bytes.now }
-    {
-        match ctx.container {
-            Container::Little => program_header32::ProgramHeader::at(bytes, ctx.le).into(),
-            Container::Big => program_header64::ProgramHeader::at(bytes, ctx.le).into(),
-        }
-    }
-
-    // Puts the program header at the start of the bytes.
-    fn put(self, bytes: &mut [u8], ctx: Ctx)
-        requires { program_header_size ctx.container ≤ length bytes.old }
-        ensures { let image = program_header_image ctx.container ctx.le self in
-            bytes.new ≡ image ++ drop (program_header_size ctx.container) bytes.old }
-    {
-        match ctx.container {
-            Container::Little => program_header32::ProgramHeader::from(self).put(bytes, ctx.le),
-            Container::Big => program_header64::ProgramHeader::from(self).put(bytes, ctx.le),
-        }
-    }
 }
 
 impl SizeWith<Ctx> for ProgramHeader {
@@ -215,12 +192,15 @@ impl TryIntoCtx<Ctx> for ProgramHeader {
         let image = program_header_image ctx.container ctx.le header in
         Writes (program_header_size ctx.container) image old answer new };
 
-    #[tactic(auto, using(goblin_base::specs::RecordLaws::record_answers))]
     fn try_into_ctx(self, bytes: &mut [u8], ctx: Ctx) -> Result<usize> {
-        let size = ProgramHeader::size(ctx);
-        room(bytes.len(), 0, size)?;
-        self.put(bytes, ctx);
-        Ok(size)
+        match ctx.container {
+            Container::Little => {
+                program_header32::ProgramHeader::from(self).try_into_ctx(bytes, ctx.le)
+            }
+            Container::Big => {
+                program_header64::ProgramHeader::from(self).try_into_ctx(bytes, ctx.le)
+            }
+        }
     }
 }
 
@@ -236,7 +216,10 @@ impl Record<Ctx> for ProgramHeader {
     #[tactic(auto, using(goblin_base::specs::RecordLaws::record_answers))]
     fn read_record(bytes: &[u8], ctx: Ctx) -> Result<Self> {
         room(bytes.len(), 0, ProgramHeader::size(ctx))?;
-        Ok(ProgramHeader::at(bytes, ctx))
+        match ctx.container {
+            Container::Little => Ok(program_header32::ProgramHeader::at(bytes, ctx.le).into()),
+            Container::Big => Ok(program_header64::ProgramHeader::at(bytes, ctx.le).into()),
+        }
     }
 
     ghost laws = { λ ctx. obeys (program_header_laws ctx.container ctx.le) };

@@ -1,5 +1,5 @@
 //! Program headers of the 32-bit class: System V gABI, "Program Header" (`Elf32_Phdr`).
-ghost use Rattle.std.specs.Prelude.{◌≡◌, ◌≤◌, ◌*◌, ◌++◌, length, drop, IfErr, IfOk, IsOk, alloc_error, replicate};
+ghost use Rattle.std.specs.Prelude.{◌≡◌, ◌≤◌, ◌*◌, length, IfErr, IfOk, IsOk, alloc_error, replicate};
 ghost use Rattle.goblin_base.specs.Eager.{records_in, room_of_each};
 ghost use Rattle.goblin_base.specs.Fields.{values_of};
 ghost use Rattle.goblin_base.specs.Layout.{IsOneImage};
@@ -98,21 +98,6 @@ impl ProgramHeader {
             p_align: get_u32(bytes, 28, order),
         }
     }
-
-    // Puts the program header at the start of the bytes.
-    pub(crate) fn put(&self, bytes: &mut [u8], order: Endian)
-        requires { SIZEOF_PHDR ≤ length bytes.old }
-        ensures { bytes.new ≡ program_header32_image order self.now ++ drop SIZEOF_PHDR bytes.old }
-    {
-        put_u32(bytes, 0, self.p_type, order);
-        put_u32(bytes, 4, self.p_offset, order);
-        put_u32(bytes, 8, self.p_vaddr, order);
-        put_u32(bytes, 12, self.p_paddr, order);
-        put_u32(bytes, 16, self.p_filesz, order);
-        put_u32(bytes, 20, self.p_memsz, order);
-        put_u32(bytes, 24, self.p_flags, order);
-        put_u32(bytes, 28, self.p_align, order);
-    }
 }
 
 impl From<ProgramHeader> for ElfProgramHeader {
@@ -181,14 +166,21 @@ impl TryIntoCtx<Endian> for ProgramHeader {
     #[tactic(auto, using(goblin_base::specs::RecordLaws::record_answers))]
     fn try_into_ctx(self, bytes: &mut [u8], order: Endian) -> Result<usize> {
         room(bytes.len(), 0, SIZEOF_PHDR)?;
-        self.put(bytes, order);
+        put_u32(bytes, 0, self.p_type, order);
+        put_u32(bytes, 4, self.p_offset, order);
+        put_u32(bytes, 8, self.p_vaddr, order);
+        put_u32(bytes, 12, self.p_paddr, order);
+        put_u32(bytes, 16, self.p_filesz, order);
+        put_u32(bytes, 20, self.p_memsz, order);
+        put_u32(bytes, 24, self.p_flags, order);
+        put_u32(bytes, 28, self.p_align, order);
         Ok(SIZEOF_PHDR)
     }
 }
 
 impl Record<Endian> for ProgramHeader {
     ghost use Rattle.goblin_headers.specs.ProgramHeader32.{ProgramHeader32Fits};
-    ghost use Rattle.goblin_headers.specs.ProgramHeader32Laws.{program_header32_laws};
+    ghost use Rattle.goblin_headers.specs.ProgramHeaderLaws.{program_header32_laws};
 
     ghost read = { program_header32_of };
 

@@ -178,7 +178,7 @@ impl TryIntoCtx<Endian> for SectionHeader {
 
 impl Record<Endian> for SectionHeader {
     ghost use Rattle.goblin_headers.specs.SectionHeader32.{SectionHeader32Fits};
-    ghost use Rattle.goblin_headers.specs.SectionHeader32Laws.{section_header32_laws};
+    ghost use Rattle.goblin_headers.specs.SectionHeaderLaws.{section_header32_laws};
 
     ghost read = { section_header32_of };
 

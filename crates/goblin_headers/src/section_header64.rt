@@ -178,7 +178,7 @@ impl TryIntoCtx<Endian> for SectionHeader {
 
 impl Record<Endian> for SectionHeader {
     ghost use Rattle.goblin_headers.specs.SectionHeader64.{SectionHeader64Fits};
-    ghost use Rattle.goblin_headers.specs.SectionHeader64Laws.{section_header64_laws};
+    ghost use Rattle.goblin_headers.specs.SectionHeaderLaws.{section_header64_laws};
 
     ghost read = { section_header64_of };
 

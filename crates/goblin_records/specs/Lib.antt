@@ -3,16 +3,12 @@ pub mod Nhdr
 pub mod NhdrLaws
 pub mod Reloc
 pub mod Reloc32
-pub mod Reloc32Laws
 pub mod Reloc64
-pub mod Reloc64Laws
 pub mod RelocInfo
 pub mod RelocInfoLaws
 pub mod RelocLaws
 pub mod Sym
 pub mod Sym32
-pub mod Sym32Laws
 pub mod Sym64
-pub mod Sym64Laws
 pub mod SymLaws
 pub mod SymParts

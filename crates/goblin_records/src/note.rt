@@ -1,5 +1,5 @@
 //! Note headers of both classes, and the types of notes: System V gABI, "Note Section".
-ghost use Rattle.std.specs.Prelude.{◌≡◌, ◌≤◌, ◌++◌, [], ◌∷◌, length, drop};
+ghost use Rattle.std.specs.Prelude.{◌≡◌, [], ◌∷◌};
 ghost use Rattle.goblin_base.specs.Layout.{IsOneImage};
 ghost use Rattle.goblin_base.specs.LayoutLaws.{obeys};
 ghost use Rattle.goblin_base.specs.Record.{read_within, Writes};
@@ -26,30 +26,6 @@ pub struct Nhdr32 {
 
 // How many bytes an `Nhdr32` takes.
 const SIZEOF_NHDR32: usize = 4 + 4 + 4;
-
-impl Nhdr32 {
-    // The note header at the start of the bytes.
-    fn at(bytes: &[u8], order: Endian) -> Nhdr32
-        requires { SIZEOF_NHDR32 ≤ length bytes.now }
-        ensures { result ≡ nhdr32_of order bytes.now }
-    {
-        Nhdr32 {
-            n_namesz: get_u32(bytes, 0, order),
-            n_descsz: get_u32(bytes, 4, order),
-            n_type: get_u32(bytes, 8, order),
-        }
-    }
-
-    // Puts the note header at the start of the bytes.
-    fn put(&self, bytes: &mut [u8], order: Endian)
-        requires { SIZEOF_NHDR32 ≤ length bytes.old }
-        ensures { bytes.new ≡ nhdr32_image order self.now ++ drop SIZEOF_NHDR32 bytes.old }
-    {
-        put_u32(bytes, 0, self.n_namesz, order);
-        put_u32(bytes, 4, self.n_descsz, order);
-        put_u32(bytes, 8, self.n_type, order);
-    }
-}
 
 impl SizeWith<Endian> for Nhdr32 {
     ghost size_of = { λ _. nhdr32_size };
@@ -78,7 +54,9 @@ impl TryIntoCtx<Endian> for Nhdr32 {
     #[tactic(auto, using(goblin_base::specs::RecordLaws::record_answers))]
     fn try_into_ctx(self, bytes: &mut [u8], order: Endian) -> Result<usize> {
         room(bytes.len(), 0, SIZEOF_NHDR32)?;
-        self.put(bytes, order);
+        put_u32(bytes, 0, self.n_namesz, order);
+        put_u32(bytes, 4, self.n_descsz, order);
+        put_u32(bytes, 8, self.n_type, order);
         Ok(SIZEOF_NHDR32)
     }
 }
@@ -96,7 +74,11 @@ impl Record<Endian> for Nhdr32 {
     #[tactic(auto, using(goblin_base::specs::RecordLaws::record_answers))]
     fn read_record(bytes: &[u8], order: Endian) -> Result<Self> {
         room(bytes.len(), 0, SIZEOF_NHDR32)?;
-        Ok(Nhdr32::at(bytes, order))
+        Ok(Nhdr32 {
+            n_namesz: get_u32(bytes, 0, order),
+            n_descsz: get_u32(bytes, 4, order),
+            n_type: get_u32(bytes, 8, order),
+        })
     }
 
     ghost laws = { λ order. obeys (nhdr32_laws order) };
@@ -115,30 +97,6 @@ pub struct Nhdr64 {
 
 // How many bytes an `Nhdr64` takes.
 const SIZEOF_NHDR64: usize = 8 + 8 + 8;
-
-impl Nhdr64 {
-    // The note header at the start of the bytes.
-    fn at(bytes: &[u8], order: Endian) -> Nhdr64
-        requires { SIZEOF_NHDR64 ≤ length bytes.now }
-        ensures { result ≡ nhdr64_of order bytes.now }
-    {
-        Nhdr64 {
-            n_namesz: get_u64(bytes, 0, order),
-            n_descsz: get_u64(bytes, 8, order),
-            n_type: get_u64(bytes, 16, order),
-        }
-    }
-
-    // Puts the note header at the start of the bytes.
-    fn put(&self, bytes: &mut [u8], order: Endian)
-        requires { SIZEOF_NHDR64 ≤ length bytes.old }
-        ensures { bytes.new ≡ nhdr64_image order self.now ++ drop SIZEOF_NHDR64 bytes.old }
-    {
-        put_u64(bytes, 0, self.n_namesz, order);
-        put_u64(bytes, 8, self.n_descsz, order);
-        put_u64(bytes, 16, self.n_type, order);
-    }
-}
 
 impl SizeWith<Endian> for Nhdr64 {
     ghost size_of = { λ _. nhdr64_size };
@@ -167,7 +125,9 @@ impl TryIntoCtx<Endian> for Nhdr64 {
     #[tactic(auto, using(goblin_base::specs::RecordLaws::record_answers))]
     fn try_into_ctx(self, bytes: &mut [u8], order: Endian) -> Result<usize> {
         room(bytes.len(), 0, SIZEOF_NHDR64)?;
-        self.put(bytes, order);
+        put_u64(bytes, 0, self.n_namesz, order);
+        put_u64(bytes, 8, self.n_descsz, order);
+        put_u64(bytes, 16, self.n_type, order);
         Ok(SIZEOF_NHDR64)
     }
 }
@@ -185,7 +145,11 @@ impl Record<Endian> for Nhdr64 {
     #[tactic(auto, using(goblin_base::specs::RecordLaws::record_answers))]
     fn read_record(bytes: &[u8], order: Endian) -> Result<Self> {
         room(bytes.len(), 0, SIZEOF_NHDR64)?;
-        Ok(Nhdr64::at(bytes, order))
+        Ok(Nhdr64 {
+            n_namesz: get_u64(bytes, 0, order),
+            n_descsz: get_u64(bytes, 8, order),
+            n_type: get_u64(bytes, 16, order),
+        })
     }
 
     ghost laws = { λ order. obeys (nhdr64_laws order) };

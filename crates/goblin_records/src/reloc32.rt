@@ -206,7 +206,7 @@ impl TryIntoCtx<Endian> for Rela {
 
 impl Record<Endian> for Rela {
     ghost use Rattle.goblin_records.specs.Reloc32.{Rela32Fits};
-    ghost use Rattle.goblin_records.specs.Reloc32Laws.{rela32_laws};
+    ghost use Rattle.goblin_records.specs.RelocLaws.{rela32_laws};
 
     ghost read = { rela32_of };
 
@@ -257,7 +257,7 @@ impl TryIntoCtx<Endian> for Rel {
 
 impl Record<Endian> for Rel {
     ghost use Rattle.goblin_records.specs.Reloc32.{Rel32Fits};
-    ghost use Rattle.goblin_records.specs.Reloc32Laws.{rel32_laws};
+    ghost use Rattle.goblin_records.specs.RelocLaws.{rel32_laws};
 
     ghost read = { rel32_of };
 

@@ -221,7 +221,7 @@ impl TryIntoCtx<Endian> for Rela {
 
 impl Record<Endian> for Rela {
     ghost use Rattle.goblin_records.specs.Reloc64.{Rela64Fits};
-    ghost use Rattle.goblin_records.specs.Reloc64Laws.{rela64_laws};
+    ghost use Rattle.goblin_records.specs.RelocLaws.{rela64_laws};
 
     ghost read = { rela64_of };
 
@@ -272,7 +272,7 @@ impl TryIntoCtx<Endian> for Rel {
 
 impl Record<Endian> for Rel {
     ghost use Rattle.goblin_records.specs.Reloc64.{Rel64Fits};
-    ghost use Rattle.goblin_records.specs.Reloc64Laws.{rel64_laws};
+    ghost use Rattle.goblin_records.specs.RelocLaws.{rel64_laws};
 
     ghost read = { rel64_of };
 

@@ -105,17 +105,6 @@ impl Sym {
         read_all(alloc, bytes, offset, count, ctx, "symbols")
     }
 
-    // The symbol at the start of the bytes.
-    fn at(bytes: &[u8], ctx: Ctx) -> Sym
-        requires { sym_size ctx.container ≤ length bytes.now }
-        ensures { result ≡ sym_of ctx.container ctx.le bytes.now }
-    {
-        match ctx.container {
-            Container::Little => sym32::Sym::at(bytes, ctx.le).into(),
-            Container::Big => sym64::Sym::at(bytes, ctx.le).into(),
-        }
-    }
-
     // Puts the symbol at the start of the bytes.
     fn put(self, bytes: &mut [u8], ctx: Ctx)
         requires { sym_size ctx.container ≤ length bytes.old }
@@ -187,7 +176,10 @@ impl Record<Ctx> for Sym {
     #[tactic(auto, using(goblin_base::specs::RecordLaws::record_answers))]
     fn read_record(bytes: &[u8], ctx: Ctx) -> Result<Self> {
         room(bytes.len(), 0, Sym::size(ctx.container))?;
-        Ok(Sym::at(bytes, ctx))
+        match ctx.container {
+            Container::Little => Ok(sym32::Sym::at(bytes, ctx.le).into()),
+            Container::Big => Ok(sym64::Sym::at(bytes, ctx.le).into()),
+        }
     }
 
     ghost laws = { λ ctx. obeys (sym_laws ctx.container ctx.le) };

@@ -151,7 +151,7 @@ impl TryIntoCtx<Endian> for Sym {
 
 impl Record<Endian> for Sym {
     ghost use Rattle.goblin_records.specs.Sym32.{Sym32Fits};
-    ghost use Rattle.goblin_records.specs.Sym32Laws.{sym32_laws};
+    ghost use Rattle.goblin_records.specs.SymLaws.{sym32_laws};
 
     ghost read = { sym32_of };
 

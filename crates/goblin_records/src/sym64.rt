@@ -151,7 +151,7 @@ impl TryIntoCtx<Endian> for Sym {
 
 impl Record<Endian> for Sym {
     ghost use Rattle.goblin_records.specs.Sym64.{Sym64Fits};
-    ghost use Rattle.goblin_records.specs.Sym64Laws.{sym64_laws};
+    ghost use Rattle.goblin_records.specs.SymLaws.{sym64_laws};
 
     ghost read = { sym64_of };
 

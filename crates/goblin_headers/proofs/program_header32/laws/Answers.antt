@@ -1,5 +1,5 @@
 use Rattle.goblin_base.specs.LayoutLaws.{one_image}
-use Rattle.goblin_headers.specs.ProgramHeader32Laws.{program_header32_laws}
+use Rattle.goblin_headers.specs.ProgramHeaderLaws.{program_header32_laws}
 use Rattle.goblin_headers.proofs.program_header32.laws.Goals as goal
 
 pub returns : goal.returns

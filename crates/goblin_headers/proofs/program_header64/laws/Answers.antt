@@ -1,5 +1,5 @@
 use Rattle.goblin_base.specs.LayoutLaws.{one_image}
-use Rattle.goblin_headers.specs.ProgramHeader64Laws.{program_header64_laws}
+use Rattle.goblin_headers.specs.ProgramHeaderLaws.{program_header64_laws}
 use Rattle.goblin_headers.proofs.program_header64.laws.Goals as goal
 
 pub returns : goal.returns

@@ -1,5 +1,5 @@
 use Rattle.goblin_base.specs.LayoutLaws.{one_image}
-use Rattle.goblin_headers.specs.SectionHeader32Laws.{section_header32_laws}
+use Rattle.goblin_headers.specs.SectionHeaderLaws.{section_header32_laws}
 use Rattle.goblin_headers.proofs.section_header32.laws.Goals as goal
 
 pub returns : goal.returns

@@ -1,6 +1,6 @@
 use Rattle.goblin_base.specs.declared.container.Container.TheVariants.{Little}
 use Rattle.goblin_base.specs.LayoutLaws.{one_image}
-use Rattle.goblin_records.specs.Reloc32Laws.{rel32_laws, rela32_laws}
+use Rattle.goblin_records.specs.RelocLaws.{rel32_laws, rela32_laws}
 use Rattle.goblin_records.specs.RelocInfoLaws.{joins_its_parts}
 use Rattle.goblin_records.proofs.reloc32.laws.Goals as goal
 

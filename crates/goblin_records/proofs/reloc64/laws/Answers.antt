@@ -1,6 +1,6 @@
 use Rattle.goblin_base.specs.declared.container.Container.TheVariants.{Big}
 use Rattle.goblin_base.specs.LayoutLaws.{one_image}
-use Rattle.goblin_records.specs.Reloc64Laws.{rel64_laws, rela64_laws}
+use Rattle.goblin_records.specs.RelocLaws.{rel64_laws, rela64_laws}
 use Rattle.goblin_records.specs.RelocInfoLaws.{joins_its_parts, mips_inverse, mips_one_to_one, mips_four_times}
 use Rattle.goblin_records.proofs.reloc64.laws.Goals as goal
 

@@ -2,9 +2,9 @@ use Rattle.std.proofs.Common.{ℕ, List, ◌++◌, drop, ap, ◌∙◌}
 use Rattle.goblin_base.specs.LayoutLaws.{image-low}
 use Rattle.goblin_headers.specs.SectionHeader.{as32, as64}
 use Rattle.goblin_headers.specs.SectionHeader32.{section_header32_size, section_header32_image}
-use Rattle.goblin_headers.specs.SectionHeader32Laws.{section_header32_laws}
+use Rattle.goblin_headers.specs.SectionHeaderLaws.{section_header32_laws}
 use Rattle.goblin_headers.specs.SectionHeader64.{section_header64_size, section_header64_image}
-use Rattle.goblin_headers.specs.SectionHeader64Laws.{section_header64_laws}
+use Rattle.goblin_headers.specs.SectionHeaderLaws.{section_header64_laws}
 use Rattle.goblin_headers.proofs.section_header.SectionHeader.put.Goals as goal
 
 pub returns-in-Little : goal.returns-in-Little

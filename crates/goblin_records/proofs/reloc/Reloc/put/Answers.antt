@@ -2,7 +2,7 @@ use Rattle.std.proofs.Common.{List, ℕ, ◌++◌, drop, ap, ◌∙◌}
 use Rattle.goblin_base.specs.LayoutLaws.{image-low}
 use Rattle.goblin_records.specs.Reloc.{rel_as32, rela_as32}
 use Rattle.goblin_records.specs.Reloc32.{rel32_image, rela32_image, rel32_size, rela32_size}
-use Rattle.goblin_records.specs.Reloc32Laws.{rel32_laws, rela32_laws}
+use Rattle.goblin_records.specs.RelocLaws.{rel32_laws, rela32_laws}
 use Rattle.goblin_records.proofs.reloc.Reloc.put.Goals as goal
 
 pub returns-in-Little-true : goal.returns-in-Little-true

@@ -2,9 +2,9 @@ use Rattle.std.proofs.Common.{ℕ, List, ◌++◌, drop, ap, ◌∙◌}
 use Rattle.goblin_base.specs.LayoutLaws.{image-low}
 use Rattle.goblin_records.specs.Sym.{as32, as64}
 use Rattle.goblin_records.specs.Sym32.{sym32_size, sym32_image}
-use Rattle.goblin_records.specs.Sym32Laws.{sym32_laws}
+use Rattle.goblin_records.specs.SymLaws.{sym32_laws}
 use Rattle.goblin_records.specs.Sym64.{sym64_size, sym64_image}
-use Rattle.goblin_records.specs.Sym64Laws.{sym64_laws}
+use Rattle.goblin_records.specs.SymLaws.{sym64_laws}
 use Rattle.goblin_records.proofs.sym.Sym.put.Goals as goal
 
 pub returns-in-Little : goal.returns-in-Little

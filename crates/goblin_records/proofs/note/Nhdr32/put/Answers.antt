@@ -1,6 +1,0 @@
-use Rattle.goblin_base.specs.FieldLaws.{with_fields-image}
-use Rattle.goblin_records.specs.Nhdr.{nhdr32_fields}
-use Rattle.goblin_records.proofs.note.Nhdr32.put.Goals as goal
-
-pub returns : goal.returns
-returns c = cc (with_fields-image c.args.order c.args.bytes.now 0 (nhdr32_fields c.args.self.now) c.requires)
