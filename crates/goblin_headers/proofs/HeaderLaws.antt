@@ -89,62 +89,48 @@ module _ {R : Type 0} {widths : List ℕ} {ident : R → List ℕ} {read : Endia
   }
 
 -- the fields of the headers of each class
-layout32 : IsHeaderLayout (2 ∷ 2 ∷ 4 ∷ 4 ∷ 4 ∷ 4 ∷ 4 ∷ 2 ∷ 2 ∷ 2 ∷ 2 ∷ 2 ∷ 2 ∷ []) (λ h. h.e_ident) header32_of header32_fields header32_low
-layout32 = record {
-  of_values = λ i vs. record { e_ident = i; e_type = slice_index vs 0; e_machine = slice_index vs 1; e_version = slice_index vs 2; e_entry = slice_index vs 3; e_phoff = slice_index vs 4; e_shoff = slice_index vs 5; e_flags = slice_index vs 6; e_ehsize = slice_index vs 7; e_phentsize = slice_index vs 8; e_phnum = slice_index vs 9; e_shentsize = slice_index vs 10; e_shnum = slice_index vs 11; e_shstrndx = slice_index vs 12 };
-  reads = λ order bytes. refl;
-  has_ident = λ i vs. refl;
-  has_widths = λ h. refl;
-  has_size = λ h. refl;
-  lows = λ h. refl;
-  whole = λ h. refl;
-  fields_read = λ order bytes. refl;
-}
-
-layout64 : IsHeaderLayout (2 ∷ 2 ∷ 4 ∷ 8 ∷ 8 ∷ 8 ∷ 4 ∷ 2 ∷ 2 ∷ 2 ∷ 2 ∷ 2 ∷ 2 ∷ []) (λ h. h.e_ident) header64_of header64_fields header64_low
-layout64 = record {
-  of_values = λ i vs. record { e_ident = i; e_type = slice_index vs 0; e_machine = slice_index vs 1; e_version = slice_index vs 2; e_entry = slice_index vs 3; e_phoff = slice_index vs 4; e_shoff = slice_index vs 5; e_flags = slice_index vs 6; e_ehsize = slice_index vs 7; e_phentsize = slice_index vs 8; e_phnum = slice_index vs 9; e_shentsize = slice_index vs 10; e_shnum = slice_index vs 11; e_shstrndx = slice_index vs 12 };
-  reads = λ order bytes. refl;
-  has_ident = λ i vs. refl;
-  has_widths = λ h. refl;
-  has_size = λ h. refl;
-  lows = λ h. refl;
-  whole = λ h. refl;
-  fields_read = λ order bytes. refl;
-}
-
 pub header32_laws : IsHeader header32_size (λ h. h.e_ident) header32_of header32_image header32_low Header32Fits
-header32_laws = layout_laws layout32
+header32_laws = layout_laws {widths = 2 ∷ 2 ∷ 4 ∷ 4 ∷ 4 ∷ 4 ∷ 4 ∷ 2 ∷ 2 ∷ 2 ∷ 2 ∷ 2 ∷ 2 ∷ []} {fields = header32_fields} (record {
+  of_values = λ i vs. record { e_ident = i; e_type = slice_index vs 0; e_machine = slice_index vs 1; e_version = slice_index vs 2; e_entry = slice_index vs 3; e_phoff = slice_index vs 4; e_shoff = slice_index vs 5; e_flags = slice_index vs 6; e_ehsize = slice_index vs 7; e_phentsize = slice_index vs 8; e_phnum = slice_index vs 9; e_shentsize = slice_index vs 10; e_shnum = slice_index vs 11; e_shstrndx = slice_index vs 12 };
+  reads = λ order bytes. refl;
+  has_ident = λ i vs. refl;
+  has_widths = λ h. refl;
+  has_size = λ h. refl;
+  lows = λ h. refl;
+  whole = λ h. refl;
+  fields_read = λ order bytes. refl;
+})
 
 pub header64_laws : IsHeader header64_size (λ h. h.e_ident) header64_of header64_image header64_low Header64Fits
-header64_laws = layout_laws layout64
+header64_laws = layout_laws {widths = 2 ∷ 2 ∷ 4 ∷ 8 ∷ 8 ∷ 8 ∷ 4 ∷ 2 ∷ 2 ∷ 2 ∷ 2 ∷ 2 ∷ 2 ∷ []} {fields = header64_fields} (record {
+  of_values = λ i vs. record { e_ident = i; e_type = slice_index vs 0; e_machine = slice_index vs 1; e_version = slice_index vs 2; e_entry = slice_index vs 3; e_phoff = slice_index vs 4; e_shoff = slice_index vs 5; e_flags = slice_index vs 6; e_ehsize = slice_index vs 7; e_phentsize = slice_index vs 8; e_phnum = slice_index vs 9; e_shentsize = slice_index vs 10; e_shnum = slice_index vs 11; e_shstrndx = slice_index vs 12 };
+  reads = λ order bytes. refl;
+  has_ident = λ i vs. refl;
+  has_widths = λ h. refl;
+  has_size = λ h. refl;
+  lows = λ h. refl;
+  whole = λ h. refl;
+  fields_read = λ order bytes. refl;
+})
+
+-- headers that are read and written as other ones: `widen` makes what was read, `narrow` what is written
+widened_laws : {A B : Type 0} {size : ℕ} {ident : A → List ℕ} {read : Endian → List ℕ → A} {image : Endian → A → List ℕ} {low : A → A} {Fits : A → Type 0} (widen : A → B) (narrow : B → A) → ((raw : A) → narrow (widen raw) ≡ raw) → ((h : B) → widen (narrow h) ≡ h) → IsHeader size ident read image low Fits → IsHeader size (λ h. ident (narrow h)) (λ order bytes. widen (read order bytes)) (λ order h. image order (narrow h)) (λ h. widen (low (narrow h))) (λ h. Fits (narrow h))
+widened_laws {ident = ident} {read = read} {image = image} widen narrow there back raw = record {
+  enough = raw.enough;
+  behind = λ order h. raw.behind order (narrow h);
+  image_is = λ order h. raw.image_is order (narrow h);
+  ident_read = λ order bytes. ap ident (there (read order bytes)) ∙ raw.ident_read order bytes;
+  length_image = λ order h. raw.length_image order (narrow h);
+  image_bytes = λ order h. raw.image_bytes order (narrow h);
+  reads_low = λ order h rest long. ap widen (raw.reads_low order (narrow h) rest long);
+  low_fits = λ h fits. ap widen (raw.low_fits (narrow h) fits) ∙ back h;
+  writes_back = λ order bytes are room. ap (image order) (there (read order bytes)) ∙ raw.writes_back order bytes are room;
+}
 
 -- a header of either class is the raw one of its class, widened
 pub header_laws : (class : Container) → IsHeader (header_size class) (λ h. h.e_ident) (header_of class) (header_image class) (header_low class) (HeaderFits class)
-header_laws class.Little =
-    let raw = header32_laws in record {
-      enough = raw.enough;
-      behind = λ order h. raw.behind order (as32 h);
-      image_is = λ order h. raw.image_is order (as32 h);
-      ident_read = raw.ident_read;
-      length_image = λ order h. raw.length_image order (as32 h);
-      image_bytes = λ order h. raw.image_bytes order (as32 h);
-      reads_low = λ order h rest long. ap widened32 (raw.reads_low order (as32 h) rest long);
-      low_fits = λ h fits. ap widened32 (raw.low_fits (as32 h) fits);
-      writes_back = raw.writes_back;
-    }
-header_laws class.Big =
-    let raw = header64_laws in record {
-      enough = raw.enough;
-      behind = λ order h. raw.behind order (as64 h);
-      image_is = λ order h. raw.image_is order (as64 h);
-      ident_read = raw.ident_read;
-      length_image = λ order h. raw.length_image order (as64 h);
-      image_bytes = λ order h. raw.image_bytes order (as64 h);
-      reads_low = λ order h rest long. ap widened64 (raw.reads_low order (as64 h) rest long);
-      low_fits = λ h fits. ap widened64 (raw.low_fits (as64 h) fits);
-      writes_back = raw.writes_back;
-    }
+header_laws class.Little = widened_laws widened32 as32 (λ raw. refl) (λ h. refl) header32_laws
+header_laws class.Big = widened_laws widened64 as64 (λ raw. refl) (λ h. refl) header64_laws
 
 module _ {R : Type 0} {size : ℕ} {ident : R → List ℕ} {read : Endian → List ℕ → R} {image : Endian → R → List ℕ} {low : R → R} {Fits : R → Type 0} (laws : IsHeader size ident read image low Fits) where
   -- bytes of the size are the image of what they are read as

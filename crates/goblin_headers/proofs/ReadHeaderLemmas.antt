@@ -3,7 +3,6 @@ use Rattle.std.proofs.Common.{◌≡◌, ◌≤◌, ℕ, true, false, Bool, nat_
 use Rattle.std.specs.List.{starts_with}
 use Rattle.std.proofs.lemmas.Bool.Decides.{nat_tests}
 use Rattle.goblin_base.specs.declared.container.Container.{Container}
-use Rattle.goblin_base.specs.declared.container.Container.TheVariants as class
 use Rattle.goblin_base.specs.declared.container.Endian.{Endian}
 use Rattle.goblin_base.specs.declared.error.Error.{Error}
 use Rattle.goblin_base.specs.declared.error.Error.TheVariants.{Malformed}
@@ -11,47 +10,38 @@ use Rattle.goblin_base.specs.declared.error.Fault.TheVariants.{ElfClass, DataTyp
 use Rattle.goblin_base.specs.RecordLaws.{room_of_fits}
 use Rattle.goblin_base.specs.Steps.{◌>>=◌, or_refuse, refuse_if, with_size}
 use Rattle.goblin_headers.specs.declared.header.Header.{Header}
-use Rattle.goblin_headers.specs.declared.header32.Header.{Header as Raw32}
-use Rattle.goblin_headers.specs.declared.header64.Header.{Header as Raw64}
-use Rattle.goblin_headers.specs.Header.{header_size, header_of, magic, class_named, order_named, widened32, widened64}
-use Rattle.goblin_headers.specs.Header32.{header32_size, header32_of}
-use Rattle.goblin_headers.specs.Header64.{header64_size, header64_of}
-use Rattle.goblin_headers.specs.ReadHeader.{needs, read_header, read_header32, read_header64}
+use Rattle.goblin_headers.specs.Header.{header_size, header_of, magic, class_named, order_named}
+use Rattle.goblin_headers.specs.ReadHeader.{needs, read_header, read_in_order}
 use Rattle.goblin_headers.proofs.RawTrips.{had_room, read_in_order-is}
 
--- with the magic number, a class, a byte order and room for the header of the class it is read
-pub read_header-ok : (bytes : List ℕ) (class : Container) (order : Endian) → 16 ≤ length bytes → starts_with nat_eq bytes magic ≡ true → class_named (slice_index bytes 4) ≡ Some class → order_named (slice_index bytes 5) ≡ Some order → header_size class ≤ length bytes → read_header bytes ≡ Ok (header_of class order bytes, header_size class)
-unfolding read_header
-read_header-ok bytes class order long starts named ordered room =
-    let enough : nat_lt (length bytes) 16 ≡ false = grind (arith, nat_tests) in
-    rw (enough, starts, named, ordered, room_of_fits (length bytes) 0 (header_size class) (omega arith)) refl
+-- the bytes begin as a file of a class does
+pub record Begins (class : Container) (bytes : List ℕ) : Type 0 where
+  pub long : 16 ≤ length bytes
+  pub starts : starts_with nat_eq bytes magic ≡ true
+  pub named : class_named (slice_index bytes 4) ≡ Some class
 
--- an answer is one value
-same_ok : {X : Type 0} (answer : Result X Error) (x y : X) → answer ≡ Ok x → answer ≡ Ok y → x ≡ y
-same_ok answer x y first second = cc
+-- with the magic number, a class, a byte order and room for the header of the class it is read
+pub read_header-ok : (bytes : List ℕ) (class : Container) (order : Endian) → Begins class bytes → order_named (slice_index bytes 5) ≡ Some order → header_size class ≤ length bytes → read_header bytes ≡ Ok (header_of class order bytes, header_size class)
+unfolding read_header
+read_header-ok bytes class order begins ordered room =
+    let enough : nat_lt (length bytes) 16 ≡ false = grind (arith, nat_tests) in
+    rw (enough, begins.starts, begins.named, ordered, room_of_fits (length bytes) 0 (header_size class) (omega arith)) refl
 
 -- what was answered with its size
 sized : {R : Type 0} (answer : Result R Error) (s : ℕ) (x : R) (size : ℕ) → Ok (x, size) ≡ with_size s answer → (answer ≡ Ok x) × (size ≡ s)
 sized {R = R} (Ok y) s x size is =
-    let pair : (x, size) ≡ (y, s) = same_ok {X = R × ℕ} (Ok (x, size)) (x, size) (y, s) refl is in
+    let pair : (x, size) ≡ (y, s) = cc in
     (ap (λ (p : R × ℕ). Ok p.0) (sym pair), ap (λ (p : R × ℕ). p.1) pair)
 sized (Err e) s x size is = absurd (cc)
 
--- with class byte 1 it is the 32-bit header
-pub read_header-32 : (bytes : List ℕ) (raw : Raw32) (size : ℕ) → 16 ≤ length bytes → starts_with nat_eq bytes magic ≡ true → slice_index bytes 4 ≡ 1 → Ok (raw, size) ≡ with_size header32_size (read_header32 DataType bytes) → Ok (widened32 raw, size) ≡ read_header bytes
-read_header-32 bytes raw size long starts byte is =
-    let was = sized (read_header32 DataType bytes) header32_size raw size is in
-    let found = read_in_order-is header32_size header32_of DataType bytes raw was.0 in
-    let read = read_header-ok bytes class.Little found.0 long starts (rw byte refl) found.1 found.2 in
-    ap (λ (h : Raw32). Ok (widened32 h, size)) found.3 ∙ ap (λ (n : ℕ). Ok (header_of class.Little found.0 bytes, n)) was.1 ∙ sym read
-
--- with class byte 2 it is the 64-bit header
-pub read_header-64 : (bytes : List ℕ) (raw : Raw64) (size : ℕ) → 16 ≤ length bytes → starts_with nat_eq bytes magic ≡ true → slice_index bytes 4 ≡ 2 → Ok (raw, size) ≡ with_size header64_size (read_header64 DataType bytes) → Ok (widened64 raw, size) ≡ read_header bytes
-read_header-64 bytes raw size long starts byte is =
-    let was = sized (read_header64 DataType bytes) header64_size raw size is in
-    let found = read_in_order-is header64_size header64_of DataType bytes raw was.0 in
-    let read = read_header-ok bytes class.Big found.0 long starts (rw byte refl) found.1 found.2 in
-    ap (λ (h : Raw64). Ok (widened64 h, size)) found.3 ∙ ap (λ (n : ℕ). Ok (header_of class.Big found.0 bytes, n)) was.1 ∙ sym read
+-- the raw header of its class that was read is, widened, the header of either class
+pub read_header-raw : {R : Type 0} (class : Container) (read : Endian → List ℕ → R) (widen : R → Header) (bytes : List ℕ) (raw : R) (size : ℕ) → ((order : Endian) → widen (read order bytes) ≡ header_of class order bytes) → Begins class bytes → Ok (raw, size) ≡ with_size (header_size class) (read_in_order (header_size class) read DataType bytes) → Ok (widen raw, size) ≡ read_header bytes
+read_header-raw class read widen bytes raw size widened begins is =
+    let was = sized (read_in_order (header_size class) read DataType bytes) (header_size class) raw size is in
+    let found = read_in_order-is (header_size class) read DataType bytes raw was.0 in
+    let header : widen raw ≡ header_of class found.0 bytes = ap widen found.3 ∙ widened found.0 in
+    ap (λ (h : Header). Ok (h, size)) header ∙ ap (λ (n : ℕ). Ok (header_of class found.0 bytes, n)) was.1
+    ∙ sym (read_header-ok bytes class found.0 begins found.1 found.2)
 
 -- the last step
 in_room : {X : Type 0} (room : Result (Unit {0}) Error) (x y : X) → (room >>= λ _. Ok x) ≡ Ok y → (room ≡ Ok tt) × (y ≡ x)

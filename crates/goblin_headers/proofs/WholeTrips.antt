@@ -16,7 +16,7 @@ use Rattle.goblin_headers.specs.ReadHeader.{read_header}
 use Rattle.goblin_headers.specs.WriteHeader.{WritesHeader}
 use Rattle.goblin_headers.proofs.HeaderLaws.{header_laws, one_header_image, reads_fitting}
 use Rattle.goblin_headers.proofs.RawTrips.{front_byte, ident_byte, over_itself, writes_in_order}
-use Rattle.goblin_headers.proofs.ReadHeaderLemmas.{read_header-ok, read_header-is}
+use Rattle.goblin_headers.proofs.ReadHeaderLemmas.{Begins, read_header-ok, read_header-is}
 
 pub one_image : OneImage
 one_image class = one_header_image (header_laws class)
@@ -41,7 +41,8 @@ reads_back class order h rest names fits =
     let starts = begins_so image h.e_ident behind rest is long names.0 in
     let class_byte = front_byte image h.e_ident behind rest 4 is (omega arith) in
     let data_byte = front_byte image h.e_ident behind rest 5 is (omega arith) in
-    read_header-ok bytes class order (omega arith) starts (ap class_named class_byte ∙ names.1) (ap order_named data_byte ∙ names.2.1) room
+    let begins : Begins class bytes = record { long = omega arith; starts = starts; named = ap class_named class_byte ∙ names.1 } in
+    read_header-ok bytes class order begins (ap order_named data_byte ∙ names.2.1) room
     ∙ ap (λ (g : Header). Ok (g, header_size class)) (reads_fitting laws order h rest long fits)
 
 -- where the class, the byte order and room are there, the image is written

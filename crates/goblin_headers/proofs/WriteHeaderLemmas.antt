@@ -4,16 +4,15 @@ use Rattle.std.proofs.lemmas.List.{append_assoc, take_at, drop_at, drop-drop, le
 use Rattle.goblin_base.specs.declared.container.Container.TheVariants as class
 use Rattle.goblin_base.specs.declared.container.Endian.{Endian}
 use Rattle.goblin_base.specs.declared.error.Error.{Error}
-use Rattle.goblin_base.specs.declared.error.Fault.TheVariants.{InvalidClass, Data}
+use Rattle.goblin_base.specs.declared.error.Fault.TheVariants.{InvalidClass}
 use Rattle.goblin_base.specs.FieldLaws.{with_fields, with_fields-image, image-low_fields}
 use Rattle.goblin_base.specs.Fields.{Field, size_of_fields, image_of_fields}
-use Rattle.goblin_base.specs.Record.{Writes}
 use Rattle.goblin_headers.specs.declared.header.Header.{Header}
 use Rattle.goblin_headers.specs.declared.header32.Header.{Header as Raw32}
 use Rattle.goblin_headers.specs.declared.header64.Header.{Header as Raw64}
-use Rattle.goblin_headers.specs.Header.{as32, as64, class_of, order_of}
+use Rattle.goblin_headers.specs.Header.{as32, as64, class_of}
 use Rattle.goblin_headers.specs.Header32.{header32_size, header32_fields, header32_image, header32_low}
-use Rattle.goblin_headers.specs.WriteHeader.{WritesBy, WritesInOrder, WritesHeader32, WritesHeader64, WritesHeader}
+use Rattle.goblin_headers.specs.WriteHeader.{WritesInOrder, WritesHeader32, WritesHeader64, WritesHeader}
 
 -- the bytes after an identification and the fields behind it were put
 pub with_header : (order : Endian) (ident old new : List ℕ) (fields : List Field) → length ident ≡ 16 → new ≡ ident ++ drop 16 old → 16 + size_of_fields fields ≤ length old → with_fields order new 16 fields ≡ (ident ++ image_of_fields order fields) ++ drop (16 + size_of_fields fields) old
@@ -30,21 +29,13 @@ with_header order ident old new fields long is room =
 pub image-low32 : (order : Endian) (h : Raw32) → header32_image order (header32_low h) ≡ header32_image order h
 image-low32 order h = ap (λ (rest : List ℕ). h.e_ident ++ rest) (image-low_fields order (header32_fields h))
 
--- what is written stays where its parts are the same
-same_parts : (known : Result Endian Error) (size : ℕ) (f g : Endian → List ℕ) (old new : List ℕ) (answer : Result ℕ Error) → ((order : Endian) → f order ≡ g order) → WritesBy known (λ order. Writes size (f order)) old answer new → WritesBy known (λ order. Writes size (g order)) old answer new
-same_parts (Ok order) size f g old new answer same so = subst (λ (image : List ℕ). Writes size image old answer new) (same order) so
-same_parts (Err e) size f g old new answer same so = so
-
-same_images : (ident : List ℕ) (size : ℕ) (f g : Endian → List ℕ) (old new : List ℕ) (answer : Result ℕ Error) → ((order : Endian) → f order ≡ g order) → WritesInOrder ident size f old answer new → WritesInOrder ident size g old answer new
-unfolding WritesInOrder
-same_images ident size f g old new answer same so = same_parts (order_of Data ident) size f g old new answer same so
-
 -- a header of the 32-bit class is written as its 32-bit form
 pub written_32 : (h : Header) (raw : Raw32) (old new : List ℕ) (answer : Result ℕ Error) → Ok class.Little ≡ class_of InvalidClass h.e_ident → raw ≡ header32_low (as32 h) → WritesHeader32 raw old answer new → WritesHeader h old answer new
 unfolding WritesHeader
 written_32 h raw old new answer known is so =
     let low = subst (λ (r : Raw32). WritesHeader32 r old answer new) is so in
-    rw (← known) (same_images h.e_ident header32_size (λ order. header32_image order (header32_low (as32 h))) (λ order. header32_image order (as32 h)) old new answer (λ order. image-low32 order (as32 h)) low)
+    let same : (λ (order : Endian). header32_image order (header32_low (as32 h))) ≡ (λ order. header32_image order (as32 h)) = λ i order. image-low32 order (as32 h) i in
+    rw (← known) (subst (λ (image : Endian → List ℕ). WritesInOrder h.e_ident header32_size image old answer new) same low)
 
 -- a header of the 64-bit class is written as its 64-bit form
 pub written_64 : (h : Header) (raw : Raw64) (old new : List ℕ) (answer : Result ℕ Error) → Ok class.Big ≡ class_of InvalidClass h.e_ident → raw ≡ as64 h → WritesHeader64 raw old answer new → WritesHeader h old answer new
