@@ -156,10 +156,14 @@ abbrev pub header_low : Container → Header → Header
 header_low class.Little h = widened32 (header32_low (as32 h))
 header_low class.Big h = widened64 (header64_low (as64 h))
 
+-- the identification of a new file in a context, version 1, with all else 0
+abbrev pub new_ident : Ctx → List ℕ
+new_ident ctx = magic ++ class_byte ctx.container ∷ data_byte ctx.le ∷ 1 ∷ replicate 9 0
+
 -- the header of a shared object file in a context, version 1, with the sizes of its class and all else 0
 abbrev pub new_header : Ctx → Header
 new_header ctx = record {
-  e_ident = magic ++ class_byte ctx.container ∷ data_byte ctx.le ∷ 1 ∷ replicate 9 0;
+  e_ident = new_ident ctx;
   e_type = 3;
   e_machine = 0;
   e_version = 1;

@@ -3,9 +3,10 @@ ghost use Rattle.std.specs.Prelude.{◌≡◌, ◌≤◌, ◌++◌, length, drop
 ghost use Rattle.goblin_headers.specs.Header.{header_size, magic, order_named};
 ghost use Rattle.goblin_headers.specs.HeaderTrips.{OneImage, ReadsBack, WrittenAndReadBack, ImageOfRead, WritesBack, NewIsOfContext, NewIsReadBack};
 
-use crate::ident::order_of;
+use crate::ident::{new_ident, order_of};
+use crate::program_header::ProgramHeader;
+use crate::section_header::SectionHeader;
 pub use crate::{header32, header64};
-use crate::{program_header32, program_header64, section_header32, section_header64};
 use goblin_base::container::{Container, Ctx, Endian};
 use goblin_base::error::{Error, Fault, Result};
 use goblin_base::number::get_u64;
@@ -87,44 +88,8 @@ impl Header {
     pub fn new(ctx: Ctx) -> Self
         ensures { result ≡ new_header ctx }
     {
-        let (class, e_ehsize, e_phentsize, e_shentsize) = match ctx.container {
-            Container::Little => (
-                ELFCLASS32,
-                header32::SIZEOF_EHDR as u16,
-                program_header32::SIZEOF_PHDR as u16,
-                section_header32::SIZEOF_SHDR as u16,
-            ),
-            Container::Big => (
-                ELFCLASS64,
-                header64::SIZEOF_EHDR as u16,
-                program_header64::SIZEOF_PHDR as u16,
-                section_header64::SIZEOF_SHDR as u16,
-            ),
-        };
-        let order = match ctx.le {
-            Endian::Little => ELFDATA2LSB,
-            Endian::Big => ELFDATA2MSB,
-        };
-        let [mag0, mag1, mag2, mag3] = *ELFMAG;
         Header {
-            e_ident: [
-                mag0,
-                mag1,
-                mag2,
-                mag3,
-                class,
-                order,
-                EV_CURRENT,
-                ELFOSABI_NONE,
-                0,
-                0,
-                0,
-                0,
-                0,
-                0,
-                0,
-                0,
-            ],
+            e_ident: new_ident(ctx),
             e_type: ET_DYN,
             e_machine: EM_NONE,
             e_version: 1,
@@ -132,10 +97,10 @@ impl Header {
             e_phoff: 0,
             e_shoff: 0,
             e_flags: 0,
-            e_ehsize,
-            e_phentsize,
+            e_ehsize: Header::size(ctx) as u16,
+            e_phentsize: ProgramHeader::size(ctx) as u16,
             e_phnum: 0,
-            e_shentsize,
+            e_shentsize: SectionHeader::size(ctx) as u16,
             e_shnum: 0,
             e_shstrndx: 0,
         }

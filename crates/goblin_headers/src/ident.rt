@@ -1,9 +1,12 @@
 //! What lies at the head of a file: System V gABI, "ELF Identification".
 ghost use Rattle.std.specs.Prelude.{◌≡◌, ◌≤◌, ◌++◌, length, take, drop};
-ghost use Rattle.goblin_headers.specs.Header.{order_named};
+ghost use Rattle.goblin_headers.specs.Header.{new_ident, order_named};
 
-use crate::constants_header::{ELFDATA2LSB, ELFDATA2MSB, SIZEOF_IDENT};
-use goblin_base::container::{BE, Endian, LE};
+use crate::constants_header::{
+    EI_CLASS, EI_DATA, EI_VERSION, ELFCLASS32, ELFCLASS64, ELFDATA2LSB, ELFDATA2MSB, ELFMAG,
+    EV_CURRENT, SELFMAG, SIZEOF_IDENT,
+};
+use goblin_base::container::{BE, Container, Ctx, Endian, LE};
 
 /// The byte order that a data byte names.
 pub(crate) fn order_of(byte: u8) -> Option<Endian>
@@ -33,4 +36,22 @@ pub(crate) fn put_ident(bytes: &mut [u8], ident: &[u8; SIZEOF_IDENT])
     ensures long { length ident.now ≡ SIZEOF_IDENT }
 {
     bytes[..SIZEOF_IDENT].copy_from_slice(ident);
+}
+
+/// The identification of a new file in this context.
+pub(crate) fn new_ident(ctx: Ctx) -> [u8; SIZEOF_IDENT]
+    ensures { result ≡ new_ident ctx }
+{
+    let mut ident = [0; SIZEOF_IDENT];
+    ident[..SELFMAG].copy_from_slice(ELFMAG);
+    ident[EI_CLASS] = match ctx.container {
+        Container::Little => ELFCLASS32,
+        Container::Big => ELFCLASS64,
+    };
+    ident[EI_DATA] = match ctx.le {
+        Endian::Little => ELFDATA2LSB,
+        Endian::Big => ELFDATA2MSB,
+    };
+    ident[EI_VERSION] = EV_CURRENT;
+    ident
 }
