@@ -9,17 +9,9 @@ use Rattle.goblin_base.specs.NumberLaws.{IsBytes-spelled, number-lt, number-spel
 use Rattle.goblin_records.specs.RelocInfo.{symbols, types, symbol_in, type_in, info_of, JoinsItsParts, reversed, mips64el_info_inverse, MipsInverse, MipsOneToOne, MipsFourTimes}
 
 -- an `r_info` of the low bits of a symbol and a type is in range, and is split into them
-pub info_of-lt : (class : Container) (symbol typ : ℕ) → info_of class symbol typ < symbols class * types class
-info_of-lt Little symbol typ = omega arith
-info_of-lt Big symbol typ = omega arith
-
-pub symbol_in-info_of : (class : Container) (symbol typ : ℕ) → symbol_in class (info_of class symbol typ) ≡ symbol % symbols class
-symbol_in-info_of Little symbol typ = omega arith
-symbol_in-info_of Big symbol typ = omega arith
-
-pub type_in-info_of : (class : Container) (symbol typ : ℕ) → type_in class (info_of class symbol typ) ≡ typ % types class
-type_in-info_of Little symbol typ = omega arith
-type_in-info_of Big symbol typ = omega arith
+pub info_of-parts : (class : Container) (symbol typ : ℕ) → let info = info_of class symbol typ in (info < symbols class * types class) × (symbol_in class info ≡ symbol % symbols class) × (type_in class info ≡ typ % types class)
+info_of-parts Little symbol typ = (omega arith, omega arith, omega arith)
+info_of-parts Big symbol typ = (omega arith, omega arith, omega arith)
 
 -- and is joined again from what it was split into
 pub joins_its_parts : (class : Container) → JoinsItsParts class

@@ -1,6 +1,6 @@
 -- Relocations of either class, with an addend or without, are read back from what was written, and written back as they
 -- were read; through the pair of MIPS64 too.
-use Rattle.std.proofs.Common.{[], ◌∷◌, slice_index, refl, lit<, ◌≡◌, ◌<◌, ◌≤◌, ◌^◌, ℕ, List, Bool, true, false, Option, Some, None, length, ◌∙◌, arith}
+use Rattle.std.proofs.Common.{[], ◌∷◌, slice_index, refl, lit<, ◌≡◌, ◌<◌, ◌≤◌, ◌*◌, ◌^◌, ℕ, List, Bool, true, false, Option, Some, None, length, ◌∙◌, arith}
 use Rattle.std.specs.Prelude.{ℤ, pos, unwrap_or, IsSomeAnd}
 use Rattle.std.proofs.Math.Nat.{mod-eq_of_lt}
 use Rattle.goblin_base.specs.declared.container.Endian.{Endian}
@@ -17,7 +17,7 @@ use Rattle.goblin_records.specs.declared.reloc.RelocCtx.{RelocCtx}
 use Rattle.goblin_records.specs.Reloc32.{rel32_size, rel32_of, rel32_fields, rel32_image, rel32_low, Rel32Fits, rela32_size, rela32_of, rela32_fields, rela32_image, rela32_low, Rela32Fits}
 use Rattle.goblin_records.specs.Reloc64.{rel64_size, rel64_of, rel64_fields, rel64_image, rel64_low, Rel64Fits, rela64_size, rela64_of, rela64_fields, rela64_image, rela64_low, Rela64Fits}
 use Rattle.goblin_records.specs.RelocInfo.{symbols, types, symbol_in, type_in, info_of}
-use Rattle.goblin_records.specs.RelocInfoLaws.{info_of-lt, symbol_in-info_of, type_in-info_of, joins_its_parts, reversed-reversed}
+use Rattle.goblin_records.specs.RelocInfoLaws.{info_of-parts, joins_its_parts, reversed-reversed}
 use Rattle.goblin_records.specs.Reloc.{reloc_size, reloc_of, reloc_image, reloc_low, RelocFits, rel_widened32, rela_widened32, rel_widened64, rela_widened64, rel_as32, rela_as32, rel_as64, rela_as64, as_meant, as_stored, StoredFits, reloc_in, reloc_image_in, reloc_low_in, RelocFitsIn, context, OneImage, SameInEachClass}
 
 -- how the fields of a relocation without an addend lie
@@ -64,10 +64,10 @@ rela64_laws order = layout_laws {widths = 8 ∷ 8 ∷ 8 ∷ []} {fields = rela64
   fields_read = λ order bytes are room. rw (complement-signed_number_at order bytes 16 8 are room) refl;
 }) order (lit< tt)
 
--- a symbol and a type that fit are the parts of their `r_info`
-parts_of : (class : Container) (symbol typ : ℕ) → symbol < symbols class → typ < types class → (symbol_in class (info_of class symbol typ) ≡ symbol) × (type_in class (info_of class symbol typ) ≡ typ)
+-- a symbol and a type that fit are the parts of their `r_info`, which is in range
+parts_of : (class : Container) (symbol typ : ℕ) → symbol < symbols class → typ < types class → let info = info_of class symbol typ in (info < symbols class * types class) × (symbol_in class info ≡ symbol) × (type_in class info ≡ typ)
 parts_of class symbol typ s t =
-    (symbol_in-info_of class symbol typ ∙ mod-eq_of_lt s, type_in-info_of class symbol typ ∙ mod-eq_of_lt t)
+    let parts = info_of-parts class symbol typ in (parts.0, parts.1 ∙ mod-eq_of_lt s, parts.2 ∙ mod-eq_of_lt t)
 
 -- an addend that is there is the one that is written
 some_fits : (width : ℕ) (addend : Option ℤ) → IsSomeAnd addend (FitsSigned width) → FitsSigned width (unwrap_or addend (pos 0)) × (Some (unwrap_or addend (pos 0)) ≡ addend)
@@ -85,19 +85,19 @@ joins_64 order bytes are room = joins_its_parts Big (number_at order bytes 8 8) 
 pub reloc_laws : (is_rela : Bool) (class : Container) (order : Endian) → IsRecord (reloc_size is_rela class) (reloc_of is_rela class order) (reloc_image is_rela class order) (reloc_low is_rela class) (RelocFits is_rela class)
 reloc_laws false Little order =
     converted_laws rel_widened32 rel_as32 (RelocFits false Little) (rel32_laws order)
-    (λ r fits. let parts = parts_of Little r.r_sym r.r_type fits.symbol fits.typ in ((fits.offset, (info_of-lt Little r.r_sym r.r_type, tt)), rw (parts.0, parts.1, ← fits.addend) refl))
+    (λ r fits. let parts = parts_of Little r.r_sym r.r_type fits.symbol fits.typ in ((fits.offset, (parts.0, tt)), rw (parts.1, parts.2, ← fits.addend) refl))
     (λ bytes are room. rw (joins_32 order bytes are room) refl)
 reloc_laws true Little order =
     converted_laws rela_widened32 rela_as32 (RelocFits true Little) (rela32_laws order)
-    (λ r fits. let parts = parts_of Little r.r_sym r.r_type fits.symbol fits.typ in let some = some_fits 4 r.r_addend fits.addend in ((fits.offset, info_of-lt Little r.r_sym r.r_type, some.0), rw (parts.0, parts.1, some.1) refl))
+    (λ r fits. let parts = parts_of Little r.r_sym r.r_type fits.symbol fits.typ in let some = some_fits 4 r.r_addend fits.addend in ((fits.offset, parts.0, some.0), rw (parts.1, parts.2, some.1) refl))
     (λ bytes are room. rw (joins_32 order bytes are (omega arith)) refl)
 reloc_laws false Big order =
     converted_laws rel_widened64 rel_as64 (RelocFits false Big) (rel64_laws order)
-    (λ r fits. let parts = parts_of Big r.r_sym r.r_type fits.symbol fits.typ in ((fits.offset, (info_of-lt Big r.r_sym r.r_type, tt)), rw (parts.0, parts.1, ← fits.addend) refl))
+    (λ r fits. let parts = parts_of Big r.r_sym r.r_type fits.symbol fits.typ in ((fits.offset, (parts.0, tt)), rw (parts.1, parts.2, ← fits.addend) refl))
     (λ bytes are room. rw (joins_64 order bytes are room) refl)
 reloc_laws true Big order =
     converted_laws rela_widened64 rela_as64 (RelocFits true Big) (rela64_laws order)
-    (λ r fits. let parts = parts_of Big r.r_sym r.r_type fits.symbol fits.typ in let some = some_fits 8 r.r_addend fits.addend in ((fits.offset, info_of-lt Big r.r_sym r.r_type, some.0), rw (parts.0, parts.1, some.1) refl))
+    (λ r fits. let parts = parts_of Big r.r_sym r.r_type fits.symbol fits.typ in let some = some_fits 8 r.r_addend fits.addend in ((fits.offset, parts.0, some.0), rw (parts.1, parts.2, some.1) refl))
     (λ bytes are room. rw (joins_64 order bytes are (omega arith)) refl)
 
 -- the symbol and the type that were read are words of 32 bits
