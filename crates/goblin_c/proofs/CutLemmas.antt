@@ -1,7 +1,7 @@
 -- Room that is filled item by item.
-use Rattle.std.proofs.Common.{◌≡◌, ◌<◌, ◌≤◌, ◌+◌, ◌-◌, min, ℕ, zero, suc, List, [], ◌∷◌, ◌++◌, length, take, drop, map, get_or, Some, None, slice_get, take_all, refl, sym, ap, ◌∙◌, arith}
+use Rattle.std.proofs.Common.{◌≡◌, ◌<◌, ◌≤◌, ◌+◌, ◌-◌, min, ℕ, zero, suc, List, [], ◌∷◌, ◌++◌, length, take, drop, get_or, Some, None, slice_get, take_all, refl, sym, ap, ◌∙◌, arith}
 use Rattle.std.proofs.Math.ListN.{set}
-use Rattle.std.proofs.lemmas.List.{length-take-le, take_more, drop-map, get_or-map, length-map, length-drop, get_or-drop}
+use Rattle.std.proofs.lemmas.List.{length-take-le, take_more, length-drop, get_or-drop}
 use Rattle.std.proofs.lemmas.Option.{slice_get_within, get_or_from_slice_get}
 use Rattle.std.proofs.lemmas.List.{take_rest}
 use Rattle.std.proofs.lemmas.Slice.{take-put_mid}
@@ -38,18 +38,12 @@ cut-step {X = X} i xs old now d is within room =
     ap (λ (buffer : List X). set buffer i (get_or xs i d)) is
     ∙ cut-next i xs old (get_or xs i d) (take (i + 1) xs) (omega arith) room (take_more xs i d within)
 
--- the step of a loop that writes what is told of the items from an index on
-pub cut-told : {X Y : Type 0} (tell : X → Y) (all : List X) (first i : ℕ) (old now : List Y) (x : X) → slice_get all (first + i) ≡ Some x → now ≡ cut (take i (map tell (drop first all))) old → i < length old → set now i (tell x) ≡ cut (take (i + 1) (map tell (drop first all))) old
-cut-told {Y = Y} tell all first i old now x found is room =
-    let xs = map tell (drop first all) in
+-- the step of a loop that writes the items from an index on
+pub cut-told : {X : Type 0} (all : List X) (first i : ℕ) (old now : List X) (x : X) → slice_get all (first + i) ≡ Some x → now ≡ cut (take i (drop first all)) old → i < length old → set now i x ≡ cut (take (i + 1) (drop first all)) old
+cut-told {X = X} all first i old now x found is room =
     let inside : first + i < length all = slice_get_within all (first + i) x found in
-    let long : length xs ≡ length all - first = simp (length-map, length-drop) in
-    let same : get_or xs i (tell x) ≡ tell x =
-    ap (λ (ys : List Y). get_or ys i (tell x)) (sym (drop-map tell first all))
-    ∙ get_or-drop first (map tell all) i (tell x)
-    ∙ get_or-map tell all (first + i) x (tell x) inside
-    ∙ ap tell (get_or_from_slice_get all (first + i) x x found) in
-    ap (λ (v : Y). set now i v) (sym same) ∙ cut-step i xs old now (tell x) is (omega arith) room
+    let same : get_or (drop first all) i x ≡ x = get_or-drop first all i x ∙ get_or_from_slice_get all (first + i) x x found in
+    ap (λ (v : X). set now i v) (sym same) ∙ cut-step i (drop first all) old now x is (omega (arith, length-drop first all)) room
 
 -- a list ends before an index at which it has no item
 ends-before : {X : Type 0} (items : List X) (i : ℕ) → slice_get items i ≡ None → length items ≤ i
@@ -57,13 +51,10 @@ ends-before [] i none = omega arith
 ends-before (x ∷ items) zero none = absurd (some-within (x ∷ items) zero (omega arith) (sym none))
 ends-before (x ∷ items) (suc i) none = omega (arith, ends-before items i none)
 
--- where there is no item left to tell of, all of them were
-pub cut-ended : {X Y : Type 0} (tell : X → Y) (all : List X) (first i : ℕ) (old now : List Y) → slice_get all (first + i) ≡ None → now ≡ cut (take i (map tell (drop first all))) old → now ≡ cut (map tell (drop first all)) old
-cut-ended tell all first i old now none is =
-    let xs = map tell (drop first all) in
-    let long : length xs ≡ length all - first = simp (length-map, length-drop) in
-    let past : length all ≤ first + i = ends-before all (first + i) none in
-    is ∙ cut-enough i xs old (omega arith)
+-- where there is no item left, all of them were written
+pub cut-ended : {X : Type 0} (all : List X) (first i : ℕ) (old now : List X) → slice_get all (first + i) ≡ None → now ≡ cut (take i (drop first all)) old → now ≡ cut (drop first all) old
+cut-ended all first i old now none is =
+    is ∙ cut-enough i (drop first all) old (omega (arith, ends-before all (first + i) none, length-drop first all))
 
 pub cut-nowhere : {X : Type 0} (xs : List X) → cut xs [] ≡ []
 cut-nowhere [] = refl

@@ -18,14 +18,13 @@ use Rattle.goblin.specs.declared.elf.header.Header.{Header}
 use Rattle.goblin.specs.declared.elf.section_header.SectionHeader.{SectionHeader}
 use Rattle.goblin_c.specs.declared.types.GoblinSection.{GoblinSection}
 use Rattle.goblin.specs.Header.{class_byte, class_named, data_byte, order_named}
-use Rattle.goblin.specs.ProgramHeaders.{program_headers_from}
 use Rattle.goblin.specs.RelocSection.{is_of_mips64el, relocs_of}
-use Rattle.goblin.specs.SectionHeaders.{link_of, names_index, section_headers_of}
+use Rattle.goblin.specs.SectionHeaders.{link_of, names_index}
 use Rattle.goblin_headers.proofs.HeaderLaws.{header_laws}
 use Rattle.goblin_headers.proofs.RawTrips.{ident_byte}
 use Rattle.goblin_headers.proofs.ReadHeaderLemmas.{read_header-is}
-use Rattle.goblin_c.specs.Answers.{ctx_of, header_told, relocs_right, reloc_count_right, reloc_right, reloc_told, section_count_right, section_right, section_told, sections_right, segment_count_right, segment_right, segment_told, segments_right, symbol_count_right, symbol_right, symbol_told, symbols_right, table_at, told_from, with_bytes}
-use Rattle.goblin_c.specs.Laws.{ContextIsTheHeaders, FilledByIndex, GivenFrom, HasHeader, NamesByIndex, NamesContext, RelocsByIndex, SectionsByIndex, SegmentsByIndex, SymbolsByIndex, TablesByIndex, TellsCount, TellsEach, symbols_in, table_told}
+use Rattle.goblin_c.specs.Answers.{count_of, ctx_of, each_told, header_told, item_of, items_from, reloc_count_right, reloc_right, reloc_told, relocs_right, relocs_told, section_told, sections_right, sections_told, segment_told, segments_right, symbol_told, symbols_right, symbols_told, table_at}
+use Rattle.goblin_c.specs.Laws.{ContextIsTheHeaders, FilledByIndex, GivenFrom, HasHeader, NamesByIndex, NamesContext, RelocsByIndex, SectionsByIndex, SegmentsByIndex, SymbolsByIndex, TablesByIndex, TellsCount, TellsEach, table_told}
 
 -- a byte that names a class or a byte order names the one that C's number stands for
 class_is : (byte : ℕ) (named : Container) → class_named byte ≡ Some named → class_named byte ≡ Some (if byte == 2 then class.Big else class.Little)
@@ -85,38 +84,26 @@ one_context bytes h ctx has named =
     let orders = same told.le ctx.le (sym own.1 ∙ named.1) in
     λ j. record { container = classes j; le = orders j }
 
--- what is told of a list by index
-each : {X Y : Type 0} (tell : X → Y) (all : Result (List X) Refusal) → TellsEach tell all (λ index. all >>= λ items. Ok (option_map tell (slice_get items index)))
-each tell (Ok items) = λ index. refl
-each tell (Err refusal) = λ index. refl
-
-counted : {X : Type 0} (all : Result (List X) Refusal) → TellsCount all (all >>= λ items. Ok (Some (length items)))
-counted (Ok items) = refl
-counted (Err refusal) = refl
+-- what is told of a list by index, and how many items it has
+listed : {X Y : Type 0} (tell : X → Y) (all : Result (List X) Refusal) → TellsEach tell all (item_of (each_told tell all)) × TellsCount all (count_of (each_told tell all))
+listed tell (Ok items) = (λ index. ap Ok (slice_get-map tell items index), ap (λ (n : ℕ). Ok (Some n)) (length-map items tell))
+listed tell (Err refusal) = (λ index. refl, refl)
 
 pub sections_by_index : SectionsByIndex
-sections_by_index bytes h ctx has named =
-    subst (λ (c : Ctx). TellsEach section_told (section_headers_of bytes h.e_shoff h.e_shnum c) (section_right bytes (header_told h)) × TellsCount (section_headers_of bytes h.e_shoff h.e_shnum c) (section_count_right bytes (header_told h)))
-    (one_context bytes h ctx has named)
-    (each section_told (sections_right bytes (header_told h)), counted (sections_right bytes (header_told h)))
+sections_by_index bytes h ctx has named = rw (← one_context bytes h ctx has named) (listed section_told (sections_right bytes (header_told h)))
 
 pub segments_by_index : SegmentsByIndex
-segments_by_index bytes h ctx has named =
-    subst (λ (c : Ctx). TellsEach segment_told (program_headers_from bytes h.e_phoff h.e_phnum c) (segment_right bytes (header_told h)) × TellsCount (program_headers_from bytes h.e_phoff h.e_phnum c) (segment_count_right bytes (header_told h)))
-    (one_context bytes h ctx has named)
-    (each segment_told (segments_right bytes (header_told h)), counted (segments_right bytes (header_told h)))
+segments_by_index bytes h ctx has named = rw (← one_context bytes h ctx has named) (listed segment_told (segments_right bytes (header_told h)))
 
 pub symbols_by_index : SymbolsByIndex
-symbols_by_index bytes h ctx range has named =
-    subst (λ (c : Ctx). TellsEach symbol_told (symbols_in bytes range c) (symbol_right bytes (header_told h) range) × TellsCount (symbols_in bytes range c) (symbol_count_right bytes (header_told h) range))
-    (one_context bytes h ctx has named)
-    (each symbol_told (symbols_in bytes range (ctx_of (header_told h))), counted (symbols_in bytes range (ctx_of (header_told h))))
+symbols_by_index bytes h ctx range has named = rw (← one_context bytes h ctx has named) (listed symbol_told (symbols_right bytes (header_told h) range))
 
 pub relocs_by_index : RelocsByIndex
 relocs_by_index bytes h ctx range is_rela has named =
-    let tells = λ (c : Ctx) (pair : Bool). TellsEach reloc_told (refuse_as refusal_of (relocs_of bytes range.offset range.size is_rela c pair)) (reloc_right bytes (header_told h) range is_rela) × TellsCount (refuse_as refusal_of (relocs_of bytes range.offset range.size is_rela c pair)) (reloc_count_right bytes (header_told h) range is_rela) in
-    let own = subst (tells (ctx_of (header_told h))) (context_is_the_headers bytes h has).1 (each reloc_told (relocs_right bytes (header_told h) range is_rela), counted (relocs_right bytes (header_told h) range is_rela)) in
-    subst (λ (c : Ctx). tells c (is_of_mips64el h)) (one_context bytes h ctx has named) own
+    let of_pair = λ (pair : Bool). refuse_as refusal_of (relocs_of bytes range.offset range.size is_rela (ctx_of (header_told h)) pair) in
+    rw (← one_context bytes h ctx has named)
+    (subst (λ (pair : Bool). TellsEach reloc_told (of_pair pair) (reloc_right bytes (header_told h) range is_rela) × TellsCount (of_pair pair) (reloc_count_right bytes (header_told h) range is_rela))
+    (context_is_the_headers bytes h has).1 (listed reloc_told (relocs_right bytes (header_told h) range is_rela)))
 
 -- the item at an index behind those that are left out
 pub behind : {X : Type 0} (xs : List X) (n k : ℕ) → slice_get xs (n + k) ≡ slice_get (drop n xs) k
@@ -127,60 +114,43 @@ behind (x ∷ xs) (suc n) k =
     ap (slice_get (x ∷ xs)) more ∙ behind xs n k
 
 -- what is told from an index on
-given : {X Y : Type 0} (tell : X → Y) (items : List X) (first : ℕ) (past : Bool) → nat_le (length items) first ≡ past → GivenFrom {Y = Y} first (λ index. Ok (option_map tell (slice_get items index))) (Ok (if past then None else Some (map tell (drop first items))))
-given tell items first true is =
+given : {X : Type 0} (items : List X) (first : ℕ) (past : Bool) → nat_le (length items) first ≡ past → GivenFrom {Y = X} first (λ index. Ok (slice_get items index)) (Ok (if past then None else Some (drop first items)))
+given items first true is =
     let there : length items ≤ first = leb-true (length items) first is in
-    λ k. ap (λ found. Ok (option_map tell found)) (slice_get_past items (first + k) (omega arith))
-given tell items first false is =
-    let rest = drop first items in
+    λ k. ap Ok (slice_get_past items (first + k) (omega arith))
+given items first false is =
     let some : first < length items = leb-false (length items) first is in
-    let long : length (map tell rest) ≡ length items - first = length-map rest tell ∙ length-drop first items in
-    (omega arith, λ k. ap Ok (ap (option_map tell) (behind items first k) ∙ sym (slice_get-map tell rest k)))
+    (omega (arith, length-drop first items), λ k. ap Ok (behind items first k))
 
-from : {X Y : Type 0} (tell : X → Y) (all : Result (List X) Refusal) (first : ℕ) → GivenFrom {Y = Y} first (λ index. all >>= λ items. Ok (option_map tell (slice_get items index))) (all >>= λ items. Ok (told_from tell first items))
-from tell (Ok items) first = given tell items first (nat_le (length items) first) refl
-from tell (Err refusal) first = λ index. refl
+from : {X : Type 0} (all : Result (List X) Refusal) (first : ℕ) → GivenFrom {Y = X} first (item_of all) (items_from all first)
+from (Ok items) first = given items first (nat_le (length items) first) refl
+from (Err refusal) first = λ index. refl
 
 pub filled_by_index : FilledByIndex
 filled_by_index = record {
-  sections = λ bytes h first. from section_told (sections_right bytes h) first;
-  symbols = λ bytes h range first. from symbol_told (symbols_right bytes h range) first;
-  relocs = λ bytes h range is_rela first. from reloc_told (relocs_right bytes h range is_rela) first;
+  sections = λ bytes h first. from (sections_told bytes h) first;
+  symbols = λ bytes h range first. from (symbols_told bytes h range) first;
+  relocs = λ bytes h range is_rela first. from (relocs_told bytes h range is_rela) first;
 }
 
 -- the table at an index is the section that is told there
-no_table : (first : Bool) → ◌≡◌ {A = Result (Option GoblinSection) Refusal} (Ok (option_map section_told (if first then None else None))) (Ok None)
-no_table true = refl
-no_table false = refl
-
-one_table : (first of_none : Bool) (s : SectionHeader) → ◌≡◌ {A = Result (Option GoblinSection) Refusal} (Ok (option_map section_told (if first then None else if of_none then None else Some s))) (Ok (if first || of_none then None else Some (section_told s)))
-one_table true of_none s = refl
-one_table false true s = refl
-one_table false false s = refl
-
-table_here : (index : ℕ) (found : Option SectionHeader) → Ok (option_map section_told (if index == 0 then None else with_bytes found)) ≡ table_told index (Ok (option_map section_told found))
-table_here index (Some s) = one_table (index == 0) (s.sh_type == 8) s
-table_here index None = no_table (index == 0)
-
-table_there : (all : Result (List SectionHeader) Refusal) (index : ℕ) → (all >>= λ items. Ok (option_map section_told (table_at items index))) ≡ table_told index (all >>= λ items. Ok (option_map section_told (slice_get items index)))
-table_there (Ok items) index = table_here index (slice_get items index)
+table_there : (all : Result (List GoblinSection) Refusal) (index : ℕ) → (all >>= λ items. Ok (table_at items index)) ≡ table_told index (item_of all index)
+table_there (Ok items) index = refl
 table_there (Err refusal) index = refl
 
 pub tables_by_index : TablesByIndex
-tables_by_index bytes h index = table_there (sections_right bytes h) index
+tables_by_index bytes h index = table_there (sections_told bytes h) index
 
 -- the table with the index in the header, or the one that the first section links to
-in_header : (all : Result (List SectionHeader) Refusal) (index : ℕ) → (index == 0xffff) ≡ false → (all >>= λ items. Ok (option_map section_told (table_at items (names_index index (slice_get items 0))))) ≡ (all >>= λ items. Ok (option_map section_told (table_at items index)))
+in_header : (all : Result (List SectionHeader) Refusal) (index : ℕ) → (index == 0xffff) ≡ false → (all >>= λ items. Ok (table_at (map section_told items) (names_index index (slice_get items 0)))) ≡ (each_told section_told all >>= λ items. Ok (table_at items index))
 in_header (Ok items) index other = rw other refl
 in_header (Err refusal) index other = refl
 
-linked_first : (items : List SectionHeader) (found : Option SectionHeader) (first : GoblinSection) → option_map section_told found ≡ Some first → link_of found ≡ first.sh_link
-linked_first items (Some section) first is = cc
-linked_first items None first is = absurd (cc)
-
-in_first : (all : Result (List SectionHeader) Refusal) (first : GoblinSection) → (all >>= λ items. Ok (option_map section_told (slice_get items 0))) ≡ Ok (Some first) → (all >>= λ items. Ok (option_map section_told (table_at items (link_of (slice_get items 0))))) ≡ (all >>= λ items. Ok (option_map section_told (table_at items first.sh_link)))
-in_first (Ok items) first is =
-    ap (λ (index : ℕ). Ok (option_map section_told (table_at items index))) (linked_first items (slice_get items 0) first (cc))
+in_first : (all : Result (List SectionHeader) Refusal) (first : GoblinSection) → item_of (each_told section_told all) 0 ≡ Ok (Some first) → (all >>= λ items. Ok (table_at (map section_told items) (link_of (slice_get items 0)))) ≡ (each_told section_told all >>= λ items. Ok (table_at items first.sh_link))
+in_first (Ok []) first is = absurd (cc)
+in_first (Ok (s ∷ items)) first is =
+    let link : link_of (Some s) ≡ first.sh_link = cc in
+    ap (λ (index : ℕ). Ok (table_at (map section_told (s ∷ items)) index)) link
 in_first (Err refusal) first is = absurd (cc)
 
 pub names_by_index : NamesByIndex

@@ -29,7 +29,7 @@ use Rattle.goblin.specs.Sym.{sym_size}
 use Rattle.goblin.specs.Symtab.{symtab_of}
 use Rattle.goblin_c.specs.declared.types.GoblinHeader.{GoblinHeader}
 use Rattle.goblin_c.specs.declared.types.GoblinRange.{GoblinRange}
-use Rattle.goblin_c.specs.Answers.{ctx_of, is_mips64el, relocs_right, sections_right, segments_right, strings_right, symbols_right}
+use Rattle.goblin_c.specs.Answers.{ctx_of, each_told, is_mips64el, reloc_told, relocs_right, section_told, sections_right, segment_told, segments_right, strings_right, symbol_told, symbols_right}
 use Rattle.goblin_c.specs.Bytes.{is_width, number_right, range_right, section_bytes_right, section_has_bytes, segment_bytes_right, segment_has_bytes}
 use Rattle.goblin_c.specs.Notes.{note_right}
 use Rattle.goblin_c.specs.Laws.{KeepsText, RefusalsKeepTheirText}
@@ -196,45 +196,52 @@ known_range : (bytes : List ℕ) (range : GoblinRange) → Known as_is (range_ri
 known_range bytes range =
     known_steps as_is (refuse_as misplaced (room_of (length bytes) range.offset range.size)) _ (known_within as_is misplaced _ (known_room (length bytes) range.offset range.size)) λ u. tt
 
--- so the text is kept
+-- what follows from an answer names such texts alone, and so the text is kept
 kept : {X : Type 0} (answer : Result X Refusal) → Known as_is answer → KeepsText answer
 kept (Ok x) known = tt
 kept (Err refusal) known = text-kept refusal known
 
--- of what follows from a list too
 kept_then : {A B : Type 0} (first : Result A Refusal) (next : A → Result B Refusal) → Known as_is first → ((x : A) → Known as_is (next x)) → KeepsText (first >>= next)
 kept_then first next known rest = kept (first >>= next) (known_steps as_is first next known rest)
 
+-- of what C is told of the items of a list too
+kept_told : {X Y Z : Type 0} (tell : X → Y) (list : Result (List X) Refusal) (next : List Y → Option Z) → Known as_is list → KeepsText (each_told tell list >>= λ all. Ok (next all))
+kept_told tell (Ok items) next known = tt
+kept_told tell (Err refusal) next known = text-kept refusal known
+
 pub refusals_keep_their_text : RefusalsKeepTheirText
-refusals_keep_their_text = record {
-  header = λ bytes. kept_then (refuse_as refusal_of (read_header bytes)) _ (known_within as_is refusal_of (read_header bytes) (known_header bytes)) (λ read. tt);
-  section_count = λ bytes h. kept_then (sections_right bytes h) _ (known_sections bytes h) (λ all. tt);
-  section = λ bytes h index. kept_then (sections_right bytes h) _ (known_sections bytes h) (λ all. tt);
-  sections = λ bytes h first. kept_then (sections_right bytes h) _ (known_sections bytes h) (λ all. tt);
-  section_names = λ bytes h. kept_then (sections_right bytes h) _ (known_sections bytes h) (λ all. tt);
-  table = λ bytes h index. kept_then (sections_right bytes h) _ (known_sections bytes h) (λ all. tt);
-  segment = λ bytes h index. kept_then (segments_right bytes h) _ (known_segments bytes h) (λ all. tt);
-  symbol = λ bytes h range index. kept_then (symbols_right bytes h range) _ (known_symbols bytes h range) (λ all. tt);
-  symbols = λ bytes h range first. kept_then (symbols_right bytes h range) _ (known_symbols bytes h range) (λ all. tt);
-  reloc = λ bytes h range is_rela index. kept_then (relocs_right bytes h range is_rela) _ (known_relocs bytes h range is_rela) (λ all. tt);
-  relocs = λ bytes h range is_rela first. kept_then (relocs_right bytes h range is_rela) _ (known_relocs bytes h range is_rela) (λ all. tt);
-  string = λ bytes range offset. kept_then (strings_right bytes range) _ (known_strings bytes range) (λ found.
-      known_either as_is (nat_le (length found) offset) _ _ tt
-      (known_steps as_is (plain found 0 offset) _ (known_text (piece found 0 offset) (length found - offset)) λ here. tt));
-  note = λ bytes h range alignment offset. kept (note_right bytes h range alignment offset) (known_note bytes h range alignment offset);
-  section_by_name = λ bytes h names known_name. kept_then (sections_right bytes h) _ (known_sections bytes h) (λ all.
-      known_steps as_is (strings_right bytes names) _ (known_strings bytes names) λ found. tt);
-  symbol_by_name = λ bytes h range names known_name. kept_then (symbols_right bytes h range) _ (known_symbols bytes h range) (λ all.
-      known_steps as_is (strings_right bytes names) _ (known_strings bytes names) λ found. tt);
-  segment_count = λ bytes h. kept_then (segments_right bytes h) _ (known_segments bytes h) (λ all. tt);
-  symbol_count = λ bytes h range. kept_then (symbols_right bytes h range) _ (known_symbols bytes h range) (λ all. tt);
-  reloc_count = λ bytes h range is_rela. kept_then (relocs_right bytes h range is_rela) _ (known_relocs bytes h range is_rela) (λ all. tt);
-  symbol_by_address = λ bytes h range address. kept_then (symbols_right bytes h range) _ (known_symbols bytes h range) (λ all. tt);
-  section_by_type = λ bytes h sh_type first. kept_then (sections_right bytes h) _ (known_sections bytes h) (λ all. tt);
-  section_bytes = λ bytes s. kept (section_bytes_right bytes s) (known_either as_is (section_has_bytes s) _ _ (known_range bytes s.file) tt);
-  segment_bytes = λ bytes s. kept (segment_bytes_right bytes s) (known_either as_is (segment_has_bytes s) _ _ (known_range bytes s.file) tt);
-  string_bytes = λ bytes range offset. kept_then (strings_right bytes range) _ (known_strings bytes range) (λ found.
-      known_either as_is (nat_le (length found) offset) _ _ tt tt);
-  number = λ bytes h offset width. kept (number_right bytes h offset width) (known_either as_is (is_width width) _ _
-      (known_steps as_is (refuse_as misplaced (room_of (length bytes) offset width)) _ (known_within as_is misplaced _ (known_room (length bytes) offset width)) λ u. tt) tt);
-}
+refusals_keep_their_text bytes h range names name is_rela index offset address alignment width sh_type s p =
+    let sections = known_sections bytes h in
+    let segments = known_segments bytes h in
+    let symbols = known_symbols bytes h range in
+    let relocs = known_relocs bytes h range is_rela in
+    let strings = known_strings bytes names in
+    record {
+      header = kept_then (refuse_as refusal_of (read_header bytes)) _ (known_within as_is refusal_of (read_header bytes) (known_header bytes)) (λ read. tt);
+      section_count = kept_told section_told (sections_right bytes h) _ sections;
+      section = kept_told section_told (sections_right bytes h) _ sections;
+      sections = kept_told section_told (sections_right bytes h) _ sections;
+      section_names = kept_then (sections_right bytes h) _ sections (λ all. tt);
+      table = kept_told section_told (sections_right bytes h) _ sections;
+      segment = kept_told segment_told (segments_right bytes h) _ segments;
+      symbol = kept_told symbol_told (symbols_right bytes h range) _ symbols;
+      symbols = kept_told symbol_told (symbols_right bytes h range) _ symbols;
+      reloc = kept_told reloc_told (relocs_right bytes h range is_rela) _ relocs;
+      relocs = kept_told reloc_told (relocs_right bytes h range is_rela) _ relocs;
+      string = kept_then (strings_right bytes range) _ (known_strings bytes range) (λ found.
+          known_either as_is (nat_le (length found) offset) _ _ tt
+          (known_steps as_is (plain found 0 offset) _ (known_text (piece found 0 offset) (length found - offset)) λ here. tt));
+      note = kept (note_right bytes h range alignment offset) (known_note bytes h range alignment offset);
+      section_by_name = kept_then (sections_right bytes h) _ sections (λ all. known_steps as_is (strings_right bytes names) _ strings λ found. tt);
+      symbol_by_name = kept_then (symbols_right bytes h range) _ symbols (λ all. known_steps as_is (strings_right bytes names) _ strings λ found. tt);
+      segment_count = kept_told segment_told (segments_right bytes h) _ segments;
+      symbol_count = kept_told symbol_told (symbols_right bytes h range) _ symbols;
+      reloc_count = kept_told reloc_told (relocs_right bytes h range is_rela) _ relocs;
+      symbol_by_address = kept_then (symbols_right bytes h range) _ symbols (λ all. tt);
+      section_by_type = kept_then (sections_right bytes h) _ sections (λ all. tt);
+      section_bytes = kept (section_bytes_right bytes s) (known_either as_is (section_has_bytes s) _ _ (known_range bytes s.file) tt);
+      segment_bytes = kept (segment_bytes_right bytes p) (known_either as_is (segment_has_bytes p) _ _ (known_range bytes p.file) tt);
+      string_bytes = kept_then (strings_right bytes range) _ (known_strings bytes range) (λ found. known_either as_is (nat_le (length found) offset) _ _ tt tt);
+      number = kept (number_right bytes h offset width) (known_either as_is (is_width width) _ _
+          (known_steps as_is (refuse_as misplaced (room_of (length bytes) offset width)) _ (known_within as_is misplaced _ (known_room (length bytes) offset width)) λ u. tt) tt);
+    }

@@ -5,7 +5,7 @@ pub mod KeptLemmas
 pub mod NoteLaws
 pub mod PieceLemmas
 pub mod PlaceLaws
+pub mod SearchLemmas
 pub mod StepLemmas
 pub mod StringLaws
 pub mod TextLemmas
-pub mod TypeSearch

@@ -1,20 +1,20 @@
 -- Where bytes lie that are told.
-use Rattle.std.proofs.Common.{◌≡◌, ◌<◌, ℕ, Bool, true, false, nat_le, if◌then◌else◌, List, length, drop, Option, Some, None, Result, Ok, Err, refl, sym, ap, subst, ◌∙◌, arith}
+use Rattle.std.proofs.Common.{◌≡◌, ◌<◌, ◌≤◌, ◌-◌, ◌==◌, ℕ, Bool, true, false, nat_le, if◌then◌else◌, List, length, drop, Option, Some, None, Result, Ok, Err, refl, sym, ap, subst, ◌∙◌, arith}
 use Rattle.std.proofs.lemmas.Bool.Decides.{nat_tests}
-use Rattle.std.proofs.lemmas.List.{length-take}
-use Rattle.goblin_base.specs.declared.options.ParseMode.TheVariants.{Strict}
+use Rattle.std.proofs.lemmas.List.{length-drop, length-take}
+use Rattle.std.specs.List.{position_or_len}
 use Rattle.goblin_base.specs.Pieces.{piece}
-use Rattle.goblin_base.specs.Refusal.{Refusal, malformed, misplaced}
+use Rattle.goblin_base.specs.Refusal.{Refusal, misplaced}
 use Rattle.goblin_base.specs.RecordLaws.{fits-room_of}
 use Rattle.goblin_base.specs.Room.{room_of}
 use Rattle.goblin_base.specs.Steps.{refuse_as}
-use Rattle.goblin_base.specs.Strtab.{plain, range_in}
+use Rattle.goblin_base.specs.Strtab.{plain}
 use Rattle.goblin_c.specs.declared.types.GoblinRange.{GoblinRange}
 use Rattle.goblin_c.specs.Answers.{string_right, strings_right}
 use Rattle.goblin_c.specs.Bytes.{range_right, section_has_bytes, segment_has_bytes, string_bytes_right}
-use Rattle.goblin_c.specs.Laws.{BytesLieInFile, LiesIn, StringsAreBytes}
+use Rattle.goblin_c.specs.Laws.{BytesLieInFile, LiesIn, StringsAreBytes, StringsLieInFile}
 use Rattle.goblin_c.proofs.StepLemmas.{one_told, through, within}
-use Rattle.goblin_c.proofs.StringLaws.{piece_short, place_of, plain_is, range_fits, strings_are}
+use Rattle.goblin_c.proofs.StringLaws.{in_range, place_of, plain_is}
 
 -- a range that is told is this one, and lies in the file
 some_same : {X : Type 0} (x y : X) → ◌≡◌ {A = Result (Option X) Refusal} (Ok (Some x)) (Ok (Some y)) → y ≡ x
@@ -36,13 +36,20 @@ one_place : (past : Bool) (place told : GoblinRange) → ◌≡◌ {A = Result (
 one_place true place told is = absurd (cc)
 one_place false place told is = (refl, some_same place told is)
 
+-- a piece is no longer than the strings from its offset on
+piece_short : (strings : List ℕ) (offset : ℕ) → length (piece strings 0 offset) ≤ length strings - offset
+unfolding piece
+piece_short strings offset =
+    let rest = drop offset strings in
+    omega (arith, length-drop offset strings, length-take (position_or_len (λ b. b == 0) rest) rest)
+
 string_lies : (bytes : List ℕ) (range : GoblinRange) (offset : ℕ) (told : GoblinRange) (answer : Result (List ℕ) Refusal) → strings_right bytes range ≡ answer → string_bytes_right bytes range offset ≡ Ok (Some told) → LiesIn bytes told
 string_lies bytes range offset told (Ok strings) found is =
     let steps = one_place (nat_le (length strings) offset) (place_of range offset (piece strings 0 offset)) told (rw found at is) in
     let before : offset < length strings = (let test = steps.0 in grind (arith, nat_tests)) in
-    let all = range_fits bytes range.offset range.size strings (within malformed (range_in Strict bytes range.offset range.size) strings found) in
-    let many = ap length (strings_are bytes range strings found) ∙ length-take range.size (drop range.offset bytes) in
-    subst (LiesIn bytes) (sym steps.1) (omega (arith, before, all, many, piece_short strings offset))
+    let all = in_range bytes range strings found in
+    let many = ap length all.0 ∙ length-take range.size (drop range.offset bytes) in
+    subst (LiesIn bytes) (sym steps.1) (omega (arith, before, all.1, many, piece_short strings offset))
 string_lies bytes range offset told (Err e) found is = let refused = rw found at is in absurd (cc)
 
 pub bytes_lie_in_file : BytesLieInFile
@@ -63,3 +70,6 @@ text_is_bytes bytes range offset told (Err e) found is = let refused = rw found 
 
 pub strings_are_bytes : StringsAreBytes
 strings_are_bytes bytes range offset told is = text_is_bytes bytes range offset told (strings_right bytes range) refl is
+
+pub strings_lie_in_file : StringsLieInFile
+strings_lie_in_file bytes range offset told is = bytes_lie_in_file.string bytes range offset told (strings_are_bytes bytes range offset told is)

@@ -38,28 +38,29 @@ cut-piece text more part old now new len is was long step =
 pub long-piece : (text more part : List ℕ) (n len : ℕ) → more ≡ text ++ part → len ≡ length text → n ≡ len + length part → n ≡ length more
 long-piece text more part n len is long sum = omega (arith, ap length is, length-append text part)
 
-fault-kept : (f : Fault) → told_text (fault_told f) ≡ refusal_text (malformed f)
-fault-kept (fault.InvalidClass n) = refl
-fault-kept (fault.InvalidEndianness n) = refl
-fault-kept fault.TooSmall = refl
-fault-kept (fault.ElfClass n) = refl
-fault-kept (fault.DataType n) = refl
-fault-kept (fault.Data n) = refl
-fault-kept (fault.NoteAlign n) = refl
-fault-kept (fault.SymtabOffset n m) = refl
-fault-kept (fault.TooManySymbols n m) = refl
-fault-kept (fault.SymtabPast n m) = refl
-fault-kept (fault.StrtabOffset n m) = refl
-fault-kept (fault.StrtabRange n m k true) = refl
-fault-kept (fault.StrtabRange n m k false) = refl
-fault-kept (fault.SectionOffset n m k true) = refl
-fault-kept (fault.SectionOffset n m k false) = refl
-fault-kept (fault.SectionAddr n m k true) = refl
-fault-kept (fault.SectionAddr n m k false) = refl
-fault-kept (fault.IntegerFit e) = refl
+-- what is told of a refusal has its text, where it names one that has a number, and its kind is none of an answer
+fault-told : (f : Fault) → (told_text (fault_told f) ≡ refusal_text (malformed f)) × (2 ≤ (fault_told f).kind)
+fault-told (fault.InvalidClass n) = (refl, omega arith)
+fault-told (fault.InvalidEndianness n) = (refl, omega arith)
+fault-told fault.TooSmall = (refl, omega arith)
+fault-told (fault.ElfClass n) = (refl, omega arith)
+fault-told (fault.DataType n) = (refl, omega arith)
+fault-told (fault.Data n) = (refl, omega arith)
+fault-told (fault.NoteAlign n) = (refl, omega arith)
+fault-told (fault.SymtabOffset n m) = (refl, omega arith)
+fault-told (fault.TooManySymbols n m) = (refl, omega arith)
+fault-told (fault.SymtabPast n m) = (refl, omega arith)
+fault-told (fault.StrtabOffset n m) = (refl, omega arith)
+fault-told (fault.StrtabRange n m k true) = (refl, omega arith)
+fault-told (fault.StrtabRange n m k false) = (refl, omega arith)
+fault-told (fault.SectionOffset n m k true) = (refl, omega arith)
+fault-told (fault.SectionOffset n m k false) = (refl, omega arith)
+fault-told (fault.SectionAddr n m k true) = (refl, omega arith)
+fault-told (fault.SectionAddr n m k false) = (refl, omega arith)
+fault-told (fault.IntegerFit e) = (refl, omega arith)
 
 pub text-kept : TextIsKept
-text-kept (malformed f) known = fault-kept f
+text-kept (malformed f) known = (fault-told f).0
 text-kept (bad_magic magic) known = refl
 text-kept (too_big size len) known = refl
 text-kept (bad_offset offset) known = refl
@@ -68,25 +69,8 @@ text-kept (buffer_too_short count item) (inl sections) = rw sections refl
 text-kept (buffer_too_short count item) (inr segments) = rw segments refl
 text-kept out_of_memory known = refl
 
-fault-kind : (f : Fault) → 2 ≤ (fault_told f).kind
-fault-kind (fault.InvalidClass n) = omega arith
-fault-kind (fault.InvalidEndianness n) = omega arith
-fault-kind fault.TooSmall = omega arith
-fault-kind (fault.ElfClass n) = omega arith
-fault-kind (fault.DataType n) = omega arith
-fault-kind (fault.Data n) = omega arith
-fault-kind (fault.NoteAlign n) = omega arith
-fault-kind (fault.SymtabOffset n m) = omega arith
-fault-kind (fault.TooManySymbols n m) = omega arith
-fault-kind (fault.SymtabPast n m) = omega arith
-fault-kind (fault.StrtabOffset n m) = omega arith
-fault-kind (fault.StrtabRange n m k b) = omega arith
-fault-kind (fault.SectionOffset n m k b) = omega arith
-fault-kind (fault.SectionAddr n m k b) = omega arith
-fault-kind (fault.IntegerFit e) = omega arith
-
 pub kinds-are-answers : KindsAreAnswers
-kinds-are-answers (malformed f) = fault-kind f
+kinds-are-answers (malformed f) = (fault-told f).1
 kinds-are-answers (bad_magic magic) = omega arith
 kinds-are-answers (too_big size len) = omega arith
 kinds-are-answers (bad_offset offset) = omega arith

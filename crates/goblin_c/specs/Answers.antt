@@ -1,5 +1,5 @@
 -- What is right of a file, in the terms of the library: an item, none past the last one, or why there is none.
-use Rattle.std.specs.Prelude.{ℕ, ◌+◌, ◌/◌, ◌==◌, nat_le, if◌then◌else◌, List, length, drop, map, position, slice_get, slice_index, Bool, pos, unwrap_or, Option, Some, None, Result, Ok}
+use Rattle.std.specs.Prelude.{ℕ, ◌+◌, ◌/◌, ◌==◌, ◌||◌, nat_le, if◌then◌else◌, List, length, drop, map, position, slice_get, slice_index, Bool, pos, unwrap_or, Option, Some, None, Result, Ok}
 use Rattle.std.specs.Option.{option_map, is_some}
 use Rattle.goblin_base.specs.declared.container.Ctx.{Ctx}
 use Rattle.goblin_base.specs.declared.container.Container.TheVariants as class
@@ -115,33 +115,56 @@ header_right bytes = do
 abbrev pub sections_right : List ℕ → GoblinHeader → Result (List SectionHeader) Refusal
 sections_right bytes h = section_headers_of bytes h.e_shoff h.e_shnum (ctx_of h)
 
--- how many section headers there are
-abbrev pub section_count_right : List ℕ → GoblinHeader → Result (Option ℕ) Refusal
-section_count_right bytes h = do
-  sections ← sections_right bytes h
-  Ok (Some (length sections))
+-- what C is told of the items of a list
+abbrev pub each_told : {X Y : Type 0} → (X → Y) → Result (List X) Refusal → Result (List Y) Refusal
+each_told tell list = do
+  items ← list
+  Ok (map tell items)
 
--- the section header at an index
+-- how many items a list has
+abbrev pub count_of : {X : Type 0} → Result (List X) Refusal → Result (Option ℕ) Refusal
+count_of list = do
+  items ← list
+  Ok (Some (length items))
+
+-- its item at an index: none past the last one
+abbrev pub item_of : {X : Type 0} → Result (List X) Refusal → ℕ → Result (Option X) Refusal
+item_of list index = do
+  items ← list
+  Ok (slice_get items index)
+
+-- its items from an index on: none past the last one
+abbrev pub items_from : {X : Type 0} → Result (List X) Refusal → ℕ → Result (Option (List X)) Refusal
+items_from list first = do
+  items ← list
+  Ok (if nat_le (length items) first then None else Some (drop first items))
+
+-- what C is told of the section headers, by index, from an index on, and how many there are
+abbrev pub sections_told : List ℕ → GoblinHeader → Result (List GoblinSection) Refusal
+sections_told bytes h = each_told section_told (sections_right bytes h)
+
 abbrev pub section_right : List ℕ → GoblinHeader → ℕ → Result (Option GoblinSection) Refusal
-section_right bytes h index = do
-  sections ← sections_right bytes h
-  Ok (option_map section_told (slice_get sections index))
+section_right bytes h index = item_of (sections_told bytes h) index
+
+abbrev pub sections_from_right : List ℕ → GoblinHeader → ℕ → Result (Option (List GoblinSection)) Refusal
+sections_from_right bytes h first = items_from (sections_told bytes h) first
+
+abbrev pub section_count_right : List ℕ → GoblinHeader → Result (Option ℕ) Refusal
+section_count_right bytes h = count_of (sections_told bytes h)
 
 -- the program headers of a file, as the library reads them at once
 abbrev pub segments_right : List ℕ → GoblinHeader → Result (List ProgramHeader) Refusal
 segments_right bytes h = program_headers_from bytes h.e_phoff h.e_phnum (ctx_of h)
 
--- the program header at an index
-abbrev pub segment_right : List ℕ → GoblinHeader → ℕ → Result (Option GoblinSegment) Refusal
-segment_right bytes h index = do
-  segments ← segments_right bytes h
-  Ok (option_map segment_told (slice_get segments index))
+-- what C is told of them, by index, and how many there are
+abbrev pub segments_told : List ℕ → GoblinHeader → Result (List GoblinSegment) Refusal
+segments_told bytes h = each_told segment_told (segments_right bytes h)
 
--- how many program headers there are
+abbrev pub segment_right : List ℕ → GoblinHeader → ℕ → Result (Option GoblinSegment) Refusal
+segment_right bytes h index = item_of (segments_told bytes h) index
+
 abbrev pub segment_count_right : List ℕ → GoblinHeader → Result (Option ℕ) Refusal
-segment_count_right bytes h = do
-  segments ← segments_right bytes h
-  Ok (Some (length segments))
+segment_count_right bytes h = count_of (segments_told bytes h)
 
 -- the index of the first section of a type, from an index on
 abbrev pub section_by_type_right : List ℕ → GoblinHeader → ℕ → ℕ → Result (Option ℕ) Refusal
@@ -155,17 +178,18 @@ symbols_right bytes h range = do
   table ← refuse_as refusal_of (symtab_of bytes range.offset (range.size / sym_size (ctx_of h).container) (ctx_of h))
   Ok table.symbols
 
--- the symbol at an index of the table of a range
-abbrev pub symbol_right : List ℕ → GoblinHeader → GoblinRange → ℕ → Result (Option GoblinSymbol) Refusal
-symbol_right bytes h range index = do
-  symbols ← symbols_right bytes h range
-  Ok (option_map symbol_told (slice_get symbols index))
+-- what C is told of them, by index, from an index on, and how many there are
+abbrev pub symbols_told : List ℕ → GoblinHeader → GoblinRange → Result (List GoblinSymbol) Refusal
+symbols_told bytes h range = each_told symbol_told (symbols_right bytes h range)
 
--- how many symbols there are
+abbrev pub symbol_right : List ℕ → GoblinHeader → GoblinRange → ℕ → Result (Option GoblinSymbol) Refusal
+symbol_right bytes h range index = item_of (symbols_told bytes h range) index
+
+abbrev pub symbols_from_right : List ℕ → GoblinHeader → GoblinRange → ℕ → Result (Option (List GoblinSymbol)) Refusal
+symbols_from_right bytes h range first = items_from (symbols_told bytes h range) first
+
 abbrev pub symbol_count_right : List ℕ → GoblinHeader → GoblinRange → Result (Option ℕ) Refusal
-symbol_count_right bytes h range = do
-  symbols ← symbols_right bytes h range
-  Ok (Some (length symbols))
+symbol_count_right bytes h range = count_of (symbols_told bytes h range)
 
 -- whether a file is a MIPS64 one of little order
 abbrev pub is_mips64el : GoblinHeader → Bool
@@ -176,17 +200,18 @@ abbrev pub relocs_right : List ℕ → GoblinHeader → GoblinRange → Bool →
 relocs_right bytes h range is_rela =
     refuse_as refusal_of (relocs_of bytes range.offset range.size is_rela (ctx_of h) (is_mips64el h))
 
--- the relocation at an index of those of a range
-abbrev pub reloc_right : List ℕ → GoblinHeader → GoblinRange → Bool → ℕ → Result (Option GoblinReloc) Refusal
-reloc_right bytes h range is_rela index = do
-  relocs ← relocs_right bytes h range is_rela
-  Ok (option_map reloc_told (slice_get relocs index))
+-- what C is told of them, by index, from an index on, and how many there are
+abbrev pub relocs_told : List ℕ → GoblinHeader → GoblinRange → Bool → Result (List GoblinReloc) Refusal
+relocs_told bytes h range is_rela = each_told reloc_told (relocs_right bytes h range is_rela)
 
--- how many relocations there are
+abbrev pub reloc_right : List ℕ → GoblinHeader → GoblinRange → Bool → ℕ → Result (Option GoblinReloc) Refusal
+reloc_right bytes h range is_rela index = item_of (relocs_told bytes h range is_rela) index
+
+abbrev pub relocs_from_right : List ℕ → GoblinHeader → GoblinRange → Bool → ℕ → Result (Option (List GoblinReloc)) Refusal
+relocs_from_right bytes h range is_rela first = items_from (relocs_told bytes h range is_rela) first
+
 abbrev pub reloc_count_right : List ℕ → GoblinHeader → GoblinRange → Bool → Result (Option ℕ) Refusal
-reloc_count_right bytes h range is_rela = do
-  relocs ← relocs_right bytes h range is_rela
-  Ok (Some (length relocs))
+reloc_count_right bytes h range is_rela = count_of (relocs_told bytes h range is_rela)
 
 -- the bytes of a range of strings
 abbrev pub strings_right : List ℕ → GoblinRange → Result (List ℕ) Refusal
@@ -201,26 +226,6 @@ string_right bytes range offset = do
       else do
         text ← plain strings 0 offset
         Ok (Some (record { offset = range.offset + offset; size = length text }))
-
--- what is told of the items from an index on: none past the last one
-abbrev pub told_from : {X Y : Type 0} → (X → Y) → ℕ → List X → Option (List Y)
-told_from tell first all = if nat_le (length all) first then None else Some (map tell (drop first all))
-
--- the section headers, the symbols and the relocations from an index on
-abbrev pub sections_from_right : List ℕ → GoblinHeader → ℕ → Result (Option (List GoblinSection)) Refusal
-sections_from_right bytes h first = do
-  sections ← sections_right bytes h
-  Ok (told_from section_told first sections)
-
-abbrev pub symbols_from_right : List ℕ → GoblinHeader → GoblinRange → ℕ → Result (Option (List GoblinSymbol)) Refusal
-symbols_from_right bytes h range first = do
-  symbols ← symbols_right bytes h range
-  Ok (told_from symbol_told first symbols)
-
-abbrev pub relocs_from_right : List ℕ → GoblinHeader → GoblinRange → Bool → ℕ → Result (Option (List GoblinReloc)) Refusal
-relocs_from_right bytes h range is_rela first = do
-  relocs ← relocs_right bytes h range is_rela
-  Ok (told_from reloc_told first relocs)
 
 -- whether the plain reading at an offset of some strings gives a name
 abbrev pub is_named : List ℕ → List ℕ → ℕ → Bool
@@ -245,23 +250,22 @@ symbol_by_address_right bytes h range address = do
   symbols ← symbols_right bytes h range
   Ok (symbol_at address symbols)
 
--- a section that has bytes in the file: one of type 8 has none
-abbrev pub with_bytes : Option SectionHeader → Option SectionHeader
-with_bytes (Some section) = if section.sh_type == 8 then None else Some section
-with_bytes None = None
+-- a section, where it is a table by its index: index 0 is no section, and one of type 8 has no bytes in the file
+abbrev pub table_of : ℕ → Option GoblinSection → Option GoblinSection
+table_of index (Some section) = if index == 0 || section.sh_type == 8 then None else Some section
+table_of index None = None
 
--- the section that is a table by its index: index 0 is no section
-abbrev pub table_at : List SectionHeader → ℕ → Option SectionHeader
-table_at sections index = if index == 0 then None else with_bytes (slice_get sections index)
+abbrev pub table_at : List GoblinSection → ℕ → Option GoblinSection
+table_at sections index = table_of index (slice_get sections index)
 
 -- the table at an index
 abbrev pub table_right : List ℕ → GoblinHeader → ℕ → Result (Option GoblinSection) Refusal
 table_right bytes h index = do
-  sections ← sections_right bytes h
-  Ok (option_map section_told (table_at sections index))
+  sections ← sections_told bytes h
+  Ok (table_at sections index)
 
 -- the section that holds the sections' names, where it is a table
 abbrev pub section_names_right : List ℕ → GoblinHeader → Result (Option GoblinSection) Refusal
 section_names_right bytes h = do
   sections ← sections_right bytes h
-  Ok (option_map section_told (table_at sections (names_index h.e_shstrndx (slice_get sections 0))))
+  Ok (table_at (map section_told sections) (names_index h.e_shstrndx (slice_get sections 0)))

@@ -1,5 +1,5 @@
 -- Laws of the calls: what they tell one by one is what the library has at once, and no refusal loses its text.
-use Rattle.std.specs.Prelude.{◌≡◌, ◌≢◌, ◌⊎◌, ◌+◌, ◌/◌, ◌<◌, ◌≤◌, ◌==◌, ◌||◌, if◌then◌else◌, ⊤, ℕ, zero, suc, min, Bool, List, [], ◌∷◌, length, take, drop, slice_get, Option, Some, None, Result, Ok, Err}
+use Rattle.std.specs.Prelude.{◌≡◌, ◌≢◌, ◌⊎◌, ◌+◌, ◌/◌, ◌<◌, ◌≤◌, ⊤, ℕ, zero, suc, min, Bool, List, [], ◌∷◌, length, take, drop, slice_get, Option, Some, None, Result, Ok, Err}
 use Rattle.std.specs.Option.{option_map}
 use Rattle.goblin_base.specs.declared.container.Ctx.{Ctx}
 use Rattle.goblin_base.specs.declared.error.Fault.TheVariants.{InvalidClass, InvalidEndianness}
@@ -20,7 +20,7 @@ use Rattle.goblin.specs.SectionHeaders.{section_headers_of}
 use Rattle.goblin.specs.declared.elf.sym.Sym.{Sym}
 use Rattle.goblin.specs.Sym.{sym_size}
 use Rattle.goblin.specs.Symtab.{symtab_of}
-use Rattle.goblin_c.specs.Answers.{ctx_of, header_told, is_mips64el, reloc_told, section_told, segment_told, symbol_told, header_right, section_by_type_right, section_count_right, section_right, segment_count_right, segment_right, symbol_right, reloc_right, string_right, symbol_count_right, reloc_count_right, sections_from_right, symbols_from_right, relocs_from_right, section_names_right, section_by_name_right, symbol_by_address_right, symbol_by_name_right, strings_right, table_right}
+use Rattle.goblin_c.specs.Answers.{ctx_of, header_told, is_mips64el, reloc_told, section_told, segment_told, symbol_told, header_right, section_by_type_right, section_count_right, section_right, segment_count_right, segment_right, symbol_right, reloc_right, string_right, symbol_count_right, reloc_count_right, sections_from_right, symbols_from_right, relocs_from_right, section_names_right, section_by_name_right, symbol_by_address_right, symbol_by_name_right, strings_right, table_of, table_right}
 use Rattle.goblin_c.specs.Bytes.{number_right, section_bytes_right, segment_bytes_right, string_bytes_right}
 use Rattle.goblin_c.specs.Cut.{cut}
 use Rattle.goblin_c.specs.Notes.{note_right}
@@ -93,55 +93,41 @@ abbrev pub KeepsText : {X : Type 0} → Result X Refusal → Type 0
 KeepsText (Ok x) = ⊤
 KeepsText (Err refusal) = told_text (refusal_told refusal) ≡ refusal_text refusal
 
--- every refusal of every call keeps its text
-pub record RefusalsKeepTheirText : Type 0 where
-  pub header : (bytes : List ℕ) → KeepsText (header_right bytes)
-  pub section_count : (bytes : List ℕ) (h : GoblinHeader) → KeepsText (section_count_right bytes h)
-  pub section : (bytes : List ℕ) (h : GoblinHeader) (index : ℕ) → KeepsText (section_right bytes h index)
-  pub sections : (bytes : List ℕ) (h : GoblinHeader) (first : ℕ) → KeepsText (sections_from_right bytes h first)
-  pub section_names : (bytes : List ℕ) (h : GoblinHeader) → KeepsText (section_names_right bytes h)
-  pub table : (bytes : List ℕ) (h : GoblinHeader) (index : ℕ) → KeepsText (table_right bytes h index)
-  pub segment : (bytes : List ℕ) (h : GoblinHeader) (index : ℕ) → KeepsText (segment_right bytes h index)
-  pub symbol :
-      (bytes : List ℕ) (h : GoblinHeader) (range : GoblinRange) (index : ℕ)
-      → KeepsText (symbol_right bytes h range index)
-  pub symbols :
-      (bytes : List ℕ) (h : GoblinHeader) (range : GoblinRange) (first : ℕ)
-      → KeepsText (symbols_from_right bytes h range first)
-  pub reloc :
-      (bytes : List ℕ) (h : GoblinHeader) (range : GoblinRange) (is_rela : Bool) (index : ℕ)
-      → KeepsText (reloc_right bytes h range is_rela index)
-  pub relocs :
-      (bytes : List ℕ) (h : GoblinHeader) (range : GoblinRange) (is_rela : Bool) (first : ℕ)
-      → KeepsText (relocs_from_right bytes h range is_rela first)
-  pub string : (bytes : List ℕ) (range : GoblinRange) (offset : ℕ) → KeepsText (string_right bytes range offset)
-  pub note :
-      (bytes : List ℕ) (h : GoblinHeader) (range : GoblinRange) (alignment offset : ℕ)
-      → KeepsText (note_right bytes h range alignment offset)
-  pub section_by_name :
-      (bytes : List ℕ) (h : GoblinHeader) (names : GoblinRange) (name : List ℕ)
-      → KeepsText (section_by_name_right bytes h names name)
-  pub symbol_by_name :
-      (bytes : List ℕ) (h : GoblinHeader) (range names : GoblinRange) (name : List ℕ)
-      → KeepsText (symbol_by_name_right bytes h range names name)
-  pub segment_count : (bytes : List ℕ) (h : GoblinHeader) → KeepsText (segment_count_right bytes h)
-  pub symbol_count :
-      (bytes : List ℕ) (h : GoblinHeader) (range : GoblinRange) → KeepsText (symbol_count_right bytes h range)
-  pub reloc_count :
-      (bytes : List ℕ) (h : GoblinHeader) (range : GoblinRange) (is_rela : Bool)
-      → KeepsText (reloc_count_right bytes h range is_rela)
-  pub symbol_by_address :
-      (bytes : List ℕ) (h : GoblinHeader) (range : GoblinRange) (address : ℕ)
-      → KeepsText (symbol_by_address_right bytes h range address)
-  pub section_by_type :
-      (bytes : List ℕ) (h : GoblinHeader) (sh_type first : ℕ)
-      → KeepsText (section_by_type_right bytes h sh_type first)
-  pub section_bytes : (bytes : List ℕ) (s : GoblinSection) → KeepsText (section_bytes_right bytes s)
-  pub segment_bytes : (bytes : List ℕ) (s : GoblinSegment) → KeepsText (segment_bytes_right bytes s)
-  pub string_bytes :
-      (bytes : List ℕ) (range : GoblinRange) (offset : ℕ) → KeepsText (string_bytes_right bytes range offset)
-  pub number :
-      (bytes : List ℕ) (h : GoblinHeader) (offset width : ℕ) → KeepsText (number_right bytes h offset width)
+-- so does every refusal of every call that is asked this
+pub record KeepTheirText
+    (bytes : List ℕ) (h : GoblinHeader) (range names : GoblinRange) (name : List ℕ) (is_rela : Bool)
+    (index offset address alignment width sh_type : ℕ) (s : GoblinSection) (p : GoblinSegment) : Type 0 where
+  pub header : KeepsText (header_right bytes)
+  pub section_count : KeepsText (section_count_right bytes h)
+  pub section : KeepsText (section_right bytes h index)
+  pub sections : KeepsText (sections_from_right bytes h index)
+  pub section_names : KeepsText (section_names_right bytes h)
+  pub table : KeepsText (table_right bytes h index)
+  pub segment : KeepsText (segment_right bytes h index)
+  pub symbol : KeepsText (symbol_right bytes h range index)
+  pub symbols : KeepsText (symbols_from_right bytes h range index)
+  pub reloc : KeepsText (reloc_right bytes h range is_rela index)
+  pub relocs : KeepsText (relocs_from_right bytes h range is_rela index)
+  pub string : KeepsText (string_right bytes range offset)
+  pub note : KeepsText (note_right bytes h range alignment offset)
+  pub section_by_name : KeepsText (section_by_name_right bytes h names name)
+  pub symbol_by_name : KeepsText (symbol_by_name_right bytes h range names name)
+  pub segment_count : KeepsText (segment_count_right bytes h)
+  pub symbol_count : KeepsText (symbol_count_right bytes h range)
+  pub reloc_count : KeepsText (reloc_count_right bytes h range is_rela)
+  pub symbol_by_address : KeepsText (symbol_by_address_right bytes h range address)
+  pub section_by_type : KeepsText (section_by_type_right bytes h sh_type index)
+  pub section_bytes : KeepsText (section_bytes_right bytes s)
+  pub segment_bytes : KeepsText (segment_bytes_right bytes p)
+  pub string_bytes : KeepsText (string_bytes_right bytes range offset)
+  pub number : KeepsText (number_right bytes h offset width)
+
+-- so does every refusal of every call
+abbrev pub RefusalsKeepTheirText : Type 0
+RefusalsKeepTheirText =
+    (bytes : List ℕ) (h : GoblinHeader) (range names : GoblinRange) (name : List ℕ) (is_rela : Bool)
+    (index offset address alignment width sh_type : ℕ) (s : GoblinSection) (p : GoblinSegment)
+    → KeepTheirText bytes h range names name is_rela index offset address alignment width sh_type s p
 
 -- the kind of a refusal, which a call answers, is neither 0 nor 1
 abbrev pub KindsAreAnswers : Type 0
@@ -265,12 +251,11 @@ StringsLieInFile =
     (bytes : List ℕ) (range : GoblinRange) (offset : ℕ) (told : GoblinRange)
     → string_right bytes range offset ≡ Ok (Some told) → LiesIn bytes told
 
--- what is told of the section at an index, where it is a table by that index: nothing at index 0, and nothing of a section
--- without bytes in the file (type 8)
+-- what is told of the section at an index, where it is a table by that index
 abbrev pub table_told : ℕ → Result (Option GoblinSection) Refusal → Result (Option GoblinSection) Refusal
-table_told index (Ok (Some section)) = Ok (if index == 0 || section.sh_type == 8 then None else Some section)
-table_told index (Ok None) = Ok None
-table_told index (Err refusal) = Err refusal
+table_told index told = do
+  section ← told
+  Ok (table_of index section)
 
 -- the table at each index is the section there, where that is one
 abbrev pub TablesByIndex : Type 0
@@ -292,17 +277,27 @@ abbrev pub IsNameAt : List ℕ → GoblinRange → ℕ → List ℕ → Type 0
 IsNameAt bytes names offset name =
     (told : GoblinRange) × (string_right bytes names offset ≡ Ok (Some told)) × (bytes_in bytes told ≡ name)
 
--- an answer is the index of the first item that a call by index tells and that has the name; or none has it; or it is
--- the refusal that all items have in their place, or all strings
+-- an answer is the index of the first item from an index on that a call tells and that is so; or none is so from there
+-- on; or it is a refusal of this kind
+abbrev pub FindsFrom :
+    {Y : Type 0} → ℕ → (ℕ → Result (Option Y) Refusal) → (Y → Type 0) → (Refusal → Type 0) → Result (Option ℕ) Refusal → Type 0
+FindsFrom {Y} first call IsSo Refuses (Ok (Some index)) =
+    (first ≤ index) × ((item : Y) × (call index ≡ Ok (Some item)) × IsSo item)
+    × ((k : ℕ) (item : Y) → first ≤ k → k < index → call k ≡ Ok (Some item) → ¬ IsSo item)
+FindsFrom {Y} first call IsSo Refuses (Ok None) =
+    (k : ℕ) (item : Y) → first ≤ k → call k ≡ Ok (Some item) → ¬ IsSo item
+FindsFrom first call IsSo Refuses (Err refusal) = Refuses refusal
+
+-- a refusal is the one that all items have in their place, or all strings
+abbrev pub RefusesEither :
+    {Y Z : Type 0} → (ℕ → Result (Option Y) Refusal) → (ℕ → Result (Option Z) Refusal) → Refusal → Type 0
+RefusesEither call strings refusal = RefusesAll call refusal ⊎ RefusesAll strings refusal
+
+-- the first of all, by a name
 abbrev pub FindsFirst :
     {Y : Type 0} → (ℕ → Result (Option Y) Refusal) → (ℕ → Result (Option GoblinRange) Refusal) → (Y → Type 0)
     → Result (Option ℕ) Refusal → Type 0
-FindsFirst {Y} call strings HasTheName (Ok (Some index)) =
-    ((item : Y) × (call index ≡ Ok (Some item)) × HasTheName item)
-    × ((k : ℕ) (item : Y) → k < index → call k ≡ Ok (Some item) → ¬ HasTheName item)
-FindsFirst {Y} call strings HasTheName (Ok None) =
-    (k : ℕ) (item : Y) → call k ≡ Ok (Some item) → ¬ HasTheName item
-FindsFirst call strings HasTheName (Err refusal) = RefusesAll call refusal ⊎ RefusesAll strings refusal
+FindsFirst call strings HasTheName answer = FindsFrom 0 call HasTheName (RefusesEither call strings) answer
 
 -- what is found by a name is the first section, and the first symbol, whose name the calls tell so
 abbrev pub SectionsByName : Type 0
@@ -318,23 +313,13 @@ SymbolsByName =
     let found = symbol_by_name_right bytes h range names name in
     FindsFirst (symbol_right bytes h range) (string_right bytes names) HasTheName found
 
--- an answer is the index of the first item from an index on that a call tells and that is so; or none is so from there
--- on; or it is the refusal that all items have in their place
-abbrev pub FindsFrom :
-    {Y : Type 0} → ℕ → (ℕ → Result (Option Y) Refusal) → (Y → Type 0) → Result (Option ℕ) Refusal → Type 0
-FindsFrom {Y} first call IsSo (Ok (Some index)) =
-    (first ≤ index) × ((item : Y) × (call index ≡ Ok (Some item)) × IsSo item)
-    × ((k : ℕ) (item : Y) → first ≤ k → k < index → call k ≡ Ok (Some item) → ¬ IsSo item)
-FindsFrom {Y} first call IsSo (Ok None) =
-    (k : ℕ) (item : Y) → first ≤ k → call k ≡ Ok (Some item) → ¬ IsSo item
-FindsFrom first call IsSo (Err refusal) = RefusesAll call refusal
-
 -- what is found by a type is the first section from the index on that has it
 abbrev pub SectionsByType : Type 0
 SectionsByType =
     (bytes : List ℕ) (h : GoblinHeader) (sh_type first : ℕ)
     → let IsOfType = λ (section : GoblinSection). section.sh_type ≡ sh_type in
-    FindsFrom first (section_right bytes h) IsOfType (section_by_type_right bytes h sh_type first)
+    let found = section_by_type_right bytes h sh_type first in
+    FindsFrom first (section_right bytes h) IsOfType (RefusesAll (section_right bytes h)) found
 
 -- the places that are told of bytes lie in the file
 pub record BytesLieInFile : Type 0 where

@@ -59,6 +59,11 @@ refusal_told (buffer_too_short count item) = with_item BUFFER_TOO_SHORT (item_nu
 refusal_told out_of_memory = with_numbers OUT_OF_MEMORY 0 0 0 0
 refusal_told (malformed f) = fault_told f
 
+-- what C is told of the items of a list that was answered
+abbrev pub told_of : {X Y : Type 0} → (X → List Y) → Result X Error → Result (List Y) Refusal
+told_of listed (Ok all) = Ok (listed all)
+told_of listed (Err e) = Err (refusal_of e)
+
 -- What a call that finds `right` answers, and what it leaves where an item and a refusal stood: 0 and the item; 1 past
 -- the last item; or the kind of the refusal, and what is told of it. All else is as it was.
 abbrev pub Tells : {X : Type 0} → Result (Option X) Refusal → X → GoblinRefusal → ℕ → X → GoblinRefusal → Type 0
@@ -66,13 +71,6 @@ Tells (Ok (Some x)) old was status new why = (status ≡ OK) × (new ≡ x) × (
 Tells (Ok None) old was status new why = (status ≡ END) × (new ≡ old) × (why ≡ was)
 Tells (Err refusal) old was status new why =
     (status ≡ (refusal_told refusal).kind) × (new ≡ old) × (why ≡ refusal_told refusal)
-
--- the same of an answer whose error is still whole
-abbrev pub TellsOf : {X : Type 0} → Result (Option X) Error → X → GoblinRefusal → ℕ → X → GoblinRefusal → Type 0
-TellsOf (Ok (Some x)) old was status new why = (status ≡ OK) × (new ≡ x) × (why ≡ was)
-TellsOf (Ok None) old was status new why = (status ≡ END) × (new ≡ old) × (why ≡ was)
-TellsOf (Err e) old was status new why =
-    (status ≡ (refusal_told (refusal_of e)).kind) × (new ≡ old) × (why ≡ refusal_told (refusal_of e))
 
 -- What a call that fills room with the items from an index on answers, and what it leaves: where there are items, 0, as
 -- many as there is room for, and how many those are; past the last item 1; or the kind of the refusal, and what is told

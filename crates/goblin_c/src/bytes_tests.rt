@@ -3,7 +3,8 @@
 //! addends, the bytes 1 to 8, and four section headers. The first program header and the first section header stand
 //! for nothing, whatever their sizes; the third section has no bytes; the fourth ends past the file.
 use crate::layout::marked_layout;
-use crate::types::{GoblinHeader, GoblinRange};
+use crate::tests::{range, told};
+use crate::types::{GoblinHeader, GoblinRange, GoblinRefusal};
 use crate::*;
 
 static FILE: &[u8; 308] = b"\x7fELF\x01\x02\x01\0\0\0\0\0\0\0\0\0\
@@ -23,64 +24,46 @@ const STRINGS: GoblinRange = GoblinRange {
     size: 8,
 };
 
-fn range(offset: u64, size: u64) -> GoblinRange {
-    GoblinRange { offset, size }
-}
-
 // The file's header.
 fn header() -> GoblinHeader {
-    let mut told = marked_layout().header;
-    let mut why = marked_layout().refusal;
-    let _status = goblin_header(FILE, &mut told, &mut why);
-    told
+    told!(goblin_header(FILE), marked_layout().header).1
 }
 
-// Whether a call answered this number of items.
-fn counts(status: u32, told: u64, count: u64) -> bool {
-    status == 0 && told == count
+fn segment_count() -> (u32, u64) {
+    let (status, count, _) = told!(goblin_segment_count(FILE, &header()), 9);
+    (status, count)
 }
 
-// Whether there are so many program headers, and so many symbols and relocations in these ranges.
-fn has_counts(segments: u64, symbols: u64, with: u64, without: u64) -> bool {
-    let (header, mut why, mut count) = (header(), marked_layout().refusal, 9);
-    let status = goblin_segment_count(FILE, &header, &mut count, &mut why);
-    if !counts(status, count, segments) {
-        return false;
-    }
-    let status = goblin_symbol_count(FILE, &header, &range(124, 24), &mut count, &mut why);
-    if !counts(status, count, symbols) {
-        return false;
-    }
-    let relocs = range(124, 23);
-    let status = goblin_reloc_count(FILE, &header, &relocs, true, &mut count, &mut why);
-    if !counts(status, count, with) {
-        return false;
-    }
-    let status = goblin_reloc_count(FILE, &header, &relocs, false, &mut count, &mut why);
-    counts(status, count, without)
+// The answer for the symbols of a range, with how many they are and the refusal's first number.
+fn symbol_count(symbols: &GoblinRange) -> (u32, u64, u64) {
+    let (status, count, why) = told!(goblin_symbol_count(FILE, &header(), symbols), 9);
+    (status, count, why.first)
+}
+
+fn reloc_count(is_rela: bool) -> (u32, u64) {
+    let (status, count, _) = told!(
+        goblin_reloc_count(FILE, &header(), &range(124, 23), is_rela),
+        9
+    );
+    (status, count)
 }
 
 #[test]
 fn counts_segments_symbols_and_relocations(rt: HostRuntime) {
-    assert!(rt; has_counts(2, 1, 1, 2));
-}
-
-// The answer for a symbol table that starts at the file's end.
-fn symbols_at_the_end() -> (u32, u64, u64) {
-    let (mut why, mut count) = (marked_layout().refusal, 9);
-    let status = goblin_symbol_count(FILE, &header(), &range(308, 0), &mut count, &mut why);
-    (status, why.first, count)
+    assert!(rt; segment_count() == (0, 2));
+    let (status, count, _) = symbol_count(&range(124, 24));
+    assert!(rt; status == 0 && count == 1);
+    assert!(rt; reloc_count(true) == (0, 1) && reloc_count(false) == (0, 2));
 }
 
 #[test]
 fn refuses_symbols_at_the_end(rt: HostRuntime) {
-    assert!(rt; symbols_at_the_end() == (17, 308, 9));
+    assert!(rt; symbol_count(&range(308, 0)) == (17, 9, 308));
 }
 
 // The answer and the index of the first section of a type, from an index on.
 fn of_type(sh_type: u32, first: u64) -> (u32, u64) {
-    let (mut why, mut index) = (marked_layout().refusal, 9);
-    let status = goblin_section_by_type(FILE, &header(), sh_type, first, &mut index, &mut why);
+    let (status, index, _) = told!(goblin_section_by_type(FILE, &header(), sh_type, first), 9);
     (status, index)
 }
 
@@ -95,16 +78,19 @@ fn finds_sections_by_type(rt: HostRuntime) {
     );
 }
 
-// The answer for the bytes of a section: their range, or the first two numbers of the refusal.
-fn bytes_of_section(index: u64) -> (u32, u64, u64) {
-    let (mut why, mut section) = (marked_layout().refusal, marked_layout().section);
-    let mut found = range(0, 0);
-    let _there = goblin_section(FILE, &header(), index, &mut section, &mut why);
-    let status = goblin_section_bytes(FILE, &section, &mut found, &mut why);
+// The answer for some bytes: their range, or the first two numbers of the refusal.
+fn shown((status, found, why): (u32, GoblinRange, GoblinRefusal)) -> (u32, u64, u64) {
     if status > 1 {
         return (status, why.first, why.second);
     }
     (status, found.offset, found.size)
+}
+
+// That for the bytes of a section.
+fn bytes_of_section(index: u64) -> (u32, u64, u64) {
+    let mark = marked_layout().section;
+    let (_, section, _) = told!(goblin_section(FILE, &header(), index), mark);
+    shown(told!(goblin_section_bytes(FILE, &section), range(0, 0)))
 }
 
 #[test]
@@ -115,15 +101,10 @@ fn tells_the_bytes_of_sections(rt: HostRuntime) {
 
 // The same for those of a segment.
 fn bytes_of_segment(index: u64, size: u64) -> (u32, u64, u64) {
-    let (mut why, mut segment) = (marked_layout().refusal, marked_layout().segment);
-    let mut found = range(0, 0);
-    let _there = goblin_segment(FILE, &header(), index, &mut segment, &mut why);
+    let mark = marked_layout().segment;
+    let (_, mut segment, _) = told!(goblin_segment(FILE, &header(), index), mark);
     segment.file.size = size;
-    let status = goblin_segment_bytes(FILE, &segment, &mut found, &mut why);
-    if status > 1 {
-        return (status, why.first, why.second);
-    }
-    (status, found.offset, found.size)
+    shown(told!(goblin_segment_bytes(FILE, &segment), range(0, 0)))
 }
 
 #[test]
@@ -135,12 +116,7 @@ fn tells_the_bytes_of_segments(rt: HostRuntime) {
 
 // The answer for the bytes of a string.
 fn string_in(strings: &GoblinRange, offset: u64) -> (u32, u64, u64) {
-    let (mut why, mut found) = (marked_layout().refusal, range(0, 0));
-    let status = goblin_string_bytes(FILE, strings, offset, &mut found, &mut why);
-    if status > 1 {
-        return (status, why.first, why.second);
-    }
-    (status, found.offset, found.size)
+    shown(told!(goblin_string_bytes(FILE, strings, offset), range(0, 0)))
 }
 
 #[test]
@@ -154,9 +130,9 @@ fn tells_strings_that_are_no_text(rt: HostRuntime) {
 
 // The answer for a number of so many bytes at an offset, in big order or in little.
 fn number_at(offset: u64, width: u64, order: u8) -> (u32, u64) {
-    let (mut header, mut why, mut value) = (header(), marked_layout().refusal, 9);
+    let mut header = header();
     header.ei_data = order;
-    let status = goblin_number(FILE, &header, offset, width, &mut value, &mut why);
+    let (status, value, why) = told!(goblin_number(FILE, &header, offset, width), 9);
     if status > 1 {
         return (status, why.first);
     }

@@ -1,9 +1,9 @@
 //! The header, the section headers and the program headers, as the library gives them.
-ghost use Rattle.std.specs.Prelude.{◌≡◌, ◌+◌, ◌<◌, ◌==◌, ◌^◌, IfSome, drop, position};
-ghost use Rattle.std.specs.Option.{option_map};
+ghost use Rattle.std.specs.Prelude.{◌≡◌, ◌+◌, ◌<◌, ◌==◌, ◌^◌, IfSome, drop, map, position};
 ghost use Rattle.goblin.specs.Refusal.{Answers};
-ghost use Rattle.goblin_c.specs.Answers.{ctx_of, header_right, header_told, section_by_type_right, section_count_right, section_right, section_names_right, section_told, sections_right, segment_count_right, segment_right, segment_told, segments_right, table_at, table_right};
+ghost use Rattle.goblin_c.specs.Answers.{ctx_of, header_right, header_told, section_by_type_right, section_names_right, section_told, sections_right, segment_told, segments_right, table_at, table_right};
 
+use crate::lists::Listed;
 use crate::types::{GoblinHeader, GoblinRange, GoblinSection, GoblinSegment};
 use goblin::container::{Container, Ctx, Endian};
 use goblin::elf::header::{
@@ -57,8 +57,7 @@ fn told_header(h: &Header) -> GoblinHeader
     }
 }
 
-/// What C is told of a section header.
-pub fn told_section(s: &SectionHeader) -> GoblinSection
+fn told_section(s: &SectionHeader) -> GoblinSection
     ensures { result ≡ section_told s.now }
 {
     GoblinSection {
@@ -117,20 +116,17 @@ pub fn sections_of<'a>(
     )
 }
 
-/// How many section headers there are.
-pub fn section_count(bytes: &[u8], header: &GoblinHeader) -> Result<Option<u64>>
-    ensures { Answers (λ found. found) result (section_count_right bytes.now header.now) }
-{
-    Ok(Some(sections_of(bytes, header)?.len() as u64))
-}
+impl Listed for Table<'_, SectionHeader, Ctx> {
+    type Told = GoblinSection;
 
-/// The section header at an index.
-pub fn section_at(bytes: &[u8], header: &GoblinHeader, index: u64) -> Result<Option<GoblinSection>>
-    ensures { Answers (λ found. found) result (section_right bytes.now header.now index) }
-{
-    match sections_of(bytes, header)?.get(index as usize) {
-        Some(section) => Ok(Some(told_section(&section))),
-        None => Ok(None),
+    ghost listed = { λ sections. map section_told sections };
+
+    fn count(&self) -> usize {
+        self.len()
+    }
+
+    fn told(&self, index: usize) -> Option<GoblinSection> {
+        Some(told_section(&self.get(index)?))
     }
 }
 
@@ -166,13 +162,13 @@ pub fn section_by_type(
 
 // What C is told of the section that is a table by its index.
 fn told_table(sections: &Table<'_, SectionHeader, Ctx>, index: usize) -> Option<GoblinSection>
-    ensures { result ≡ option_map section_told (table_at sections.now index) }
+    ensures { result ≡ table_at (map section_told sections.now) index }
 {
     if index == 0 {
         return None;
     }
-    match sections.get(index) {
-        Some(section) if section.sh_type != SHT_NOBITS => Some(told_section(&section)),
+    match sections.told(index) {
+        Some(section) if section.sh_type != SHT_NOBITS => Some(section),
         _ => None,
     }
 }
@@ -198,8 +194,11 @@ pub fn section_names(bytes: &[u8], header: &GoblinHeader) -> Result<Option<Gobli
     Ok(told_table(&sections, index))
 }
 
-// The program headers.
-fn segments_of<'a>(bytes: &'a [u8], header: &GoblinHeader) -> Result<Table<'a, ProgramHeader, Ctx>>
+/// The program headers.
+pub fn segments_of<'a>(
+    bytes: &'a [u8],
+    header: &GoblinHeader,
+) -> Result<Table<'a, ProgramHeader, Ctx>>
     ensures { Answers (λ table. table) result (segments_right bytes.now header.now) }
 {
     ProgramHeader::table(
@@ -210,19 +209,16 @@ fn segments_of<'a>(bytes: &'a [u8], header: &GoblinHeader) -> Result<Table<'a, P
     )
 }
 
-/// The program header at an index.
-pub fn segment_at(bytes: &[u8], header: &GoblinHeader, index: u64) -> Result<Option<GoblinSegment>>
-    ensures { Answers (λ found. found) result (segment_right bytes.now header.now index) }
-{
-    match segments_of(bytes, header)?.get(index as usize) {
-        Some(segment) => Ok(Some(told_segment(&segment))),
-        None => Ok(None),
-    }
-}
+impl Listed for Table<'_, ProgramHeader, Ctx> {
+    type Told = GoblinSegment;
 
-/// How many program headers there are.
-pub fn segment_count(bytes: &[u8], header: &GoblinHeader) -> Result<Option<u64>>
-    ensures { Answers (λ found. found) result (segment_count_right bytes.now header.now) }
-{
-    Ok(Some(segments_of(bytes, header)?.len() as u64))
+    ghost listed = { λ segments. map segment_told segments };
+
+    fn count(&self) -> usize {
+        self.len()
+    }
+
+    fn told(&self, index: usize) -> Option<GoblinSegment> {
+        Some(told_segment(&self.get(index)?))
+    }
 }

@@ -1,6 +1,6 @@
 //! One of each struct that crosses, with numbers from which C can tell each field.
 ghost use Rattle.std.specs.Prelude.{◌≡◌, ◌<◌, ◌^◌};
-ghost use Rattle.goblin_c.specs.Layout.{each_byte, layout, header_marked, note_marked, range_marked, refusal_marked, reloc_marked, section_marked, segment_marked, symbol_marked};
+ghost use Rattle.goblin_c.specs.Layout.{each_byte, layout, range_marked};
 
 use crate::types::{
     GoblinHeader, GoblinNote, GoblinRange, GoblinRefusal, GoblinReloc, GoblinSection,
@@ -60,7 +60,7 @@ fn marked_range(mark: u8) -> GoblinRange
 }
 
 fn marked_refusal() -> GoblinRefusal
-    ensures { result ≡ refusal_marked }
+    ensures { result ≡ layout.refusal }
 {
     GoblinRefusal {
         kind: word(1),
@@ -73,7 +73,7 @@ fn marked_refusal() -> GoblinRefusal
 }
 
 fn marked_header() -> GoblinHeader
-    ensures { result ≡ header_marked }
+    ensures { result ≡ layout.header }
 {
     GoblinHeader {
         e_entry: wide(1),
@@ -98,7 +98,7 @@ fn marked_header() -> GoblinHeader
 }
 
 fn marked_section() -> GoblinSection
-    ensures { result ≡ section_marked }
+    ensures { result ≡ layout.section }
 {
     GoblinSection {
         file: marked_range(1),
@@ -114,7 +114,7 @@ fn marked_section() -> GoblinSection
 }
 
 fn marked_segment() -> GoblinSegment
-    ensures { result ≡ segment_marked }
+    ensures { result ≡ layout.segment }
 {
     GoblinSegment {
         file: marked_range(1),
@@ -128,7 +128,7 @@ fn marked_segment() -> GoblinSegment
 }
 
 fn marked_symbol() -> GoblinSymbol
-    ensures { result ≡ symbol_marked }
+    ensures { result ≡ layout.symbol }
 {
     GoblinSymbol {
         st_name: wide(1),
@@ -141,7 +141,7 @@ fn marked_symbol() -> GoblinSymbol
 }
 
 fn marked_reloc() -> GoblinReloc
-    ensures { result ≡ reloc_marked }
+    ensures { result ≡ layout.reloc }
 {
     GoblinReloc {
         r_offset: wide(1),
@@ -153,7 +153,7 @@ fn marked_reloc() -> GoblinReloc
 }
 
 fn marked_note() -> GoblinNote
-    ensures { result ≡ note_marked }
+    ensures { result ≡ layout.note }
 {
     GoblinNote {
         name: marked_range(1),

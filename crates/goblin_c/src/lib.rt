@@ -20,11 +20,11 @@ ghost use Rattle.goblin.specs.SymParts.{bind_name, type_name, visibility_name};
 mod bytes;
 #[cfg(test)]
 mod bytes_tests;
-mod fill;
 mod headers;
 mod kinds;
 mod laws;
 mod layout;
+mod lists;
 mod names;
 mod notes;
 mod status;
@@ -35,22 +35,18 @@ mod texts;
 pub mod types;
 
 use bytes::{number, section_bytes, segment_bytes, string_bytes};
-use fill::{fill_relocs, fill_sections, fill_symbols};
 use goblin::elf::header::{class_to_str, et_to_str, machine_to_str};
 use goblin::elf::program_header::pt_to_str;
 use goblin::elf::section_header::{shf_to_str, sht_to_str};
 use goblin::elf::sym::{bind_to_str, type_to_str, visibility_to_str};
-use headers::{
-    header_at, section_at, section_by_type, section_count, section_names, sections_of, segment_at,
-    segment_count, table_section,
-};
+use headers::{header_at, section_by_type, section_names, sections_of, segments_of, table_section};
 use layout::{GoblinLayout, marked_layout};
+use lists::{count_of, item_of, tell_from};
 use names::{note_type, write_text};
 use notes::note_from;
-use status::{refusal, tell};
+use status::tell;
 use tables::{
-    reloc_at, reloc_count, relocs_of, section_by_name, string_at, symbol_at, symbol_by_address,
-    symbol_by_name, symbol_count, symbols_of,
+    relocs_of, section_by_name, string_at, symbol_by_address, symbol_by_name, symbols_of,
 };
 use texts::write_refusal;
 use types::{
@@ -100,7 +96,7 @@ pub extern "C" fn goblin_section_count(
     ensures { Tells (section_count_right bytes.now header.now)
         count.old why.old result count.new why.new }
 {
-    tell(section_count(bytes, header), count, why)
+    tell(count_of(sections_of(bytes, header)), count, why)
 }
 
 /// The section header at an index.
@@ -115,7 +111,7 @@ pub extern "C" fn goblin_section(
     ensures { Tells (section_right bytes.now header.now index)
         section.old why.old result section.new why.new }
 {
-    tell(section_at(bytes, header, index), section, why)
+    tell(item_of(sections_of(bytes, header), index), section, why)
 }
 
 /// The program header at an index.
@@ -130,7 +126,7 @@ pub extern "C" fn goblin_segment(
     ensures { Tells (segment_right bytes.now header.now index)
         segment.old why.old result segment.new why.new }
 {
-    tell(segment_at(bytes, header, index), segment, why)
+    tell(item_of(segments_of(bytes, header), index), segment, why)
 }
 
 /// The symbol at an index of the table that lies in a range.
@@ -146,7 +142,8 @@ pub extern "C" fn goblin_symbol(
     ensures { Tells (symbol_right bytes.now header.now table.now index)
         symbol.old why.old result symbol.new why.new }
 {
-    tell(symbol_at(bytes, header, table, index), symbol, why)
+    let found = item_of(symbols_of(bytes, header, table), index);
+    tell(found, symbol, why)
 }
 
 /// The relocation at an index of those that lie in a range, with addends or without.
@@ -163,7 +160,8 @@ pub extern "C" fn goblin_reloc(
     ensures { Tells (reloc_right bytes.now header.now relocs.now is_rela index)
         reloc.old why.old result reloc.new why.new }
 {
-    tell(reloc_at(bytes, header, relocs, is_rela, index), reloc, why)
+    let found = item_of(relocs_of(bytes, header, relocs, is_rela), index);
+    tell(found, reloc, why)
 }
 
 /// Where the string at an offset of a range of strings lies in the file.
@@ -196,11 +194,8 @@ pub extern "C" fn goblin_note(
     ensures { Tells (note_right bytes.now header.now notes.now alignment offset)
         note.old why.old result note.new why.new }
 {
-    tell(
-        note_from(bytes, header, notes, alignment, offset),
-        note,
-        why,
-    )
+    let found = note_from(bytes, header, notes, alignment, offset);
+    tell(found, note, why)
 }
 
 /// The name of a class.
@@ -315,19 +310,7 @@ pub extern "C" fn goblin_sections(
     ensures { Fills (sections_from_right bytes.now header.now first)
         sections.old filled.old why.old result sections.new filled.new why.new }
 {
-    match sections_of(bytes, header) {
-        Ok(all) => {
-            if first >= all.len() as u64 {
-                return kinds::END;
-            }
-            *filled = fill_sections(&all, first as usize, sections) as u64;
-            kinds::OK
-        }
-        Err(e) => {
-            *why = refusal(&e);
-            why.kind
-        }
-    }
+    tell_from(sections_of(bytes, header), first, sections, filled, why)
 }
 
 /// The symbols from an index on, as many as there is room for.
@@ -344,19 +327,8 @@ pub extern "C" fn goblin_symbols(
     ensures { Fills (symbols_from_right bytes.now header.now table.now first)
         symbols.old filled.old why.old result symbols.new filled.new why.new }
 {
-    match symbols_of(bytes, header, table) {
-        Ok(all) => {
-            if first >= all.len() as u64 {
-                return kinds::END;
-            }
-            *filled = fill_symbols(&all, first as usize, symbols) as u64;
-            kinds::OK
-        }
-        Err(e) => {
-            *why = refusal(&e);
-            why.kind
-        }
-    }
+    let list = symbols_of(bytes, header, table);
+    tell_from(list, first, symbols, filled, why)
 }
 
 /// The relocations from an index on, as many as there is room for.
@@ -374,19 +346,8 @@ pub extern "C" fn goblin_relocs(
     ensures { Fills (relocs_from_right bytes.now header.now relocs.now is_rela first)
         items.old filled.old why.old result items.new filled.new why.new }
 {
-    match relocs_of(bytes, header, relocs, is_rela) {
-        Ok(all) => {
-            if first >= all.len() as u64 {
-                return kinds::END;
-            }
-            *filled = fill_relocs(&all, first as usize, items) as u64;
-            kinds::OK
-        }
-        Err(e) => {
-            *why = refusal(&e);
-            why.kind
-        }
-    }
+    let list = relocs_of(bytes, header, relocs, is_rela);
+    tell_from(list, first, items, filled, why)
 }
 
 /// The section at an index, where it is a table that something names by this index: not at index 0, and
@@ -449,11 +410,8 @@ pub extern "C" fn goblin_symbol_by_name(
     ensures { Tells (symbol_by_name_right bytes.now header.now table.now names.now name.now)
         index.old why.old result index.new why.new }
 {
-    tell(
-        symbol_by_name(bytes, header, table, names, name),
-        index,
-        why,
-    )
+    let found = symbol_by_name(bytes, header, table, names, name);
+    tell(found, index, why)
 }
 
 /// How many program headers there are.
@@ -467,7 +425,7 @@ pub extern "C" fn goblin_segment_count(
     ensures { Tells (segment_count_right bytes.now header.now)
         count.old why.old result count.new why.new }
 {
-    tell(segment_count(bytes, header), count, why)
+    tell(count_of(segments_of(bytes, header)), count, why)
 }
 
 /// How many symbols there are in a range, as many as lie in it whole.
@@ -482,7 +440,7 @@ pub extern "C" fn goblin_symbol_count(
     ensures { Tells (symbol_count_right bytes.now header.now table.now)
         count.old why.old result count.new why.new }
 {
-    tell(symbol_count(bytes, header, table), count, why)
+    tell(count_of(symbols_of(bytes, header, table)), count, why)
 }
 
 /// How many relocations there are in a range, with addends or without.
@@ -498,7 +456,8 @@ pub extern "C" fn goblin_reloc_count(
     ensures { Tells (reloc_count_right bytes.now header.now relocs.now is_rela)
         count.old why.old result count.new why.new }
 {
-    tell(reloc_count(bytes, header, relocs, is_rela), count, why)
+    let found = count_of(relocs_of(bytes, header, relocs, is_rela));
+    tell(found, count, why)
 }
 
 /// The index of the first section of a type, from an index on.

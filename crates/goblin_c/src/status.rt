@@ -1,7 +1,8 @@
 //! What calls answer, and what they tell of a refusal.
 ghost use Rattle.std.specs.Prelude.{◌≡◌};
 ghost use Rattle.goblin.specs.Refusal.{refusal_of};
-ghost use Rattle.goblin_c.specs.Status.{fault_told, item_number, number_of_bool, refusal_told, with_item, with_numbers, TellsOf};
+ghost use Rattle.goblin.specs.Steps.{refuse_as};
+ghost use Rattle.goblin_c.specs.Status.{fault_told, item_number, number_of_bool, refusal_told, with_item, with_numbers, Tells};
 
 use crate::kinds::{
     BAD_INPUT, BAD_MAGIC, BAD_OFFSET, BUFFER_TOO_SHORT, DATA, DATA_TYPE, ELF_CLASS, END,
@@ -118,8 +119,8 @@ fn number_of(b: bool) -> u64
     if b { 1 } else { 0 }
 }
 
-/// What is told of an error.
-pub fn refusal(e: &Error) -> GoblinRefusal
+// What is told of an error.
+fn refusal(e: &Error) -> GoblinRefusal
     ensures { result ≡ refusal_told (refusal_of e.now) }
 {
     match e {
@@ -137,9 +138,18 @@ pub fn refusal(e: &Error) -> GoblinRefusal
     }
 }
 
+/// Tells a refusal, and answers its kind.
+pub fn refuse(e: &Error, why: &mut GoblinRefusal) -> u32
+    ensures told { why.new ≡ refusal_told (refusal_of e.now) }
+    ensures kind { result ≡ (refusal_told (refusal_of e.now)).kind }
+{
+    *why = refusal(e);
+    why.kind
+}
+
 /// Tells an answer: 0 and the item, 1, or the kind of a refusal, which is told.
 pub fn tell<T: Copy>(answer: Result<Option<T>>, place: &mut T, why: &mut GoblinRefusal) -> u32
-    ensures { TellsOf answer place.old why.old result place.new why.new }
+    ensures { Tells (refuse_as refusal_of answer) place.old why.old result place.new why.new }
 {
     match answer {
         Ok(Some(item)) => {
@@ -147,9 +157,6 @@ pub fn tell<T: Copy>(answer: Result<Option<T>>, place: &mut T, why: &mut GoblinR
             OK
         }
         Ok(None) => END,
-        Err(e) => {
-            *why = refusal(&e);
-            why.kind
-        }
+        Err(e) => refuse(&e, why),
     }
 }

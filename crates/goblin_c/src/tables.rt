@@ -1,9 +1,10 @@
 //! Symbols, relocations and strings, as the library gives them.
-ghost use Rattle.std.specs.Prelude.{◌≡◌, ◌+◌, ◌≤◌, IfOk, length, position};
+ghost use Rattle.std.specs.Prelude.{◌≡◌, ◌+◌, ◌≤◌, IfOk, length, map, position};
 ghost use Rattle.goblin.specs.Refusal.{Answers};
-ghost use Rattle.goblin_c.specs.Answers.{reloc_count_right, reloc_right, reloc_told, relocs_right, section_by_name_right, string_right, strings_right, symbol_by_address_right, symbol_by_name_right, symbol_count_right, symbol_right, is_named, symbol_told, symbols_right};
+ghost use Rattle.goblin_c.specs.Answers.{reloc_told, relocs_right, section_by_name_right, string_right, strings_right, symbol_by_address_right, symbol_by_name_right, is_named, symbol_told, symbols_right};
 
 use crate::headers::{ctx_of, sections_of};
+use crate::lists::Listed;
 use crate::types::{GoblinHeader, GoblinRange, GoblinReloc, GoblinSymbol};
 use goblin::elf::reloc::{Reloc, RelocSection, is_mips64el_in};
 use goblin::elf::section_header::SectionHeader;
@@ -13,8 +14,7 @@ use goblin::options::ParseMode;
 use goblin::strtab;
 use goblin::strtab::bytes_in_range;
 
-/// What C is told of a symbol.
-pub fn told_symbol(s: &Sym) -> GoblinSymbol
+fn told_symbol(s: &Sym) -> GoblinSymbol
     ensures { result ≡ symbol_told s.now }
 {
     GoblinSymbol {
@@ -27,8 +27,7 @@ pub fn told_symbol(s: &Sym) -> GoblinSymbol
     }
 }
 
-/// What C is told of a relocation.
-pub fn told_reloc(r: &Reloc) -> GoblinReloc
+fn told_reloc(r: &Reloc) -> GoblinReloc
     ensures { result ≡ reloc_told r.now }
 {
     GoblinReloc {
@@ -54,26 +53,18 @@ pub fn symbols_of<'a>(
     Symtab::parse(bytes, range.offset as usize, count, ctx)
 }
 
-/// The symbol at an index of the table that lies in a range.
-pub fn symbol_at(
-    bytes: &[u8],
-    header: &GoblinHeader,
-    range: &GoblinRange,
-    index: u64,
-) -> Result<Option<GoblinSymbol>>
-    ensures { Answers (λ found. found) result (symbol_right bytes.now header.now range.now index) }
-{
-    match symbols_of(bytes, header, range)?.get(index as usize) {
-        Some(symbol) => Ok(Some(told_symbol(&symbol))),
-        None => Ok(None),
-    }
-}
+impl Listed for Symtab<'_> {
+    type Told = GoblinSymbol;
 
-/// How many symbols there are.
-pub fn symbol_count(bytes: &[u8], header: &GoblinHeader, range: &GoblinRange) -> Result<Option<u64>>
-    ensures { Answers (λ found. found) result (symbol_count_right bytes.now header.now range.now) }
-{
-    Ok(Some(symbols_of(bytes, header, range)?.len() as u64))
+    ghost listed = { λ table. map symbol_told table.symbols };
+
+    fn count(&self) -> usize {
+        self.len()
+    }
+
+    fn told(&self, index: usize) -> Option<GoblinSymbol> {
+        Some(told_symbol(&self.get(index)?))
+    }
 }
 
 /// The relocations of a range.
@@ -97,34 +88,18 @@ pub fn relocs_of<'a>(
     )
 }
 
-/// The relocation at an index of those that lie in a range.
-pub fn reloc_at(
-    bytes: &[u8],
-    header: &GoblinHeader,
-    range: &GoblinRange,
-    is_rela: bool,
-    index: u64,
-) -> Result<Option<GoblinReloc>>
-    ensures { Answers (λ found. found) result
-        (reloc_right bytes.now header.now range.now is_rela index) }
-{
-    match relocs_of(bytes, header, range, is_rela)?.get(index as usize) {
-        Some(reloc) => Ok(Some(told_reloc(&reloc))),
-        None => Ok(None),
-    }
-}
+impl Listed for RelocSection<'_> {
+    type Told = GoblinReloc;
 
-/// How many relocations there are.
-pub fn reloc_count(
-    bytes: &[u8],
-    header: &GoblinHeader,
-    range: &GoblinRange,
-    is_rela: bool,
-) -> Result<Option<u64>>
-    ensures { Answers (λ found. found) result
-        (reloc_count_right bytes.now header.now range.now is_rela) }
-{
-    Ok(Some(relocs_of(bytes, header, range, is_rela)?.len() as u64))
+    ghost listed = { λ relocs. map reloc_told relocs };
+
+    fn count(&self) -> usize {
+        self.len()
+    }
+
+    fn told(&self, index: usize) -> Option<GoblinReloc> {
+        Some(told_reloc(&self.get(index)?))
+    }
 }
 
 /// The strings of a range.

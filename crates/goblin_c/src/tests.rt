@@ -1,9 +1,7 @@
 //! Each export on a small file of the 32-bit class in little order: its header, the strings "" and "f",
 //! two symbols, and three section headers, for nothing, for the strings and for the symbols.
 use crate::layout::marked_layout;
-use crate::types::{
-    GoblinHeader, GoblinNote, GoblinRange, GoblinRefusal, GoblinReloc, GoblinSymbol,
-};
+use crate::types::{GoblinHeader, GoblinNote, GoblinRange, GoblinRefusal, GoblinReloc};
 use crate::*;
 
 static FILE: &[u8; 208] = b"\x7fELF\x01\x01\x01\0\0\0\0\0\0\0\0\0\
@@ -25,12 +23,24 @@ const SYMBOLS: GoblinRange = GoblinRange {
     size: 32,
 };
 
+pub fn range(offset: u64, size: u64) -> GoblinRange {
+    GoblinRange { offset, size }
+}
+
+// What a call answers, what it leaves in place of this mark, and what it leaves of a refusal.
+macro_rules! told {
+    ($call:ident($($given:expr),*), $mark:expr) => {{
+        let (mut told, mut why) = ($mark, marked_layout().refusal);
+        let status = $call($($given,)* &mut told, &mut why);
+        (status, told, why)
+    }};
+}
+
+pub(crate) use told;
+
 // The file's header, or one of marks where it is refused.
 fn header() -> GoblinHeader {
-    let mut told = marked_layout().header;
-    let mut why = marked_layout().refusal;
-    let _status = goblin_header(FILE, &mut told, &mut why);
-    told
+    told!(goblin_header(FILE), marked_layout().header).1
 }
 
 #[test]
@@ -44,9 +54,7 @@ fn reads_the_header(rt: HostRuntime) {
 
 // Whether a header is refused, by this kind with these numbers.
 fn refuses(bytes: &[u8], kind: u32, first: u64, second: u64) -> bool {
-    let mut told = marked_layout().header;
-    let mut why = marked_layout().refusal;
-    let status = goblin_header(bytes, &mut told, &mut why);
+    let (status, _, why) = told!(goblin_header(bytes), marked_layout().header);
     status == kind && why.kind == kind && why.first == first && why.second == second
 }
 
@@ -59,9 +67,8 @@ fn refuses_headers(rt: HostRuntime) {
 
 // What the section header at an index is: its answer, type, place and link.
 fn section(index: u64) -> (u32, u32, u64, u32) {
-    let mut told = marked_layout().section;
-    let mut why = marked_layout().refusal;
-    let status = goblin_section(FILE, &header(), index, &mut told, &mut why);
+    let mark = marked_layout().section;
+    let (status, told, _) = told!(goblin_section(FILE, &header(), index), mark);
     (status, told.sh_type, told.file.offset, told.sh_link)
 }
 
@@ -73,17 +80,13 @@ fn reads_sections(rt: HostRuntime) {
 }
 
 fn count() -> (u32, u64) {
-    let mut told = 9;
-    let mut why = marked_layout().refusal;
-    let status = goblin_section_count(FILE, &header(), &mut told, &mut why);
+    let (status, told, _) = told!(goblin_section_count(FILE, &header()), 9);
     (status, told)
 }
 
 fn fills_sections() -> bool {
     let mut told = [marked_layout().section; 4];
-    let mut filled = 9;
-    let mut why = marked_layout().refusal;
-    let status = goblin_sections(FILE, &header(), 1, &mut told, &mut filled, &mut why);
+    let (status, filled, _) = told!(goblin_sections(FILE, &header(), 1, &mut told), 9);
     status == 0 && filled == 2 && told[0].sh_type == 3 && told[1].sh_type == 2
 }
 
@@ -95,12 +98,10 @@ fn counts_and_fills_sections(rt: HostRuntime) {
 
 // A program header read from the strings on.
 fn segment_type(index: u64) -> (u32, u32) {
-    let mut told = marked_layout().segment;
-    let mut why = marked_layout().refusal;
     let mut header = header();
-    header.e_phoff = 52;
-    header.e_phnum = 1;
-    let status = goblin_segment(FILE, &header, index, &mut told, &mut why);
+    (header.e_phoff, header.e_phnum) = (52, 1);
+    let mark = marked_layout().segment;
+    let (status, told, _) = told!(goblin_segment(FILE, &header, index), mark);
     (status, told.p_type)
 }
 
@@ -112,25 +113,14 @@ fn reads_segments(rt: HostRuntime) {
 
 // What the symbol at an index is: the answer, its value and its binding and type.
 fn symbol(index: u64) -> (u32, u64, u8) {
-    let mut told = marked_layout().symbol;
-    let mut why = marked_layout().refusal;
-    let status = goblin_symbol(FILE, &header(), &SYMBOLS, index, &mut told, &mut why);
+    let mark = marked_layout().symbol;
+    let (status, told, _) = told!(goblin_symbol(FILE, &header(), &SYMBOLS, index), mark);
     (status, told.st_value, told.st_info)
 }
 
 fn fills_symbols() -> bool {
-    let mut told: [GoblinSymbol; 3] = [marked_layout().symbol; 3];
-    let mut filled = 9;
-    let mut why = marked_layout().refusal;
-    let status = goblin_symbols(
-        FILE,
-        &header(),
-        &SYMBOLS,
-        1,
-        &mut told,
-        &mut filled,
-        &mut why,
-    );
+    let mut told = [marked_layout().symbol; 3];
+    let (status, filled, _) = told!(goblin_symbols(FILE, &header(), &SYMBOLS, 1, &mut told), 9);
     status == 0 && filled == 1 && told[0].st_value == 0x1000
 }
 
@@ -143,24 +133,15 @@ fn reads_symbols(rt: HostRuntime) {
 
 // Where a name is found: the answer and the index.
 fn finds_symbol(name: &[u8]) -> (u32, u64) {
-    let mut index = 9;
-    let mut why = marked_layout().refusal;
-    let status = goblin_symbol_by_name(
-        FILE,
-        &header(),
-        &SYMBOLS,
-        &STRINGS,
-        name,
-        &mut index,
-        &mut why,
+    let (status, index, _) = told!(
+        goblin_symbol_by_name(FILE, &header(), &SYMBOLS, &STRINGS, name),
+        9
     );
     (status, index)
 }
 
 fn finds_section(name: &[u8]) -> (u32, u64) {
-    let mut index = 9;
-    let mut why = marked_layout().refusal;
-    let status = goblin_section_by_name(FILE, &header(), &STRINGS, name, &mut index, &mut why);
+    let (status, index, _) = told!(goblin_section_by_name(FILE, &header(), &STRINGS, name), 9);
     (status, index)
 }
 
@@ -184,25 +165,29 @@ fn changed(place: usize, byte: u8) -> [u8; 208] {
 
 // What the table at an index is: its answer and its type, which is a mark where there is none.
 fn table(bytes: &[u8], index: u64) -> (u32, u32) {
-    let mut told = marked_layout().section;
-    let mut why = marked_layout().refusal;
-    let status = goblin_table(bytes, &header(), index, &mut told, &mut why);
+    let mark = marked_layout().section;
+    let (status, told, _) = told!(goblin_table(bytes, &header(), index), mark);
     (status, told.sh_type)
 }
 
-// The same of the section that holds names, by the index in the header.
-fn names(bytes: &[u8], index: u16) -> (u32, u32) {
-    let mut told = marked_layout().section;
-    let mut why = marked_layout().refusal;
+// The same of the section that holds names, by the number of sections and the index in the header.
+fn names_of(bytes: &[u8], count: u16, index: u16) -> (u32, u32) {
     let mut header = header();
-    header.e_shstrndx = index;
-    let status = goblin_section_names(bytes, &header, &mut told, &mut why);
+    (header.e_shnum, header.e_shstrndx) = (count, index);
+    let mark = marked_layout().section;
+    let (status, told, _) = told!(goblin_section_names(bytes, &header), mark);
     (status, told.sh_type)
+}
+
+fn names(bytes: &[u8], index: u16) -> (u32, u32) {
+    names_of(bytes, 3, index)
 }
 
 const NONE: (u32, u32) = (1, 0x0808_0808);
 
 const WITHOUT_BYTES: usize = 88 + 40 + 4;
+
+const FIRST_SIZE: usize = 88 + 20;
 
 const FIRST_LINK: usize = 88 + 24;
 
@@ -225,29 +210,17 @@ fn takes_no_section_for_names(rt: HostRuntime) {
     assert!(rt; names(&changed(FIRST_LINK, 3), 0xffff) == NONE);
 }
 
-// The same where the header tells no number of sections, and the first one's size does.
-fn names_of_many(index: u16) -> (u32, u32) {
-    let mut told = marked_layout().section;
-    let mut why = marked_layout().refusal;
-    let mut header = header();
-    header.e_shnum = 0;
-    header.e_shstrndx = index;
-    let file = changed(88 + 20, 3);
-    let status = goblin_section_names(&file, &header, &mut told, &mut why);
-    (status, told.sh_type)
-}
-
+// The header tells no number of sections, and the first one's size does.
 #[test]
 fn takes_the_size_of_the_first_for_no_names(rt: HostRuntime) {
-    assert!(rt; names_of_many(0) == NONE);
-    assert!(rt; names_of_many(1) == (0, 3));
+    let file = changed(FIRST_SIZE, 3);
+    assert!(rt; names_of(&file, 0, 0) == NONE);
+    assert!(rt; names_of(&file, 0, 1) == (0, 3));
 }
 
 // Where a string lies: the answer, its offset and its size.
 fn string(offset: u64) -> (u32, u64, u64) {
-    let mut told = GoblinRange { offset: 9, size: 9 };
-    let mut why = marked_layout().refusal;
-    let status = goblin_string(FILE, &STRINGS, offset, &mut told, &mut why);
+    let (status, told, _) = told!(goblin_string(FILE, &STRINGS, offset), range(9, 9));
     (status, told.offset, told.size)
 }
 
@@ -266,15 +239,7 @@ static LONG: &[u8; 71] = b"abcdefghijklmnopq\0\
 
 // The answer for a string of these, with its size or the refusal's first number.
 fn long_string(offset: u64) -> (u32, u64) {
-    let (mut told, all) = (
-        STRINGS,
-        GoblinRange {
-            offset: 0,
-            size: 71,
-        },
-    );
-    let mut why = marked_layout().refusal;
-    let status = goblin_string(LONG, &all, offset, &mut told, &mut why);
+    let (status, told, why) = told!(goblin_string(LONG, &range(0, 71), offset), STRINGS);
     if status > 1 {
         return (status, why.first);
     }
@@ -296,35 +261,21 @@ fn places_long_strings(rt: HostRuntime) {
 
 static RELOC: &[u8; 12] = b"\x10\0\0\0\x01\x02\0\0\xfc\xff\xff\xff";
 
-const ALL: GoblinRange = GoblinRange {
-    offset: 0,
-    size: 12,
-};
-
 fn is_reloc(told: &GoblinReloc) -> bool {
     told.r_offset == 16 && told.r_sym == 2 && told.r_type == 1 && told.r_addend == -4
 }
 
 fn reads_reloc() -> bool {
-    let mut told = marked_layout().reloc;
-    let mut why = marked_layout().refusal;
-    let status = goblin_reloc(RELOC, &header(), &ALL, true, 0, &mut told, &mut why);
+    let mark = marked_layout().reloc;
+    let (status, told, _) = told!(goblin_reloc(RELOC, &header(), &range(0, 12), true, 0), mark);
     status == 0 && is_reloc(&told) && told.has_addend == 1
 }
 
 fn fills_reloc() -> bool {
     let mut told = [marked_layout().reloc; 2];
-    let mut filled = 9;
-    let mut why = marked_layout().refusal;
-    let status = goblin_relocs(
-        RELOC,
-        &header(),
-        &ALL,
-        true,
-        0,
-        &mut told,
-        &mut filled,
-        &mut why,
+    let (status, filled, _) = told!(
+        goblin_relocs(RELOC, &header(), &range(0, 12), true, 0, &mut told),
+        9
     );
     status == 0 && filled == 1 && is_reloc(&told[0])
 }
@@ -339,17 +290,10 @@ static PAIR: &[u8; 16] = b"\x10\0\0\0\0\0\0\0\x02\0\0\0\0\0\0\x01";
 
 // Symbol and type of a relocation of 64 bits, by a header that a caller filled.
 fn reads_pair(machine: u16, class: u8, order: u8) -> (u32, u64, u32) {
-    let mut told = marked_layout().reloc;
-    let mut why = marked_layout().refusal;
     let mut header = marked_layout().header;
-    header.e_machine = machine;
-    header.ei_class = class;
-    header.ei_data = order;
-    let range = GoblinRange {
-        offset: 0,
-        size: 16,
-    };
-    let status = goblin_reloc(PAIR, &header, &range, false, 0, &mut told, &mut why);
+    (header.e_machine, header.ei_class, header.ei_data) = (machine, class, order);
+    let mark = marked_layout().reloc;
+    let (status, told, _) = told!(goblin_reloc(PAIR, &header, &range(0, 16), false, 0), mark);
     (status, told.r_sym, told.r_type)
 }
 
@@ -371,9 +315,7 @@ static EACH: &[u8; 56] = b"\x7fELF\x01\x02\x03\x04\x05\0\0\0\0\0\0\0\
 
 // That header, by which a section and a segment lie behind the first 16 bytes.
 fn each_header() -> GoblinHeader {
-    let (mut told, mut why) = (marked_layout().header, marked_layout().refusal);
-    let _status = goblin_header(EACH, &mut told, &mut why);
-    told
+    told!(goblin_header(EACH), marked_layout().header).1
 }
 
 fn each_in_place() -> GoblinHeader {
@@ -394,8 +336,8 @@ fn tells_header() -> bool {
 }
 
 fn tells_section() -> bool {
-    let (mut s, mut why) = (marked_layout().section, marked_layout().refusal);
-    let status = goblin_section(EACH, &each_in_place(), 0, &mut s, &mut why);
+    let mark = marked_layout().section;
+    let (status, s, _) = told!(goblin_section(EACH, &each_in_place(), 0), mark);
     let kind = s.sh_name == 0x0102_0304 && s.sh_type == 0x0506_0708 && s.sh_flags == 0x090a_0b0c;
     let place = s.sh_addr == 0x0d0e_0f10 && s.file.offset == 0x1112_1314;
     let links = s.file.size == 0x1516_1718 && s.sh_link == 0x191a_1b1c;
@@ -404,31 +346,29 @@ fn tells_section() -> bool {
 }
 
 fn tells_segment() -> bool {
-    let (mut s, mut why) = (marked_layout().segment, marked_layout().refusal);
-    let status = goblin_segment(EACH, &each_in_place(), 0, &mut s, &mut why);
+    let mark = marked_layout().segment;
+    let (status, s, _) = told!(goblin_segment(EACH, &each_in_place(), 0), mark);
     let place = s.p_type == 0x0102_0304 && s.file.offset == 0x0506_0708 && s.p_vaddr == 0x090a_0b0c;
     let size = s.p_paddr == 0x0d0e_0f10 && s.file.size == 0x1112_1314 && s.p_memsz == 0x1516_1718;
     status == 0 && place && size && s.p_flags == 0x191a_1b1c && s.p_align == 0x1d1e_1f20
 }
 
 fn tells_symbol() -> bool {
-    let (mut s, mut why) = (marked_layout().symbol, marked_layout().refusal);
-    let all = GoblinRange {
-        offset: 16,
-        size: 16,
-    };
-    let status = goblin_symbol(EACH, &each_in_place(), &all, 0, &mut s, &mut why);
+    let mark = marked_layout().symbol;
+    let (status, s, _) = told!(
+        goblin_symbol(EACH, &each_in_place(), &range(16, 16), 0),
+        mark
+    );
     let place = s.st_name == 0x0102_0304 && s.st_value == 0x0506_0708 && s.st_size == 0x090a_0b0c;
     status == 0 && place && s.st_info == 0x0d && s.st_other == 0x0e && s.st_shndx == 0x0f10
 }
 
 fn tells_reloc() -> bool {
-    let (mut r, mut why) = (marked_layout().reloc, marked_layout().refusal);
-    let all = GoblinRange {
-        offset: 16,
-        size: 12,
-    };
-    let status = goblin_reloc(EACH, &each_in_place(), &all, true, 0, &mut r, &mut why);
+    let mark = marked_layout().reloc;
+    let (status, r, _) = told!(
+        goblin_reloc(EACH, &each_in_place(), &range(16, 12), true, 0),
+        mark
+    );
     let place = r.r_offset == 0x0102_0304 && r.r_sym == 0x0005_0607 && r.r_type == 8;
     status == 0 && place && r.r_addend == 0x090a_0b0c && r.has_addend == 1
 }
@@ -446,13 +386,11 @@ static NOTE: &[u8; 20] = b"\x04\0\0\0\x04\0\0\0\x03\0\0\0GNU\0\xaa\xbb\xcc\xdd";
 
 // The answer for the note, and what is told of it.
 fn note_told(alignment: u64) -> (u32, GoblinNote) {
-    let mut told = marked_layout().note;
-    let mut why = marked_layout().refusal;
-    let range = GoblinRange {
-        offset: 0,
-        size: 20,
-    };
-    let status = goblin_note(NOTE, &header(), &range, alignment, 0, &mut told, &mut why);
+    let mark = marked_layout().note;
+    let (status, told, _) = told!(
+        goblin_note(NOTE, &header(), &range(0, 20), alignment, 0),
+        mark
+    );
     (status, told)
 }
 
@@ -579,9 +517,7 @@ fn writes_faults(rt: HostRuntime) {
 // What is written in room for four bytes, and the length that is told.
 fn cut_text() -> ([u8; 4], u64) {
     let mut room = [9; 4];
-    let mut told = header();
-    let mut why = marked_layout().refusal;
-    let _status = goblin_header(&FILE[..51], &mut told, &mut why);
+    let (_, _, why) = told!(goblin_header(&FILE[..51]), header());
     let len = goblin_refusal_text(&why, &mut room);
     (room, len)
 }
@@ -592,8 +528,8 @@ fn cuts_refusals(rt: HostRuntime) {
     assert!(rt; &room == b"type" && len == 27);
 }
 
-// The names of the fields of each struct, in the order in which goblin.h declares them, with their marks: numbers of one,
-// two, four or eight bytes, of which each is the field's place in the struct, from 1 on.
+// Each struct with its fields, in the order in which goblin.h declares them, with their marks: numbers of one, two, four
+// or eight bytes, of which each is the field's place in the struct, from 1 on.
 static FIELDS: &[&str] = &[
     "size_of_refusal:",
     "size_of_range:",
@@ -603,86 +539,37 @@ static FIELDS: &[&str] = &[
     "size_of_symbol:",
     "size_of_reloc:",
     "size_of_note:",
-    "refusal: GoblinRefusal",
-    "kind: 16843009",
-    "item: 33686018",
-    "first: 217020518514230019",
-    "second: 289360691352306692",
-    "third: 361700864190383365",
-    "fourth: 434041037028460038",
-    "range: GoblinRange",
-    "offset: 72340172838076673",
-    "size: 144680345676153346",
-    "header: GoblinHeader",
-    "e_entry: 72340172838076673",
-    "e_phoff: 144680345676153346",
-    "e_shoff: 217020518514230019",
-    "e_version: 67372036",
-    "e_flags: 84215045",
-    "e_type: 1542",
-    "e_machine: 1799",
-    "e_ehsize: 2056",
-    "e_phentsize: 2313",
-    "e_phnum: 2570",
-    "e_shentsize: 2827",
-    "e_shnum: 3084",
-    "e_shstrndx: 3341",
-    "ei_class: 14",
-    "ei_data: 15",
-    "ei_version: 16",
-    "ei_osabi: 17",
-    "ei_abiversion: 18",
-    "section: GoblinSection",
-    "file:",
-    "offset: 72340172838076673",
-    "size: 144680345676153346",
-    "sh_name: 217020518514230019",
-    "sh_flags: 289360691352306692",
-    "sh_addr: 361700864190383365",
-    "sh_addralign: 434041037028460038",
-    "sh_entsize: 506381209866536711",
-    "sh_type: 134744072",
-    "sh_link: 151587081",
-    "sh_info: 168430090",
-    "segment: GoblinSegment",
-    "file:",
-    "offset: 72340172838076673",
-    "size: 144680345676153346",
-    "p_vaddr: 217020518514230019",
-    "p_paddr: 289360691352306692",
-    "p_memsz: 361700864190383365",
-    "p_align: 434041037028460038",
-    "p_type: 117901063",
-    "p_flags: 134744072",
-    "symbol: GoblinSymbol",
-    "st_name: 72340172838076673",
-    "st_value: 144680345676153346",
-    "st_size: 217020518514230019",
-    "st_shndx: 289360691352306692",
-    "st_info: 5",
-    "st_other: 6",
-    "reloc: GoblinReloc",
-    "r_offset: 72340172838076673",
-    "r_sym: 144680345676153346",
-    "r_addend: 217020518514230019",
-    "r_type: 67372036",
-    "has_addend: 84215045",
-    "note: GoblinNote",
-    "name:",
-    "offset: 72340172838076673",
-    "size: 144680345676153346",
-    "desc:",
-    "offset: 217020518514230019",
-    "size: 289360691352306692",
-    "next: 361700864190383365",
-    "n_type: 101058054",
+    "refusal: GoblinRefusal { kind: 16843009, item: 33686018, first: 217020518514230019, \
+        second: 289360691352306692, third: 361700864190383365, fourth: 434041037028460038 }",
+    "range: GoblinRange { offset: 72340172838076673, size: 144680345676153346 }",
+    "header: GoblinHeader { e_entry: 72340172838076673, e_phoff: 144680345676153346, \
+        e_shoff: 217020518514230019, e_version: 67372036, e_flags: 84215045, e_type: 1542, \
+        e_machine: 1799, e_ehsize: 2056, e_phentsize: 2313, e_phnum: 2570, e_shentsize: 2827, \
+        e_shnum: 3084, e_shstrndx: 3341, ei_class: 14, ei_data: 15, ei_version: 16, \
+        ei_osabi: 17, ei_abiversion: 18 }",
+    "section: GoblinSection { file: GoblinRange { offset: 72340172838076673, \
+        size: 144680345676153346 }, sh_name: 217020518514230019, sh_flags: 289360691352306692, \
+        sh_addr: 361700864190383365, sh_addralign: 434041037028460038, \
+        sh_entsize: 506381209866536711, sh_type: 134744072, sh_link: 151587081, \
+        sh_info: 168430090 }",
+    "segment: GoblinSegment { file: GoblinRange { offset: 72340172838076673, \
+        size: 144680345676153346 }, p_vaddr: 217020518514230019, p_paddr: 289360691352306692, \
+        p_memsz: 361700864190383365, p_align: 434041037028460038, p_type: 117901063, \
+        p_flags: 134744072 }",
+    "symbol: GoblinSymbol { st_name: 72340172838076673, st_value: 144680345676153346, \
+        st_size: 217020518514230019, st_shndx: 289360691352306692, st_info: 5, st_other: 6 }",
+    "reloc: GoblinReloc { r_offset: 72340172838076673, r_sym: 144680345676153346, \
+        r_addend: 217020518514230019, r_type: 67372036, has_addend: 84215045 }",
+    "note: GoblinNote { name: GoblinRange { offset: 72340172838076673, size: \
+        144680345676153346 }, desc: GoblinRange { offset: 217020518514230019, size: \
+        289360691352306692 }, next: 361700864190383365, n_type: 101058054 }",
 ];
 
-// Whether a text has these names, each behind the one before.
-fn has_in_order(text: &str, names: &[&str]) -> bool {
+// Whether a text has these parts, each behind the one before.
+fn has_in_order(text: &str, parts: &[&str]) -> bool {
     let mut rest = text;
-    for name in names {
-        match rest.split_once(*name) {
+    for part in parts {
+        match rest.split_once(*part) {
             Some((_, behind)) => rest = behind,
             None => return false,
         }

@@ -1,4 +1,4 @@
-use Rattle.goblin_c.proofs.TypeSearch.{sections_by_type}
+use Rattle.goblin_c.proofs.SearchLemmas.{sections_by_type}
 use Rattle.goblin_c.proofs.laws.types.Goals as goal
 
 pub returns : goal.returns

@@ -1,0 +1,83 @@
+//! Lists whose items C is told of: how many there are, one at an index, and many at once, into room
+//! that the caller has.
+ghost use Rattle.std.specs.Prelude.{◌≡◌, ◌-◌, ◌<◌, List, drop, length, min, slice_get};
+ghost use Rattle.goblin.specs.Refusal.{Answers};
+ghost use Rattle.goblin_c.specs.Answers.{count_of, item_of, items_from};
+ghost use Rattle.goblin_c.specs.Cut.{cut};
+ghost use Rattle.goblin_c.specs.Status.{Fills, told_of};
+
+use crate::kinds::{END, OK};
+use crate::status::refuse;
+use crate::types::GoblinRefusal;
+use goblin::error::Result;
+
+/// A list whose items C is told of.
+pub trait Listed: Drop {
+    /// What C is told of an item.
+    type Told: Copy;
+
+    // what C is told of each item, in their order
+    ghost listed: { Self → List Self.Told };
+
+    /// How many items there are.
+    fn count(&self) -> usize
+        ensures { result ≡ length (listed self.now) };
+
+    /// What C is told of the item at an index, or `None` from `count()` on.
+    fn told(&self, index: usize) -> Option<Self::Told>
+        ensures { result ≡ slice_get (listed self.now) index };
+}
+
+/// How many items a list has.
+pub fn count_of<L: Listed>(list: Result<L>) -> Result<Option<u64>>
+    ensures { Answers (λ found. found) result (count_of (told_of L.listed list)) }
+{
+    Ok(Some(list?.count() as u64))
+}
+
+/// The item of a list at an index.
+pub fn item_of<L: Listed>(list: Result<L>, index: u64) -> Result<Option<L::Told>>
+    ensures { Answers (λ found. found) result (item_of (told_of L.listed list) index) }
+{
+    Ok(list?.told(index as usize))
+}
+
+// Fills room with the items from an index on, and answers how many there was room for.
+fn fill<L: Listed>(all: &L, first: usize, room: &mut [L::Told]) -> usize
+    requires { first < length (L.listed all.now) }
+    ensures filled { room.new ≡ cut (drop first (L.listed all.now)) room.old }
+    ensures count { result ≡ min (length (L.listed all.now) - first) (length room.old) }
+{
+    let count = room.len().min(all.count() - first);
+    for (i, place) in room.iter_mut().enumerate() {
+        match all.told(first + i) {
+            Some(told) => *place = told,
+            None => break,
+        }
+    }
+    count
+}
+
+/// Tells the items of a list from an index on: 0, as many as there is room for, and how many those
+/// are; 1; or the kind of a refusal, which is told.
+pub fn tell_from<L: Listed>(
+    list: Result<L>,
+    first: u64,
+    room: &mut [L::Told],
+    filled: &mut u64,
+    why: &mut GoblinRefusal,
+) -> u32
+    ensures { Fills (items_from (told_of L.listed list) first)
+        room.old filled.old why.old result room.new filled.new why.new }
+{
+    match list {
+        Ok(all) => {
+            if first >= all.count() as u64 {
+                return END;
+            }
+            *filled = fill(&all, first as usize, room) as u64;
+            OK
+        }
+        Err(e) => refuse(&e, why),
+    }
+}
