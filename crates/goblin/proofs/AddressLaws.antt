@@ -1,6 +1,6 @@
 -- The symbol that is found for an address comes first of all that stand at it or below it.
-use Rattle.std.proofs.Common.{◌≡◌, ◌≤◌, ◌<◌, ◌+◌, ◌*◌, ◌&&◌, ◌||◌, not, ℕ, zero, suc, Bool, true, false, ltb, eqb, cond, if◌then◌else◌, List, [], ◌∷◌, length, get_or, slice_get, Option, Some, None, ⊎_elim, refl, sym, ap, subst, ◌∙◌, arith}
-use Rattle.std.proofs.lemmas.Bool.{and_parts, and_from, cases_lt, cases_eq, lt-ltb, le-ltb, ltb-true, ltb-false, false≢true}
+use Rattle.std.proofs.Common.{◌≡◌, ◌≤◌, ◌<◌, ◌+◌, ◌*◌, ◌&&◌, ◌||◌, not, ℕ, zero, suc, Bool, true, false, ltb, eqb, cond, if◌then◌else◌, List, [], ◌∷◌, length, get_or, slice_get, Option, Some, None, inl, inr, refl, sym, ap, subst, ◌∙◌, arith}
+use Rattle.std.proofs.lemmas.Bool.{and_parts, and_from, cases_lt, lt-ltb, le-ltb, ltb-true, ltb-false, false≢true}
 use Rattle.std.proofs.lemmas.Bool.Decides.{nat_tests}
 use Rattle.std.proofs.lemmas.List.Elements.{All-from_get_or}
 use Rattle.std.proofs.lemmas.List.Folds.{list_any_at, list_any_none}
@@ -15,54 +15,24 @@ use Rattle.goblin.specs.Addresses.{IsSymbolAt, SymbolAtComesFirst, is_below, is_
 abbrev pub rank : ℕ → Bool → ℕ
 rank value reach = 2 * value + cond reach 1 0
 
-near_rank : (x y : Bool) (a b : ℕ) → (ltb b a || (eqb b a && not y && x)) ≡ ltb (rank b y) (rank a x)
-near_rank true true a b = grind (arith, nat_tests)
-near_rank true false a b = grind (arith, nat_tests)
-near_rank false true a b = grind (arith, nat_tests)
-near_rank false false a b = grind (arith, nat_tests)
-
 abbrev rank_of : ℕ → Sym → ℕ
 rank_of address s = rank s.st_value (reaches address s)
 
-by_rank : (address : ℕ) (s other : Sym) → is_nearer address s other ≡ ltb (rank_of address other) (rank_of address s)
-by_rank address s other = near_rank (reaches address s) (reaches address other) s.st_value other.st_value
-
-order_of : (b a : ℕ) → b ≤ a → ¬ (b ≡ a) → b < a
-order_of b a le apart = ⊎_elim (λ (l : b < a). l) (λ (l : a ≤ b). absurd (apart (omega arith))) (cases_lt b a)
-
-below_of : (k i : ℕ) → k < i + 1 → ¬ (k ≡ i) → k < i
-below_of k i l apart = order_of k i (omega arith) apart
-
-both_le : (a b : ℕ) → a ≤ b → b ≤ a → a ≡ b
-both_le a b h g = omega arith
-
-right_false : (x y : Bool) → (x && y) ≡ false → x ≡ true → y ≡ false
-right_false true y both is = both
-right_false false y both is = absurd (false≢true is)
-
 -- what a rank says of place and reach, and the other way round
-rank_high : (x y : Bool) (a b : ℕ) → rank b y ≤ rank a x → b ≤ a
-rank_high true true a b h = omega arith
-rank_high true false a b h = omega arith
-rank_high false true a b h = omega arith
-rank_high false false a b h = omega arith
+near_rank : (x y : Bool) (a b : ℕ) → (ltb b a || (eqb b a && not y && x)) ≡ ltb (rank b y) (rank a x)
+near_rank x y a b = grind (arith, nat_tests)
 
-rank_reaching : (x y : Bool) (a b : ℕ) → rank b y ≤ rank a x → b ≡ a → y ≡ true → x ≡ true
-rank_reaching true y a b h same reach = refl
-rank_reaching false true a b h same reach = absurd (omega arith)
-rank_reaching false false a b h same reach = reach
+rank_parts : (x y : Bool) (a b : ℕ) → rank b y ≤ rank a x → (b ≤ a) × (b ≡ a → y ≡ true → x ≡ true)
+rank_parts x y a b h = (grind (arith, nat_tests), λ same reach. grind (arith, nat_tests))
 
 rank_le : (x y : Bool) (a b : ℕ) → b ≤ a → (b ≡ a → y ≡ true → x ≡ true) → rank b y ≤ rank a x
-rank_le true true a b h reach = omega arith
-rank_le true false a b h reach = omega arith
-rank_le false false a b h reach = omega arith
-rank_le false true a b h reach = ⊎_elim (λ (same : b ≡ a). absurd (false≢true (reach same refl))) (λ (apart : ¬ (b ≡ a)). let low = order_of b a h apart in omega (arith, low)) (cases_eq b a)
+rank_le x y a b h reach = grind (arith, nat_tests)
 
 rank_same : (x y : Bool) (a b : ℕ) → rank b y ≡ rank a x → (b ≡ a) × (y ≡ x)
-rank_same true true a b same = (omega arith, refl)
-rank_same true false a b same = absurd (omega arith)
-rank_same false true a b same = absurd (omega arith)
-rank_same false false a b same = (omega arith, refl)
+rank_same x y a b same = (grind (arith, nat_tests), grind (arith, nat_tests))
+
+by_rank : (address : ℕ) (s other : Sym) → is_nearer address s other ≡ ltb (rank_of address other) (rank_of address s)
+by_rank address s other = near_rank (reaches address s) (reaches address other) s.st_value other.st_value
 
 -- ---- a search through the symbols, one after another
 -- this one, with its index, is what is found among the first i
@@ -83,10 +53,11 @@ same_item symbols i k s other got got_other same = let at = ap (slice_get symbol
 module _ (address i : ℕ) (symbols : List Sym) (s : Sym) (got : slice_get symbols i ≡ Some s) where
   -- the new one, or one before it
   one_of : (k : ℕ) (other : Sym) (P : Sym → Type 0) → k < i + 1 → slice_get symbols k ≡ Some other → P s → (k < i → P other) → P other
-  one_of k other P l g here before = ⊎_elim
-      (λ (same : k ≡ i). subst P (sym (same_item symbols i k s other got g same)) here)
-      (λ (apart : ¬ (k ≡ i)). before (below_of k i l apart))
-      (cases_eq k i)
+  one_of k other P l g here before =
+      elim (cases_lt k i) [
+        | inl earlier ↦ before earlier
+        | inr late ↦ subst P (sym (same_item symbols i k s other got g (omega (arith, l, late)))) here
+      ]
 
   first_one : (test : Bool) → is_below address s ≡ test → IsFound address symbols i None → IsFound address symbols (i + 1) (if test then Some (i, s) else None)
   first_one true below none = record {
@@ -114,17 +85,14 @@ module _ (address i : ℕ) (symbols : List Sym) (s : Sym) (got : slice_get symbo
     there = so.there;
     below = so.below;
     highest = λ k other l g b. one_of k other (λ x. is_below address x ≡ true → rank_of address x ≤ rank_of address found.1) l g
-        (λ below. ltb-false _ _ (sym (by_rank address s found.1) ∙ right_false (is_below address s) (is_nearer address s found.1) tested below))
+        (λ below. ltb-false _ _ (sym (by_rank address s found.1) ∙ rw below at tested))
         (λ m below. so.highest k other m g below) b;
     first = so.first;
   }
 
-  one_more : (found : Option (ℕ × Sym)) → IsFound address symbols i found → IsFound address symbols (i + 1) (taken address i s found)
-  one_more None none = first_one (is_below address s) refl none
-  one_more (Some found) so = next_one found (is_below address s && is_nearer address s found.1) refl so
-
-pub found_one_more : (address i : ℕ) (symbols : List Sym) (s : Sym) (found next : Option (ℕ × Sym)) → slice_get symbols i ≡ Some s → next ≡ taken address i s found → IsFound address symbols i found → IsFound address symbols (i + 1) next
-found_one_more address i symbols s found next got is so = subst (IsFound address symbols (i + 1)) (sym is) (one_more address i symbols s got found so)
+  pub one_more : (found next : Option (ℕ × Sym)) → next ≡ taken address i s found → IsFound address symbols i found → IsFound address symbols (i + 1) next
+  one_more None next is none = rw is (first_one (is_below address s) refl none)
+  one_more (Some found) next is so = rw is (next_one found (is_below address s && is_nearer address s found.1) refl so)
 
 -- something is found in the end
 found_up_to : (address : ℕ) (symbols : List Sym) (i : ℕ) → i ≤ length symbols → (found : Option (ℕ × Sym)) × IsFound address symbols i found
@@ -132,11 +100,10 @@ found_up_to address symbols zero all = (None, λ k other l g. absurd (omega arit
 found_up_to address symbols (suc i) all =
     let before = found_up_to address symbols i (omega arith) in
     let more : i + 1 ≡ suc i = omega arith in
-    ⊎_elim
-    (λ (here : (x : Sym) × (i < length symbols) × (slice_get symbols i ≡ Some x) × (get_or symbols i x ≡ x)).
-    (taken address i here.0 before.0, subst (λ (n : ℕ). IsFound address symbols n (taken address i here.0 before.0)) more (one_more address i symbols here.0 here.2 before.0 before.1)))
-    (λ (past : (length symbols ≤ i) × (slice_get symbols i ≡ None)). absurd (omega (arith, past.0)))
-    (slice_get_cases symbols i).1
+    elim (slice_get_cases symbols i).1 [
+      | inl here ↦ (taken address i here.0 before.0, rw more at (one_more address i symbols here.0 here.2 before.0 _ refl before.1))
+      | inr past ↦ absurd (omega (arith, past.0))
+    ]
 
 -- ---- and that is the first of the nearest
 none_passes : (p : Sym → Bool) (symbols : List Sym) → ((k : ℕ) (s : Sym) → slice_get symbols k ≡ Some s → p s ≡ false) → position_or_len p symbols ≡ length symbols
@@ -196,14 +163,15 @@ module _ (address : ℕ) (symbols : List Sym) where
     so.below,
     λ k other g b.
         let s = found.1 in
-        let low = so.highest k other (slice_get_within symbols k other g) g b in
+        let low = rank_parts (reaches address s) (reaches address other) s.st_value other.st_value (so.highest k other (slice_get_within symbols k other g) g b) in
         record {
-          high = rank_high (reaches address s) (reaches address other) s.st_value other.st_value low;
-          reaching = rank_reaching (reaches address s) (reaches address other) s.st_value other.st_value low;
-          early = λ same reach. ⊎_elim
-              (λ (l : k < found.0). let lower = so.first k other l g b in let as_high = ap (λ r. rank other.st_value r) reach ∙ ap (λ v. rank v (reaches address s)) same in absurd (omega (arith, lower, as_high)))
-              (λ (l : found.0 ≤ k). l)
-              (cases_lt k found.0);
+          high = low.0;
+          reaching = low.1;
+          early = λ same reach.
+              elim (cases_lt k found.0) [
+                | inl l ↦ let lower = so.first k other l g b in let as_high = ap (λ r. rank other.st_value r) reach ∙ ap (λ v. rank v (reaches address s)) same in absurd (omega (arith, lower, as_high))
+                | inr l ↦ l
+              ];
         },
   )
 
@@ -220,14 +188,15 @@ module _ (address : ℕ) (symbols : List Sym) where
           there = at.1;
           below = at.2;
           highest = λ k other l g b. low k other g b;
-          first = λ k other l g b. ⊎_elim
-              (λ (lower : rank_of address other < rank_of address s). lower)
-              (λ (as_high : rank_of address s ≤ rank_of address other).
-              let equal : rank_of address other ≡ rank_of address s = both_le _ _ (low k other g b) as_high in
-              let parts = rank_same (reaches address s) (reaches address other) s.st_value other.st_value equal in
-              let late = (at.3 k other g b).early parts.0 parts.1 in
-              absurd (omega (arith, late, l)))
-              (cases_lt (rank_of address other) (rank_of address s));
+          first = λ k other l g b.
+              elim (cases_lt (rank_of address other) (rank_of address s)) [
+                | inl lower ↦ lower
+                | inr as_high ↦
+                    let as_low = low k other g b in
+                    let parts = rank_same (reaches address s) (reaches address other) s.st_value other.st_value (omega (arith, as_high, as_low)) in
+                    let late = (at.3 k other g b).early parts.0 parts.1 in
+                    absurd (omega (arith, late, l))
+              ];
         },
       )
 

@@ -29,13 +29,20 @@ pub note_at-past : (bytes : List ℕ) (offset : ℕ) (ctx : ℕ × Ctx) → leng
 unfolding note_at
 note_at-past bytes offset ctx past = rw (places_at-past bytes offset ctx past) refl
 
+-- a note and its places were read from the bytes that an offset lies before
+pub record IsRead (answer : Result (Note × NotePlaces) Error) (bytes : List ℕ) (offset : ℕ) (ctx : ℕ × Ctx) : Type 0 where
+  pub places : Answers (λ found. found.1) answer (places_at bytes offset ctx)
+  pub there : IfOk answer (λ found. parts_of found.0 ≡ note_there (take (length bytes - offset) (drop offset bytes)) found.1)
+
 -- the note that was read is the one at the offset
-pub note_at-read : (answer : Result (Note × NotePlaces) Error) (bytes : List ℕ) (offset : ℕ) (ctx : ℕ × Ctx) → Answers (λ found. found.1) answer (places_at bytes offset ctx) → IfOk answer (λ found. parts_of found.0 ≡ note_there (take (length bytes - offset) (drop offset bytes)) found.1) → Answers (λ found. (parts_of found.0, found.1.next)) answer (note_at bytes offset ctx)
+pub note_at-read :
+    (answer : Result (Note × NotePlaces) Error) (bytes : List ℕ) (offset : ℕ) (ctx : ℕ × Ctx)
+    → IsRead answer bytes offset ctx → Answers (λ found. (parts_of found.0, found.1.next)) answer (note_at bytes offset ctx)
 unfolding note_at
-note_at-read (Ok found) bytes offset ctx is there =
+note_at-read (Ok found) bytes offset ctx is =
     let all = take_all (length bytes - offset) (drop offset bytes) (omega (arith, length-drop offset bytes)) in
-    rw (is, there, all) refl
-note_at-read (Err e) bytes offset ctx is there = rw is refl
+    rw (is.places, is.there, all) refl
+note_at-read (Err e) bytes offset ctx is = rw is.places refl
 
 -- its places lie within
 pub read-within : (answer : Result (Note × NotePlaces) Error) (bytes : List ℕ) (offset : ℕ) (ctx : ℕ × Ctx) → Answers (λ found. found.1) answer (places_at bytes offset ctx) → IfOk answer (λ found. LieWithin (length bytes) offset found.1)

@@ -70,15 +70,11 @@ places_fit available align header range name desc =
 read_places-fits : (alignment : ℕ) (order : Endian) (bytes : List ℕ) → IfOk (read_places alignment order bytes) (LieWithin (length bytes) 0)
 unfolding read_places
 read_places-fits alignment order bytes =
-    let header : Result Nhdr32 Refusal = refuse_as refusal_of (read_within nhdr32_size (nhdr32_of order) bytes) in
-    let after_name = λ (p : NotePlaces). bytes_at bytes p.desc p.desc_size >>= λ _. Ok p in
-    let after_header = λ (p : NotePlaces). text_at bytes p.name p.name_size >>= λ _. after_name p in
-    let Within = LieWithin (length bytes) 0 in
-    if_ok_then (note_align alignment) (λ align. header >>= λ h. after_header (places_of align h)) Within λ align aligned.
-    if_ok_then header (λ h. after_header (places_of align h)) Within λ h begins.
+    if_ok_then (note_align alignment) _ _ λ align aligned.
+    if_ok_then (refuse_as refusal_of (read_within nhdr32_size (nhdr32_of order) bytes)) _ _ λ h begins.
     let p = places_of align h in
-    if_ok_then (text_at bytes p.name p.name_size) (λ _. after_name p) Within λ name named.
-    if_ok_then (bytes_at bytes p.desc p.desc_size) (λ _. Ok p) Within λ desc described.
+    if_ok_then (text_at bytes p.name p.name_size) _ _ λ name named.
+    if_ok_then (bytes_at bytes p.desc p.desc_size) _ _ λ desc described.
     places_fit (length bytes) align h (align_range alignment align aligned) (text_at-fits bytes p.name p.name_size name named) (bytes_at-fits bytes p.desc p.desc_size desc described)
 
 -- what holds of each value holds of this one

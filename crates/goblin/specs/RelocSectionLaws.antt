@@ -27,7 +27,10 @@ IsBytes-drop : (k : ℕ) (bytes : List ℕ) → IsBytes bytes → IsBytes (drop 
 IsBytes-drop k bytes are i = rw (get_or-drop k bytes i 0) (are (k + i))
 
 -- records that were read one after another are written as the bytes that they were read from
-flat_map-records : {R : Type 0} {size : ℕ} {read : List ℕ → R} {image : R → List ℕ} {low : R → R} {Fits : R → Type 0} → IsRecord size read image low Fits → (n : ℕ) (bytes : List ℕ) → IsBytes bytes → n * size ≤ length bytes → flat_map image (records size read n bytes) ≡ take (n * size) bytes
+flat_map-records :
+    {R : Type 0} {size : ℕ} {read : List ℕ → R} {image : R → List ℕ} {low : R → R} {Fits : R → Type 0}
+    → IsRecord size read image low Fits → (n : ℕ) (bytes : List ℕ) → IsBytes bytes → n * size ≤ length bytes
+    → flat_map image (records size read n bytes) ≡ take (n * size) bytes
 flat_map-records {size = size} {read = read} {image = image} laws zero bytes are room =
     let none : zero * size ≡ 0 = omega arith in
     rw (no_records size read zero bytes refl, none) refl
@@ -43,7 +46,11 @@ flat_map-records {size = size} {read = read} {image = image} laws (suc n) bytes 
     rw (first_record size read (suc n) bytes (omega arith), less, whole) (rw (first, rest) (sym (take-add size (n * size) bytes)))
 
 -- the same of a section that is not empty
-some_written : (bytes : List ℕ) (offset filesz : ℕ) (c : RelocCtx) (relocs : List Reloc) → let size = reloc_size c.is_rela c.ctx.container in IsBytes bytes → unless_fault (room_of (length bytes) offset filesz) (records size (reloc_in c) (filesz / size) (take filesz (drop offset bytes))) ≡ Ok relocs → flat_map (reloc_image_in c) relocs ≡ take (filesz / size * size) (drop offset bytes)
+some_written :
+    (bytes : List ℕ) (offset filesz : ℕ) (c : RelocCtx) (relocs : List Reloc) → IsBytes bytes
+    → let size = reloc_size c.is_rela c.ctx.container in
+    unless_fault (room_of (length bytes) offset filesz) (records size (reloc_in c) (filesz / size) (take filesz (drop offset bytes))) ≡ Ok relocs
+    → flat_map (reloc_image_in c) relocs ≡ take (filesz / size * size) (drop offset bytes)
 some_written bytes offset filesz c relocs are is =
     let size = reloc_size c.is_rela c.ctx.container in
     let n = filesz / size in

@@ -4,6 +4,7 @@ ghost use Rattle.std.specs.Option.{option_map};
 ghost use Rattle.goblin.specs.Addresses.{is_below, reaches, symbol_at, taken, SymbolAtComesFirst};
 ghost use Rattle.goblin.specs.Symtab.{symbols_at, symtab_by, symtab_of, DependsOnItsRange, PermissiveKeepsStrict};
 ghost use Rattle.goblin_base.specs.Strtab.{has_name, unparsed};
+ghost use Rattle.goblin_records.specs.Constants.{bind_numbers, type_numbers, visibility_numbers};
 ghost use Rattle.goblin_records.specs.Sym.{sym_size};
 
 use goblin_base::container::Ctx;
@@ -311,14 +312,13 @@ pub type SymIterator<'a> = TableIter<'a, Sym, Ctx>;
 pub fn constants()
     ensures bindings { STB_LOCAL ∷ STB_GLOBAL ∷ STB_WEAK ∷ STB_NUM ∷ STB_LOOS ∷ STB_GNU_UNIQUE ∷
         STB_HIOS ∷ STB_LOPROC ∷ STB_HIPROC ∷ []
-        ≡ 0 ∷ 1 ∷ 2 ∷ 3 ∷ 10 ∷ 10 ∷ 12 ∷ 13 ∷ 15 ∷ [] }
+        ≡ bind_numbers }
     ensures types { STT_NOTYPE ∷ STT_OBJECT ∷ STT_FUNC ∷ STT_SECTION ∷ STT_FILE ∷ STT_COMMON ∷
         STT_TLS ∷ STT_NUM ∷ STT_LOOS ∷ STT_GNU_IFUNC ∷ STT_HIOS ∷ STT_LOPROC ∷ STT_HIPROC ∷
-        []
-        ≡ 0 ∷ 1 ∷ 2 ∷ 3 ∷ 4 ∷ 5 ∷ 6 ∷ 7 ∷ 10 ∷ 10 ∷ 12 ∷ 13 ∷ 15 ∷ [] }
+        [] ≡ type_numbers }
     ensures visibilities { STV_DEFAULT ∷ STV_INTERNAL ∷ STV_HIDDEN ∷ STV_PROTECTED ∷ STV_EXPORTED ∷
         STV_SINGLETON ∷ STV_ELIMINATE ∷ []
-        ≡ 0 ∷ 1 ∷ 2 ∷ 3 ∷ 4 ∷ 5 ∷ 6 ∷ [] }
+        ≡ visibility_numbers }
 {}
 
 /// Laws: where a table is accepted strictly, the permissive reading gives the same table; and a

@@ -13,7 +13,7 @@ returns-clause-places c = rw (places_at-before c.args.bytes.now c.args.offset c.
 
 pub returns-clause-note : goal.returns-clause-note
 returns-clause-note c =
-    note_at-read c.with_places.result c.args.bytes.now c.args.offset c.args.ctx (returns-clause-places c) c.with_places.ensures.there
+    note_at-read c.with_places.result c.args.bytes.now c.args.offset c.args.ctx (record { places = returns-clause-places c; there = c.with_places.ensures.there })
 
 pub returns-clause-within : goal.returns-clause-within
 returns-clause-within c = read-within c.with_places.result c.args.bytes.now c.args.offset c.args.ctx (returns-clause-places c)

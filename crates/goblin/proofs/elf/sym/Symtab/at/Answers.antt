@@ -1,5 +1,5 @@
 use Rattle.std.proofs.Common.{sym, ◌∙◌, arith}
-use Rattle.goblin.proofs.AddressLaws.{found_one_more, found_all}
+use Rattle.goblin.proofs.AddressLaws.{one_more, found_all}
 use Rattle.goblin.proofs.Positions.{some-within}
 use Rattle.goblin.proofs.elf.sym.Symtab.at.Goals as goal
 use Rattle.goblin.proofs.elf.sym.Symtab.at.Goals.{in-Some, in_default}
@@ -12,6 +12,6 @@ pub loop-i-preserved : goal.loop-i-preserved
 loop-i-preserved c =
     elim c.match-get.branch [
       | in-Some w ↦
-          found_one_more c.args.address c.loop-i.i c.args.self.now.symbols w.in-Some.symbol c.loop-i.found c.match-get.found (sym w.in-Some.ensures) (w.found-is ∙ w.nearer-found.ensures) c.loop-i.invariant
+          one_more c.args.address c.loop-i.i c.args.self.now.symbols w.in-Some.symbol (sym w.in-Some.ensures) c.loop-i.found c.match-get.found (w.found-is ∙ w.nearer-found.ensures) c.loop-i.invariant
       | in_default w ↦ absurd (some-within c.args.self.now.symbols c.loop-i.i (omega arith) (sym w.in_default.is ∙ c.get.ensures))
     ]
