@@ -103,3 +103,5 @@ is_filled items old = (cut-length items old, cut-before items old, cut-after ite
 
 pub room_is_filled : RoomIsFilled
 room_is_filled = record { bytes = is_filled; sections = is_filled; symbols = is_filled; relocs = is_filled }
+
+pub ruleset cut_steps = (cut-enough, cut-step, cut-into, cut-past)

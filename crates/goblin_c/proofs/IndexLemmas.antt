@@ -1,24 +1,19 @@
 -- Items by index are those of the library's lists, in the context that a file's header names.
-use Rattle.std.proofs.Common.{◌≡◌, ◌+◌, ◌-◌, ◌<◌, ◌≤◌, ◌==◌, ◌&&◌, ◌||◌, not, ℕ, zero, suc, Bool, true, false, nat_le, if◌then◌else◌, List, [], ◌∷◌, length, drop, map, slice_get, slice_index, Option, Some, None, Result, Ok, Err, refl, sym, ap, subst, ◌∙◌, arith}
+use Rattle.std.proofs.Common.{◌≡◌, ◌+◌, ◌<◌, ◌≤◌, ◌==◌, ℕ, zero, suc, Bool, true, false, nat_le, if◌then◌else◌, List, [], ◌∷◌, length, drop, map, slice_get, slice_index, Some, None, Result, Ok, Err, refl, sym, ap, subst, ◌∙◌, arith}
 use Rattle.std.proofs.lemmas.Bool.{leb-false, leb-true}
 use Rattle.std.proofs.lemmas.Bool.Decides.{nat_tests}
 use Rattle.std.proofs.lemmas.List.{length-drop, length-map}
 use Rattle.std.proofs.lemmas.Option.{slice_get-map, slice_get_past}
-use Rattle.std.specs.Option.{option_map}
 use Rattle.goblin_base.specs.declared.container.Container.{Container}
-use Rattle.goblin_base.specs.declared.container.Container.TheVariants as class
 use Rattle.goblin_base.specs.declared.container.Ctx.{Ctx}
 use Rattle.goblin_base.specs.declared.container.Endian.{Endian}
-use Rattle.goblin_base.specs.declared.container.Endian.TheVariants as endian
-use Rattle.goblin_base.specs.declared.error.Error.TheVariants.{Malformed}
-use Rattle.goblin_base.specs.declared.error.Fault.TheVariants.{InvalidClass, InvalidEndianness}
 use Rattle.goblin_base.specs.Refusal.{Refusal, refusal_of}
-use Rattle.goblin_base.specs.Steps.{◌>>=◌, or_refuse, refuse_as}
+use Rattle.goblin_base.specs.Steps.{◌>>=◌, refuse_as}
 use Rattle.goblin.specs.declared.elf.header.Header.{Header}
 use Rattle.goblin.specs.declared.elf.section_header.SectionHeader.{SectionHeader}
 use Rattle.goblin_c.specs.declared.types.GoblinSection.{GoblinSection}
-use Rattle.goblin.specs.Header.{class_byte, class_named, data_byte, order_named}
-use Rattle.goblin.specs.RelocSection.{is_of_mips64el, relocs_of}
+use Rattle.goblin.specs.Header.{class_named, order_named}
+use Rattle.goblin.specs.RelocSection.{relocs_of}
 use Rattle.goblin.specs.SectionHeaders.{link_of, names_index}
 use Rattle.goblin_headers.proofs.HeaderLaws.{header_laws}
 use Rattle.goblin_headers.proofs.RawTrips.{ident_byte}
@@ -26,51 +21,31 @@ use Rattle.goblin_headers.proofs.ReadHeaderLemmas.{read_header-is}
 use Rattle.goblin_c.specs.Answers.{count_of, ctx_of, each_told, header_told, item_of, items_from, reloc_count_right, reloc_right, reloc_told, relocs_right, relocs_told, section_told, sections_right, sections_told, segment_told, segments_right, symbol_told, symbols_right, symbols_told, table_at}
 use Rattle.goblin_c.specs.Laws.{ContextIsTheHeaders, FilledByIndex, GivenFrom, HasHeader, NamesByIndex, NamesContext, RelocsByIndex, SectionsByIndex, SegmentsByIndex, SymbolsByIndex, TablesByIndex, TellsCount, TellsEach, table_told}
 
--- a byte that names a class or a byte order names the one that C's number stands for
-class_is : (byte : ℕ) (named : Container) → class_named byte ≡ Some named → class_named byte ≡ Some (if byte == 2 then class.Big else class.Little)
-class_is byte named is = grind (arith, nat_tests)
-
-order_is : (byte : ℕ) (named : Endian) → order_named byte ≡ Some named → order_named byte ≡ Some (if byte == 2 then endian.Big else endian.Little)
-order_is byte named is = grind (arith, nat_tests)
-
--- the class byte of the class that C's number stands for is 2 where that is
-class_is_big : (is_two : Bool) → (class_byte (if is_two then class.Big else class.Little) == 2) ≡ is_two
-class_is_big true = refl
-class_is_big false = refl
-
--- the data byte of the order that C's number stands for is 1 where that is not 2
-order_of_number : (is_two : Bool) → (data_byte (if is_two then endian.Big else endian.Little) == 1) ≡ not is_two
-order_of_number true = refl
-order_of_number false = refl
-
--- a byte that names a byte order is 1 where it is not 2
-order_is_little : (byte : ℕ) (named : Endian) → order_named byte ≡ Some named → (data_byte (if byte == 2 then endian.Big else endian.Little) == 1) ≡ (byte == 1)
-order_is_little byte named is = order_of_number (byte == 2) ∙ grind (arith, nat_tests)
-
 -- what a file's header tells of its class and its byte order
-ordered : (bytes : List ℕ) (h : Header) → HasHeader bytes h → (named : Endian) × (order_named (slice_index h.e_ident 5) ≡ Some named)
-ordered bytes h has =
+named : (bytes : List ℕ) (h : Header) → HasHeader bytes h → (class : Container) × (order : Endian) × (class_named (slice_index h.e_ident 4) ≡ Some class) × (order_named (slice_index h.e_ident 5) ≡ Some order)
+named bytes h has =
     let found = read_header-is bytes h has.0 has.1 in
-    let ident = ap (λ (header : Header). header.e_ident) found.6 ∙ (header_laws found.0).ident_read found.1 bytes in
-    (found.1, ap order_named (ident_byte h.e_ident bytes 5 ident (omega arith)) ∙ found.4)
+    let ident = ap (λ (header : Header). header.e_ident) found.6 ∙ (header_laws found.0).ident_read found.1 bytes in (
+      found.0,
+      found.1,
+      ap class_named (ident_byte h.e_ident bytes 4 ident (omega arith)) ∙ found.3,
+      ap order_named (ident_byte h.e_ident bytes 5 ident (omega arith)) ∙ found.4,
+    )
 
 -- the context of what C hands back is the one that the header names
 context : (bytes : List ℕ) (h : Header) → HasHeader bytes h → NamesContext h (ctx_of (header_told h))
 context bytes h has =
-    let found = read_header-is bytes h has.0 has.1 in
-    let ident = ap (λ (header : Header). header.e_ident) found.6 ∙ (header_laws found.0).ident_read found.1 bytes in
-    let classed = ap class_named (ident_byte h.e_ident bytes 4 ident (omega arith)) ∙ found.3 in
-    let order_there = ap order_named (ident_byte h.e_ident bytes 5 ident (omega arith)) ∙ found.4 in (
-      ap (λ (named : Option Container). or_refuse named (Malformed (InvalidClass (slice_index h.e_ident 4)))) (class_is (slice_index h.e_ident 4) found.0 classed),
-      ap (λ (named : Option Endian). or_refuse named (Malformed (InvalidEndianness (slice_index h.e_ident 5)))) (order_is (slice_index h.e_ident 5) found.1 order_there),
-    )
+    let tells = named bytes h has in
+    let class = tells.2 in
+    let order = tells.3 in
+    (grind (arith, nat_tests), grind (arith, nat_tests))
 
 pub context_is_the_headers : ContextIsTheHeaders
 context_is_the_headers bytes h has =
-    let order = ordered bytes h has in
-    let big = class_is_big (slice_index h.e_ident 4 == 2) in
-    let little = order_is_little (slice_index h.e_ident 5) order.0 order.1 in
-    (context bytes h has, λ j. (h.e_machine == 8) && big j && little j)
+    let tells = named bytes h has in
+    let class = tells.2 in
+    let order = tells.3 in
+    (context bytes h has, grind (arith, nat_tests))
 
 same : {A E : Type 0} (x y : A) → ◌≡◌ {A = Result A E} (Ok x) (Ok y) → x ≡ y
 same x y is = cc

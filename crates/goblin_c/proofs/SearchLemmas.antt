@@ -1,11 +1,10 @@
 -- Looking for the first item that passes a test, from an index on.
-use Rattle.std.proofs.Common.{◌≡◌, ◌≤◌, ◌<◌, ◌+◌, ◌-◌, ◌==◌, ℕ, zero, suc, Bool, true, false, true≢false, cond, nat_lt, List, [], ◌∷◌, length, map, drop, get_or, slice_get, Option, Some, None, Result, Ok, Err, position, refl, sym, ap, subst, ◌∙◌, arith}
+use Rattle.std.proofs.Common.{◌≡◌, ◌≤◌, ◌<◌, ◌+◌, ◌-◌, ◌==◌, ℕ, zero, suc, Bool, true, false, true≢false, List, [], ◌∷◌, length, map, drop, get_or, slice_get, Option, Some, None, Result, Ok, Err, position, refl, sym, ap, subst, ◌∙◌, arith}
 use Rattle.std.proofs.lemmas.Bool.Decides.{nat_tests}
 use Rattle.std.proofs.lemmas.List.Quantifiers.{position-Some}
 use Rattle.std.proofs.lemmas.List.Sums.{fails_before_first}
 use Rattle.std.proofs.lemmas.Option.{get_or_from_slice_get, slice_get-get_or, slice_get-map, slice_get_within}
 use Rattle.std.specs.Bool.{Decides}
-use Rattle.std.specs.List.{position_or_len}
 use Rattle.std.specs.Option.{option_map}
 use Rattle.goblin_base.specs.Refusal.{Refusal}
 use Rattle.goblin_base.specs.Steps.{◌>>=◌}
@@ -15,10 +14,6 @@ use Rattle.goblin_c.specs.Laws.{FindsFrom, RefusesAll, SectionsByType}
 use Rattle.goblin_c.proofs.IndexLemmas.{behind}
 
 -- the first item that passes a test, and that none does
-cond_none : (test : Bool) (n : ℕ) → ◌≡◌ {A = Option ℕ} (cond test (Some n) None) None → test ≡ false
-cond_none true n is = absurd (cc)
-cond_none false n is = refl
-
 first_passes : {X : Type 0} (test : X → Bool) (items : List X) (i : ℕ) → position test items ≡ Some i → (x : X) × (slice_get items i ≡ Some x) × (test x ≡ true)
 first_passes test [] i is = absurd (cc)
 first_passes test (x ∷ items) i is =
@@ -33,7 +28,6 @@ earlier_fail test items i k x is before found = fails_at test items k x found ((
 
 all_fail : {X : Type 0} (test : X → Bool) (items : List X) (k : ℕ) (x : X) → position test items ≡ None → slice_get items k ≡ Some x → test x ≡ false
 all_fail test items k x none found =
-    let past = cond_none (nat_lt (position_or_len test items) (length items)) (position_or_len test items) none in
     let inside : k < length items = slice_get_within items k x found in
     fails_at test items k x found (fails_before_first test items k x (grind (arith, nat_tests)))
 

@@ -1,38 +1,26 @@
 -- Strings at the places told, and what is found by its name.
-use Rattle.std.proofs.Common.{◌≡◌, ◌+◌, ◌-◌, ◌<◌, ◌≤◌, ◌==◌, ℕ, Bool, true, false, true≢false, nat_le, nat_lt, if◌then◌else◌, List, [], ◌∷◌, length, take, drop, min, map, position, slice_get, Option, Some, None, Result, Ok, Err, inl, inr, refl, sym, ap, subst, ◌∙◌, arith}
-use Rattle.std.proofs.lemmas.Bool.{and_from, and_parts}
+use Rattle.std.proofs.Common.{◌≡◌, ◌+◌, ◌-◌, ◌<◌, ◌≤◌, ◌==◌, ℕ, Bool, true, nat_le, nat_lt, List, length, take, drop, min, map, position, slice_get, Option, Some, Result, Ok, Err, inl, inr, refl, sym, ap, subst, ◌∙◌, arith}
+use Rattle.std.proofs.lemmas.Bool.{and_parts}
 use Rattle.std.proofs.lemmas.Bool.Decides.{nat_tests}
-use Rattle.std.proofs.lemmas.List.{drop-take, length-drop, length-take, take_min}
+use Rattle.std.proofs.lemmas.List.{drop-take, length-take, take_min}
 use Rattle.std.proofs.lemmas.Slice.Eq.{bytes_eq-Decides}
 use Rattle.std.proofs.Math.Seq.{drop-drop, take-take}
 use Rattle.std.specs.Bool.{Decides}
 use Rattle.std.specs.List.{before_first, position_or_len}
-use Rattle.std.specs.Str.{is_utf8}
-use Rattle.goblin_base.specs.declared.error.Fault.{Fault}
-use Rattle.goblin_base.specs.declared.options.ParseMode.TheVariants.{Strict}
 use Rattle.goblin_base.specs.Pieces.{piece}
-use Rattle.goblin_base.specs.Refusal.{Refusal, malformed}
+use Rattle.goblin_base.specs.Refusal.{Refusal}
 use Rattle.goblin_base.specs.Steps.{◌>>=◌}
 use Rattle.goblin_base.specs.Strtab.{has_name, is_text_of, plain, range_in}
-use Rattle.goblin_base.specs.Utf8.{invalid_utf8}
 use Rattle.goblin_c.specs.declared.types.GoblinRange.{GoblinRange}
 use Rattle.goblin_c.specs.Answers.{each_told, is_named, item_of, section_told, sections_right, string_right, strings_right, symbol_told, symbols_right}
 use Rattle.goblin_c.specs.Laws.{FindsFirst, IsNameAt, RefusesAll, RefusesEither, SectionsByName, StringsAreThere, SymbolsByName, bytes_in}
 use Rattle.goblin_c.proofs.SearchLemmas.{finds, from_none}
-use Rattle.goblin_c.proofs.StepLemmas.{one_told, same, taken_text, within}
+use Rattle.goblin_c.proofs.StepLemmas.{one_told}
 
 -- the strings of a range are its bytes, and lie in the file
-chosen : (past over : Bool) (a b : Fault) (part found : List ℕ) → (if past then Err a else if over then Err b else Ok part) ≡ Ok found → (found ≡ part) × (over ≡ false)
-chosen true over a b part found is = absurd (cc)
-chosen false true a b part found is = absurd (cc)
-chosen false false a b part found is = (same part found is, refl)
-
 pub in_range : (bytes : List ℕ) (range : GoblinRange) (found : List ℕ) → strings_right bytes range ≡ Ok found → (found ≡ bytes_in bytes range) × (range.offset + range.size ≤ length bytes)
 unfolding range_in
-in_range bytes range found is =
-    let all = chosen (nat_lt (length bytes) range.offset) (nat_lt (length bytes) (range.offset + range.size)) _ _ (bytes_in bytes range) found (within malformed (range_in Strict bytes range.offset range.size) found is) in
-    let fits = all.1 in
-    (all.0, grind (arith, nat_tests))
+in_range bytes range found is = (grind (arith, nat_tests), grind (arith, nat_tests))
 
 -- what stands before the first byte that passes a test, among the first bytes, stands in front of all
 in_front : (test : ℕ → Bool) (n : ℕ) (all : List ℕ) → take (length (before_first test (take n all))) all ≡ before_first test (take n all)
@@ -57,7 +45,7 @@ piece_there bytes range offset before =
 
 -- the string that is read at an offset of strings is the piece there
 pub plain_is : (strings : List ℕ) (offset : ℕ) (text : List ℕ) → plain strings 0 offset ≡ Ok text → text ≡ piece strings 0 offset
-plain_is strings offset text is = taken_text (is_utf8 (piece strings 0 offset)) (piece strings 0 offset) text (invalid_utf8 (length strings - offset)) is
+plain_is strings offset text is = grind arith
 
 -- where a string lies that was read
 abbrev pub place_of : GoblinRange → ℕ → List ℕ → GoblinRange
@@ -87,39 +75,29 @@ pub strings_are_there : StringsAreThere
 strings_are_there bytes range offset told is = given bytes range offset told (strings_right bytes range) refl is
 
 -- a string has a name where the library's look-up says so: its test, taken apart
-name_test : (name : List ℕ) (answer : Result (List ℕ) Refusal) → is_text_of name answer ≡ true → (text : List ℕ) × (answer ≡ Ok text) × (text ≡ name)
-name_test name (Ok text) is = (text, refl, (bytes_eq-Decides text name).0 is)
-name_test name (Err e) is = absurd (true≢false (sym is))
-
-named_is : (strings name : List ℕ) (offset : ℕ) → is_named strings name offset ≡ true → (text : List ℕ) × (offset < length strings) × (plain strings 0 offset ≡ Ok text) × (text ≡ name)
+named_is : (strings name : List ℕ) (offset : ℕ) → is_named strings name offset ≡ true → (offset < length strings) × (plain strings 0 offset ≡ Ok name)
 unfolding has_name
 named_is strings name offset is =
     let parts = and_parts (nat_lt offset (length strings)) (is_text_of name (plain strings 0 offset)) is in
-    let read = name_test name (plain strings 0 offset) parts.1 in
-    let test = parts.0 in
-    (read.0, grind (arith, nat_tests), read.1, read.2)
+    (grind (arith, nat_tests), grind (arith, parts.1, bytes_eq-Decides))
 
-is_named-from : (strings name : List ℕ) (offset : ℕ) (text : List ℕ) → offset < length strings → plain strings 0 offset ≡ Ok text → text ≡ name → is_named strings name offset ≡ true
+is_named-from : (strings name : List ℕ) (offset : ℕ) → offset < length strings → plain strings 0 offset ≡ Ok name → is_named strings name offset ≡ true
 unfolding has_name
-is_named-from strings name offset text before is same_text =
-    and_from (nat_lt offset (length strings)) (is_text_of name (plain strings 0 offset)) (grind (arith, nat_tests))
-    (ap (is_text_of name) is ∙ (bytes_eq-Decides text name).1 same_text)
+is_named-from strings name offset before is = grind (arith, nat_tests, bytes_eq-Decides name name)
 
 -- and where a call tells a string with these bytes
 told_from : (bytes : List ℕ) (range : GoblinRange) (offset : ℕ) (strings text : List ℕ) → strings_right bytes range ≡ Ok strings → offset < length strings → plain strings 0 offset ≡ Ok text → string_right bytes range offset ≡ Ok (Some (place_of range offset text))
-told_from bytes range offset strings text found before is =
-    let test : nat_le (length strings) offset ≡ false = grind (arith, nat_tests) in
-    rw (found, test, is) refl
+told_from bytes range offset strings text found before is = grind (arith, nat_tests)
 
 named-Decides : (bytes : List ℕ) (names : GoblinRange) (name strings : List ℕ) (offset : ℕ) → strings_right bytes names ≡ Ok strings → Decides (is_named strings name offset) (IsNameAt bytes names offset name)
 named-Decides bytes names name strings offset found = (
   λ is. let read = named_is strings name offset is in (
-    place_of names offset read.0,
-    told_from bytes names offset strings read.0 found read.1 read.2,
-    text_there bytes names offset strings read.0 found read.1 read.2 ∙ read.3,
+    place_of names offset name,
+    told_from bytes names offset strings name found read.0 read.1,
+    text_there bytes names offset strings name found read.0 read.1,
   ),
   λ told. let there = told_is bytes names offset strings told.0 found told.1 in
-      is_named-from strings name offset there.0 there.1 there.2 (sym there.3 ∙ told.2),
+      is_named-from strings name offset there.1 (there.2 ∙ ap Ok (sym there.3 ∙ told.2)),
 )
 
 -- without the strings of a range none of them is told

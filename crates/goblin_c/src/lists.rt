@@ -43,6 +43,7 @@ pub fn item_of<L: Listed>(list: Result<L>, index: u64) -> Result<Option<L::Told>
 }
 
 // Fills room with the items from an index on, and answers how many there was room for.
+#[tactic(auto, using(crate::proofs::CutLemmas::cut_steps))]
 fn fill<L: Listed>(all: &L, first: usize, room: &mut [L::Told]) -> usize
     requires { first < length (L.listed all.now) }
     ensures filled { room.new ≡ cut (drop first (L.listed all.now)) room.old }

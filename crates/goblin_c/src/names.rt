@@ -14,6 +14,7 @@ pub fn write_text(text: &str, buffer: &mut [u8]) -> u64
 }
 
 /// The same of bytes.
+#[tactic(auto, using(crate::proofs::CutLemmas::cut_steps))]
 pub fn write_bytes(bytes: &[u8], buffer: &mut [u8]) -> u64
     ensures written { buffer.new ≡ cut bytes.now buffer.old }
     ensures whole { result ≡ length bytes.now }

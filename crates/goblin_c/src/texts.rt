@@ -12,6 +12,7 @@ use goblin_base::texts;
 use goblin_base::texts::{Piece, Told};
 
 // Writes as much as there is room for behind the bytes so far, and answers how many they are then.
+#[tactic(auto, using(crate::proofs::CutLemmas::cut_steps))]
 fn write_part(part: &[u8], len: u64, room: &mut [u8]) -> u64
     requires { len + length part.now < 2 ^ 64 }
     ensures written { room.new ≡ take len room.old ++ cut part.now (drop len room.old) }

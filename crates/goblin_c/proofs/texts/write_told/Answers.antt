@@ -1,19 +1,8 @@
-use Rattle.std.proofs.Common.{◌++◌, ◌+◌, ◌∙◌, ap, append_assoc, arith, length, sym, take}
-use Rattle.std.proofs.lemmas.List.{append-nil}
+use Rattle.std.proofs.Common.{◌++◌, ◌+◌, ◌∙◌, ap, append_assoc, arith, sym, take}
 use Rattle.goblin_base.specs.Texts.{joined}
 use Rattle.goblin_base.proofs.ToldLemmas.{joined_more}
-use Rattle.goblin_c.specs.Cut.{cut}
 use Rattle.goblin_c.proofs.TextLemmas.{brief, cut-piece, long-piece}
 use Rattle.goblin_c.proofs.texts.write_told.Goals as goal
-
-pub loop-piece-init : goal.loop-piece-init
-loop-piece-init c =
-    let done = c.write_part-len.ensures in
-    let same = c.as_bytes.ensures.value ∙ sym (append-nil c.args.told.now.before.now) in (
-      done.written ∙ ap (λ text. cut text c.args.room.now) same,
-      omega (arith, done.whole, ap length same),
-      omega (arith, done.whole, ap length c.as_bytes.ensures.value, (brief c.args.told.now c.requires.brief).0),
-    )
 
 pub write_piece-len-requires-clause-short : goal.write_piece-len-requires-clause-short
 write_piece-len-requires-clause-short c =
