@@ -5,7 +5,7 @@ ghost use Rattle.goblin_base.specs.Pieces.{piece};
 ghost use Rattle.goblin_c.specs.Bytes.{number_right, range_right, section_bytes_right, segment_bytes_right, string_bytes_right};
 
 use crate::headers::ctx_of;
-use crate::tables::strings_of;
+use crate::strings::strings_of;
 use crate::types::{GoblinHeader, GoblinRange, GoblinSection, GoblinSegment};
 use goblin::elf::program_header::PT_NULL;
 use goblin::elf::section_header::{SHT_NOBITS, SHT_NULL};

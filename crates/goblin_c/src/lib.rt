@@ -25,14 +25,15 @@ mod kinds;
 mod laws;
 mod layout;
 mod lists;
-mod names;
 mod notes;
 mod status;
+mod strings;
 mod tables;
 #[cfg(test)]
 mod tests;
 mod texts;
 pub mod types;
+mod writer;
 
 use bytes::{number, section_bytes, segment_bytes, string_bytes};
 use goblin::elf::header::{class_to_str, et_to_str, machine_to_str};
@@ -42,17 +43,16 @@ use goblin::elf::sym::{bind_to_str, type_to_str, visibility_to_str};
 use headers::{header_at, section_by_type, section_names, sections_of, segments_of, table_section};
 use layout::{GoblinLayout, marked_layout};
 use lists::{count_of, item_of, tell_from};
-use names::{note_type, write_text};
-use notes::note_from;
+use notes::{note_from, note_type};
 use status::tell;
-use tables::{
-    relocs_of, section_by_name, string_at, symbol_by_address, symbol_by_name, symbols_of,
-};
+use strings::string_at;
+use tables::{relocs_of, section_by_name, symbol_by_address, symbol_by_name, symbols_of};
 use texts::write_refusal;
 use types::{
     GoblinHeader, GoblinNote, GoblinRange, GoblinRefusal, GoblinReloc, GoblinSection,
     GoblinSegment, GoblinSymbol,
 };
+use writer::write_text;
 
 /// The version of these calls and of what crosses.
 pub const VERSION: u32 = 3;

@@ -1,5 +1,6 @@
-//! Notes, as the library gives them.
+//! Notes, as the library gives them, and the names of their types.
 ghost use Rattle.std.specs.Prelude.{◌≡◌};
+ghost use Rattle.goblin.specs.NoteType.{note_type_name};
 ghost use Rattle.goblin.specs.Refusal.{Answers};
 ghost use Rattle.goblin_c.specs.Notes.{note_right};
 
@@ -36,4 +37,23 @@ pub fn note_from(
         next: offset + places.next as u64,
         n_type: places.n_type,
     }))
+}
+
+// The name of the type of a note with a name that is text.
+fn type_of(name: &str, n_type: u32) -> &'static str
+    ensures { result.now ≡ note_type_name name.now n_type }
+{
+    let desc = &[];
+    Note { n_type, name, desc }.type_to_str()
+}
+
+/// The name of the type of a note with this name, where all that counts is whether that is `CORE`.
+#[tactic(auto, unfolding(goblin::specs::NoteType::note_type_name))]
+pub fn note_type(name: &[u8], n_type: u32) -> &'static str
+    ensures { result.now ≡ note_type_name name.now n_type }
+{
+    if name == b"CORE".as_slice() {
+        return type_of("CORE", n_type);
+    }
+    type_of("", n_type)
 }

@@ -1,18 +1,16 @@
-//! Symbols, relocations and strings, as the library gives them.
-ghost use Rattle.std.specs.Prelude.{◌≡◌, ◌+◌, ◌≤◌, IfOk, length, map, position};
+//! Symbols, relocations and what is found by its name, as the library gives them.
+ghost use Rattle.std.specs.Prelude.{◌≡◌, length, map, position};
 ghost use Rattle.goblin.specs.Refusal.{Answers};
-ghost use Rattle.goblin_c.specs.Answers.{reloc_told, relocs_right, section_by_name_right, string_right, strings_right, symbol_by_address_right, symbol_by_name_right, is_named, symbol_told, symbols_right};
+ghost use Rattle.goblin_c.specs.Answers.{reloc_told, relocs_right, section_by_name_right, symbol_by_address_right, symbol_by_name_right, is_named, symbol_told, symbols_right};
 
 use crate::headers::{ctx_of, sections_of};
 use crate::lists::Listed;
+use crate::strings::strings_of;
 use crate::types::{GoblinHeader, GoblinRange, GoblinReloc, GoblinSymbol};
 use goblin::elf::reloc::{Reloc, RelocSection, is_mips64el_in};
 use goblin::elf::section_header::SectionHeader;
 use goblin::elf::sym::{Sym, Symtab};
 use goblin::error::Result;
-use goblin::options::ParseMode;
-use goblin::strtab;
-use goblin::strtab::bytes_in_range;
 
 fn told_symbol(s: &Sym) -> GoblinSymbol
     ensures { result ≡ symbol_told s.now }
@@ -99,35 +97,6 @@ impl Listed for RelocSection<'_> {
 
     fn told(&self, index: usize) -> Option<GoblinReloc> {
         Some(told_reloc(&self.get(index)?))
-    }
-}
-
-/// The strings of a range.
-#[tactic(auto, unfolding(goblin_base::specs::Strtab::range_in))]
-pub fn strings_of<'a>(bytes: &'a [u8], range: &GoblinRange) -> Result<&'a [u8]>
-    ensures given { Answers (λ strings. strings.now) result
-        (strings_right bytes.now range.now) }
-    ensures within { IfOk result (λ strings. range.now.offset + length strings.now ≤ length bytes.now) }
-{
-    bytes_in_range(
-        bytes,
-        range.offset as usize,
-        range.size as usize,
-        ParseMode::Strict,
-    )
-}
-
-/// Where the string at an offset of a range of strings lies in the file.
-pub fn string_at(bytes: &[u8], range: &GoblinRange, offset: u64) -> Result<Option<GoblinRange>>
-    ensures { Answers (λ found. found) result (string_right bytes.now range.now offset) }
-{
-    let strings = strings_of(bytes, range)?;
-    match strtab::string_at(strings, 0, offset as usize) {
-        Some(text) => Ok(Some(GoblinRange {
-            offset: range.offset + offset,
-            size: text?.len() as u64,
-        })),
-        None => Ok(None),
     }
 }
 

@@ -6,8 +6,8 @@ ghost use Rattle.goblin_c.specs.Cut.{cut};
 ghost use Rattle.goblin_c.specs.Texts.{is_brief, is_short, item_text, told_text, fault_from, range_fault_from, table_fault_from, text_of_fault, TextIsKept};
 
 use crate::kinds;
-use crate::names::write_bytes;
 use crate::types::GoblinRefusal;
+use crate::writer::write_bytes;
 use goblin_base::texts;
 use goblin_base::texts::{Piece, Told};
 

@@ -1,0 +1,39 @@
+//! Strings, and where they lie in the file.
+ghost use Rattle.std.specs.Prelude.{◌≡◌, ◌+◌, ◌≤◌, IfOk, length};
+ghost use Rattle.goblin.specs.Refusal.{Answers};
+ghost use Rattle.goblin_c.specs.Answers.{string_right, strings_right};
+
+use crate::types::GoblinRange;
+use goblin::error::Result;
+use goblin::options::ParseMode;
+use goblin::strtab;
+use goblin::strtab::bytes_in_range;
+
+/// The strings of a range.
+#[tactic(auto, unfolding(goblin_base::specs::Strtab::range_in))]
+pub fn strings_of<'a>(bytes: &'a [u8], range: &GoblinRange) -> Result<&'a [u8]>
+    ensures given { Answers (λ strings. strings.now) result
+        (strings_right bytes.now range.now) }
+    ensures within { IfOk result (λ strings. range.now.offset + length strings.now ≤ length bytes.now) }
+{
+    bytes_in_range(
+        bytes,
+        range.offset as usize,
+        range.size as usize,
+        ParseMode::Strict,
+    )
+}
+
+/// Where the string at an offset of a range of strings lies in the file.
+pub fn string_at(bytes: &[u8], range: &GoblinRange, offset: u64) -> Result<Option<GoblinRange>>
+    ensures { Answers (λ found. found) result (string_right bytes.now range.now offset) }
+{
+    let strings = strings_of(bytes, range)?;
+    match strtab::string_at(strings, 0, offset as usize) {
+        Some(text) => Ok(Some(GoblinRange {
+            offset: range.offset + offset,
+            size: text?.len() as u64,
+        })),
+        None => Ok(None),
+    }
+}
