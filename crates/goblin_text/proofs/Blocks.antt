@@ -1,18 +1,11 @@
--- Blocks of a file that are text, and the string tables that lie in them.
-use Rattle.std.proofs.Common.{◌≡◌, ◌∙◌, ℕ, zero, suc, eqb, [], ◌∷◌, refl, ◌+◌, ◌-◌, ◌<◌, ◌≤◌, ◌≢◌, ◌&&◌, set, replicate, length-set, get_or-set_other, get_or-set_same, ltb, leb, Bool, true, false, cond, List, length, get_or, take, drop, sym, ap, subst, ⊎_elim, arith, Ok, slice_range, min}
+-- What is kept of blocks of a file.
+use Rattle.std.proofs.Common.{◌≡◌, ◌∙◌, ℕ, zero, suc, eqb, [], ◌∷◌, refl, ◌+◌, ◌<◌, ◌≤◌, ◌≢◌, ◌&&◌, set, replicate, length-set, get_or-set_other, get_or-set_same, ltb, leb, true, false, cond, List, length, get_or, sym, ap, subst, ⊎_elim, arith}
 use Rattle.std.proofs.lemmas.Bool.{cases_eq, cases_lt}
 use Rattle.std.proofs.lemmas.Bool.Decides.{nat_tests}
-use Rattle.std.proofs.lemmas.List.{get_or-replicate, length-replicate, length-drop, length-take-le, take_all}
-use Rattle.goblin.specs.declared.options.ParseMode.{ParseMode}
-use Rattle.goblin.specs.declared.options.ParseMode.TheVariants.{Strict, Permissive}
-use Rattle.goblin.specs.Strtab.{or_cut, range_in}
-use Rattle.goblin_base.specs.declared.error.Fault.TheVariants.{StrtabOffset, StrtabRange}
-use Prim.Native.Nat.{◌^◌}
-use Rattle.goblin_text.specs.Known.{IsRange}
+use Rattle.std.proofs.lemmas.List.{get_or-replicate, length-replicate}
 use Rattle.goblin_text.specs.declared.runs.Kind.{Kind}
 use Rattle.goblin_text.specs.Runs.{AreEnds, IsEnd, IsRun, cut, past, unknown}
 
--- ---- blocks
 past_bounds : (bytes : List ℕ) (p : ℕ) → (p ≤ past bytes p) × (past bytes p ≤ p + 1)
 unfolding past
 past_bounds bytes p = elim (leb 128 (get_or bytes p 0) && ltb (get_or bytes p 0) 192) as (λ b. (p ≤ cond b (p + 1) p) × (cond b (p + 1) p ≤ p + 1)) [ true ↦ (omega arith, omega arith) | false ↦ (omega arith, omega arith) ]
@@ -88,55 +81,3 @@ end_later kind bytes first k end l m e = record {
   run = λ j from to. e.run j (omega arith) to;
   stops = e.stops;
 }
-
--- ---- ranges
--- bytes that stand somewhere in a file
-placed : (file : List ℕ) (s k : ℕ) (r : List ℕ) → s + k ≤ length file → r ≡ take k (drop s file) → (s + length r ≤ length file) × (r ≡ slice_range file s (s + length r))
-placed file s k r l e =
-    let len : length r ≡ k = ap length e ∙ length-take-le k (drop s file) (omega (arith, length-drop s file)) in
-    let n : k ≡ s + length r - s = omega (arith, len) in
-    (omega (arith, len), e ∙ ap (λ x. take x (drop s file)) n)
-
--- a strict range lies in the file, and has the size that is asked for
-pub strict_range : (mode : ParseMode) (file : List ℕ) (o n : ℕ) (r : List ℕ) → (mode ≡ Permissive → ⊥) → range_in mode file o n ≡ Ok r → (o ≤ length file) × (length r ≡ n)
-unfolding range_in
-strict_range mode file o n r strict is = by mode (ltb (length file) o) (ltb (length file) (o + n)) refl refl strict is
-  where
-    by : (mode : ParseMode) (b c : Bool) → ltb (length file) o ≡ b → ltb (length file) (o + n) ≡ c → (mode ≡ Permissive → ⊥)
-        → cond b (or_cut mode (StrtabOffset o (length file)) []) (cond c (or_cut mode (StrtabRange n o (length file) (leb (2 ^ 64) (o + n))) (drop o file)) (Ok (take n (drop o file)))) ≡ Ok r
-        → (o ≤ length file) × (length r ≡ n)
-    by Permissive b c e f strict is = absurd (strict refl)
-    by Strict true c e f strict is = cc
-    by Strict false true e f strict is = cc
-    by Strict false false e f strict is =
-        let l : o + n ≤ length file = grind (arith, nat_tests) in
-        let r_is : take n (drop o file) ≡ r = cc in
-        (omega arith, ap length (sym r_is) ∙ length-take-le n (drop o file) (omega (arith, length-drop o file)))
-
--- where the bytes of a table stand
-stands : (mode : ParseMode) (file : List ℕ) (o n : ℕ) (r : List ℕ) → range_in mode file o n ≡ Ok r → (s : ℕ) × (k : ℕ) × (s ≡ min o (length file)) × (s + k ≤ length file) × (r ≡ take k (drop s file))
-unfolding range_in
-stands mode file o n r is = by mode (ltb (length file) o) (ltb (length file) (o + n)) refl refl is
-  where
-    by : (mode : ParseMode) (b c : Bool) → ltb (length file) o ≡ b → ltb (length file) (o + n) ≡ c
-        → cond b (or_cut mode (StrtabOffset o (length file)) []) (cond c (or_cut mode (StrtabRange n o (length file) (leb (2 ^ 64) (o + n))) (drop o file)) (Ok (take n (drop o file)))) ≡ Ok r
-        → (s : ℕ) × (k : ℕ) × (s ≡ min o (length file)) × (s + k ≤ length file) × (r ≡ take k (drop s file))
-    by Strict true c e f is = cc
-    by Permissive true c e f is = let l : length file < o = grind (arith, nat_tests) in (length file, 0, omega arith, omega arith, cc)
-    by Strict false true e f is = cc
-    by Permissive false true e f is =
-        let l : o ≤ length file = grind (arith, nat_tests) in
-        let r_is : drop o file ≡ r = cc in
-        (o, length file - o, omega arith, omega arith, sym r_is ∙ sym (take_all (length file - o) (drop o file) (omega (arith, length-drop o file))))
-    by Strict false false e f is = let l : o + n ≤ length file = grind (arith, nat_tests) in let r_is : take n (drop o file) ≡ r = cc in (o, n, omega arith, l, sym r_is)
-    by Permissive false false e f is = let l : o + n ≤ length file = grind (arith, nat_tests) in let r_is : take n (drop o file) ≡ r = cc in (o, n, omega arith, l, sym r_is)
-
-pub range_stands : (mode : ParseMode) (file : List ℕ) (o n : ℕ) (r : List ℕ) → range_in mode file o n ≡ Ok r → IsRange mode file o n (min o (length file)) (min o (length file) + length r)
-range_stands mode file o n r is =
-    let at = stands mode file o n r is in
-    let there = placed file at.0 at.1 r at.3 at.4 in
-    record {
-      order = omega arith;
-      within = omega (arith, there.0, at.2);
-      is = is ∙ ap Ok (subst (λ s. r ≡ slice_range file s (s + length r)) at.2 there.1);
-    }

@@ -10,7 +10,8 @@ use Rattle.std.specs.Str.{is_utf8}
 use Rattle.goblin.specs.Pieces.{piece}
 use Rattle.goblin.specs.TextLaws.{name-later, name-past, names_are_plain}
 use Rattle.goblin.specs.Utf8.{invalid_utf8}
-use Rattle.goblin_text.proofs.Plain.{goes_on_with, length-range, past_is, split, stops}
+use Rattle.goblin_text.proofs.Plain.{get_range, goes_on_with, length-range, past_is, rest_of_range}
+use Rattle.goblin_text.proofs.Puts.{take-most}
 use Rattle.goblin_text.specs.Known.{text_table}
 use Rattle.goblin_text.specs.Runs.{LacksText, past, up_to_zero}
 use Rattle.goblin_text.specs.Shown.{name_at}
@@ -30,12 +31,6 @@ name_here bytes o l = sym (names_are_plain (text_table bytes) o refl l ∙ by (i
     by : (b : Bool) → unwrap_or (result_ok (if b then Ok (up_to_zero (drop o bytes)) else Err (invalid_utf8 (length bytes - o)))) [] ≡ (if b then up_to_zero (drop o bytes) else [])
     by true = refl
     by false = refl
-
--- the rest of a range
-rest_of_range : (bytes : List ℕ) (i j o : ℕ) → i + o ≤ j → drop o (slice_range bytes i j) ≡ slice_range bytes (i + o) j
-rest_of_range bytes i j o l =
-    let n : j - i ≡ o + (j - (i + o)) = omega arith in
-    ap (λ k. drop o (take k (drop i bytes))) n ∙ drop-take o (j - (i + o)) (drop i bytes) ∙ ap (take (j - (i + o))) (drop-drop o i bytes)
 
 -- a name in a range of a file
 pub name_in_range : (bytes : List ℕ) (i j o : ℕ) → i ≤ j → j ≤ length bytes → o < j - i → text_or_nothing (up_to_zero (slice_range bytes (i + o) j)) ≡ name_at (text_table (slice_range bytes i j)) o
@@ -63,38 +58,12 @@ nothing bytes lacks =
     let is : is_utf8 (up_to_zero bytes) ≡ false = false_from_ne_true (is_utf8 (up_to_zero bytes)) (λ t. lacks (IsUtf8-from_is_utf8 (up_to_zero bytes) t)) in
     sym (ap (λ b. if b then up_to_zero bytes else []) is)
 
--- where a zero byte stands near, nothing behind it is read
-pub near_is : (bytes : List ℕ) (i m k : ℕ) (head : List ℕ) → i ≤ m → m ≤ k → head ≡ up_to_zero (slice_range bytes i m) → length head < length (slice_range bytes i m) → head ≡ up_to_zero (slice_range bytes i k)
-near_is bytes i m k head l h is short =
-    is ∙ sym (stops (slice_range bytes i m) (slice_range bytes m k) (subst (λ x. length x < length (slice_range bytes i m)) is short))
-    ∙ ap up_to_zero (sym (split bytes i m k l h))
-
 -- a range is that of the places within the bytes
-empty : (xs : List ℕ) (n : ℕ) → length xs ≤ 0 → take n xs ≡ []
-empty [] zero l = refl
-empty [] (suc n) l = refl
-empty (x ∷ xs) n l = absurd (omega arith)
-
 pub clipped : (bytes : List ℕ) (i j s e : ℕ) → e ≡ min j (length bytes) → s ≡ min i e → slice_range bytes s e ≡ slice_range bytes i j
-clipped bytes i j s e is at = ⊎_elim
-    (λ (a : j < length bytes).
-    let p : e ≡ j = omega arith in
+clipped bytes i j s e is at =
+    let size : e - s ≡ min (j - i) (length bytes - i) = omega arith in
     ⊎_elim
-    (λ (b : i < j). let q : s ≡ i = omega arith in ap (λ x. slice_range bytes x e) q ∙ ap (slice_range bytes i) p)
-    (λ (b : j ≤ i).
-    let q : e - s ≡ j - i = omega arith in
-    let r : j - i ≡ 0 = omega arith in
-    ap (λ n. take n (drop s bytes)) (q ∙ r) ∙ sym (ap (λ n. take n (drop i bytes)) r))
-    (cases_lt i j))
-    (λ (a : length bytes ≤ j).
-    let p : e ≡ length bytes = omega arith in
-    ⊎_elim
-    (λ (b : i < length bytes).
-    let q : s ≡ i = omega arith in
-    ap (λ x. take (e - x) (drop x bytes)) q ∙ take_all (e - i) (drop i bytes) (omega (arith, length-drop i bytes))
-    ∙ sym (take_all (j - i) (drop i bytes) (omega (arith, length-drop i bytes))))
-    (λ (b : length bytes ≤ i).
-    let q : s ≡ length bytes = omega arith in
-    empty (drop s bytes) (e - s) (omega (arith, length-drop s bytes)) ∙ sym (empty (drop i bytes) (j - i) (omega (arith, length-drop i bytes))))
-    (cases_lt i (length bytes)))
-    (cases_lt j (length bytes))
+    (λ (l : e < i). let none : e - s ≡ 0 = omega arith in ap (λ n. take n (drop s bytes)) none ∙ sym (ap (λ n. take n (drop i bytes)) none))
+    (λ (l : i ≤ e). let here : s ≡ i = omega arith in ap (λ k. take (e - s) (drop k bytes)) here)
+    (cases_lt e i)
+    ∙ ap (λ n. take n (drop i bytes)) size ∙ take-most (drop i bytes) (j - i) (length bytes - i) (length-drop i bytes)

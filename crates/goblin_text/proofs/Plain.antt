@@ -3,7 +3,7 @@ use Rattle.std.proofs.Common.{◌≡◌, ◌≢◌, ◌∙◌, ℕ, zero, suc, �
 use Rattle.std.proofs.Math.Seq.{take-append_seam, take-append-add, drop-append_seam}
 use Rattle.std.proofs.lemmas.Bool.{both_ways, cases_lt, cond-true, cond-false, eq-eqb, lt-ltb, le-ltb}
 use Rattle.std.proofs.lemmas.Bool.Decides.{nat_tests}
-use Rattle.std.proofs.lemmas.List.{drop-drop, get_or-drop, get_or-take, length-drop, length-take-le, take-append-le, take_all}
+use Rattle.std.proofs.lemmas.List.{drop-drop, drop-take, get_or-drop, get_or-take, length-drop, length-take, length-take-le, take-append-le, take-take, take_all}
 use Rattle.std.proofs.lemmas.List.Folds.{prefix_len-append}
 use Rattle.std.proofs.lemmas.List.Sums.{fails_before_first, passes_at_first, prefix_len-le-length}
 use Rattle.std.proofs.Math.Seq.{take-add}
@@ -14,13 +14,11 @@ use Rattle.std.specs.Str.{IsUtf8, IsCharBoundary}
 use lib.Utf8.{encode, encodes, scalar, scalars}
 use Rattle.goblin.specs.TextLaws.{texts-join}
 use Rattle.goblin_text.proofs.Blocks.{cut_bounds}
+use Rattle.goblin_text.specs.declared.runs.Kind.{Kind}
 use Rattle.goblin_text.specs.declared.runs.Kind.TheVariants.{Plain, Text}
-use Rattle.goblin_text.specs.Runs.{IsBlock, IsPlain, IsRun, LacksText, cut, past, up_to_zero}
+use Rattle.goblin_text.specs.Runs.{IsBlock, IsOf, IsPlain, IsRun, LacksText, cut, past, up_to_zero}
 
 -- ---- up to a zero byte
-is_zero : ℕ → Bool
-is_zero b = b == 0
-
 abbrev no_zero : ℕ → Bool
 no_zero b = not (b == 0)
 
@@ -65,10 +63,6 @@ first_or_length t xs = ⊎_elim
     (λ (l : length xs ≤ position_or_len t xs). ap (λ r. unwrap_or r (length xs)) (cond-false _ _ _ (le-ltb (position_or_len t xs) (length xs) l)) ∙ (let e : length xs ≡ position_or_len t xs = omega (arith, prefix_len-le-length (λ b. not (t b)) xs) in e))
     (cases_lt (position_or_len t xs) (length xs))
 
-pub up_is : (a : List ℕ) (r : Option ℕ) (n : ℕ) → r ≡ position (λ b. b == 0) a → n ≡ unwrap_or r (length a) → take n a ≡ up_to_zero a
-unfolding up_to_zero
-up_is a r n e f = ap (λ k. take k a) (f ∙ ap (λ x. unwrap_or x (length a)) e ∙ first_or_length (λ b. b == 0) a)
-
 -- ---- ranges
 pub split : (bytes : List ℕ) (i j k : ℕ) → i ≤ j → j ≤ k → slice_range bytes i k ≡ slice_range bytes i j ++ slice_range bytes j k
 split bytes i j k l m =
@@ -89,13 +83,17 @@ up_to_place bytes i j r n l m e f =
     let k : n ≡ first_zero s = f ∙ ap (unwrap_or r) (sym size) ∙ ap (λ x. unwrap_or x (length s)) e ∙ first_or_length (λ b. b == 0) s in
     let short : n ≤ j - i = omega (arith, k, within s, size) in
     let len : i + n - i ≡ n = omega arith in
-    ap (λ x. take x (drop i bytes)) len ∙ sym (take-take_le n (j - i) (drop i bytes) short) ∙ ap (λ x. take x s) k
-  where
-    take-take_le : (a b : ℕ) (xs : List ℕ) → a ≤ b → take a (take b xs) ≡ take a xs
-    take-take_le zero b xs h = refl
-    take-take_le (suc a) zero xs h = absurd (omega arith)
-    take-take_le (suc a) (suc b) [] h = refl
-    take-take_le (suc a) (suc b) (x ∷ xs) h = ap (λ y. x ∷ y) (take-take_le a b xs (omega arith))
+    ap (λ x. take x (drop i bytes)) len ∙ sym (take-take n (j - i) (drop i bytes) short) ∙ ap (λ x. take x s) k
+
+-- a byte of a range
+pub get_range : (bytes : List ℕ) (i k m : ℕ) → m < k - i → get_or (slice_range bytes i k) m 0 ≡ get_or bytes (i + m) 0
+get_range bytes i k m l = get_or-take (k - i) (drop i bytes) m 0 l ∙ get_or-drop i bytes m 0
+
+-- the rest of a range
+pub rest_of_range : (bytes : List ℕ) (i j o : ℕ) → i + o ≤ j → drop o (slice_range bytes i j) ≡ slice_range bytes (i + o) j
+rest_of_range bytes i j o l =
+    let n : j - i ≡ o + (j - (i + o)) = omega arith in
+    ap (λ k. drop o (take k (drop i bytes))) n ∙ drop-take o (j - (i + o)) (drop i bytes) ∙ ap (take (j - (i + o))) (drop-drop o i bytes)
 
 -- ---- text behind text
 -- what follows a text in a text is text
@@ -144,10 +142,6 @@ near (c ∷ cs) i s l =
 near_text : (bs : List ℕ) (i : ℕ) → IsUtf8 bs → i ≤ length bs → (j : ℕ) × (i ≤ j) × (j ≤ i + 3) × IsCharBoundary bs j
 near_text bs i u l = subst (λ x. (j : ℕ) × (i ≤ j) × (j ≤ i + 3) × IsCharBoundary x j) u.1.1 (near u.0 i u.1.0 (omega (arith, ap length u.1.1)))
 
--- a range that is text with no zero byte, by other names of its ends
-pub plain_moved : (bytes : List ℕ) (i j k l : ℕ) → i ≡ k → j ≡ l → IsPlain (slice_range bytes i j) → IsPlain (slice_range bytes k l)
-plain_moved bytes i j k l e f u = subst (λ x. IsPlain (slice_range bytes x l)) e (subst (λ x. IsPlain (slice_range bytes i x)) f u)
-
 -- ---- where a block ends
 -- a byte that goes on with a character
 abbrev pub goes_on_with : ℕ → Type 0
@@ -166,51 +160,70 @@ past_is bytes p = by (leb 128 (get_or bytes p 0)) (ltb (get_or bytes p 0) 192) r
     by true false e f = inr (refl, λ h. let x : 192 ≤ get_or bytes p 0 = grind (arith, nat_tests) in omega (arith, h.1))
     by false b e f = inr (refl, λ h. let x : get_or bytes p 0 < 128 = grind (arith, nat_tests) in omega (arith, h.0))
 
+-- what stands between a place and the one behind it goes on with a character
+step : (bytes : List ℕ) (p q : ℕ) → p ≤ q → q < past bytes p → goes_on_with (get_or bytes q 0)
+step bytes p q l h = ⊎_elim
+    (λ (x : (past bytes p ≡ p + 1) × goes_on_with (get_or bytes p 0)). let e : p ≡ q = omega (arith, x.0) in subst (λ k. goes_on_with (get_or bytes k 0)) e x.1)
+    (λ (x : (past bytes p ≡ p) × ¬ (goes_on_with (get_or bytes p 0))). absurd (omega (arith, x.0)))
+    (past_is bytes p)
+
+-- where the byte behind a place goes on with a character, the byte there does
+steps_on : (bytes : List ℕ) (p : ℕ) → goes_on_with (get_or bytes (past bytes p) 0) → (past bytes p ≡ p + 1) × goes_on_with (get_or bytes p 0)
+steps_on bytes p h = ⊎_elim
+    (λ (x : (past bytes p ≡ p + 1) × goes_on_with (get_or bytes p 0)). x)
+    (λ (x : (past bytes p ≡ p) × ¬ (goes_on_with (get_or bytes p 0))). absurd (x.1 (subst (λ k. goes_on_with (get_or bytes k 0)) x.0 h)))
+    (past_is bytes p)
+
+-- what stands between a place and where characters begin behind it goes on with one
+between : (bytes : List ℕ) (p q : ℕ) → p ≤ q → q < cut bytes p → goes_on_with (get_or bytes q 0)
+unfolding cut
+between bytes p q l h =
+    let a = past bytes p in
+    let b = past bytes a in
+    ⊎_elim
+    (λ (s : q < a). step bytes p q l s)
+    (λ (s : a ≤ q). ⊎_elim (λ (t : q < b). step bytes a q s t) (λ (t : b ≤ q). step bytes b q t h) (cases_lt q b))
+    (cases_lt q a)
+
 -- if a byte goes on with a character where a block's characters begin, the three before it do too
 four : (bytes : List ℕ) (b : ℕ) → goes_on_with (get_or bytes (cut bytes b) 0) → (cut bytes b ≡ b + 3) × ((j : ℕ) → b ≤ j → j ≤ b + 3 → goes_on_with (get_or bytes j 0))
 unfolding cut
 four bytes b h =
-    let p = past bytes b in
-    let q = past bytes p in
-    let G : ℕ → Type 0 = λ x. goes_on_with (get_or bytes x 0) in
-    ⊎_elim
-    (λ (z : (past bytes q ≡ q + 1) × goes_on_with (get_or bytes q 0)). ⊎_elim
-    (λ (y : (past bytes p ≡ p + 1) × goes_on_with (get_or bytes p 0)). ⊎_elim
-    (λ (x : (past bytes b ≡ b + 1) × goes_on_with (get_or bytes b 0)). (
-      omega arith,
-      λ j l m. ⊎_elim
-          (λ (s : j < b + 1). let e : b ≡ j = omega arith in subst G e x.1)
-          (λ (s : b + 1 ≤ j). ⊎_elim
-          (λ (t : j < b + 2). let e : p ≡ j = omega arith in subst G e y.1)
-          (λ (t : b + 2 ≤ j). ⊎_elim
-          (λ (u : j < b + 3). let e : q ≡ j = omega arith in subst G e z.1)
-          (λ (u : b + 3 ≤ j). let e : past bytes q ≡ j = omega arith in subst G e h)
-          (cases_lt j (b + 3)))
-          (cases_lt j (b + 2)))
-          (cases_lt j (b + 1)),
-    ))
-    (λ (x : (past bytes b ≡ b) × ¬ (goes_on_with (get_or bytes b 0))). absurd (x.1 (subst G x.0 y.1)))
-    (past_is bytes b))
-    (λ (y : (past bytes p ≡ p) × ¬ (goes_on_with (get_or bytes p 0))). absurd (y.1 (subst G y.0 z.1)))
-    (past_is bytes p))
-    (λ (z : (past bytes q ≡ q) × ¬ (goes_on_with (get_or bytes q 0))). absurd (z.1 (subst G z.0 h)))
-    (past_is bytes q)
+    let z = steps_on bytes (past bytes (past bytes b)) h in
+    let y = steps_on bytes (past bytes b) z.1 in
+    let x = steps_on bytes b y.1 in
+    let far : cut bytes b ≡ b + 3 = omega (arith, x.0, y.0, z.0) in
+    (far, λ j l m. ⊎_elim
+    (λ (s : j < cut bytes b). between bytes b j l s)
+    (λ (s : cut bytes b ≤ j). let e : cut bytes b ≡ j = omega arith in subst (λ k. goes_on_with (get_or bytes k 0)) e h)
+    (cases_lt j (cut bytes b)))
 
 -- a byte of what stands before the first zero byte of a range
-get_up : (bytes : List ℕ) (i e m : ℕ) → m < length (up_to_zero (slice_range bytes i e)) → e ≤ length bytes → get_or (up_to_zero (slice_range bytes i e)) m 0 ≡ get_or bytes (i + m) 0
+get_up : (bytes : List ℕ) (i e m : ℕ) → m < length (up_to_zero (slice_range bytes i e)) → get_or (up_to_zero (slice_range bytes i e)) m 0 ≡ get_or bytes (i + m) 0
 unfolding up_to_zero
-get_up bytes i e m l h =
+get_up bytes i e m l =
     let s = slice_range bytes i e in
     let n : m < first_zero s = omega (arith, length-take-le (first_zero s) s (within s)) in
-    let some : m < length s = omega (arith, within s) in
-    let room : m < e - i = omega (arith, length-take-any (e - i) (drop i bytes)) in
-    get_or-take (first_zero s) s m 0 n ∙ get_or-take (e - i) (drop i bytes) m 0 room ∙ get_or-drop i bytes m 0
-  where
-    length-take-any : (k : ℕ) (xs : List ℕ) → length (take k xs) ≤ k
-    length-take-any k xs = ⊎_elim
-        (λ (a : k < length xs). omega (arith, length-take-le k xs (omega arith)))
-        (λ (a : length xs ≤ k). omega (arith, ap length (take_all k xs a)))
-        (cases_lt k (length xs))
+    let room : m < e - i = omega (arith, within s, length-take (e - i) (drop i bytes)) in
+    get_or-take (first_zero s) s m 0 n ∙ get_range bytes i e m room
+
+-- a text that holds the bytes from a place on may be cut where a block's characters begin
+cut-boundary : (bytes x : List ℕ) (i p : ℕ) → i ≤ p → cut bytes p - i ≤ length x → IsUtf8 x → ((m : ℕ) → m < length x → get_or x m 0 ≡ get_or bytes (i + m) 0) → IsCharBoundary x (cut bytes p - i)
+cut-boundary bytes x i p l size u is =
+    let bounds = cut_bounds bytes p in
+    let n = cut bytes p - i in
+    (size, λ some from. ⊎_elim
+    (λ (low : get_or x n 0 < 192).
+    let there : i + n ≡ cut bytes p = omega arith in
+    let byte : get_or x n 0 ≡ get_or bytes (cut bytes p) 0 = is n some ∙ ap (λ q. get_or bytes q 0) there in
+    let all_four = four bytes p (omega arith, omega arith) in
+    let at = near_text x (n - 3) u (omega arith) in
+    let place : at.0 < length x = omega (arith, at.2, all_four.0) in
+    let that : get_or x at.0 0 ≡ get_or bytes (i + at.0) 0 = is at.0 place in
+    let on = all_four.1 (i + at.0) (omega (arith, at.1, all_four.0)) (omega (arith, at.2, all_four.0)) in
+    absurd (omega (arith, at.3.1 place (omega (arith, on.0)), on.1)))
+    (λ (high : 192 ≤ get_or x n 0). high)
+    (cases_lt (get_or x n 0) 192))
 
 -- what lacks text up to the end of a block lacks it also where more follows
 pub lacks-on : (bytes : List ℕ) (i k e : ℕ) → i ≤ k → cut bytes k ≤ e → e ≤ length bytes → LacksText (slice_range bytes i (cut bytes k)) → LacksText (slice_range bytes i e)
@@ -218,93 +231,57 @@ lacks-on bytes i k e l m h lacks = λ u.
     let bounds = cut_bounds bytes k in
     let a = slice_range bytes i (cut bytes k) in
     let r = slice_range bytes (cut bytes k) e in
-    let x = up_to_zero (slice_range bytes i e) in
     let is : slice_range bytes i e ≡ a ++ r = split bytes i (cut bytes k) e (omega arith) m in
     let size : length a ≡ cut bytes k - i = length-range bytes i (cut bytes k) (omega arith) (omega arith) in
     ⊎_elim
     (λ (short : length (up_to_zero a) < length a). lacks (subst IsUtf8 (ap up_to_zero is ∙ stops a r short) u))
     (λ (all : length a ≤ length (up_to_zero a)).
+    let x = up_to_zero (slice_range bytes i e) in
     let joined : x ≡ a ++ up_to_zero r = ap up_to_zero is ∙ goes_on a r all in
     let long : length x ≡ length a + length (up_to_zero r) = ap length joined ∙ length-append a (up_to_zero r) in
-    let lead : length a < length x → 128 ≤ get_or x (length a) 0 → 192 ≤ get_or x (length a) 0 = λ n from. ⊎_elim
-    (λ (low : get_or x (length a) 0 < 192).
-    let there : i + length a ≡ cut bytes k = omega arith in
-    let byte : get_or x (length a) 0 ≡ get_or bytes (cut bytes k) 0 = get_up bytes i e (length a) n h ∙ ap (λ p. get_or bytes p 0) there in
-    let all_four = four bytes k (omega arith, omega arith) in
-    let at = near_text x (length a - 3) u (omega arith) in
-    let j = at.0 in
-    let place : j < length x = omega (arith, at.2, all_four.0) in
-    let that : get_or x j 0 ≡ get_or bytes (i + j) 0 = get_up bytes i e j place h in
-    let on = all_four.1 (i + j) (omega (arith, at.1, all_four.0)) (omega (arith, at.2, all_four.0)) in
-    absurd (omega (arith, at.3.1 place (omega (arith, on.0)), on.1)))
-    (λ (high : 192 ≤ get_or x (length a) 0). high)
-    (cases_lt (get_or x (length a) 0) 192) in
-    let front : IsUtf8 (take (length a) x) = IsUtf8-take x (length a) u (omega arith, lead) in
-    lacks (subst IsUtf8 (ap (take (length a)) joined ∙ take-append_seam a (up_to_zero r) ∙ sym (whole a all)) front))
+    let boundary = cut-boundary bytes x i k l (omega arith) u (get_up bytes i e) in
+    let front : take (cut bytes k - i) x ≡ up_to_zero a = ap (λ n. take n x) (sym size) ∙ ap (take (length a)) joined ∙ take-append_seam a (up_to_zero r) ∙ sym (whole a all) in
+    lacks (subst IsUtf8 front (IsUtf8-take x (cut bytes k - i) u boundary)))
     (cases_lt (length (up_to_zero a)) (length a))
 
 -- what lacks text behind text with no zero byte, and with it
 pub lacks-after : (bytes : List ℕ) (i j k : ℕ) → i ≤ j → j ≤ k → IsPlain (slice_range bytes i j) → LacksText (slice_range bytes j k) → LacksText (slice_range bytes i k)
 lacks-after bytes i j k l m plain lacks = subst LacksText (sym (split bytes i j k l m)) (lacks-behind _ _ plain lacks)
 
-pub plains-join : (bytes : List ℕ) (i j k : ℕ) → i ≤ j → j ≤ k → IsPlain (slice_range bytes i j) → IsPlain (slice_range bytes j k) → IsPlain (slice_range bytes i k)
-plains-join bytes i j k l m p q = subst IsPlain (sym (split bytes i j k l m)) (plain-join _ _ p q)
+-- what is of a kind behind what is of it
+kinds-join : (kind : Kind) (bytes : List ℕ) (i j k : ℕ) → i ≤ j → j ≤ k → IsOf kind (slice_range bytes i j) → IsOf kind (slice_range bytes j k) → IsOf kind (slice_range bytes i k)
+kinds-join Text bytes i j k l m p q = texts-join bytes i j k l m p q
+kinds-join Plain bytes i j k l m p q = subst IsPlain (sym (split bytes i j k l m)) (plain-join _ _ p q)
 
--- a test for text that fails
-pub not_text : (b : Bool) (head bytes : List ℕ) → IsTrue (not b) → (IsUtf8 head → IsTrue b) → head ≡ up_to_zero bytes → LacksText bytes
-not_text true head bytes n t e = absurd (both_ways _ refl n)
-not_text false head bytes n t e = λ u. both_ways _ refl (t (subst IsUtf8 (sym e) u))
-
--- a text up to a run of blocks, and the run
-pub plain_run : (bytes : List ℕ) (i a n : ℕ) → i ≤ a * 512 → IsPlain (slice_range bytes i (cut bytes (a * 512))) → IsRun Plain bytes a (a + n) → IsPlain (slice_range bytes i (cut bytes ((a + n) * 512)))
+-- what is of a kind up to a run of blocks, and the run
+pub of_up_to : (kind : Kind) (bytes : List ℕ) (i a b : ℕ) → i ≤ a * 512 → a ≤ b → IsOf kind (slice_range bytes i (cut bytes (a * 512))) → IsRun kind bytes a b → IsOf kind (slice_range bytes i (cut bytes (b * 512)))
 unfolding IsBlock
-plain_run bytes i a zero l p run = let e : a ≡ a + 0 = omega arith in subst (λ x. IsPlain (slice_range bytes i (cut bytes (x * 512)))) e p
-plain_run bytes i a (suc n) l p run =
-    let k = a + n in
-    let here = cut_bounds bytes (k * 512) in
-    let next = cut_bounds bytes ((k + 1) * 512) in
-    let before = plain_run bytes i a n l p (λ j from to. run j from (omega arith)) in
-    let from : i ≤ cut bytes (k * 512) = omega arith in
-    let to : cut bytes (k * 512) ≤ cut bytes ((k + 1) * 512) = omega arith in
-    let e : k + 1 ≡ a + suc n = omega arith in
-    subst (λ x. IsPlain (slice_range bytes i (cut bytes (x * 512)))) e (plains-join bytes i (cut bytes (k * 512)) (cut bytes ((k + 1) * 512)) from to before (run k (omega arith) (omega arith)))
-
-pub plain_up_to : (bytes : List ℕ) (i a b : ℕ) → i ≤ a * 512 → a ≤ b → IsPlain (slice_range bytes i (cut bytes (a * 512))) → IsRun Plain bytes a b → IsPlain (slice_range bytes i (cut bytes (b * 512)))
-plain_up_to bytes i a b l m p run =
+of_up_to kind bytes i a b l m p run =
     let e : a + (b - a) ≡ b = omega arith in
-    subst (λ x. IsPlain (slice_range bytes i (cut bytes (x * 512)))) e (plain_run bytes i a (b - a) l p (λ j from to. run j from (omega arith)))
+    subst (λ x. IsOf kind (slice_range bytes i (cut bytes (x * 512)))) e (by (b - a) (λ j from to. run j from (omega arith)))
+  where
+    by : (n : ℕ) → IsRun kind bytes a (a + n) → IsOf kind (slice_range bytes i (cut bytes ((a + n) * 512)))
+    by zero run = let e : a ≡ a + 0 = omega arith in subst (λ x. IsOf kind (slice_range bytes i (cut bytes (x * 512)))) e p
+    by (suc n) run =
+        let k = a + n in
+        let here = cut_bounds bytes (k * 512) in
+        let next = cut_bounds bytes ((k + 1) * 512) in
+        let e : k + 1 ≡ a + suc n = omega arith in
+        subst (λ x. IsOf kind (slice_range bytes i (cut bytes (x * 512)))) e
+        (kinds-join kind bytes i (cut bytes (k * 512)) (cut bytes ((k + 1) * 512)) (omega arith) (omega arith) (by n (λ j from to. run j from (omega arith))) (run k (omega arith) (omega arith)))
 
 -- ---- text that is cut at the edge of a block
--- a byte of a range
-get_range : (bytes : List ℕ) (i k m : ℕ) → m < k - i → get_or (slice_range bytes i k) m 0 ≡ get_or bytes (i + m) 0
-get_range bytes i k m l = get_or-take (k - i) (drop i bytes) m 0 l ∙ get_or-drop i bytes m 0
-
 -- a text may be cut where a block's characters begin
 pub text-cut : (bytes : List ℕ) (i p k : ℕ) → i ≤ p → p + 3 ≤ k → k ≤ length bytes → IsUtf8 (slice_range bytes i k) → IsUtf8 (slice_range bytes i (cut bytes p)) × IsUtf8 (slice_range bytes (cut bytes p) k)
 text-cut bytes i p k l m h u =
     let bounds = cut_bounds bytes p in
-    let c = cut bytes p in
+    let n = cut bytes p - i in
     let x = slice_range bytes i k in
-    let n = c - i in
     let size : length x ≡ k - i = length-range bytes i k (omega arith) h in
-    let front : length (slice_range bytes i c) ≡ n = length-range bytes i c (omega arith) (omega arith) in
-    let is : x ≡ slice_range bytes i c ++ slice_range bytes c k = split bytes i c k (omega arith) (omega arith) in
-    let lead : n < length x → 128 ≤ get_or x n 0 → 192 ≤ get_or x n 0 = λ some from. ⊎_elim
-    (λ (low : get_or x n 0 < 192).
-    let there : i + n ≡ c = omega arith in
-    let byte : get_or x n 0 ≡ get_or bytes c 0 = get_range bytes i k n (omega (arith, some, size)) ∙ ap (λ q. get_or bytes q 0) there in
-    let all_four = four bytes p (omega arith, omega arith) in
-    let at = near_text x (n - 3) u (omega arith) in
-    let j = at.0 in
-    let place : j < length x = omega (arith, at.2, all_four.0, some) in
-    let that : get_or x j 0 ≡ get_or bytes (i + j) 0 = get_range bytes i k j (omega (arith, place, size)) in
-    let on = all_four.1 (i + j) (omega (arith, at.1, all_four.0)) (omega (arith, at.2, all_four.0)) in
-    absurd (omega (arith, at.3.1 place (omega (arith, on.0)), on.1)))
-    (λ (high : 192 ≤ get_or x n 0). high)
-    (cases_lt (get_or x n 0) 192) in
-    let boundary : IsCharBoundary x n = (omega (arith, size), lead) in (
-      subst IsUtf8 (ap (λ y. take n y) is ∙ ap (λ z. take z (slice_range bytes i c ++ slice_range bytes c k)) (sym front) ∙ take-append_seam (slice_range bytes i c) (slice_range bytes c k)) (IsUtf8-take x n u boundary),
-      subst IsUtf8 (ap (λ y. drop n y) is ∙ ap (λ z. drop z (slice_range bytes i c ++ slice_range bytes c k)) (sym front) ∙ drop-append_seam (slice_range bytes i c) (slice_range bytes c k)) (IsUtf8-drop x n u boundary),
+    let place : i + n ≡ cut bytes p = omega arith in
+    let boundary = cut-boundary bytes x i p l (omega arith) u (λ q short. get_range bytes i k q (omega arith)) in (
+      subst IsUtf8 (take-take n (k - i) (drop i bytes) (omega arith)) (IsUtf8-take x n u boundary),
+      subst IsUtf8 (rest_of_range bytes i k n (omega arith) ∙ ap (λ c. slice_range bytes c k) place) (IsUtf8-drop x n u boundary),
     )
 
 -- so its blocks are text
@@ -314,25 +291,6 @@ block_of_text bytes i k e l m h u =
     let bounds = cut_bounds bytes (e * 512) in
     let behind = (text-cut bytes i (e * 512) k l (omega arith) h u).1 in
     (text-cut bytes (cut bytes (e * 512)) ((e + 1) * 512) k (omega arith) m h behind).0
-
--- a text up to a run of blocks that are text, and the run
-text_run : (bytes : List ℕ) (i a n : ℕ) → i ≤ a * 512 → IsUtf8 (slice_range bytes i (cut bytes (a * 512))) → IsRun Text bytes a (a + n) → IsUtf8 (slice_range bytes i (cut bytes ((a + n) * 512)))
-unfolding IsBlock
-text_run bytes i a zero l p run = let e : a ≡ a + 0 = omega arith in subst (λ x. IsUtf8 (slice_range bytes i (cut bytes (x * 512)))) e p
-text_run bytes i a (suc n) l p run =
-    let k = a + n in
-    let here = cut_bounds bytes (k * 512) in
-    let next = cut_bounds bytes ((k + 1) * 512) in
-    let before = text_run bytes i a n l p (λ j from to. run j from (omega arith)) in
-    let from : i ≤ cut bytes (k * 512) = omega arith in
-    let to : cut bytes (k * 512) ≤ cut bytes ((k + 1) * 512) = omega arith in
-    let e : k + 1 ≡ a + suc n = omega arith in
-    subst (λ x. IsUtf8 (slice_range bytes i (cut bytes (x * 512)))) e (texts-join bytes i (cut bytes (k * 512)) (cut bytes ((k + 1) * 512)) from to before (run k (omega arith) (omega arith)))
-
-pub text_up_to : (bytes : List ℕ) (i a b : ℕ) → i ≤ a * 512 → a ≤ b → IsUtf8 (slice_range bytes i (cut bytes (a * 512))) → IsRun Text bytes a b → IsUtf8 (slice_range bytes i (cut bytes (b * 512)))
-text_up_to bytes i a b l m p run =
-    let e : a + (b - a) ≡ b = omega arith in
-    subst (λ x. IsUtf8 (slice_range bytes i (cut bytes (x * 512)))) e (text_run bytes i a (b - a) l p (λ j from to. run j from (omega arith)))
 
 -- ---- zero bytes
 -- bytes of which none is zero
@@ -347,36 +305,6 @@ whole_no_zero a m is l = λ z.
     let far : m < first_zero a = omega (arith, ap length is, length-up a) in
     let f : eqb (get_or a m 0) 0 ≡ false = fails_before_first (λ b. b == 0) a m 0 far in
     absurd (both_ways _ f (eq-eqb _ _ z))
-
--- what stands between a place and where characters begin behind it goes on with one
-between : (bytes : List ℕ) (p q : ℕ) → p ≤ q → q < cut bytes p → goes_on_with (get_or bytes q 0)
-unfolding cut
-between bytes p q l h =
-    let G : ℕ → Type 0 = λ x. goes_on_with (get_or bytes x 0) in
-    let a = past bytes p in
-    let b = past bytes a in
-    ⊎_elim
-    (λ (x : (a ≡ p + 1) × goes_on_with (get_or bytes p 0)). ⊎_elim
-    (λ (s : q < a). let e : p ≡ q = omega (arith, x.0) in subst G e x.1)
-    (λ (s : a ≤ q). second s)
-    (cases_lt q a))
-    (λ (x : (a ≡ p) × ¬ (goes_on_with (get_or bytes p 0))). second (omega (arith, x.0)))
-    (past_is bytes p)
-  where
-    third : past bytes (past bytes p) ≤ q → goes_on_with (get_or bytes q 0)
-    third s = ⊎_elim
-        (λ (z : (past bytes (past bytes (past bytes p)) ≡ past bytes (past bytes p) + 1) × goes_on_with (get_or bytes (past bytes (past bytes p)) 0)). let e : past bytes (past bytes p) ≡ q = omega (arith, z.0) in subst (λ x. goes_on_with (get_or bytes x 0)) e z.1)
-        (λ (z : (past bytes (past bytes (past bytes p)) ≡ past bytes (past bytes p)) × ¬ (goes_on_with (get_or bytes (past bytes (past bytes p)) 0))). absurd (omega (arith, z.0)))
-        (past_is bytes (past bytes (past bytes p)))
-
-    second : past bytes p ≤ q → goes_on_with (get_or bytes q 0)
-    second s = ⊎_elim
-        (λ (y : (past bytes (past bytes p) ≡ past bytes p + 1) × goes_on_with (get_or bytes (past bytes p) 0)). ⊎_elim
-        (λ (u : q < past bytes (past bytes p)). let e : past bytes p ≡ q = omega (arith, y.0) in subst (λ x. goes_on_with (get_or bytes x 0)) e y.1)
-        (λ (u : past bytes (past bytes p) ≤ q). third u)
-        (cases_lt q (past bytes (past bytes p))))
-        (λ (y : (past bytes (past bytes p) ≡ past bytes p) × ¬ (goes_on_with (get_or bytes (past bytes p) 0))). third (omega (arith, y.0)))
-        (past_is bytes (past bytes p))
 
 -- no zero byte stands up to where a block's characters begin, where none stands near
 pub whole-cut : (bytes : List ℕ) (i p near : ℕ) → i ≤ p → p ≤ near → near ≤ length bytes → cut bytes p ≤ length bytes → up_to_zero (slice_range bytes i near) ≡ slice_range bytes i near → up_to_zero (slice_range bytes i (cut bytes p)) ≡ slice_range bytes i (cut bytes p)
@@ -415,7 +343,7 @@ long_plain bytes place run l m n near text run_is =
     let first = place / 512 + 1 in
     let bounds = cut_bounds bytes (first * 512) in
     let whole_is = whole-cut bytes place (first * 512) (place + 512) (omega arith) (omega arith) n (omega arith) near in
-    plain_up_to bytes place first run (omega arith) l (record { text = text; whole = whole_is }) run_is
+    of_up_to Plain bytes place first run (omega arith) l (record { text = text; whole = whole_is }) run_is
 
 -- where a string ends behind text with no zero byte
 abbrev pub EndsIn : List ℕ → ℕ → ℕ → Option ℕ → Type 0
@@ -423,6 +351,22 @@ EndsIn bytes from to r = MatchOption r (LacksText (slice_range bytes from to)) (
 
 abbrev pub IsTextIn : List ℕ → ℕ → Option ℕ → Type 0
 IsTextIn bytes from r = IfSome r (λ stop. IsUtf8 (slice_range bytes from stop))
+
+-- where a string ends in a block that isn't text with no zero byte, it ends there of more bytes too
+pub ends_on : (bytes : List ℕ) (block end : ℕ) (r : Option ℕ) → cut bytes ((block + 1) * 512) ≤ end → end ≤ length bytes → ¬ (IsBlock Plain bytes block) → EndsIn bytes (cut bytes (block * 512)) (cut bytes ((block + 1) * 512)) r → IsTextIn bytes (cut bytes (block * 512)) r → EndsIn bytes (cut bytes (block * 512)) end r
+unfolding IsBlock
+ends_on bytes block end None room h other e t =
+    let bounds = cut_bounds bytes (block * 512) in
+    lacks-on bytes (cut bytes (block * 512)) ((block + 1) * 512) end (omega arith) room h e
+ends_on bytes block end (Some stop) room h other e t =
+    let from = cut bytes (block * 512) in
+    let to = cut bytes ((block + 1) * 512) in
+    ⊎_elim
+    (λ (l : stop < to). (e.0, omega (arith, l, room), string-within bytes from stop to end e.0 l room (omega (arith, room, h)) e.2))
+    (λ (l : to ≤ stop).
+    let all : stop ≡ to = omega (arith, l, e.1) in
+    absurd (other (record { text = subst (λ s. IsUtf8 (slice_range bytes from s)) all t; whole = sym (subst (λ s. slice_range bytes from s ≡ up_to_zero (slice_range bytes from to)) all e.2) })))
+    (cases_lt stop to)
 
 pub ends_behind : (bytes : List ℕ) (place from end : ℕ) (r : Option ℕ) → place ≤ from → from ≤ end → IsPlain (slice_range bytes place from) → EndsIn bytes from end r → EndsIn bytes place end r
 ends_behind bytes place from end None l m plain e = lacks-after bytes place from end l m plain e

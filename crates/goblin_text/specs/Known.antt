@@ -1,16 +1,9 @@
 -- The string tables of a file: ranges of its bytes, of which names are read where they stand.
-use Rattle.std.specs.Prelude.{◌≡◌, ℕ, ◌≤◌, true, List, length, slice_range, Ok}
-use Rattle.goblin.specs.declared.options.ParseMode.{ParseMode}
-use Rattle.goblin.specs.Strtab.{StringTable, range_in}
+use Rattle.std.specs.Prelude.{ℕ, true, List, slice_range}
+use Rattle.goblin.specs.Strtab.{StringTable}
 use Rattle.goblin_text.specs.declared.names.Strings.{Strings}
 use Rattle.goblin_text.specs.declared.names.Strings.TheVariants.{Missing, Within}
 use Rattle.goblin_text.specs.Shown.{no_strings}
-
--- a table's bytes stand in the file from one place to another
-pub record IsRange (mode : ParseMode) (bytes : List ℕ) (offset size start end : ℕ) : Type 0 where
-  pub order : start ≤ end
-  pub within : end ≤ length bytes
-  pub is : range_in mode bytes offset size ≡ Ok (slice_range bytes start end)
 
 -- the table with the delimiter 0 of these bytes
 abbrev pub text_table : List ℕ → StringTable

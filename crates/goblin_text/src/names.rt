@@ -4,9 +4,9 @@ ghost use Rattle.std.specs.Prelude.{◌≡◌, ◌↔◌, ◌+◌, ◌*◌, ◌<
 ghost use Rattle.std.specs.Str.{IsUtf8};
 ghost use Rattle.goblin.specs.declared.options.ParseMode.{ParseMode};
 ghost use Rattle.goblin.specs.Refusal.{Answers};
-ghost use Rattle.goblin.specs.Strtab.{strtab_of};
+ghost use Rattle.goblin.specs.Strtab.{strtab_of, table_of};
 ghost use Rattle.goblin_text.specs.Known.{strings_in, text_table};
-ghost use Rattle.goblin_text.specs.Looks.{CountsAtLeast, IsKept, IsShort, Spends, name_looks, table_looks};
+ghost use Rattle.goblin_text.specs.Looks.{CountsAtLeast, IsKept, IsShort, Spends, Spent, name_looks, table_looks};
 ghost use Rattle.goblin_text.specs.Runs.{LacksText, up_to_zero};
 ghost use Rattle.goblin_text.specs.Shown.{name_at};
 
@@ -95,7 +95,7 @@ impl<'a> Names<'a> {
     ///
     /// It has no entries: a name is read where it stands. Strict options ask that its bytes are text. The errors are
     /// those of `Strtab::parse_with_opts`.
-    #[tactic(auto, using(crate::proofs::Blocks::range_stands, crate::proofs::Tables::range_taken))]
+    #[tactic(auto, using(crate::proofs::Tables::range_stands, crate::proofs::Tables::range_taken))]
     pub fn table(&mut self, offset: usize, size: usize, opts: &ParseOptions) -> Result<Strings>
         ensures exact { let right = strtab_of opts.now.parse_mode self.old.bytes offset size 0 in
             Answers (strings_in self.old.bytes) result right }
@@ -115,32 +115,32 @@ impl<'a> Names<'a> {
         let range = bytes_in_range(bytes, offset, size, opts.parse_mode)?;
         let start = offset.min(bytes.len());
         let end = start + range.len();
-        if !opts.parse_mode.is_permissive() && !self.is_range_text(start, end) {
-            self.seen.refuse_unless_text(start, end)?;
+        if !opts.parse_mode.is_permissive() {
+            self.refuse_unless_text(start, end)?;
         }
         Ok(Strings::Within { start, end })
     }
 
-    // Whether a range is text: it is read, unless it is the one that was last found to be.
-    fn is_range_text(&mut self, start: usize, end: usize) -> bool
+    // Refuses the string table of a range, unless it is text: it is read, unless it is the one that was last found to be.
+    fn refuse_unless_text(&mut self, start: usize, end: usize) -> Result<()>
         requires ordered { start ≤ end }
         requires within { end ≤ length self.old.bytes }
-        ensures value { IsTrue result ↔ IsUtf8 (slice_range self.old.bytes start end) }
+        ensures exact { let bytes = slice_range self.old.bytes start end in
+            Answers (λ _. text_table bytes) result (table_of ParseMode.Strict bytes 0) }
         ensures unchanged { self.new.bytes ≡ self.old.bytes }
-        ensures looks { IsShort self.old.bytes → Spends self.old self.new table_looks }
-        ensures kept { IsTrue result → IsKept self.new start end }
-        ensures looks_kept { IsKept self.old start end
-            → IsTrue result × (self.new.count ≡ self.old.count) }
+        ensures looks { IsShort self.old.bytes → Spent self.old self.new result table_looks }
+        ensures kept { OnOk result (IsKept self.new start end) }
+        ensures looks_kept { IsKept self.old start end → self.new.count ≡ self.old.count }
     {
         if start == self.text_start && end == self.text_end {
-            return true;
+            return Ok(());
         }
         if !self.reads_as_text(start, end) {
-            return false;
+            return self.seen.refuse_unless_text(start, end);
         }
         self.text_start = start;
         self.text_end = end;
-        true
+        Ok(())
     }
 
     // Whether a range is text: its two ends are read, with six looks at edges of blocks, and what is between them where
@@ -262,15 +262,12 @@ impl<'a> Names<'a> {
         }
         let run = end_of(&mut self.seen, Kind::Plain, &mut self.plain, first).min(last);
         let from = self.seen.cut(run * BLOCK);
-        if run == last {
-            return self.end_of_text(from, end);
-        }
-        let to = self.seen.cut((run + 1) * BLOCK);
-        let stop = self.end_of_text(from, to)?;
-        if stop == to {
-            return None;
-        }
-        Some(stop)
+        let to = if run == last {
+            end
+        } else {
+            self.seen.cut((run + 1) * BLOCK)
+        };
+        self.end_of_text(from, to)
     }
 
     // Where the string from a place on ends, up to another, unless it is no text.

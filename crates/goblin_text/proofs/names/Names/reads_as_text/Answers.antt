@@ -4,7 +4,7 @@ use Rattle.std.proofs.lemmas.Grind.{common_steps}
 use Rattle.std.specs.Str.{IsUtf8}
 use Rattle.goblin.specs.TextLaws.{texts-join}
 use Rattle.goblin_text.proofs.Blocks.{cut_bounds}
-use Rattle.goblin_text.proofs.Plain.{block_of_text, text-cut, text_up_to}
+use Rattle.goblin_text.proofs.Plain.{block_of_text, of_up_to, text-cut}
 use Rattle.goblin_text.specs.declared.runs.Kind.TheVariants.{Text}
 use Rattle.goblin_text.specs.Runs.{IsEnd, IsRun, blocks, cut}
 use Rattle.goblin_text.proofs.names.Names.reads_as_text.Goals as goal
@@ -51,7 +51,7 @@ returns-clause-value c =
     let end : IsEnd Text bytes first c.end_of.result = subst (λ b. IsEnd Text b first c.end_of.result) same c.end_of.ensures.end in
     let behind : last ≤ c.end_of.result = grind (arith, common_steps) in
     let run : IsRun Text bytes first last = λ j l m. end.run j l (omega (arith, behind, m)) in
-    let joined = text_up_to bytes c.args.start first last (omega arith) (omega arith) front run in (
+    let joined = of_up_to Text bytes c.args.start first last (omega arith) (omega arith) front run in (
       λ t. texts-join bytes c.args.start (cut bytes (last * 512)) c.args.end from to joined (subst IsUtf8 rest (c.is_text-3.ensures.value.0 t)),
       λ u. c.is_text-3.ensures.value.1 (subst IsUtf8 (sym rest) (text-cut bytes c.args.start (last * 512) c.args.end (omega arith) (omega arith) c.requires.within u).1),
     )

@@ -1,0 +1,15 @@
+use Rattle.std.proofs.Common.{arith, slice_range}
+use Rattle.std.proofs.lemmas.Grind.{common_steps}
+use Rattle.std.specs.Str.{IsUtf8}
+use Rattle.goblin_text.proofs.Faults.{table_taken}
+use Rattle.goblin_text.proofs.names.Names.refuse_unless_text.Goals as goal
+
+pub returns-then-end-self-clause-exact : goal.returns-then-end-self-clause-exact
+returns-then-end-self-clause-exact c =
+    let text : IsUtf8 (slice_range c.args.self.now.bytes c.args.start c.args.end) = grind (arith, common_steps) in
+    table_taken _ text
+
+pub returns-clause-exact : goal.returns-clause-exact
+returns-clause-exact c =
+    let text : IsUtf8 (slice_range c.args.self.now.bytes c.args.start c.args.end) = grind (arith, common_steps) in
+    table_taken _ text
