@@ -1,53 +1,43 @@
--- The digits of a number.
-use Rattle.std.proofs.Common.{◌≡◌, ℕ, zero, suc, ◌/◌, ◌%◌, ◌^◌, ◌<◌, ◌≤◌, Bool, true, false, if◌then◌else◌, List, [], ◌∷◌, ap, arith, eqb}
-use Rattle.std.proofs.Math.Nat.{pow-suc}
+-- The digits of a number by a base.
+use Rattle.std.proofs.Common.{◌≡◌, ℕ, zero, suc, ◌*◌, ◌/◌, ◌%◌, ◌^◌, ◌<◌, ◌≤◌, Bool, true, false, if◌then◌else◌, List, [], ◌∷◌, ap, arith, eqb, subst}
+use Rattle.std.proofs.Math.Nat.{div-eq_of_lt, mod-lt, pow-suc}
+use Rattle.std.proofs.lemmas.Bool.{eq-eqb}
 use Rattle.std.proofs.lemmas.Bool.Decides.{nat_tests}
+use Rattle.std.proofs.lemmas.Nat.{div_below, le-div}
 use Rattle.std.proofs.lemmas.Str.Ascii.{IsAscii-cons, IsAscii-nil}
 use Rattle.std.specs.Fmt.{digit_glyph, digits, digits_onto}
 use Rattle.std.specs.Str.{IsAscii}
 
--- ---- in decimal
-pub decimal-more : (k n : ℕ) (acc : List ℕ) → 10 ≤ n → digits_onto (suc k) 10 false n acc ≡ digits_onto k 10 false (n / 10) (digit_glyph false (n % 10) ∷ acc)
-decimal-more k n acc h =
-    let more : eqb (n / 10) 0 ≡ false = grind (arith, nat_tests) in
-    ap (λ b. if b then digit_glyph false (n % 10) ∷ acc else digits_onto k 10 false (n / 10) (digit_glyph false (n % 10) ∷ acc)) more
+-- a digit before others
+pub digits-more : (base k n : ℕ) (acc : List ℕ) → 0 < base → base ≤ n → digits_onto (suc k) base false n acc ≡ digits_onto k base false (n / base) (digit_glyph false (n % base) ∷ acc)
+digits-more base k n acc some h =
+    let left : 1 ≤ n / base = le-div 1 n base some (omega arith) in
+    let more : eqb (n / base) 0 ≡ false = grind (arith, nat_tests) in
+    ap (λ b. if b then digit_glyph false (n % base) ∷ acc else digits_onto k base false (n / base) (digit_glyph false (n % base) ∷ acc)) more
 
-pub decimal-last : (k n : ℕ) (acc : List ℕ) → n < 10 → digits_onto (suc k) 10 false n acc ≡ digit_glyph false (n % 10) ∷ acc
-decimal-last k n acc h =
-    let last : eqb (n / 10) 0 ≡ true = grind (arith, nat_tests) in
-    ap (λ b. if b then digit_glyph false (n % 10) ∷ acc else digits_onto k 10 false (n / 10) (digit_glyph false (n % 10) ∷ acc)) last
+-- the last digit
+pub digits-last : (base k n : ℕ) (acc : List ℕ) → n < base → digits_onto (suc k) base false n acc ≡ digit_glyph false (n % base) ∷ acc
+digits-last base k n acc h =
+    ap (λ b. if b then digit_glyph false (n % base) ∷ acc else digits_onto k base false (n / base) (digit_glyph false (n % base) ∷ acc)) (eq-eqb _ _ (div-eq_of_lt h))
 
-pub decimal-shorter : (n s : ℕ) → n < 10 ^ (suc s) → n / 10 < 10 ^ s
-decimal-shorter n s h = omega (arith, pow-suc 10 s)
-
--- ---- in hexadecimal
-pub hexadecimal-more : (k n : ℕ) (acc : List ℕ) → 16 ≤ n → digits_onto (suc k) 16 false n acc ≡ digits_onto k 16 false (n / 16) (digit_glyph false (n % 16) ∷ acc)
-hexadecimal-more k n acc h =
-    let more : eqb (n / 16) 0 ≡ false = grind (arith, nat_tests) in
-    ap (λ b. if b then digit_glyph false (n % 16) ∷ acc else digits_onto k 16 false (n / 16) (digit_glyph false (n % 16) ∷ acc)) more
-
-pub hexadecimal-last : (k n : ℕ) (acc : List ℕ) → n < 16 → digits_onto (suc k) 16 false n acc ≡ digit_glyph false (n % 16) ∷ acc
-hexadecimal-last k n acc h =
-    let last : eqb (n / 16) 0 ≡ true = grind (arith, nat_tests) in
-    ap (λ b. if b then digit_glyph false (n % 16) ∷ acc else digits_onto k 16 false (n / 16) (digit_glyph false (n % 16) ∷ acc)) last
-
-pub hexadecimal-shorter : (n s : ℕ) → n < 16 ^ (suc s) → n / 16 < 16 ^ s
-hexadecimal-shorter n s h = omega (arith, pow-suc 16 s)
+-- what is left has a digit less
+pub shorter : (base n s : ℕ) → 0 < base → n < base ^ (suc s) → n / base < base ^ s
+shorter base n s some h = div_below n base (base ^ s) some (subst (λ x. n < x) (pow-suc base s) h)
 
 glyph_is_ascii : (d : ℕ) → d < 16 → digit_glyph false d < 128
 glyph_is_ascii d h = grind (arith, nat_tests)
 
-digits_are_ascii : (k n : ℕ) (acc : List ℕ) → IsAscii acc → IsAscii (digits_onto k 16 false n acc)
-digits_are_ascii zero n acc h = h
-digits_are_ascii (suc k) n acc h = by (eqb (n / 16) 0) (digits_are_ascii k (n / 16) (digit_glyph false (n % 16) ∷ acc) one)
+digits_are_ascii : (base k n : ℕ) (acc : List ℕ) → 0 < base → base ≤ 16 → IsAscii acc → IsAscii (digits_onto k base false n acc)
+digits_are_ascii base zero n acc some most h = h
+digits_are_ascii base (suc k) n acc some most h = by (eqb (n / base) 0) (digits_are_ascii base k (n / base) (digit_glyph false (n % base) ∷ acc) some most one)
   where
-    one : IsAscii (digit_glyph false (n % 16) ∷ acc)
-    one = IsAscii-cons _ acc (glyph_is_ascii (n % 16) (omega arith)) h
+    one : IsAscii (digit_glyph false (n % base) ∷ acc)
+    one = let low : n % base < base = mod-lt n some in IsAscii-cons _ acc (glyph_is_ascii (n % base) (omega arith)) h
 
-    by : (b : Bool) → IsAscii (digits_onto k 16 false (n / 16) (digit_glyph false (n % 16) ∷ acc)) → IsAscii (if b then digit_glyph false (n % 16) ∷ acc else digits_onto k 16 false (n / 16) (digit_glyph false (n % 16) ∷ acc))
+    by : (b : Bool) → IsAscii (digits_onto k base false (n / base) (digit_glyph false (n % base) ∷ acc)) → IsAscii (if b then digit_glyph false (n % base) ∷ acc else digits_onto k base false (n / base) (digit_glyph false (n % base) ∷ acc))
     by true more = one
     by false more = more
 
-pub hexadecimal-ascii : (n : ℕ) → IsAscii (digits 16 false n)
+pub digits-ascii : (base n : ℕ) → 0 < base → base ≤ 16 → IsAscii (digits base false n)
 unfolding digits
-hexadecimal-ascii n = digits_are_ascii 64 n [] IsAscii-nil
+digits-ascii base n some most = digits_are_ascii base 64 n [] some most IsAscii-nil

@@ -43,7 +43,7 @@ pub name_later : (bytes : List ℕ) (i j o : ℕ) → i ≤ j → j ≤ length b
 name_later bytes i j o l m h on = ⊎_elim
     (λ (g : (past bytes (i + o) ≡ i + o + 1) × goes_on_with (get_or bytes (i + o) 0)).
     let size : length (slice_range bytes i j) ≡ j - i = length-range bytes i j l m in
-    let byte : get_or (slice_range bytes i j) o 0 ≡ get_or bytes (i + o) 0 = get_or-take (j - i) (drop i bytes) o 0 h ∙ get_or-drop i bytes o 0 in
+    let byte : get_or (slice_range bytes i j) o 0 ≡ get_or bytes (i + o) 0 = get_range bytes i j o h in
     sym (name-later (slice_range bytes i j) 0 o (lit< tt) (omega arith) (omega (arith, byte, g.1.0)) (omega (arith, byte, g.1.1))))
     (λ (g : (past bytes (i + o) ≡ i + o) × ¬ (goes_on_with (get_or bytes (i + o) 0))). absurd (omega (arith, on, g.0)))
     (past_is bytes (i + o))

@@ -32,9 +32,6 @@ length-up : (a : List ℕ) → length (up_to_zero a) ≡ first_zero a
 unfolding up_to_zero
 length-up a = length-take-le (first_zero a) a (within a)
 
-pub up-le : (a : List ℕ) → length (up_to_zero a) ≤ length a
-up-le a = omega (arith, length-up a, within a)
-
 -- a zero byte stops what follows
 pub stops : (a b : List ℕ) → length (up_to_zero a) < length a → up_to_zero (a ++ b) ≡ up_to_zero a
 unfolding up_to_zero
@@ -192,11 +189,13 @@ four bytes b h =
     let z = steps_on bytes (past bytes (past bytes b)) h in
     let y = steps_on bytes (past bytes b) z.1 in
     let x = steps_on bytes b y.1 in
-    let far : cut bytes b ≡ b + 3 = omega (arith, x.0, y.0, z.0) in
-    (far, λ j l m. ⊎_elim
-    (λ (s : j < cut bytes b). between bytes b j l s)
-    (λ (s : cut bytes b ≤ j). let e : cut bytes b ≡ j = omega arith in subst (λ k. goes_on_with (get_or bytes k 0)) e h)
-    (cases_lt j (cut bytes b)))
+    let far : cut bytes b ≡ b + 3 = omega (arith, x.0, y.0, z.0) in (
+      far,
+      λ j l m. ⊎_elim
+          (λ (s : j < cut bytes b). between bytes b j l s)
+          (λ (s : cut bytes b ≤ j). let e : cut bytes b ≡ j = omega arith in subst (λ k. goes_on_with (get_or bytes k 0)) e h)
+          (cases_lt j (cut bytes b)),
+    )
 
 -- a byte of what stands before the first zero byte of a range
 get_up : (bytes : List ℕ) (i e m : ℕ) → m < length (up_to_zero (slice_range bytes i e)) → get_or (up_to_zero (slice_range bytes i e)) m 0 ≡ get_or bytes (i + m) 0
@@ -211,19 +210,21 @@ get_up bytes i e m l =
 cut-boundary : (bytes x : List ℕ) (i p : ℕ) → i ≤ p → cut bytes p - i ≤ length x → IsUtf8 x → ((m : ℕ) → m < length x → get_or x m 0 ≡ get_or bytes (i + m) 0) → IsCharBoundary x (cut bytes p - i)
 cut-boundary bytes x i p l size u is =
     let bounds = cut_bounds bytes p in
-    let n = cut bytes p - i in
-    (size, λ some from. ⊎_elim
-    (λ (low : get_or x n 0 < 192).
-    let there : i + n ≡ cut bytes p = omega arith in
-    let byte : get_or x n 0 ≡ get_or bytes (cut bytes p) 0 = is n some ∙ ap (λ q. get_or bytes q 0) there in
-    let all_four = four bytes p (omega arith, omega arith) in
-    let at = near_text x (n - 3) u (omega arith) in
-    let place : at.0 < length x = omega (arith, at.2, all_four.0) in
-    let that : get_or x at.0 0 ≡ get_or bytes (i + at.0) 0 = is at.0 place in
-    let on = all_four.1 (i + at.0) (omega (arith, at.1, all_four.0)) (omega (arith, at.2, all_four.0)) in
-    absurd (omega (arith, at.3.1 place (omega (arith, on.0)), on.1)))
-    (λ (high : 192 ≤ get_or x n 0). high)
-    (cases_lt (get_or x n 0) 192))
+    let n = cut bytes p - i in (
+      size,
+      λ some from. ⊎_elim
+          (λ (low : get_or x n 0 < 192).
+          let there : i + n ≡ cut bytes p = omega arith in
+          let byte : get_or x n 0 ≡ get_or bytes (cut bytes p) 0 = is n some ∙ ap (λ q. get_or bytes q 0) there in
+          let all_four = four bytes p (omega arith, omega arith) in
+          let at = near_text x (n - 3) u (omega arith) in
+          let place : at.0 < length x = omega (arith, at.2, all_four.0) in
+          let that : get_or x at.0 0 ≡ get_or bytes (i + at.0) 0 = is at.0 place in
+          let on = all_four.1 (i + at.0) (omega (arith, at.1, all_four.0)) (omega (arith, at.2, all_four.0)) in
+          absurd (omega (arith, at.3.1 place (omega (arith, on.0)), on.1)))
+          (λ (high : 192 ≤ get_or x n 0). high)
+          (cases_lt (get_or x n 0) 192),
+    )
 
 -- what lacks text up to the end of a block lacks it also where more follows
 pub lacks-on : (bytes : List ℕ) (i k e : ℕ) → i ≤ k → cut bytes k ≤ e → e ≤ length bytes → LacksText (slice_range bytes i (cut bytes k)) → LacksText (slice_range bytes i e)

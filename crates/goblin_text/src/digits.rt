@@ -1,6 +1,6 @@
 //! Numbers as texts, without taking memory.
-ghost use Rattle.std.specs.Prelude.{◌≡◌, ◌<◌, IsAscii, decimal, false};
-ghost use Rattle.std.specs.Fmt.{digit_glyph};
+ghost use Rattle.std.specs.Prelude.{◌≡◌, ◌^◌, ◌<◌, ◌≤◌, IsAscii, decimal, false};
+ghost use Rattle.std.specs.Fmt.{digit_glyph, digits};
 ghost use Rattle.goblin.specs.Texts.{hexadecimal};
 ghost use Rattle.goblin_text.specs.Digited.{digits_text};
 
@@ -21,16 +21,7 @@ impl Digits {
         ensures ascii { IsAscii (digits_text result) }
         ensures start { result.start < 20 }
     {
-        let mut bytes = [0; DIGITS];
-        let mut start = DIGITS - 1;
-        let mut left = number;
-        while left >= 10 && start > 0 {
-            bytes[start] = digit((left % 10) as u8);
-            left /= 10;
-            start -= 1;
-        }
-        bytes[start] = digit((left % 10) as u8);
-        Digits { bytes, start }
+        Self::by_base(10, number)
     }
 
     /// A number in lower-case hexadecimal.
@@ -39,15 +30,28 @@ impl Digits {
         ensures ascii { IsAscii (digits_text result) }
         ensures start { result.start < 20 }
     {
+        Self::by_base(16, number)
+    }
+
+    // A number by a base. It is inlined, so that the base is a constant where it divides.
+    #[inline(always)]
+    fn by_base(base: u64, number: u64) -> Self
+        requires short { 2 ^ 64 ≤ base ^ 20 }
+        requires some { 0 < base }
+        requires most { base ≤ 16 }
+        ensures text { digits_text result ≡ digits base false number }
+        ensures ascii { IsAscii (digits_text result) }
+        ensures start { result.start < 20 }
+    {
         let mut bytes = [0; DIGITS];
         let mut start = DIGITS - 1;
         let mut left = number;
-        while left >= 16 && start > 0 {
-            bytes[start] = digit((left % 16) as u8);
-            left /= 16;
+        while left >= base && start > 0 {
+            bytes[start] = digit((left % base) as u8);
+            left /= base;
             start -= 1;
         }
-        bytes[start] = digit((left % 16) as u8);
+        bytes[start] = digit((left % base) as u8);
         Digits { bytes, start }
     }
 

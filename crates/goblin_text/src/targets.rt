@@ -1,5 +1,5 @@
 //! What takes a text piece by piece: a buffer of fixed size before a writer, and a text in memory.
-ghost use Rattle.std.specs.Prelude.{◌≡◌, ◌+◌, ◌≤◌, ◌++◌, IsTrue, OnErr, OnOk, Some, length, [], string_bytes, take};
+ghost use Rattle.std.specs.Prelude.{◌≡◌, ◌↔◌, ◌+◌, ◌≤◌, ◌++◌, IsTrue, OnErr, OnOk, Some, length, [], string_bytes, take};
 ghost use Rattle.std.specs.Borrow.{GName};
 ghost use Rattle.std.specs.Io.KnownBytes.{Appends, Keeps};
 ghost use Rattle.goblin_text.specs.Put.{Puts, State, held};
@@ -68,7 +68,7 @@ impl<'a, W: Sink> Buffered<'a, W> {
 
     // Whether the buffer has room for so many bytes more.
     fn has_room(&self, len: usize) -> bool
-        ensures { IsTrue result → self.now.filled + len ≤ 32768 }
+        ensures { IsTrue result ↔ self.now.filled + len ≤ 32768 }
     {
         self.filled <= ROOM && len <= ROOM - self.filled
     }
