@@ -3,7 +3,6 @@ mod Faults
 mod Glyphs
 mod Looks
 mod Modes
-mod Parts
 mod Plain
 mod Printed
 mod Puts

@@ -1,5 +1,6 @@
 -- The text of a file whose parts are accepted.
-use Rattle.std.specs.Prelude.{ℕ, List, [], ◌∷◌, vec_items}
+use Rattle.std.specs.Prelude.{ℕ, List, vec_items}
+use Rattle.std.specs.List.{flat_map}
 use Rattle.goblin.specs.declared.elf.header.Header.{Header}
 use Rattle.goblin.specs.declared.elf.section_header.SectionHeader.{SectionHeader}
 use Rattle.goblin.specs.Texts.{◌&◌}
@@ -13,14 +14,12 @@ use Rattle.goblin_text.specs.Shown.{reloc_lines, section_lines, symbol_lines}
 
 -- the lines of the symbols of some parts of a file with these bytes
 abbrev pub symbols_text : List ℕ → List SymbolPart → List ℕ
-symbols_text bytes [] = []
-symbols_text bytes (p ∷ parts) =
-    symbol_lines (strings_in bytes p.strings) p.section 0 p.table.symbols & symbols_text bytes parts
+symbols_text bytes parts =
+    flat_map (λ p. symbol_lines (strings_in bytes p.strings) p.section 0 p.table.symbols) parts
 
 -- the lines of the relocations of some parts
 abbrev pub relocs_text : List RelocPart → List ℕ
-relocs_text [] = []
-relocs_text (p ∷ parts) = reloc_lines p.section 0 p.relocs & relocs_text parts
+relocs_text parts = flat_map (λ p. reloc_lines p.section 0 p.relocs) parts
 
 -- the text of a file with these bytes, this header, these sections and these parts
 abbrev pub parts_text : List ℕ → Header → List SectionHeader → Parts → List ℕ

@@ -1,9 +1,9 @@
-use Rattle.goblin_text.proofs.Parts.{relocs_text-push}
 use Rattle.std.proofs.Common.{arith}
 use Rattle.std.proofs.lemmas.Grind.{common_steps}
+use Rattle.std.proofs.lemmas.List.{flat_map_more}
 use Rattle.goblin_text.specs.Shown.{reloc_lines, relocs_shown}
 use Rattle.goblin_text.proofs.accept.File.accept_relocs.Goals as goal
 
 pub returns : goal.returns
 unfolding relocs_shown
-returns c = (reloc_lines c.args.number 0 c.in_ok-relocs.relocs, grind (arith, common_steps), grind (arith, common_steps, relocs_text-push))
+returns c = (reloc_lines c.args.number 0 c.in_ok-relocs.relocs, grind (arith, common_steps), grind (arith, common_steps, flat_map_more))
