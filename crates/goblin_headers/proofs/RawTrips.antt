@@ -34,7 +34,7 @@ reads_in_order size read fault bytes order enough room named =
     rw (room_of_fits (length bytes) 0 16 (omega arith), named, room_of_fits (length bytes) 0 size (omega arith)) refl
 
 -- the steps of reading a header
-three : {R : Type 0} (first : Result (Unit {0}) Error) (order : Option Endian) (e : Error) (last : Result (Unit {0}) Error) (read : Endian → R) (h : R) → (first >>= λ _. or_refuse order e >>= λ o. last >>= λ _. Ok (read o)) ≡ Ok h → (o : Endian) × (order ≡ Some o) × (last ≡ Ok tt) × (h ≡ read o)
+pub three : {R : Type 0} (first : Result (Unit {0}) Error) (order : Option Endian) (e : Error) (last : Result (Unit {0}) Error) (read : Endian → R) (h : R) → (first >>= λ _. or_refuse order e >>= λ o. last >>= λ _. Ok (read o)) ≡ Ok h → (o : Endian) × (order ≡ Some o) × (last ≡ Ok tt) × (h ≡ read o)
 three (Ok _) (Some o) e (Ok _) read h is = (o, refl, refl, cc)
 three (Ok _) (Some o) e (Err f) read h is = absurd (cc)
 three (Ok _) None e last read h is = absurd (cc)

@@ -12,7 +12,7 @@ use Rattle.goblin_base.specs.Steps.{◌>>=◌, or_refuse, refuse_if, with_size}
 use Rattle.goblin_headers.specs.declared.header.Header.{Header}
 use Rattle.goblin_headers.specs.Header.{header_size, header_of, magic, class_named, order_named}
 use Rattle.goblin_headers.specs.ReadHeader.{needs, read_header, read_in_order}
-use Rattle.goblin_headers.proofs.RawTrips.{had_room, read_in_order-is}
+use Rattle.goblin_headers.proofs.RawTrips.{had_room, read_in_order-is, three}
 
 -- the bytes begin as a file of a class does
 pub record Begins (class : Container) (bytes : List ℕ) : Type 0 where
@@ -43,21 +43,15 @@ read_header-raw class read widen bytes raw size widened begins is =
     ap (λ (h : Header). Ok (h, size)) header ∙ ap (λ (n : ℕ). Ok (header_of class found.0 bytes, n)) was.1
     ∙ sym (read_header-ok bytes class found.0 begins found.1 found.2)
 
--- the last step
-in_room : {X : Type 0} (room : Result (Unit {0}) Error) (x y : X) → (room >>= λ _. Ok x) ≡ Ok y → (room ≡ Ok tt) × (y ≡ x)
-in_room (Ok _) x y is = (refl, cc)
-in_room (Err f) x y is = absurd (cc)
-
 -- a header with its size
 abbrev with_its_size : Container → Header → Header × ℕ
 with_its_size class h = (h, header_size class)
 
 -- the steps of reading a header
 five : (first : Result (Unit {0}) Error) (starts : Bool) (b : Error) (named : Option Container) (d : Error) (ordered : Option Endian) (e : Error) (room : Container → Result (Unit {0}) Error) (read : Container → Endian → Header) (h : Header) (size : ℕ) → (first >>= λ _. refuse_if (not starts) b >>= λ _. or_refuse named d >>= λ c. or_refuse ordered e >>= λ o. room c >>= λ _. Ok (with_its_size c (read c o))) ≡ Ok (h, size) → (c : Container) × (o : Endian) × (starts ≡ true) × (named ≡ Some c) × (ordered ≡ Some o) × (room c ≡ Ok tt) × (h ≡ read c o) × (size ≡ header_size c)
-five (Ok _) true b (Some c) d (Some o) e room read h size is =
-    let last = in_room (room c) (with_its_size c (read c o)) (h, size) is in
-    (c, o, refl, refl, refl, last.0, ap (λ (p : Header × ℕ). p.0) last.1, ap (λ (p : Header × ℕ). p.1) last.1)
-five (Ok _) true b (Some c) d None e room read h size is = absurd (cc)
+five (Ok _) true b (Some c) d ordered e room read h size is =
+    let rest = three (Ok tt) ordered e (room c) (λ o. with_its_size c (read c o)) (h, size) is in
+    (c, rest.0, refl, refl, rest.1, rest.2, ap (λ (p : Header × ℕ). p.0) rest.3, ap (λ (p : Header × ℕ). p.1) rest.3)
 five (Ok _) true b None d ordered e room read h size is = absurd (cc)
 five (Ok _) false b named d ordered e room read h size is = absurd (cc)
 five (Err f) starts b named d ordered e room read h size is = absurd (cc)
