@@ -7,11 +7,10 @@ use Rattle.goblin_base.specs.declared.container.Container.{Container}
 use Rattle.goblin_base.specs.declared.container.Container.TheVariants.{Little, Big}
 use Rattle.goblin_base.specs.declared.container.Ctx.{Ctx}
 use Rattle.goblin_base.specs.declared.error.Error.{Error}
-use Rattle.goblin_base.specs.declared.scroll.Error.{Error as Misplaced}
 use Rattle.goblin_base.specs.Eager.{records_from}
 use Rattle.goblin_base.specs.Record.{unless_fault}
 use Rattle.goblin_base.specs.RecordLaws.{unless_fault-is, unless_fault-err, fits-room_of}
-use Rattle.goblin_base.specs.Refusal.{misplaced, refusal_of, buffer_too_short, Refuses}
+use Rattle.goblin_base.specs.Refusal.{refusal_of, buffer_too_short, Refuses}
 use Rattle.goblin_base.specs.Room.{room_of}
 use Rattle.goblin_base.proofs.Eager.{not_too_many, too_many}
 use Rattle.goblin_headers.specs.declared.section_header.SectionHeader.{SectionHeader}
@@ -28,35 +27,32 @@ read_first bytes offset ctx =
 abbrev pub items : List ℕ
 items = codes "section headers"
 
--- the first header is the one at the offset
-same_first : (bytes : List ℕ) (offset : ℕ) (ctx : Ctx) (first : SectionHeader) → Ok first ≡ read_first bytes offset ctx → first ≡ section_header_of ctx.container ctx.le (drop offset bytes)
+-- the first header has room, and is the one at the offset
+same_first : (bytes : List ℕ) (offset : ℕ) (ctx : Ctx) (first : SectionHeader) → Ok first ≡ read_first bytes offset ctx → (room_of (length bytes) offset (section_header_size ctx.container) ≡ Ok tt) × (first ≡ section_header_of ctx.container ctx.le (drop offset bytes))
 same_first bytes offset ctx first is =
     let size = section_header_size ctx.container in
     let rest = drop offset bytes in
     let found = unless_fault-is (room_of (length bytes) offset size) first (section_header_of ctx.container ctx.le (take size rest)) is in
     let fits = fits-room_of (length bytes) offset size tt found.0 in
     let long : size ≤ length (take size rest) = omega (arith, length-take-le size rest (omega (arith, length-drop offset bytes))) in
-    found.1 ∙ sym ((section_header_laws ctx.container ctx.le).reads_front (take size rest) (drop size rest) long) ∙ ap (section_header_of ctx.container ctx.le) (take-append-drop size rest)
+    let front = (section_header_laws ctx.container ctx.le).reads_front (take size rest) (drop size rest) long in
+    (found.0, found.1 ∙ sym front ∙ ap (section_header_of ctx.container ctx.le) (take-append-drop size rest))
 
 -- and tells the count
 pub first_tells : (bytes : List ℕ) (offset count : ℕ) (ctx : Ctx) (first : SectionHeader) (most : ℕ) → Ok first ≡ read_first bytes offset ctx → most ≡ max (count_told first count) 1 → Ok most ≡ count_from bytes offset count ctx
 first_tells bytes offset count ctx first most is told =
-    let size = section_header_size ctx.container in
-    let found = unless_fault-is (room_of (length bytes) offset size) first (section_header_of ctx.container ctx.le (take size (drop offset bytes))) is in
-    let same : count_told first count ≡ count_asked bytes offset count ctx = ap (λ (h : SectionHeader). count_told h count) (same_first bytes offset ctx first is) in
+    let found = same_first bytes offset ctx first is in
+    let same : count_told first count ≡ count_asked bytes offset count ctx = ap (λ (h : SectionHeader). count_told h count) found.1 in
     let all : most ≡ max 1 (count_asked bytes offset count ctx) = omega (arith, told, same) in
     rw (found.0) (ap Ok all)
 
 -- without room for the first header the tests refuse
-no_room : (bytes : List ℕ) (offset count : ℕ) (ctx : Ctx) (d : Misplaced) → room_of (length bytes) offset (section_header_size ctx.container) ≡ Err d → section_headers_from_tested bytes offset count ctx ≡ Err (misplaced d)
-unfolding section_headers_from_tested
-no_room bytes offset count ctx d fault = rw fault refl
-
 pub first_tested : (bytes : List ℕ) (offset count : ℕ) (ctx : Ctx) (e : Error) → Err e ≡ count_from bytes offset count ctx → section_headers_from_tested bytes offset count ctx ≡ Err (refusal_of e)
+unfolding section_headers_from_tested
 first_tested bytes offset count ctx e is =
     let size = section_header_size ctx.container in
     let fault = unless_fault-err (room_of (length bytes) offset size) e (max 1 (count_asked bytes offset count ctx)) is in
-    no_room bytes offset count ctx fault.0 fault.1 ∙ ap (λ (f : Error). Err (refusal_of f)) (sym fault.2)
+    rw fault.1 (ap (λ (f : Error). Err (refusal_of f)) (sym fault.2))
 
 pub first_refused : (bytes : List ℕ) (offset count : ℕ) (ctx : Ctx) (e : Error) → Err e ≡ count_from bytes offset count ctx → section_headers_from bytes offset count ctx ≡ Err (refusal_of e)
 unfolding section_headers_from
