@@ -75,7 +75,7 @@ strict_range file o n d t h = by (range_in Strict file o n) refl h
     by (Ok r) e h = (r, e, h)
     by (Err f) e h = absurd (let x : ◌≡◌ {A = Result StringTable Refusal} (Err (malformed f)) (Ok t) = h in cc)
 
--- a range that strict mode accepts is not cut
+-- a range that strict mode accepts is not shortened
 uncut : (b c : Bool) (f g : Fault) (x y z r : List ℕ) → ◌≡◌ {A = Result (List ℕ) Fault} (cond b (Err f) (cond c (Err g) (Ok z))) (Ok r) → ◌≡◌ {A = Result (List ℕ) Fault} (cond b (Ok x) (cond c (Ok y) (Ok z))) (Ok r)
 uncut true c f g x y z r h = cc
 uncut false true f g x y z r h = cc

@@ -11,7 +11,7 @@ use Rattle.goblin_base.specs.declared.error.Error.{Error}
 use Rattle.goblin_base.specs.Record.{read_within}
 use Rattle.goblin_base.specs.RecordLaws.{room_of_fits, read_within-ok}
 use Rattle.goblin_base.specs.Table.{records}
-use Rattle.goblin_base.specs.TableLaws.{piece, piece-is, no_records, first_record}
+use Rattle.goblin_base.specs.TableLaws.{slice, slice-is, no_records, first_record}
 
 pub length_records : {R : Type 0} (size : ℕ) (read : List ℕ → R) (n : ℕ) (bytes : List ℕ) → length (records size read n bytes) ≡ n
 unfolding records
@@ -24,9 +24,9 @@ get_mapped f a (suc n) (suc i) h = get_mapped f (a + 1) n i (omega arith) ∙ ap
 
 -- the records of a table, by index
 pub get_records : {R : Type 0} (size : ℕ) (read : List ℕ → R) (n : ℕ) (bytes : List ℕ) (i : ℕ) → i < n → slice_get (records size read n bytes) i ≡ Some (read (take size (drop (i * size) bytes)))
-unfolding records piece
+unfolding records slice
 get_records size read n bytes i h =
-    get_mapped (λ i. read (piece size bytes i)) 0 n i h ∙ ap (λ (k : ℕ). Some (read (piece size bytes k))) (omega arith) ∙ ap (λ part. Some (read part)) (piece-is size bytes i)
+    get_mapped (λ i. read (slice size bytes i)) 0 n i h ∙ ap (λ (k : ℕ). Some (read (slice size bytes k))) (omega arith) ∙ ap (λ part. Some (read part)) (slice-is size bytes i)
 
 pub read_within_fits : {R : Type 0} (size : ℕ) (read : List ℕ → R) (bytes : List ℕ) → size ≤ length bytes → read_within size read bytes ≡ Ok (read bytes)
 read_within_fits size read bytes h =
@@ -46,9 +46,9 @@ pub past_records : {R : Type 0} (size : ℕ) (read : List ℕ → R) (n : ℕ) (
 past_records size read n bytes i h = slice_get_past (records size read n bytes) i (omega (arith, length_records size read n bytes))
 
 pub last_record : {R : Type 0} (size : ℕ) (read : List ℕ → R) (n : ℕ) (bytes : List ℕ) → records size read (n + 1) bytes ≡ records size read n bytes ++ read (take size (drop (n * size) bytes)) ∷ []
-unfolding records piece
+unfolding records slice
 last_record size read n bytes =
-    map-range_with_len_more (λ i. read (piece size bytes i)) 0 n n (omega arith) ∙ ap (λ part. map (λ i. read (piece size bytes i)) (range_with_len 0 n) ++ read part ∷ []) (piece-is size bytes n)
+    map-range_with_len_more (λ i. read (slice size bytes i)) 0 n n (omega arith) ∙ ap (λ part. map (λ i. read (slice size bytes i)) (range_with_len 0 n) ++ read part ∷ []) (slice-is size bytes n)
 
 -- what an iterator answers where records are left
 pub next_is : {R : Type 0} (size : ℕ) (read : List ℕ → R) (n : ℕ) (bytes : List ℕ) (s : ℕ) (items : List R) (found : Result R Error) (answer : Option R) → s ≡ size → records size read n bytes ≡ items → n * size ≤ length bytes → 0 < n → found ≡ read_within size read (take s bytes) → answer ≡ result_ok found → (answer ≡ Some (read (take size bytes))) × (items ≡ read (take size bytes) ∷ records size read (n - 1) (take (length bytes - s) (drop s bytes)))

@@ -83,8 +83,8 @@ module _ (bytes : List ℕ) (d : ℕ) (is_parsed : Bool) (t : StringTable) (es :
   -- and the rest of the last one's text is the answer
   pub look_up_among : (k place : ℕ) (text : List ℕ) (r : Option (Bor (List ℕ))) → IsLastUpTo (places_of es) o k × (place ≡ get_or (places_of es) k 0) → text ≡ text_of (get_or es k (0, []))
       → MatchOption r (¬ (IsCharBoundary text (o - place))) (λ x. IsCharBoundary text (o - place) × (x.now ≡ drop (o - place) text)) → option_map (λ s. s.now) r ≡ look_up t o
-  look_up_among k place text r last cut rest =
+  look_up_among k place text r last text_is rest =
       let found : IsLastUpTo (places_of (entries bytes d)) o k = subst (λ x. IsLastUpTo (places_of x) o k) walked_is last.0 in
       let at : place ≡ get_or (places_of (entries bytes d)) k 0 = last.1 ∙ ap (λ x. get_or (places_of x) k 0) walked_is in
-      let whole : text ≡ entry_text bytes d place = cut ∙ ap (λ x. text_of (get_or x k (0, []))) walked_is ∙ entry_text_at bytes d o k found ∙ ap (entry_text bytes d) (sym at) in
+      let whole : text ≡ entry_text bytes d place = text_is ∙ ap (λ x. text_of (get_or x k (0, []))) walked_is ∙ entry_text_at bytes d o k found ∙ ap (entry_text bytes d) (sym at) in
       answered bytes d r place o text (subst (λ p. IsLookUp bytes d p o) (sym at) (found_look_up bytes d o k l found)) whole rest ∙ look_up_is

@@ -27,7 +27,7 @@ abbrev pub or_cut : ParseMode → Fault → List ℕ → Result (List ℕ) Fault
 or_cut Strict fault bytes = Err fault
 or_cut Permissive fault bytes = Ok bytes
 
--- the bytes of a table whose `size` bytes are asked for at an offset of the file; permissive mode cuts them to the file
+-- the bytes of a table whose `size` bytes are asked for at an offset of the file; permissive mode shortens them to the file
 unfoldable pub range_in : ParseMode → List ℕ → ℕ → ℕ → Result (List ℕ) Fault
 range_in mode file offset size =
     if nat_lt (length file) offset then or_cut mode (StrtabOffset offset (length file)) []

@@ -4,24 +4,24 @@ use Rattle.std.specs.List.{All, slice_range, range_with_len, flat_map}
 use Rattle.std.proofs.lemmas.List.{take_at, drop_at, drop-drop, drop-take, take-take}
 use Rattle.goblin_base.specs.Table.{records}
 
--- the piece of the bytes with an index
-unfoldable pub piece : ℕ → List ℕ → ℕ → List ℕ
-piece size bytes i = slice_range bytes (i * size) ((i + 1) * size)
+-- the slice of the bytes with an index
+unfoldable pub slice : ℕ → List ℕ → ℕ → List ℕ
+slice size bytes i = slice_range bytes (i * size) ((i + 1) * size)
 
 -- it is as many bytes as a record takes, from its start on
-pub piece-is : (size : ℕ) (bytes : List ℕ) (i : ℕ) → piece size bytes i ≡ take size (drop (i * size) bytes)
-unfolding piece
-piece-is size bytes i = let e : (i + 1) * size - i * size ≡ size = omega arith in rw e refl
+pub slice-is : (size : ℕ) (bytes : List ℕ) (i : ℕ) → slice size bytes i ≡ take size (drop (i * size) bytes)
+unfolding slice
+slice-is size bytes i = let e : (i + 1) * size - i * size ≡ size = omega arith in rw e refl
 
--- the pieces after the first one are those of the bytes behind it
-piece-next : (size : ℕ) (bytes : List ℕ) (i : ℕ) → piece size bytes (i + 1) ≡ piece size (drop size bytes) i
-piece-next size bytes i =
+-- the slices after the first one are those of the bytes behind it
+slice-next : (size : ℕ) (bytes : List ℕ) (i : ℕ) → slice size bytes (i + 1) ≡ slice size (drop size bytes) i
+slice-next size bytes i =
     let e : size + i * size ≡ (i + 1) * size = omega arith in
-    piece-is size bytes (i + 1) ∙ ap (λ k. take size (drop k bytes)) (sym e) ∙ ap (take size) (sym (drop-drop (i * size) size bytes)) ∙ sym (piece-is size (drop size bytes) i)
+    slice-is size bytes (i + 1) ∙ ap (λ k. take size (drop k bytes)) (sym e) ∙ ap (take size) (sym (drop-drop (i * size) size bytes)) ∙ sym (slice-is size (drop size bytes) i)
 
-pieces-next : {R : Type 0} (size : ℕ) (read : List ℕ → R) (bytes : List ℕ) (i n : ℕ) → map (λ i. read (piece size bytes i)) (range_with_len (i + 1) n) ≡ map (λ i. read (piece size (drop size bytes) i)) (range_with_len i n)
-pieces-next size read bytes i zero = refl
-pieces-next size read bytes i (suc n) = rw (piece-next size bytes i, pieces-next size read bytes (i + 1) n) refl
+slices-next : {R : Type 0} (size : ℕ) (read : List ℕ → R) (bytes : List ℕ) (i n : ℕ) → map (λ i. read (slice size bytes i)) (range_with_len (i + 1) n) ≡ map (λ i. read (slice size (drop size bytes) i)) (range_with_len i n)
+slices-next size read bytes i zero = refl
+slices-next size read bytes i (suc n) = rw (slice-next size bytes i, slices-next size read bytes (i + 1) n) refl
 
 -- a table of none is empty
 pub no_records : {R : Type 0} (size : ℕ) (read : List ℕ → R) (n : ℕ) (bytes : List ℕ) → n ≡ 0 → records size read n bytes ≡ []
@@ -30,13 +30,13 @@ no_records size read n bytes e = rw e refl
 
 -- the first record, and those behind it
 pub first_record : {R : Type 0} (size : ℕ) (read : List ℕ → R) (n : ℕ) (bytes : List ℕ) → 0 < n → records size read n bytes ≡ read (take size bytes) ∷ records size read (n - 1) (drop size bytes)
-unfolding records piece
+unfolding records slice
 first_record size read zero bytes h = absurd (omega arith)
 first_record size read (suc n) bytes h =
     let e : suc n - 1 ≡ n = omega arith in
     let none : 0 * size ≡ 0 = omega arith in
-    let front : piece size bytes 0 ≡ take size bytes = piece-is size bytes 0 ∙ ap (λ (k : ℕ). take size (drop k bytes)) none in
-    rw (e, front) (ap (λ rest. read (take size bytes) ∷ rest) (pieces-next size read bytes 0 n))
+    let front : slice size bytes 0 ≡ take size bytes = slice-is size bytes 0 ∙ ap (λ (k : ℕ). take size (drop k bytes)) none in
+    rw (e, front) (ap (λ rest. read (take size bytes) ∷ rest) (slices-next size read bytes 0 n))
 
 -- records that are written one after another are read back as the same list
 pub records-flat_map : {R : Type 0} (size : ℕ) (read : List ℕ → R) (image : R → List ℕ) (Right : R → Type 0) → ((x : R) → length (image x) ≡ size) → ((x : R) → Right x → read (image x) ≡ x) → (all : List R) → All Right all → records size read (length all) (flat_map image all) ≡ all

@@ -33,7 +33,7 @@ texts-join bytes i j k l m a b =
 
 -- ---- pieces of a text, which an ASCII delimiter cuts
 module _ (bytes : List ℕ) (d : ℕ) (ascii : d < 128) where
-  -- where a text may be cut, its piece is text
+  -- at a boundary of characters the piece of a text is text
   readable-at_boundary : (o : ℕ) → IsUtf8 bytes → IsCharBoundary bytes o → is_readable bytes d o ≡ true
   unfolding is_readable piece
   readable-at_boundary o u at =
@@ -51,7 +51,7 @@ module _ (bytes : List ℕ) (d : ℕ) (ascii : d < 128) where
   start_within zero = omega arith
   start_within (suc o) = elim (eqb (get_or bytes o 0) d) as (λ b. cond b (suc o) (piece_start bytes d o) ≤ suc o) [ true ↦ omega arith | false ↦ omega (arith, start_within o) ]
 
-  -- a whole piece begins where a text may be cut
+  -- a whole piece begins at a boundary of characters
   boundary-at_start : (o : ℕ) → IsUtf8 bytes → o < length bytes → piece_start bytes d o ≡ o → IsCharBoundary bytes o
   unfolding piece_start
   boundary-at_start zero u l h = IsCharBoundary-start bytes u

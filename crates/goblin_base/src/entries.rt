@@ -159,7 +159,7 @@ impl fmt::Debug for Looked<'_> {
 
 /// The entries of a string table: each a place and a text.
 ///
-/// It keeps the places and no text: a text is cut from the bytes when it is asked for, and ends one before
+/// It keeps the places and no text: a text is taken from the bytes when it is asked for, and ends one before
 /// the next place.
 #[derive(Drop)]
 pub struct Entries<'a> {

@@ -148,7 +148,7 @@ impl<'a> Strtab<'a> {
     /// In strict mode an offset past the file's end is a `StrtabOffset`; else an end past the file's end, or
     /// past `usize`, is a `StrtabRange`; else the first piece that is no text is a `BadInput`, whose size is
     /// the number of bytes from there to the table's end. In permissive mode nothing but want of memory is
-    /// refused: the range is cut to the file, and where a piece is no text the bytes are entries with no
+    /// refused: the range is shortened to the file, and where a piece is no text the bytes are entries with no
     /// text, up to where a text begins.
     ///
     /// The range and the first piece are tested before memory is taken, and a table of no bytes takes none.
@@ -399,7 +399,7 @@ impl Default for Strtab<'_> {
 /// The bytes of a table whose `len` bytes are asked for at an offset of a file.
 ///
 /// In strict mode an offset past the file's end is a `StrtabOffset`; else an end past the file's end, or
-/// past `usize`, is a `StrtabRange`. Permissive mode cuts the range to the file, and refuses nothing.
+/// past `usize`, is a `StrtabRange`. Permissive mode shortens the range to the file, and refuses nothing.
 #[tactic(auto, unfolding(crate::specs::Strtab::range_in))]
 pub fn bytes_in_range(bytes: &[u8], offset: usize, len: usize, mode: ParseMode) -> Result<&[u8]>
     ensures exact { let right = refuse_as malformed (range_in mode bytes.now offset len) in
