@@ -1,6 +1,6 @@
 -- The first piece of a string table that is no text: the first fault lies in it.
 use Rattle.std.proofs.Common.{◌≡◌, ◌≢◌, ◌∙◌, ℕ, zero, suc, ◌+◌, ◌-◌, ◌<◌, ◌≤◌, ◌==◌, true, false, eqb, List, [], ◌∷◌, length, get_or, take, drop, refl, sym, ap, subst, ⊎_elim, arith, slice_range, Ok, Err, Result, if◌then◌else◌, ltb}
-use Rattle.std.proofs.lemmas.Bool.{and_left, both_ways, cases_Bool, cases_eq, cases_lt, cond-false, cond-true, eq-eqb, false_from_ne_true, le-ltb, lt-ltb, ne_eqb}
+use Rattle.std.proofs.lemmas.Bool.{and_left, cases_eq, cases_lt, eq-eqb, eqb-true, false_from_ne_true, le-ltb, lt-ltb, ne_eqb}
 use Rattle.std.proofs.lemmas.List.{drop-take, drop_more, get_or-take, length-take-le, take-take, take_all}
 use Rattle.std.proofs.lemmas.Str.{IsCharBoundary-after_ascii, IsCharBoundary-start, IsUtf8-drop, IsUtf8-from_is_utf8, IsUtf8-take, is_utf8-from_IsUtf8}
 use Rattle.std.specs.Str.{IsCharBoundary, IsUtf8, IsValidUpTo}
@@ -12,43 +12,11 @@ use Rattle.goblin.specs.Strtab.{StringTable, table_of, walked}
 use Rattle.goblin.specs.TextLaws.{texts-join}
 use Rattle.goblin.specs.Utf8.{invalid_utf8}
 use Rattle.goblin.specs.declared.options.ParseMode.TheVariants.{Strict}
-use Rattle.goblin_base.proofs.PiecesLemmas.{at_end, end_from, end_within, inside_piece, piece_is_range, start_after_delim, start_same, start_to}
+use Rattle.goblin_base.proofs.PiecesLemmas.{at_end, delim_before, end_before, end_from, end_within, piece_is_range, start_after_delim, start_behind, start_of_front, start_of_start, start_same, start_to}
 use Rattle.goblin_base.proofs.WalkLemmas.{bad_start_from, first_bad_is, no_bad_start_readable}
 use Rattle.goblin_text.specs.Known.{text_table}
 
 module _ (bytes : List ℕ) where
-  -- ---- where a piece begins
-  -- the piece round a piece's beginning begins there
-  start_of_start : (o : ℕ) → piece_start bytes 0 (piece_start bytes 0 o) ≡ piece_start bytes 0 o
-  unfolding piece_start
-  start_of_start zero = refl
-  start_of_start (suc o) = ⊎_elim
-      (λ (e : eqb (get_or bytes o 0) 0 ≡ true). let s : piece_start bytes 0 (suc o) ≡ suc o = cond-true _ _ _ e in ap (piece_start bytes 0) s)
-      (λ (e : eqb (get_or bytes o 0) 0 ≡ false). let s : piece_start bytes 0 (suc o) ≡ piece_start bytes 0 o = cond-false _ _ _ e in ap (piece_start bytes 0) s ∙ start_of_start o ∙ sym s)
-      (cases_Bool (eqb (get_or bytes o 0) 0))
-
-  -- before a place where one begins a zero byte stands
-  zero_before : (o : ℕ) → piece_start bytes 0 (suc o) ≡ suc o → get_or bytes o 0 ≡ 0
-  unfolding piece_start
-  zero_before o h = ⊎_elim
-      (λ (e : eqb (get_or bytes o 0) 0 ≡ true). grind arith)
-      (λ (e : eqb (get_or bytes o 0) 0 ≡ false). absurd (omega (arith, cond-false _ (suc o) (piece_start bytes 0 o) e, h, start_to bytes 0 o)))
-      (cases_Bool (eqb (get_or bytes o 0) 0))
-
-  -- and behind a zero byte one begins
-  start_behind : (q p : ℕ) → q < p → get_or bytes q 0 ≡ 0 → q < piece_start bytes 0 p
-  unfolding piece_start
-  start_behind q zero l z = absurd (omega arith)
-  start_behind q (suc o) l z = ⊎_elim
-      (λ (e : eqb (get_or bytes o 0) 0 ≡ true). let s : piece_start bytes 0 (suc o) ≡ suc o = cond-true _ _ _ e in omega (arith, s))
-      (λ (e : eqb (get_or bytes o 0) 0 ≡ false).
-      let s : piece_start bytes 0 (suc o) ≡ piece_start bytes 0 o = cond-false _ _ _ e in
-      ⊎_elim
-      (λ (m : q ≡ o). let is : get_or bytes o 0 ≡ 0 = subst (λ x. get_or bytes x 0 ≡ 0) m z in absurd (both_ways _ e (eq-eqb _ _ is)))
-      (λ (n : q ≢ o). omega (arith, s, n, start_behind q o (omega (arith, n)) z))
-      (cases_eq q o))
-      (cases_Bool (eqb (get_or bytes o 0) 0))
-
   zero_at_end : (o : ℕ) → o ≤ length bytes → piece_end bytes 0 o < length bytes → get_or bytes (piece_end bytes 0 o) 0 ≡ 0
   zero_at_end o l m = let e = at_end bytes 0 o l m in grind (arith, e)
 
@@ -69,29 +37,13 @@ module _ (bytes : List ℕ) where
   unfolding piece_start
   start_of_only none = start_of_last 0 (omega arith) refl (λ i from to. none i to)
 
-  -- it depends on the bytes before the place
-  start_of_front : (o p : ℕ) → o ≤ p → piece_start (take p bytes) 0 o ≡ piece_start bytes 0 o
-  unfolding piece_start
-  start_of_front zero p l = refl
-  start_of_front (suc o) p l =
-      ap (λ b. if b == 0 then suc o else piece_start (take p bytes) 0 o) (get_or-take p bytes o 0 (omega arith))
-      ∙ ap (λ s. if get_or bytes o 0 == 0 then suc o else s) (start_of_front o p (omega arith))
-
-  -- a piece ends before the next one begins
-  end_before : (k s : ℕ) → k < s → piece_start bytes 0 s ≡ s → piece_end bytes 0 k < s
-  end_before k zero l h = absurd (omega arith)
-  end_before k (suc o) l h = ⊎_elim
-      (λ (m : o < piece_end bytes 0 k). absurd (both_ways _ (inside_piece bytes 0 k o (omega arith) m) (eq-eqb _ _ (zero_before o h))))
-      (λ (m : piece_end bytes 0 k ≤ o). omega arith)
-      (cases_lt o (piece_end bytes 0 k))
-
   -- ---- pieces of a front that is text
   -- it may be cut where a piece begins
   cut_at_start : (p o : ℕ) → p ≤ length bytes → IsUtf8 (take p bytes) → o ≤ p → piece_start bytes 0 o ≡ o → IsCharBoundary (take p bytes) o
   cut_at_start p zero w front l h = IsCharBoundary-start (take p bytes) front
   cut_at_start p (suc o) w front l h =
       let size = length-take-le p bytes w in
-      let z : get_or (take p bytes) o 0 ≡ 0 = get_or-take p bytes o 0 (omega arith) ∙ zero_before o h in
+      let z : get_or (take p bytes) o 0 ≡ 0 = get_or-take p bytes o 0 (omega arith) ∙ eqb-true _ _ (delim_before bytes 0 o h) in
       let next : o + 1 ≡ suc o = omega arith in
       subst (IsCharBoundary (take p bytes)) next (IsCharBoundary-after_ascii (take p bytes) o front (omega (arith, size)) (omega (arith, z)))
 
@@ -154,7 +106,7 @@ module _ (bytes : List ℕ) where
       ⊎_elim
       (λ (l : p < e). l)
       (λ (m : e ≤ p). ⊎_elim
-      (λ (l : e < p). absurd (omega (arith, from, start_behind e p l (z m))))
+      (λ (l : e < p). absurd (omega (arith, from, start_behind bytes 0 e p l (eq-eqb _ _ (z m)))))
       (λ (l : p ≤ e).
       let same : e ≡ p = omega arith in
       absurd (v.longest (p + 1) (omega arith) (front_more p (p + 1) (omega arith) v.front (zero_is_text p v.short (subst (λ x. get_or bytes x 0 ≡ 0) same (z m))))))
@@ -168,7 +120,7 @@ module _ (bytes : List ℕ) where
       let e = piece_end bytes 0 s in
       let inside : p < e = fault_inside p v in
       let to = start_to bytes 0 p in
-      let head : IsUtf8 (take s bytes) = up_to_start p s (omega (arith, v.short)) v.front to (start_of_start p) in
+      let head : IsUtf8 (take s bytes) = up_to_start p s (omega (arith, v.short)) v.front to (start_of_start bytes 0 p) in
       false_from_ne_true _ (λ r.
       let text : IsUtf8 (slice_range bytes s e) = subst IsUtf8 (piece_is_range bytes 0 s) (IsUtf8-from_is_utf8 _ r) in
       v.longest e inside (front_more s e (end_from bytes 0 s) head text))
@@ -178,8 +130,8 @@ module _ (bytes : List ℕ) where
       let s = piece_start bytes 0 p in
       let to = start_to bytes 0 p in
       first_bad_is bytes 0 s (omega (arith, to, v.short))
-      (λ k l. no_bad_start p k (omega (arith, v.short)) v.front (omega (arith, to, end_before k s l (start_of_start p))))
-      (λ _. bad_start_from bytes 0 s (start_of_start p) (fault_unreadable p v))
+      (λ k l. no_bad_start p k (omega (arith, v.short)) v.front (omega (arith, to, end_before bytes 0 k s l (start_of_start bytes 0 p))))
+      (λ _. bad_start_from bytes 0 s (start_of_start bytes 0 p) (fault_unreadable p v))
 
   first_bad_of_text : IsUtf8 bytes → first_bad bytes 0 ≡ length bytes
   first_bad_of_text u =
@@ -193,7 +145,7 @@ module _ (bytes : List ℕ) where
   pub first_bad_of_front : (p : ℕ) → IsValidUpTo bytes p → first_bad bytes 0 ≡ piece_start (take p bytes) 0 (length (take p bytes))
   first_bad_of_front p v =
       let size : length (take p bytes) ≡ p = length-take-le p bytes (omega (arith, v.short)) in
-      first_bad_at p v ∙ sym (ap (piece_start (take p bytes) 0) size ∙ start_of_front p p (omega arith))
+      first_bad_at p v ∙ sym (ap (piece_start (take p bytes) 0) size ∙ start_of_front bytes 0 p p (omega arith))
 
   -- ---- the table
   -- what a strict walk answers whose first bad piece begins there
