@@ -4,11 +4,9 @@ use Rattle.std.proofs.lemmas.List.{length-map}
 use Rattle.goblin.specs.SectionNames.{section_name}
 use Rattle.goblin.specs.SymParts.{bind_of, type_of, visibility_of, bind_name, type_name, visibility_name}
 use Rattle.goblin.specs.Texts.{◌&◌, hexadecimal}
-use Rattle.goblin.specs.HeaderNames.{class_name, type_name as file_type_name}
-use Rattle.goblin.specs.Machines.{machine_name}
 use Rattle.goblin.specs.Strtab.{StringTable}
 use Rattle.goblin.specs.declared.options.ParseMode.{ParseMode}
-use Rattle.std.specs.Prelude.{codes, decimal, slice_index, vec_items}
+use Rattle.std.specs.Prelude.{codes, decimal, vec_items}
 use Rattle.std.specs.Option.{unwrap_or}
 use Rattle.std.specs.Result.{result_ok}
 use Rattle.goblin.specs.declared.elf.header.Header.{Header}
@@ -18,7 +16,7 @@ use Rattle.goblin_text.specs.Accepted.{parts_text, relocs_text, symbols_text}
 use Rattle.goblin_text.specs.Known.{strings_in}
 use Rattle.goblin_text.specs.Shown.{name_at, section_lines, shown}
 use Rattle.goblin_text.specs.declared.accept.Parts.{Parts}
-use Rattle.goblin_text.specs.Lines.{header_line, newline, order_word, printable, printed, section_line, symbol_line}
+use Rattle.goblin_text.specs.Lines.{header_line, newline, printable, printed, section_line, symbol_line}
 use Rattle.goblin_text.specs.Looks.{Named, Spends, lines_in, name_looks, names_looks, section_count, shown_looks, table_looks, tables_looks}
 
 -- of a text the looks so far were taken, and those of the rest are left
@@ -88,19 +86,11 @@ pub parts_spend : (old mid new : Named) (bytes : List ℕ) (header : Header) (se
 parts_spend old mid new bytes header sections parts s t = omega (arith, s, t, parts_looks bytes header sections parts)
 
 -- ---- lines
-line-behind : (a b : List ℕ) → 1 ≤ lines_in b → 1 ≤ lines_in (a & b)
-line-behind a b l = omega (arith, lines-append a b, l)
-
-one-line : 1 ≤ lines_in newline
-one-line = omega arith
-
 header-line : (h : Header) → 1 ≤ lines_in (header_line h)
-header-line h =
-    line-behind (codes "header ") _ (line-behind (class_name (slice_index h.e_ident 4)) _ (line-behind (codes " ") _ (line-behind (order_word (slice_index h.e_ident 5)) _ (line-behind (codes " ") _ (line-behind (file_type_name h.e_type) _ (line-behind (codes " ") _ (line-behind (machine_name h.e_machine) _ (line-behind (codes " entry 0x") _ (line-behind (hexadecimal h.e_entry) _ (line-behind (codes " phnum ") _ (line-behind (decimal h.e_phnum) _ (line-behind (codes " shnum ") _ (line-behind (decimal h.e_shnum) _ one-line)))))))))))))
+header-line h = simp lines-append (omega arith)
 
 section-line : (number : ℕ) (s : SectionHeader) (name : List ℕ) → 1 ≤ lines_in (section_line number s name)
-section-line number s name =
-    line-behind (codes "section ") _ (line-behind (decimal number) _ (line-behind (codes " ") _ (line-behind (section_name s.sh_type) _ (line-behind (codes " offset 0x") _ (line-behind (hexadecimal s.sh_offset) _ (line-behind (codes " size ") _ (line-behind (decimal s.sh_size) _ (line-behind (codes " name=") _ (line-behind (printed name) _ one-line)))))))))
+section-line number s name = simp lines-append (omega arith)
 
 -- each section has a line
 section-count : (names : StringTable) (number : ℕ) (sections : List SectionHeader) → length sections ≤ lines_in (section_lines names number sections)

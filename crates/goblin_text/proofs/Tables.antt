@@ -1,5 +1,5 @@
 -- The string tables of a file, of which no entries are made.
-use Rattle.std.proofs.Common.{◌≡◌, ◌∙◌, ℕ, ◌+◌, ◌-◌, ◌<◌, ◌≤◌, Bool, true, false, cond, leb, ltb, List, [], length, take, drop, min, Result, Ok, Err, ap, arith, refl, slice_range, sym}
+use Rattle.std.proofs.Common.{◌≡◌, ◌∙◌, ℕ, ◌+◌, ◌-◌, ◌≤◌, Bool, true, false, cond, leb, ltb, List, [], length, take, drop, min, Result, Ok, Err, ap, arith, refl, slice_range, sym}
 use Rattle.std.proofs.lemmas.Bool.Decides.{nat_tests}
 use Rattle.std.proofs.lemmas.List.{length-drop, length-take-le, take_all}
 use Prim.Native.Nat.{◌^◌}

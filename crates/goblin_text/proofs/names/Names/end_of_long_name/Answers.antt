@@ -5,7 +5,7 @@ use Rattle.std.specs.Str.{IsUtf8}
 use Rattle.goblin_text.proofs.Blocks.{cut_bounds}
 use Rattle.goblin_text.proofs.Plain.{EndsIn, IsTextIn, ends_behind, ends_on, lacks-on, long_plain, text_behind, whole-cut}
 use Rattle.goblin_text.specs.declared.runs.Kind.TheVariants.{Plain}
-use Rattle.goblin_text.specs.Runs.{IsBlock, IsEnd, IsPlain, LacksText, blocks, cut, up_to_zero}
+use Rattle.goblin_text.specs.Runs.{IsEnd, IsPlain, LacksText, cut, up_to_zero}
 use Rattle.goblin_text.proofs.names.Names.end_of_long_name.Goals.{After-end_of_text, then-run-last, else-run-last}
 use Rattle.goblin_text.proofs.names.Names.end_of_long_name.Goals as goal
 
