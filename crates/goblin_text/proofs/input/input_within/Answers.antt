@@ -18,5 +18,8 @@ returns-then-filled-gt-INPUT_LIMIT-clause-most g c =
     c.loop.invariant.taken c.in-Ok.ensures.bytes.0 in
     (_, taken, grind (arith, common_steps))
 
+pub returns-in-Ok-eq0-clause-input : goal.returns-in-Ok-eq0-clause-input
+returns-in-Ok-eq0-clause-input g c = grind (arith, common_steps)
+
 pub loop-preserved : goal.loop-preserved
 loop-preserved g c = grind (arith, common_steps, Consumes-behind, Consumes-kept)

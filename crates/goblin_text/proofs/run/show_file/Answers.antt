@@ -1,4 +1,4 @@
-use Rattle.std.proofs.Common.{◌≡◌, ◌+◌, ◌*◌, arith, length}
+use Rattle.std.proofs.Common.{◌≡◌, ◌+◌, ◌*◌, arith, length, refl}
 use Rattle.std.proofs.lemmas.Grind.{common_steps}
 use Rattle.goblin_text.proofs.Spent.{shown_spend}
 use Rattle.goblin_text.specs.Accepted.{parts_text}
@@ -13,3 +13,13 @@ returns-in-Ok-write_text-clause-looks_shown g c = λ short text done is.
     let tables : Spends old c.accept.new.names (table_looks * (length file.sections.items + 1)) = c.in-Ok.ensures.looks short in
     let names : Spends c.accept.new.names c.write_text.new.names (names_looks (parts_text old.bytes file.header file.sections.items file.parts)) = grind (arith, common_steps, short) in
     shown_spend old c.accept.new.names c.write_text.new.names old.bytes file.header file.sections.items file.parts text all tables names
+
+-- a text that could not be written was not shown
+pub returns-in-Ok-clause-shown : goal.returns-in-Ok-clause-shown
+returns-in-Ok-clause-shown g c = λ is. absurd (cc)
+
+pub returns-in-Ok-clause-heeded : goal.returns-in-Ok-clause-heeded
+returns-in-Ok-clause-heeded g c = λ other. absurd (other refl)
+
+pub returns-in-Ok-clause-looks_shown : goal.returns-in-Ok-clause-looks_shown
+returns-in-Ok-clause-looks_shown g c = λ short text is done. absurd (cc)
