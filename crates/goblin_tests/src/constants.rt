@@ -422,6 +422,22 @@ const FLAGS: [u32; 12] = [
     0x1, 0x2, 0x4, 0x10, 0x20, 0x40, 0x80, 0x100, 0x200, 0x400, 0x800, 0x40000000,
 ];
 
+// The sizes of records.
+const SIZES: &[(usize, usize)] = &[
+    (elf32::header::SIZEOF_EHDR, 52),
+    (elf64::header::SIZEOF_EHDR, 64),
+    (elf32::program_header::SIZEOF_PHDR, 32),
+    (elf64::program_header::SIZEOF_PHDR, 56),
+    (elf32::section_header::SIZEOF_SHDR, 40),
+    (elf64::section_header::SIZEOF_SHDR, 64),
+    (elf32::sym::SIZEOF_SYM, 16),
+    (elf64::sym::SIZEOF_SYM, 24),
+    (elf32::reloc::SIZEOF_REL, 8),
+    (elf32::reloc::SIZEOF_RELA, 12),
+    (elf64::reloc::SIZEOF_REL, 16),
+    (elf64::reloc::SIZEOF_RELA, 24),
+];
+
 // Whether each constant is its number.
 fn are<T: PartialEq + Debug>(rt: HostRuntime, rows: &[(T, T)]) -> bool {
     for row in rows {
@@ -440,43 +456,17 @@ fn numbers_of_headers(rt: HostRuntime) {
     assert!(rt;
         is(
             rt,
-            (elf32::header::ELFCLASS, elf64::header::ELFCLASS),
-            (1, 2)
+            [elf32::header::ELFCLASS, elf64::header::ELFCLASS],
+            [1, 2]
         )
     );
-    assert!(rt;
-        is(
-            rt,
-            (elf32::header::SIZEOF_EHDR, elf64::header::SIZEOF_EHDR),
-            (52, 64)
-        )
-    );
+    assert!(rt; are(rt, SIZES));
 }
 
 #[test]
 fn numbers_of_segments_and_sections(rt: HostRuntime) {
     assert!(rt; are(rt, PT) && are(rt, PF));
     assert!(rt; are(rt, SHN) && are(rt, SHT) && are(rt, SHF));
-    assert!(rt;
-        is(
-            rt,
-            (
-                elf32::program_header::SIZEOF_PHDR,
-                elf64::program_header::SIZEOF_PHDR
-            ),
-            (32, 56)
-        )
-    );
-    assert!(rt;
-        is(
-            rt,
-            (
-                elf32::section_header::SIZEOF_SHDR,
-                elf64::section_header::SIZEOF_SHDR
-            ),
-            (40, 64)
-        )
-    );
     assert!(rt; is(rt, section_header::SHF_NUM_REGULAR_FLAGS, 12));
     assert!(rt; is(rt, section_header::SHF_FLAGS, FLAGS));
 }
@@ -484,26 +474,5 @@ fn numbers_of_segments_and_sections(rt: HostRuntime) {
 #[test]
 fn numbers_of_symbols_and_notes(rt: HostRuntime) {
     assert!(rt; are(rt, STB) && are(rt, STT) && are(rt, STV));
-    assert!(rt;
-        is(
-            rt,
-            (elf32::sym::SIZEOF_SYM, elf64::sym::SIZEOF_SYM),
-            (16, 24)
-        )
-    );
-    assert!(rt;
-        is(
-            rt,
-            (elf32::reloc::SIZEOF_REL, elf32::reloc::SIZEOF_RELA),
-            (8, 12)
-        )
-    );
-    assert!(rt;
-        is(
-            rt,
-            (elf64::reloc::SIZEOF_REL, elf64::reloc::SIZEOF_RELA),
-            (16, 24)
-        )
-    );
     assert!(rt; are(rt, NT));
 }

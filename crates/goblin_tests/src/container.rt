@@ -2,6 +2,27 @@
 use crate::told::is;
 use goblin_base::container::{BE, CONTAINER, Container, Ctx, Endian, LE, constants};
 
+// The contexts of both classes in either byte order.
+pub(crate) const LITTLE32: Ctx = Ctx {
+    container: Container::Little,
+    le: LE,
+};
+
+pub(crate) const BIG32: Ctx = Ctx {
+    container: Container::Little,
+    le: BE,
+};
+
+pub(crate) const LITTLE64: Ctx = Ctx {
+    container: Container::Big,
+    le: LE,
+};
+
+pub(crate) const BIG64: Ctx = Ctx {
+    container: Container::Big,
+    le: BE,
+};
+
 // The class of a context by both that tell it, with the size of an address there.
 fn class_of(ctx: Ctx) -> (bool, bool, usize) {
     (ctx.is_big(), ctx.container.is_big(), ctx.size())
@@ -15,23 +36,27 @@ fn is_little(ctx: Ctx) -> (bool, bool) {
 #[test]
 fn makes_contexts(rt: HostRuntime) {
     let big = Ctx::new(Container::Big, BE);
-    assert!(rt; is(rt, class_of(big), (true, true, 8)));
-    assert!(rt; is(rt, is_little(big), (false, false)));
+    assert!(rt;
+        is(
+            rt,
+            (class_of(big), is_little(big)),
+            ((true, true, 8), (false, false))
+        )
+    );
     let little = Ctx::new(Container::Little, LE);
-    assert!(rt; is(rt, class_of(little), (false, false, 4)));
-    assert!(rt; is(rt, is_little(little), (true, true)));
+    assert!(rt;
+        is(
+            rt,
+            (class_of(little), is_little(little)),
+            ((false, false, 4), (true, true))
+        )
+    );
 }
 
 #[test]
 fn makes_contexts_of_one_part(rt: HostRuntime) {
-    assert!(rt;
-        is(
-            rt,
-            Ctx::from(Container::Little),
-            Ctx::new(Container::Little, LE)
-        )
-    );
-    assert!(rt; is(rt, Ctx::from(Endian::Big), Ctx::new(Container::Big, BE)));
+    assert!(rt; is(rt, Ctx::from(Container::Little), LITTLE32));
+    assert!(rt; is(rt, Ctx::from(Endian::Big), BIG64));
     assert!(rt; is(rt, Ctx::default(), Ctx::new(CONTAINER, LE)));
 }
 

@@ -1,23 +1,14 @@
-//! Cases with their answers: reading headers in their three forms, new headers, and names.
-use crate::told::{answers, differs, holds, is, is_named, says};
+//! Cases with their answers: headers in their three forms, new headers, and names.
+use crate::container::{BIG64, LITTLE32};
+use crate::record::{reads, writes};
+use crate::told::{answers, are_kept, differs, holds, is, is_named, says, stands};
 use goblin_base::container::{BE, Container, Ctx, Endian, LE};
-use goblin_base::scroll::{SizeWith, TryFromCtx};
+use goblin_base::scroll::{IntoCtx, SizeWith, TryFromCtx, TryIntoCtx};
 use goblin_headers::header::{
     EM_386, EM_AARCH64, EM_CSKY, EM_INTELGT, EM_LOONGARCH, EM_M32, EM_NONE, EM_NUM, EM_X86_64,
     Header, class_to_str, et_to_str, machine_to_str,
 };
 use goblin_headers::{header, header32, header64};
-
-// The context of 32-bit files in little byte order, and that of 64-bit files in big byte order.
-pub(crate) const LITTLE32: Ctx = Ctx {
-    container: Container::Little,
-    le: Endian::Little,
-};
-
-pub(crate) const BIG64: Ctx = Ctx {
-    container: Container::Big,
-    le: Endian::Big,
-};
 
 // A 64-bit header in big byte order, each field with a number of its own, and the header.
 const BIG: &[u8; 64] = b"\x7fELF\x02\x02\x01\0\0\0\0\0\0\0\0\0\
@@ -47,93 +38,64 @@ const READ: Header = Header {
 
 // The bytes of new headers: of the 32-bit class in little byte order, and of the 64-bit class in big
 // byte order.
-pub(crate) const NEW32: &[u8; 52] = b"\x7fELF\x01\x01\x01\0\0\0\0\0\0\0\0\0\
+const NEW32: &[u8; 52] = b"\x7fELF\x01\x01\x01\0\0\0\0\0\0\0\0\0\
     \x03\x00\x00\x00\x01\x00\x00\x00\x00\x00\x00\x00\x00\x00\x00\x00\x00\x00\x00\x00\x00\x00\x00\x00\
     \x34\x00\x20\x00\x00\x00\x28\x00\x00\x00\x00\x00";
 
-pub(crate) const NEW64: &[u8; 64] = b"\x7fELF\x02\x02\x01\0\0\0\0\0\0\0\0\0\
+const NEW64: &[u8; 64] = b"\x7fELF\x02\x02\x01\0\0\0\0\0\0\0\0\0\
     \x00\x03\x00\x00\x00\x00\x00\x01\0\0\0\0\0\0\0\0\0\0\0\0\0\0\0\0\0\0\0\0\0\0\0\0\0\0\0\0\
     \x00\x40\x00\x38\x00\x00\x00\x40\x00\x00\x00\x00";
 
-fn reads(rt: HostRuntime, bytes: &[u8], order: Endian, header: Header) -> bool {
-    answers(
-        rt,
-        Header::try_from_ctx(bytes, order),
-        (header, bytes.len()),
-    )
+// Whether a header has this form, whose class and order its own bytes tell: the order that is passed is ignored.
+fn has_either_form(rt: HostRuntime, header: Header, bytes: &'static [u8]) -> bool {
+    reads(rt, bytes, LE, &header)
+        && reads(rt, bytes, BE, &header)
+        && writes(rt, header, LE, bytes)
+        && writes(rt, header, BE, bytes)
 }
 
-fn reads32(rt: HostRuntime, bytes: &[u8], order: Endian, header: Header) -> bool {
-    match header32::Header::try_from_ctx(bytes, order) {
-        Ok((read, size)) => {
-            answers(rt, header32::Header::parse(bytes), read)
-                && is(rt, (Header::from(read), size), (header, bytes.len()))
-        }
-        Err(e) => differs(rt, &e, &header),
-    }
-}
-
-fn reads64(rt: HostRuntime, bytes: &[u8], order: Endian, header: Header) -> bool {
-    match header64::Header::try_from_ctx(bytes, order) {
-        Ok((read, size)) => {
-            answers(rt, header64::Header::parse(bytes), read)
-                && is(rt, (Header::from(read), size), (header, bytes.len()))
-        }
-        Err(e) => differs(rt, &e, &header),
-    }
-}
-
-// The order that is passed is ignored.
-#[test]
-fn reads_headers(rt: HostRuntime) {
-    assert!(rt; reads(rt, BIG, LE, READ));
-    assert!(rt; reads64(rt, BIG, LE, READ));
-    assert!(rt; reads(rt, NEW32, BE, Header::new(LITTLE32)));
-    assert!(rt; reads32(rt, NEW32, BE, Header::new(LITTLE32)));
-    assert!(rt; reads(rt, NEW64, LE, Header::new(BIG64)));
-}
-
-fn has_size(rt: HostRuntime, ctx: Ctx, size: usize) -> bool {
-    is(
-        rt,
-        (Header::size(ctx), Header::size_with(&ctx)),
-        (size, size),
-    )
+// Whether a header of a context has this size, and a new one is put as these bytes.
+fn puts(rt: HostRuntime, ctx: Ctx, bytes: &[u8]) -> bool {
+    let mut room = [0xaa; 70];
+    Header::new(ctx).into_ctx(&mut room, ctx);
+    let sizes = (Header::size(ctx), Header::size_with(&ctx));
+    stands(rt, &room, bytes) && is(rt, sizes, (bytes.len(), bytes.len()))
 }
 
 #[test]
-fn sizes_of_headers(rt: HostRuntime) {
-    assert!(rt; has_size(rt, LITTLE32, 52));
-    assert!(rt; has_size(rt, BIG64, 64));
+fn reads_and_writes_headers(rt: HostRuntime) {
+    assert!(rt; has_either_form(rt, READ, BIG));
+    assert!(rt; has_either_form(rt, Header::new(LITTLE32), NEW32));
+    assert!(rt; has_either_form(rt, Header::new(BIG64), NEW64));
+    assert!(rt; puts(rt, LITTLE32, NEW32));
+    assert!(rt; puts(rt, BIG64, NEW64));
+}
+
+#[test]
+fn reads_and_writes_raw_headers(rt: HostRuntime) {
+    let raw = header64::Header::from(READ);
+    assert!(rt; reads(rt, BIG, LE, &raw) && answers(rt, header64::Header::parse(BIG), raw));
+    assert!(rt; is(rt, Header::from(raw), READ));
+    let raw = header32::Header::from(Header::new(LITTLE32));
+    assert!(rt; reads(rt, NEW32, BE, &raw) && answers(rt, header32::Header::parse(NEW32), raw));
+    assert!(rt; writes(rt, raw, BE, NEW32));
+    assert!(rt; is(rt, Header::from(raw), Header::new(LITTLE32)));
+    assert!(rt; writes(rt, header64::Header::from(Header::new(BIG64)), LE, NEW64));
 }
 
 #[test]
 fn default_headers_are_zeros(rt: HostRuntime) {
+    let zeros = header32::Header::default();
+    assert!(rt; is(rt, header32::default_is_zeros(), zeros));
+    assert!(rt; is(rt, zeros.e_ident, [0; 16]));
+    let zeros = header64::Header::default();
     assert!(rt;
         is(
             rt,
-            header32::default_is_zeros(),
-            header32::Header::default()
+            (header64::default_is_zeros(), zeros.e_entry),
+            (zeros, 0)
         )
     );
-    assert!(rt;
-        is(
-            rt,
-            header64::default_is_zeros(),
-            header64::Header::default()
-        )
-    );
-    assert!(rt; is(rt, header32::Header::default().e_ident, [0; 16]));
-    assert!(rt; is(rt, header64::Header::default().e_entry, 0));
-}
-
-// A case of refused bytes: byte 0, the class byte, the data byte and how many bytes there are of `BIG`
-// with these; and the texts of the reader of both classes, and of `try_from_ctx` and `parse` of its own.
-#[derive(Debug)]
-struct Refused {
-    changed: [u8; 3],
-    len: usize,
-    texts: [&'static str; 3],
 }
 
 const OK: &str = "Ok";
@@ -144,9 +106,15 @@ const DATA_TYPE: &str = "Malformed entity: invalid ELF endianness DATA type 0";
 
 const CLASS: &str = "Malformed entity: invalid ELF class 3";
 
+const MAGIC2: &str = "Invalid magic number: 0x10202464c4500";
+
+const MAGIC3: &str = "Invalid magic number: 0x10003464c4500";
+
 const SMALL: &str = "Malformed entity: Too small";
 
 const CUT63: &str = "type is too big (64) for 63";
+
+const CUT51: &str = "type is too big (52) for 51";
 
 const CUT16: &str = "type is too big (64) for 16";
 
@@ -154,90 +122,49 @@ const CUT15: &str = "type is too big (16) for 15";
 
 const NONE: &str = "bad offset 0";
 
+// Byte 0, the class byte, the data byte and how many bytes there are of `BIG` with these; and the texts
+// of the reader of both classes, and of `try_from_ctx` and `parse` of its own.
+type Refused = ([u8; 3], usize, [&'static str; 3]);
+
 static REFUSED: [Refused; 11] = [
-    Refused {
-        changed: [0x7f, 2, 2],
-        len: 64,
-        texts: [OK, OK, OK],
-    },
-    Refused {
-        changed: [0, 2, 2],
-        len: 64,
-        texts: ["Invalid magic number: 0x10202464c4500", OK, OK],
-    },
-    Refused {
-        changed: [0x7f, 3, 2],
-        len: 64,
-        texts: [CLASS, OK, OK],
-    },
-    Refused {
-        changed: [0x7f, 2, 0],
-        len: 64,
-        texts: [DATA_TYPE, DATA_TYPE, DATA],
-    },
-    Refused {
-        changed: [0x7f, 3, 0],
-        len: 64,
-        texts: [CLASS, DATA_TYPE, DATA],
-    },
-    Refused {
-        changed: [0, 3, 0],
-        len: 64,
-        texts: ["Invalid magic number: 0x10003464c4500", DATA_TYPE, DATA],
-    },
-    Refused {
-        changed: [0x7f, 2, 2],
-        len: 63,
-        texts: [CUT63, CUT63, CUT63],
-    },
-    Refused {
-        changed: [0x7f, 2, 2],
-        len: 16,
-        texts: [CUT16, CUT16, CUT16],
-    },
-    Refused {
-        changed: [0x7f, 2, 0],
-        len: 16,
-        texts: [DATA_TYPE, DATA_TYPE, DATA],
-    },
-    Refused {
-        changed: [0, 3, 0],
-        len: 15,
-        texts: [SMALL, CUT15, CUT15],
-    },
-    Refused {
-        changed: [0x7f, 2, 2],
-        len: 0,
-        texts: [SMALL, NONE, NONE],
-    },
+    ([0x7f, 2, 2], 64, [OK, OK, OK]),
+    ([0, 2, 2], 64, [MAGIC2, OK, OK]),
+    ([0x7f, 3, 2], 64, [CLASS, OK, OK]),
+    ([0x7f, 2, 0], 64, [DATA_TYPE, DATA_TYPE, DATA]),
+    ([0x7f, 3, 0], 64, [CLASS, DATA_TYPE, DATA]),
+    ([0, 3, 0], 64, [MAGIC3, DATA_TYPE, DATA]),
+    ([0x7f, 2, 2], 63, [CUT63, CUT63, CUT63]),
+    ([0x7f, 2, 2], 16, [CUT16, CUT16, CUT16]),
+    ([0x7f, 2, 0], 16, [DATA_TYPE, DATA_TYPE, DATA]),
+    ([0, 3, 0], 15, [SMALL, CUT15, CUT15]),
+    ([0x7f, 2, 2], 0, [SMALL, NONE, NONE]),
 ];
 
-fn refuses(rt: HostRuntime, case: &Refused) -> bool {
+fn refuses(rt: HostRuntime, row: &Refused) -> bool {
+    let ([magic, class, order], len, texts) = *row;
     let mut bytes = *BIG;
-    let [magic, class, order] = case.changed;
     bytes[0] = magic;
     bytes[4] = class;
     bytes[5] = order;
-    let cut = &bytes[..case.len.min(64)];
-    says(rt, Header::try_from_ctx(cut, BE), case.texts[0])
-        && says(rt, header64::Header::try_from_ctx(cut, BE), case.texts[1])
-        && says(rt, header64::Header::parse(cut), case.texts[2])
+    let cut = &bytes[..len.min(64)];
+    says(rt, Header::try_from_ctx(cut, BE), texts[0])
+        && says(rt, header64::Header::try_from_ctx(cut, BE), texts[1])
+        && says(rt, header64::Header::parse(cut), texts[2])
 }
 
 #[test]
 fn refuses_headers_in_order(rt: HostRuntime) {
-    for case in &REFUSED {
-        assert!(rt; holds(rt, case, refuses(rt, case)));
+    for row in &REFUSED {
+        assert!(rt; holds(rt, row, refuses(rt, row)));
     }
 }
 
 #[test]
 fn refuses_a_cut_32_bit_header(rt: HostRuntime) {
     let cut = &NEW32[..51];
-    let text = "type is too big (52) for 51";
-    assert!(rt; says(rt, header32::Header::parse(cut), text));
-    assert!(rt; says(rt, header32::Header::try_from_ctx(cut, LE), text));
-    assert!(rt; says(rt, Header::try_from_ctx(cut, LE), text));
+    assert!(rt; says(rt, header32::Header::parse(cut), CUT51));
+    assert!(rt; says(rt, header32::Header::try_from_ctx(cut, LE), CUT51));
+    assert!(rt; says(rt, Header::try_from_ctx(cut, LE), CUT51));
 }
 
 #[test]
@@ -258,6 +185,88 @@ fn tells_a_bad_class_and_a_bad_order(rt: HostRuntime) {
     assert!(rt; says(rt, header.container(), text));
     let text = "Malformed entity: Invalid endianness in Header: 11";
     assert!(rt; says(rt, header.endianness(), text));
+}
+
+#[test]
+fn keeps_low_bits(rt: HostRuntime) {
+    let mut wide = Header::new(BIG64);
+    wide.e_entry = 0x1_2345_6789;
+    assert!(rt; is(rt, header32::Header::from(wide).e_entry, 0x2345_6789));
+    assert!(rt; is(rt, header64::Header::from(wide).e_entry, 0x1_2345_6789));
+}
+
+// Little byte order, whatever the data byte says.
+#[test]
+fn reads_headers_from_their_bytes(rt: HostRuntime) {
+    let header = header32::Header::from_bytes(NEW32);
+    assert!(rt; is(rt, Header::from(header), Header::new(LITTLE32)));
+    let header = header64::Header::from_bytes(NEW64);
+    assert!(rt; is(rt, (header.e_ident[5], header.e_type), (2, 0x300)));
+    assert!(rt; is(rt, (header.e_version, header.e_ehsize), (0x1000000, 0x4000)));
+}
+
+const CLASS_BYTE0: &str = "Malformed entity: Invalid class in Header: 0";
+
+const CLASS_BYTE3: &str = "Malformed entity: Invalid class in Header: 3";
+
+// The class byte, the data byte, how many bytes there are, and the texts of writing the header of either
+// class and the 32-bit one.
+type Unwritten = (u8, u8, usize, [&'static str; 2]);
+
+static UNWRITTEN: [Unwritten; 7] = [
+    (1, 1, 52, [OK, OK]),
+    (1, 1, 51, [CUT51, CUT51]),
+    (1, 1, 0, [NONE, NONE]),
+    (0, 0, 52, [CLASS_BYTE0, DATA]),
+    (1, 0, 52, [DATA, DATA]),
+    (1, 0, 0, [DATA, DATA]),
+    (3, 1, 52, [CLASS_BYTE3, OK]),
+];
+
+// A new 32-bit header with this class byte and this data byte.
+fn header_with(class: u8, order: u8) -> Header {
+    let mut header = Header::new(LITTLE32);
+    header.e_ident[4] = class;
+    header.e_ident[5] = order;
+    header
+}
+
+// Whether writing a header over so many bytes is told so, and what is refused writes nothing.
+fn is_told<R: TryIntoCtx<Endian>>(rt: HostRuntime, header: R, len: usize, text: &str) -> bool {
+    let mut room = [0xaa; 52];
+    let room = &mut room[..len.min(52)];
+    let written = header.try_into_ctx(room, BE);
+    says(rt, written, text) && is(rt, are_kept(room), text != OK)
+}
+
+fn refuses_to_write(rt: HostRuntime, row: &Unwritten) -> bool {
+    let header = header_with(row.0, row.1);
+    is_told(rt, header, row.2, row.3[0])
+        && is_told(rt, header32::Header::from(header), row.2, row.3[1])
+}
+
+#[test]
+fn refuses_to_write_in_order(rt: HostRuntime) {
+    for row in &UNWRITTEN {
+        assert!(rt; holds(rt, row, refuses_to_write(rt, row)));
+    }
+}
+
+fn reads_back(rt: HostRuntime, ctx: Ctx) -> bool {
+    let mut header = Header::new(ctx);
+    header.e_entry = 0x8000_1234;
+    header.e_shstrndx = 0xffff;
+    let mut room = [0; 64];
+    match header.try_into_ctx(&mut room, LE) {
+        Ok(size) => answers(rt, Header::try_from_ctx(&room, LE), (header, size)),
+        Err(e) => differs(rt, &e, &header),
+    }
+}
+
+#[test]
+fn reads_what_was_written(rt: HostRuntime) {
+    assert!(rt; reads_back(rt, Ctx::new(Container::Little, BE)));
+    assert!(rt; reads_back(rt, Ctx::new(Container::Big, LE)));
 }
 
 static MACHINES: [(u16, &str); 14] = [
@@ -320,16 +329,17 @@ fn names_classes(rt: HostRuntime) {
 // The functions that the modules of the classes pass on are these.
 #[test]
 fn passes_on_the_names(rt: HostRuntime) {
-    assert!(rt; is(rt, header32::machine_to_str(3), "386"));
-    assert!(rt; is(rt, header64::machine_to_str(3), "386"));
-    assert!(rt; is(rt, header32::et_to_str(3), "DYN"));
-    assert!(rt; is(rt, header64::et_to_str(3), "DYN"));
-}
-
-#[test]
-fn passes_on_the_classes_and_sizes(rt: HostRuntime) {
-    assert!(rt; is(rt, header32::class_to_str(1), "ELF32"));
-    assert!(rt; is(rt, header64::class_to_str(1), "ELF32"));
+    let machines = (header32::machine_to_str(3), header64::machine_to_str(3));
+    assert!(rt; is(rt, machines, ("386", "386")));
+    assert!(rt;
+        is(
+            rt,
+            (header32::et_to_str(3), header64::et_to_str(3)),
+            ("DYN", "DYN")
+        )
+    );
+    let classes = (header32::class_to_str(1), header64::class_to_str(1));
+    assert!(rt; is(rt, classes, ("ELF32", "ELF32")));
     assert!(rt; is(rt, header::header32::SIZEOF_EHDR, 52));
     assert!(rt; is(rt, header::header64::SIZEOF_EHDR, 64));
 }

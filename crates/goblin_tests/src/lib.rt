@@ -1,17 +1,11 @@
-//! Tests of `goblin` and of the three crates below it, by subject: each reaches its subject by the paths of the
-//! crate that it lies in.
+//! Tests of `goblin` and of the three crates below it, a file for each file of theirs, by its name: each reaches its
+//! subject by the paths of the crate that it lies in.
 #![tactic(auto)]
 
-#[cfg(test)]
-mod addresses;
 #[cfg(test)]
 mod constants;
 #[cfg(test)]
 mod container;
-#[cfg(test)]
-mod counts;
-#[cfg(test)]
-mod ends;
 #[cfg(test)]
 mod entries;
 #[cfg(test)]
@@ -21,9 +15,7 @@ mod header;
 #[cfg(test)]
 mod names;
 #[cfg(test)]
-mod note_headers;
-#[cfg(test)]
-mod notes;
+mod note;
 #[cfg(test)]
 mod number;
 #[cfg(test)]
@@ -31,24 +23,22 @@ mod options;
 #[cfg(test)]
 mod paths;
 #[cfg(test)]
-mod reloc_sections;
+mod program_header;
 #[cfg(test)]
-mod relocations;
+mod record;
 #[cfg(test)]
-mod sections;
+mod reloc;
 #[cfg(test)]
-mod segments;
+mod section_header;
 #[cfg(test)]
 mod strtab;
 #[cfg(test)]
-mod symbols;
+mod sym;
 #[cfg(test)]
-mod symtabs;
+mod table;
 #[cfg(test)]
 mod told;
 #[cfg(test)]
 mod traits;
 #[cfg(test)]
 mod walk;
-#[cfg(test)]
-mod writing;

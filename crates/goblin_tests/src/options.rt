@@ -10,25 +10,15 @@ fn mode(options: ParseOptions) -> (ParseMode, bool) {
 #[test]
 fn makes_options(rt: HostRuntime) {
     assert!(rt; is(rt, mode(ParseOptions::new()), (ParseMode::Strict, false)));
-    assert!(rt;
-        is(
-            rt,
-            mode(ParseOptions::default()),
-            (ParseMode::Strict, false)
-        )
-    );
+    let default = mode(ParseOptions::default());
+    assert!(rt; is(rt, default, (ParseMode::Strict, false)));
     assert!(rt; is(rt, mode(ParseOptions::strict()), (ParseMode::Strict, false)));
 }
 
 #[test]
 fn makes_permissive_options(rt: HostRuntime) {
-    assert!(rt;
-        is(
-            rt,
-            mode(ParseOptions::permissive()),
-            (ParseMode::Permissive, true)
-        )
-    );
+    let permissive = mode(ParseOptions::permissive());
+    assert!(rt; is(rt, permissive, (ParseMode::Permissive, true)));
     let options = ParseOptions::strict().with_parse_mode(ParseMode::Permissive);
     assert!(rt; is(rt, mode(options), (ParseMode::Permissive, true)));
 }

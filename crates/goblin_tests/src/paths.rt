@@ -1,9 +1,10 @@
 //! What goblin's paths lead to: each public item is reached once by its path, with its type.
-use crate::told::{answers, differs, is};
+use crate::container::{BIG32, LITTLE32, LITTLE64};
+use crate::record::writes;
+use crate::told::{differs, is, says};
 use goblin::container::{BE, CONTAINER, Container, Ctx, Endian, LE};
-use goblin::error::{Error, Fault};
 use goblin::options::{ParseMode, ParseOptions};
-use goblin::scroll::{IntoCtx, SizeWith, TryFromCtx, TryIntoCtx};
+use goblin::scroll::{IntoCtx, SizeWith, TryFromCtx};
 use goblin::strtab::Strtab;
 use goblin::{elf, elf32, elf64, scroll};
 
@@ -58,7 +59,7 @@ fn leads_to_the_records_below_each_module(rt: HostRuntime) {
 #[test]
 fn leads_to_the_records_of_either_class(rt: HostRuntime) {
     let zeros = [0u8; 64];
-    let ctx = Ctx::new(Container::Big, LE);
+    let ctx = LITTLE64;
     assert!(rt; reads::<elf::program_header::ProgramHeader, Ctx>(rt, &zeros, ctx, 56));
     assert!(rt; reads::<elf::section_header::SectionHeader, Ctx>(rt, &zeros, ctx, 64));
     assert!(rt; reads::<elf::sym::Sym, Ctx>(rt, &zeros, ctx, 24));
@@ -74,181 +75,124 @@ fn leads_to_the_records_of_either_class(rt: HostRuntime) {
 
 #[test]
 fn leads_to_the_names_of_headers(rt: HostRuntime) {
-    assert!(rt; is(rt, elf::header::class_to_str(2), "ELF64"));
-    assert!(rt; is(rt, elf32::header::class_to_str(2), "ELF64"));
-    assert!(rt; is(rt, elf64::header::class_to_str(2), "ELF64"));
-    assert!(rt; is(rt, elf::header::et_to_str(2), "EXEC"));
-    assert!(rt; is(rt, elf32::header::et_to_str(2), "EXEC"));
-    assert!(rt; is(rt, elf64::header::et_to_str(2), "EXEC"));
-    assert!(rt; is(rt, elf::header::machine_to_str(62), "X86_64"));
-    assert!(rt; is(rt, elf32::header::machine_to_str(62), "X86_64"));
-    assert!(rt; is(rt, elf64::header::machine_to_str(62), "X86_64"));
+    let classes = [
+        elf::header::class_to_str(2),
+        elf32::header::class_to_str(2),
+        elf64::header::class_to_str(2),
+    ];
+    let types = [
+        elf::header::et_to_str(2),
+        elf32::header::et_to_str(2),
+        elf64::header::et_to_str(2),
+    ];
+    let machines = [
+        elf::header::machine_to_str(62),
+        elf32::header::machine_to_str(62),
+        elf64::header::machine_to_str(62),
+    ];
+    assert!(rt;
+        is(
+            rt,
+            [classes, types, machines],
+            [["ELF64"; 3], ["EXEC"; 3], ["X86_64"; 3]]
+        )
+    );
 }
 
 #[test]
 fn leads_to_the_names_of_segments_and_sections(rt: HostRuntime) {
-    assert!(rt; is(rt, elf::program_header::pt_to_str(1), "PT_LOAD"));
-    assert!(rt; is(rt, elf32::program_header::pt_to_str(1), "PT_LOAD"));
-    assert!(rt; is(rt, elf64::program_header::pt_to_str(1), "PT_LOAD"));
-    assert!(rt; is(rt, elf::section_header::sht_to_str(4), "SHT_RELA"));
-    assert!(rt; is(rt, elf32::section_header::sht_to_str(4), "SHT_RELA"));
-    assert!(rt; is(rt, elf64::section_header::sht_to_str(4), "SHT_RELA"));
-    assert!(rt; is(rt, elf::section_header::shf_to_str(4), "SHF_EXECINSTR"));
-    assert!(rt; is(rt, elf32::section_header::shf_to_str(4), "SHF_EXECINSTR"));
-    assert!(rt; is(rt, elf64::section_header::shf_to_str(4), "SHF_EXECINSTR"));
-}
-
-fn names_of_elf(rt: HostRuntime) -> bool {
-    is(rt, elf::sym::bind_to_str(2), "WEAK")
-        && is(rt, elf::sym::type_to_str(3), "SECTION")
-        && is(rt, elf::sym::visibility_to_str(1), "INTERNAL")
-        && is(rt, elf::sym::get_type(0x23), "SECTION")
-}
-
-fn names_of_elf32(rt: HostRuntime) -> bool {
-    is(rt, elf32::sym::bind_to_str(2), "WEAK")
-        && is(rt, elf32::sym::type_to_str(3), "SECTION")
-        && is(rt, elf32::sym::visibility_to_str(1), "INTERNAL")
-        && is(rt, elf32::sym::get_type(0x23), "SECTION")
-}
-
-fn names_of_elf64(rt: HostRuntime) -> bool {
-    is(rt, elf64::sym::bind_to_str(2), "WEAK")
-        && is(rt, elf64::sym::type_to_str(3), "SECTION")
-        && is(rt, elf64::sym::visibility_to_str(1), "INTERNAL")
-        && is(rt, elf64::sym::get_type(0x23), "SECTION")
+    let segments = [
+        elf::program_header::pt_to_str(1),
+        elf32::program_header::pt_to_str(1),
+        elf64::program_header::pt_to_str(1),
+    ];
+    let sections = [
+        elf::section_header::sht_to_str(4),
+        elf32::section_header::sht_to_str(4),
+        elf64::section_header::sht_to_str(4),
+    ];
+    let flags = [
+        elf::section_header::shf_to_str(4),
+        elf32::section_header::shf_to_str(4),
+        elf64::section_header::shf_to_str(4),
+    ];
+    let names = [["PT_LOAD"; 3], ["SHT_RELA"; 3], ["SHF_EXECINSTR"; 3]];
+    assert!(rt; is(rt, [segments, sections, flags], names));
 }
 
 #[test]
 fn leads_to_the_names_of_symbols(rt: HostRuntime) {
-    assert!(rt; names_of_elf(rt));
-    assert!(rt; names_of_elf32(rt));
-    assert!(rt; names_of_elf64(rt));
+    let either = [
+        elf::sym::bind_to_str(2),
+        elf::sym::type_to_str(3),
+        elf::sym::visibility_to_str(1),
+        elf::sym::get_type(0x23),
+    ];
+    let small = [
+        elf32::sym::bind_to_str(2),
+        elf32::sym::type_to_str(3),
+        elf32::sym::visibility_to_str(1),
+        elf32::sym::get_type(0x23),
+    ];
+    let large = [
+        elf64::sym::bind_to_str(2),
+        elf64::sym::type_to_str(3),
+        elf64::sym::visibility_to_str(1),
+        elf64::sym::get_type(0x23),
+    ];
+    let names = ["WEAK", "SECTION", "INTERNAL", "SECTION"];
+    assert!(rt; is(rt, [either, small, large], [names; 3]));
 }
 
 #[test]
 fn leads_to_the_parts_of_symbols(rt: HostRuntime) {
-    assert!(rt;
-        is(
-            rt,
-            (elf::sym::st_bind(0x23), elf::sym::st_type(0x23)),
-            (2, 3)
-        )
-    );
-    assert!(rt;
-        is(
-            rt,
-            (elf32::sym::st_bind(0x23), elf32::sym::st_type(0x23)),
-            (2, 3)
-        )
-    );
-    assert!(rt;
-        is(
-            rt,
-            (elf64::sym::st_bind(0x23), elf64::sym::st_type(0x23)),
-            (2, 3)
-        )
-    );
-    assert!(rt;
-        is(
-            rt,
-            (elf::sym::st_visibility(0x1b), elf::sym::is_import(0x12, 0)),
-            (3, true)
-        )
-    );
-    assert!(rt;
-        is(
-            rt,
-            (
-                elf32::sym::st_visibility(0x1b),
-                elf32::sym::is_import(0x12, 0)
-            ),
-            (3, true)
-        )
-    );
-    assert!(rt;
-        is(
-            rt,
-            (
-                elf64::sym::st_visibility(0x1b),
-                elf64::sym::is_import(0x12, 0)
-            ),
-            (3, true)
-        )
-    );
+    use elf::sym;
+    use elf32::sym as sym32;
+    use elf64::sym as sym64;
+    let infos = [
+        (sym::st_bind(0x23), sym::st_type(0x23)),
+        (sym32::st_bind(0x23), sym32::st_type(0x23)),
+        (sym64::st_bind(0x23), sym64::st_type(0x23)),
+    ];
+    assert!(rt; is(rt, infos, [(2, 3); 3]));
+    let others = [
+        (sym::st_visibility(0x1b), sym::is_import(0x12, 0)),
+        (sym32::st_visibility(0x1b), sym32::is_import(0x12, 0)),
+        (sym64::st_visibility(0x1b), sym64::is_import(0x12, 0)),
+    ];
+    assert!(rt; is(rt, others, [(3, true); 3]));
 }
 
 #[test]
 fn leads_to_the_parts_of_relocations(rt: HostRuntime) {
-    assert!(rt; is(rt, elf32::reloc::r_sym(0x123456ff), 0x123456));
-    assert!(rt; is(rt, elf32::reloc::r_type(0x123456ff), 0xff));
-    assert!(rt; is(rt, elf32::reloc::r_info(0x123456, 0x1ff), 0x123456ff));
-    assert!(rt; is(rt, elf64::reloc::r_sym(0x2A_0000_0007), 42));
-    assert!(rt; is(rt, elf64::reloc::r_type(0x2A_0000_0007), 7));
-    assert!(rt; is(rt, elf64::reloc::r_info(42, 7), 0x2A_0000_0007));
+    let info = 0x123456ff;
+    let parts = (elf32::reloc::r_sym(info), elf32::reloc::r_type(info));
+    assert!(rt; is(rt, parts, (0x123456, 0xff)));
+    assert!(rt; is(rt, elf32::reloc::r_info(0x123456, 0x1ff), info));
+    assert!(rt; is(rt, elf::reloc::reloc32::r_sym(info), 0x123456));
+    let info = 0x2A_0000_0007;
     assert!(rt;
         is(
             rt,
-            elf64::reloc::mips64el_r_info(0x0102030400000005),
-            0x0000000504030201
+            (elf64::reloc::r_sym(info), elf64::reloc::r_type(info)),
+            (42, 7)
         )
     );
-    assert!(rt;
-        is(
-            rt,
-            elf64::reloc::mips64el_r_info_inverse(0x0000000504030201),
-            0x0102030400000005
-        )
-    );
-    assert!(rt; is(rt, elf::reloc::reloc32::r_sym(0x123456ff), 0x123456));
-    assert!(rt; is(rt, elf::reloc::reloc64::r_sym(0x2A_0000_0007), 42));
-}
-
-// Whether a table of zeros has one relocation.
-fn has_one(rt: HostRuntime, zeros: &[u8], ctx: Ctx) -> bool {
-    match elf::reloc::RelocSection::parse(zeros, 0, 8, false, ctx) {
-        Ok(relocs) => is(rt, relocs.len(), 1),
-        Err(e) => differs(rt, &e, &1),
-    }
-}
-
-// Whether one of zeros has one symbol.
-fn has_one_symbol(rt: HostRuntime, zeros: &[u8], ctx: Ctx) -> bool {
-    match elf::sym::Symtab::parse(zeros, 0, 1, ctx) {
-        Ok(table) => is(rt, table.len(), 1),
-        Err(e) => differs(rt, &e, &1),
-    }
+    assert!(rt; is(rt, elf64::reloc::r_info(42, 7), info));
+    assert!(rt; is(rt, elf::reloc::reloc64::r_sym(info), 42));
+    let (info, turned) = (0x0102030400000005, 0x0000000504030201);
+    assert!(rt; is(rt, elf64::reloc::mips64el_r_info(info), turned));
+    assert!(rt; is(rt, elf64::reloc::mips64el_r_info_inverse(turned), info));
 }
 
 #[test]
 fn leads_to_the_tables(rt: HostRuntime) {
-    let ctx = Ctx::new(Container::Little, BE);
-    assert!(rt; has_one(rt, &[0u8; 8], ctx));
-    assert!(rt; has_one_symbol(rt, &[0u8; 16], ctx));
+    let relocs = elf::reloc::RelocSection::parse(&[0u8; 8], 0, 8, false, BIG32);
+    assert!(rt; matches!(relocs, Ok(relocs) if relocs.len() == 1));
+    let table = elf::sym::Symtab::parse(&[0u8; 16], 0, 1, BIG32);
+    assert!(rt; matches!(table, Ok(table) if table.len() == 1));
     assert!(rt; is(rt, Strtab::new(b"a\0bc", 0).len(), 4));
-    assert!(rt;
-        is(
-            rt,
-            elf::reloc::is_mips64el(&elf::header::Header::new(ctx)),
-            false
-        )
-    );
-}
-
-// Whether no bytes are refused as too few for a header.
-fn is_too_small(rt: HostRuntime) -> bool {
-    match elf::header::Header::try_from_ctx(&[], LE) {
-        Err(Error::Malformed(Fault::TooSmall)) => true,
-        other => differs(rt, &other, &Fault::TooSmall),
-    }
-}
-
-// Whether they have no place for a note's header.
-fn has_bad_offset(rt: HostRuntime) -> bool {
-    match elf32::Note::try_from_ctx(&[], LE) {
-        Err(Error::Scroll(scroll::Error::BadOffset(offset))) => is(rt, offset, 0),
-        other => differs(rt, &other, &scroll::Error::BadOffset(0)),
-    }
+    assert!(rt; !elf::reloc::is_mips64el(&elf::header::Header::new(BIG32)));
 }
 
 #[test]
@@ -261,55 +205,35 @@ fn leads_to_what_all_modules_share(rt: HostRuntime) {
         )
     );
     assert!(rt; is(rt, (scroll::LE, scroll::BE), (Endian::Little, Endian::Big)));
-    assert!(rt;
-        is(
-            rt,
-            ParseOptions::permissive().parse_mode,
-            ParseMode::Permissive
-        )
-    );
-    assert!(rt; is_too_small(rt));
-    assert!(rt; has_bad_offset(rt));
-}
-
-// Whether a symbol of zeros is written as 16 zeros.
-fn writes(rt: HostRuntime, mut bytes: [u8; 16], ctx: Ctx) -> bool {
-    let written = elf::sym::Sym::default().try_into_ctx(&mut bytes, ctx);
-    answers(rt, written, 16) && is(rt, bytes, [0u8; 16])
+    assert!(rt; ParseOptions::permissive().parse_mode == ParseMode::Permissive);
+    let small = elf::header::Header::try_from_ctx(&[], LE);
+    assert!(rt; says(rt, small, "Malformed entity: Too small"));
+    assert!(rt; says(rt, elf32::Note::try_from_ctx(&[], LE), "bad offset 0"));
 }
 
 #[test]
 fn leads_to_the_traits_of_writing(rt: HostRuntime) {
-    let ctx = Ctx::new(Container::Little, LE);
-    assert!(rt; writes(rt, [1u8; 16], ctx));
+    assert!(rt; writes(rt, elf::sym::Sym::default(), LITTLE32, &[0; 16]));
     let mut bytes = [1u8; 40];
-    elf::section_header::SectionHeader::default().into_ctx(&mut bytes, ctx);
+    elf::section_header::SectionHeader::default().into_ctx(&mut bytes, LITTLE32);
     assert!(rt; is(rt, bytes, [0u8; 40]));
 }
 
 #[test]
 fn leads_to_the_headers_of_each_class(rt: HostRuntime) {
+    let sizes = [
+        elf32::header::SIZEOF_EHDR,
+        elf64::header::SIZEOF_EHDR,
+        elf::header::header32::SIZEOF_EHDR,
+        elf::header::header64::SIZEOF_EHDR,
+        elf::header::Header::size(LITTLE32),
+    ];
+    assert!(rt; is(rt, sizes, [52, 64, 52, 64, 52]));
     assert!(rt;
         is(
             rt,
-            (elf32::header::SIZEOF_EHDR, elf32::header::ELFCLASS),
-            (52, 1)
-        )
-    );
-    assert!(rt;
-        is(
-            rt,
-            (elf64::header::SIZEOF_EHDR, elf64::header::ELFCLASS),
-            (64, 2)
-        )
-    );
-    assert!(rt; is(rt, elf::header::header32::SIZEOF_EHDR, 52));
-    assert!(rt; is(rt, elf::header::header64::SIZEOF_EHDR, 64));
-    assert!(rt;
-        is(
-            rt,
-            elf::header::Header::size(Ctx::new(Container::Little, LE)),
-            52
+            (elf32::header::ELFCLASS, elf64::header::ELFCLASS),
+            (1, 2)
         )
     );
     assert!(rt;

@@ -84,3 +84,19 @@ pub(crate) fn stands(rt: HostRuntime, room: &[u8], bytes: &[u8]) -> bool {
     };
     stands || differs(rt, &room, &bytes)
 }
+
+// A number as an error has it, which is never so long.
+pub(crate) fn number(plain: u128) -> usize {
+    usize::try_from(plain).unwrap_or(0xdead)
+}
+
+// Whether a refusal is the wanted one, with the same numbers.
+pub(crate) fn are_alike(rt: HostRuntime, came: &Error, wanted: &Error) -> bool {
+    let Ok(text) = format!(in rt.alloc(); "{came:?}") else {
+        return differs(rt, came, wanted);
+    };
+    match format!(in rt.alloc(); "{wanted:?}") {
+        Ok(wanted) => is(rt, text, wanted),
+        Err(e) => differs(rt, &e, wanted),
+    }
+}

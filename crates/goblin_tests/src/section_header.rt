@@ -1,11 +1,11 @@
 //! Cases with their answers: section headers.
-use crate::header::{BIG64, LITTLE32};
-use crate::told::{answers, differs, gives, holds, is, is_named, says, stands};
+use crate::container::{BIG64, LITTLE32};
+use crate::record::{SHORT, has_form, lacks_room, lists};
+use crate::told::{gives, holds, is, is_named, says, stands};
 use goblin_base::container::{BE, Ctx, LE};
 use goblin_base::error::Result as Answer;
-use goblin_base::scroll::{IntoCtx, SizeWith, TryFromCtx, TryIntoCtx};
+use goblin_base::scroll::IntoCtx;
 use goblin_base::strtab::Strtab;
-use goblin_base::table::Table;
 use goblin_headers::section_header::{
     SHF_ALLOC, SHF_EXCLUDE, SHF_EXECINSTR, SHF_FLAGS, SHF_ORDERED, SHF_WRITE, SHT_DYNSYM,
     SHT_GNU_VERSYM, SHT_HIUSER, SHT_NOBITS, SHT_NUM, SHT_PROGBITS, SHT_REL, SHT_RELA,
@@ -41,97 +41,36 @@ fn section() -> SectionHeader {
     }
 }
 
-fn reads(rt: HostRuntime, bytes: &[u8], ctx: Ctx) -> bool {
-    answers(
-        rt,
-        SectionHeader::try_from_ctx(bytes, ctx),
-        (section(), bytes.len()),
-    )
-}
-
-fn writes(rt: HostRuntime, ctx: Ctx, bytes: &[u8]) -> bool {
+// Whether a section header has this form in this context.
+fn is_written(rt: HostRuntime, ctx: Ctx, bytes: &'static [u8]) -> bool {
     let mut room = [0xaa; 70];
-    let written = section().try_into_ctx(&mut room, ctx);
-    answers(rt, written, bytes.len()) && stands(rt, &room, bytes)
-}
-
-fn has_size(rt: HostRuntime, ctx: Ctx, size: usize) -> bool {
-    is(
-        rt,
-        (SectionHeader::size(ctx), SectionHeader::size_with(&ctx)),
-        (size, size),
-    )
+    section().into_ctx(&mut room, ctx);
+    stands(rt, &room, bytes)
+        && is(rt, SectionHeader::size(ctx), bytes.len())
+        && has_form(rt, section(), ctx, bytes)
 }
 
 #[test]
 fn reads_and_writes_section_headers(rt: HostRuntime) {
-    assert!(rt; has_size(rt, LITTLE32, 40));
-    assert!(rt; has_size(rt, BIG64, 64));
-    assert!(rt; reads(rt, LITTLE, LITTLE32));
-    assert!(rt; reads(rt, BIG, BIG64));
-    assert!(rt; writes(rt, LITTLE32, LITTLE));
-    assert!(rt; writes(rt, BIG64, BIG));
-}
-
-fn puts(rt: HostRuntime, ctx: Ctx, bytes: &[u8]) -> bool {
-    let mut room = [0xaa; 70];
-    section().into_ctx(&mut room, ctx);
-    stands(rt, &room, bytes)
-}
-
-#[test]
-fn puts_section_headers(rt: HostRuntime) {
-    assert!(rt; puts(rt, LITTLE32, LITTLE));
-    assert!(rt; puts(rt, BIG64, BIG));
-}
-
-// Whether both reading from so many bytes and writing over them are refused with this text, and
-// nothing is written.
-fn refuses(rt: HostRuntime, len: usize, ctx: Ctx, text: &str) -> bool {
-    let mut room = [0xaa; 64];
-    let room = &mut room[..len.min(64)];
-    says(rt, SectionHeader::try_from_ctx(room, ctx), text)
-        && says(rt, SectionHeader::new().try_into_ctx(room, ctx), text)
-        && stands(rt, room, b"")
+    assert!(rt; is_written(rt, LITTLE32, LITTLE));
+    assert!(rt; is_written(rt, BIG64, BIG));
 }
 
 #[test]
 fn refuses_section_headers_without_room(rt: HostRuntime) {
-    assert!(rt; refuses(rt, 39, LITTLE32, "type is too big (40) for 39"));
-    assert!(rt; refuses(rt, 63, BIG64, "type is too big (64) for 63"));
-    assert!(rt; refuses(rt, 0, BIG64, "bad offset 0"));
-}
-
-fn converts32(rt: HostRuntime, bytes: &[u8]) -> bool {
-    match section_header32::SectionHeader::try_from_ctx(bytes, LE) {
-        Ok((raw, size)) => {
-            let mut room = [0xaa; 70];
-            is(rt, (SectionHeader::from(raw), size), (section(), 40))
-                && is(rt, section_header32::SectionHeader::from(section()), raw)
-                && answers(rt, raw.try_into_ctx(&mut room, LE), 40)
-                && stands(rt, &room, bytes)
-        }
-        Err(e) => differs(rt, &e, &section()),
-    }
-}
-
-fn converts64(rt: HostRuntime, bytes: &[u8]) -> bool {
-    match section_header64::SectionHeader::try_from_ctx(bytes, BE) {
-        Ok((raw, size)) => {
-            let mut room = [0xaa; 70];
-            is(rt, (SectionHeader::from(raw), size), (section(), 64))
-                && is(rt, section_header64::SectionHeader::from(section()), raw)
-                && answers(rt, raw.try_into_ctx(&mut room, BE), 64)
-                && stands(rt, &room, bytes)
-        }
-        Err(e) => differs(rt, &e, &section()),
-    }
+    let text = "type is too big (40) for 39";
+    assert!(rt; lacks_room(rt, SectionHeader::new(), LITTLE32, &SHORT[..39], text));
+    let text = "type is too big (64) for 63";
+    assert!(rt; lacks_room(rt, SectionHeader::new(), BIG64, &SHORT[..63], text));
+    assert!(rt; lacks_room(rt, SectionHeader::new(), BIG64, &SHORT[..0], "bad offset 0"));
 }
 
 #[test]
 fn converts_section_headers(rt: HostRuntime) {
-    assert!(rt; converts32(rt, LITTLE));
-    assert!(rt; converts64(rt, BIG));
+    let raw = section_header32::SectionHeader::from(section());
+    assert!(rt; has_form(rt, raw, LE, LITTLE) && is(rt, SectionHeader::from(raw), section()));
+    let raw = section_header64::SectionHeader::from(section());
+    assert!(rt; has_form(rt, raw, BE, BIG) && is(rt, SectionHeader::from(raw), section()));
 }
 
 fn wide() -> SectionHeader {
@@ -161,14 +100,14 @@ fn allows(header: &SectionHeader) -> [bool; 3] {
 #[test]
 fn makes_section_headers(rt: HostRuntime) {
     let new = SectionHeader::new();
+    let parts = (new.sh_type, new.sh_flags, new.sh_addralign);
     assert!(rt;
         is(
             rt,
-            (new.sh_type, new.sh_flags, new.sh_addralign),
-            (1, 2, 512)
+            (parts, allows(&new)),
+            ((1, 2, 512), [true, false, false])
         )
     );
-    assert!(rt; is(rt, allows(&new), [true, false, false]));
     let default = SectionHeader::default();
     assert!(rt; is(rt, default.sh_entsize, 0));
     assert!(rt; is(rt, default, section_header::default_is_zeros()));
@@ -238,84 +177,53 @@ fn tells_ranges(rt: HostRuntime) {
     assert!(rt; has_ranges(rt, &far, file, usize::MAX - 1..usize::MAX));
 }
 
-// A section of 50 bytes: its type, offset and address, and the text of its check against a file of
-// 120 bytes.
-#[derive(Debug)]
-struct Checked {
-    sh_type: u32,
-    sh_offset: u64,
-    sh_addr: u64,
-    text: &'static str,
-}
-
 // The greatest number of which 50 more is none.
 const NEAR: u64 = 18446744073709551566;
 
-static CHECKED: [Checked; 7] = [
-    Checked {
-        sh_type: SHT_PROGBITS,
-        sh_offset: 100,
-        sh_addr: 0,
-        text: "Malformed entity: Section 7 size (50) + offset (100) is out of bounds. Overflowed: false",
-    },
-    Checked {
-        sh_type: SHT_NOBITS,
-        sh_offset: 100,
-        sh_addr: 0,
-        text: "Ok",
-    },
-    Checked {
-        sh_type: SHT_PROGBITS,
-        sh_offset: 70,
-        sh_addr: 0,
-        text: "Ok",
-    },
-    Checked {
-        sh_type: SHT_PROGBITS,
-        sh_offset: 71,
-        sh_addr: NEAR,
-        text: "Malformed entity: Section 7 size (50) + offset (71) is out of bounds. Overflowed: false",
-    },
-    Checked {
-        sh_type: SHT_PROGBITS,
-        sh_offset: 0,
-        sh_addr: NEAR,
-        text: "Malformed entity: Section 7 size (50) + addr (18446744073709551566) is out of bounds. \
-            Overflowed: true",
-    },
-    Checked {
-        sh_type: SHT_PROGBITS,
-        sh_offset: 0,
-        sh_addr: NEAR - 1,
-        text: "Ok",
-    },
-    Checked {
-        sh_type: SHT_PROGBITS,
-        sh_offset: NEAR,
-        sh_addr: 0,
-        text: "Malformed entity: Section 7 size (50) + offset (18446744073709551566) is out of bounds. \
-            Overflowed: true",
-    },
+const OK: &str = "Ok";
+
+const AT_100: &str =
+    "Malformed entity: Section 7 size (50) + offset (100) is out of bounds. Overflowed: false";
+
+const AT_71: &str =
+    "Malformed entity: Section 7 size (50) + offset (71) is out of bounds. Overflowed: false";
+
+const FAR_ADDRESS: &str = "Malformed entity: Section 7 size (50) + addr (18446744073709551566) is \
+    out of bounds. Overflowed: true";
+
+const FAR: &str = "Malformed entity: Section 7 size (50) + offset (18446744073709551566) is \
+    out of bounds. Overflowed: true";
+
+// A section of 50 bytes: its type, offset and address, and the text of its check against a file of
+// 120 bytes.
+static CHECKED: [(u32, u64, u64, &str); 7] = [
+    (SHT_PROGBITS, 100, 0, AT_100),
+    (SHT_NOBITS, 100, 0, OK),
+    (SHT_PROGBITS, 70, 0, OK),
+    (SHT_PROGBITS, 71, NEAR, AT_71),
+    (SHT_PROGBITS, 0, NEAR, FAR_ADDRESS),
+    (SHT_PROGBITS, 0, NEAR - 1, OK),
+    (SHT_PROGBITS, NEAR, 0, FAR),
 ];
 
 // The permissive check passes each.
-fn checks(rt: HostRuntime, case: &Checked) -> bool {
+fn checks(rt: HostRuntime, row: &(u32, u64, u64, &str)) -> bool {
     let header = SectionHeader {
-        sh_type: case.sh_type,
-        sh_offset: case.sh_offset,
+        sh_type: row.0,
+        sh_offset: row.1,
         sh_size: 50,
-        sh_addr: case.sh_addr,
+        sh_addr: row.2,
         ..section()
     };
-    says(rt, header.check_size(120), case.text)
-        && says(rt, header.check_size_with_opts(120, false), case.text)
-        && says(rt, header.check_size_with_opts(120, true), "Ok")
+    says(rt, header.check_size(120), row.3)
+        && says(rt, header.check_size_with_opts(120, false), row.3)
+        && says(rt, header.check_size_with_opts(120, true), OK)
 }
 
 #[test]
 fn checks_sizes(rt: HostRuntime) {
-    for case in &CHECKED {
-        assert!(rt; holds(rt, case, checks(rt, case)));
+    for row in &CHECKED {
+        assert!(rt; holds(rt, row, checks(rt, row)));
     }
 }
 
@@ -331,67 +239,52 @@ fn checks_no_empty_section(rt: HostRuntime) {
 }
 
 // How many zero bytes there are, what `sh_size` of the header at their start is, the offset, the
-// count, how many headers are read, and the text.
-static LISTED: [(usize, u8, usize, usize, usize, &str); 10] = [
-    (64, 0, 0, 0, 1, "Ok"),
-    (64, 0, 0, 1, 1, "Ok"),
-    (64, 0, 1, 0, 0, "type is too big (64) for 63"),
-    (64, 0, 64, 0, 0, "bad offset 64"),
-    (64, 0, 0, 2, 0, "Buffer is too short for 2 section headers"),
-    (64, 0, 64, 2, 0, "bad offset 64"),
-    (128, 0, 64, 2, 0, "bad offset 128"),
-    (128, 2, 0, 0, 2, "Ok"),
-    (128, 2, 0, 1, 1, "Ok"),
-    (100, 2, 0, 0, 0, "Buffer is too short for 2 section headers"),
+// count, and how many headers are read or the text.
+type Listed = (usize, u8, usize, usize, Result<usize, &'static str>);
+
+const FEW: &str = "Buffer is too short for 2 section headers";
+
+static LISTED: [Listed; 10] = [
+    (64, 0, 0, 0, Ok(1)),
+    (64, 0, 0, 1, Ok(1)),
+    (64, 0, 1, 0, Err("type is too big (64) for 63")),
+    (64, 0, 64, 0, Err("bad offset 64")),
+    (64, 0, 0, 2, Err(FEW)),
+    (64, 0, 64, 2, Err("bad offset 64")),
+    (128, 0, 64, 2, Err("bad offset 128")),
+    (128, 2, 0, 0, Ok(2)),
+    (128, 2, 0, 1, Ok(1)),
+    (100, 2, 0, 0, Err(FEW)),
 ];
 
-// Whether the answer has so many headers, and says this text.
-fn lists_so_many(
+// The list of a table.
+fn listed(
     rt: HostRuntime,
-    answer: Answer<Vec<SectionHeader>>,
+    bytes: &[u8],
+    offset: usize,
     count: usize,
-    text: &str,
-) -> bool {
-    let read = match &answer {
-        Ok(headers) => headers.len(),
-        Err(_) => 0,
-    };
-    says(rt, answer, text) && is(rt, read, count)
-}
-
-// The same of a table.
-fn tells_so_many(
-    rt: HostRuntime,
-    answer: Answer<Table<'_, SectionHeader, Ctx>>,
-    count: usize,
-    text: &str,
-) -> bool {
-    let told = match &answer {
-        Ok(headers) => headers.len(),
-        Err(_) => 0,
-    };
-    says(rt, answer, text) && is(rt, told, count)
+) -> Answer<Vec<SectionHeader>> {
+    SectionHeader::table(bytes, offset, count, BIG64)?.to_vec(rt.alloc())
 }
 
 // At offset 0 a file has no section headers; elsewhere it has those from there on.
-fn lists(rt: HostRuntime, row: &(usize, u8, usize, usize, usize, &str)) -> bool {
-    let (len, size, offset, count, read, text) = *row;
+fn is_listed(rt: HostRuntime, row: &Listed) -> bool {
+    let (len, size, offset, count, ref wanted) = *row;
     let mut bytes = [0; 128];
     bytes[39] = size;
     let bytes = &bytes[..len.min(128)];
+    let of_file = if offset == 0 { &Ok(0) } else { wanted };
     let from = SectionHeader::parse_from(rt.alloc(), bytes, offset, count, BIG64);
     let whole = SectionHeader::parse(rt.alloc(), bytes, offset, count, BIG64);
-    let (of_file, told) = if offset == 0 { (0, "Ok") } else { (read, text) };
-    let table = SectionHeader::table(bytes, offset, count, BIG64);
-    lists_so_many(rt, from, read, text)
-        && lists_so_many(rt, whole, of_file, told)
-        && tells_so_many(rt, table, of_file, told)
+    lists(rt, from, wanted)
+        && lists(rt, whole, of_file)
+        && lists(rt, listed(rt, bytes, offset, count), of_file)
 }
 
 #[test]
 fn reads_section_headers_at_once(rt: HostRuntime) {
     for row in &LISTED {
-        assert!(rt; holds(rt, row, lists(rt, row)));
+        assert!(rt; holds(rt, row, is_listed(rt, row)));
     }
 }
 
@@ -413,12 +306,7 @@ fn first() -> SectionHeader {
 
 fn read(rt: HostRuntime, count: usize, headers: &[SectionHeader]) -> bool {
     let answer = SectionHeader::parse(rt.alloc(), &file(), 16, count, BIG64);
-    let bytes = file();
-    let listed = match SectionHeader::table(&bytes, 16, count, BIG64) {
-        Ok(table) => table.to_vec(rt.alloc()),
-        Err(e) => Err(e),
-    };
-    gives(rt, answer, headers) && gives(rt, listed, headers)
+    gives(rt, answer, headers) && gives(rt, listed(rt, &file(), 16, count), headers)
 }
 
 // Where the count is 0, the first header's size is the count.
@@ -458,19 +346,25 @@ fn reads_raw_section_headers_from_bytes(rt: HostRuntime) {
 }
 
 #[test]
-fn reads_32_bit_section_headers_of_zeros(rt: HostRuntime) {
+fn reads_raw_section_headers_of_zeros(rt: HostRuntime) {
     let zeros = section_header32::default_is_zeros();
-    assert!(rt; is(rt, section_header32::SectionHeader::default(), zeros));
-    assert!(rt; is(rt, zeros.sh_size, 0));
+    assert!(rt;
+        is(
+            rt,
+            (section_header32::SectionHeader::default(), zeros.sh_size),
+            (zeros, 0)
+        )
+    );
     let two = section_header32::SectionHeader::from_bytes(rt.alloc(), &[0; 80], 2);
     assert!(rt; gives(rt, two, &[zeros, zeros]));
-}
-
-#[test]
-fn reads_64_bit_section_headers_of_zeros(rt: HostRuntime) {
     let zeros = section_header64::default_is_zeros();
-    assert!(rt; is(rt, section_header64::SectionHeader::default(), zeros));
-    assert!(rt; is(rt, zeros.sh_size, 0));
+    assert!(rt;
+        is(
+            rt,
+            (section_header64::SectionHeader::default(), zeros.sh_size),
+            (zeros, 0)
+        )
+    );
     let two = section_header64::SectionHeader::from_bytes(rt.alloc(), &[0; 128], 2);
     assert!(rt; gives(rt, two, &[zeros, zeros]));
 }

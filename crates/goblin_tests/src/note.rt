@@ -1,30 +1,84 @@
-//! Cases with their answers: notes, and loops over them as a user writes them.
+//! Cases with their answers: the headers of notes, notes, and loops over them as a user writes them.
 ghost use Rattle.std.specs.Prelude.{◌≡◌, length};
 ghost use Rattle.goblin.specs.Notes.{items_left};
 
-use crate::told::{answers, differs, holds, is, says};
+use crate::container::{BIG32, LITTLE64};
+use crate::record::{refuses, writes};
+use crate::told::{answers, are_alike, differs, holds, is, number, says};
 use goblin::elf::note::{
     NT_GNU_BUILD_ID, NT_SIGINFO, Note, NoteDataIterator, NoteIterator, NotePlaces,
 };
 use goblin::{elf32, elf64};
-use goblin_base::container::{BE, Container, Ctx, Endian, LE};
+use goblin_base::container::{BE, Ctx, Endian, LE};
 use goblin_base::error::{Error, Fault, Result};
 use goblin_base::scroll;
 use goblin_base::scroll::{SizeWith, TryFromCtx};
+use goblin_records::note::{Nhdr32, Nhdr64};
 use std::alloc::{AllocError, Global};
 use std::result;
 
-// A file of the 64-bit class in little order.
-const LITTLE: Ctx = Ctx {
-    container: Container::Big,
-    le: LE,
-};
+// The header of a note with a name of 4 bytes, a descriptor of 20 and type 3, in each class and byte order.
+const HEADER_LITTLE32: &[u8] = b"\x04\0\0\0\x14\0\0\0\x03\0\0\0";
 
-// A file of the 32-bit class in big order.
-const BIG: Ctx = Ctx {
-    container: Container::Little,
-    le: BE,
-};
+const HEADER_BIG32: &[u8] = b"\0\0\0\x04\0\0\0\x14\0\0\0\x03";
+
+const HEADER_LITTLE64: &[u8] = b"\x04\0\0\0\0\0\0\0\x14\0\0\0\0\0\0\0\x03\0\0\0\0\0\0\0";
+
+const HEADER_BIG64: &[u8] = b"\0\0\0\0\0\0\0\x04\0\0\0\0\0\0\0\x14\0\0\0\0\0\0\0\x03";
+
+// Whether the 32-bit header is read from these bytes and written as them.
+fn is_header32(rt: HostRuntime, order: Endian, bytes: &'static [u8]) -> bool {
+    let header = Nhdr32 {
+        n_namesz: 4,
+        n_descsz: 20,
+        n_type: 3,
+    };
+    match Nhdr32::try_from_ctx(bytes, order) {
+        Ok((read, size)) => {
+            let parts = (read.n_namesz, read.n_descsz, read.n_type);
+            is(rt, (parts, size), ((4, 20, 3), 12)) && writes(rt, header, order, bytes)
+        }
+        Err(e) => differs(rt, &e, &12),
+    }
+}
+
+// The same of the 64-bit one.
+fn is_header64(rt: HostRuntime, order: Endian, bytes: &'static [u8]) -> bool {
+    let header = Nhdr64 {
+        n_namesz: 4,
+        n_descsz: 20,
+        n_type: 3,
+    };
+    match Nhdr64::try_from_ctx(bytes, order) {
+        Ok((read, size)) => {
+            let parts = (read.n_namesz, read.n_descsz, read.n_type);
+            is(rt, (parts, size), ((4, 20, 3), 24)) && writes(rt, header, order, bytes)
+        }
+        Err(e) => differs(rt, &e, &24),
+    }
+}
+
+#[test]
+fn reads_and_writes_note_headers(rt: HostRuntime) {
+    assert!(rt; is_header32(rt, LE, HEADER_LITTLE32));
+    assert!(rt; is_header32(rt, BE, HEADER_BIG32));
+    assert!(rt; is_header64(rt, LE, HEADER_LITTLE64));
+    assert!(rt; is_header64(rt, BE, HEADER_BIG64));
+}
+
+#[test]
+fn refuses_cut_note_headers(rt: HostRuntime) {
+    let cut = Nhdr64::try_from_ctx(&HEADER_LITTLE64[..23], LE);
+    assert!(rt; says(rt, cut, "type is too big (24) for 23"));
+    let cut = Nhdr32::try_from_ctx(&HEADER_LITTLE32[..11], LE);
+    assert!(rt; says(rt, cut, "type is too big (12) for 11"));
+    let header = Nhdr64 {
+        n_namesz: u64::MAX,
+        n_descsz: 0,
+        n_type: 0,
+    };
+    assert!(rt; refuses(rt, header, LE, 23, "type is too big (24) for 23"));
+}
 
 // A note "GNU" of type 3 with four bytes.
 const BUILD: &[u8] = b"\x04\0\0\0\x04\0\0\0\x03\0\0\0GNU\0\xAA\xBB\xCC\xDD";
@@ -48,38 +102,40 @@ const THREE: &[u8] = b"\x04\0\0\0\x10\0\0\0\x01\0\0\0GNU\0\0\0\0\0\x02\0\0\0\x06
     \x04\0\0\0\x30\0\0\0\x05\0\0\0GNU\0\x02\x80\0\xC0\x04\0\0\0\x01\0\0\0\0\0\0\0\
     \x01\0\x01\xC0\x04\0\0\0\x01\0\0\0\0\0\0\0\x02\0\x01\xC0\x04\0\0\0\0\0\0\0\0\0\0\0";
 
-// Whether a note is read as these parts, of which so many bytes are counted.
-fn reads(
-    rt: HostRuntime,
-    bytes: &[u8],
-    ctx: (usize, Ctx),
-    n_type: u32,
-    name: &str,
-    desc: &[u8],
-    len: usize,
-) -> bool {
-    match Note::try_from_ctx(bytes, ctx) {
-        Ok((note, counted)) => {
-            is(rt, (note.n_type, note.name), (n_type, name))
-                && is(rt, (note.desc, counted), (desc, len))
-        }
-        Err(e) => differs(rt, &e, &name),
+// The bytes of notes, their alignment and context, type, name and descriptor, and how many bytes are counted.
+type Read = (
+    &'static [u8],
+    (usize, Ctx),
+    (u32, &'static str, &'static [u8], usize),
+);
+
+const DESC: &[u8] = b"\xAA\xBB\xCC\xDD";
+
+const READ: &[Read] = &[
+    (BUILD, (4, LITTLE64), (3, "GNU", DESC, 20)),
+    (BUILD, (8, LITTLE64), (3, "GNU", DESC, 24)),
+    (BUILD_BIG, (4, BIG32), (3, "GNU", DESC, 20)),
+    (BARE, (4, LITTLE64), (1, "GNU", b"", 16)),
+    (EMPTY, (0, LITTLE64), (7, "", b"", 12)),
+];
+
+fn is_read(rt: HostRuntime, row: &Read) -> bool {
+    match Note::try_from_ctx(row.0, row.1) {
+        Ok((note, counted)) => is(rt, (note.n_type, note.name, note.desc, counted), row.2),
+        Err(e) => differs(rt, &e, row),
     }
 }
 
 #[test]
 fn reads_notes(rt: HostRuntime) {
-    let desc = b"\xAA\xBB\xCC\xDD";
-    assert!(rt; reads(rt, BUILD, (4, LITTLE), 3, "GNU", desc, 20));
-    assert!(rt; reads(rt, BUILD, (8, LITTLE), 3, "GNU", desc, 24));
-    assert!(rt; reads(rt, BUILD_BIG, (4, BIG), 3, "GNU", desc, 20));
-    assert!(rt; reads(rt, BARE, (4, LITTLE), 1, "GNU", b"", 16));
-    assert!(rt; reads(rt, EMPTY, (0, LITTLE), 7, "", b"", 12));
+    for row in READ {
+        assert!(rt; is_read(rt, row));
+    }
 }
 
 // Whether the note of a program at an offset lies at these places.
 fn lies(rt: HostRuntime, offset: usize, alignment: usize, places: NotePlaces) -> bool {
-    match Note::at(THREE, offset, (alignment, LITTLE)) {
+    match Note::at(THREE, offset, (alignment, LITTLE64)) {
         Ok((_, found)) => is(rt, found, places),
         Err(e) => differs(rt, &e, &places),
     }
@@ -97,37 +153,41 @@ fn tells_the_places_of_notes(rt: HostRuntime) {
     };
     assert!(rt; lies(rt, 32, 4, second));
     assert!(rt; lies(rt, 32, 8, NotePlaces { next: 40, ..second }));
-    let behind = Note::at(THREE, 132, (4, LITTLE));
+    let behind = Note::at(THREE, 132, (4, LITTLE64));
     assert!(rt; says(rt, behind, "bad offset 132"));
 }
 
-// Whether reading a note is refused with this text.
-fn refuses(rt: HostRuntime, bytes: &[u8], alignment: usize, text: &str) -> bool {
-    says(rt, Note::try_from_ctx(bytes, (alignment, LITTLE)), text)
-}
+const SIXTEEN: &str = "Malformed entity: Notes has unimplemented alignment requirement: 0x10";
+
+const FIVE: &str = "Malformed entity: Notes has unimplemented alignment requirement: 0x5";
+
+const MOST: &str =
+    "Malformed entity: Notes has unimplemented alignment requirement: 0xffffffffffffffff";
+
+// Bytes and their alignment that are no note: that of another alignment, without room, or of no text.
+const REFUSED: &[(&[u8], usize, &str)] = &[
+    (BUILD, 16, SIXTEEN),
+    (BUILD, 5, FIVE),
+    (b"", 5, FIVE),
+    (BUILD, usize::MAX, MOST),
+    (
+        b"\x04\0\0\0\x04\0\0\0\x03\0\0",
+        4,
+        "type is too big (12) for 11",
+    ),
+    (b"", 4, "bad offset 0"),
+    (CUT_NAME, 4, "bad offset 20"),
+    (NO_TEXT, 4, "bad input invalid utf8 (2)"),
+    (LONG_NAME, 4, "type is too big (4294967294) for 4"),
+    (LONG_DESC, 4, "type is too big (4294967295) for 4"),
+];
 
 #[test]
-fn refuses_other_alignments(rt: HostRuntime) {
-    let sixteen = "Malformed entity: Notes has unimplemented alignment requirement: 0x10";
-    let five = "Malformed entity: Notes has unimplemented alignment requirement: 0x5";
-    let most =
-        "Malformed entity: Notes has unimplemented alignment requirement: 0xffffffffffffffff";
-    assert!(rt; refuses(rt, BUILD, 16, sixteen));
-    assert!(rt; refuses(rt, BUILD, 5, five));
-    assert!(rt; refuses(rt, b"", 5, five));
-    assert!(rt; refuses(rt, BUILD, usize::MAX, most));
-}
-
-#[test]
-fn refuses_what_has_no_room_or_is_no_text(rt: HostRuntime) {
-    assert!(rt; refuses(rt, &BUILD[..11], 4, "type is too big (12) for 11"));
-    assert!(rt; refuses(rt, b"", 4, "bad offset 0"));
-    assert!(rt; refuses(rt, CUT_NAME, 4, "bad offset 20"));
-    assert!(rt; refuses(rt, NO_TEXT, 4, "bad input invalid utf8 (2)"));
-    let long_name = "type is too big (4294967294) for 4";
-    let long_desc = "type is too big (4294967295) for 4";
-    assert!(rt; refuses(rt, LONG_NAME, 4, long_name));
-    assert!(rt; refuses(rt, LONG_DESC, 4, long_desc));
+fn refuses_what_is_no_note(rt: HostRuntime) {
+    for row in REFUSED {
+        let answer = Note::try_from_ctx(row.0, (row.1, LITTLE64));
+        assert!(rt; holds(rt, row, says(rt, answer, row.2)));
+    }
 }
 
 // The range of these bytes from an offset up to an end.
@@ -136,7 +196,7 @@ fn range(bytes: &[u8], offset: usize, size: usize, alignment: usize) -> NoteData
         bytes,
         size,
         offset,
-        ctx: (alignment, LITTLE),
+        ctx: (alignment, LITTLE64),
     }
 }
 
@@ -202,20 +262,23 @@ fn ranges_give(rt: HostRuntime, ends: &[(usize, usize)], index: usize, types: &[
     }
 }
 
+// Ranges, the index of the first one, and the types of the notes that they give.
+const RANGES: &[(&[(usize, usize)], usize, &[u32])] = &[
+    (&[(0, 132)], 0, &[1, 3, 5]),
+    (PARTS, 0, &[1, 3, 5]),
+    (WITH_NONE, 0, &[1, 3]),
+    (&[], 0, &[]),
+    (PARTS, 1, &[3, 5]),
+    (&[(0, 32), (32, 68)], 2, &[]),
+    (&[(0, 32)], usize::MAX, &[]),
+];
+
 #[test]
 fn gives_the_notes_of_ranges(rt: HostRuntime) {
     assert!(rt; gives(rt, range(THREE, 0, 132, 4), &[1, 3, 5]));
-    assert!(rt; ranges_give(rt, &[(0, 132)], 0, &[1, 3, 5]));
-    assert!(rt; ranges_give(rt, PARTS, 0, &[1, 3, 5]));
-    assert!(rt; ranges_give(rt, WITH_NONE, 0, &[1, 3]));
-    assert!(rt; ranges_give(rt, &[], 0, &[]));
-}
-
-#[test]
-fn begins_at_the_range_with_its_index(rt: HostRuntime) {
-    assert!(rt; ranges_give(rt, PARTS, 1, &[3, 5]));
-    assert!(rt; ranges_give(rt, &[(0, 32), (32, 68)], 2, &[]));
-    assert!(rt; ranges_give(rt, &[(0, 32)], usize::MAX, &[]));
+    for row in RANGES {
+        assert!(rt; holds(rt, row, ranges_give(rt, row.0, row.1, row.2)));
+    }
 }
 
 // Whether the first item of a range is the fault of this text, the last one, and moves the offset to
@@ -229,21 +292,33 @@ fn ends_with(rt: HostRuntime, mut notes: NoteDataIterator, text: &str) -> bool {
     }
 }
 
+// The bytes of a range, its offset, size and alignment, and the text of its fault.
+const FAULTS: &[(&[u8], usize, usize, usize, &str)] = &[
+    (CUT_NAME, 0, 16, 4, "bad offset 20"),
+    (b"", 0, 5, 4, "bad offset 0"),
+    (
+        b"\x04\0\0\0\x10\0\0\0",
+        0,
+        132,
+        4,
+        "type is too big (12) for 8",
+    ),
+    // At the end of the bytes the alignment isn't looked at.
+    (THREE, 132, 133, 5, "bad offset 132"),
+    (
+        THREE,
+        usize::MAX - 1,
+        usize::MAX,
+        4,
+        "bad offset 18446744073709551614",
+    ),
+];
+
 #[test]
 fn ends_a_range_with_its_fault(rt: HostRuntime) {
-    assert!(rt; ends_with(rt, range(CUT_NAME, 0, 16, 4), "bad offset 20"));
-    assert!(rt; ends_with(rt, range(b"", 0, 5, 4), "bad offset 0"));
-    assert!(rt;
-        ends_with(
-            rt,
-            range(&THREE[..8], 0, 132, 4),
-            "type is too big (12) for 8"
-        )
-    );
-    // At the end of the bytes the alignment isn't looked at.
-    assert!(rt; ends_with(rt, range(THREE, 132, 133, 5), "bad offset 132"));
-    let far = "bad offset 18446744073709551614";
-    assert!(rt; ends_with(rt, range(THREE, usize::MAX - 1, usize::MAX, 4), far));
+    for row in FAULTS {
+        assert!(rt; ends_with(rt, range(row.0, row.1, row.2, row.3), row.4));
+    }
 }
 
 // How many items a range has.
@@ -274,34 +349,18 @@ fn bytes_in(notes: NoteIterator) -> Result<usize> {
     Ok(sum)
 }
 
-// Whether the build of a range is these bytes.
-fn is_build(rt: HostRuntime, notes: NoteDataIterator, build: &[u8]) -> bool {
-    match build_of(notes) {
-        Ok(found) => is(rt, found, Some(build)),
-        Err(e) => differs(rt, &e, &build),
-    }
-}
-
-// Whether there is no telling of the build, by this text.
-fn has_no_build(rt: HostRuntime, notes: NoteDataIterator, text: &str) -> bool {
-    says(rt, build_of(notes), text)
-}
-
-// Whether the descriptors of these ranges of a program's notes take so many bytes.
-fn has_bytes(rt: HostRuntime, ends: &[(usize, usize)], wanted: usize) -> bool {
-    match ranges(rt.alloc(), ends, 0) {
-        Ok(notes) => answers(rt, bytes_in(notes), wanted),
-        Err(e) => differs(rt, &e, &wanted),
-    }
+// How many bytes the descriptors of these ranges of a program's notes take.
+fn bytes_of(rt: HostRuntime, ends: &[(usize, usize)]) -> Result<usize> {
+    bytes_in(ranges(rt.alloc(), ends, 0)?)
 }
 
 #[test]
 fn serves_a_loop_and_a_count(rt: HostRuntime) {
     assert!(rt; is(rt, count(range(THREE, 0, 132, 4)), 3));
     assert!(rt; is(rt, count(range(THREE, 0, usize::MAX, 4)), 4));
-    assert!(rt; is_build(rt, range(THREE, 0, 132, 4), &THREE[48..68]));
-    assert!(rt; has_no_build(rt, range(CUT_NAME, 0, 16, 4), "bad offset 20"));
-    assert!(rt; has_bytes(rt, &[(0, 32), (32, 68)], 36));
+    assert!(rt; answers(rt, build_of(range(THREE, 0, 132, 4)), Some(&THREE[48..68])));
+    assert!(rt; says(rt, build_of(range(CUT_NAME, 0, 16, 4)), "bad offset 20"));
+    assert!(rt; answers(rt, bytes_of(rt, &[(0, 32), (32, 68)]), 36));
 }
 
 // Whether a note of a row's name and type has the row's name of its type.
@@ -341,32 +400,12 @@ fn names_types(rt: HostRuntime) {
 
 #[test]
 fn leads_to_the_headers_of_notes(rt: HostRuntime) {
-    assert!(rt;
-        is(
-            rt,
-            (elf32::Note::size_with(&LE), elf64::Note::size_with(&LE)),
-            (12, 24)
-        )
-    );
+    let sizes = (elf32::Note::size_with(&LE), elf64::Note::size_with(&LE));
+    assert!(rt; is(rt, sizes, (12, 24)));
 }
 
-// A note as its layout says it, in numbers that no sum passes.
-#[derive(Debug, Drop)]
-struct PlainNote<'a> {
-    n_type: u128,
-    name: &'a [u8],
-    desc: &'a [u8],
-    len: u128,
-}
-
-// Why there is none.
-#[derive(Clone, Copy, Debug, PartialEq)]
-enum PlainFault {
-    Align(u128),
-    TooBig(u128, u128),
-    BadOffset(u128),
-    BadInput(u128),
-}
+// A note as its layout says it, in numbers that no sum passes: type, name, descriptor, and how many bytes it takes.
+type PlainNote<'a> = (u128, &'a [u8], &'a [u8], u128);
 
 // The number that the four bytes at a place stand for; bytes that there aren't are zeros.
 fn plain_number(bytes: &[u8], places: [usize; 4], order: Endian) -> u128 {
@@ -383,14 +422,22 @@ fn plain_number(bytes: &[u8], places: [usize; 4], order: Endian) -> u128 {
     number
 }
 
+// The fault of a place without so many bytes.
+fn bad_offset(place: u128) -> Error {
+    Error::Scroll(scroll::Error::BadOffset(number(place)))
+}
+
 // The bytes of a size at a place, or the fault of room.
-fn plain_part(bytes: &[u8], place: u128, size: u128) -> result::Result<&[u8], PlainFault> {
+fn plain_part(bytes: &[u8], place: u128, size: u128) -> Result<&[u8]> {
     let len = bytes.len() as u128;
     if place > len || (place == len && size > 0) {
-        return Err(PlainFault::BadOffset(place));
+        return Err(bad_offset(place));
     }
     if size > len - place {
-        return Err(PlainFault::TooBig(size, len - place));
+        return Err(Error::Scroll(scroll::Error::TooBig {
+            size: number(size),
+            len: number(len - place),
+        }));
     }
     let start = place as usize;
     let end = (place + size) as usize;
@@ -398,7 +445,7 @@ fn plain_part(bytes: &[u8], place: u128, size: u128) -> result::Result<&[u8], Pl
 }
 
 // The least multiple of 4, or of 8, from a place on.
-fn plain_multiple(place: u128, align: u128) -> u128 {
+fn plain_multiple(place: u128, align: usize) -> u128 {
     let mut up = place;
     for _ in 0..8 {
         if up % 4 == 0 && (align == 4 || up % 8 == 0) {
@@ -410,14 +457,10 @@ fn plain_multiple(place: u128, align: u128) -> u128 {
 }
 
 // The note at the start of the bytes.
-fn plain_note(
-    bytes: &[u8],
-    alignment: usize,
-    order: Endian,
-) -> result::Result<PlainNote<'_>, PlainFault> {
-    let align = if alignment < 4 { 4 } else { alignment as u128 };
+fn plain_note(bytes: &[u8], alignment: usize, order: Endian) -> Result<PlainNote<'_>> {
+    let align = alignment.max(4);
     if align != 4 && align != 8 {
-        return Err(PlainFault::Align(align));
+        return Err(Error::Malformed(Fault::NoteAlign(align)));
     }
     let _ = plain_part(bytes, 0, 12)?;
     let namesz = plain_number(bytes, [0, 1, 2, 3], order);
@@ -427,16 +470,19 @@ fn plain_note(
     let name = plain_part(bytes, 12, named)?;
     // The names of these cases are ASCII or no text at all.
     if name.iter().any(|byte| *byte >= 0x80) {
-        return Err(PlainFault::BadInput(bytes.len().saturating_sub(12) as u128));
+        return Err(Error::Scroll(scroll::Error::BadInput {
+            size: bytes.len().saturating_sub(12),
+            msg: "invalid utf8",
+        }));
     }
     let place = plain_multiple(namesz.wrapping_add(12), align);
     let desc = plain_part(bytes, place, descsz)?;
-    Ok(PlainNote {
+    Ok((
         n_type,
         name,
         desc,
-        len: plain_multiple(place.wrapping_add(descsz), align),
-    })
+        plain_multiple(place.wrapping_add(descsz), align),
+    ))
 }
 
 // The note at an offset.
@@ -445,49 +491,21 @@ fn plain_note_at(
     offset: u128,
     alignment: usize,
     order: Endian,
-) -> result::Result<PlainNote<'_>, PlainFault> {
+) -> Result<PlainNote<'_>> {
     if offset >= bytes.len() as u128 {
-        return Err(PlainFault::BadOffset(offset));
+        return Err(bad_offset(offset));
     }
     plain_note(&bytes[offset as usize..], alignment, order)
 }
 
-// The fault that an error tells, if it is one of a note's.
-fn plain_fault(e: &Error) -> Option<PlainFault> {
-    match e {
-        Error::Malformed(Fault::NoteAlign(align)) => Some(PlainFault::Align(*align as u128)),
-        Error::Scroll(scroll::Error::TooBig { size, len }) => {
-            Some(PlainFault::TooBig(*size as u128, *len as u128))
-        }
-        Error::Scroll(scroll::Error::BadOffset(offset)) => {
-            Some(PlainFault::BadOffset(*offset as u128))
-        }
-        Error::Scroll(scroll::Error::BadInput { size, msg }) if *msg == "invalid utf8" => {
-            Some(PlainFault::BadInput(*size as u128))
-        }
-        _ => None,
-    }
-}
-
-// Whether a note has the parts of a plain one.
-fn is_plain(rt: HostRuntime, note: &Note, plain: &PlainNote) -> bool {
-    is(rt, note.n_type as u128, plain.n_type)
-        && is(
-            rt,
-            (note.name.as_bytes(), note.desc),
-            (plain.name, plain.desc),
-        )
-}
-
 // Whether an item at an offset is the plain one.
-fn is_item(
-    rt: HostRuntime,
-    item: Option<Result<Note<'_>>>,
-    plain: &result::Result<PlainNote<'_>, PlainFault>,
-) -> bool {
+fn is_item(rt: HostRuntime, item: Option<Result<Note<'_>>>, plain: &Result<PlainNote<'_>>) -> bool {
     match (item, plain) {
-        (Some(Ok(note)), Ok(plain)) => is_plain(rt, &note, plain),
-        (Some(Err(e)), Err(fault)) => { plain_fault(&e) == Some(*fault) || differs(rt, &e, fault) }
+        (Some(Ok(note)), Ok((n_type, name, desc, _))) => {
+            let came = (u128::from(note.n_type), note.name.as_bytes(), note.desc);
+            is(rt, came, (*n_type, *name, *desc))
+        }
+        (Some(Err(e)), Err(fault)) => are_alike(rt, &e, fault),
         (item, plain) => differs(rt, &item, plain),
     }
 }
@@ -503,7 +521,7 @@ fn agrees(rt: HostRuntime, mut notes: NoteDataIterator) -> bool {
         }
         let plain = plain_note_at(notes.bytes, offset, alignment, ctx.le);
         let next = match &plain {
-            Ok(plain) => offset.wrapping_add(plain.len),
+            Ok(plain) => offset.wrapping_add(plain.3),
             Err(_) => notes.size as u128,
         };
         if !is_item(rt, item, &plain) || !is(rt, notes.offset as u128, next) {
@@ -547,18 +565,18 @@ fn agree(rt: HostRuntime, bytes: &[u8], ctx: Ctx) -> bool {
 
 // Notes whole and damaged.
 const HOSTILE: &[(&[u8], Ctx)] = &[
-    (b"", LITTLE),
-    (BUILD, LITTLE),
-    (BUILD_BIG, BIG),
-    (BARE, LITTLE),
-    (CUT_NAME, LITTLE),
-    (EMPTY, LITTLE),
-    (NO_TEXT, LITTLE),
-    (LONG_NAME, LITTLE),
-    (LONG_DESC, LITTLE),
-    (THREE, LITTLE),
-    (b"\x04\0\0\0\x10\0\0\0", LITTLE),
-    (THREE, BIG),
+    (b"", LITTLE64),
+    (BUILD, LITTLE64),
+    (BUILD_BIG, BIG32),
+    (BARE, LITTLE64),
+    (CUT_NAME, LITTLE64),
+    (EMPTY, LITTLE64),
+    (NO_TEXT, LITTLE64),
+    (LONG_NAME, LITTLE64),
+    (LONG_DESC, LITTLE64),
+    (THREE, LITTLE64),
+    (b"\x04\0\0\0\x10\0\0\0", LITTLE64),
+    (THREE, BIG32),
 ];
 
 #[test]

@@ -1,8 +1,8 @@
 //! Cases with their answers: program headers.
-use crate::header::{BIG64, LITTLE32};
-use crate::told::{answers, differs, gives, holds, is, is_named, says, stands};
+use crate::container::{BIG64, LITTLE32};
+use crate::record::{SHORT, has_form, lacks_room, lists};
+use crate::told::{gives, holds, is, is_named};
 use goblin_base::container::{BE, Container, Ctx, LE};
-use goblin_base::scroll::{SizeWith, TryFromCtx, TryIntoCtx};
 use goblin_headers::program_header::{
     PF_R, PF_W, PF_X, PT_ARM_EXIDX, PT_GNU_EH_FRAME, PT_GNU_RELRO, PT_GNU_STACK, PT_HIOS, PT_LOAD,
     PT_SUNWBSS, ProgramHeader, pt_to_str,
@@ -34,86 +34,41 @@ fn segment() -> ProgramHeader {
     }
 }
 
-fn reads(rt: HostRuntime, bytes: &[u8], ctx: Ctx) -> bool {
-    answers(
-        rt,
-        ProgramHeader::try_from_ctx(bytes, ctx),
-        (segment(), bytes.len()),
-    )
-}
-
-fn writes(rt: HostRuntime, ctx: Ctx, bytes: &[u8]) -> bool {
-    let mut room = [0xaa; 60];
-    let written = segment().try_into_ctx(&mut room, ctx);
-    answers(rt, written, bytes.len()) && stands(rt, &room, bytes)
-}
-
-fn has_size(rt: HostRuntime, ctx: Ctx, size: usize) -> bool {
-    is(
-        rt,
-        (ProgramHeader::size(ctx), ProgramHeader::size_with(&ctx)),
-        (size, size),
-    )
+// Whether a program header has this form in this context.
+fn is_written(rt: HostRuntime, ctx: Ctx, bytes: &'static [u8]) -> bool {
+    is(rt, ProgramHeader::size(ctx), bytes.len()) && has_form(rt, segment(), ctx, bytes)
 }
 
 #[test]
 fn reads_and_writes_program_headers(rt: HostRuntime) {
-    assert!(rt; has_size(rt, LITTLE32, 32));
-    assert!(rt; has_size(rt, BIG64, 56));
-    assert!(rt; reads(rt, LITTLE, LITTLE32));
-    assert!(rt; reads(rt, BIG, BIG64));
-    assert!(rt; writes(rt, LITTLE32, LITTLE));
-    assert!(rt; writes(rt, BIG64, BIG));
-}
-
-// Whether both reading from so many bytes and writing over them are refused with this text, and
-// nothing is written.
-fn refuses(rt: HostRuntime, len: usize, ctx: Ctx, text: &str) -> bool {
-    let mut room = [0xaa; 64];
-    let room = &mut room[..len.min(64)];
-    says(rt, ProgramHeader::try_from_ctx(room, ctx), text)
-        && says(rt, ProgramHeader::new().try_into_ctx(room, ctx), text)
-        && stands(rt, room, b"")
+    assert!(rt; is_written(rt, LITTLE32, LITTLE));
+    assert!(rt; is_written(rt, BIG64, BIG));
 }
 
 #[test]
 fn refuses_program_headers_without_room(rt: HostRuntime) {
-    assert!(rt; refuses(rt, 31, LITTLE32, "type is too big (32) for 31"));
-    assert!(rt; refuses(rt, 55, BIG64, "type is too big (56) for 55"));
-    assert!(rt; refuses(rt, 0, LITTLE32, "bad offset 0"));
-    assert!(rt; refuses(rt, 0, BIG64, "bad offset 0"));
-}
-
-fn converts32(rt: HostRuntime, bytes: &[u8]) -> bool {
-    match program_header32::ProgramHeader::try_from_ctx(bytes, LE) {
-        Ok((raw, size)) => {
-            let mut room = [0xaa; 60];
-            is(rt, (ProgramHeader::from(raw), size), (segment(), 32))
-                && is(rt, program_header32::ProgramHeader::from(segment()), raw)
-                && answers(rt, raw.try_into_ctx(&mut room, LE), 32)
-                && stands(rt, &room, bytes)
-        }
-        Err(e) => differs(rt, &e, &segment()),
-    }
-}
-
-fn converts64(rt: HostRuntime, bytes: &[u8]) -> bool {
-    match program_header64::ProgramHeader::try_from_ctx(bytes, BE) {
-        Ok((raw, size)) => {
-            let mut room = [0xaa; 60];
-            is(rt, (ProgramHeader::from(raw), size), (segment(), 56))
-                && is(rt, program_header64::ProgramHeader::from(segment()), raw)
-                && answers(rt, raw.try_into_ctx(&mut room, BE), 56)
-                && stands(rt, &room, bytes)
-        }
-        Err(e) => differs(rt, &e, &segment()),
-    }
+    let text = "type is too big (32) for 31";
+    assert!(rt; lacks_room(rt, ProgramHeader::new(), LITTLE32, &SHORT[..31], text));
+    let text = "type is too big (56) for 55";
+    assert!(rt; lacks_room(rt, ProgramHeader::new(), BIG64, &SHORT[..55], text));
+    assert!(rt;
+        lacks_room(
+            rt,
+            ProgramHeader::new(),
+            LITTLE32,
+            &SHORT[..0],
+            "bad offset 0"
+        )
+    );
+    assert!(rt; lacks_room(rt, ProgramHeader::new(), BIG64, &SHORT[..0], "bad offset 0"));
 }
 
 #[test]
 fn converts_program_headers(rt: HostRuntime) {
-    assert!(rt; converts32(rt, LITTLE));
-    assert!(rt; converts64(rt, BIG));
+    let raw = program_header32::ProgramHeader::from(segment());
+    assert!(rt; has_form(rt, raw, LE, LITTLE) && is(rt, ProgramHeader::from(raw), segment()));
+    let raw = program_header64::ProgramHeader::from(segment());
+    assert!(rt; has_form(rt, raw, BE, BIG) && is(rt, ProgramHeader::from(raw), segment()));
 }
 
 #[test]
@@ -122,13 +77,8 @@ fn keeps_low_bits(rt: HostRuntime) {
         p_offset: 0x1_2345_6789,
         ..segment()
     };
-    assert!(rt;
-        is(
-            rt,
-            program_header32::ProgramHeader::from(wide).p_offset,
-            0x2345_6789
-        )
-    );
+    let raw = program_header32::ProgramHeader::from(wide);
+    assert!(rt; is(rt, raw.p_offset, 0x2345_6789));
 }
 
 fn allows(header: &ProgramHeader) -> [bool; 3] {
@@ -138,14 +88,14 @@ fn allows(header: &ProgramHeader) -> [bool; 3] {
 #[test]
 fn makes_program_headers(rt: HostRuntime) {
     let new = ProgramHeader::new();
+    let parts = (new.p_type, new.p_flags, new.p_align);
     assert!(rt;
         is(
             rt,
-            (new.p_type, new.p_flags, new.p_align),
-            (1, 0, 2_097_152)
+            (parts, allows(&new)),
+            ((1, 0, 2_097_152), [false, false, false])
         )
     );
-    assert!(rt; is(rt, allows(&new), [false, false, false]));
     let default = ProgramHeader::default();
     assert!(rt; is(rt, default.p_align, 0));
     assert!(rt; is(rt, default, program_header::default_is_zeros()));
@@ -198,34 +148,34 @@ fn tells_ranges(rt: HostRuntime) {
     assert!(rt; has_ranges(rt, &far, usize::MAX - 1..usize::MAX, usize::MAX..usize::MAX));
 }
 
-// How many zero bytes there are, the offset, the count, how many headers are read, and the text.
-static LISTED: [(usize, usize, usize, usize, &str); 7] = [
-    (64, 40, 1, 0, "type is too big (56) for 24"),
-    (64, 1000, 0, 0, "Ok"),
-    (64, 0, 2, 0, "Buffer is too short for 2 program headers"),
-    (64, 8, 1, 1, "Ok"),
-    (64, usize::MAX, 1, 0, "bad offset 18446744073709551615"),
-    (112, 56, 2, 0, "bad offset 112"),
-    (112, 0, 2, 2, "Ok"),
+// How many zero bytes there are, the offset, the count, and how many headers are read or the text.
+type Listed = (usize, usize, usize, Result<usize, &'static str>);
+
+static LISTED: [Listed; 7] = [
+    (64, 40, 1, Err("type is too big (56) for 24")),
+    (64, 1000, 0, Ok(0)),
+    (64, 0, 2, Err("Buffer is too short for 2 program headers")),
+    (64, 8, 1, Ok(1)),
+    (64, usize::MAX, 1, Err("bad offset 18446744073709551615")),
+    (112, 56, 2, Err("bad offset 112")),
+    (112, 0, 2, Ok(2)),
 ];
 
-fn lists(rt: HostRuntime, row: &(usize, usize, usize, usize, &str)) -> bool {
-    let (len, offset, count, read, text) = *row;
-    let bytes = [0; 112];
-    let bytes = &bytes[..len.min(112)];
+fn is_listed(rt: HostRuntime, row: &Listed) -> bool {
+    let (len, offset, count, ref wanted) = *row;
+    let bytes = &[0; 112][..len.min(112)];
     let ctx = Ctx::new(Container::Big, LE);
-    let answer = ProgramHeader::parse(rt.alloc(), bytes, offset, count, ctx);
-    let headers = match &answer {
-        Ok(headers) => headers.len(),
-        Err(_) => 0,
-    };
-    says(rt, answer, text) && is(rt, headers, read)
+    lists(
+        rt,
+        ProgramHeader::parse(rt.alloc(), bytes, offset, count, ctx),
+        wanted,
+    )
 }
 
 #[test]
 fn reads_program_headers_at_once(rt: HostRuntime) {
     for row in &LISTED {
-        assert!(rt; holds(rt, row, lists(rt, row)));
+        assert!(rt; holds(rt, row, is_listed(rt, row)));
     }
 }
 
@@ -240,49 +190,47 @@ fn file() -> [u8; 72] {
 fn reads_the_program_headers_of_a_file(rt: HostRuntime) {
     let one = ProgramHeader::parse(rt.alloc(), &file(), 16, 1, BIG64);
     assert!(rt; gives(rt, one, &[segment()]));
-}
-
-#[test]
-fn reads_the_raw_program_headers_of_a_file(rt: HostRuntime) {
     let raw = program_header64::ProgramHeader::from(segment());
     let one = program_header64::ProgramHeader::parse(rt.alloc(), &file(), 16, 1, BE);
     assert!(rt; gives(rt, one, &[raw]));
 }
 
-fn says32(rt: HostRuntime, count: usize, text: &str) -> bool {
-    let answer = program_header32::ProgramHeader::parse(rt.alloc(), &[0; 64], 0, count, LE);
-    says(rt, answer, text)
+fn lists32(rt: HostRuntime, count: usize, wanted: Result<usize, &str>) -> bool {
+    let list = program_header32::ProgramHeader::parse(rt.alloc(), &[0; 64], 0, count, LE);
+    lists(rt, list, &wanted)
 }
 
 #[test]
-fn refuses_raw_program_headers_past_the_end(rt: HostRuntime) {
-    assert!(rt; says32(rt, 2, "Ok"));
-    assert!(rt; says32(rt, 3, "bad offset 64"));
-    assert!(rt; says32(rt, usize::MAX, "bad offset 64"));
-}
-
-#[test]
-fn reads_no_raw_program_headers_anywhere(rt: HostRuntime) {
+fn reads_raw_program_headers_up_to_the_end(rt: HostRuntime) {
+    assert!(rt; lists32(rt, 2, Ok(2)));
+    assert!(rt; lists32(rt, 3, Err("bad offset 64")));
+    assert!(rt; lists32(rt, usize::MAX, Err("bad offset 64")));
     let none = program_header64::ProgramHeader::parse(rt.alloc(), &[0; 112], usize::MAX, 0, BE);
     assert!(rt; gives(rt, none, &[]));
 }
 
 #[test]
-fn reads_32_bit_program_headers_of_zeros(rt: HostRuntime) {
+fn reads_raw_program_headers_of_zeros(rt: HostRuntime) {
     let zeros = program_header32::default_is_zeros();
-    assert!(rt; is(rt, program_header32::ProgramHeader::default(), zeros));
-    assert!(rt; is(rt, zeros.p_align, 0));
+    assert!(rt;
+        is(
+            rt,
+            (program_header32::ProgramHeader::default(), zeros.p_align),
+            (zeros, 0)
+        )
+    );
     let two = program_header32::ProgramHeader::parse(rt.alloc(), &[0; 64], 0, 2, LE);
     assert!(rt; gives(rt, two, &[zeros, zeros]));
     let two = program_header32::ProgramHeader::from_bytes(rt.alloc(), &[0; 64], 2);
     assert!(rt; gives(rt, two, &[zeros, zeros]));
-}
-
-#[test]
-fn reads_64_bit_program_headers_of_zeros(rt: HostRuntime) {
     let zeros = program_header64::default_is_zeros();
-    assert!(rt; is(rt, program_header64::ProgramHeader::default(), zeros));
-    assert!(rt; is(rt, zeros.p_align, 0));
+    assert!(rt;
+        is(
+            rt,
+            (program_header64::ProgramHeader::default(), zeros.p_align),
+            (zeros, 0)
+        )
+    );
     let two = program_header64::ProgramHeader::parse(rt.alloc(), &[0; 112], 0, 2, BE);
     assert!(rt; gives(rt, two, &[zeros, zeros]));
     let two = program_header64::ProgramHeader::from_bytes(rt.alloc(), &[0; 112], 2);

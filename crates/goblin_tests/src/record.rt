@@ -1,0 +1,81 @@
+//! What is asked of records of every kind: how they are read and written, and where there is no room for one.
+use crate::told::{answers, differs, is, says, stands, tells};
+use goblin_base::error::Result;
+use goblin_base::scroll::{SizeWith, TryFromCtx, TryIntoCtx};
+use std::fmt::Debug;
+
+// Whether a record takes as many bytes as these, is read from them, and is written as them, with nothing behind.
+pub(crate) fn has_form<
+    'a,
+    R: TryFromCtx<'a, C> + TryIntoCtx<C> + SizeWith<C> + PartialEq + Debug + Drop,
+    C: Copy,
+>(rt: HostRuntime, record: R, ctx: C, bytes: &'a [u8]) -> bool {
+    is(rt, R::size_with(&ctx), bytes.len())
+        && reads(rt, bytes, ctx, &record)
+        && writes(rt, record, ctx, bytes)
+}
+
+// Whether a record is read from these bytes, all of which are counted.
+pub(crate) fn reads<'a, R: TryFromCtx<'a, C> + PartialEq + Debug + Drop, C>(
+    rt: HostRuntime,
+    bytes: &'a [u8],
+    ctx: C,
+    record: &R,
+) -> bool {
+    match R::try_from_ctx(bytes, ctx) {
+        Ok((read, size)) => is(rt, &read, record) && is(rt, size, bytes.len()),
+        Err(e) => differs(rt, &e, record),
+    }
+}
+
+// Whether a record is written as these bytes, and nothing behind them.
+pub(crate) fn writes<R: TryIntoCtx<C>, C>(
+    rt: HostRuntime,
+    record: R,
+    ctx: C,
+    bytes: &[u8],
+) -> bool {
+    let mut room = [0xaa; 70];
+    let written = record.try_into_ctx(&mut room, ctx);
+    answers(rt, written, bytes.len()) && stands(rt, &room, bytes)
+}
+
+// Bytes, the first of which are too few for a record.
+pub(crate) static SHORT: [u8; 64] = [0xaa; 64];
+
+// Whether both reading from so few bytes and writing over as many are refused with this text, and nothing is written.
+pub(crate) fn lacks_room<'a, R: TryFromCtx<'a, C> + TryIntoCtx<C> + Debug + Drop, C: Copy>(
+    rt: HostRuntime,
+    record: R,
+    ctx: C,
+    bytes: &'a [u8],
+    text: &str,
+) -> bool {
+    says(rt, R::try_from_ctx(bytes, ctx), text) && refuses(rt, record, ctx, bytes.len(), text)
+}
+
+// Whether writing a record over so many bytes is refused with this text, and nothing is written.
+pub(crate) fn refuses<R: TryIntoCtx<C>, C>(
+    rt: HostRuntime,
+    record: R,
+    ctx: C,
+    len: usize,
+    text: &str,
+) -> bool {
+    let mut room = [0xaa; 64];
+    let room = &mut room[..len.min(64)];
+    says(rt, record.try_into_ctx(room, ctx), text) && stands(rt, room, b"")
+}
+
+// Whether a list has so many records, or is refused with this text.
+pub(crate) fn lists<R: Debug + Drop>(
+    rt: HostRuntime,
+    list: Result<Vec<R>>,
+    wanted: &std::result::Result<usize, &str>,
+) -> bool {
+    match (list, wanted) {
+        (Ok(list), Ok(count)) => is(rt, list.len(), *count),
+        (Err(e), Err(text)) => tells(rt, &e, text),
+        (list, _) => differs(rt, &list, wanted),
+    }
+}

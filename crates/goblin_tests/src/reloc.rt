@@ -1,0 +1,427 @@
+//! Cases with their answers: relocations in their forms, the parts of an `r_info`, and relocation sections.
+use crate::container::{BIG32, BIG64, LITTLE32, LITTLE64};
+use crate::record::{has_form, reads, refuses, writes};
+use crate::table::yields;
+use crate::told::{answers, differs, gives, holds, is, says, stands};
+use goblin::elf::header::{EI_CLASS, EM_MIPS, EM_MIPS_RS3_LE, Header};
+use goblin::elf::reloc::{RelocIterator, RelocSection, is_mips64el, is_mips64el_in};
+use goblin::{elf, elf32, elf64};
+use goblin_base::container::{BE, Ctx, LE};
+use goblin_base::error::Result;
+use goblin_base::scroll::{IntoCtx, SizeWith, TryFromCtx};
+use goblin_records::reloc::{Reloc, RelocCtx};
+use goblin_records::{reloc, reloc32, reloc64};
+
+// A relocation with an addend, of the 32-bit class in little order.
+const RELA_LITTLE: &[u8] = b"\x10\0\0\0\x01\x02\0\0\xfc\xff\xff\xff";
+
+// The same in big order.
+const RELA_BIG: &[u8] = b"\0\0\0\x10\0\0\x02\x01\xff\xff\xff\xfc";
+
+// The same of the 64-bit class, in little and in big order.
+const RELA64_LITTLE: &[u8] =
+    b"\x10\0\0\0\0\0\0\0\x01\0\0\0\x02\0\0\0\xfc\xff\xff\xff\xff\xff\xff\xff";
+
+const RELA64_BIG: &[u8] = b"\0\0\0\0\0\0\0\x10\0\0\0\x02\0\0\0\x01\xff\xff\xff\xff\xff\xff\xff\xfc";
+
+// That relocation.
+const CALL: Reloc = Reloc {
+    r_offset: 16,
+    r_addend: Some(-4),
+    r_sym: 2,
+    r_type: 1,
+};
+
+// A relocation without an addend, of the 32-bit class in little order.
+const REL: &[u8] = b"\0\0\0\0\x01\x02\0\0";
+
+// One of a MIPS64 file of little order.
+const REL_MIPS: &[u8] = b"\xf0\x50\x01\0\0\0\0\0\0\0\0\0\0\0\x12\x03";
+
+// The context of a class and an order, without addends, with the pair or not.
+fn without(ctx: Ctx, is_mips64el: bool) -> RelocCtx {
+    RelocCtx {
+        is_rela: false,
+        ctx,
+        is_mips64el,
+    }
+}
+
+// A relocation without an addend.
+fn plain(r_offset: u64, r_sym: usize, r_type: u32) -> Reloc {
+    Reloc {
+        r_offset,
+        r_addend: None,
+        r_sym,
+        r_type,
+    }
+}
+
+// Relocations with addends in each class and order.
+const WITH_ADDENDS: &[(Ctx, &[u8])] = &[
+    (LITTLE32, RELA_LITTLE),
+    (BIG32, RELA_BIG),
+    (LITTLE64, RELA64_LITTLE),
+    (BIG64, RELA64_BIG),
+];
+
+#[test]
+fn reads_and_writes_a_relocation_of_each_class_and_order(rt: HostRuntime) {
+    for (ctx, bytes) in WITH_ADDENDS {
+        assert!(rt; has_form(rt, CALL, (true, *ctx), bytes));
+    }
+    let none = Reloc::try_from_ctx(b"", (true, LITTLE32));
+    assert!(rt; says(rt, none, "bad offset 0"));
+    let mut room = [0xaa; 13];
+    CALL.into_ctx(&mut room, (true, LITTLE32));
+    assert!(rt; stands(rt, &room, RELA_LITTLE));
+}
+
+// Whether a relocation without an addend is read from these bytes and written as them, through the pair or not, which
+// its context and a flag of its own tell alike.
+fn goes_through(
+    rt: HostRuntime,
+    reloc: Reloc,
+    ctx: Ctx,
+    is_pair: bool,
+    bytes: &'static [u8],
+) -> bool {
+    let mut room = [0xaa; 16];
+    let written = reloc.write_inner(&mut room, (false, ctx), is_pair);
+    answers(rt, written, bytes.len())
+        && stands(rt, &room, bytes)
+        && has_form(rt, reloc, without(ctx, is_pair), bytes)
+}
+
+#[test]
+fn goes_through_the_pair_where_asked(rt: HostRuntime) {
+    assert!(rt; goes_through(rt, plain(0, 2, 1), LITTLE32, false, REL));
+    assert!(rt; goes_through(rt, plain(0, 1, 33554432), LITTLE32, true, REL));
+    assert!(rt; goes_through(rt, plain(0x150f0, 51511296, 0), LITTLE64, false, REL_MIPS));
+    assert!(rt; goes_through(rt, plain(0x150f0, 0, 0x1203), LITTLE64, true, REL_MIPS));
+}
+
+#[test]
+fn reads_raw_relocations(rt: HostRuntime) {
+    let rela32 = reloc32::Rela {
+        r_offset: 16,
+        r_info: 0x201,
+        r_addend: -4,
+    };
+    assert!(rt; reads(rt, RELA_LITTLE, LE, &rela32) && reads(rt, RELA_BIG, BE, &rela32));
+    let rel32 = reloc32::Rel {
+        r_offset: 0,
+        r_info: 0x201,
+    };
+    assert!(rt; reads(rt, REL, LE, &rel32));
+    let rela64 = reloc64::Rela {
+        r_offset: 16,
+        r_info: 0x2_0000_0001,
+        r_addend: -4,
+    };
+    assert!(rt; reads(rt, RELA64_LITTLE, LE, &rela64) && reads(rt, RELA64_BIG, BE, &rela64));
+    let rel64 = reloc64::Rel {
+        r_offset: 0x150f0,
+        r_info: 0x0312_0000_0000_0000,
+    };
+    assert!(rt; reads(rt, REL_MIPS, LE, &rel64));
+}
+
+#[test]
+fn writes_the_low_bits_and_a_missing_addend_as_0(rt: HostRuntime) {
+    let bytes = b"\x10\0\0\0\xff\x56\x34\x12\0\0\0\0";
+    assert!(rt; writes(rt, plain(16, 0x123456, 0x1ff), (true, LITTLE32), bytes));
+}
+
+#[test]
+fn changes_nothing_where_a_relocation_has_no_room(rt: HostRuntime) {
+    assert!(rt; refuses(rt, CALL, (true, LITTLE32), 7, "type is too big (12) for 7"));
+    assert!(rt;
+        refuses(
+            rt,
+            CALL,
+            without(BIG64, true),
+            7,
+            "type is too big (16) for 7"
+        )
+    );
+    assert!(rt;
+        refuses(
+            rt,
+            reloc32::Rel::from(CALL),
+            LE,
+            7,
+            "type is too big (8) for 7"
+        )
+    );
+    assert!(rt;
+        refuses(
+            rt,
+            reloc64::Rela::from(CALL),
+            BE,
+            7,
+            "type is too big (24) for 7"
+        )
+    );
+}
+
+#[test]
+fn converts_to_raw_relocations_and_back(rt: HostRuntime) {
+    let with = [
+        Reloc::from(reloc32::Rela::from(CALL)),
+        Reloc::from(reloc64::Rela::from(CALL)),
+    ];
+    assert!(rt; is(rt, with, [CALL; 2]));
+    let bare = plain(16, 2, 1);
+    let without = [
+        Reloc::from(reloc32::Rel::from(CALL)),
+        Reloc::from(reloc64::Rel::from(CALL)),
+    ];
+    assert!(rt; is(rt, without, [bare; 2]));
+    assert!(rt; is(rt, reloc32::Rela::from(bare).r_addend, 0));
+    assert!(rt; is(rt, reloc64::Rela::from(bare).r_addend, 0));
+}
+
+#[test]
+fn splits_and_joins_an_info(rt: HostRuntime) {
+    reloc::laws();
+    reloc32::laws();
+    reloc64::laws();
+    let info = 0x123456ff;
+    assert!(rt;
+        is(
+            rt,
+            (reloc32::r_sym(info), reloc32::r_type(info)),
+            (0x123456, 0xff)
+        )
+    );
+    assert!(rt; is(rt, reloc32::r_info(0x123456, 0x1ff), info));
+    let info = 0x0000002A00000007;
+    assert!(rt; is(rt, (reloc64::r_sym(info), reloc64::r_type(info)), (42, 7)));
+    assert!(rt; is(rt, reloc64::r_info(42, 7), info));
+}
+
+// Infos, and what they are turned to.
+static TURNED: [(u64, u64); 4] = [
+    (0x0102030400000005, 0x0000000504030201),
+    (0x0312000000000000, 0x1203),
+    (0x0312000000000027, 0x0000002700001203),
+    (0, 0),
+];
+
+#[test]
+fn turns_an_info_of_mips64(rt: HostRuntime) {
+    let turn = reloc64::mips64el_r_info;
+    for row in &TURNED {
+        assert!(rt; holds(rt, row, is(rt, turn(row.0), row.1)));
+    }
+    let info = 0x0102030400000005;
+    assert!(rt; is(rt, turn(turn(turn(turn(info)))), info));
+    assert!(rt;
+        is(
+            rt,
+            reloc64::mips64el_r_info_inverse(0x0000000504030201),
+            info
+        )
+    );
+}
+
+#[test]
+fn has_a_size_for_each_class_with_addends_and_without(rt: HostRuntime) {
+    let sizes = [
+        Reloc::size(false, LITTLE32),
+        Reloc::size(true, LITTLE32),
+        Reloc::size(false, LITTLE64),
+        Reloc::size(true, LITTLE64),
+        Reloc::size_with(&(true, LITTLE64)),
+        reloc32::Rela::size_with(&BE),
+    ];
+    assert!(rt; is(rt, sizes, [8, 12, 16, 24, 24, 12]));
+}
+
+// 64 zero bytes, and a relocation of a MIPS64 file of little order behind them.
+const MIPS: &[u8] = b"\0\0\0\0\0\0\0\0\0\0\0\0\0\0\0\0\0\0\0\0\0\0\0\0\0\0\0\0\0\0\0\0\
+\0\0\0\0\0\0\0\0\0\0\0\0\0\0\0\0\0\0\0\0\0\0\0\0\0\0\0\0\0\0\0\0\
+\xf0\x50\x01\0\0\0\0\0\0\0\0\0\0\0\x12\x03";
+
+// The relocation behind the zeros, with the pair or without, as a section of its own.
+fn behind(bytes: &[u8], is_mips64el: bool) -> Result<RelocSection<'_>> {
+    RelocSection::parse_inner(bytes, 64, 16, false, LITTLE64, is_mips64el)
+}
+
+// How many bytes there are, the offset and the size of a section of relocations with addends of the 64-bit class, and
+// how many it has, or why it is refused.
+static COUNTED: [(usize, usize, usize, std::result::Result<usize, &str>); 10] = [
+    (50, 0, 50, Ok(2)),
+    (50, 1000, 0, Ok(0)),
+    (48, 0, 47, Ok(1)),
+    (48, 47, 1, Ok(0)),
+    (48, usize::MAX, 0, Ok(0)),
+    (50, 40, 24, Err("type is too big (24) for 10")),
+    (
+        50,
+        1,
+        usize::MAX,
+        Err("type is too big (18446744073709551615) for 49"),
+    ),
+    (48, 0, 49, Err("type is too big (49) for 48")),
+    (48, 48, 1, Err("bad offset 48")),
+    (
+        48,
+        usize::MAX,
+        usize::MAX,
+        Err("bad offset 18446744073709551615"),
+    ),
+];
+
+// Whether a section of zeros is told so.
+fn is_counted(
+    rt: HostRuntime,
+    bytes: &[u8],
+    offset: usize,
+    filesz: usize,
+    wanted: &std::result::Result<usize, &str>,
+) -> bool {
+    match (
+        RelocSection::parse(bytes, offset, filesz, true, LITTLE64),
+        wanted,
+    ) {
+        (Ok(section), Ok(count)) => is(rt, section.len(), *count),
+        (answer, Err(text)) => says(rt, answer, text),
+        (answer, wanted) => differs(rt, &answer, wanted),
+    }
+}
+
+#[test]
+fn counts_whole_relocations_or_tells_the_fault(rt: HostRuntime) {
+    for row in &COUNTED {
+        let bytes = &[0; 50][..row.0.min(50)];
+        assert!(rt; holds(rt, row, is_counted(rt, bytes, row.1, row.2, &row.3)));
+    }
+}
+
+// Whether a loop over a section has this one relocation.
+fn loops_over_one(rt: HostRuntime, section: &RelocSection, want: &Reloc) -> bool {
+    let mut each = 0;
+    for reloc in section {
+        if each == 1 || !is(rt, &reloc, want) {
+            return false;
+        }
+        each = 1;
+    }
+    is(rt, each, 1)
+}
+
+// Whether the section behind the zeros has this one relocation, by each way of asking.
+fn has_one(rt: HostRuntime, is_mips64el: bool, want: &Reloc) -> bool {
+    match behind(MIPS, is_mips64el) {
+        Ok(section) => {
+            loops_over_one(rt, &section, want)
+                && yields(rt, section.iter(), &[*want])
+                && is(rt, (section.get(0), section.get(1)), (Some(*want), None))
+                && is(rt, (section.len(), section.is_empty()), (1, false))
+                && gives(rt, section.to_vec(rt.alloc()), &[*want])
+        }
+        Err(e) => differs(rt, &e, want),
+    }
+}
+
+#[test]
+fn gives_a_relocation_through_the_pair_by_each_way_of_asking(rt: HostRuntime) {
+    elf::reloc::laws();
+    assert!(rt; has_one(rt, false, &plain(0x150f0, 51511296, 0)));
+    assert!(rt; has_one(rt, true, &plain(0x150f0, 0, 0x1203)));
+}
+
+// The relocations that are left live as long as the bytes, and not only as long as the section.
+fn relocs_of(bytes: &[u8]) -> Option<RelocIterator<'_>> {
+    let section = behind(bytes, false).ok()?;
+    Some(section.iter())
+}
+
+// How many relocations name no symbol, and where the last of them lies.
+fn without_symbol(section: &RelocSection) -> (usize, usize) {
+    let mut last = 0;
+    for (place, reloc) in section.iter().enumerate() {
+        if reloc.r_sym == 0 {
+            last = place;
+        }
+    }
+    let count = section.iter().filter(|reloc| reloc.r_sym == 0).count();
+    (count, last)
+}
+
+#[test]
+fn counts_with_the_iterator_alone(rt: HostRuntime) {
+    let Ok(zeros) = RelocSection::parse(MIPS, 0, 63, false, LITTLE64) else {
+        return assert!(rt; false);
+    };
+    assert!(rt;
+        is(
+            rt,
+            (zeros.iter().count(), without_symbol(&zeros)),
+            (3, (3, 2))
+        )
+    );
+    let left = relocs_of(MIPS).and_then(|mut left| left.next());
+    assert!(rt; is(rt, left, Some(plain(0x150f0, 51511296, 0))));
+}
+
+#[test]
+fn has_no_relocations_by_default(rt: HostRuntime) {
+    let none = RelocSection::default();
+    assert!(rt;
+        is(
+            rt,
+            (none.is_empty(), none.len(), none.get(0)),
+            (true, 0, None)
+        )
+    );
+    assert!(rt; is(rt, none.iter().next(), None));
+}
+
+// Machines, contexts, and whether a header of these is one of a MIPS64 file of little order.
+static MACHINES: [(u16, Ctx, bool); 5] = [
+    (EM_MIPS, LITTLE64, true),
+    (EM_MIPS, BIG64, false),
+    (EM_MIPS, LITTLE32, false),
+    (EM_MIPS_RS3_LE, LITTLE64, false),
+    (0, LITTLE64, false),
+];
+
+fn is_mips(rt: HostRuntime, machine: u16, ctx: Ctx, wanted: bool) -> bool {
+    let mut header = Header::new(ctx);
+    header.e_machine = machine;
+    is(
+        rt,
+        [is_mips64el(&header), is_mips64el_in(machine, ctx)],
+        [wanted; 2],
+    )
+}
+
+#[test]
+fn knows_a_mips64_file_of_little_order(rt: HostRuntime) {
+    for row in &MACHINES {
+        assert!(rt; holds(rt, row, is_mips(rt, row.0, row.1, row.2)));
+    }
+    let mut header = Header::new(LITTLE64);
+    header.e_machine = EM_MIPS;
+    header.e_ident[EI_CLASS] = 3;
+    assert!(rt; is(rt, is_mips64el(&header), false));
+}
+
+#[test]
+fn has_the_raw_relocations_under_the_paths_of_each_class(rt: HostRuntime) {
+    assert!(rt;
+        is(
+            rt,
+            [elf32::reloc::SIZEOF_RELA, elf64::reloc::SIZEOF_RELA],
+            [12, 24]
+        )
+    );
+    let sizes = [
+        elf::reloc::reloc32::SIZEOF_REL,
+        elf::reloc::reloc64::SIZEOF_REL,
+    ];
+    assert!(rt; is(rt, sizes, [8, 16]));
+}

@@ -1,0 +1,586 @@
+//! Cases with their answers: symbols in their forms, lists and tables of them, their parts and names, and the symbol
+//! that an address lies in.
+use crate::container::{BIG32, BIG64, LITTLE32, LITTLE64};
+use crate::record::{SHORT, has_form, lacks_room, lists, refuses, writes};
+use crate::table::yields;
+use crate::told::{differs, gives, holds, is, says, stands};
+use goblin::elf::sym::Symtab;
+use goblin_base::container::{BE, Ctx, LE};
+use goblin_base::error::Result;
+use goblin_base::options::ParseOptions;
+use goblin_base::scroll::{IntoCtx, TryIntoCtx};
+use goblin_base::strtab::Strtab;
+use goblin_base::table::Table;
+use goblin_records::sym::{
+    STB_GLOBAL, STB_WEAK, STT_FUNC, Sym, bind_to_str, get_type, is_import, st_bind, st_type,
+    st_visibility, type_to_str, visibility_to_str,
+};
+use goblin_records::{sym, sym32, sym64};
+
+// A symbol of zeros.
+pub(crate) const ZERO: Sym = Sym {
+    st_name: 0,
+    st_info: 0,
+    st_other: 0,
+    st_shndx: 0,
+    st_value: 0,
+    st_size: 0,
+};
+
+// A function that all files see.
+pub(crate) const FUNCTION: Sym = Sym {
+    st_name: 1,
+    st_info: 0x12,
+    st_other: 0,
+    st_shndx: 5,
+    st_value: 0x1000,
+    st_size: 0x20,
+};
+
+// A symbol of which each field is near the greatest number of the 32-bit class.
+pub(crate) const WIDE: Sym = Sym {
+    st_name: 0xffff_ffff,
+    st_info: 0x21,
+    st_other: 3,
+    st_shndx: 0xfff1,
+    st_value: 0xffff_fffe,
+    st_size: 0xffff_fffd,
+};
+
+// The function in each class and byte order.
+const IN_LITTLE32: &[u8] = b"\x01\0\0\0\0\x10\0\0\x20\0\0\0\x12\0\x05\0";
+
+const IN_BIG32: &[u8] = b"\0\0\0\x01\0\0\x10\0\0\0\0\x20\x12\0\0\x05";
+
+const IN_LITTLE64: &[u8] = b"\x01\0\0\0\x12\0\x05\0\0\x10\0\0\0\0\0\0\x20\0\0\0\0\0\0\0";
+
+const IN_BIG64: &[u8] = b"\0\0\0\x01\x12\0\0\x05\0\0\0\0\0\0\x10\0\0\0\0\0\0\0\0\x20";
+
+const FORMS: &[(Ctx, &[u8])] = &[
+    (LITTLE32, IN_LITTLE32),
+    (BIG32, IN_BIG32),
+    (LITTLE64, IN_LITTLE64),
+    (BIG64, IN_BIG64),
+];
+
+// Whether the function has this form, and is the one symbol that is read there.
+fn is_function_in(rt: HostRuntime, ctx: Ctx, bytes: &'static [u8]) -> bool {
+    has_form(rt, FUNCTION, ctx, bytes)
+        && gives(rt, Sym::parse(rt.alloc(), bytes, 0, 1, ctx), &[FUNCTION])
+}
+
+#[test]
+fn reads_and_writes_a_symbol(rt: HostRuntime) {
+    for (ctx, bytes) in FORMS {
+        assert!(rt; is_function_in(rt, *ctx, bytes));
+    }
+    let mut written = [0xaa; 25];
+    FUNCTION.into_ctx(&mut written, BIG64);
+    assert!(rt; stands(rt, &written, IN_BIG64));
+}
+
+#[test]
+fn reads_and_writes_raw_symbols(rt: HostRuntime) {
+    let raw = sym32::Sym::from(FUNCTION);
+    assert!(rt; has_form(rt, raw, LE, IN_LITTLE32) && has_form(rt, raw, BE, IN_BIG32));
+    assert!(rt; is(rt, (Sym::from(raw), sym32::SIZEOF_SYM), (FUNCTION, 16)));
+    let raw = sym64::Sym::from(FUNCTION);
+    assert!(rt; has_form(rt, raw, LE, IN_LITTLE64) && has_form(rt, raw, BE, IN_BIG64));
+    assert!(rt; is(rt, (Sym::from(raw), sym64::SIZEOF_SYM), (FUNCTION, 24)));
+}
+
+// A symbol whose fields pass the 32-bit class.
+const FAR: Sym = Sym {
+    st_name: 0x1_0000_0002,
+    st_info: 3,
+    st_other: 4,
+    st_shndx: 0x1_0005,
+    st_value: 0x6_0000_0007,
+    st_size: 0x8_0000_0009,
+};
+
+// The low bits of its fields.
+const LOW: sym32::Sym = sym32::Sym {
+    st_name: 2,
+    st_value: 7,
+    st_size: 9,
+    st_info: 3,
+    st_other: 4,
+    st_shndx: 5,
+};
+
+#[test]
+fn writes_the_low_bits(rt: HostRuntime) {
+    assert!(rt; is(rt, sym32::Sym::from(FAR), LOW));
+    assert!(rt;
+        writes(
+            rt,
+            FAR,
+            LITTLE32,
+            b"\x02\0\0\0\x07\0\0\0\x09\0\0\0\x03\x04\x05\0"
+        )
+    );
+    // A section whose number passes two bytes.
+    let far = Sym {
+        st_shndx: 0x12345,
+        ..ZERO
+    };
+    assert!(rt; writes(rt, far, LITTLE32, b"\0\0\0\0\0\0\0\0\0\0\0\0\0\0\x45\x23"));
+}
+
+#[test]
+fn refuses_and_changes_nothing(rt: HostRuntime) {
+    assert!(rt;
+        lacks_room(
+            rt,
+            FUNCTION,
+            LITTLE32,
+            &SHORT[..15],
+            "type is too big (16) for 15"
+        )
+    );
+    assert!(rt;
+        lacks_room(
+            rt,
+            FUNCTION,
+            BIG64,
+            &SHORT[..23],
+            "type is too big (24) for 23"
+        )
+    );
+    assert!(rt; lacks_room(rt, FUNCTION, BIG32, &SHORT[..0], "bad offset 0"));
+    let raw = sym32::Sym::from(FUNCTION);
+    assert!(rt; refuses(rt, raw, BE, 15, "type is too big (16) for 15"));
+    assert!(rt; refuses(rt, raw, BE, 0, "bad offset 0"));
+    let raw = sym64::Sym::from(FUNCTION);
+    assert!(rt; refuses(rt, raw, LE, 15, "type is too big (24) for 15"));
+    assert!(rt; refuses(rt, raw, LE, 0, "bad offset 0"));
+}
+
+static ZEROS: [u8; 50] = [0; 50];
+
+const MAX: usize = usize::MAX;
+
+const NONE_AT_MAX: &str = "bad offset 18446744073709551615";
+
+const MANY: &str = "Buffer is too short for 18446744073709551615 symbols";
+
+// From where on and how many symbols are read from 48 bytes, and how many they are or why there are none.
+static READ: [(usize, usize, std::result::Result<usize, &str>); 10] = [
+    (0, 2, Ok(2)),
+    (24, 1, Ok(1)),
+    (48, 0, Ok(0)),
+    (1000, 0, Ok(0)),
+    (25, 1, Err("type is too big (24) for 23")),
+    (24, 2, Err("bad offset 48")),
+    (49, 1, Err("bad offset 49")),
+    (MAX, 1, Err(NONE_AT_MAX)),
+    (0, 3, Err("Buffer is too short for 3 symbols")),
+    (0, MAX, Err(MANY)),
+];
+
+// The symbols that are read there.
+fn parsed(rt: HostRuntime, offset: usize, count: usize) -> Result<Vec<Sym>> {
+    Sym::parse(rt.alloc(), &ZEROS[..48], offset, count, LITTLE64)
+}
+
+#[test]
+fn parses_or_tells_the_fault(rt: HostRuntime) {
+    for row in &READ {
+        assert!(rt; holds(rt, row, lists(rt, parsed(rt, row.0, row.1), &row.2)));
+    }
+    assert!(rt; gives(rt, parsed(rt, 0, 2), &[ZERO, ZERO]));
+    assert!(rt; gives(rt, parsed(rt, 24, 1), &[ZERO]));
+}
+
+// How many symbols of a table are functions.
+fn functions_in(table: &Table<'_, Sym, Ctx>) -> usize {
+    table.iter().filter(|symbol| symbol.is_function()).count()
+}
+
+// The index of the first function of a table.
+fn first_function(table: &Table<'_, Sym, Ctx>) -> Option<usize> {
+    for (i, symbol) in table.iter().enumerate() {
+        if symbol.is_function() {
+            return Some(i);
+        }
+    }
+    None
+}
+
+#[test]
+fn is_looped_over(rt: HostRuntime) {
+    let mut bytes = [0; 72];
+    bytes[24..48].copy_from_slice(IN_BIG64);
+    let table: Table<Sym, Ctx> = Table::of(&bytes, 3, BIG64);
+    let counts = (table.iter().count(), functions_in(&table));
+    assert!(rt; is(rt, (counts, first_function(&table)), ((3, 1), Some(1))));
+}
+
+// The symbol with this information and value.
+fn symbol_of(st_info: u8, st_value: u64) -> Sym {
+    Sym {
+        st_info,
+        st_value,
+        ..ZERO
+    }
+}
+
+// Whether the parts of this information are told by all that tell them.
+fn tells_parts(rt: HostRuntime, info: u8, bind: u8, typ: u8) -> bool {
+    let symbol = symbol_of(info, 0);
+    let binds = [symbol.st_bind(), st_bind(info), sym32::st_bind(info)];
+    let types = [symbol.st_type(), st_type(info), sym64::st_type(info)];
+    let is_function = [
+        symbol.is_function(),
+        sym32::Sym::from(symbol).is_function(),
+        sym64::Sym::from(symbol).is_function(),
+    ];
+    is(rt, (binds, types), ([bind; 3], [typ; 3])) && is(rt, is_function, [typ == STT_FUNC; 3])
+}
+
+// Whether each of the methods answers so whether a symbol with this information and value is an import.
+fn imports(rt: HostRuntime, info: u8, value: u64, wanted: bool) -> bool {
+    let symbol = symbol_of(info, value);
+    let is_import = [
+        symbol.is_import(),
+        sym32::Sym::from(symbol).is_import(),
+        sym64::Sym::from(symbol).is_import(),
+    ];
+    is(rt, is_import, [wanted; 3])
+}
+
+#[test]
+fn calls_the_laws_of_constants() {
+    sym::constants();
+    sym32::constants();
+    sym64::constants();
+}
+
+#[test]
+fn tells_what_symbols_are(rt: HostRuntime) {
+    for (info, bind, typ) in [(0x12, 1, 2), (0x30, 3, 0), (0xfe, 15, 14)] {
+        assert!(rt; tells_parts(rt, info, bind, typ));
+    }
+    assert!(rt;
+        is(
+            rt,
+            (st_visibility(0x0b), sym32::st_visibility(0xf8)),
+            (3, 0)
+        )
+    );
+    assert!(rt; is(rt, (FUNCTION.st_visibility(), WIDE.st_visibility()), (0, 3)));
+}
+
+const IMPORTS: &[(u8, u64, bool)] = &[
+    (STB_GLOBAL << 4 | STT_FUNC, 0, true),
+    (STB_WEAK << 4 | STT_FUNC, 0, true),
+    (STT_FUNC, 0, false),
+    (STB_GLOBAL << 4, 1, false),
+    (0x30, 0, false),
+];
+
+#[test]
+fn tells_imports(rt: HostRuntime) {
+    for row in IMPORTS {
+        assert!(rt; holds(rt, row, imports(rt, row.0, row.1, row.2)));
+    }
+    // The free function counts global symbols alone.
+    assert!(rt;
+        is(
+            rt,
+            (is_import(0x12, 0), sym64::is_import(0x10, 0)),
+            (true, true)
+        )
+    );
+    let others = [
+        is_import(0x22, 0),
+        is_import(0x12, 1),
+        sym32::is_import(0x02, 0),
+    ];
+    assert!(rt; is(rt, others, [false; 3]));
+}
+
+// The names of bindings.
+static BINDS: [(u8, &str); 8] = [
+    (0, "LOCAL"),
+    (1, "GLOBAL"),
+    (2, "WEAK"),
+    (3, "NUM"),
+    (4, "UNKNOWN_STB"),
+    (10, "GNU_UNIQUE"),
+    (12, "UNKNOWN_STB"),
+    (255, "UNKNOWN_STB"),
+];
+
+// The names of types.
+static TYPES: [(u8, &str); 11] = [
+    (0, "NOTYPE"),
+    (1, "OBJECT"),
+    (2, "FUNC"),
+    (3, "SECTION"),
+    (4, "FILE"),
+    (5, "COMMON"),
+    (6, "TLS"),
+    (7, "NUM"),
+    (8, "UNKNOWN_STT"),
+    (10, "GNU_IFUNC"),
+    (13, "UNKNOWN_STT"),
+];
+
+// The names of visibilities.
+static VISIBILITIES: [(u8, &str); 8] = [
+    (0, "DEFAULT"),
+    (1, "INTERNAL"),
+    (2, "HIDDEN"),
+    (3, "PROTECTED"),
+    (4, "EXPORTED"),
+    (5, "SINGLETON"),
+    (6, "ELIMINATE"),
+    (7, "UNKNOWN_STV"),
+];
+
+// The names that each module has for a binding, a type and a visibility.
+fn names_of(number: u8) -> [[&'static str; 3]; 3] {
+    [
+        [
+            bind_to_str(number),
+            sym32::bind_to_str(number),
+            sym64::bind_to_str(number),
+        ],
+        [
+            type_to_str(number),
+            sym32::type_to_str(number),
+            sym64::type_to_str(number),
+        ],
+        [
+            visibility_to_str(number),
+            sym::sym32::visibility_to_str(number),
+            sym::sym64::visibility_to_str(number),
+        ],
+    ]
+}
+
+#[test]
+fn names_bindings_types_and_visibilities(rt: HostRuntime) {
+    for row in &BINDS {
+        assert!(rt; holds(rt, row, is(rt, names_of(row.0)[0], [row.1; 3])));
+    }
+    for row in &TYPES {
+        assert!(rt; holds(rt, row, is(rt, names_of(row.0)[1], [row.1; 3])));
+    }
+    for row in &VISIBILITIES {
+        assert!(rt; holds(rt, row, is(rt, names_of(row.0)[2], [row.1; 3])));
+    }
+    let names = [get_type(0x12), sym32::get_type(0xf1), sym64::get_type(0x2f)];
+    assert!(rt; is(rt, names, ["FUNC", "OBJECT", "UNKNOWN_STT"]));
+}
+
+// Whether a table over the first bytes of zeros is accepted, with this offset and so many symbols, or refused with
+// this line.
+fn is_accepted(
+    rt: HostRuntime,
+    len: usize,
+    offset: usize,
+    asked: usize,
+    opts: &ParseOptions,
+    wanted: &std::result::Result<usize, &str>,
+) -> bool {
+    match (
+        Symtab::parse_with_opts(&ZEROS[..len.min(50)], offset, asked, LITTLE64, opts),
+        wanted,
+    ) {
+        (Ok(table), Ok(count)) => {
+            is(rt, (table.len(), table.is_empty()), (*count, *count == 0))
+                && is(rt, (table.offset(), *table.ctx()), (offset, LITTLE64))
+                && is(rt, table.iter().count(), *count)
+        }
+        (answer, Err(line)) => says(rt, answer, line),
+        (answer, wanted) => differs(rt, &answer, wanted),
+    }
+}
+
+const AT_END: &str = "Malformed entity: Symbol table offset (48) is beyond file boundary (48)";
+
+const AT_MAX: &str =
+    "Malformed entity: Symbol table offset (18446744073709551615) is beyond file boundary (48)";
+
+const TOO_MANY: &str =
+    "Malformed entity: Too many ELF symbols (offset 0x0, count 18446744073709551615)";
+
+const PAST: &str =
+    "Malformed entity: Symbol table extends beyond file boundary (requested: 72, available: 48)";
+
+const LAST: &str =
+    "Malformed entity: Symbol table extends beyond file boundary (requested: 24, available: 1)";
+
+// How many bytes there are, the offset and the count of a table, and how many symbols it has, or the line.
+type Asked = (
+    usize,
+    usize,
+    usize,
+    std::result::Result<usize, &'static str>,
+);
+
+static STRICT: [Asked; 8] = [
+    (48, 0, 2, Ok(2)),
+    (48, 24, 1, Ok(1)),
+    (48, 47, 0, Ok(0)),
+    (48, 48, 0, Err(AT_END)),
+    (48, MAX, MAX, Err(AT_MAX)),
+    (48, 0, MAX, Err(TOO_MANY)),
+    (48, 0, 3, Err(PAST)),
+    (48, 47, 1, Err(LAST)),
+];
+
+static PERMISSIVE: [Asked; 5] = [
+    (50, 0, 3, Ok(2)),
+    (50, 0, 1, Ok(1)),
+    (48, 48, MAX, Ok(0)),
+    (48, MAX, 1, Ok(0)),
+    (48, 0, MAX, Err(TOO_MANY)),
+];
+
+#[test]
+fn accepts_what_lies_in_the_file(rt: HostRuntime) {
+    let opts = ParseOptions::strict();
+    for row in &STRICT {
+        assert!(rt; holds(rt, row, is_accepted(rt, row.0, row.1, row.2, &opts, &row.3)));
+    }
+}
+
+#[test]
+fn cuts_a_table_to_the_file_where_asked_to(rt: HostRuntime) {
+    let opts = ParseOptions::permissive();
+    for row in &PERMISSIVE {
+        assert!(rt; holds(rt, row, is_accepted(rt, row.0, row.1, row.2, &opts, &row.3)));
+    }
+}
+
+const ONE: Sym = Sym {
+    st_name: 1,
+    st_info: 0x12,
+    st_other: 3,
+    st_shndx: 5,
+    st_value: 0x1000,
+    st_size: 0x20,
+};
+
+const OTHER: Sym = Sym {
+    st_name: 0xffff_ffff,
+    st_shndx: 0xfff1,
+    ..ZERO
+};
+
+// Bytes that hold the two symbols from place 1 on, or nothing where they can't be written.
+fn two_symbols(ctx: Ctx) -> [u8; 50] {
+    let mut bytes = [0xaa; 50];
+    let first = ONE.try_into_ctx(&mut bytes[1..], ctx);
+    let second = OTHER.try_into_ctx(&mut bytes[1 + Sym::size(ctx.container)..], ctx);
+    if first.is_ok() && second.is_ok() {
+        bytes
+    } else {
+        [0; 50]
+    }
+}
+
+// The table of the symbols from a place on, or of none. Its iterator lives as long as the bytes.
+fn table_of(bytes: &[u8], offset: usize, count: usize, ctx: Ctx) -> Symtab<'_> {
+    Symtab::parse(bytes, offset, count, ctx).unwrap_or(Symtab::default())
+}
+
+// Whether the two symbols are had by index, as a vector, and one after another.
+fn gives_both(rt: HostRuntime, ctx: Ctx) -> bool {
+    let bytes = two_symbols(ctx);
+    let table = table_of(&bytes, 1, 2, ctx);
+    is(
+        rt,
+        [table.get(0), table.get(1), table.get(2)],
+        [Some(ONE), Some(OTHER), None],
+    ) && gives(rt, table.to_vec(rt.alloc()), &[ONE, OTHER])
+        && yields(rt, table_of(&bytes, 1, 2, ctx).iter(), &[ONE, OTHER])
+}
+
+// The values of all symbols, one bit over another.
+fn values(ctx: Ctx) -> u64 {
+    let bytes = two_symbols(ctx);
+    let mut all = 0;
+    for symbol in &table_of(&bytes, 1, 2, ctx) {
+        all = symbol.st_value | all;
+    }
+    all
+}
+
+#[test]
+fn gives_the_symbols_in_three_ways(rt: HostRuntime) {
+    for (ctx, _) in FORMS {
+        assert!(rt; gives_both(rt, *ctx) && is(rt, values(*ctx), 0x1000));
+    }
+    let zeros = table_of(&ZEROS, 0, 2, LITTLE64);
+    assert!(rt; gives(rt, zeros.to_vec(rt.alloc()), &[ZERO, ZERO]));
+}
+
+#[test]
+fn has_no_symbols_by_default(rt: HostRuntime) {
+    let none = Symtab::default();
+    assert!(rt; is(rt, (none.is_empty(), none.get(0)), (true, None)));
+    assert!(rt; is(rt, (none.offset(), *none.ctx()), (0, Ctx::default())));
+}
+
+// Four symbols of the 32-bit class in little order, which have nothing but the places of their names.
+static PLACES: &[u8; 64] = b"\x03\0\0\0\0\0\0\0\0\0\0\0\0\0\0\0\x01\0\0\0\0\0\0\0\0\0\0\0\0\0\0\0\
+    \x05\0\0\0\0\0\0\0\0\0\0\0\0\0\0\0\x07\0\0\0\0\0\0\0\0\0\0\0\0\0\0\0";
+
+// The index of the first of them with this name, where the names "f", one that is no text and "f" lie at 1, 3 and 5,
+// and the last place lies past them; over a string table and over its bytes.
+fn found(name: &[u8]) -> [Option<usize>; 2] {
+    let names = b"\0f\0\xff\0f\0";
+    let table = table_of(PLACES, 0, 4, LITTLE32);
+    [
+        table.find(&Strtab::new(names, 0), name),
+        table.find_in(names, 0, name),
+    ]
+}
+
+#[test]
+fn finds_the_first_of_a_name(rt: HostRuntime) {
+    assert!(rt; is(rt, found(b"f"), [Some(1); 2]));
+    assert!(rt; is(rt, found(b"\xff"), [None; 2]));
+    assert!(rt; is(rt, found(b""), [None; 2]));
+}
+
+// A symbol of nothing; two functions at 0x10, of 4 bytes and of 8; at 0x20 an absolute symbol and a section's; one of no
+// type and no size at 0x30, whose section index stands elsewhere; a thread's at 0x40; and a function at 0x50 that is not
+// defined.
+const ADDRESSED: &[u8; 128] = b"\0\0\0\0\0\0\0\0\0\0\0\0\0\0\0\0\
+    \x01\0\0\0\x10\0\0\0\x04\0\0\0\x12\0\x01\0\
+    \x01\0\0\0\x10\0\0\0\x08\0\0\0\x12\0\x01\0\
+    \x01\0\0\0\x20\0\0\0\0\0\0\0\x10\0\xf1\xff\
+    \x01\0\0\0\x20\0\0\0\0\0\0\0\x03\0\x01\0\
+    \x01\0\0\0\x30\0\0\0\0\0\0\0\0\0\xff\xff\
+    \x01\0\0\0\x40\0\0\0\x04\0\0\0\x16\0\x01\0\
+    \x01\0\0\0\x50\0\0\0\x04\0\0\0\x12\0\0\0";
+
+// Addresses, and the index of the symbol that each lies in: of the highest below, and of these the first that reaches
+// so far.
+static ADDRESSES: [(u64, Option<usize>); 11] = [
+    (0, None),
+    (0xf, None),
+    (0x10, Some(1)),
+    (0x2f, Some(1)),
+    (0x30, Some(5)),
+    (0x51, Some(5)),
+    (18446744073709551615, Some(5)),
+    (0x13, Some(1)),
+    (0x14, Some(2)),
+    (0x17, Some(2)),
+    (0x18, Some(1)),
+];
+
+#[test]
+fn finds_the_symbol_at_an_address(rt: HostRuntime) {
+    let table = table_of(ADDRESSED, 0, 8, LITTLE32);
+    for row in &ADDRESSES {
+        assert!(rt; holds(rt, row, is(rt, table.at(row.0), row.1)));
+    }
+}
