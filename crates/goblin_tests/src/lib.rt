@@ -29,6 +29,8 @@ mod record;
 #[cfg(test)]
 mod reloc;
 #[cfg(test)]
+mod room;
+#[cfg(test)]
 mod section_header;
 #[cfg(test)]
 mod strtab;

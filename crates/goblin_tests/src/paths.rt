@@ -1,10 +1,10 @@
 //! What goblin's paths lead to: each public item is reached once by its path, with its type.
 use crate::container::{BIG32, LITTLE32, LITTLE64};
-use crate::record::writes;
-use crate::told::{differs, is, says};
+use crate::told::{answers, differs, is};
 use goblin::container::{BE, CONTAINER, Container, Ctx, Endian, LE};
+use goblin::error::{Error, Fault};
 use goblin::options::{ParseMode, ParseOptions};
-use goblin::scroll::{IntoCtx, SizeWith, TryFromCtx};
+use goblin::scroll::{IntoCtx, SizeWith, TryFromCtx, TryIntoCtx};
 use goblin::strtab::Strtab;
 use goblin::{elf, elf32, elf64, scroll};
 
@@ -207,13 +207,16 @@ fn leads_to_what_all_modules_share(rt: HostRuntime) {
     assert!(rt; is(rt, (scroll::LE, scroll::BE), (Endian::Little, Endian::Big)));
     assert!(rt; ParseOptions::permissive().parse_mode == ParseMode::Permissive);
     let small = elf::header::Header::try_from_ctx(&[], LE);
-    assert!(rt; says(rt, small, "Malformed entity: Too small"));
-    assert!(rt; says(rt, elf32::Note::try_from_ctx(&[], LE), "bad offset 0"));
+    assert!(rt; matches!(small, Err(Error::Malformed(Fault::TooSmall))));
+    let none = elf32::Note::try_from_ctx(&[], LE);
+    assert!(rt; matches!(none, Err(Error::Scroll(scroll::Error::BadOffset(0)))));
 }
 
 #[test]
 fn leads_to_the_traits_of_writing(rt: HostRuntime) {
-    assert!(rt; writes(rt, elf::sym::Sym::default(), LITTLE32, &[0; 16]));
+    let mut bytes = [1u8; 16];
+    let written = elf::sym::Sym::default().try_into_ctx(&mut bytes, LITTLE32);
+    assert!(rt; answers(rt, written, 16) && is(rt, bytes, [0u8; 16]));
     let mut bytes = [1u8; 40];
     elf::section_header::SectionHeader::default().into_ctx(&mut bytes, LITTLE32);
     assert!(rt; is(rt, bytes, [0u8; 40]));

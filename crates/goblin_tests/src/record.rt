@@ -67,15 +67,24 @@ pub(crate) fn refuses<R: TryIntoCtx<C>, C>(
     says(rt, record.try_into_ctx(room, ctx), text) && stands(rt, room, b"")
 }
 
+// Whether so many are counted, or the answer is an error with this text.
+pub(crate) fn counts(
+    rt: HostRuntime,
+    count: Result<usize>,
+    wanted: &std::result::Result<usize, &str>,
+) -> bool {
+    match (count, wanted) {
+        (Ok(count), Ok(wanted)) => is(rt, count, *wanted),
+        (Err(e), Err(text)) => tells(rt, &e, text),
+        (count, _) => differs(rt, &count, wanted),
+    }
+}
+
 // Whether a list has so many records, or is refused with this text.
-pub(crate) fn lists<R: Debug + Drop>(
+pub(crate) fn lists<R: Drop>(
     rt: HostRuntime,
     list: Result<Vec<R>>,
     wanted: &std::result::Result<usize, &str>,
 ) -> bool {
-    match (list, wanted) {
-        (Ok(list), Ok(count)) => is(rt, list.len(), *count),
-        (Err(e), Err(text)) => tells(rt, &e, text),
-        (list, _) => differs(rt, &list, wanted),
-    }
+    counts(rt, list.map(|list| list.len()), wanted)
 }

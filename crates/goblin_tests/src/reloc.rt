@@ -1,6 +1,6 @@
 //! Cases with their answers: relocations in their forms, the parts of an `r_info`, and relocation sections.
 use crate::container::{BIG32, BIG64, LITTLE32, LITTLE64};
-use crate::record::{has_form, reads, refuses, writes};
+use crate::record::{counts, has_form, reads, refuses, writes};
 use crate::table::yields;
 use crate::told::{answers, differs, gives, holds, is, says, stands};
 use goblin::elf::header::{EI_CLASS, EM_MIPS, EM_MIPS_RS3_LE, Header};
@@ -274,29 +274,15 @@ static COUNTED: [(usize, usize, usize, std::result::Result<usize, &str>); 10] = 
     ),
 ];
 
-// Whether a section of zeros is told so.
-fn is_counted(
-    rt: HostRuntime,
-    bytes: &[u8],
-    offset: usize,
-    filesz: usize,
-    wanted: &std::result::Result<usize, &str>,
-) -> bool {
-    match (
-        RelocSection::parse(bytes, offset, filesz, true, LITTLE64),
-        wanted,
-    ) {
-        (Ok(section), Ok(count)) => is(rt, section.len(), *count),
-        (answer, Err(text)) => says(rt, answer, text),
-        (answer, wanted) => differs(rt, &answer, wanted),
-    }
-}
-
 #[test]
 fn counts_whole_relocations_or_tells_the_fault(rt: HostRuntime) {
     for row in &COUNTED {
         let bytes = &[0; 50][..row.0.min(50)];
-        assert!(rt; holds(rt, row, is_counted(rt, bytes, row.1, row.2, &row.3)));
+        let count = match RelocSection::parse(bytes, row.1, row.2, true, LITTLE64) {
+            Ok(section) => Ok(section.len()),
+            Err(e) => Err(e),
+        };
+        assert!(rt; holds(rt, row, counts(rt, count, &row.3)));
     }
 }
 

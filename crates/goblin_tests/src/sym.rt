@@ -212,6 +212,7 @@ fn first_function(table: &Table<'_, Sym, Ctx>) -> Option<usize> {
 fn is_looped_over(rt: HostRuntime) {
     let mut bytes = [0; 72];
     bytes[24..48].copy_from_slice(IN_BIG64);
+    WIDE.into_ctx(&mut bytes[48..], BIG64);
     let table: Table<Sym, Ctx> = Table::of(&bytes, 3, BIG64);
     let counts = (table.iter().count(), functions_in(&table));
     assert!(rt; is(rt, (counts, first_function(&table)), ((3, 1), Some(1))));

@@ -691,35 +691,22 @@ fn keep_their_rules(rt: HostRuntime) {
     }
 }
 
-// An offset and a count of symbols in 48 bytes, and why there is no table of them.
-static REFUSED: [(usize, usize, &str); 4] = [
-    (
-        0,
-        47,
-        "Malformed entity: Symbol table extends beyond file boundary (requested: 1128, available: 48)",
-    ),
-    (
-        47,
-        usize::MAX,
-        "Malformed entity: Too many ELF symbols (offset 0x2f, count 18446744073709551615)",
-    ),
-    (
-        48,
-        usize::MAX,
-        "Malformed entity: Symbol table offset (48) is beyond file boundary (48)",
-    ),
-    (
-        49,
-        0,
-        "Malformed entity: Symbol table offset (49) is beyond file boundary (48)",
-    ),
-];
+// Whether so many symbols at an offset of 48 zeros are refused with this text.
+fn refuses(rt: HostRuntime, offset: usize, count: usize, text: &str) -> bool {
+    says(rt, Symtab::parse(&[0; 48], offset, count, LITTLE64), text)
+}
 
 #[test]
 fn refuses_with_the_numbers_of_the_ends(rt: HostRuntime) {
-    for row in &REFUSED {
-        assert!(rt; says(rt, Symtab::parse(&[0; 48], row.0, row.1, LITTLE64), row.2));
-    }
+    let past =
+        "Malformed entity: Symbol table extends beyond file boundary (requested: 1128, available: 48)";
+    assert!(rt; refuses(rt, 0, 47, past));
+    let many = "Malformed entity: Too many ELF symbols (offset 0x2f, count 18446744073709551615)";
+    assert!(rt; refuses(rt, 47, usize::MAX, many));
+    let at_end = "Malformed entity: Symbol table offset (48) is beyond file boundary (48)";
+    assert!(rt; refuses(rt, 48, usize::MAX, at_end));
+    let behind = "Malformed entity: Symbol table offset (49) is beyond file boundary (48)";
+    assert!(rt; refuses(rt, 49, 0, behind));
     let one = ProgramHeader::parse(rt.alloc(), &[0; 64], 9, 1, LITTLE64);
     assert!(rt; says(rt, one, "type is too big (56) for 55"));
 }

@@ -99,27 +99,18 @@ fn walks_damaged_pieces(rt: HostRuntime) {
     assert!(rt; refuses(rt, b"\xE2\x82\xAC", 0x82, 3));
 }
 
-// Whether there is an entry with no text at each of so many places.
-fn are_empty(rt: HostRuntime, entries: &Entries<'_>, count: usize) -> bool {
-    for i in 0..count {
-        if !is_entry(rt, entries, i, (i, "")) {
-            return false;
-        }
-    }
-    true
-}
-
 // Whether the permissive walk gives an entry with no text at each byte, within five looks a byte.
 fn is_empty_at_each_byte(rt: HostRuntime, bytes: &[u8]) -> bool {
     let mut view = Looked::new(bytes);
-    match walk(rt.alloc(), &mut view, 0, ParseMode::Permissive) {
-        Ok(entries) => {
-            is(rt, entries.len(), bytes.len())
-                && is_within(rt, view.count(), 5 * bytes.len() as u128)
-                && are_empty(rt, &entries, bytes.len())
+    let Ok(entries) = walk(rt.alloc(), &mut view, 0, ParseMode::Permissive) else {
+        return differs(rt, &"no entries", &bytes.len());
+    };
+    for i in 0..bytes.len() {
+        if !is_entry(rt, &entries, i, (i, "")) {
+            return false;
         }
-        Err(e) => differs(rt, &e, &bytes.len()),
     }
+    is(rt, entries.len(), bytes.len()) && is_within(rt, view.count(), 5 * bytes.len() as u128)
 }
 
 // So many bytes of one number, and then another.
@@ -139,41 +130,30 @@ fn walks_long(rt: HostRuntime, byte: u8, count: usize, last: u8) -> bool {
 }
 
 #[test]
-fn walks_a_thousand_bytes(rt: HostRuntime) {
+fn walks_long_damaged_pieces(rt: HostRuntime) {
     assert!(rt; walks_long(rt, 0x80, 999, 0x80));
-}
-
-#[test]
-fn walks_two_million_bytes(rt: HostRuntime) {
     assert!(rt; walks_long(rt, 0x61, 2097151, 0xFF));
 }
 
 // Whether a search among the entries finds one within so many probes.
 fn finds_one_within(rt: HostRuntime, entries: &Entries<'_>, offset: usize, most: u64) -> bool {
     let mut probes = Probes::of(&*entries);
-    if find(&mut probes, offset).is_none() {
-        return differs(rt, &"nothing", &offset);
-    }
-    is_within(rt, u128::from(probes.count()), u128::from(most))
-}
-
-// The same of each offset up to a last one.
-fn finds_each_within(rt: HostRuntime, entries: &Entries<'_>, last: usize, most: u64) -> bool {
-    for offset in 0..=last {
-        if !finds_one_within(rt, entries, offset, most) {
-            return false;
-        }
-    }
-    true
+    let found = find(&mut probes, offset);
+    (found.is_some() && probes.count() <= most) || differs(rt, &(found, probes.count()), &most)
 }
 
 // Whether a search for each offset up to the length takes at most so many probes.
 fn finds_within(rt: HostRuntime, bytes: &[u8], delim: u8, most: u64) -> bool {
     let mut view = Looked::new(bytes);
-    match walk(rt.alloc(), &mut view, delim, ParseMode::Permissive) {
-        Ok(entries) => finds_each_within(rt, &entries, bytes.len(), most),
-        Err(e) => differs(rt, &e, &most),
+    let Ok(entries) = walk(rt.alloc(), &mut view, delim, ParseMode::Permissive) else {
+        return differs(rt, &"no entries", &most);
+    };
+    for offset in 0..=bytes.len() {
+        if !finds_one_within(rt, &entries, offset, most) {
+            return false;
+        }
     }
+    true
 }
 
 // Whether a search among no entries finds none and takes no probe.
@@ -203,25 +183,20 @@ fn finds_within_the_digits(rt: HostRuntime) {
     assert!(rt; finds_none(rt));
 }
 
-// Whether each of so many offsets looks up the empty text.
-fn are_empty_texts(rt: HostRuntime, table: &Strtab<'_>, count: usize) -> bool {
+// Whether each offset of so many zero bytes looks up the empty text.
+fn looks_up_each(rt: HostRuntime, count: usize) -> bool {
+    let Ok(bytes) = vec![in rt.alloc(); 0u8; count] else {
+        return differs(rt, &"no memory", &count);
+    };
+    let Ok(table) = Strtab::new_preparsed(rt.alloc(), &bytes, 0) else {
+        return differs(rt, &"no table", &count);
+    };
     for offset in 0..count {
         if !is(rt, table.get_at(offset), Some("")) {
             return false;
         }
     }
     true
-}
-
-// Whether each offset of so many zero bytes looks up the empty text.
-fn looks_up_each(rt: HostRuntime, count: usize) -> bool {
-    let Ok(bytes) = vec![in rt.alloc(); 0u8; count] else {
-        return differs(rt, &"no memory", &count);
-    };
-    match Strtab::new_preparsed(rt.alloc(), &bytes, 0) {
-        Ok(table) => are_empty_texts(rt, &table, count),
-        Err(e) => differs(rt, &e, &count),
-    }
 }
 
 #[test]
@@ -332,46 +307,24 @@ fn walks_plainly(
     same && is_within(rt, view.count(), most) && walks(rt, bytes, delim, most, want)
 }
 
-// Whether looking up each offset up to the length of the bytes answers what the plain look-up does.
-fn table_looks_up_plainly(
-    rt: HostRuntime,
-    table: &Strtab<'_>,
-    bytes: &[u8],
-    delim: u8,
-    pieces: &[Option<&str>],
-) -> bool {
+// Whether looking up each offset up to the length of the bytes, in the table that they are, answers what the plain
+// look-up does.
+fn looks_up_plainly(rt: HostRuntime, bytes: &[u8], delim: u8, pieces: &[Option<&str>]) -> bool {
+    let options = ParseOptions::permissive();
+    let table = Strtab::parse_with_opts(rt.alloc(), bytes, 0, bytes.len(), delim, &options);
+    let Ok(table) = table else {
+        return differs(rt, &"no table", &pieces);
+    };
     for offset in 0..=bytes.len() {
-        if !is(
-            rt,
-            table.get_at(offset),
-            plain_look_up(pieces, bytes, delim, offset),
-        ) {
+        let want = plain_look_up(pieces, bytes, delim, offset);
+        if !is(rt, table.get_at(offset), want) {
             return false;
         }
     }
     true
 }
 
-// The same of the table that these bytes are.
-fn looks_up_plainly(rt: HostRuntime, bytes: &[u8], delim: u8, pieces: &[Option<&str>]) -> bool {
-    let options = ParseOptions::permissive();
-    match Strtab::parse_with_opts(rt.alloc(), bytes, 0, bytes.len(), delim, &options) {
-        Ok(table) => table_looks_up_plainly(rt, &table, bytes, delim, pieces),
-        Err(e) => differs(rt, &e, &pieces),
-    }
-}
-
-// Whether searching for each offset up to the length answers what the plain search does, within the digits
-// of the number of entries.
-fn finds_plainly(rt: HostRuntime, bytes: &[u8], delim: u8, want: &[(usize, &str)]) -> bool {
-    let mut view = Looked::new(bytes);
-    match walk(rt.alloc(), &mut view, delim, ParseMode::Permissive) {
-        Ok(entries) => finds_each_plainly(rt, &entries, bytes.len(), want),
-        Err(e) => differs(rt, &e, &want),
-    }
-}
-
-// The same for one offset.
+// Whether searching for one offset answers what the plain search does, within the digits of the number of entries.
 fn finds_one_plainly(
     rt: HostRuntime,
     entries: &Entries<'_>,
@@ -379,23 +332,19 @@ fn finds_one_plainly(
     want: &[(usize, &str)],
 ) -> bool {
     let mut probes = Probes::of(&*entries);
+    let most = u128::from(digits(want.len()));
     is(rt, find(&mut probes, offset), plain_find(want, offset))
-        && is_within(
-            rt,
-            u128::from(probes.count()),
-            u128::from(digits(want.len())),
-        )
+        && is_within(rt, u128::from(probes.count()), most)
 }
 
-// The same for each offset up to a last one.
-fn finds_each_plainly(
-    rt: HostRuntime,
-    entries: &Entries<'_>,
-    last: usize,
-    want: &[(usize, &str)],
-) -> bool {
-    for offset in 0..=last {
-        if !finds_one_plainly(rt, entries, offset, want) {
+// The same for each offset up to the length.
+fn finds_plainly(rt: HostRuntime, bytes: &[u8], delim: u8, want: &[(usize, &str)]) -> bool {
+    let mut view = Looked::new(bytes);
+    let Ok(entries) = walk(rt.alloc(), &mut view, delim, ParseMode::Permissive) else {
+        return differs(rt, &"no entries", &want);
+    };
+    for offset in 0..=bytes.len() {
+        if !finds_one_plainly(rt, &entries, offset, want) {
             return false;
         }
     }
@@ -462,11 +411,9 @@ fn agrees_on_all(rt: HostRuntime, len: usize, count: usize) -> bool {
 
 #[test]
 fn agrees_on_all_short_strings(rt: HostRuntime) {
-    assert!(rt; agrees_on_all(rt, 0, 1));
-    assert!(rt; agrees_on_all(rt, 1, 13));
-    assert!(rt; agrees_on_all(rt, 2, 169));
-    assert!(rt; agrees_on_all(rt, 3, 2197));
-    assert!(rt; agrees_on_all(rt, 4, 28561));
+    for (len, count) in [(0, 1), (1, 13), (2, 169), (3, 2197), (4, 28561)] {
+        assert!(rt; agrees_on_all(rt, len, count));
+    }
 }
 
 // Whether it holds of so many repetitions of some bytes.
@@ -482,10 +429,9 @@ fn agrees_repeated(rt: HostRuntime, part: &[u8], count: usize) -> bool {
 
 #[test]
 fn agrees_on_long_strings(rt: HostRuntime) {
-    assert!(rt; agrees_repeated(rt, b"\x80", 9));
-    assert!(rt; agrees_repeated(rt, b"\x80", 10));
-    assert!(rt; agrees_repeated(rt, b"\x80", 100));
-    assert!(rt; agrees_repeated(rt, b"\x80", 4096));
+    for count in [9, 10, 100, 4096] {
+        assert!(rt; agrees_repeated(rt, b"\x80", count));
+    }
     assert!(rt; agrees_repeated(rt, b"\xE1\x80", 2048));
     assert!(rt; agrees_repeated(rt, b"\xF0\x9F\x85", 1365));
 }
