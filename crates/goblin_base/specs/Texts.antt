@@ -3,8 +3,8 @@ use Rattle.std.specs.Prelude.{ℕ, Bool, false, if◌then◌else◌, List, [], �
 use Rattle.std.specs.Fmt.{decimal, digits}
 use Rattle.goblin_base.specs.declared.error.Fault.{Fault}
 use Rattle.goblin_base.specs.declared.error.Fault.TheVariants.{InvalidClass, InvalidEndianness, TooSmall, ElfClass, DataType, Data, NoteAlign, SymtabOffset, TooManySymbols, SymtabPast, StrtabOffset, StrtabRange, SectionOffset, SectionAddr, IntegerFit}
-use Rattle.goblin_base.specs.declared.texts.Piece.{Piece}
-use Rattle.goblin_base.specs.declared.texts.Piece.TheVariants as piece
+use Rattle.goblin_base.specs.declared.texts.Part.{Part}
+use Rattle.goblin_base.specs.declared.texts.Part.TheVariants as part
 use Rattle.goblin_base.specs.declared.texts.Told.{Told}
 use Rattle.goblin_base.specs.Refusal.{Refusal, malformed, bad_magic, too_big, bad_offset, bad_input, buffer_too_short, out_of_memory}
 
@@ -60,22 +60,22 @@ refusal_text (bad_input size msg) = codes "bad input " & msg & codes " (" & deci
 refusal_text (buffer_too_short count item) = codes "Buffer is too short for " & decimal count & codes " " & item
 refusal_text out_of_memory = codes "Out of memory"
 
--- what a piece is in the text of what is told
-abbrev pub piece_text : Told → Piece → List ℕ
-piece_text told (piece.Text text) = text.now
-piece_text told piece.First = decimal told.first
-piece_text told piece.Second = decimal told.second
-piece_text told piece.Third = decimal told.third
-piece_text told piece.Hexadecimal = hexadecimal told.first
-piece_text told piece.Item = told.item.now
-piece_text told piece.Overflowed = word_of told.overflowed
+-- what a part is in the text of what is told
+abbrev pub part_text : Told → Part → List ℕ
+part_text told (part.Text text) = text.now
+part_text told part.First = decimal told.first
+part_text told part.Second = decimal told.second
+part_text told part.Third = decimal told.third
+part_text told part.Hexadecimal = hexadecimal told.first
+part_text told part.Item = told.item.now
+part_text told part.Overflowed = word_of told.overflowed
 
--- pieces, one after another
-abbrev pub joined : Told → List Piece → List ℕ
+-- parts, one after another
+abbrev pub joined : Told → List Part → List ℕ
 joined told [] = []
-joined told (p ∷ []) = piece_text told p
-joined told (p ∷ q ∷ rest) = piece_text told p & joined told (q ∷ rest)
+joined told (p ∷ []) = part_text told p
+joined told (p ∷ q ∷ rest) = part_text told p & joined told (q ∷ rest)
 
 -- the text of what is told
 abbrev pub told_text : Told → List ℕ
-told_text told = told.before.now & joined told told.pieces.now
+told_text told = told.before.now & joined told told.parts.now

@@ -3,7 +3,7 @@ ghost use Rattle.std.specs.Prelude.{false, ◌≡◌, IfOk, Some, string_bytes};
 ghost use Rattle.goblin_base.specs.Refusal.{misplaced, refusal_of};
 ghost use Rattle.goblin_base.specs.Texts.{◌&◌, fault_text, refusal_text, told_text};
 
-use crate::texts::{Piece, Told};
+use crate::texts::{Part, Told};
 use crate::{scroll, texts};
 use std::alloc::{AllocError, AllocFailed, Global};
 use std::num::TryFromIntError;
@@ -157,12 +157,12 @@ impl<T: Drop> From<AllocFailed<T>> for Error {
 }
 
 // What is told by two numbers.
-fn told(before: &'static str, pieces: &'static [Piece], first: u64, second: u64) -> Told
-    ensures { result ≡ record { before = before.entry; pieces = pieces.entry; item = result.item; first = first; second = second; third = 0; overflowed = false } }
+fn told(before: &'static str, parts: &'static [Part], first: u64, second: u64) -> Told
+    ensures { result ≡ record { before = before.entry; parts = parts.entry; item = result.item; first = first; second = second; third = 0; overflowed = false } }
 {
     Told {
         before,
-        pieces,
+        parts,
         item: "",
         first,
         second,

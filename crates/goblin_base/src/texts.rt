@@ -1,14 +1,14 @@
-//! The texts of errors, each in pieces.
+//! The texts of errors, each in parts.
 ghost use Rattle.std.specs.Prelude.{Some};
 ghost use Rattle.std.specs.Fmt.{WritesOnOk};
-ghost use Rattle.goblin_base.specs.Texts.{piece_text, told_text};
+ghost use Rattle.goblin_base.specs.Texts.{part_text, told_text};
 
-use Piece::{First, Hexadecimal, Item, Overflowed, Second, Text, Third};
+use Part::{First, Hexadecimal, Item, Overflowed, Second, Text, Third};
 use std::fmt;
 
-/// A piece of the text of an error.
+/// A part of the text of an error.
 #[derive(Clone, Copy, Debug)]
-pub enum Piece {
+pub enum Part {
     /// What stands in each such text.
     Text(&'static str),
     /// The first number, by decimal digits.
@@ -25,13 +25,13 @@ pub enum Piece {
     Overflowed,
 }
 
-/// What an error tells, and the pieces of the text that tells it.
+/// What an error tells, and the parts of the text that tells it.
 #[derive(Clone, Copy, Debug)]
 pub struct Told {
-    /// What stands before the pieces.
+    /// What stands before the parts.
     pub before: &'static str,
-    /// The pieces, one after another.
-    pub pieces: &'static [Piece],
+    /// The parts, one after another.
+    pub parts: &'static [Part],
     /// The text that the error names, or else the empty one.
     pub item: &'static str,
     /// Its numbers, and behind them 0.
@@ -46,24 +46,24 @@ pub struct Told {
 pub const MALFORMED: &str = "Malformed entity: ";
 
 /// The text of `Fault::InvalidClass`.
-pub const INVALID_CLASS: &[Piece] = &[Text("Invalid class in Header: "), First];
+pub const INVALID_CLASS: &[Part] = &[Text("Invalid class in Header: "), First];
 /// The text of `Fault::InvalidEndianness`.
-pub const INVALID_ENDIANNESS: &[Piece] = &[Text("Invalid endianness in Header: "), First];
+pub const INVALID_ENDIANNESS: &[Part] = &[Text("Invalid endianness in Header: "), First];
 /// The text of `Fault::TooSmall`.
-pub const TOO_SMALL: &[Piece] = &[Text("Too small")];
+pub const TOO_SMALL: &[Part] = &[Text("Too small")];
 /// The text of `Fault::ElfClass`.
-pub const ELF_CLASS: &[Piece] = &[Text("invalid ELF class "), Hexadecimal];
+pub const ELF_CLASS: &[Part] = &[Text("invalid ELF class "), Hexadecimal];
 /// The text of `Fault::DataType`.
-pub const DATA_TYPE: &[Piece] = &[Text("invalid ELF endianness DATA type "), Hexadecimal];
+pub const DATA_TYPE: &[Part] = &[Text("invalid ELF endianness DATA type "), Hexadecimal];
 /// The text of `Fault::Data`.
-pub const DATA: &[Piece] = &[Text("invalid ELF DATA type "), Hexadecimal];
+pub const DATA: &[Part] = &[Text("invalid ELF DATA type "), Hexadecimal];
 /// The text of `Fault::NoteAlign`.
-pub const NOTE_ALIGN: &[Piece] = &[
+pub const NOTE_ALIGN: &[Part] = &[
     Text("Notes has unimplemented alignment requirement: 0x"),
     Hexadecimal,
 ];
 /// The text of `Fault::SymtabOffset`.
-pub const SYMTAB_OFFSET: &[Piece] = &[
+pub const SYMTAB_OFFSET: &[Part] = &[
     Text("Symbol table offset ("),
     First,
     Text(") is beyond file boundary ("),
@@ -71,7 +71,7 @@ pub const SYMTAB_OFFSET: &[Piece] = &[
     Text(")"),
 ];
 /// The text of `Fault::TooManySymbols`.
-pub const TOO_MANY_SYMBOLS: &[Piece] = &[
+pub const TOO_MANY_SYMBOLS: &[Part] = &[
     Text("Too many ELF symbols (offset 0x"),
     Hexadecimal,
     Text(", count "),
@@ -79,7 +79,7 @@ pub const TOO_MANY_SYMBOLS: &[Piece] = &[
     Text(")"),
 ];
 /// The text of `Fault::SymtabPast`.
-pub const SYMTAB_PAST: &[Piece] = &[
+pub const SYMTAB_PAST: &[Part] = &[
     Text("Symbol table extends beyond file boundary (requested: "),
     First,
     Text(", available: "),
@@ -87,7 +87,7 @@ pub const SYMTAB_PAST: &[Piece] = &[
     Text(")"),
 ];
 /// The text of `Fault::StrtabOffset`.
-pub const STRTAB_OFFSET: &[Piece] = &[
+pub const STRTAB_OFFSET: &[Part] = &[
     Text("String table offset ("),
     First,
     Text(") is beyond file boundary ("),
@@ -95,7 +95,7 @@ pub const STRTAB_OFFSET: &[Piece] = &[
     Text(")"),
 ];
 /// The text of `Fault::StrtabRange`.
-pub const STRTAB_RANGE: &[Piece] = &[
+pub const STRTAB_RANGE: &[Part] = &[
     Text("Strtable size ("),
     First,
     Text(") + offset ("),
@@ -106,7 +106,7 @@ pub const STRTAB_RANGE: &[Piece] = &[
     Overflowed,
 ];
 /// The text of `Fault::SectionOffset`.
-pub const SECTION_OFFSET: &[Piece] = &[
+pub const SECTION_OFFSET: &[Part] = &[
     Text("Section "),
     First,
     Text(" size ("),
@@ -117,7 +117,7 @@ pub const SECTION_OFFSET: &[Piece] = &[
     Overflowed,
 ];
 /// The text of `Fault::SectionAddr`.
-pub const SECTION_ADDR: &[Piece] = &[
+pub const SECTION_ADDR: &[Part] = &[
     Text("Section "),
     First,
     Text(" size ("),
@@ -128,28 +128,28 @@ pub const SECTION_ADDR: &[Piece] = &[
     Overflowed,
 ];
 /// The text of `Fault::IntegerFit`.
-pub const INTEGER_FIT: &[Piece] = &[Text(
+pub const INTEGER_FIT: &[Part] = &[Text(
     "Integer do not fit: out of range integral type conversion attempted",
 )];
 /// The text of `Error::BadMagic`.
-pub const BAD_MAGIC: &[Piece] = &[Text("Invalid magic number: 0x"), Hexadecimal];
+pub const BAD_MAGIC: &[Part] = &[Text("Invalid magic number: 0x"), Hexadecimal];
 /// The text of `scroll::Error::TooBig`.
-pub const TOO_BIG: &[Piece] = &[Text("type is too big ("), First, Text(") for "), Second];
+pub const TOO_BIG: &[Part] = &[Text("type is too big ("), First, Text(") for "), Second];
 /// The text of `scroll::Error::BadOffset`.
-pub const BAD_OFFSET: &[Piece] = &[Text("bad offset "), First];
+pub const BAD_OFFSET: &[Part] = &[Text("bad offset "), First];
 /// The text of `scroll::Error::BadInput`.
-pub const BAD_INPUT: &[Piece] = &[Text("bad input "), Item, Text(" ("), First, Text(")")];
+pub const BAD_INPUT: &[Part] = &[Text("bad input "), Item, Text(" ("), First, Text(")")];
 /// The text of `Error::BufferTooShort`.
-pub const BUFFER_TOO_SHORT: &[Piece] = &[Text("Buffer is too short for "), First, Text(" "), Item];
+pub const BUFFER_TOO_SHORT: &[Part] = &[Text("Buffer is too short for "), First, Text(" "), Item];
 /// The text of `Error::Memory`.
-pub const MEMORY: &[Piece] = &[Text("Out of memory")];
+pub const MEMORY: &[Part] = &[Text("Out of memory")];
 
 impl Told {
-    // Writes a piece.
-    fn write_piece<W: fmt::Write>(&self, piece: &Piece, f: &mut fmt::Formatter<W>) -> fmt::Result
-        ensures { WritesOnOk W.write_str_gives f.old result (piece_text self.now piece.now) f.new }
+    // Writes a part.
+    fn write_part<W: fmt::Write>(&self, part: &Part, f: &mut fmt::Formatter<W>) -> fmt::Result
+        ensures { WritesOnOk W.write_str_gives f.old result (part_text self.now part.now) f.new }
     {
-        match piece {
+        match part {
             Text(text) => write!(f, "{text}"),
             First => write!(f, "{}", self.first),
             Second => write!(f, "{}", self.second),
@@ -166,8 +166,8 @@ impl fmt::Display for Told {
 
     fn fmt<W: fmt::Write>(&self, f: &mut fmt::Formatter<W>) -> fmt::Result {
         write!(f, "{}", self.before)?;
-        for piece in self.pieces {
-            self.write_piece(piece, f)?;
+        for part in self.parts {
+            self.write_part(part, f)?;
         }
         Ok(())
     }

@@ -1,4 +1,4 @@
-pub mod CutLemmas
+pub mod LaidLemmas
 pub mod DigitLemmas
 pub mod IndexLemmas
 pub mod KeptLemmas

@@ -22,7 +22,7 @@ use Rattle.goblin.specs.Sym.{sym_size}
 use Rattle.goblin.specs.Symtab.{symtab_of}
 use Rattle.goblin_c.specs.Answers.{ctx_of, header_told, is_mips64el, reloc_told, section_told, segment_told, symbol_told, header_right, section_by_type_right, section_count_right, section_right, segment_count_right, segment_right, symbol_right, reloc_right, string_right, symbol_count_right, reloc_count_right, sections_from_right, symbols_from_right, relocs_from_right, section_names_right, section_by_name_right, symbol_by_address_right, symbol_by_name_right, strings_right, table_of, table_right}
 use Rattle.goblin_c.specs.Bytes.{number_right, section_bytes_right, segment_bytes_right, string_bytes_right}
-use Rattle.goblin_c.specs.Cut.{cut}
+use Rattle.goblin_c.specs.Laid.{laid}
 use Rattle.goblin_c.specs.Notes.{note_right}
 use Rattle.goblin_c.specs.Status.{refusal_told}
 use Rattle.goblin_c.specs.Texts.{told_text}
@@ -233,10 +233,10 @@ IsFilled items old new =
 
 -- so is the room that calls fill with bytes, sections, symbols and relocations
 pub record RoomIsFilled : Type 0 where
-  pub bytes : (text old : List ℕ) → IsFilled text old (cut text old)
-  pub sections : (sections old : List GoblinSection) → IsFilled sections old (cut sections old)
-  pub symbols : (symbols old : List GoblinSymbol) → IsFilled symbols old (cut symbols old)
-  pub relocs : (relocs old : List GoblinReloc) → IsFilled relocs old (cut relocs old)
+  pub bytes : (text old : List ℕ) → IsFilled text old (laid text old)
+  pub sections : (sections old : List GoblinSection) → IsFilled sections old (laid sections old)
+  pub symbols : (symbols old : List GoblinSymbol) → IsFilled symbols old (laid symbols old)
+  pub relocs : (relocs old : List GoblinReloc) → IsFilled relocs old (laid relocs old)
 
 -- the bytes at the place that a call tells of a string are the string that the library reads among the strings there
 abbrev pub StringsAreThere : Type 0

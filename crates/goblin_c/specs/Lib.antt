@@ -1,6 +1,6 @@
 pub mod Answers
 pub mod Bytes
-pub mod Cut
+pub mod Laid
 pub mod Laws
 pub mod Layout
 pub mod Notes

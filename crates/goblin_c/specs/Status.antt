@@ -7,7 +7,7 @@ use Rattle.goblin_base.specs.declared.error.Fault.TheVariants as fault
 use Rattle.goblin_base.specs.Refusal.{Refusal, malformed, bad_magic, too_big, bad_offset, bad_input, buffer_too_short, out_of_memory, refusal_of}
 use Rattle.goblin_c.specs.declared.kinds.TheConstants.{OK, END, BAD_MAGIC, TOO_BIG, BAD_OFFSET, BAD_INPUT, BUFFER_TOO_SHORT, OUT_OF_MEMORY, INVALID_CLASS, INVALID_ENDIANNESS, TOO_SMALL, ELF_CLASS, DATA_TYPE, DATA, NOTE_ALIGN, SYMTAB_OFFSET, TOO_MANY_SYMBOLS, SYMTAB_PAST, STRTAB_OFFSET, STRTAB_RANGE, SECTION_OFFSET, SECTION_ADDR, INTEGER_FIT, INVALID_UTF8, SECTION_HEADERS, PROGRAM_HEADERS}
 use Rattle.goblin_c.specs.declared.types.GoblinRefusal.{GoblinRefusal}
-use Rattle.goblin_c.specs.Cut.{cut}
+use Rattle.goblin_c.specs.Laid.{laid}
 
 -- a refusal of a kind, with its numbers
 abbrev pub with_numbers : ℕ → ℕ → ℕ → ℕ → ℕ → GoblinRefusal
@@ -77,7 +77,7 @@ Tells (Err refusal) old was status new why =
 -- of it. All else is as it was.
 abbrev pub Fills : {X : Type 0} → Result (Option (List X)) Refusal → List X → ℕ → GoblinRefusal → ℕ → List X → ℕ → GoblinRefusal → Type 0
 Fills (Ok (Some xs)) old count was status new filled why =
-    (status ≡ OK) × (new ≡ cut xs old) × (filled ≡ min (length xs) (length old)) × (why ≡ was)
+    (status ≡ OK) × (new ≡ laid xs old) × (filled ≡ min (length xs) (length old)) × (why ≡ was)
 Fills (Ok None) old count was status new filled why = (status ≡ END) × (new ≡ old) × (filled ≡ count) × (why ≡ was)
 Fills (Err refusal) old count was status new filled why =
     (status ≡ (refusal_told refusal).kind) × (new ≡ old) × (filled ≡ count) × (why ≡ refusal_told refusal)

@@ -3,8 +3,8 @@ use Rattle.std.specs.Prelude.{◌≡◌, ◌⊎◌, ⊤, ℕ, Bool, true, ◌&&�
 use Rattle.std.specs.Option.{option_map}
 use Rattle.goblin_base.specs.declared.error.Fault.{Fault}
 use Rattle.goblin_base.specs.declared.error.Fault.TheVariants as fault
-use Rattle.goblin_base.specs.declared.texts.Piece.{Piece}
-use Rattle.goblin_base.specs.declared.texts.Piece.TheVariants as piece
+use Rattle.goblin_base.specs.declared.texts.Part.{Part}
+use Rattle.goblin_base.specs.declared.texts.Part.TheVariants as part
 use Rattle.goblin_base.specs.declared.texts.Told.{Told}
 use Rattle.goblin_base.specs.Refusal.{Refusal, malformed, bad_magic, too_big, bad_offset, bad_input, buffer_too_short, out_of_memory}
 use Rattle.goblin_base.specs.Texts.{refusal_text}
@@ -74,25 +74,25 @@ text_of_fault found = text_of (option_map malformed found)
 abbrev pub told_text : GoblinRefusal → List ℕ
 told_text why = text_of (refusal_from why)
 
--- a piece of at most 100 bytes: but for a text any one is
-abbrev pub is_short : Told → Piece → Bool
-is_short told (piece.Text text) = nat_le (length text.now) 100
-is_short told piece.Item = nat_le (length told.item.now) 100
-is_short told piece.First = true
-is_short told piece.Second = true
-is_short told piece.Third = true
-is_short told piece.Hexadecimal = true
-is_short told piece.Overflowed = true
+-- a part of at most 100 bytes: but for a text any one is
+abbrev pub is_short : Told → Part → Bool
+is_short told (part.Text text) = nat_le (length text.now) 100
+is_short told part.Item = nat_le (length told.item.now) 100
+is_short told part.First = true
+is_short told part.Second = true
+is_short told part.Third = true
+is_short told part.Hexadecimal = true
+is_short told part.Overflowed = true
 
--- each piece is short
-abbrev pub are_short : Told → List Piece → Bool
+-- each part is short
+abbrev pub are_short : Told → List Part → Bool
 are_short told [] = true
 are_short told (p ∷ rest) = is_short told p && are_short told rest
 
--- a text of at most 16 short pieces
+-- a text of at most 16 short parts
 abbrev pub is_brief : Told → Bool
 is_brief told =
-    nat_le (length told.before.now) 100 && nat_le (length told.pieces.now) 16 && are_short told told.pieces.now
+    nat_le (length told.before.now) 100 && nat_le (length told.parts.now) 16 && are_short told told.parts.now
 
 -- the refusals whose whole text C can be told: such a one names no text, or one that has a number
 abbrev pub NamesKnown : Refusal → Type 0

@@ -5,7 +5,7 @@
 ghost use Rattle.std.specs.Prelude.{◌≡◌, length};
 ghost use Rattle.goblin_c.specs.Answers.{header_right, reloc_count_right, reloc_right, section_by_type_right, section_count_right, section_right, segment_count_right, segment_right, string_right, symbol_count_right, symbol_right, relocs_from_right, sections_from_right, symbols_from_right, section_by_name_right, section_names_right, symbol_by_address_right, symbol_by_name_right, table_right};
 ghost use Rattle.goblin_c.specs.Bytes.{number_right, section_bytes_right, segment_bytes_right, string_bytes_right};
-ghost use Rattle.goblin_c.specs.Cut.{cut};
+ghost use Rattle.goblin_c.specs.Laid.{laid};
 ghost use Rattle.goblin_c.specs.Layout.{layout};
 ghost use Rattle.goblin_c.specs.Notes.{note_right};
 ghost use Rattle.goblin_c.specs.Status.{Fills, Tells};
@@ -201,7 +201,7 @@ pub extern "C" fn goblin_note(
 /// The name of a class.
 #[unsafe(no_mangle)]
 pub extern "C" fn goblin_class_to_str(ei_class: u8, text: &mut [u8]) -> u64
-    ensures written { text.new ≡ cut (class_name ei_class) text.old }
+    ensures written { text.new ≡ laid (class_name ei_class) text.old }
     ensures whole { result ≡ length (class_name ei_class) }
 {
     write_text(class_to_str(ei_class), text)
@@ -210,7 +210,7 @@ pub extern "C" fn goblin_class_to_str(ei_class: u8, text: &mut [u8]) -> u64
 /// The name of a file's type.
 #[unsafe(no_mangle)]
 pub extern "C" fn goblin_et_to_str(e_type: u16, text: &mut [u8]) -> u64
-    ensures written { text.new ≡ cut (file_type_name e_type) text.old }
+    ensures written { text.new ≡ laid (file_type_name e_type) text.old }
     ensures whole { result ≡ length (file_type_name e_type) }
 {
     write_text(et_to_str(e_type), text)
@@ -219,7 +219,7 @@ pub extern "C" fn goblin_et_to_str(e_type: u16, text: &mut [u8]) -> u64
 /// The name of a machine.
 #[unsafe(no_mangle)]
 pub extern "C" fn goblin_machine_to_str(e_machine: u16, text: &mut [u8]) -> u64
-    ensures written { text.new ≡ cut (machine_name e_machine) text.old }
+    ensures written { text.new ≡ laid (machine_name e_machine) text.old }
     ensures whole { result ≡ length (machine_name e_machine) }
 {
     write_text(machine_to_str(e_machine), text)
@@ -228,7 +228,7 @@ pub extern "C" fn goblin_machine_to_str(e_machine: u16, text: &mut [u8]) -> u64
 /// The name of a segment's type.
 #[unsafe(no_mangle)]
 pub extern "C" fn goblin_pt_to_str(p_type: u32, text: &mut [u8]) -> u64
-    ensures written { text.new ≡ cut (segment_name p_type) text.old }
+    ensures written { text.new ≡ laid (segment_name p_type) text.old }
     ensures whole { result ≡ length (segment_name p_type) }
 {
     write_text(pt_to_str(p_type), text)
@@ -237,7 +237,7 @@ pub extern "C" fn goblin_pt_to_str(p_type: u32, text: &mut [u8]) -> u64
 /// The name of a section's type.
 #[unsafe(no_mangle)]
 pub extern "C" fn goblin_sht_to_str(sh_type: u32, text: &mut [u8]) -> u64
-    ensures written { text.new ≡ cut (section_name sh_type) text.old }
+    ensures written { text.new ≡ laid (section_name sh_type) text.old }
     ensures whole { result ≡ length (section_name sh_type) }
 {
     write_text(sht_to_str(sh_type), text)
@@ -246,7 +246,7 @@ pub extern "C" fn goblin_sht_to_str(sh_type: u32, text: &mut [u8]) -> u64
 /// The name of one flag of a section.
 #[unsafe(no_mangle)]
 pub extern "C" fn goblin_shf_to_str(flag: u32, text: &mut [u8]) -> u64
-    ensures written { text.new ≡ cut (section_flag_name flag) text.old }
+    ensures written { text.new ≡ laid (section_flag_name flag) text.old }
     ensures whole { result ≡ length (section_flag_name flag) }
 {
     write_text(shf_to_str(flag), text)
@@ -255,7 +255,7 @@ pub extern "C" fn goblin_shf_to_str(flag: u32, text: &mut [u8]) -> u64
 /// The name of a symbol's binding.
 #[unsafe(no_mangle)]
 pub extern "C" fn goblin_bind_to_str(binding: u8, text: &mut [u8]) -> u64
-    ensures written { text.new ≡ cut (bind_name binding) text.old }
+    ensures written { text.new ≡ laid (bind_name binding) text.old }
     ensures whole { result ≡ length (bind_name binding) }
 {
     write_text(bind_to_str(binding), text)
@@ -264,7 +264,7 @@ pub extern "C" fn goblin_bind_to_str(binding: u8, text: &mut [u8]) -> u64
 /// The name of a symbol's type.
 #[unsafe(no_mangle)]
 pub extern "C" fn goblin_type_to_str(typ: u8, text: &mut [u8]) -> u64
-    ensures written { text.new ≡ cut (type_name typ) text.old }
+    ensures written { text.new ≡ laid (type_name typ) text.old }
     ensures whole { result ≡ length (type_name typ) }
 {
     write_text(type_to_str(typ), text)
@@ -273,7 +273,7 @@ pub extern "C" fn goblin_type_to_str(typ: u8, text: &mut [u8]) -> u64
 /// The name of a symbol's visibility.
 #[unsafe(no_mangle)]
 pub extern "C" fn goblin_visibility_to_str(visibility: u8, text: &mut [u8]) -> u64
-    ensures written { text.new ≡ cut (visibility_name visibility) text.old }
+    ensures written { text.new ≡ laid (visibility_name visibility) text.old }
     ensures whole { result ≡ length (visibility_name visibility) }
 {
     write_text(visibility_to_str(visibility), text)
@@ -282,7 +282,7 @@ pub extern "C" fn goblin_visibility_to_str(visibility: u8, text: &mut [u8]) -> u
 /// The name of a note's type, which the note's name gives its meaning.
 #[unsafe(no_mangle)]
 pub extern "C" fn goblin_note_type_to_str(name: &[u8], n_type: u32, text: &mut [u8]) -> u64
-    ensures written { text.new ≡ cut (note_type_name name.now n_type) text.old }
+    ensures written { text.new ≡ laid (note_type_name name.now n_type) text.old }
     ensures whole { result ≡ length (note_type_name name.now n_type) }
 {
     write_text(note_type(name, n_type), text)
@@ -291,7 +291,7 @@ pub extern "C" fn goblin_note_type_to_str(name: &[u8], n_type: u32, text: &mut [
 /// The text of a refusal.
 #[unsafe(no_mangle)]
 pub extern "C" fn goblin_refusal_text(why: &GoblinRefusal, text: &mut [u8]) -> u64
-    ensures written { text.new ≡ cut (told_text why.now) text.old }
+    ensures written { text.new ≡ laid (told_text why.now) text.old }
     ensures whole { result ≡ length (told_text why.now) }
 {
     write_refusal(why, text)

@@ -3,7 +3,7 @@
 ghost use Rattle.std.specs.Prelude.{◌≡◌, ◌-◌, ◌<◌, List, drop, length, min, slice_get};
 ghost use Rattle.goblin.specs.Refusal.{Answers};
 ghost use Rattle.goblin_c.specs.Answers.{count_of, item_of, items_from};
-ghost use Rattle.goblin_c.specs.Cut.{cut};
+ghost use Rattle.goblin_c.specs.Laid.{laid};
 ghost use Rattle.goblin_c.specs.Status.{Fills, told_of};
 
 use crate::kinds::{END, OK};
@@ -43,10 +43,10 @@ pub fn item_of<L: Listed>(list: Result<L>, index: u64) -> Result<Option<L::Told>
 }
 
 // Fills room with the items from an index on, and answers how many there was room for.
-#[tactic(auto, using(crate::proofs::CutLemmas::cut_steps))]
+#[tactic(auto, using(crate::proofs::LaidLemmas::laid_steps))]
 fn fill<L: Listed>(all: &L, first: usize, room: &mut [L::Told]) -> usize
     requires { first < length (L.listed all.now) }
-    ensures filled { room.new ≡ cut (drop first (L.listed all.now)) room.old }
+    ensures filled { room.new ≡ laid (drop first (L.listed all.now)) room.old }
     ensures count { result ≡ min (length (L.listed all.now) - first) (length room.old) }
 {
     let count = room.len().min(all.count() - first);

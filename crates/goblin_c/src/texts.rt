@@ -1,27 +1,27 @@
 //! The text of a refusal, written into bytes of the caller's.
 ghost use Rattle.std.specs.Prelude.{◌≡◌, ◌+◌, ◌≤◌, ◌<◌, ◌^◌, ◌++◌, ◌==◌, IsTrue, false, not, drop, length, take};
 ghost use Rattle.std.specs.Fmt.{digit_glyph, digits};
-ghost use Rattle.goblin_base.specs.Texts.{piece_text, told_text as text_of_told, word_of};
-ghost use Rattle.goblin_c.specs.Cut.{cut};
+ghost use Rattle.goblin_base.specs.Texts.{part_text, told_text as text_of_told, word_of};
+ghost use Rattle.goblin_c.specs.Laid.{laid};
 ghost use Rattle.goblin_c.specs.Texts.{is_brief, is_short, item_text, told_text, fault_from, range_fault_from, table_fault_from, text_of_fault, TextIsKept};
 
 use crate::kinds;
 use crate::types::GoblinRefusal;
 use crate::writer::write_bytes;
 use goblin_base::texts;
-use goblin_base::texts::{Piece, Told};
+use goblin_base::texts::{Part, Told};
 
 // Writes as much as there is room for behind the bytes so far, and answers how many they are then.
-#[tactic(auto, using(crate::proofs::CutLemmas::cut_steps))]
-fn write_part(part: &[u8], len: u64, room: &mut [u8]) -> u64
-    requires { len + length part.now < 2 ^ 64 }
-    ensures written { room.new ≡ take len room.old ++ cut part.now (drop len room.old) }
-    ensures whole { result ≡ len + length part.now }
+#[tactic(auto, using(crate::proofs::LaidLemmas::laid_steps))]
+fn write_behind(text: &[u8], len: u64, room: &mut [u8]) -> u64
+    requires { len + length text.now < 2 ^ 64 }
+    ensures written { room.new ≡ take len room.old ++ laid text.now (drop len room.old) }
+    ensures whole { result ≡ len + length text.now }
 {
     if len < room.len() as u64 {
-        write_bytes(part, &mut room[len as usize..]);
+        write_bytes(text, &mut room[len as usize..]);
     }
-    len + part.len() as u64
+    len + text.len() as u64
 }
 
 // The digit of a number below 16.
@@ -59,13 +59,13 @@ fn write_digits(n: u64, base: u64, buffer: &mut [u8; 64]) -> usize
 fn write_number(n: u64, base: u64, len: u64, room: &mut [u8]) -> u64
     requires base { (2 ≤ base) × (base ≤ 16) }
     requires few { len ≤ 1000000 }
-    ensures written { room.new ≡ take len room.old ++ cut (digits base false n) (drop len room.old) }
+    ensures written { room.new ≡ take len room.old ++ laid (digits base false n) (drop len room.old) }
     ensures whole { result ≡ len + length (digits base false n) }
     ensures near { result ≤ len + 64 }
 {
     let mut buffer = [0; 64];
     let start = write_digits(n, base, &mut buffer);
-    write_part(&buffer[start..], len, room)
+    write_behind(&buffer[start..], len, room)
 }
 
 // A truth value as a word.
@@ -89,47 +89,47 @@ fn item_of(item: u32) -> &'static str
     }
 }
 
-// Writes a piece behind the bytes so far, and answers how many they are then.
-fn write_piece(told: &Told, piece: &Piece, len: u64, room: &mut [u8]) -> u64
-    requires short { IsTrue (is_short told.now piece.now) }
+// Writes a part behind the bytes so far, and answers how many they are then.
+fn write_part(told: &Told, part: &Part, len: u64, room: &mut [u8]) -> u64
+    requires short { IsTrue (is_short told.now part.now) }
     requires few { len ≤ 1000000 }
-    ensures written { room.new ≡ take len room.old ++ cut (piece_text told.now piece.now) (drop len room.old) }
-    ensures whole { result ≡ len + length (piece_text told.now piece.now) }
+    ensures written { room.new ≡ take len room.old ++ laid (part_text told.now part.now) (drop len room.old) }
+    ensures whole { result ≡ len + length (part_text told.now part.now) }
     ensures near { result ≤ len + 100 }
 {
-    match piece {
-        Piece::Text(text) => write_part(text.as_bytes(), len, room),
-        Piece::First => write_number(told.first, 10, len, room),
-        Piece::Second => write_number(told.second, 10, len, room),
-        Piece::Third => write_number(told.third, 10, len, room),
-        Piece::Hexadecimal => write_number(told.first, 16, len, room),
-        Piece::Item => write_part(told.item.as_bytes(), len, room),
-        Piece::Overflowed => write_part(word_of(told.overflowed).as_bytes(), len, room),
+    match part {
+        Part::Text(text) => write_behind(text.as_bytes(), len, room),
+        Part::First => write_number(told.first, 10, len, room),
+        Part::Second => write_number(told.second, 10, len, room),
+        Part::Third => write_number(told.third, 10, len, room),
+        Part::Hexadecimal => write_number(told.first, 16, len, room),
+        Part::Item => write_behind(told.item.as_bytes(), len, room),
+        Part::Overflowed => write_behind(word_of(told.overflowed).as_bytes(), len, room),
     }
 }
 
 // Writes as much of a text as there is room for, and answers how long the whole text is.
 fn write_told(told: &Told, room: &mut [u8]) -> u64
     requires brief { IsTrue (is_brief told.now) }
-    ensures written { room.new ≡ cut (text_of_told told.now) room.old }
+    ensures written { room.new ≡ laid (text_of_told told.now) room.old }
     ensures whole { result ≡ length (text_of_told told.now) }
 {
-    let mut len = write_part(told.before.as_bytes(), 0, room);
-    for piece in told.pieces {
-        len = write_piece(told, piece, len, room);
+    let mut len = write_behind(told.before.as_bytes(), 0, room);
+    for part in told.parts {
+        len = write_part(told, part, len, room);
     }
     len
 }
 
-// What C is told, with the pieces of its text.
-fn told_by(why: &GoblinRefusal, before: &'static str, pieces: &'static [Piece]) -> Told
-    ensures numbers { result ≡ record { before = before.entry; pieces = pieces.entry; item = result.item; first = why.now.first; second = why.now.second; third = why.now.third; overflowed = not (why.now.fourth == 0) } }
+// What C is told, with the parts of its text.
+fn told_by(why: &GoblinRefusal, before: &'static str, parts: &'static [Part]) -> Told
+    ensures numbers { result ≡ record { before = before.entry; parts = parts.entry; item = result.item; first = why.now.first; second = why.now.second; third = why.now.third; overflowed = not (why.now.fourth == 0) } }
     ensures item { result.item.now ≡ item_text why.now.item }
     ensures short { length result.item.now ≤ 15 }
 {
     Told {
         before,
-        pieces,
+        parts,
         item: item_of(why.item),
         first: why.first,
         second: why.second,
@@ -201,7 +201,7 @@ fn refusal(why: &GoblinRefusal) -> Told
 
 /// Writes as much of a refusal's text as there is room for, and answers how long the whole text is.
 pub fn write_refusal(why: &GoblinRefusal, text: &mut [u8]) -> u64
-    ensures written { text.new ≡ cut (told_text why.now) text.old }
+    ensures written { text.new ≡ laid (told_text why.now) text.old }
     ensures whole { result ≡ length (told_text why.now) }
 {
     write_told(&refusal(why), text)

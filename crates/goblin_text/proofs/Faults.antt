@@ -39,16 +39,16 @@ module _ (bytes : List ℕ) where
 
   -- ---- pieces of a front that is text
   -- it may be cut where a piece begins
-  cut_at_start : (p o : ℕ) → p ≤ length bytes → IsUtf8 (take p bytes) → o ≤ p → piece_start bytes 0 o ≡ o → IsCharBoundary (take p bytes) o
-  cut_at_start p zero w front l h = IsCharBoundary-start (take p bytes) front
-  cut_at_start p (suc o) w front l h =
+  boundary_at_start : (p o : ℕ) → p ≤ length bytes → IsUtf8 (take p bytes) → o ≤ p → piece_start bytes 0 o ≡ o → IsCharBoundary (take p bytes) o
+  boundary_at_start p zero w front l h = IsCharBoundary-start (take p bytes) front
+  boundary_at_start p (suc o) w front l h =
       let size = length-take-le p bytes w in
       let z : get_or (take p bytes) o 0 ≡ 0 = get_or-take p bytes o 0 (omega arith) ∙ eqb-true _ _ (delim_before bytes 0 o h) in
       let next : o + 1 ≡ suc o = omega arith in
       subst (IsCharBoundary (take p bytes)) next (IsCharBoundary-after_ascii (take p bytes) o front (omega (arith, size)) (omega (arith, z)))
 
   up_to_start : (p o : ℕ) → p ≤ length bytes → IsUtf8 (take p bytes) → o ≤ p → piece_start bytes 0 o ≡ o → IsUtf8 (take o bytes)
-  up_to_start p o w front l h = subst IsUtf8 (take-take o p bytes l) (IsUtf8-take (take p bytes) o front (cut_at_start p o w front l h))
+  up_to_start p o w front l h = subst IsUtf8 (take-take o p bytes l) (IsUtf8-take (take p bytes) o front (boundary_at_start p o w front l h))
 
   -- and where one ends
   up_to_end : (p o : ℕ) → p ≤ length bytes → IsUtf8 (take p bytes) → o ≤ length bytes → piece_end bytes 0 o ≤ p → IsUtf8 (take (piece_end bytes 0 o) bytes)
@@ -70,7 +70,7 @@ module _ (bytes : List ℕ) where
       let e = piece_end bytes 0 o in
       let from : o ≤ e = end_from bytes 0 o in
       let head : IsUtf8 (take e bytes) = up_to_end p o w front (omega (arith, from, m, w)) m in
-      let rest : IsUtf8 (drop o (take e bytes)) = IsUtf8-drop (take e bytes) o head (cut_at_start e o (omega (arith, m, w)) head from h) in
+      let rest : IsUtf8 (drop o (take e bytes)) = IsUtf8-drop (take e bytes) o head (boundary_at_start e o (omega (arith, m, w)) head from h) in
       let len : e ≡ o + (e - o) = omega (arith, from) in
       let is : drop o (take e bytes) ≡ piece bytes 0 o = ap (λ n. drop o (take n bytes)) len ∙ drop-take o (e - o) bytes ∙ sym (piece_is_range bytes 0 o) in
       is_utf8-from_IsUtf8 _ (subst IsUtf8 is rest)

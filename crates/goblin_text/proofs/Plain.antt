@@ -13,10 +13,10 @@ use Rattle.std.specs.Option.{IfSome, MatchOption, unwrap_or}
 use Rattle.std.specs.Str.{IsUtf8, IsCharBoundary}
 use lib.Utf8.{encode, encodes, scalar, scalars}
 use Rattle.goblin.specs.TextLaws.{texts-join}
-use Rattle.goblin_text.proofs.Blocks.{cut_bounds}
+use Rattle.goblin_text.proofs.Blocks.{edge_bounds}
 use Rattle.goblin_text.specs.declared.runs.Kind.{Kind}
 use Rattle.goblin_text.specs.declared.runs.Kind.TheVariants.{Plain, Text}
-use Rattle.goblin_text.specs.Runs.{IsBlock, IsOf, IsPlain, IsRun, LacksText, cut, past, up_to_zero}
+use Rattle.goblin_text.specs.Runs.{IsBlock, IsOf, IsPlain, IsRun, LacksText, edge, past, up_to_zero}
 
 -- ---- up to a zero byte
 abbrev no_zero : ℕ → Bool
@@ -172,8 +172,8 @@ steps_on bytes p h = ⊎_elim
     (past_is bytes p)
 
 -- what stands between a place and where characters begin behind it goes on with one
-between : (bytes : List ℕ) (p q : ℕ) → p ≤ q → q < cut bytes p → goes_on_with (get_or bytes q 0)
-unfolding cut
+between : (bytes : List ℕ) (p q : ℕ) → p ≤ q → q < edge bytes p → goes_on_with (get_or bytes q 0)
+unfolding edge
 between bytes p q l h =
     let a = past bytes p in
     let b = past bytes a in
@@ -183,18 +183,18 @@ between bytes p q l h =
     (cases_lt q a)
 
 -- if a byte goes on with a character where a block's characters begin, the three before it do too
-four : (bytes : List ℕ) (b : ℕ) → goes_on_with (get_or bytes (cut bytes b) 0) → (cut bytes b ≡ b + 3) × ((j : ℕ) → b ≤ j → j ≤ b + 3 → goes_on_with (get_or bytes j 0))
-unfolding cut
+four : (bytes : List ℕ) (b : ℕ) → goes_on_with (get_or bytes (edge bytes b) 0) → (edge bytes b ≡ b + 3) × ((j : ℕ) → b ≤ j → j ≤ b + 3 → goes_on_with (get_or bytes j 0))
+unfolding edge
 four bytes b h =
     let z = steps_on bytes (past bytes (past bytes b)) h in
     let y = steps_on bytes (past bytes b) z.1 in
     let x = steps_on bytes b y.1 in
-    let far : cut bytes b ≡ b + 3 = omega (arith, x.0, y.0, z.0) in (
+    let far : edge bytes b ≡ b + 3 = omega (arith, x.0, y.0, z.0) in (
       far,
       λ j l m. ⊎_elim
-          (λ (s : j < cut bytes b). between bytes b j l s)
-          (λ (s : cut bytes b ≤ j). let e : cut bytes b ≡ j = omega arith in subst (λ k. goes_on_with (get_or bytes k 0)) e h)
-          (cases_lt j (cut bytes b)),
+          (λ (s : j < edge bytes b). between bytes b j l s)
+          (λ (s : edge bytes b ≤ j). let e : edge bytes b ≡ j = omega arith in subst (λ k. goes_on_with (get_or bytes k 0)) e h)
+          (cases_lt j (edge bytes b)),
     )
 
 -- a byte of what stands before the first zero byte of a range
@@ -207,15 +207,15 @@ get_up bytes i e m l =
     get_or-take (first_zero s) s m 0 n ∙ get_range bytes i e m room
 
 -- a text that holds the bytes from a place on may be cut where a block's characters begin
-cut-boundary : (bytes x : List ℕ) (i p : ℕ) → i ≤ p → cut bytes p - i ≤ length x → IsUtf8 x → ((m : ℕ) → m < length x → get_or x m 0 ≡ get_or bytes (i + m) 0) → IsCharBoundary x (cut bytes p - i)
-cut-boundary bytes x i p l size u is =
-    let bounds = cut_bounds bytes p in
-    let n = cut bytes p - i in (
+edge-boundary : (bytes x : List ℕ) (i p : ℕ) → i ≤ p → edge bytes p - i ≤ length x → IsUtf8 x → ((m : ℕ) → m < length x → get_or x m 0 ≡ get_or bytes (i + m) 0) → IsCharBoundary x (edge bytes p - i)
+edge-boundary bytes x i p l size u is =
+    let bounds = edge_bounds bytes p in
+    let n = edge bytes p - i in (
       size,
       λ some from. ⊎_elim
           (λ (low : get_or x n 0 < 192).
-          let there : i + n ≡ cut bytes p = omega arith in
-          let byte : get_or x n 0 ≡ get_or bytes (cut bytes p) 0 = is n some ∙ ap (λ q. get_or bytes q 0) there in
+          let there : i + n ≡ edge bytes p = omega arith in
+          let byte : get_or x n 0 ≡ get_or bytes (edge bytes p) 0 = is n some ∙ ap (λ q. get_or bytes q 0) there in
           let all_four = four bytes p (omega arith, omega arith) in
           let at = near_text x (n - 3) u (omega arith) in
           let place : at.0 < length x = omega (arith, at.2, all_four.0) in
@@ -227,22 +227,22 @@ cut-boundary bytes x i p l size u is =
     )
 
 -- what lacks text up to the end of a block lacks it also where more follows
-pub lacks-on : (bytes : List ℕ) (i k e : ℕ) → i ≤ k → cut bytes k ≤ e → e ≤ length bytes → LacksText (slice_range bytes i (cut bytes k)) → LacksText (slice_range bytes i e)
+pub lacks-on : (bytes : List ℕ) (i k e : ℕ) → i ≤ k → edge bytes k ≤ e → e ≤ length bytes → LacksText (slice_range bytes i (edge bytes k)) → LacksText (slice_range bytes i e)
 lacks-on bytes i k e l m h lacks = λ u.
-    let bounds = cut_bounds bytes k in
-    let a = slice_range bytes i (cut bytes k) in
-    let r = slice_range bytes (cut bytes k) e in
-    let is : slice_range bytes i e ≡ a ++ r = split bytes i (cut bytes k) e (omega arith) m in
-    let size : length a ≡ cut bytes k - i = length-range bytes i (cut bytes k) (omega arith) (omega arith) in
+    let bounds = edge_bounds bytes k in
+    let a = slice_range bytes i (edge bytes k) in
+    let r = slice_range bytes (edge bytes k) e in
+    let is : slice_range bytes i e ≡ a ++ r = split bytes i (edge bytes k) e (omega arith) m in
+    let size : length a ≡ edge bytes k - i = length-range bytes i (edge bytes k) (omega arith) (omega arith) in
     ⊎_elim
     (λ (short : length (up_to_zero a) < length a). lacks (subst IsUtf8 (ap up_to_zero is ∙ stops a r short) u))
     (λ (all : length a ≤ length (up_to_zero a)).
     let x = up_to_zero (slice_range bytes i e) in
     let joined : x ≡ a ++ up_to_zero r = ap up_to_zero is ∙ goes_on a r all in
     let long : length x ≡ length a + length (up_to_zero r) = ap length joined ∙ length-append a (up_to_zero r) in
-    let boundary = cut-boundary bytes x i k l (omega arith) u (get_up bytes i e) in
-    let front : take (cut bytes k - i) x ≡ up_to_zero a = ap (λ n. take n x) (sym size) ∙ ap (take (length a)) joined ∙ take-append_seam a (up_to_zero r) ∙ sym (whole a all) in
-    lacks (subst IsUtf8 front (IsUtf8-take x (cut bytes k - i) u boundary)))
+    let boundary = edge-boundary bytes x i k l (omega arith) u (get_up bytes i e) in
+    let front : take (edge bytes k - i) x ≡ up_to_zero a = ap (λ n. take n x) (sym size) ∙ ap (take (length a)) joined ∙ take-append_seam a (up_to_zero r) ∙ sym (whole a all) in
+    lacks (subst IsUtf8 front (IsUtf8-take x (edge bytes k - i) u boundary)))
     (cases_lt (length (up_to_zero a)) (length a))
 
 -- what lacks text behind text with no zero byte, and with it
@@ -255,32 +255,32 @@ kinds-join Text bytes i j k l m p q = texts-join bytes i j k l m p q
 kinds-join Plain bytes i j k l m p q = subst IsPlain (sym (split bytes i j k l m)) (plain-join _ _ p q)
 
 -- what is of a kind up to a run of blocks, and the run
-pub of_up_to : (kind : Kind) (bytes : List ℕ) (i a b : ℕ) → i ≤ a * 512 → a ≤ b → IsOf kind (slice_range bytes i (cut bytes (a * 512))) → IsRun kind bytes a b → IsOf kind (slice_range bytes i (cut bytes (b * 512)))
+pub of_up_to : (kind : Kind) (bytes : List ℕ) (i a b : ℕ) → i ≤ a * 512 → a ≤ b → IsOf kind (slice_range bytes i (edge bytes (a * 512))) → IsRun kind bytes a b → IsOf kind (slice_range bytes i (edge bytes (b * 512)))
 unfolding IsBlock
 of_up_to kind bytes i a b l m p run =
     let e : a + (b - a) ≡ b = omega arith in
-    subst (λ x. IsOf kind (slice_range bytes i (cut bytes (x * 512)))) e (by (b - a) (λ j from to. run j from (omega arith)))
+    subst (λ x. IsOf kind (slice_range bytes i (edge bytes (x * 512)))) e (by (b - a) (λ j from to. run j from (omega arith)))
   where
-    by : (n : ℕ) → IsRun kind bytes a (a + n) → IsOf kind (slice_range bytes i (cut bytes ((a + n) * 512)))
-    by zero run = let e : a ≡ a + 0 = omega arith in subst (λ x. IsOf kind (slice_range bytes i (cut bytes (x * 512)))) e p
+    by : (n : ℕ) → IsRun kind bytes a (a + n) → IsOf kind (slice_range bytes i (edge bytes ((a + n) * 512)))
+    by zero run = let e : a ≡ a + 0 = omega arith in subst (λ x. IsOf kind (slice_range bytes i (edge bytes (x * 512)))) e p
     by (suc n) run =
         let k = a + n in
-        let here = cut_bounds bytes (k * 512) in
-        let next = cut_bounds bytes ((k + 1) * 512) in
+        let here = edge_bounds bytes (k * 512) in
+        let next = edge_bounds bytes ((k + 1) * 512) in
         let e : k + 1 ≡ a + suc n = omega arith in
-        subst (λ x. IsOf kind (slice_range bytes i (cut bytes (x * 512)))) e
-        (kinds-join kind bytes i (cut bytes (k * 512)) (cut bytes ((k + 1) * 512)) (omega arith) (omega arith) (by n (λ j from to. run j from (omega arith))) (run k (omega arith) (omega arith)))
+        subst (λ x. IsOf kind (slice_range bytes i (edge bytes (x * 512)))) e
+        (kinds-join kind bytes i (edge bytes (k * 512)) (edge bytes ((k + 1) * 512)) (omega arith) (omega arith) (by n (λ j from to. run j from (omega arith))) (run k (omega arith) (omega arith)))
 
 -- ---- text that is cut at the edge of a block
 -- a text may be cut where a block's characters begin
-pub text-cut : (bytes : List ℕ) (i p k : ℕ) → i ≤ p → p + 3 ≤ k → k ≤ length bytes → IsUtf8 (slice_range bytes i k) → IsUtf8 (slice_range bytes i (cut bytes p)) × IsUtf8 (slice_range bytes (cut bytes p) k)
-text-cut bytes i p k l m h u =
-    let bounds = cut_bounds bytes p in
-    let n = cut bytes p - i in
+pub text-edge : (bytes : List ℕ) (i p k : ℕ) → i ≤ p → p + 3 ≤ k → k ≤ length bytes → IsUtf8 (slice_range bytes i k) → IsUtf8 (slice_range bytes i (edge bytes p)) × IsUtf8 (slice_range bytes (edge bytes p) k)
+text-edge bytes i p k l m h u =
+    let bounds = edge_bounds bytes p in
+    let n = edge bytes p - i in
     let x = slice_range bytes i k in
     let size : length x ≡ k - i = length-range bytes i k (omega arith) h in
-    let place : i + n ≡ cut bytes p = omega arith in
-    let boundary = cut-boundary bytes x i p l (omega arith) u (λ q short. get_range bytes i k q (omega arith)) in (
+    let place : i + n ≡ edge bytes p = omega arith in
+    let boundary = edge-boundary bytes x i p l (omega arith) u (λ q short. get_range bytes i k q (omega arith)) in (
       subst IsUtf8 (take-take n (k - i) (drop i bytes) (omega arith)) (IsUtf8-take x n u boundary),
       subst IsUtf8 (rest_of_range bytes i k n (omega arith) ∙ ap (λ c. slice_range bytes c k) place) (IsUtf8-drop x n u boundary),
     )
@@ -289,9 +289,9 @@ text-cut bytes i p k l m h u =
 pub block_of_text : (bytes : List ℕ) (i k e : ℕ) → i ≤ e * 512 → (e + 1) * 512 + 3 ≤ k → k ≤ length bytes → IsUtf8 (slice_range bytes i k) → IsBlock Text bytes e
 unfolding IsBlock
 block_of_text bytes i k e l m h u =
-    let bounds = cut_bounds bytes (e * 512) in
-    let behind = (text-cut bytes i (e * 512) k l (omega arith) h u).1 in
-    (text-cut bytes (cut bytes (e * 512)) ((e + 1) * 512) k (omega arith) m h behind).0
+    let bounds = edge_bounds bytes (e * 512) in
+    let behind = (text-edge bytes i (e * 512) k l (omega arith) h u).1 in
+    (text-edge bytes (edge bytes (e * 512)) ((e + 1) * 512) k (omega arith) m h behind).0
 
 -- ---- zero bytes
 -- bytes of which none is zero
@@ -308,16 +308,16 @@ whole_no_zero a m is l = λ z.
     absurd (both_ways _ f (eq-eqb _ _ z))
 
 -- no zero byte stands up to where a block's characters begin, where none stands near
-pub whole-cut : (bytes : List ℕ) (i p near : ℕ) → i ≤ p → p ≤ near → near ≤ length bytes → cut bytes p ≤ length bytes → up_to_zero (slice_range bytes i near) ≡ slice_range bytes i near → up_to_zero (slice_range bytes i (cut bytes p)) ≡ slice_range bytes i (cut bytes p)
-whole-cut bytes i p near l m h k is =
-    let bounds = cut_bounds bytes p in
+pub whole-edge : (bytes : List ℕ) (i p near : ℕ) → i ≤ p → p ≤ near → near ≤ length bytes → edge bytes p ≤ length bytes → up_to_zero (slice_range bytes i near) ≡ slice_range bytes i near → up_to_zero (slice_range bytes i (edge bytes p)) ≡ slice_range bytes i (edge bytes p)
+whole-edge bytes i p near l m h k is =
+    let bounds = edge_bounds bytes p in
     let size : length (slice_range bytes i near) ≡ near - i = length-range bytes i near (omega arith) h in
-    let length-cut : length (slice_range bytes i (cut bytes p)) ≡ cut bytes p - i = length-range bytes i (cut bytes p) (omega arith) k in
-    no_zero_whole (slice_range bytes i (cut bytes p)) (λ q n z.
-    let byte : get_or bytes (i + q) 0 ≡ 0 = sym (get_range bytes i (cut bytes p) q (omega (arith, n, length-cut))) ∙ z in
+    let length-edge : length (slice_range bytes i (edge bytes p)) ≡ edge bytes p - i = length-range bytes i (edge bytes p) (omega arith) k in
+    no_zero_whole (slice_range bytes i (edge bytes p)) (λ q n z.
+    let byte : get_or bytes (i + q) 0 ≡ 0 = sym (get_range bytes i (edge bytes p) q (omega (arith, n, length-edge))) ∙ z in
     ⊎_elim
     (λ (s : i + q < near). whole_no_zero (slice_range bytes i near) q is (omega (arith, size)) (get_range bytes i near q (omega arith) ∙ byte))
-    (λ (s : near ≤ i + q). let on = between bytes p (i + q) (omega arith) (omega (arith, n, length-cut)) in absurd (omega (arith, on.0, byte)))
+    (λ (s : near ≤ i + q). let on = between bytes p (i + q) (omega arith) (omega (arith, n, length-edge)) in absurd (omega (arith, on.0, byte)))
     (cases_lt (i + q) near))
 
 -- ---- strings
@@ -338,12 +338,12 @@ string-within bytes i s j k l m n h is =
 -- what stands before the end of a run is text with no zero byte
 pub long_plain : (bytes : List ℕ) (place run : ℕ) → place / 512 + 1 ≤ run → (place / 512 + 1) * 512 + 3 ≤ length bytes → place + 512 ≤ length bytes
     → up_to_zero (slice_range bytes place (place + 512)) ≡ slice_range bytes place (place + 512)
-    → IsUtf8 (slice_range bytes place (cut bytes ((place / 512 + 1) * 512))) → IsRun Plain bytes (place / 512 + 1) run
-    → IsPlain (slice_range bytes place (cut bytes (run * 512)))
+    → IsUtf8 (slice_range bytes place (edge bytes ((place / 512 + 1) * 512))) → IsRun Plain bytes (place / 512 + 1) run
+    → IsPlain (slice_range bytes place (edge bytes (run * 512)))
 long_plain bytes place run l m n near text run_is =
     let first = place / 512 + 1 in
-    let bounds = cut_bounds bytes (first * 512) in
-    let whole_is = whole-cut bytes place (first * 512) (place + 512) (omega arith) (omega arith) n (omega arith) near in
+    let bounds = edge_bounds bytes (first * 512) in
+    let whole_is = whole-edge bytes place (first * 512) (place + 512) (omega arith) (omega arith) n (omega arith) near in
     of_up_to Plain bytes place first run (omega arith) l (record { text = text; whole = whole_is }) run_is
 
 -- where a string ends behind text with no zero byte
@@ -354,14 +354,14 @@ abbrev pub IsTextIn : List ℕ → ℕ → Option ℕ → Type 0
 IsTextIn bytes from r = IfSome r (λ stop. IsUtf8 (slice_range bytes from stop))
 
 -- where a string ends in a block that isn't text with no zero byte, it ends there of more bytes too
-pub ends_on : (bytes : List ℕ) (block end : ℕ) (r : Option ℕ) → cut bytes ((block + 1) * 512) ≤ end → end ≤ length bytes → ¬ (IsBlock Plain bytes block) → EndsIn bytes (cut bytes (block * 512)) (cut bytes ((block + 1) * 512)) r → IsTextIn bytes (cut bytes (block * 512)) r → EndsIn bytes (cut bytes (block * 512)) end r
+pub ends_on : (bytes : List ℕ) (block end : ℕ) (r : Option ℕ) → edge bytes ((block + 1) * 512) ≤ end → end ≤ length bytes → ¬ (IsBlock Plain bytes block) → EndsIn bytes (edge bytes (block * 512)) (edge bytes ((block + 1) * 512)) r → IsTextIn bytes (edge bytes (block * 512)) r → EndsIn bytes (edge bytes (block * 512)) end r
 unfolding IsBlock
 ends_on bytes block end None room h other e t =
-    let bounds = cut_bounds bytes (block * 512) in
-    lacks-on bytes (cut bytes (block * 512)) ((block + 1) * 512) end (omega arith) room h e
+    let bounds = edge_bounds bytes (block * 512) in
+    lacks-on bytes (edge bytes (block * 512)) ((block + 1) * 512) end (omega arith) room h e
 ends_on bytes block end (Some stop) room h other e t =
-    let from = cut bytes (block * 512) in
-    let to = cut bytes ((block + 1) * 512) in
+    let from = edge bytes (block * 512) in
+    let to = edge bytes ((block + 1) * 512) in
     ⊎_elim
     (λ (l : stop < to). (e.0, omega (arith, l, room), string-within bytes from stop to end e.0 l room (omega (arith, room, h)) e.2))
     (λ (l : to ≤ stop).

@@ -11,8 +11,8 @@ past bytes place =
     if nat_le 128 (slice_index bytes place) && nat_lt (slice_index bytes place) 192 then place + 1 else place
 
 -- where the characters from a place on begin: behind up to three bytes that go on with a character
-unfoldable pub cut : List ℕ → ℕ → ℕ
-cut bytes place = past bytes (past bytes (past bytes place))
+unfoldable pub edge : List ℕ → ℕ → ℕ
+edge bytes place = past bytes (past bytes (past bytes place))
 
 -- the bytes before the first zero byte, or all
 unfoldable pub up_to_zero : List ℕ → List ℕ
@@ -34,7 +34,7 @@ IsOf Plain bytes = IsPlain bytes
 
 -- the block of 512 bytes with a number is of a kind, from where its characters begin to where those of the next one do
 unfoldable pub IsBlock : Kind → List ℕ → ℕ → Type 0
-IsBlock kind bytes block = IsOf kind (slice_range bytes (cut bytes (block * 512)) (cut bytes ((block + 1) * 512)))
+IsBlock kind bytes block = IsOf kind (slice_range bytes (edge bytes (block * 512)) (edge bytes ((block + 1) * 512)))
 
 -- the blocks from one up to another are of a kind
 abbrev pub IsRun : Kind → List ℕ → ℕ → ℕ → Type 0

@@ -157,14 +157,14 @@ impl<'a> Names<'a> {
         if first >= last {
             return self.seen.is_text(start, end);
         }
-        let begin = self.seen.cut(first * BLOCK);
+        let begin = self.seen.edge(first * BLOCK);
         if !self.seen.is_text(start, begin) {
             return false;
         }
         if end_of(&mut self.seen, Kind::Text, &mut self.texts, first) < last {
             return false;
         }
-        let rest = self.seen.cut(last * BLOCK);
+        let rest = self.seen.edge(last * BLOCK);
         self.seen.is_text(rest, end)
     }
 
@@ -256,16 +256,16 @@ impl<'a> Names<'a> {
     {
         let first = place / BLOCK + 1;
         let last = last_block(end);
-        let begin = self.seen.cut(first * BLOCK);
+        let begin = self.seen.edge(first * BLOCK);
         if !self.seen.is_text(place, begin) {
             return None;
         }
         let run = end_of(&mut self.seen, Kind::Plain, &mut self.plain, first).min(last);
-        let from = self.seen.cut(run * BLOCK);
+        let from = self.seen.edge(run * BLOCK);
         let to = if run == last {
             end
         } else {
-            self.seen.cut((run + 1) * BLOCK)
+            self.seen.edge((run + 1) * BLOCK)
         };
         self.end_of_text(from, to)
     }

@@ -61,8 +61,8 @@ fn is_block_of(seen: &mut Seen<'_>, kind: Kind, block: usize) -> bool
     ensures looks { seen.new.count ≤ seen.old.count + block_looks }
     ensures looks_least { CountsAtLeast seen.old.count 0 seen.new.count }
 {
-    let from = seen.cut(block * BLOCK);
-    let to = seen.cut((block + 1) * BLOCK);
+    let from = seen.edge(block * BLOCK);
+    let to = seen.edge((block + 1) * BLOCK);
     is_of(seen, kind, from, to)
 }
 

@@ -11,7 +11,7 @@ ghost use Rattle.goblin.specs.Refusal.{Answers};
 ghost use Rattle.goblin.specs.Strtab.{table_of};
 ghost use Rattle.goblin_text.specs.Looks.{CountsAtLeast};
 ghost use Rattle.goblin_text.specs.Known.{text_table};
-ghost use Rattle.goblin_text.specs.Runs.{cut, past, up_to_zero};
+ghost use Rattle.goblin_text.specs.Runs.{edge, past, up_to_zero};
 
 use goblin::error::Result;
 use goblin::options::ParseMode;
@@ -89,10 +89,10 @@ impl<'a> Seen<'a> {
     }
 
     /// Where the characters from a place on begin: behind up to three bytes that go on with one. It is three looks.
-    #[tactic(auto, unfolding(crate::specs::Runs::cut))]
-    pub fn cut(&mut self, place: usize) -> usize
+    #[tactic(auto, unfolding(crate::specs::Runs::edge))]
+    pub fn edge(&mut self, place: usize) -> usize
         requires { place ≤ length self.old.bytes }
-        ensures is { result ≡ cut self.old.bytes place }
+        ensures is { result ≡ edge self.old.bytes place }
         ensures within { result ≤ length self.old.bytes }
         ensures from { place ≤ result }
         ensures to { result ≤ place + 3 }

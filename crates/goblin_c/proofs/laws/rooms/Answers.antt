@@ -1,4 +1,4 @@
-use Rattle.goblin_c.proofs.CutLemmas.{room_is_filled}
+use Rattle.goblin_c.proofs.LaidLemmas.{room_is_filled}
 use Rattle.goblin_c.proofs.IndexLemmas.{filled_by_index}
 use Rattle.goblin_c.proofs.laws.rooms.Goals as goal
 

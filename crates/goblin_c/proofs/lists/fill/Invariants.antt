@@ -1,8 +1,8 @@
 use Rattle.std.proofs.Common.{◌≡◌, ◌≤◌, ◌+◌, length, take, drop}
-use Rattle.goblin_c.specs.Cut.{cut}
+use Rattle.goblin_c.specs.Laid.{laid}
 use Rattle.goblin_c.proofs.lists.fill.Given as goal
 
 abbrev pub invariant-loop-i : goal.invariant-loop-i
 invariant-loop-i g l =
     let all = g.L.Listed.listed l.all in
-    (l.first + l.i ≤ length all) × (l.room ≡ cut (take l.i (drop l.first all)) l.initial.room)
+    (l.first + l.i ≤ length all) × (l.room ≡ laid (take l.i (drop l.first all)) l.initial.room)

@@ -1,10 +1,10 @@
 use Rattle.std.proofs.Common.{◌≡◌, ◌≤◌, ◌+◌, ◌*◌, ◌++◌, length, take}
 use Rattle.goblin_base.specs.Texts.{joined}
-use Rattle.goblin_c.specs.Cut.{cut}
+use Rattle.goblin_c.specs.Laid.{laid}
 use Rattle.goblin_c.proofs.texts.write_told.Given as goal
 
-abbrev pub invariant-loop-piece : goal.invariant-loop-piece
-invariant-loop-piece l =
-    (l.room ≡ cut (l.told.before.now ++ joined l.told (take l.piece-index l.told.pieces.now)) l.fn.room)
-    × (l.len ≡ length (l.told.before.now ++ joined l.told (take l.piece-index l.told.pieces.now)))
-    × (l.len ≤ 100 + l.piece-index * 100)
+abbrev pub invariant-loop-part : goal.invariant-loop-part
+invariant-loop-part l =
+    (l.room ≡ laid (l.told.before.now ++ joined l.told (take l.part-index l.told.parts.now)) l.fn.room)
+    × (l.len ≡ length (l.told.before.now ++ joined l.told (take l.part-index l.told.parts.now)))
+    × (l.len ≤ 100 + l.part-index * 100)

@@ -1,6 +1,6 @@
 use Rattle.std.proofs.Common.{◌≡◌, take}
-use Rattle.goblin_c.specs.Cut.{cut}
+use Rattle.goblin_c.specs.Laid.{laid}
 use Rattle.goblin_c.proofs.writer.write_bytes.Given as goal
 
 abbrev pub invariant-loop-i : goal.invariant-loop-i
-invariant-loop-i l = l.buffer ≡ cut (take l.i l.bytes) l.initial.buffer
+invariant-loop-i l = l.buffer ≡ laid (take l.i l.bytes) l.initial.buffer

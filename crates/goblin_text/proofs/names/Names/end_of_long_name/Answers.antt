@@ -2,10 +2,10 @@ use Rattle.std.proofs.Common.{◌≡◌, ◌∙◌, ◌+◌, ◌-◌, ◌*◌, �
 use Rattle.std.proofs.lemmas.Bool.{both_ways}
 use Rattle.std.proofs.lemmas.Grind.{common_steps}
 use Rattle.std.specs.Str.{IsUtf8}
-use Rattle.goblin_text.proofs.Blocks.{cut_bounds}
-use Rattle.goblin_text.proofs.Plain.{EndsIn, IsTextIn, ends_behind, ends_on, lacks-on, long_plain, text_behind, whole-cut}
+use Rattle.goblin_text.proofs.Blocks.{edge_bounds}
+use Rattle.goblin_text.proofs.Plain.{EndsIn, IsTextIn, ends_behind, ends_on, lacks-on, long_plain, text_behind, whole-edge}
 use Rattle.goblin_text.specs.declared.runs.Kind.TheVariants.{Plain}
-use Rattle.goblin_text.specs.Runs.{IsEnd, IsPlain, LacksText, cut, up_to_zero}
+use Rattle.goblin_text.specs.Runs.{IsEnd, IsPlain, LacksText, edge, up_to_zero}
 use Rattle.goblin_text.proofs.names.Names.end_of_long_name.Goals.{After-end_of_text, then-run-last, else-run-last}
 use Rattle.goblin_text.proofs.names.Names.end_of_long_name.Goals as goal
 
@@ -14,10 +14,10 @@ returns-then-not-is_text-clause-stop c =
     let bytes = c.args.self.now.bytes in
     let place = c.args.place in
     let first = place / 512 + 1 in
-    let bounds = cut_bounds bytes (first * 512) in
-    let head = slice_range bytes place (cut bytes (first * 512)) in
-    let is : head ≡ slice_range c.cut-begin.new.self.bytes place c.cut-begin.result = grind (arith, common_steps) in
-    let whole : up_to_zero head ≡ head = whole-cut bytes place (first * 512) (place + 512) (omega arith) (omega arith) (omega (arith, c.requires.long, c.requires.within)) (omega (arith, c.requires.long, c.requires.within)) c.requires.near in
+    let bounds = edge_bounds bytes (first * 512) in
+    let head = slice_range bytes place (edge bytes (first * 512)) in
+    let is : head ≡ slice_range c.edge-begin.new.self.bytes place c.edge-begin.result = grind (arith, common_steps) in
+    let whole : up_to_zero head ≡ head = whole-edge bytes place (first * 512) (place + 512) (omega arith) (omega arith) (omega (arith, c.requires.long, c.requires.within)) (omega (arith, c.requires.long, c.requires.within)) c.requires.near in
     let lacks : LacksText head = λ u. both_ways _ c.if-not-is_text.true (c.is_text.ensures.value.1 (subst IsUtf8 (whole ∙ is) u)) in
     lacks-on bytes place (first * 512) c.args.end (omega arith) (omega (arith, c.requires.long)) c.requires.within lacks
 
@@ -28,7 +28,7 @@ run_ends c =
     subst (λ b. IsEnd Plain b (c.args.place / 512 + 1) c.end_of.result) same c.end_of.ensures.end
 
 -- what stands before that is text with no zero byte
-plain_before : (c : After-end_of_text) → (c.args.place ≤ cut c.args.self.now.bytes (c.min-run.result * 512)) × IsPlain (slice_range c.args.self.now.bytes c.args.place (cut c.args.self.now.bytes (c.min-run.result * 512)))
+plain_before : (c : After-end_of_text) → (c.args.place ≤ edge c.args.self.now.bytes (c.min-run.result * 512)) × IsPlain (slice_range c.args.self.now.bytes c.args.place (edge c.args.self.now.bytes (c.min-run.result * 512)))
 plain_before c =
     let bytes = c.args.self.now.bytes in
     let place = c.args.place in
@@ -36,27 +36,27 @@ plain_before c =
     let e = run_ends c in
     let most : run ≤ c.end_of.result = grind (arith, common_steps) in
     let from : place / 512 + 1 ≤ run = grind (arith, common_steps, e.order) in
-    let text : IsUtf8 (slice_range bytes place (cut bytes ((place / 512 + 1) * 512))) = grind (arith, common_steps) in
-    let bounds = cut_bounds bytes (run * 512) in
+    let text : IsUtf8 (slice_range bytes place (edge bytes ((place / 512 + 1) * 512))) = grind (arith, common_steps) in
+    let bounds = edge_bounds bytes (run * 512) in
     (omega (arith, from), long_plain bytes place run from (omega (arith, c.requires.long, c.requires.within)) (omega (arith, c.requires.long, c.requires.within)) c.requires.near text (λ j l m. e.run j l (omega (arith, most, m))))
 
 pub returns-clause-stop : goal.returns-clause-stop
 returns-clause-stop c =
     let bytes = c.args.self.now.bytes in
     let run = c.min-run.result in
-    let from = cut bytes (run * 512) in
+    let from = edge bytes (run * 512) in
     let last = min ((c.args.end - 3) / 512) 32768 in
     let before = plain_before (goal.at.returns-clause-stop c).After-end_of_text in
-    let bounds = cut_bounds bytes (run * 512) in
+    let bounds = edge_bounds bytes (run * 512) in
     let most : run ≤ last = grind (arith, common_steps) in
     let found : EndsIn bytes from c.args.end c.end_of_text.result = elim c.if-run-last.branch [
       | then-run-last w ↦ grind (arith, common_steps)
       | else-run-last w ↦
           let early : run < last = grind (arith, common_steps) in
-          let next = cut_bounds bytes ((run + 1) * 512) in
+          let next = edge_bounds bytes ((run + 1) * 512) in
           let ends : c.end_of.result ≡ run = grind (arith, common_steps) in
           let e : IsEnd Plain bytes (c.args.place / 512 + 1) run = subst (IsEnd Plain bytes (c.args.place / 512 + 1)) ends (run_ends (goal.at.returns-clause-stop c).After-end_of_text) in
-          let found : EndsIn bytes from (cut bytes ((run + 1) * 512)) c.end_of_text.result = grind (arith, common_steps) in
+          let found : EndsIn bytes from (edge bytes ((run + 1) * 512)) c.end_of_text.result = grind (arith, common_steps) in
           let text : IsTextIn bytes from c.end_of_text.result = grind (arith, common_steps) in
           ends_on bytes run c.args.end c.end_of_text.result (omega (arith, early)) c.requires.within (e.stops (omega (arith, early, c.requires.within))) found text
     ] in
@@ -65,7 +65,7 @@ returns-clause-stop c =
 pub returns-clause-text : goal.returns-clause-text
 returns-clause-text c =
     let bytes = c.args.self.now.bytes in
-    let from = cut bytes (c.min-run.result * 512) in
+    let from = edge bytes (c.min-run.result * 512) in
     let before = plain_before (goal.at.returns-clause-text c).After-end_of_text in
     let found : EndsIn bytes from c.if-run-last.to c.end_of_text.result = grind (arith, common_steps) in
     let text : IsTextIn bytes from c.end_of_text.result = grind (arith, common_steps) in

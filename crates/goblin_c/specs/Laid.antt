@@ -2,7 +2,7 @@
 use Rattle.std.specs.Prelude.{List, [], ◌∷◌}
 
 -- as many items of a list as there is room for, over what was there, which stays behind them
-abbrev pub cut : {X : Type 0} → List X → List X → List X
-cut [] old = old
-cut (x ∷ xs) [] = []
-cut (x ∷ xs) (o ∷ os) = x ∷ cut xs os
+abbrev pub laid : {X : Type 0} → List X → List X → List X
+laid [] old = old
+laid (x ∷ xs) [] = []
+laid (x ∷ xs) (o ∷ os) = x ∷ laid xs os
