@@ -21,12 +21,12 @@ brief told is =
     (leb-true _ _ few.0, leb-true _ _ few.1, λ i d h. short_at told told.parts.now i d all.1 h)
 
 -- the step of a loop that writes parts
-pub laid-part : (text more text old now new : List ℕ) (len : ℕ) → more ≡ text ++ text → now ≡ laid text old → len ≡ length text → new ≡ take len now ++ laid text (drop len now) → new ≡ laid more old
-laid-part text more text old now new len is was long step =
-    step ∙ (λ j. take (long j) (was j) ++ laid text (drop (long j) (was j))) ∙ laid-behind text text old ∙ ap (λ xs. laid xs old) (sym is)
+pub laid-part : (text more part old now new : List ℕ) (len : ℕ) → more ≡ text ++ part → now ≡ laid text old → len ≡ length text → new ≡ take len now ++ laid part (drop len now) → new ≡ laid more old
+laid-part text more part old now new len is was long step =
+    step ∙ (λ j. take (long j) (was j) ++ laid part (drop (long j) (was j))) ∙ laid-behind text part old ∙ ap (λ xs. laid xs old) (sym is)
 
-pub long-part : (text more text : List ℕ) (n len : ℕ) → more ≡ text ++ text → len ≡ length text → n ≡ len + length text → n ≡ length more
-long-part text more text n len is long sum = omega (arith, ap length is, length-append text text)
+pub long-part : (text more part : List ℕ) (n len : ℕ) → more ≡ text ++ part → len ≡ length text → n ≡ len + length part → n ≡ length more
+long-part text more part n len is long sum = omega (arith, ap length is, length-append text part)
 
 pub text-kept : TextIsKept
 text-kept refusal known = grind arith

@@ -20,7 +20,7 @@ const ROOM: usize = 65_536;
 
 // How many bytes are filled with zeros at once: from 2 KiB on the C library fills fresh memory in a
 // way that takes longer.
-const PIECE: usize = 1_984;
+const STEP: usize = 1_984;
 
 // How many times as much memory is asked for where it runs short.
 const GROWTH: usize = 4;
@@ -56,7 +56,7 @@ fn make_room(bytes: &mut Vec<u8>, filled: usize) -> Result<(), AllocError>
         bytes.reserve_exact(most - filled)?;
     }
     while bytes.len() < end {
-        bytes.resize((bytes.len() + PIECE).min(end), 0)?;
+        bytes.resize((bytes.len() + STEP).min(end), 0)?;
     }
     Ok(())
 }

@@ -1,4 +1,4 @@
-//! What takes a text piece by piece: a buffer of fixed size before a writer, and a text in memory.
+//! What takes a text part by part: a buffer of fixed size before a writer, and a text in memory.
 ghost use Rattle.std.specs.Prelude.{◌≡◌, ◌↔◌, ◌+◌, ◌≤◌, ◌++◌, IsTrue, OnErr, OnOk, Some, length, [], string_bytes, take};
 ghost use Rattle.std.specs.Borrow.{GName};
 ghost use Rattle.std.specs.Io.KnownBytes.{Appends, Keeps};
@@ -10,7 +10,7 @@ use std::io;
 
 /// What takes a text.
 pub trait Target {
-    /// Why a piece isn't taken.
+    /// Why a part isn't taken.
     type Error;
 
     // The bytes that it holds, where they are told, and whether it told an error.
@@ -19,9 +19,9 @@ pub trait Target {
     // The name of the reference that it keeps, or 0.
     ghost kept: { Self → GName };
 
-    /// Takes a piece of the text. After an error it is open how much of it was taken.
-    fn put(&mut self, piece: &str) -> Result<(), Self::Error>
-        ensures put { Puts (state self.old) (state self.new) result piece.now }
+    /// Takes a part of the text. After an error it is open how much of it was taken.
+    fn put(&mut self, part: &str) -> Result<(), Self::Error>
+        ensures put { Puts (state self.old) (state self.new) result part.now }
         ensures kept { kept self.new ≡ kept self.old };
 }
 
@@ -132,8 +132,8 @@ impl<W: Sink> Target for Buffered<'_, W> {
 
     ghost kept = { λ b. b.writer.ghost_name };
 
-    fn put(&mut self, piece: &str) -> io::Result<()> {
-        let bytes = piece.as_bytes();
+    fn put(&mut self, part: &str) -> io::Result<()> {
+        let bytes = part.as_bytes();
         if self.has_room(bytes.len()) {
             self.add(bytes);
             return Ok(());
@@ -142,7 +142,7 @@ impl<W: Sink> Target for Buffered<'_, W> {
     }
 }
 
-// Copies bytes over as many others. A single one, as most pieces are, is copied without a call.
+// Copies bytes over as many others. A single one, as most parts are, is copied without a call.
 #[tactic(auto, using(crate::proofs::Puts::set_single))]
 fn copy(room: &mut [u8], bytes: &[u8])
     requires { length room.old ≡ length bytes.now }
@@ -184,8 +184,8 @@ impl Target for Gathered {
 
     ghost kept = { λ _. 0 };
 
-    fn put(&mut self, piece: &str) -> Result<(), AllocError> {
-        let answer = self.text.push_str(piece);
+    fn put(&mut self, part: &str) -> Result<(), AllocError> {
+        let answer = self.text.push_str(part);
         if answer.is_err() {
             self.told_error = true;
         }
