@@ -15,7 +15,7 @@ use Rattle.goblin_c.specs.declared.types.GoblinSection.{GoblinSection}
 use Rattle.goblin.specs.Header.{class_named, order_named}
 use Rattle.goblin.specs.RelocSection.{relocs_of}
 use Rattle.goblin.specs.SectionHeaders.{link_of, names_index}
-use Rattle.goblin_headers.proofs.HeaderLaws.{header_laws}
+use Rattle.goblin_headers.proofs.HeaderLemmas.{header_laws}
 use Rattle.goblin_headers.proofs.RawTrips.{ident_byte}
 use Rattle.goblin_headers.proofs.ReadHeaderLemmas.{read_header-is}
 use Rattle.goblin_c.specs.Answers.{count_of, ctx_of, each_told, header_told, item_of, items_from, reloc_count_right, reloc_right, reloc_told, relocs_right, relocs_told, section_told, sections_right, sections_told, segment_told, segments_right, symbol_told, symbols_right, symbols_told, table_at}

@@ -2,10 +2,10 @@ pub mod LaidLemmas
 pub mod DigitLemmas
 pub mod IndexLemmas
 pub mod KeptLemmas
-pub mod NoteLaws
+pub mod NoteLemmas
 pub mod PieceLemmas
-pub mod PlaceLaws
+pub mod PlaceLemmas
 pub mod SearchLemmas
 pub mod StepLemmas
-pub mod StringLaws
+pub mod StringLemmas
 pub mod TextLemmas

@@ -1,4 +1,4 @@
-pub mod HeaderLaws
+pub mod HeaderLemmas
 pub mod RawTrips
 pub mod ReadHeaderLemmas
 pub mod ReadSections

@@ -14,7 +14,7 @@ use Rattle.goblin_headers.specs.Header.{order_named}
 use Rattle.goblin_headers.specs.HeaderTrips.{IsReadBack, IsWrittenAndReadBack, IsWrittenBack}
 use Rattle.goblin_headers.specs.ReadHeader.{needs, read_in_order}
 use Rattle.goblin_headers.specs.WriteHeader.{WritesInOrder}
-use Rattle.goblin_headers.proofs.HeaderLaws.{IsHeader, reads_fitting}
+use Rattle.goblin_headers.proofs.HeaderLemmas.{IsHeader, reads_fitting}
 
 -- where there is room, the image is written
 writes_there : (size : ℕ) (image old new : List ℕ) (answer : Result ℕ Error) → size ≤ length old → Writes size image old answer new → (answer ≡ Ok size) × (new ≡ image ++ drop size old)

@@ -14,7 +14,7 @@ use Rattle.goblin_headers.specs.Header.{header_size, header_image, HeaderFits, I
 use Rattle.goblin_headers.specs.HeaderTrips.{OneImage, ReadsBack, WrittenAndReadBack, ImageOfRead, WritesBack, NewIsOfContext, NewIsReadBack}
 use Rattle.goblin_headers.specs.ReadHeader.{read_header}
 use Rattle.goblin_headers.specs.WriteHeader.{WritesHeader}
-use Rattle.goblin_headers.proofs.HeaderLaws.{header_laws, one_header_image, reads_fitting}
+use Rattle.goblin_headers.proofs.HeaderLemmas.{header_laws, one_header_image, reads_fitting}
 use Rattle.goblin_headers.proofs.RawTrips.{front_byte, ident_byte, over_itself, writes_in_order}
 use Rattle.goblin_headers.proofs.ReadHeaderLemmas.{Begins, read_header-ok, read_header-is}
 

@@ -1,4 +1,4 @@
-use Rattle.goblin_c.proofs.NoteLaws.{notes_are_items, notes_in_a_row, notes_lie_in_file}
+use Rattle.goblin_c.proofs.NoteLemmas.{notes_are_items, notes_in_a_row, notes_lie_in_file}
 use Rattle.goblin_c.proofs.laws.notes.Goals as goal
 
 pub returns : goal.returns

@@ -1,4 +1,4 @@
-use Rattle.goblin_c.proofs.PlaceLaws.{bytes_lie_in_file, strings_are_bytes}
+use Rattle.goblin_c.proofs.PlaceLemmas.{bytes_lie_in_file, strings_are_bytes}
 use Rattle.goblin_c.proofs.laws.places.Goals as goal
 
 pub returns : goal.returns

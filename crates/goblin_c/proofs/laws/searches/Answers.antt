@@ -1,4 +1,4 @@
-use Rattle.goblin_c.proofs.StringLaws.{sections_by_name, symbols_by_name}
+use Rattle.goblin_c.proofs.StringLemmas.{sections_by_name, symbols_by_name}
 use Rattle.goblin_c.proofs.laws.searches.Goals as goal
 
 pub returns : goal.returns

@@ -1,5 +1,5 @@
-use Rattle.goblin_c.proofs.PlaceLaws.{strings_lie_in_file}
-use Rattle.goblin_c.proofs.StringLaws.{strings_are_there}
+use Rattle.goblin_c.proofs.PlaceLemmas.{strings_lie_in_file}
+use Rattle.goblin_c.proofs.StringLemmas.{strings_are_there}
 use Rattle.goblin_c.proofs.laws.strings.Goals as goal
 
 pub returns : goal.returns

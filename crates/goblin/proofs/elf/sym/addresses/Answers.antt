@@ -1,4 +1,4 @@
-use Rattle.goblin.proofs.AddressLaws.{symbol_at_comes_first}
+use Rattle.goblin.proofs.AddressLemmas.{symbol_at_comes_first}
 use Rattle.goblin.proofs.elf.sym.addresses.Goals as goal
 
 pub returns : goal.returns

@@ -1,5 +1,5 @@
 use Rattle.std.proofs.Common.{sym, ◌∙◌, arith}
-use Rattle.goblin.proofs.AddressLaws.{one_more, found_all}
+use Rattle.goblin.proofs.AddressLemmas.{one_more, found_all}
 use Rattle.goblin.proofs.Positions.{some-within}
 use Rattle.goblin.proofs.elf.sym.Symtab.at.Goals as goal
 use Rattle.goblin.proofs.elf.sym.Symtab.at.Goals.{in-Some, in_default}

@@ -1,4 +1,4 @@
-use Rattle.goblin.proofs.AddressLaws.{IsFound}
+use Rattle.goblin.proofs.AddressLemmas.{IsFound}
 use Rattle.goblin.proofs.elf.sym.Symtab.at.Given as goal
 
 abbrev pub invariant-loop-i : goal.invariant-loop-i

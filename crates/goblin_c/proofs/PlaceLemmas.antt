@@ -8,7 +8,7 @@ use Rattle.goblin_base.specs.RecordLaws.{fits-room_of}
 use Rattle.goblin_c.specs.declared.types.GoblinRange.{GoblinRange}
 use Rattle.goblin_c.specs.Bytes.{range_right}
 use Rattle.goblin_c.specs.Laws.{BytesLieInFile, LiesIn, StringsAreBytes, StringsLieInFile}
-use Rattle.goblin_c.proofs.StringLaws.{in_range, plain_is}
+use Rattle.goblin_c.proofs.StringLemmas.{in_range, plain_is}
 
 -- a range that is told lies in the file
 range_lies : (bytes : List ℕ) (range told : GoblinRange) → range_right bytes range ≡ Ok (Some told) → LiesIn bytes told
