@@ -10,13 +10,7 @@ use Rattle.goblin_base.specs.declared.error.Fault.{Fault}
 use Rattle.goblin_base.specs.declared.error.Fault.TheVariants.{StrtabOffset, StrtabRange}
 use Rattle.goblin.specs.Steps.{◌>>=◌, refuse_as}
 use Rattle.goblin.specs.Strtab.{or_cut, range_in, strtab_of, table_of}
-
--- a table's bytes stand in the file from one place to another: a strict one's where they are asked for
-pub record IsRange (mode : ParseMode) (file : List ℕ) (offset size start end : ℕ) : Type 0 where
-  pub order : start ≤ end
-  pub within : end ≤ length file
-  pub is : range_in mode file offset size ≡ Ok (slice_range file start end)
-  pub strict : mode ≡ Strict → (start ≡ offset) × (end ≡ offset + size)
+use Rattle.goblin_text.specs.Known.{IsRange}
 
 -- a range that isn't refused
 pub range_taken : (r : Result (List ℕ) Fault) (bytes : List ℕ) → refuse_as malformed r ≡ Ok bytes → r ≡ Ok bytes

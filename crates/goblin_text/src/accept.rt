@@ -4,9 +4,10 @@ ghost use Rattle.goblin.specs.Refusal.{Answers, Gives, Refuses};
 ghost use Rattle.goblin.specs.SectionHeaders.{section_headers_of_tested};
 ghost use Rattle.goblin_text.specs.Accepted.{accepted_text, parts_text, relocs_text, symbols_text};
 ghost use Rattle.goblin_text.specs.Known.{strings_in};
-ghost use Rattle.goblin_text.specs.Looks.{IsShort, Spends, Spent, section_count, table_looks, tables_looks};
+ghost use Rattle.goblin_text.specs.Looks.{CountsAtLeast, IsShort, Spends, Spent, section_count, table_looks, tables_looks};
 ghost use Rattle.goblin_text.specs.Shown.{Adds, ctx_of, each_shown, file_shown, has_relocs, has_symbols, relocs_shown, sections_of, shown, sizes_checked, strings_at, strings_of, symbols_shown, tested};
 
+use crate::file_bytes::FileBytes;
 use crate::names::{Names, Strings};
 use goblin::container::Ctx;
 use goblin::elf::header::Header;
@@ -17,7 +18,6 @@ use goblin::elf::section_header::{
 use goblin::elf::sym::{Sym, Symtab};
 use goblin::error::Result;
 use goblin::options::ParseOptions;
-use goblin::scroll::{LE, TryFromCtx};
 use std::alloc::Global;
 
 /// The symbols of the section with a number, and the strings that their names are taken from.
@@ -72,20 +72,20 @@ fn check_sizes(sections: &[SectionHeader], len: usize, opts: &ParseOptions) -> R
 #[tactic(auto, unfolding(crate::specs::Shown::sections_of))]
 fn sections_of(
     alloc: Global,
-    bytes: &[u8],
+    file: &FileBytes<'_>,
     header: &Header,
     ctx: Ctx,
     opts: &ParseOptions,
 ) -> Result<Vec<SectionHeader>>
-    ensures given { let right = sections_of opts.now.parse_mode bytes.now header.now ctx in
+    ensures given { let right = sections_of opts.now.parse_mode file.now.bytes header.now ctx in
         Gives (λ v. v.items) result right }
-    ensures tested { let tested = section_headers_of_tested bytes.now header.now.e_shoff
+    ensures tested { let tested = section_headers_of_tested file.now.bytes header.now.e_shoff
         header.now.e_shnum ctx in IfErr tested (λ refusal. Refuses result refusal) }
 {
     let offset = header.e_shoff as usize;
     let count = usize::from(header.e_shnum);
-    let sections = SectionHeader::parse(alloc, bytes, offset, count, ctx)?;
-    check_sizes(sections.as_slice(), bytes.len(), opts)?;
+    let sections = file.section_headers(alloc, offset, count, ctx)?;
+    check_sizes(sections.as_slice(), file.len(), opts)?;
     Ok(sections)
 }
 
@@ -103,16 +103,16 @@ fn has_relocs(section: &SectionHeader) -> bool
     (section.sh_type == SHT_REL || section.sh_type == SHT_RELA) && section.sh_size > 0
 }
 
-// A file whose section headers are read.
+// What is known of a file once its section headers are read.
 #[derive(Clone, Copy)]
-struct File<'b> {
+struct Context<'b> {
     header: &'b Header,
     ctx: Ctx,
     sections: &'b [SectionHeader],
     opts: &'b ParseOptions,
 }
 
-impl File<'_> {
+impl Context<'_> {
     // The string table that a section is.
     fn strings_of(&self, names: &mut Names<'_>, section: &SectionHeader) -> Result<Strings>
         ensures exact { let right = strings_of self.now.opts.now.parse_mode names.old.bytes
@@ -120,6 +120,7 @@ impl File<'_> {
             Answers (strings_in names.old.bytes) result right }
         ensures unchanged { names.new.bytes ≡ names.old.bytes }
         ensures looks { IsShort names.old.bytes → Spent names.old names.new result table_looks }
+        ensures looks_least { CountsAtLeast names.old.count 0 names.new.count }
     {
         if section.sh_type == SHT_NOBITS {
             return Ok(Strings::Missing);
@@ -137,6 +138,7 @@ impl File<'_> {
             Answers (strings_in names.old.bytes) result right }
         ensures unchanged { names.new.bytes ≡ names.old.bytes }
         ensures looks { IsShort names.old.bytes → Spent names.old names.new result table_looks }
+        ensures looks_least { CountsAtLeast names.old.count 0 names.new.count }
     {
         if index == 0 {
             return Ok(Strings::Missing);
@@ -151,25 +153,26 @@ impl File<'_> {
     #[tactic(auto, unfolding(crate::specs::Shown::symbols_shown))]
     fn accept_symbols<'a>(
         &self,
-        names: &mut Names<'a>,
+        file: &mut FileBytes<'a>,
         parts: &mut Vec<SymbolPart<'a>>,
         number: usize,
         section: &SectionHeader,
     ) -> Result<()>
-        ensures added { let right = symbols_shown self.now.opts.now.parse_mode names.old.bytes
+        ensures added { let right = symbols_shown self.now.opts.now.parse_mode file.old.bytes
             self.now.ctx self.now.sections.now number section.now in
-            Adds (symbols_text names.old.bytes parts.old.items)
-            (symbols_text names.old.bytes parts.new.items) result right }
-        ensures unchanged { names.new.bytes ≡ names.old.bytes }
-        ensures looks { IsShort names.old.bytes → Spent names.old names.new result table_looks }
+            Adds (symbols_text file.old.bytes parts.old.items)
+            (symbols_text file.old.bytes parts.new.items) result right }
+        ensures unchanged { file.new.bytes ≡ file.old.bytes }
+        ensures looks { IsShort file.old.bytes → Spent file.old file.new result table_looks }
+        ensures looks_least { CountsAtLeast file.old.count 0 file.new.count }
     {
         if !has_symbols(section) {
             return Ok(());
         }
         let offset = section.sh_offset as usize;
         let count = section.sh_size as usize / Sym::size(self.ctx.container);
-        let table = Symtab::parse_with_opts(names.bytes(), offset, count, self.ctx, self.opts)?;
-        let strings = self.strings_at(names, section.sh_link as usize)?;
+        let table = file.symtab(offset, count, self.ctx, self.opts)?;
+        let strings = self.strings_at(&mut file.names, section.sh_link as usize)?;
         Ok(parts.push(SymbolPart {
             section: number,
             table,
@@ -180,20 +183,21 @@ impl File<'_> {
     // Adds the symbols of all sections to the parts.
     fn accept_all_symbols<'a>(
         &self,
-        names: &mut Names<'a>,
+        file: &mut FileBytes<'a>,
         parts: &mut Vec<SymbolPart<'a>>,
     ) -> Result<()>
-        ensures added { let shows = symbols_shown self.now.opts.now.parse_mode names.old.bytes
+        ensures added { let shows = symbols_shown self.now.opts.now.parse_mode file.old.bytes
             self.now.ctx self.now.sections.now in
-            Adds (symbols_text names.old.bytes parts.old.items)
-            (symbols_text names.old.bytes parts.new.items) result
+            Adds (symbols_text file.old.bytes parts.old.items)
+            (symbols_text file.old.bytes parts.new.items) result
             (each_shown shows 0 self.now.sections.now) }
-        ensures unchanged { names.new.bytes ≡ names.old.bytes }
+        ensures unchanged { file.new.bytes ≡ file.old.bytes }
         ensures looks { let most = table_looks * length self.now.sections.now in
-            IsShort names.old.bytes → Spent names.old names.new result most }
+            IsShort file.old.bytes → Spent file.old file.new result most }
+        ensures looks_least { CountsAtLeast file.old.count 0 file.new.count }
     {
         for (number, section) in self.sections.iter().enumerate() {
-            self.accept_symbols(names, parts, number, section)?;
+            self.accept_symbols(file, parts, number, section)?;
         }
         Ok(())
     }
@@ -202,13 +206,13 @@ impl File<'_> {
     #[tactic(auto, unfolding(crate::specs::Shown::relocs_shown))]
     fn accept_relocs<'a>(
         &self,
-        bytes: &'a [u8],
+        file: &FileBytes<'a>,
         parts: &mut Vec<RelocPart<'a>>,
         is_mips64el: bool,
         number: usize,
         section: &SectionHeader,
     ) -> Result<()>
-        ensures { let right = relocs_shown bytes.now self.now.ctx is_mips64el number
+        ensures { let right = relocs_shown file.now.bytes self.now.ctx is_mips64el number
             section.now in
             Adds (relocs_text parts.old.items) (relocs_text parts.new.items) result right }
     {
@@ -218,14 +222,7 @@ impl File<'_> {
         let offset = section.sh_offset as usize;
         let size = section.sh_size as usize;
         let is_rela = section.sh_type == SHT_RELA;
-        let relocs = RelocSection::parse_inner(
-            bytes,
-            offset,
-            size,
-            is_rela,
-            self.ctx,
-            is_mips64el,
-        )?;
+        let relocs = file.relocs(offset, size, is_rela, self.ctx, is_mips64el)?;
         Ok(parts.push(RelocPart {
             section: number,
             relocs,
@@ -235,36 +232,37 @@ impl File<'_> {
     // Adds the relocations of all sections to the parts.
     fn accept_all_relocs<'a>(
         &self,
-        bytes: &'a [u8],
+        file: &FileBytes<'a>,
         parts: &mut Vec<RelocPart<'a>>,
         is_mips64el: bool,
     ) -> Result<()>
-        ensures { let shows = relocs_shown bytes.now self.now.ctx is_mips64el in
+        ensures { let shows = relocs_shown file.now.bytes self.now.ctx is_mips64el in
             Adds (relocs_text parts.old.items) (relocs_text parts.new.items) result
             (each_shown shows 0 self.now.sections.now) }
     {
         for (number, section) in self.sections.iter().enumerate() {
-            self.accept_relocs(bytes, parts, is_mips64el, number, section)?;
+            self.accept_relocs(file, parts, is_mips64el, number, section)?;
         }
         Ok(())
     }
 
     // The strings of the sections' names, the symbols and the relocations.
     #[tactic(auto, unfolding(crate::specs::Shown::file_shown))]
-    fn parts<'a>(&self, alloc: Global, names: &mut Names<'a>) -> Result<Parts<'a>>
-        ensures given { let right = file_shown self.now.opts.now.parse_mode names.old.bytes
+    fn parts<'a>(&self, alloc: Global, file: &mut FileBytes<'a>) -> Result<Parts<'a>>
+        ensures given { let right = file_shown self.now.opts.now.parse_mode file.old.bytes
             self.now.header.now self.now.ctx self.now.sections.now in
-            Gives (parts_text names.old.bytes self.now.header.now self.now.sections.now) result right }
-        ensures unchanged { names.new.bytes ≡ names.old.bytes }
+            Gives (parts_text file.old.bytes self.now.header.now self.now.sections.now) result right }
+        ensures unchanged { file.new.bytes ≡ file.old.bytes }
         ensures looks { let most = table_looks * (length self.now.sections.now + 1) in
-            IsShort names.old.bytes → Spent names.old names.new result most }
+            IsShort file.old.bytes → Spent file.old file.new result most }
+        ensures looks_least { CountsAtLeast file.old.count 0 file.new.count }
     {
         let index = SectionHeader::names_index(self.header.e_shstrndx, self.sections.first());
-        let strings = self.strings_at(names, index)?;
+        let strings = self.strings_at(&mut file.names, index)?;
         let mut symbols = Vec::new(alloc);
-        self.accept_all_symbols(names, &mut symbols)?;
+        self.accept_all_symbols(file, &mut symbols)?;
         let mut relocs = Vec::new(alloc);
-        self.accept_all_relocs(names.bytes(), &mut relocs, is_mips64el(self.header))?;
+        self.accept_all_relocs(file, &mut relocs, is_mips64el(self.header))?;
         Ok(Parts {
             strings,
             symbols,
@@ -282,33 +280,37 @@ impl File<'_> {
 /// table and then of its string table; for each section of relocations those of reading it. Or memory
 /// is wanting.
 #[tactic(auto, unfolding(crate::specs::Shown::shown, crate::specs::Shown::tested, crate::specs::Looks::section_count))]
-pub fn accept<'a>(alloc: Global, names: &mut Names<'a>, opts: &ParseOptions) -> Result<Accepted<'a>>
-    ensures text { let right = shown opts.now.parse_mode names.old.bytes in
-        Gives (accepted_text names.old.bytes) result right }
+pub fn accept<'a>(
+    alloc: Global,
+    file: &mut FileBytes<'a>,
+    opts: &ParseOptions,
+) -> Result<Accepted<'a>>
+    ensures text { let right = shown opts.now.parse_mode file.old.bytes in
+        Gives (accepted_text file.old.bytes) result right }
 
     // Want of memory hides no refusal of the header, and none of the section headers' first tests.
-    ensures tested { IfErr (tested names.old.bytes) (λ refusal. Refuses result refusal) }
-    ensures unchanged { names.new.bytes ≡ names.old.bytes }
-    ensures sections { IfOk result (λ file.
-        length file.sections.items ≡ section_count opts.now.parse_mode names.old.bytes) }
+    ensures tested { IfErr (tested file.old.bytes) (λ refusal. Refuses result refusal) }
+    ensures unchanged { file.new.bytes ≡ file.old.bytes }
+    ensures sections { IfOk result (λ accepted.
+        length accepted.sections.items ≡ section_count opts.now.parse_mode file.old.bytes) }
 
     // What is looked at of string tables.
-    ensures looks { IsShort names.old.bytes → IfOk result (λ file.
-        Spends names.old names.new (table_looks * (length file.sections.items + 1))) }
-    ensures looks_refused { let most = tables_looks opts.now.parse_mode names.old.bytes in
-        IsShort names.old.bytes → OnErr result (Spends names.old names.new most) }
+    ensures looks { IsShort file.old.bytes → IfOk result (λ accepted.
+        Spends file.old file.new (table_looks * (length accepted.sections.items + 1))) }
+    ensures looks_refused { let most = tables_looks opts.now.parse_mode file.old.bytes in
+        IsShort file.old.bytes → OnErr result (Spends file.old file.new most) }
+    ensures looks_least { CountsAtLeast file.old.count 0 file.new.count }
 {
-    let bytes = names.bytes();
-    let (header, _) = Header::try_from_ctx(bytes, LE)?;
+    let (header, _) = file.header()?;
     let ctx = ctx_of(&header)?;
-    let sections = sections_of(alloc, bytes, &header, ctx, opts)?;
-    let file = File {
+    let sections = sections_of(alloc, file, &header, ctx, opts)?;
+    let context = Context {
         header: &header,
         ctx,
         sections: sections.as_slice(),
         opts,
     };
-    let parts = file.parts(alloc, names)?;
+    let parts = context.parts(alloc, file)?;
     Ok(Accepted {
         header,
         sections,

@@ -6,6 +6,7 @@ mod accept;
 pub mod command;
 pub mod counted;
 mod digits;
+pub mod file_bytes;
 pub mod input;
 mod lines;
 pub mod names;

@@ -14,7 +14,6 @@ use crate::runs::{BLOCK, BLOCKS, Kind, end_of, none_known};
 use crate::seen::Seen;
 use goblin::error::Result;
 use goblin::options::ParseOptions;
-use goblin::strtab::bytes_in_range;
 use std::marker::Model;
 
 /// The strings that names are taken from.
@@ -77,13 +76,6 @@ impl<'a> Names<'a> {
         }
     }
 
-    /// The bytes themselves, for what isn't a name: what is read of them here isn't counted.
-    pub fn bytes(&self) -> &'a [u8]
-        ensures { result.now ≡ self.now.bytes }
-    {
-        self.seen.bytes()
-    }
-
     /// How many looks were taken, up to the greatest number.
     pub fn count(&self) -> u128
         ensures { result ≡ self.now.count }
@@ -95,7 +87,6 @@ impl<'a> Names<'a> {
     ///
     /// It has no entries: a name is read where it stands. Strict options ask that its bytes are text. The errors are
     /// those of `Strtab::parse_with_opts`.
-    #[tactic(auto, using(crate::proofs::Tables::range_stands, crate::proofs::Tables::range_taken))]
     pub fn table(&mut self, offset: usize, size: usize, opts: &ParseOptions) -> Result<Strings>
         ensures exact { let right = strtab_of opts.now.parse_mode self.old.bytes offset size 0 in
             Answers (strings_in self.old.bytes) result right }
@@ -110,11 +101,9 @@ impl<'a> Names<'a> {
             → IsKept self.new offset (offset + size)) }
         ensures looks_kept { IsKept self.old offset (offset + size)
             → self.new.count ≡ self.old.count }
+        ensures looks_least { CountsAtLeast self.old.count 0 self.new.count }
     {
-        let bytes = self.bytes();
-        let range = bytes_in_range(bytes, offset, size, opts.parse_mode)?;
-        let start = offset.min(bytes.len());
-        let end = start + range.len();
+        let (start, end) = self.seen.range(offset, size, opts.parse_mode)?;
         if !opts.parse_mode.is_permissive() {
             self.refuse_unless_text(start, end)?;
         }
@@ -131,6 +120,7 @@ impl<'a> Names<'a> {
         ensures looks { IsShort self.old.bytes → Spent self.old self.new result table_looks }
         ensures kept { OnOk result (IsKept self.new start end) }
         ensures looks_kept { IsKept self.old start end → self.new.count ≡ self.old.count }
+        ensures looks_least { CountsAtLeast self.old.count 0 self.new.count }
     {
         if start == self.text_start && end == self.text_end {
             return Ok(());
@@ -151,6 +141,7 @@ impl<'a> Names<'a> {
         ensures value { IsTrue result ↔ IsUtf8 (slice_range self.old.bytes start end) }
         ensures unchanged { self.new.bytes ≡ self.old.bytes }
         ensures looks { IsShort self.old.bytes → Spends self.old self.new table_looks }
+        ensures looks_least { CountsAtLeast self.old.count 0 self.new.count }
     {
         let first = start / BLOCK + 1;
         let last = last_block(end);

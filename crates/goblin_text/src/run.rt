@@ -1,13 +1,13 @@
 //! A run: from the bytes that a reader gives to the text that a writer holds.
 ghost use Rattle.std.specs.Prelude.{◌≡◌, ◌≢◌, ℕ, ◌+◌, ◌*◌, ◌≤◌, ◌⊎◌, List, IsTrue, OnOk, OnErr, length};
 ghost use Rattle.std.specs.Io.KnownBytes.{Appends};
-ghost use Rattle.goblin_text.specs.Looks.{IsShort, Spends, lines_in, shown_looks, tables_looks};
+ghost use Rattle.goblin_text.specs.Looks.{CountsAtLeast, IsShort, Spends, lines_in, shown_looks, tables_looks};
 ghost use Rattle.goblin_text.specs.Ran.{FailsToRead, IsReason, IsShown, ReadsAtMostOneMore, TellsError, TellsWhy, WritesRefusal, read_limit, status_of};
 ghost use Rattle.goblin_text.specs.Shown.{shown};
 
 use crate::accept::accept;
+use crate::file_bytes::FileBytes;
 use crate::input::{Input, input_of};
-use crate::names::Names;
 use crate::streams::{Sink, Source};
 use crate::text::write_text;
 use goblin::error::Error;
@@ -97,32 +97,35 @@ fn refuse_for<W: Sink>(alloc: Global, writer: &mut W, e: &Error) -> Outcome
 pub fn show_file<W: Sink>(
     alloc: Global,
     writer: &mut W,
-    names: &mut Names<'_>,
+    file: &mut FileBytes<'_>,
     opts: &ParseOptions,
 ) -> Outcome
     // The text was written.
     ensures shown { result ≡ Outcome.Shown → (text : List ℕ)
-        × (shown opts.now.parse_mode names.old.bytes ≡ Ok text)
+        × (shown opts.now.parse_mode file.old.bytes ≡ Ok text)
         × Appends (W.contents writer.old) (W.contents writer.new) text }
 
     // One line with the reason was written.
     ensures refused { result ≡ Outcome.Refused → (line : List ℕ)
-        × TellsWhy opts.now.parse_mode names.old.bytes line
+        × TellsWhy opts.now.parse_mode file.old.bytes line
         × WritesRefusal (W.contents writer.old) (W.contents writer.new) line }
     ensures heeded { result ≢ Outcome.Failed →
         (W.marks writer.new).told_error ≡ (W.marks writer.old).told_error }
     ensures failed { result ≡ Outcome.Failed → IsTrue (W.marks writer.new).told_error }
-    ensures unchanged { names.new.bytes ≡ names.old.bytes }
+    ensures unchanged { file.new.bytes ≡ file.old.bytes }
 
     // What was looked at for names, where the text was written, and however it ended.
-    ensures looks_shown { IsShort names.old.bytes → (text : List ℕ) → result ≡ Outcome.Shown
-        → shown opts.now.parse_mode names.old.bytes ≡ Ok text
-        → Spends names.old names.new (length text + 4096 * lines_in text) }
-    ensures looks { IsShort names.old.bytes → Spends names.old names.new
-        (tables_looks opts.now.parse_mode names.old.bytes + shown_looks opts.now.parse_mode names.old.bytes) }
+    ensures looks_shown { IsShort file.old.bytes → (text : List ℕ) → result ≡ Outcome.Shown
+        → shown opts.now.parse_mode file.old.bytes ≡ Ok text
+        → Spends file.old file.new (length text + 4096 * lines_in text) }
+    ensures looks_refused { IsShort file.old.bytes → result ≡ Outcome.Refused
+        → Spends file.old file.new (tables_looks opts.now.parse_mode file.old.bytes) }
+    ensures looks { IsShort file.old.bytes → Spends file.old file.new
+        (tables_looks opts.now.parse_mode file.old.bytes + shown_looks opts.now.parse_mode file.old.bytes) }
+    ensures looks_least { CountsAtLeast file.old.count 0 file.new.count }
 {
-    match accept(alloc, names, opts) {
-        Ok(file) => match write_text(writer, names, &file) {
+    match accept(alloc, file, opts) {
+        Ok(accepted) => match write_text(writer, &mut file.names, &accepted) {
             Ok(()) => Outcome::Shown,
             Err(_) => Outcome::Failed,
         },
@@ -176,6 +179,6 @@ pub fn run<R: Source, W: Sink>(
         Input::OutOfMemory => return refuse(writer, OUT_OF_MEMORY),
         Input::Failed => return Outcome::Failed,
     };
-    let mut names = Names::new(bytes.as_slice());
-    show_file(alloc, writer, &mut names, opts)
+    let mut file = FileBytes::new(bytes.as_slice());
+    show_file(alloc, writer, &mut file, opts)
 }

@@ -1,20 +1,23 @@
 //! The bytes of a file, which are read for names under a count of the bytes looked at.
 //!
-//! The type here keeps its fields to itself and can't be copied, so that whoever reads through it reads counted.
-ghost use Rattle.std.specs.Prelude.{◌≡◌, ◌↔◌, ◌+◌, ◌-◌, ◌*◌, ◌<◌, ◌≤◌, ◌==◌, IfErr, IsTrue, OnOk, [], length, min, slice_range, if◌then◌else◌};
+//! The type here keeps its fields to itself and can't be copied, and hands out no bytes but as a text that was counted: who
+//! reads through it reads counted.
+ghost use Rattle.std.specs.Prelude.{◌≡◌, ◌↔◌, ◌+◌, ◌-◌, ◌*◌, ◌<◌, ◌≤◌, ◌==◌, IfErr, IfOk, IsTrue, OnOk, [], length, min, slice_range, if◌then◌else◌};
 ghost use Rattle.std.specs.List.{position};
 ghost use Rattle.std.specs.Str.{IsUtf8, is_utf8};
 ghost use Rattle.std.specs.Str.Lossy.{utf8_valid_len};
 ghost use Rattle.goblin.specs.declared.options.ParseMode.{ParseMode};
 ghost use Rattle.goblin.specs.Pieces.{first_bad, piece_start};
-ghost use Rattle.goblin.specs.Refusal.{Answers};
-ghost use Rattle.goblin.specs.Strtab.{table_of};
+ghost use Rattle.goblin.specs.Refusal.{Answers, malformed};
+ghost use Rattle.goblin.specs.Steps.{refuse_as};
+ghost use Rattle.goblin.specs.Strtab.{range_in, table_of};
 ghost use Rattle.goblin_text.specs.Looks.{CountsAtLeast};
-ghost use Rattle.goblin_text.specs.Known.{text_table};
+ghost use Rattle.goblin_text.specs.Known.{IsRange, text_table};
 ghost use Rattle.goblin_text.specs.Runs.{edge, past, up_to_zero};
 
 use goblin::error::Result;
 use goblin::options::ParseMode;
+use goblin::strtab::bytes_in_range;
 use goblin_base::utf8::invalid_utf8;
 use std::marker::Model;
 
@@ -42,13 +45,6 @@ impl<'a> Seen<'a> {
         Seen { bytes, count: 0 }
     }
 
-    /// The bytes themselves, for what isn't a name: what is read of them here isn't counted.
-    pub fn bytes(&self) -> &'a [u8]
-        ensures { result.now ≡ self.now.bytes }
-    {
-        self.bytes
-    }
-
     /// How many looks were taken, up to the greatest number.
     pub fn count(&self) -> u128
         ensures { result ≡ self.now.count }
@@ -62,6 +58,19 @@ impl<'a> Seen<'a> {
         ensures bound { result < usize.MAX }
     {
         self.bytes.len()
+    }
+
+    /// Returns the places from which and up to which `size` bytes at an offset stand, which `bytes_in_range` returns or
+    /// refuses. No byte is looked at.
+    pub fn range(&self, offset: usize, size: usize, mode: ParseMode) -> Result<(usize, usize)>
+        ensures exact { let right = refuse_as malformed (range_in mode self.now.bytes offset size) in
+            Answers (λ range. slice_range self.now.bytes range.0 range.1) result right }
+        ensures range { IfOk result (λ range.
+            IsRange mode self.now.bytes offset size range.0 range.1) }
+    {
+        let range = bytes_in_range(self.bytes, offset, size, mode)?;
+        let start = offset.min(self.bytes.len());
+        Ok((start, start + range.len()))
     }
 
     // Counts looks.

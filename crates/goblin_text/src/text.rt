@@ -5,11 +5,12 @@ ghost use Rattle.goblin.specs.Refusal.{Gives, Refuses};
 ghost use Rattle.goblin_text.specs.Accepted.{accepted_text, relocs_text, symbols_text};
 ghost use Rattle.goblin_text.specs.Known.{strings_in};
 ghost use Rattle.goblin_text.specs.Lines.{section_line, symbol_line};
-ghost use Rattle.goblin_text.specs.Looks.{IsShort, Spends, names_looks};
+ghost use Rattle.goblin_text.specs.Looks.{CountsAtLeast, IsShort, Spends, names_looks};
 ghost use Rattle.goblin_text.specs.Put.{Puts};
 ghost use Rattle.goblin_text.specs.Shown.{PermissiveShowsStrict, name_at, reloc_lines, section_lines, shown, symbol_lines, tested};
 
 use crate::accept::{Accepted, RelocPart, SymbolPart, accept};
+use crate::file_bytes::FileBytes;
 use crate::lines::{put_header, put_reloc, put_section, put_symbol};
 use crate::names::{Names, Strings};
 use crate::streams::Sink;
@@ -39,6 +40,7 @@ fn put_named_section<T: Target>(
     ensures looks { let name = name_at (strings_in names.old.bytes strings) section.now.sh_name in
         IsShort names.old.bytes → Spends names.old names.new
         (names_looks (section_line number section.now name)) }
+    ensures looks_least { CountsAtLeast names.old.count 0 names.new.count }
 {
     let name = names.name(strings, section.sh_name);
     put_section(target, number, section, name)
@@ -58,6 +60,7 @@ fn put_sections<T: Target>(
     ensures looks { let strings = strings_in names.old.bytes file.now.parts.strings in
         IsShort names.old.bytes → Spends names.old names.new
         (names_looks (section_lines strings 0 file.now.sections.items)) }
+    ensures looks_least { CountsAtLeast names.old.count 0 names.new.count }
 {
     let sections = file.sections.as_slice();
     for (number, section) in sections.iter().enumerate() {
@@ -83,6 +86,7 @@ fn put_named_symbol<T: Target>(
     ensures looks { let name = name_at (strings_in names.old.bytes part.now.strings) symbol.now.st_name in
         IsShort names.old.bytes → Spends names.old names.new
         (names_looks (symbol_line part.now.section number symbol.now name)) }
+    ensures looks_least { CountsAtLeast names.old.count 0 names.new.count }
 {
     let name = names.name(part.strings, symbol.st_name);
     put_symbol(target, part.section, number, symbol, name)
@@ -102,6 +106,7 @@ fn put_symbols<T: Target>(
     ensures looks { let strings = strings_in names.old.bytes part.now.strings in
         IsShort names.old.bytes → Spends names.old names.new
         (names_looks (symbol_lines strings part.now.section 0 part.now.table.symbols)) }
+    ensures looks_least { CountsAtLeast names.old.count 0 names.new.count }
 {
     for (number, symbol) in part.table.iter().enumerate() {
         put_named_symbol(target, names, part, number, &symbol)?;
@@ -121,6 +126,7 @@ fn put_all_symbols<T: Target>(
     ensures unchanged { names.new.bytes ≡ names.old.bytes }
     ensures looks { let text = symbols_text names.old.bytes parts.now in
         IsShort names.old.bytes → Spends names.old names.new (names_looks text) }
+    ensures looks_least { CountsAtLeast names.old.count 0 names.new.count }
 {
     for part in parts {
         put_symbols(target, names, part)?;
@@ -168,6 +174,7 @@ fn put_text<T: Target>(
     ensures unchanged { names.new.bytes ≡ names.old.bytes }
     ensures looks { let text = accepted_text names.old.bytes file.now in
         IsShort names.old.bytes → Spends names.old names.new (names_looks text) }
+    ensures looks_least { CountsAtLeast names.old.count 0 names.new.count }
 {
     put_header(target, &file.header)?;
     put_sections(target, names, file)?;
@@ -191,6 +198,7 @@ fn write_through<W: Sink>(
     ensures unchanged { names.new.bytes ≡ names.old.bytes }
     ensures looks { let text = accepted_text names.old.bytes file.now in
         IsShort names.old.bytes → Spends names.old names.new (names_looks text) }
+    ensures looks_least { CountsAtLeast names.old.count 0 names.new.count }
 {
     put_text(target, names, file)?;
     target.finish()?;
@@ -213,6 +221,7 @@ pub fn write_text<W: Sink>(
     // What is looked at of names.
     ensures looks { let text = accepted_text names.old.bytes file.now in
         IsShort names.old.bytes → Spends names.old names.new (names_looks text) }
+    ensures looks_least { CountsAtLeast names.old.count 0 names.new.count }
 {
     let mut target = Buffered::new(writer);
     write_through(&mut target, names, file)
@@ -228,10 +237,10 @@ pub fn text_of(alloc: Global, bytes: &[u8], opts: &ParseOptions) -> error::Resul
     // Want of memory hides no refusal of the header, and none of the section headers' first tests.
     ensures tested { IfErr (tested bytes.now) (λ refusal. Refuses result refusal) }
 {
-    let mut names = Names::new(bytes);
-    let file = accept(alloc, &mut names, opts)?;
+    let mut file = FileBytes::new(bytes);
+    let accepted = accept(alloc, &mut file, opts)?;
     let mut target = Gathered::new(alloc);
-    put_text(&mut target, &mut names, &file)?;
+    put_text(&mut target, &mut file.names, &accepted)?;
     Ok(target.text)
 }
 

@@ -7,12 +7,12 @@ use Rattle.goblin_text.proofs.run.show_file.Goals as goal
 
 pub returns-in-Ok-write_text-clause-looks_shown : goal.returns-in-Ok-write_text-clause-looks_shown
 returns-in-Ok-write_text-clause-looks_shown g c = λ short text done is.
-    let old = c.args.names.now in
-    let file = c.in-Ok.file in
+    let old = c.args.file.now in
+    let file = c.in-Ok.accepted in
     let all : text ≡ parts_text old.bytes file.header file.sections.items file.parts = grind (arith, common_steps, is) in
-    let tables : Spends old c.accept.new.names (table_looks * (length file.sections.items + 1)) = c.in-Ok.ensures.looks short in
-    let names : Spends c.accept.new.names c.write_text.new.names (names_looks (parts_text old.bytes file.header file.sections.items file.parts)) = grind (arith, common_steps, short) in
-    shown_spend old c.accept.new.names c.write_text.new.names old.bytes file.header file.sections.items file.parts text all tables names
+    let tables : Spends old c.accept.new.file (table_looks * (length file.sections.items + 1)) = c.in-Ok.ensures.looks short in
+    let names : Spends c.accept.new.file c.write_text.new.names (names_looks (parts_text old.bytes file.header file.sections.items file.parts)) = grind (arith, common_steps, short) in
+    shown_spend old c.accept.new.file c.write_text.new.names old.bytes file.header file.sections.items file.parts text all tables names
 
 -- a text that could not be written was not shown
 pub returns-in-Ok-clause-shown : goal.returns-in-Ok-clause-shown

@@ -9,6 +9,7 @@ pub loop-part-preserved : goal.loop-part-preserved
 loop-part-preserved g c = record {
   same = grind (arith, common_steps);
   looks = λ short. more_spent c.args.names.now c.loop-part.names c.put_symbols.new.names _ _ _ _ (c.loop-part.invariant.looks short) (grind (arith, common_steps)) (c.put_symbols.ensures.looks (grind (arith, common_steps)));
+  least = omega (arith, c.loop-part.invariant.least, c.put_symbols.ensures.looks_least);
   put = more_put _ _ _ _ _ _ _ c.loop-part.invariant.put (grind (arith, common_steps)) c.in_ok-put_symbols.ensures.put;
   kept = grind (arith, common_steps);
 }

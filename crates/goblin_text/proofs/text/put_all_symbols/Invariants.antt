@@ -2,7 +2,7 @@ use Rattle.std.proofs.Common.{◌≡◌, drop}
 use Rattle.goblin_text.proofs.Puts.{PutSoFar}
 use Rattle.goblin_text.proofs.Spent.{SpentSoFar}
 use Rattle.goblin_text.specs.Accepted.{symbols_text}
-use Rattle.goblin_text.specs.Looks.{IsShort}
+use Rattle.goblin_text.specs.Looks.{CountsAtLeast, IsShort}
 use Rattle.goblin_text.proofs.text.put_all_symbols.Given as goal
 
 -- the lines so far were put, and took no more looks than they may
@@ -15,6 +15,7 @@ invariant-loop-part g l =
     record {
       same : l.names.bytes ≡ old.bytes;
       looks : IsShort old.bytes → SpentSoFar old l.names all rest;
+      least : CountsAtLeast old.count 0 l.names.count;
       put : PutSoFar (target.state l.initial.target) (target.state l.target) all rest;
       kept : target.kept l.target ≡ target.kept l.initial.target;
     }

@@ -2,7 +2,7 @@ use Rattle.std.proofs.Common.{◌≡◌, drop}
 use Rattle.goblin_text.proofs.Puts.{PutSoFar}
 use Rattle.goblin_text.specs.Known.{strings_in}
 use Rattle.goblin_text.proofs.Spent.{SpentSoFar}
-use Rattle.goblin_text.specs.Looks.{IsShort}
+use Rattle.goblin_text.specs.Looks.{CountsAtLeast, IsShort}
 use Rattle.goblin_text.specs.Shown.{section_lines}
 use Rattle.goblin_text.proofs.text.put_sections.Given as goal
 
@@ -17,6 +17,7 @@ invariant-loop-number g l =
     record {
       same : l.names.bytes ≡ old.bytes;
       looks : IsShort old.bytes → SpentSoFar old l.names all rest;
+      least : CountsAtLeast old.count 0 l.names.count;
       put : PutSoFar (target.state l.initial.target) (target.state l.target) all rest;
       kept : target.kept l.target ≡ target.kept l.initial.target;
     }

@@ -10,6 +10,7 @@ pub loop-number-preserved : goal.loop-number-preserved
 loop-number-preserved g c = record {
   same = grind (arith, common_steps);
   looks = λ short. more_spent c.args.names.now c.loop-number.names c.put_named_symbol.new.names _ _ _ _ (c.loop-number.invariant.looks short) (grind (arith, common_steps)) (c.put_named_symbol.ensures.looks (grind (arith, common_steps)));
+  least = omega (arith, c.loop-number.invariant.least, c.put_named_symbol.ensures.looks_least);
   count = grind (arith, common_steps);
   put = more_put _ _ _ _ _ _ _ c.loop-number.invariant.put (grind (arith, common_steps)) c.in_ok-put_named_symbol.ensures.put;
   kept = grind (arith, common_steps);

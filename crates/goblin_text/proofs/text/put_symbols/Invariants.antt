@@ -3,7 +3,7 @@ use Prim.Native.Nat.{◌^◌}
 use Rattle.goblin_text.proofs.Puts.{PutSoFar}
 use Rattle.goblin_text.proofs.Spent.{SpentSoFar}
 use Rattle.goblin_text.specs.Known.{strings_in}
-use Rattle.goblin_text.specs.Looks.{IsShort}
+use Rattle.goblin_text.specs.Looks.{CountsAtLeast, IsShort}
 use Rattle.goblin_text.specs.Shown.{symbol_lines}
 use Rattle.goblin_text.proofs.text.put_symbols.Given as goal
 
@@ -18,6 +18,7 @@ invariant-loop-number g l =
     record {
       same : l.names.bytes ≡ old.bytes;
       looks : IsShort old.bytes → SpentSoFar old l.names all rest;
+      least : CountsAtLeast old.count 0 l.names.count;
       count : l.number + length l.symbol-iterator < 2 ^ 64;
       put : PutSoFar (target.state l.initial.target) (target.state l.target) all rest;
       kept : target.kept l.target ≡ target.kept l.initial.target;

@@ -2,12 +2,12 @@ use Rattle.std.proofs.Common.{◌≡◌, ◌++◌, ℕ, List, drop}
 use Rattle.goblin_text.proofs.Shows.{behind}
 use Rattle.goblin_text.specs.Accepted.{relocs_text}
 use Rattle.goblin_text.specs.Shown.{each_shown, relocs_shown}
-use Rattle.goblin_text.proofs.accept.File.accept_all_relocs.Given as goal
+use Rattle.goblin_text.proofs.accept.Context.accept_all_relocs.Given as goal
 
 -- the lines so far stand before what is shown of the sections that are left
 abbrev pub invariant-loop-number : goal.invariant-loop-number
 invariant-loop-number l =
-    let file = l.self in
-    let shows = relocs_shown l.bytes file.ctx l.is_mips64el in
+    let context = l.self in
+    let shows = relocs_shown l.file.bytes context.ctx l.is_mips64el in
     (lines : List ℕ) × (relocs_text l.parts.items ≡ relocs_text l.initial.parts.items ++ lines)
-    × (each_shown shows 0 file.sections.now ≡ behind lines (each_shown shows l.number (drop l.number file.sections.now)))
+    × (each_shown shows 0 context.sections.now ≡ behind lines (each_shown shows l.number (drop l.number context.sections.now)))

@@ -2,7 +2,7 @@ use Rattle.std.proofs.Common.{arith}
 use Rattle.std.proofs.lemmas.Grind.{common_steps}
 use Rattle.std.proofs.lemmas.List.{flat_map_more}
 use Rattle.goblin_text.specs.Shown.{reloc_lines, relocs_shown}
-use Rattle.goblin_text.proofs.accept.File.accept_relocs.Goals as goal
+use Rattle.goblin_text.proofs.accept.Context.accept_relocs.Goals as goal
 
 pub returns : goal.returns
 unfolding relocs_shown

@@ -1,0 +1,17 @@
+use Rattle.std.proofs.Common.{◌≡◌, ◌++◌, ◌*◌, ℕ, List, drop}
+use Rattle.goblin_text.proofs.Shows.{behind}
+use Rattle.goblin_text.specs.Accepted.{symbols_text}
+use Rattle.goblin_text.specs.Looks.{CountsAtLeast, IsShort, Spends, table_looks}
+use Rattle.goblin_text.specs.Shown.{each_shown, symbols_shown}
+use Rattle.goblin_text.proofs.accept.Context.accept_all_symbols.Given as goal
+
+-- the lines so far stand before what is shown of the sections that are left, each of which asked for one table at most
+abbrev pub invariant-loop-number : goal.invariant-loop-number
+invariant-loop-number l =
+    let context = l.self in
+    let bytes = l.initial.file.bytes in
+    let shows = symbols_shown context.opts.now.parse_mode bytes context.ctx context.sections.now in
+    (l.file.bytes ≡ bytes) × (IsShort bytes → Spends l.initial.file l.file (table_looks * l.number))
+    × CountsAtLeast l.initial.file.count 0 l.file.count
+    × (lines : List ℕ) × (symbols_text bytes l.parts.items ≡ symbols_text bytes l.initial.parts.items ++ lines)
+    × (each_shown shows 0 context.sections.now ≡ behind lines (each_shown shows l.number (drop l.number context.sections.now)))
