@@ -5,12 +5,13 @@
     python3 checks/edits CRATE ..             those of some crates
     python3 checks/edits --edit NAME          the one of that name
     python3 checks/edits --from FOLDER ..     those of FOLDER/CRATE/ in place of the crates' own
-    python3 checks/edits --fits               only whether each fits the code: nothing is proved
+    python3 checks/edits --fits               only whether each fits the code, and each of must-fail/ too: nothing is proved
     python3 checks/edits --anew FOLDER ..     over proofs of their own, not over what earlier checks here kept: FOLDER/crates/ is
                                               given what they keep, and FOLDER/unit the processor seconds of the lowest crate's,
                                               unless the toolchain had it from another copy on this machine
 
-Run from the repository's root. It works on copies, as many crates side by side as there are processors.
+Those of crates/NAME/must-fail/ `rt ci` tries by itself. Run from the repository's root. It works on copies, as many crates side
+by side as there are processors.
 """
 import argparse
 import os
@@ -154,14 +155,20 @@ def read_edits(words, below):
     """The edits that are asked for, by crate; those that fit no code are told."""
     edits, misfits = {}, []
     for crate in words.crates or below:
-        folder = f'{words.folder}/{crate}' if words.folder else f'crates/{crate}/edits'
-        if not os.path.isdir(folder):
-            continue
-        found, wrong = edits_of(folder, crate, f'crates/{crate}')
-        found = [it for it in found if words.edit in (None, it.name)]
-        edits.update({crate: found} if found else {})
-        misfits += wrong
+        for folder in folders_of(words, crate):
+            found, wrong = edits_of(folder, crate, f'crates/{crate}') if os.path.isdir(folder) else ([], [])
+            found = [it for it in found if words.edit in (None, it.name)]
+            edits.update({crate: edits.get(crate, []) + found} if found else {})
+            misfits += wrong
     return edits, misfits
+
+
+def folders_of(words, crate):
+    """Where the edits of a crate lie that are asked for."""
+    if words.folder:
+        return [f'{words.folder}/{crate}']
+    # `rt ci` tries those of must-fail/, but passes over one that fits no code
+    return [f'crates/{crate}/{name}' for name in (['edits', 'must-fail'] if words.fits else ['edits'])]
 
 
 def main():

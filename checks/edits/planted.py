@@ -1,7 +1,8 @@
 #!/usr/bin/env python3
 """Whether checks/edits tells wrong bodies from what only looks like one: python3 checks/edits/planted.py
 
-A small crate is made, in which edits are planted whose judgement is known; what is said of each is compared.
+A small crate is made, in which edits are planted whose judgement is known; what is said of each is compared. One of must-fail/
+isn't tried, and where it doesn't fit the code that is told.
 """
 import os
 import subprocess
@@ -119,6 +120,9 @@ PLANTED = {
     ],
 }
 
+# An edit of must-fail/ that doesn't fit the code, and what is to be said of it.
+MISFIT = ('stands_nowhere', 'file: src/lib.rt\nold:     x + 9\nnew:     x\n', 'planted/stands_nowhere: 0 times in ')
+
 
 def write(path, text):
     os.makedirs(os.path.dirname(path), exist_ok=True)
@@ -137,12 +141,18 @@ def main():
         for file, edits in PLANTED.items():
             for name, old, new, _ in edits:
                 write(f'{room}/crates/planted/edits/{name}.edit', f'file: {file}\nold: {old}\nnew: {new}\n')
-        ran = subprocess.run([sys.executable, script, 'planted'], cwd=room, capture_output=True, text=True)
+        write(f'{room}/crates/planted/must-fail/{MISFIT[0]}.edit', MISFIT[1])
+        command = [sys.executable, script, 'planted']
+        ran = subprocess.run(command, cwd=room, capture_output=True, text=True)
+        fits = subprocess.run([*command, '--fits'], cwd=room, capture_output=True, text=True)
     lines = ran.stdout.split('\n')
     lacking = [name for name in wanted if not any(line.startswith(f'planted/{name}: {wanted[name]}') for line in lines)]
     wrong = sum(said.startswith('NOT REFUSED') for said in wanted.values())
     if lacking or ran.returncode != 1 or f'edits: {len(wanted)} tried, {wrong} wrong' not in lines:
         print(f'{ran.stdout}{ran.stderr}\nplanted: judged otherwise than they are: {lacking or "their number"}')
+        return 1
+    if fits.returncode != 1 or not fits.stdout.startswith(MISFIT[2]):
+        print(f'{fits.stdout}{fits.stderr}\nplanted: it is not told that an edit of must-fail/ does not fit')
         return 1
     print(f'planted: {len(wanted)} edits are told as what they are, {wrong} of which test nothing')
     return 0
