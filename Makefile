@@ -20,9 +20,10 @@ test:
 	@python3 checks/took.py $(MAKE) --no-print-directory gate
 
 # The pages' quotations, and whether each edit fits the code; side by side growths that are refused, every proof that the
-# toolchain hasn't kept on this machine, with the tests and the stored runs, every edit that the prover must refuse, and whether
-# edits that test nothing are told from those that do; then, over what the edits' proofs left, the library for C called from C
-# and Rust, beside the program's words and what hostile files may take. (ROOM is a folder of the run's own, which `test` makes.)
+# toolchain hasn't kept on this machine, with the edits of must-fail/, the tests and the stored runs, every other edit that the
+# prover must refuse, and whether edits that test nothing are told from those that do; then, over what the edits' proofs left,
+# the library for C called from C and Rust, beside the program's words and what hostile files may take. (ROOM is a folder of the
+# run's own, which `test` makes.)
 gate:
 	sh checks/quotes.sh
 	python3 checks/edits --fits
@@ -34,7 +35,7 @@ refused:
 	sh checks/refused.sh
 
 proved:
-	rt ci
+	sh checks/proved.sh
 
 # Two at a time, since the proofs of `rt ci` go on beside them.
 edited:
