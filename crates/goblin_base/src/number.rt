@@ -8,6 +8,7 @@ ghost use Rattle.goblin_base.specs.Place.{with_number, ReadsWhatWasPut};
 ghost use Rattle.goblin_base.specs.Signed.{signed_number_at, complement, ReadsSigned, SpellsSigned, IsSignedSlice, ReadsSignedThere};
 
 use crate::container::Endian;
+pub use crate::room::room;
 use byteorder::{BigEndian, ByteOrder, LittleEndian};
 
 /// The number that the byte at a place stands for, which is the same in both orders.

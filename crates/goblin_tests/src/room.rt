@@ -1,6 +1,7 @@
 //! Whether there is room, in rows.
 use crate::told::{holds, says};
 use goblin_base::error::Error;
+use goblin_base::number;
 use goblin_base::room::room;
 
 const MAX: usize = usize::MAX;
@@ -23,6 +24,14 @@ static ROOMS: [(usize, usize, usize, &str); 10] = [
 fn has_room_or_tells_the_fault(rt: HostRuntime) {
     for row in &ROOMS {
         let answer = room(row.0, row.1, row.2).map_err(Error::from);
+        assert!(rt; holds(rt, row, says(rt, answer, row.3)));
+    }
+}
+
+#[test]
+fn is_reached_through_numbers_too(rt: HostRuntime) {
+    for row in &ROOMS {
+        let answer = number::room(row.0, row.1, row.2).map_err(Error::from);
         assert!(rt; holds(rt, row, says(rt, answer, row.3)));
     }
 }
