@@ -240,7 +240,7 @@ pub fn read_all<R: Record<C>, C: Copy>(
     ensures given { let right =
         records_from (R.size_of ctx) (R.read ctx) bytes.now offset count items.now in
         Gives (λ v. v.items) result right }
-    ensures counted { length bytes.now / R.size_of ctx < count →
+    ensures too_many { length bytes.now / R.size_of ctx < count →
         Refuses result (buffer_too_short count items.now) }
     ensures none { (count ≡ 0) → IsOk result }
 {

@@ -98,7 +98,7 @@ impl Sym {
     ) -> Result<Vec<Sym>>
         ensures given { let right = symbols_from bytes.now offset count ctx in
             Gives (λ v. v.items) result right }
-        ensures counted { length bytes.now / sym_size ctx.container < count →
+        ensures too_many { length bytes.now / sym_size ctx.container < count →
             Refuses result (buffer_too_short count (codes "symbols")) }
         ensures none { (count ≡ 0) → IsOk result }
     {

@@ -15,4 +15,4 @@ returns-clause-given c =
 
 pub returns-clause-tested : goal.returns-clause-tested
 returns-clause-tested c =
-    all_tested c.args.bytes.now c.args.offset c.args.count c.args.ctx c.in_ok-asked.asked c.in_ok-asked.ensures c.read_all.result c.read_all.ensures.counted
+    all_tested c.args.bytes.now c.args.offset c.args.count c.args.ctx c.in_ok-asked.asked c.in_ok-asked.ensures c.read_all.result c.read_all.ensures.too_many
