@@ -41,7 +41,7 @@ pub fn walk<'a>(
         IfOk result (λ _. CountsAtLeast view.old.count least view.new.count) }
 
     // So many were looked at, at least, for a piece to be refused: those before it, and its own.
-    ensures looks_refused { let bad = first_bad view.old.bytes delim in
+    ensures looks_least_refused { let bad = first_bad view.old.bytes delim in
         let least = piece_end view.old.bytes delim bad in
         IfErr result (λ e. refusal_of e ≢ out_of_memory
         → CountsAtLeast view.old.count least view.new.count) }

@@ -71,7 +71,7 @@ returns-else-is_permissive c =
       unchanged = search rules;
       looks = search rules;
       looks_least = search rules;
-      looks_refused = λ _.
+      looks_least_refused = λ _.
           let here = ap (piece_end bytes d) (bad_here bytes d i in_range bad so_far) ∙ sym end in
           omega (arith, here, ap (λ v. v.count) c.text.ensures.counted, e.looks_least, e.within, e.ordered, s.least, ap length s.same);
       first = λ m r.
