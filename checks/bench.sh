@@ -1,5 +1,5 @@
 #!/bin/sh
-# Times the built program over the files of checks/hostile.sh and over a FILE, beside readelf where there is one:
+# Times the built program over the files of checks/hostile.py and over a FILE, beside readelf where there is one:
 # SHOWN=FILE sh checks/bench.sh. A line tells the least of RUNS runs (9, if not said) taken by turns, in milliseconds, and readelf's
 # time as a multiple of the strict one; readelf is stopped after 10 seconds. The file whose text is endless is timed up to the
 # first 100 MB of it. Run from the repository's root.
@@ -11,7 +11,7 @@ test -x "$show" || { echo "$show is not built: make show FILE=/bin/true builds i
 folder=$(mktemp -d)
 trap 'rm -rf "$folder"' EXIT
 trap 'exit 1' HUP INT TERM
-sh checks/hostile.sh "$folder"
+python3 checks/hostile.py "$folder"
 if [ -n "${SHOWN:-}" ]; then cp -- "$SHOWN" "$folder/FILE"; fi
 
 # A command over the file.

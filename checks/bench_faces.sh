@@ -17,7 +17,7 @@ if [ -z "$library" ]; then
 fi
 cc -std=c99 -Wall -Wextra -pedantic -O2 -Ifaces/c -o "$folder/bench" faces/c/bench.c "$library" -lelf
 mkdir "$folder/files"
-sh checks/hostile.sh "$folder/files"
+python3 checks/hostile.py "$folder/files"
 if [ -z "${SHOWN:-}" ]; then
     for file in /usr/lib*/libLLVM*.so* /usr/lib/*/libLLVM*.so* /usr/lib*/libstdc++.so.6 /usr/lib/*/libstdc++.so.6; do
         if [ -f "$file" ]; then SHOWN=$file; break; fi

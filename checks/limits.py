@@ -1,7 +1,7 @@
 #!/usr/bin/env python3
 """Whether files made to ask for much work stay cheap: python3 checks/limits.py, from the repository's root, once the program is built.
 
-Of each file of checks/hostile.sh: the processor seconds that a strict and a permissive run may take, at most some 20 times what
+Of each file of checks/hostile.py: the processor seconds that a strict and a permissive run may take, at most some 20 times what
 they took when the limits were set, and for all the memory and the main stack. Of a text without end the first 100 MB are read,
 and then no more. What is there for speed alone, and no contract says, is noticed here when it is undone.
 """
@@ -17,12 +17,12 @@ STACK = 256 * 1024
 READ = 100_000_000
 # file: strict, permissive
 LIMITS = {
-    'ascii': (1, 1),
     'damaged': (1, 1),
     'endless': (7, 7),
     'failing': (1, 6),
     'failing_wide': (2, 11),
     'inside': (2, 2),
+    'narrow': (1, 1),
     'one': (1, 1),
     'strings': (1, 1),
     'symbols': (2, 2),
@@ -60,9 +60,9 @@ def took(path, words, limit):
 def main():
     wrong = 0
     with tempfile.TemporaryDirectory(prefix='limits-') as folder:
-        subprocess.run(['sh', 'checks/hostile.sh', folder], check=True)
+        subprocess.run([sys.executable, 'checks/hostile.py', folder], check=True)
         if sorted(os.listdir(folder)) != sorted(LIMITS):
-            print(f'limits: checks/hostile.sh makes other files than have a limit: {sorted(os.listdir(folder))}')
+            print(f'limits: checks/hostile.py makes other files than have a limit: {sorted(os.listdir(folder))}')
             return 1
         for name, limits in LIMITS.items():
             for mode, limit in zip(('strict', 'permissive'), limits):
