@@ -1,5 +1,9 @@
-//! Lists what an ELF file on standard input holds: its functions by size, its relocations, its notes. It is a small
-//! user of `goblin`, whose loops are written as people write them.
+//! Lists what an ELF file on standard input holds: its symbols, its functions by size, its relocations, its notes. It is a
+//! small user of `goblin`, whose loops are written as people write them.
+//!
+//! `main` and `list` are a sketch of how the calls go together, and have no contract: nothing proves which sections are
+//! listed, in which order, or what is printed before a refusal. One stored run shows it (`stdin` and `stdout`). The lines
+//! that a call of the other modules adds are proved.
 #![tactic(auto)]
 
 mod functions;

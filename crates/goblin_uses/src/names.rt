@@ -42,7 +42,8 @@ pub fn longest(probes: &mut Probes<'_>) -> usize
     longest
 }
 
-/// How many places the search for an offset reads.
+/// How many places the search for an offset reads: as many as their number has binary digits, or one fewer. No clause says
+/// which of the two, nor that the search was for this offset.
 pub fn probes_of(entries: &Entries<'_>, offset: usize) -> u64
     ensures most { result ≤ digits (length (places_of entries.now)) }
     ensures least { digits (length (places_of entries.now) + 1) ≤ result + 1 }
