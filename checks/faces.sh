@@ -116,6 +116,7 @@ check_c() {
     for program in nm size symbolize values made search; do build $program -std=c99; done
     quietly "$folder/search"
     echo "search.c: $(wc -l < "$folder/output") searches among long names stay within their limit"
+    build cost -std=c99; quietly "$folder/cost"; echo "cost.c: $(wc -l < "$folder/output") lists of many items stay within their limit"
     if echo '#include <gelf.h>' | cc -E - > "$folder/output" 2>&1; then
         quietly cc -std=c99 $strict -Ifaces/c -o "$folder/bench" faces/c/bench.c -L"$library" -lgoblin_c -lelf
         quietly "$folder/bench" "$folder/nm"

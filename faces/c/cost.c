@@ -1,0 +1,148 @@
+/* Whether calls over many items take a time in proportion to them: cost, which makes a file of zero bytes, in which each range is
+   sections, symbols, relocations, segments, notes or empty strings as it is asked for. A call that walked to its item from the first
+   one would take the whole list more than ten times as long as the limit. */
+#include "goblin.h"
+#include <elf.h>
+#include <inttypes.h>
+#include <stdio.h>
+#include <stdlib.h>
+#include <string.h>
+#include <time.h>
+
+enum { ITEMS = 300000, SEGMENTS = 65535, LIMIT = 500000 };
+
+static uint8_t *bytes;
+static size_t len;
+static goblin_header_t header;
+static goblin_refusal_t why;
+/* The room that lists of items are put into. */
+static void *room;
+
+/* A range behind the headers of the file and of the first section, for so many items of a size. */
+static goblin_range_t range_of(uint64_t items, uint64_t size) {
+    goblin_range_t range = {128, 0};
+    range.size = items * size;
+    return range;
+}
+
+/* Each of the following answers how many items it came to. */
+
+static uint64_t each_section(void) {
+    goblin_section_t section;
+    uint64_t i = 0;
+    while (goblin_section(bytes, len, &header, i, &section, &why) == GOBLIN_OK) i++;
+    return i;
+}
+
+static uint64_t all_sections(void) {
+    uint64_t filled = 0;
+    goblin_sections(bytes, len, &header, 0, (goblin_section_t *)room, ITEMS, &filled, &why);
+    return filled;
+}
+
+static uint64_t section_of_no_type(void) {
+    uint64_t index;
+    return goblin_section_by_type(bytes, len, &header, 1, 0, &index, &why) == GOBLIN_END ? ITEMS : 0;
+}
+
+static uint64_t each_segment(void) {
+    goblin_segment_t segment;
+    uint64_t i = 0;
+    while (goblin_segment(bytes, len, &header, i, &segment, &why) == GOBLIN_OK) i++;
+    return i;
+}
+
+static uint64_t each_symbol(void) {
+    goblin_range_t table = range_of(ITEMS, sizeof(Elf64_Sym));
+    goblin_symbol_t symbol;
+    uint64_t i = 0;
+    while (goblin_symbol(bytes, len, &header, &table, i, &symbol, &why) == GOBLIN_OK) i++;
+    return i;
+}
+
+static uint64_t all_symbols(void) {
+    goblin_range_t table = range_of(ITEMS, sizeof(Elf64_Sym));
+    uint64_t filled = 0;
+    goblin_symbols(bytes, len, &header, &table, 0, (goblin_symbol_t *)room, ITEMS, &filled, &why);
+    return filled;
+}
+
+static uint64_t symbol_at_no_address(void) {
+    goblin_range_t table = range_of(ITEMS, sizeof(Elf64_Sym));
+    uint64_t index;
+    return goblin_symbol_by_address(bytes, len, &header, &table, 1, &index, &why) == GOBLIN_END ? ITEMS : 0;
+}
+
+static uint64_t each_reloc(void) {
+    goblin_range_t relocs = range_of(ITEMS, sizeof(Elf64_Rela));
+    goblin_reloc_t reloc;
+    uint64_t i = 0;
+    while (goblin_reloc(bytes, len, &header, &relocs, true, i, &reloc, &why) == GOBLIN_OK) i++;
+    return i;
+}
+
+static uint64_t all_relocs(void) {
+    goblin_range_t relocs = range_of(ITEMS, sizeof(Elf64_Rela));
+    uint64_t filled = 0;
+    goblin_relocs(bytes, len, &header, &relocs, true, 0, (goblin_reloc_t *)room, ITEMS, &filled, &why);
+    return filled;
+}
+
+static uint64_t each_note(void) {
+    goblin_range_t notes = range_of(ITEMS, sizeof(Elf64_Nhdr));
+    goblin_note_t note = {{0, 0}, {0, 0}, notes.offset, 0};
+    uint64_t i = 0;
+    while (goblin_note(bytes, len, &header, &notes, 4, note.next, &note, &why) == GOBLIN_OK) i++;
+    return i;
+}
+
+static uint64_t each_string(void) {
+    goblin_range_t strings = range_of(ITEMS, 1), string;
+    uint64_t i = 0;
+    while (goblin_string(bytes, len, &strings, i, &string, &why) == GOBLIN_OK) i++;
+    return i;
+}
+
+static uint64_t bytes_of_each_string(void) {
+    goblin_range_t strings = range_of(ITEMS, 1), string;
+    uint64_t i = 0;
+    while (goblin_string_bytes(bytes, len, &strings, i, &string, &why) == GOBLIN_OK) i++;
+    return i;
+}
+
+/* Whether a list comes to so many items within the limit. */
+static int takes_little(const char *what, uint64_t (*list)(void), uint64_t items) {
+    clock_t start = clock();
+    uint64_t came = list();
+    double took = 1e6 * (double)(clock() - start) / CLOCKS_PER_SEC;
+    printf("%s: %" PRIu64 " of %" PRIu64 " items in %.0f microseconds\n", what, came, items, took);
+    return came == items && took < LIMIT;
+}
+
+int main(void) {
+    Elf64_Shdr first;
+    int right = 1;
+    memset(&first, 0, sizeof first);
+    first.sh_size = ITEMS;
+    len = 64 + ITEMS * sizeof first;
+    bytes = (uint8_t *)calloc(1, len);
+    room = malloc(ITEMS * sizeof(goblin_section_t));
+    if (!bytes || !room) return 2;
+    memcpy(bytes + 64, &first, sizeof first);
+    header.ei_class = 2, header.ei_data = 1, header.e_shoff = 64, header.e_phoff = 128, header.e_phnum = SEGMENTS;
+    right &= takes_little("each section", each_section, ITEMS);
+    right &= takes_little("all sections", all_sections, ITEMS);
+    right &= takes_little("a section of a type that none has", section_of_no_type, ITEMS);
+    right &= takes_little("each segment", each_segment, SEGMENTS);
+    right &= takes_little("each symbol", each_symbol, ITEMS);
+    right &= takes_little("all symbols", all_symbols, ITEMS);
+    right &= takes_little("a symbol at an address that none has", symbol_at_no_address, ITEMS);
+    right &= takes_little("each relocation", each_reloc, ITEMS);
+    right &= takes_little("all relocations", all_relocs, ITEMS);
+    right &= takes_little("each note", each_note, ITEMS);
+    right &= takes_little("each string", each_string, ITEMS);
+    right &= takes_little("the bytes of each string", bytes_of_each_string, ITEMS);
+    free(room);
+    free(bytes);
+    return right ? 0 : 1;
+}
