@@ -1,7 +1,7 @@
 #!/bin/sh
 # Times the built program over the files of checks/hostile.py and over a FILE, beside readelf where there is one:
 # SHOWN=FILE sh checks/bench.sh. A line tells the least of RUNS runs (9, if not said) taken by turns, in milliseconds, and readelf's
-# time as a multiple of the strict one; readelf is stopped after 10 seconds. The file whose text is endless is timed up to the
+# time as a multiple of the strict one; readelf is stopped after 10 seconds. A file whose text is endless is timed up to the
 # first 100 MB of it. Run from the repository's root.
 set -eu
 export LC_ALL=C
@@ -17,7 +17,7 @@ if [ -n "${SHOWN:-}" ]; then cp -- "$SHOWN" "$folder/FILE"; fi
 # A command over the file.
 over() {
     case $file in
-    */endless) "$@" < "$file" | head -c 100000000 ;;
+    *endless) "$@" < "$file" | head -c 100000000 ;;
     *) "$@" < "$file" ;;
     esac
 }
@@ -34,7 +34,7 @@ least() {
     if [ "$before" -eq 0 ] || [ "$took" -lt "$before" ]; then echo "$took"; else echo "$before"; fi
 }
 
-printf '%-10s %10s %10s %10s %8s\n' file strict permissive readelf times
+printf '%-20s %10s %10s %10s %8s\n' file strict permissive readelf times
 for file in "$folder"/*; do
     s=0 p=0 r=0 run=0
     while [ "$run" -lt "$runs" ]; do
@@ -43,6 +43,6 @@ for file in "$folder"/*; do
         if [ "$r" -lt 9000000 ] && command -v readelf > /dev/null; then r=$(least "$r" other); fi
         run=$((run + 1))
     done
-    echo "${file##*/} $s $p $r" | awk '{ printf "%-10s %10.1f %10.1f ", $1, $2 / 1000, $3 / 1000
+    echo "${file##*/} $s $p $r" | awk '{ printf "%-20s %10.1f %10.1f ", $1, $2 / 1000, $3 / 1000
         if ($4 == 0 || $4 >= 9000000) printf "%10s %8s\n", "-", "-"; else printf "%10.1f %8.2f\n", $4 / 1000, $4 / $2 }'
 done

@@ -2,28 +2,32 @@
 """Makes ELF files that ask for much work, in a folder: python3 checks/hostile.py FOLDER
 
 There is a function for each file, of the file's name, that says what the file asks for. All are 64-bit little-endian files of at
-most the 16,777,216 bytes that the program takes.
+most the 16,777,216 bytes that the program takes. Where a name begins with text_ every byte of the file is below 128, in its
+headers too: whoever tests the whole file for text reads all of it there, and in the others stops early.
 """
+import itertools
 import os
 import struct
 import sys
 
-SHT_NULL, SHT_SYMTAB, SHT_STRTAB = 0, 2, 3
+LONGEST = 1 << 24
+SHT_NULL, SHT_PROGBITS, SHT_SYMTAB, SHT_STRTAB, SHT_RELA, SHT_REL = 0, 1, 2, 3, 4, 9
 HEADER_SIZE = SECTION_SIZE = 64
+RELA_SIZE, REL_SIZE = 24, 16
 WIDE = '\U0001f600'.encode()
 BAD = b'\xff'
 
 
 # ---- records ----
 
-def header(sections):
-    """The header of a program for x86-64, after which the headers of so many sections follow."""
+def header(sections, names):
+    """The header of a program for x86-64, after which the headers of so many sections follow. One of these has their names."""
     magic = b'\x7fELF' + bytes([2, 1, 1])
-    return struct.pack('<16sHHIQQQIHHHHHH', magic, 2, 62, 1, 0, 0, HEADER_SIZE, 0, HEADER_SIZE, 0, 0, SECTION_SIZE, sections, 0)
+    return struct.pack('<16sHHIQQQIHHHHHH', magic, 2, 62, 1, 0, 0, HEADER_SIZE, 0, HEADER_SIZE, 0, 0, SECTION_SIZE, sections, names)
 
 
-def section(kind, offset, size, link=0):
-    return struct.pack('<IIQQQQIIQQ', 0, kind, 0, 0, offset, size, link, 0, 0, 24)
+def section(kind, offset, size, link=0, name=0):
+    return struct.pack('<IIQQQQIIQQ', name, kind, 0, 0, offset, size, link, 0, 0, 24)
 
 
 def symbol(name, value):
@@ -41,9 +45,9 @@ def body_start(count):
     return HEADER_SIZE + SECTION_SIZE * (1 + count)
 
 
-def elf(sections, body):
+def elf(sections, body, names=0):
     """A file: its header, the headers of the null section and of these, and the body."""
-    return header(1 + len(sections)) + NULL_SECTION + b''.join(sections) + body
+    return header(1 + len(sections), names) + NULL_SECTION + b''.join(sections) + body
 
 
 def symbols_file(table, names):
@@ -136,12 +140,104 @@ def endless():
     return elf([table] + [section(SHT_SYMTAB, start, len(NAMED), link=1)] * 60_000, NAMED + NAMES)
 
 
-MAKERS = [one, turns, damaged, narrow, wide, strings, inside, symbols, failing, failing_wide, endless]
+# ---- relocations ----
+
+def relocs():
+    """65,000 relocation sections of one entry each, at the end of a file of 16 MB."""
+    start = body_start(65_000)
+    places = range(LONGEST - RELA_SIZE - 65_000, LONGEST - RELA_SIZE)
+    return elf([section(SHT_RELA, place, RELA_SIZE) for place in places], bytes(LONGEST - start))
+
+
+def relocations():
+    """One section of 690,000 relocations."""
+    entries = b''.join(struct.pack('<QQq', i, i, i) for i in range(690_000))
+    return elf([section(SHT_RELA, body_start(1), len(entries))], entries)
+
+
+# ---- bytes below 128 ----
+
+# The most sections whose number has two such bytes; where the body begins, after their headers; and a large size.
+TEXT_SECTIONS = 0x7f7f
+TEXT_BODY = 0x200000
+TEXT_SIZE = 0x7f0000
+# The offset of the first name that is asked for, and the strings that the names lie in.
+FIRST_NAME = 0x600000
+SHORT_STRINGS = (b'a' * 15 + b'\0') * (TEXT_SIZE // 16)
+LONG_STRINGS = (b'a' * 4095 + b'\0') * (TEXT_SIZE // 4096)
+
+
+def low_numbers(start, count):
+    """So many numbers, the first ones from `start` on, whose bytes are all below 128."""
+    return itertools.islice((number for number in itertools.count(start) if not number & 0x80808080), count)
+
+
+def text_file(sections, body=b'', names=0):
+    """A file of these sections and this body, as long as the program takes one."""
+    return (elf(sections, b'', names).ljust(TEXT_BODY, b'a') + body).ljust(LONGEST, b'a')
+
+
+def text_symbols_file(count, strings):
+    """A file of so many symbols, whose names lie 6 MB and more after the start of these strings."""
+    table = b''.join(symbol(name, 0) for name in low_numbers(FIRST_NAME, count))
+    headers = [section(SHT_STRTAB, TEXT_BODY + len(table), TEXT_SIZE), section(SHT_SYMTAB, TEXT_BODY, len(table), link=1)]
+    return text_file(headers, table + strings)
+
+
+def text_relocs_file(start, size):
+    """A file of 32,638 relocation sections of a size, from a place on, with addends and without by turns."""
+    places = enumerate(low_numbers(start, TEXT_SECTIONS - 1))
+    return text_file([section(SHT_RELA if i % 2 else SHT_REL, place, size) for i, place in places])
+
+
+def text_tables():
+    """16,256 symbol sections of a byte, each linked to one of as many overlapping string tables."""
+    places = low_numbers(TEXT_BODY, TEXT_SECTIONS)
+    # An index that a section is linked to has bytes below 128.
+    return text_file([section(SHT_SYMTAB, TEXT_BODY, 1, link=i - 128) if i & 128 else section(SHT_STRTAB, next(places), TEXT_SIZE)
+                      for i in range(1, TEXT_SECTIONS)])
+
+
+def text_sections():
+    """32,637 sections with names, which lie 6 MB and more after the start of a string table of 8 MB."""
+    headers = [section(SHT_PROGBITS, 0, 0, name=name) for name in low_numbers(FIRST_NAME, TEXT_SECTIONS - 2)]
+    return text_file([section(SHT_STRTAB, TEXT_BODY, TEXT_SIZE)] + headers, SHORT_STRINGS, names=1)
+
+
+def text_symbols():
+    """253,952 symbols with names of at most 15 bytes."""
+    return text_symbols_file(253_952, SHORT_STRINGS)
+
+
+def text_long_names():
+    """24,576 symbols with names of at most 4,095 bytes."""
+    return text_symbols_file(24_576, LONG_STRINGS)
+
+
+def text_relocs():
+    """32,638 overlapping relocation sections of one entry each."""
+    return text_relocs_file(TEXT_SIZE - 0x10000, RELA_SIZE)
+
+
+def text_relocs_cut():
+    """32,638 relocation sections that are a byte too short for an entry."""
+    return text_relocs_file(TEXT_SIZE - 0x10000, REL_SIZE - 1)
+
+
+def text_relocs_endless():
+    """32,638 overlapping relocation sections of 8 MB."""
+    return text_relocs_file(TEXT_BODY, TEXT_SIZE)
+
+
+MAKERS = [one, turns, damaged, narrow, wide, strings, inside, symbols, failing, failing_wide, endless, relocs, relocations,
+          text_tables, text_sections, text_symbols, text_long_names, text_relocs, text_relocs_cut, text_relocs_endless]
 
 
 def main(folder):
     for maker in MAKERS:
         made = maker()
+        if maker.__name__.startswith('text_') and not made.isascii():
+            sys.exit(f'hostile: a byte of {maker.__name__} is above 127')
         with open(os.path.join(folder, maker.__name__), 'wb') as file:
             file.write(made)
 
