@@ -1,7 +1,7 @@
 //! Program headers, which tell how a file is loaded: System V gABI, "Program Header".
 ghost use Rattle.std.specs.Int.{IsBitSet};
 ghost use Rattle.std.specs.Int.Bits.{bit_or};
-ghost use Rattle.std.specs.Prelude.{◌≡◌, ◌↔◌, IsTrue, IfErr, IsOk, replicate};
+ghost use Rattle.std.specs.Prelude.{◌≡◌, ◌≤◌, ◌↔◌, IsTrue, IfErr, IsOk, length, replicate};
 ghost use Rattle.goblin_base.specs.Fields.{values_of};
 ghost use Rattle.goblin_base.specs.Layout.{IsOneImage, IsSameInEachClass};
 ghost use Rattle.goblin_base.specs.LayoutLaws.{obeys};
@@ -161,6 +161,17 @@ impl ProgramHeader {
     {
         Table::counted(bytes, offset, count, ctx, "program headers")
     }
+
+    // The program header at the start of the bytes.
+    fn at(bytes: &[u8], ctx: Ctx) -> ProgramHeader
+        requires { program_header_size ctx.container ≤ length bytes.now }
+        ensures { result ≡ program_header_of ctx.container ctx.le bytes.now }
+    {
+        match ctx.container {
+            Container::Little => program_header32::ProgramHeader::at(bytes, ctx.le).into(),
+            Container::Big => program_header64::ProgramHeader::at(bytes, ctx.le).into(),
+        }
+    }
 }
 
 impl SizeWith<Ctx> for ProgramHeader {
@@ -216,10 +227,7 @@ impl Record<Ctx> for ProgramHeader {
     #[tactic(auto, using(goblin_base::specs::RecordLaws::record_answers))]
     fn read_record(bytes: &[u8], ctx: Ctx) -> Result<Self> {
         room(bytes.len(), 0, ProgramHeader::size(ctx))?;
-        match ctx.container {
-            Container::Little => Ok(program_header32::ProgramHeader::at(bytes, ctx.le).into()),
-            Container::Big => Ok(program_header64::ProgramHeader::at(bytes, ctx.le).into()),
-        }
+        Ok(ProgramHeader::at(bytes, ctx))
     }
 
     ghost laws = { λ ctx. obeys (program_header_laws ctx.container ctx.le) };
