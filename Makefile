@@ -58,6 +58,11 @@ planted:
 edits:
 	python3 checks/edits $(CRATES) $(if $(FROM),--from '$(FROM)') $(if $(EDIT),--edit '$(EDIT)')
 
+# Checks each crate with half of the search's limits, and lists the functions that stay open and the ten slowest: make margin;
+# make margin CRATES=goblin_base
+margin:
+	@python3 checks/margin.py $(CRATES)
+
 # Times the program, once it is built, over files that ask for much work, and over a FILE: make bench FILE=/bin/true
 bench:
 	@sh checks/bench.sh
@@ -77,4 +82,4 @@ install:
 dist:
 	sh faces/install.sh --archive
 
-.PHONY: install dist try show test gate refused proved edited words faces limits planted edits bench bench-faces
+.PHONY: install dist try show test gate refused proved edited words faces limits planted edits margin bench bench-faces

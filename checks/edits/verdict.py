@@ -13,6 +13,8 @@ NAMES_ALONE = re.compile(r'has no field|is not in scope|has no `|was not admitte
 # what it waits for
 WAITS = re.compile(r'it (?:calls|passes|waits for) .*')
 END = re.compile(r'^logic=(proved|not-proved)', re.M)
+# that it ended with a function, whatever came of it
+CHECKED = re.compile(r'checked (\S+), \d+ of \d+')
 # that a check went by what another one had kept
 BEGUN = re.compile(r'begins with what a check kept')
 

@@ -1,0 +1,83 @@
+#!/usr/bin/env python3
+"""Which functions the search proves with little to spare, and which take longest: python3 checks/margin.py [CRATE ..], from the
+repository's root.
+
+Each crate of crates.txt, or each one named, is checked with half of the search's limits, without its tests. A function is open
+where a goal of its own stays open then: the next toolchain, or one field more, may leave it open at the full limits too. One that
+only calls an open function isn't listed. The libraries below a crate are those that were proved at the full limits.
+
+The checker reports the end of each function, and no times. So a function's seconds are those since the function before it, on the
+clock and with one job, and the first has none. They hold what is checked on the way, as lemmas that no function before it cites,
+and lack what earlier checks on this machine have kept: after one at the full limits, all that doesn't depend on them.
+"""
+import os
+import shutil
+import subprocess
+import sys
+import tempfile
+import time
+
+sys.path.insert(0, f'{os.path.dirname(os.path.abspath(__file__))}/edits')
+from verdict import CHECKED, Said
+
+SLOWEST = 10
+
+
+def crates_listed():
+    with open('crates.txt', encoding='utf-8') as lines:
+        heads = [line.partition('#')[0].partition(':')[0].split() for line in lines]
+    return [head[0] for head in heads if head]
+
+
+def copy(room):
+    """Copies the crates with their built libraries, but without what checks keep, which a check at half limits would replace."""
+    shutil.copytree('crates', f'{room}/crates', ignore=shutil.ignore_patterns('target', 'incremental'), symlinks=True)
+    for name in ('HANDLES', 'crates.txt'):
+        shutil.copy(name, room)
+
+
+def check(crate, folder):
+    """What a check at half limits says of a crate, and the seconds of the functions that it checked."""
+    run = {'cwd': folder, 'stdin': subprocess.DEVNULL, 'stderr': subprocess.STDOUT}
+    # builds the libraries below it where needed, so that what follows reports this crate alone
+    subprocess.run(['rt', 'check', '--only', ''], stdout=subprocess.DEVNULL, **run)
+    lines, seconds, before = [], {}, None
+    words = ['rt', 'check', '--margin', '--jobs', '1']
+    with subprocess.Popen(words, stdout=subprocess.PIPE, text=True, errors='replace', **run) as ran:
+        for line in ran.stdout:
+            lines.append(line)
+            if found := CHECKED.match(line):
+                now = time.time()
+                if before is not None:
+                    seconds[found[1]] = now - before
+                before = now
+    return Said(''.join(lines), crate), seconds
+
+
+def open_in(said):
+    """The functions, and after them the lemmas and types, that are not proved, but for those that only wait for others."""
+    own = [path for path, it in said.functions.items() if not it.is_proved() and (it.refused or not it.waits)]
+    return own + said.others
+
+
+def main():
+    crates, failed = sys.argv[1:] or crates_listed(), []
+    with tempfile.TemporaryDirectory(prefix='margin-') as room:
+        copy(room)
+        for crate in crates:
+            said, seconds = check(crate, f'{room}/crates/{crate}')
+            found = open_in(said)
+            print(f'{crate}: {len(said.functions)} functions, {len(found)} open at half the limits', flush=True)
+            for path in found:
+                print(f'  open: {path}')
+            for path in sorted(seconds, key=seconds.get, reverse=True)[:SLOWEST]:
+                print(f'  {seconds[path]:.1f} seconds: {path}')
+            if not said.is_proved():
+                failed.append(crate)
+                print(f'{"" if found else said.text[-2000:]}{crate}: NOT PROVED at half the limits', flush=True)
+    print(f'margin: {len(crates)} crates, {len(failed)} not proved at half the limits')
+    return 1 if failed else 0
+
+
+if __name__ == '__main__':
+    sys.exit(main())
