@@ -1,0 +1,94 @@
+#!/usr/bin/env python3
+"""Whether the program shows the files of checks/files/made as readelf lists them: python3 checks/files.py, from the repository's root,
+once `rt ci` has built the program by both compilers.
+
+The files are objects, libraries and a core of both classes and byte orders, which checks/files/make.sh made. Beside each lies what
+readelf -W -h -S -s -r printed of it, and that is told here in the program's words.
+"""
+import re
+import subprocess
+import sys
+
+FILES = ('i386_library', 'mips64el_object', 'powerpc_object', 's390x_library', 'x86_64_core', 'x86_64_library')
+PROGRAMS = ('crates/goblin_show/out/goblin_show', 'crates/goblin_show/out/goblin_show.by-rattle')
+# The standard's names of what readelf says in words of its own.
+MACHINES = {'Intel 80386': '386', 'MIPS R3000': 'MIPS', 'PowerPC': 'PPC', 'IBM S/390': 'S390', 'Advanced Micro Devices X86-64': 'X86_64'}
+ORDERS = {"2's complement, little endian": 'little', "2's complement, big endian": 'big'}
+# What only one processor knows has no name.
+UNKNOWN = re.compile(r'MIPS_\w+')
+
+HEADER = re.compile(r'  ([A-Z][^:]*): +(.*)')
+SECTION = re.compile(r'  \[ *(\d+)\] (\S*) +([A-Z]\w*) +[0-9a-f]+ ([0-9a-f]+) ([0-9a-f]+) ')
+OF_TABLE = re.compile(r"(Symbol table|Relocation section) '([^']+)'")
+SYMBOL = re.compile(r' *(\d+): ([0-9a-f]+) +(\d+) (\w+) +(\w+) +(\w+) +(\w+) ?(.*)')
+RELOCATION = re.compile(r'([0-9a-f]+) +([0-9a-f]+) R_\w+ *(.*)')
+
+
+def header(said):
+    """The line of a file's header."""
+    return (f'header {said["Class"]} {ORDERS[said["Data"]]} {said["Type"].split()[0]} {MACHINES[said["Machine"]]} '
+            f'entry {said["Entry point address"]} phnum {said["Number of program headers"]} shnum {said["Number of section headers"]}')
+
+
+def section(index, name, kind, offset, size):
+    kind = 'UNKNOWN_SHT' if UNKNOWN.fullmatch(kind) else f'SHT_{kind}'
+    return f'section {index} {kind} offset {int(offset, 16):#x} size {int(size, 16)} name={name}'
+
+
+def symbol(table, index, value, size, kind, bind, visibility, _, name):
+    # (readelf names a section's symbol, which has no name, by its section)
+    name = '' if kind == 'SECTION' else name
+    return f'symbol {table} {index} {kind} {bind} {visibility} value {int(value, 16):#x} size {size} name={name}'
+
+
+def relocation(table, index, offset, info, rest, is_wide, has_addends):
+    split = 32 if is_wide else 8
+    number = int(info, 16)
+    addend = '-'
+    if has_addends:
+        # (a symbol's value and name, a sign and a number, or a number alone)
+        sign, digits = re.fullmatch(r'(?:.* ([+-]) )?([0-9a-f]+)', rest).groups()
+        addend = int(digits, 16) * (-1 if sign == '-' else 1)
+    return f'reloc {table} {index} offset {int(offset, 16):#x} sym {number >> split} type {number & (1 << split) - 1} addend {addend}'
+
+
+def text_of(listing):
+    """What the program is to show of a file of which readelf printed this."""
+    said, sections, symbols, relocations, table, indices = {}, [], {}, {}, None, {}
+    for line in listing.split('\n'):
+        if found := OF_TABLE.match(line):
+            table = indices[found[2]]
+        elif found := SECTION.match(line):
+            indices[found[2]] = (int(found[1]), found[3])
+            sections.append(section(*found.groups()))
+        elif found := SYMBOL.match(line):
+            symbols.setdefault(table[0], []).append(symbol(table[0], *found.groups()))
+        elif found := RELOCATION.match(line):
+            lines = relocations.setdefault(table[0], [])
+            lines.append(relocation(table[0], len(lines), *found.groups(), said['Class'] == 'ELF64', table[1] == 'RELA'))
+        elif found := HEADER.fullmatch(line):
+            said.setdefault(found[1], found[2].strip())
+    of_symbols = [line for index in sorted(symbols) for line in symbols[index]]
+    of_relocations = [line for index in sorted(relocations) for line in relocations[index]]
+    return '\n'.join([header(said), *sections, *of_symbols, *of_relocations, ''])
+
+
+def main():
+    wrong = lines = 0
+    for name in FILES:
+        path = f'checks/files/made/{name}'
+        with open(f'{path}.readelf', encoding='utf-8') as listing:
+            wanted = text_of(listing.read())
+        lines += wanted.count('\n')
+        for program in PROGRAMS:
+            with open(path, 'rb') as file:
+                ran = subprocess.run([program], stdin=file, capture_output=True, text=True)
+            if ran.returncode or ran.stdout != wanted:
+                wrong += 1
+                print(f'{program} of {path}: status {ran.returncode}\n{ran.stdout}\nand readelf:\n{wanted}')
+    print(f'files: {len(FILES)} of both classes and byte orders, {lines} lines as readelf lists them, {wrong} wrong')
+    return 1 if wrong else 0
+
+
+if __name__ == '__main__':
+    sys.exit(main())
