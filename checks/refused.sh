@@ -13,6 +13,9 @@ mkdir "$folder/calls" "$folder/runs"
 refused=1000
 well='as it should be'
 more='it asks for more growths than were refused'
+# What `rt try` says of a case: its words are read here alone, and each must occur in a whole run.
+expected='output=expected'
+differs='the output differs from'
 
 # The cases of a call in a folder: its line and its file, with the growths from one number to another refused, one a case; and
 # before the first what it writes where none is, if that is known.
@@ -42,12 +45,13 @@ try_growths() {
             add_cases "$2" "$name" "$first" $((first + $3 - 1))
         done < "$2/names"
         (cd "$1" && rt try --steps 100000 --fail-alloc "$refused" --cases "$2/cases") > "$folder/out" 2>&1 || true
-        sed -n "s/^the output differs from .\(.*\)[.][0-9]*[.]stdout.: at byte 0, expected \"$well.n\", found \"$more.n\"$/\1/p" \
+        cat "$folder/out" >> "$folder/said"
+        sed -n "s/^$differs .\(.*\)[.][0-9]*[.]stdout.: at byte 0, expected \"$well.n\", found \"$more.n\"$/\1/p" \
             "$folder/out" > "$2/names"
         asked=$(find "$2/cases" -name '*.stdout' | wc -l)
-        told=$(grep -c '^case=.* output=expected' "$folder/out" || true)
+        told=$(grep -c "^case=.* $expected" "$folder/out" || true)
         if [ $((told + $(wc -l < "$2/names"))) -ne "$asked" ]; then
-            grep -v output=expected "$folder/out"
+            grep -v "$expected" "$folder/out"
             exit 1
         fi
         first=$((first + $3))
@@ -88,4 +92,10 @@ echo 'refused: Invalid magic number: 0x3736353433323130' | add_run longest 'stri
 add_run text 'text 0' checks/files/symbols < checks/files/symbols.shown
 echo refused | add_run text_damaged 'text 0' "$folder/damaged"
 try_growths "$folder/crates/goblin_runs" "$folder/runs" 20
+for words in "^case=.* $expected" "^$differs .*$more"; do
+    if ! grep -q "$words" "$folder/said"; then
+        echo "refused: rt try never said '$words', so it may speak of that in other words now"
+        exit 1
+    fi
+done
 echo 'each growth that is refused is answered by want of memory, or as with ample memory'
