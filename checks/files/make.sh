@@ -35,12 +35,12 @@ library s390x_library s390x-linux-gnu-ld
 object x86_64_library.o 8 as --64
 library x86_64_library ld -m elf_x86_64
 
-# A program that crashes, and the first 512 bytes of its core, which are its header and its program headers. (What comes after
-# them tells of the machine.)
+# A program that crashes, and the first 512 bytes of its core, which are its header and its program headers, with the addresses of
+# one run. (What comes after them tells of the machine.)
 printf '.globl _start\n_start: .byte 15, 11\n' > crash.s
 as --64 -o crash.o crash.s
 ld -o crash crash.o
-(ulimit -c unlimited && echo 0 > /proc/self/coredump_filter && exec ./crash) || true
+prlimit --core=unlimited sh -c 'echo 0 > /proc/self/coredump_filter; exec ./crash' || true
 head -c 512 core > x86_64_core
 
 for name in powerpc_object mips64el_object i386_library s390x_library x86_64_library x86_64_core; do

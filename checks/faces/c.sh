@@ -1,0 +1,103 @@
+#!/bin/sh
+# Whether C can call the library as goblin.h says: sh checks/faces/c.sh FOLDER
+# goblin.h against the library; the programs of faces/c over files that they make themselves, whole and damaged.
+. checks/faces/shared.sh
+
+# The value, letter, section index and name of each symbol of a made file.
+symbols_made='0 a 65521 made.c
+0 t 1 .text
+0 N 5 .debug_info
+10 t 1 local_function
+8 d 2 local_data
+3 n 6 comment
+12 T 1 function
+4 D 2 data
+6 B 3 zeros
+2 R 4 constant
+14 W 1 weak_function
+c V 2 weak_data
+0 U 0 undefined
+0 w 0 weak_undefined
+0 v 0 weak_undefined_data
+7654321 A 65521 absolute
+20 C 65522 common
+14 u 2 unique
+16 i 1 indirect
+18 T 1 été'
+
+fail() {
+    echo "$1"
+    exit 1
+}
+
+# Compiles goblin.h by each standard, and holds its structs to the library's layout.
+check_header() {
+    awk -f checks/fields.awk faces/c/goblin.h > "$folder/fields.h"
+    for standard in c99 c11; do
+        build layout -std=$standard
+        quietly "$folder/layout"
+    done
+    "$folder/layout" assertions > "$folder/assertions.c"
+    quietly strictly cc -std=c11 -Ifaces/c -c -o "$folder/assertions.o" "$folder/assertions.c"
+    if has c++; then
+        quietly strictly c++ -x c++ -std=c++11 -I"$folder" -o "$folder/layout" faces/c/layout.c \
+            -x none -L"$folder" -lgoblin_c
+        quietly strictly c++ -x c++ -std=c++11 -Ifaces/c -c -o "$folder/assertions.o" "$folder/assertions.c"
+    else
+        echo "no c++ here: goblin.h is compiled as C alone"
+    fi
+    "$folder/layout"
+}
+
+check_bench() {
+    if echo '#include <gelf.h>' | cc -E - > "$folder/output" 2>&1; then
+        quietly strictly cc -std=c99 -Ifaces/c -o "$folder/bench" faces/c/bench.c -L"$folder" -lgoblin_c -lelf
+        quietly "$folder/bench" "$folder/nm"
+        echo "bench.c finds what libelf does"
+    else
+        echo "no header of libelf here: bench.c is not compiled"
+    fi
+}
+
+# The programs over each made file, and over its first bytes.
+check_programs() {
+    mkdir "$files"
+    "$folder/made" "$files"
+    for file in "$files"/*; do
+        case $file in *64) digits=16 ;; *) digits=8 ;; esac
+        echo "$symbols_made" | awk -v digits=$digits '{ while (length($1) < digits) $1 = "0" $1; print }' > "$folder/wanted"
+        "$folder/nm" "$file" > "$folder/listed"
+        quietly diff "$folder/wanted" "$folder/listed"
+        "$folder/values" "$file" > "$folder/listed"
+        [ "$(grep -c -x -e '12 function' -e '18 été' "$folder/listed")" -eq 2 ] || fail "values.c: $file"
+    done
+    short=$folder/short
+    head -c 15 "$file" > "$short"
+    [ "$("$folder/nm" "$short" 2>&1)" = 'nm: header: Malformed entity: Too small' ] || fail "nm.c: a short file"
+    [ "$("$folder/values" "$short" 2>&1)" = 'values: Malformed entity: Too small' ] || fail "values.c: a short file"
+    [ "$("$folder/size" "$short" 2>&1 > "$folder/output")" = "size: $short: Malformed entity: Too small" ] || fail "size.c: a short file"
+    echo "nm.c lists $(echo "$symbols_made" | wc -l) symbols in each class and order"
+}
+
+# Damaged files, by the sanitizers, where the compiler has them.
+check_damaged() {
+    echo 'int main(void) { return 0; }' > "$folder/empty.c"
+    set -- -fsanitize=address,undefined -fno-sanitize-recover=all
+    if ! { cc "$@" -o "$folder/empty" "$folder/empty.c" && "$folder/empty"; } > "$folder/output" 2>&1; then
+        echo "cc has no sanitizers here: damaged files are read without"
+        set --
+    fi
+    build damaged -std=c99 "$@"
+    "$folder/damaged" 1000 "$files"/* > "$folder/told" || { echo "failed: damaged.c"; cat "$folder/told"; exit 1; }
+    cat "$folder/told"
+}
+
+check_header
+for program in nm size symbolize values made search cost; do build $program -std=c99; done
+quietly "$folder/search"
+echo "search.c: $(wc -l < "$folder/output") searches among long names stay within their limit"
+quietly "$folder/cost"
+echo "cost.c: $(wc -l < "$folder/output") lists of many items stay within their limit"
+check_bench
+check_programs
+check_damaged

@@ -1,0 +1,96 @@
+#!/bin/sh
+# Whether the programs of C and Rust list of this machine's files what binutils' nm, readelf, size and addr2line do:
+# sh checks/faces/comparison.sh FOLDER [FILE ..], after c.sh and rust.sh. Files named by words are taken in place of others. What the
+# machine has no such program for is said in a line, and passes.
+. checks/faces/shared.sh
+shift
+root=$PWD
+
+# The first so many ELF files among those that `find` finds with these words, spread over them.
+pick() {
+    count=$1
+    shift
+    find "$@" -type f -size -1500k ! -name '*[ :]*' 2> "$folder/output" | sort > "$folder/found"
+    awk -v count="$count" 'NR == FNR { all++; next } all <= 3 * count || FNR % int(all / 3 / count) == 0' \
+        "$folder/found" "$folder/found" | while [ "$count" -gt 0 ] && read -r file; do
+        case $(od -An -tx1 -N4 "$file") in
+        *7f*45*4c*46*) echo "$file"; count=$((count - 1)) ;;
+        esac
+    done
+}
+
+# An object file of 66,000 sections, each with a symbol: the indices of the last have no room in their symbols.
+make_many() {
+    awk 'BEGIN { for (i = 0; i < 66000; i++) printf ".section .text.%d, \"ax\"\n.globl f%d\nf%d: .byte 0\n", i, i, i }' \
+        > "$folder/many.s"
+    if cc -c -o "$folder/many.o" "$folder/many.s" > "$folder/output" 2>&1; then echo "$folder/many.o"; fi
+}
+
+# Runs a command over the files listed, for what it lists of them.
+over_files() { tr '\n' '\0' < "$folder/list" | xargs -0 "$@"; }
+
+compare_symbols() {
+    while read -r file; do
+        for option in '' -D; do
+            echo "file: $file ${option:-static}"
+            "$folder/nm" $option "$file" 2>&3 || echo "$file is refused" >&3
+        done
+    done < "$folder/list" > "$folder/ours" 3> "$folder/refused"
+    # (a plugin would list in place of symbols what a compiler left there for itself)
+    over_files nm --plugin /dev/null -a -p > "$folder/nm.static" 2> "$folder/said" || true
+    over_files nm --plugin /dev/null -a -p -D > "$folder/nm.-D" 2> "$folder/output" || true
+    over_files readelf -sW > "$folder/readelf" 2> "$folder/output" || true
+    (cd "$folder" && awk -v least="$1" -f "$root/checks/symbols.awk" refused said ours nm.static nm.-D readelf)
+}
+
+compare_sizes() {
+    over_files "$folder/size" > "$folder/ours" 2> "$folder/refused" || true
+    over_files size > "$folder/size.text" 2> "$folder/said" || true
+    # (what size doesn't know it leaves out)
+    # shellcheck disable=SC2016
+    quietly awk -v least="$1" 'NR == FNR { theirs[$6] = $0; next } ($6 in theirs) && theirs[$6] != $0 { print theirs[$6] "\n" $0; wrong++ }
+        ($6 in theirs) && FNR > 1 { same++ } END { print same; exit wrong > 0 || same < least * 0.9 }' \
+        "$folder/size.text" "$folder/ours"
+    echo "size.c adds up $(tail -n 1 "$folder/output") files as size does"
+}
+
+# The functions of some files by their addresses, at the start and behind it, as binutils' nm lists them with their sizes.
+compare_addresses() {
+    { head -n 40 "$folder/list"; echo "$folder/symbolize"; } > "$folder/some"
+    while read -r file; do
+        { nm --plugin /dev/null -S "$file"; nm --plugin /dev/null -S -D "$file"; } 2> "$folder/output" \
+            | awk 'NF == 4 && $3 ~ /^[tTi]$/ && $2 !~ /^0*[0-9a-f]$/ { print $1; print substr($1, 1, length($1) - 1) "f" }' \
+            | sort -u | head -n 300 > "$folder/addresses" || true
+        [ -s "$folder/addresses" ] || continue
+        xargs "$folder/symbolize" "$file" < "$folder/addresses" | sed "s|^|$file |" >> "$folder/ours.at"
+        xargs addr2line -fs -e "$file" < "$folder/addresses" | sed "s|^|$file |" >> "$folder/theirs.at"
+    done < "$folder/some"
+    awk 'FNR % 2' "$folder/ours.at" > "$folder/ours"
+    awk 'FNR % 2' "$folder/theirs.at" > "$folder/theirs"
+    quietly diff "$folder/theirs" "$folder/ours"
+    echo "symbolize.c names the functions at $(wc -l < "$folder/ours") addresses as addr2line does"
+}
+
+compare_relocations() {
+    while read -r file; do
+        echo "file: $file"
+        "$examples/relocations" "$file" || echo "refused"
+    done < "$folder/list" > "$folder/ours"
+    over_files readelf -rW > "$folder/readelf" 2> "$folder/output" || true
+    (cd "$folder" && awk -v least="$1" -f "$root/checks/relocations.awk" ours readelf)
+}
+
+if ! has nm || ! has readelf; then
+    echo "no nm and readelf here: no lists are compared"
+    exit 0
+fi
+if [ $# -gt 0 ]; then printf '%s\n' "$@"; else
+    pick 60 /usr/bin; pick 60 /usr/lib -name '*.so*'; pick 60 /usr/lib -name '*.o'
+fi > "$folder/list"
+ls -d "$files"/* >> "$folder/list"
+if [ $# -eq 0 ]; then make_many >> "$folder/list"; fi
+count=$(wc -l < "$folder/list")
+compare_symbols "$count"
+if has size; then compare_sizes "$count"; else echo "no size here: no sizes are compared"; fi
+if has addr2line; then compare_addresses; else echo "no addr2line here: no addresses are compared"; fi
+if [ -x "$examples/relocations" ]; then compare_relocations "$count"; fi

@@ -1,0 +1,13 @@
+#!/bin/sh
+# The module for WebAssembly, called from JavaScript, beside C over the same files; and the page, in a browser:
+# sh checks/faces/webassembly.sh FOLDER, after c.sh
+. checks/faces/shared.sh
+
+if ! has node; then
+    echo "no node here: the module for WebAssembly is not tried"
+    exit 0
+fi
+quietly env LIBRARY= CPU= TARGET=wasm64-unknown-unknown sh faces/install.sh --archive "$folder/goblin_web.tar.gz"
+check_axioms
+build dump -std=c99
+sh checks/web.sh "$folder/goblin_web.tar.gz" "$folder/dump" "$files"/*
