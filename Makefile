@@ -72,14 +72,19 @@ bench-faces:
 	@sh checks/bench_faces.sh
 
 # Installs the library with its header, pkg-config file and Rust crate: make install PREFIX=/usr/local [DESTDIR=/tmp/root]
-# [CPU=x86-64-v2] [TARGET=aarch64-unknown-linux-gnu]; or puts the same into an archive, whose name has the version and the
-# target: make dist [TARGET=aarch64-unknown-linux-gnu]. TARGET=wasm64-unknown-unknown makes the module, its JavaScript and the page.
+# [LIBDIR=lib/x86_64-linux-gnu] [CPU=x86-64-v2] [TARGET=aarch64-unknown-linux-gnu]; or puts the same into an archive, whose name has
+# the version and the target: make dist [TARGET=aarch64-unknown-linux-gnu]. TARGET=wasm64-unknown-unknown makes the module, its
+# JavaScript and the page. What an earlier version installed below PREFIX is removed first; `uninstall` only removes it.
 PREFIX ?= /usr/local
+LIBDIR ?= lib
 export CPU TARGET
 install:
-	sh faces/install.sh "$(DESTDIR)$(PREFIX)"
+	@LIBDIR='$(patsubst $(PREFIX)/%,%,$(LIBDIR))' sh faces/install.sh "$(DESTDIR)$(PREFIX)"
+
+uninstall:
+	@sh faces/install.sh --uninstall "$(DESTDIR)$(PREFIX)"
 
 dist:
-	sh faces/install.sh --archive
+	@sh faces/install.sh --archive
 
-.PHONY: install dist try show test gate refused proved edited words faces limits planted edits margin bench bench-faces
+.PHONY: install uninstall dist try show test gate refused proved edited words faces limits planted edits margin bench bench-faces

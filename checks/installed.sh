@@ -12,15 +12,21 @@ trap 'rm -rf "$folder"' EXIT
 trap 'exit 1' HUP INT TERM
 tar -C "$folder" -xzf "$1"
 there=$(ls -d "$folder"/goblin_c-*)
+libdir=$(dirname "$(find "$there" -name libgoblin_c.a)")
 version=$(awk -F '"' '/^version = / { print $2; exit }' faces/rust/Cargo.toml)
 target=${there##*"/goblin_c-$version-"}
 cargo_folder=$(dirname "$(command -v cargo || echo /usr/bin/cargo)")
 
 bare() {
-    env -i PATH="/usr/bin:/bin:$cargo_folder" HOME="${HOME:-/}" PKG_CONFIG_PATH="$there/lib/pkgconfig" \
+    env -i PATH="/usr/bin:/bin:$cargo_folder" HOME="${HOME:-/}" PKG_CONFIG_PATH="$libdir/pkgconfig" \
         CARGO_TARGET_DIR="$folder/target" "$@"
 }
 has() { bare sh -c "command -v $1" > /dev/null; }
+# The compiler, and a program that it made, each with its words.
+# shellcheck disable=SC2086
+compile() { bare $compiler "$@"; }
+# shellcheck disable=SC2086
+run() { bare $runner "$@"; }
 quietly() { "$@" > "$folder/output" 2>&1 || { echo "failed: $*"; cat "$folder/output"; exit 1; }; }
 
 tried=
@@ -28,10 +34,11 @@ if has rt; then echo "the toolchain stands on the bare PATH too"; fi
 cp faces/c/nm.c "$folder/"
 if has "$linker" && has pkg-config; then
     [ "$(bare pkg-config --modversion goblin_c)" = "$version" ] || { echo "goblin_c.pc has another version"; exit 1; }
+    flags=$(bare pkg-config --cflags --libs goblin_c)
     # (each word is an option)
-    quietly bare $compiler -std=c99 -Wall -Wextra -Werror -pedantic -o "$folder/nm" "$folder/nm.c" \
-        $(bare pkg-config --cflags --libs goblin_c)
-    quietly bare $runner "$folder/nm" "$folder/nm"
+    # shellcheck disable=SC2086
+    quietly compile -std=c99 -Wall -Wextra -Werror -pedantic -o "$folder/nm" "$folder/nm.c" $flags
+    quietly run "$folder/nm" "$folder/nm"
     grep -q ' T [0-9]* main$' "$folder/output" || { echo "nm.c finds no main in itself"; exit 1; }
     tried="$tried, C by pkg-config"
 fi
@@ -47,7 +54,7 @@ target_link_libraries(listing PkgConfig::GOBLIN)
 END
     quietly bare CC="$compiler" cmake -S "$folder/cmake" -B "$folder/built"
     quietly bare cmake --build "$folder/built"
-    quietly bare $runner "$folder/built/listing" "$folder/built/listing"
+    quietly run "$folder/built/listing" "$folder/built/listing"
     tried="$tried, CMake"
 fi
 # (where Rust's own library is there for the target)
@@ -63,10 +70,10 @@ if has "$linker" && bare cargo --version > "$folder/output" 2>&1 \
             cargo build --offline --target "$target" --manifest-path "$folder/rust/Cargo.toml"
     }
     quietly build
-    quietly bare $runner "$app" "$app"
+    quietly run "$app" "$app"
     grep -q ' main$' "$folder/output" || { echo "symbols.rs finds no main in itself"; exit 1; }
     tried="$tried, Rust by its path"
-    mv "$there/lib/libgoblin_c.a" "$folder/"
+    mv "$libdir/libgoblin_c.a" "$folder/"
     touch "$there/share/goblin_c/rust/build.rs"
     if build PKG_CONFIG_PATH= > "$folder/output" 2>&1 \
         || ! grep -q 'libgoblin_c.a is missing' "$folder/output"; then

@@ -1,9 +1,16 @@
 #!/bin/sh
-# Installs what calls the library needs: install.sh FOLDER puts it below FOLDER, which can then be moved as a whole;
-# install.sh --archive ARCHIVE puts it into an archive. It is for the TARGET, by default x86_64-unknown-linux-gnu; for
-# wasm64-unknown-unknown the library is one module. LIBRARY names a library to take; else one is made, for the processors that CPU
-# names, by default every one of the target. Run from the repository's root. The version is that of faces/rust/Cargo.toml.
+# Installs what calls the library needs: install.sh FOLDER puts it below FOLDER, which can then be moved as a whole, and removes
+# what an earlier one put there; install.sh --archive ARCHIVE puts it into an archive; install.sh --uninstall FOLDER only removes
+# it. It is for the TARGET, by default x86_64-unknown-linux-gnu; for wasm64-unknown-unknown the library is one module. LIBDIR is the
+# folder of the library below FOLDER, by default lib. LIBRARY names a library to take; else one is made, for the processors that CPU
+# names, by default every one of the target, unless it was made before of the same sources. Run from the repository's root. The
+# version is that of faces/rust/Cargo.toml.
 set -eu
+umask 022
+fail() {
+    echo "$1" >&2
+    exit 1
+}
 version=$(awk -F '"' '/^version = / { print $2; exit }' faces/rust/Cargo.toml)
 target=${TARGET:-x86_64-unknown-linux-gnu}
 case $target in
@@ -11,57 +18,128 @@ x86_64-unknown-linux-gnu) every=x86-64 ;;
 aarch64-unknown-linux-gnu) every=generic ;;
 wasm64-unknown-unknown) every=lime1 ;;
 *)
-    echo "goblin_c is not made for the target $target: only for x86_64-unknown-linux-gnu, aarch64-unknown-linux-gnu and" \
-        "wasm64-unknown-unknown" >&2
-    exit 1
+    fail "goblin_c is not made for the target $target: only for x86_64-unknown-linux-gnu, aarch64-unknown-linux-gnu and \
+wasm64-unknown-unknown"
     ;;
+esac
+libdir=${LIBDIR:-lib}
+case /$libdir/ in
+//* | */../* | */./* | *//*) fail "LIBDIR is a folder below PREFIX, as lib/x86_64-linux-gnu, and not $libdir" ;;
 esac
 folder=$(mktemp -d)
 trap 'rm -rf "$folder"' EXIT
 trap 'exit 1' HUP INT TERM
 
+# Installs a file below the folder, and notes that.
+put() {
+    install -d -m 755 "$to/$(dirname "$2")"
+    install -m 644 "$1" "$to/$2"
+    echo "$2" >> "$folder/files"
+}
+
+# Installs a file as sed edits it.
+put_edited() {
+    sed "$1" "$2" > "$folder/edited"
+    put "$folder/edited" "$3"
+}
+
+# Installs all files of a folder.
+put_all() {
+    find "$1" -type f | sort > "$folder/found"
+    while read -r file; do put "$file" "$2${file#"$1"}"; done < "$folder/found"
+}
+
 install_below() {
-    if [ "$target" = wasm64-unknown-unknown ]; then install_web "$1"; else install_library "$1"; fi
+    to=$1
+    : > "$folder/files"
+    if [ "$target" = wasm64-unknown-unknown ]; then kind=web; else kind=library; fi
+    remove_from "$to" "$kind"
+    "install_$kind"
+    install -m 644 "$folder/files" "$to/share/goblin_c/$kind.files"
 }
 
 install_library() {
-    to=$1
-    mkdir -p "$to/include" "$to/lib/pkgconfig" "$to/share/goblin_c/rust"
-    cp "$library" "$to/lib/libgoblin_c.a"
-    cp faces/c/goblin.h "$to/include/"
-    sed "s/@VERSION@/$version/" faces/goblin_c.pc.in > "$to/lib/pkgconfig/goblin_c.pc"
-    cp LICENSE crates/goblin_c/CALLING.md "$to/share/goblin_c/"
-    cp -R LICENSE faces/rust/build.rs faces/rust/src faces/rust/examples "$to/share/goblin_c/rust/"
-    sed 's|^license-file = .*|license-file = "LICENSE"|' faces/rust/Cargo.toml > "$to/share/goblin_c/rust/Cargo.toml"
+    put "$library" "$libdir/libgoblin_c.a"
+    put faces/c/goblin.h include/goblin.h
+    up=$(echo "$libdir/pkgconfig" | sed 's|[^/][^/]*|..|g')
+    put_edited "s|@VERSION@|$version|; s|@UP@|$up|; s|@LIBDIR@|$libdir|" faces/goblin_c.pc.in "$libdir/pkgconfig/goblin_c.pc"
+    put LICENSE share/goblin_c/LICENSE
+    put crates/goblin_c/CALLING.md share/goblin_c/CALLING.md
+    put LICENSE share/goblin_c/rust/LICENSE
+    put_edited "s|\"../../../lib\"|\"../../../$libdir\"|" faces/rust/build.rs share/goblin_c/rust/build.rs
+    put_all faces/rust/src share/goblin_c/rust/src
+    put_all faces/rust/examples share/goblin_c/rust/examples
+    put_edited 's|^license-file = .*|license-file = "LICENSE"|' faces/rust/Cargo.toml share/goblin_c/rust/Cargo.toml
 }
 
 # The module, the JavaScript over it, and the page, which holds both.
 install_web() {
-    to=$1/share/goblin_c/web
-    mkdir -p "$to"
-    cp "$library" "$to/goblin_c.wasm"
-    cp LICENSE faces/web/goblin.js "$to/"
-    sed "s/@VERSION@/$version/" faces/web/package.json.in > "$to/package.json"
-    python3 faces/web/pack.py "$library" > "$to/index.html"
+    put "$library" share/goblin_c/web/goblin_c.wasm
+    put LICENSE share/goblin_c/web/LICENSE
+    put faces/web/goblin.js share/goblin_c/web/goblin.js
+    put_edited "s/@VERSION@/$version/" faces/web/package.json.in share/goblin_c/web/package.json
+    python3 faces/web/pack.py "$library" > "$folder/page"
+    put "$folder/page" share/goblin_c/web/index.html
 }
+
+# Removes what was installed below a folder, by the list of its files, and the folders of its own that are empty then.
+remove_from() {
+    list=$1/share/goblin_c/$2.files
+    [ -e "$list" ] || return 0
+    while read -r file; do rm -f "$1/$file"; done < "$list"
+    rm "$list"
+    find "$1/share/goblin_c" -depth -type d -empty -delete
+}
+
+if [ "$1" = --uninstall ]; then
+    [ -e "$2/share/goblin_c/library.files" ] || [ -e "$2/share/goblin_c/web.files" ] || fail "goblin_c is not installed below $2"
+    remove_from "$2" library
+    remove_from "$2" web
+    echo "goblin_c is no more below $2"
+    exit 0
+fi
 
 # Links the module; the toolchain's linker stands beside `rt`.
 link_module() {
     bin=$(dirname "$(readlink -f "$(command -v rt)")")
-    "$bin/rattle-link" --target "$target" --toolchain "$bin/../toolchain" -o "$folder/goblin_c.wasm" "$library"
-    library=$folder/goblin_c.wasm
+    "$bin/rattle-link" --target "$target" --toolchain "$bin/../toolchain" -o "$folder/goblin_c.wasm" "$1"
+    mv "$folder/goblin_c.wasm" "$1"
+}
+
+# What a library was made of, and what was made.
+sums() {
+    rt version
+    sh checks/sources.sh --sum goblin_c
+    sha256sum < "$1"
+}
+
+# Makes the library, for this target and these processors, and prints what the toolchain said of it.
+make_library() {
+    made=crates/goblin_c/out/libgoblin_c.a
+    if [ -e "$made" ]; then cp -p "$made" "$folder/before"; fi
+    (cd crates/goblin_c && rt lib --target "$target" --cpu "$cpu") > "$folder/said" 2>&1 || { cat "$folder/said"; exit 1; }
+    cat "$folder/said"
+    mv "$made" "$folder/made"
+    # (what `rt lib` made there before stays, whatever it is for)
+    if [ -e "$folder/before" ]; then mv "$folder/before" "$made"; fi
+    if [ "$target" = wasm64-unknown-unknown ]; then link_module "$folder/made"; fi
+    mkdir -p "$kept"
+    mv "$folder/made" "$kept/library"
+    mv "$folder/said" "$kept/said"
+    sums "$kept/library" > "$kept/sums"
 }
 
 library=${LIBRARY:-}
 if [ -z "$library" ]; then
-    made=crates/goblin_c/out/libgoblin_c.a
-    if [ -e $made ]; then cp -p $made "$folder/before"; fi
-    (cd crates/goblin_c && rt lib --target "$target" --cpu "${CPU:-$every}")
-    library=$folder/libgoblin_c.a
-    mv $made "$library"
-    # (what `rt lib` made there before stays, whatever it is for)
-    if [ -e "$folder/before" ]; then mv "$folder/before" $made; fi
-    if [ "$target" = wasm64-unknown-unknown ]; then link_module; fi
+    sh checks/has_rt.sh 'making the library'
+    cpu=${CPU:-$every}
+    kept=out/library/$target-$cpu
+    library=$kept/library
+    if [ -f "$kept/sums" ] && [ "$(sums "$library")" = "$(cat "$kept/sums")" ]; then
+        cat "$kept/said"
+    else
+        make_library
+    fi
 fi
 if [ "$1" != --archive ]; then
     install_below "$1"
@@ -72,5 +150,6 @@ name=goblin_c-$version-$target
 archive=${2:-out/$name.tar.gz}
 install_below "$folder/$name"
 mkdir -p "$(dirname "$archive")"
-tar -C "$folder" --sort=name --owner=0 --group=0 --mtime=@0 -czf "$archive" "$name"
+tar -C "$folder" --sort=name --owner=0 --group=0 --numeric-owner --mode=u=rwX,go=rX --mtime=@0 -cf "$folder/tar" "$name"
+gzip -9n < "$folder/tar" > "$archive"
 echo "goblin_c $version for $target is in $archive"
