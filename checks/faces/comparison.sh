@@ -88,6 +88,7 @@ if [ $# -gt 0 ]; then printf '%s\n' "$@"; else
     pick 60 /usr/bin; pick 60 /usr/lib -name '*.so*'; pick 60 /usr/lib -name '*.o'
 fi > "$folder/list"
 ls -d "$files"/* >> "$folder/list"
+find "$root/checks/files/made" -type f ! -name '*.readelf' | sort >> "$folder/list"
 if [ $# -eq 0 ]; then make_many >> "$folder/list"; fi
 count=$(wc -l < "$folder/list")
 compare_symbols "$count"
