@@ -1,10 +1,19 @@
-# The commands of this repository. They need the Rattle toolchain (`rt`), with the Python 3 that it runs on, and make, a shell
-# and awk; what checks/faces.sh compiles by cc and cargo it leaves out where the machine has none.
+# The commands of this repository, which `make help` lists. They need the Rattle toolchain (`rt`), with the Python 3 that it runs
+# on, and make, a shell and awk; what checks/faces compiles by cc and cargo it leaves out where the machine has none.
+
+# Prints README's table of commands.
+help:
+	@awk -F '|' '/^\|`make / { gsub(/`/, ""); printf "%-32s %-20s %s\n", $$2, $$4, $$3 }' README.md
 
 # The name of a file is passed on as it stands, whatever signs it has.
 export SHOWN := $(value FILE)
 export MODE
 unexport FILE
+
+# Says what to set where the command rt is missing.
+has_rt = @sh checks/has_rt.sh 'make $@'
+# A part of a run, whose name and command follow.
+part = @python3 checks/took.py part
 
 # Shows a file, by the program built without a proof: make try FILE=/bin/true
 try:
@@ -15,48 +24,76 @@ try:
 show:
 	@sh checks/show.sh show
 
-# The whole gate, and what it took, in units of the lowest crate's proof.
+# All that shows that the code is proved and works; `gate` tries every edit too. At the end stands what each part took. (ROOM is
+# a folder of the run's own, which took.py makes.)
 test:
-	@python3 checks/took.py $(MAKE) --no-print-directory gate
+	$(has_rt)
+	@python3 checks/took.py whole $(MAKE) --no-print-directory -j1 tested left
 
-# The pages' quotations, and whether each edit fits the code; side by side growths that are refused, every proof that the
-# toolchain hasn't kept on this machine, with the edits of must-fail/, the tests and the stored runs, every other edit that the
-# prover must refuse, and whether edits that test nothing are told from those that do; then, over what the edits' proofs left,
-# the library for C called from C and Rust, beside the program's words and what hostile files may take. (ROOM is a folder of the
-# run's own, which `test` makes.)
 gate:
+	$(has_rt)
+	@python3 checks/took.py whole $(MAKE) --no-print-directory -j1 tested tried left
+
+# First what takes seconds. Then side by side, so that two processors have work up to the end: every proof that the toolchain hasn't
+# kept on this machine, with the must-fail edits, the tests and the stored runs, and after it the program's words, real files, and
+# what hostile files may take; the library for C, which is proved in a copy, since `rt ci` holds the crates' folders, and then called from C,
+# Rust and JavaScript; and allocations that fail.
+tested:
 	sh checks/quotes.sh
 	python3 checks/edits --fits
-	@$(MAKE) --no-print-directory -j4 refused proved edited planted
-	@for crate in "$(ROOM)"/crates/*; do rm -rf "crates/$${crate##*/}/out/rlib"; cp -R "$$crate" crates/; done
-	@$(MAKE) --no-print-directory -j2 faces words limits
+	@$(MAKE) --no-print-directory -j4 words files limits called refused unit
 
-refused:
-	sh checks/refused.sh
+# Every edit, which begins with what the library's proofs have kept, and whether edits that test nothing are told from those that do.
+tried:
+	@$(MAKE) --no-print-directory -j2 edited planted
+
+# What the copy has kept and made, for later commands.
+left:
+	@for out in "$(ROOM)"/copy/crates/*/out; do \
+	    crate=crates/$$(basename "$$(dirname "$$out")"); rm -rf "$$crate/out/incremental" "$$crate/out/rlib"; \
+	    mkdir -p "$$crate/out"; cp -R "$$out"/* "$$crate/out/"; \
+	done
+	@mkdir -p out; rm -rf out/library; cp -R "$(ROOM)/copy/out/library" out/
 
 proved:
-	sh checks/proved.sh
+	$(part) proved sh checks/proved.sh
+	@sh checks/show.sh built
 
-# Two at a time, since the proofs of `rt ci` go on beside them.
+words: proved
+	$(part) words sh checks/words.sh
+
+files: proved
+	$(part) files python3 checks/files.py
+
+limits: proved
+	$(part) limits python3 checks/limits.py
+
+called:
+	@mkdir "$(ROOM)/copy"; git ls-files | tr '\n' '\0' | xargs -0 cp --parents -t "$(ROOM)/copy"
+	@cd "$(ROOM)/copy" && sh checks/faces.sh
+
+refused:
+	$(part) refused sh checks/refused.sh
+
+unit:
+	@python3 checks/took.py unit
+
 edited:
-	python3 checks/edits --anew "$(ROOM)" --jobs 2
-
-words:
-	sh checks/words.sh
-
-faces:
-	sh checks/faces.sh
-
-limits:
-	python3 checks/limits.py
+	$(part) edits python3 checks/edits --over "$(ROOM)/copy"
 
 planted:
-	python3 checks/edits/planted.py
+	$(part) planted python3 checks/edits/planted.py
+
+# The library for C called from C, Rust and JavaScript, by itself.
+faces:
+	$(has_rt)
+	@sh checks/faces.sh
 
 # The edits alone, of all crates or of some, over what earlier checks kept; those of another folder, which has a folder for
 # each crate; or one, by its name: make edits CRATES=goblin_base; make edits FROM=/tmp/bugs; make edits EDIT=one_early
 edits:
-	python3 checks/edits $(CRATES) $(if $(FROM),--from '$(FROM)') $(if $(EDIT),--edit '$(EDIT)')
+	$(has_rt)
+	@python3 checks/edits $(CRATES) $(if $(FROM),--from '$(FROM)') $(if $(EDIT),--edit '$(EDIT)')
 
 # Checks each crate with half of the search's limits, and lists the functions that stay open and the ten slowest: make margin;
 # make margin CRATES=goblin_base
@@ -69,6 +106,7 @@ bench:
 
 # Times the library for C beside libelf, where its header is installed: make bench-faces [FILE=/usr/lib/libx.so] [CPU=x86-64-v2]
 bench-faces:
+	$(has_rt)
 	@sh checks/bench_faces.sh
 
 # Installs the library with its header, pkg-config file and Rust crate: make install PREFIX=/usr/local [DESTDIR=/tmp/root]
@@ -87,4 +125,5 @@ uninstall:
 dist:
 	@sh faces/install.sh --archive
 
-.PHONY: install uninstall dist try show test gate refused proved edited words faces limits planted edits margin bench bench-faces
+.PHONY: help try show test gate tested tried left proved words files limits called refused unit edited planted faces edits margin bench \
+    bench-faces install uninstall dist

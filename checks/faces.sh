@@ -11,7 +11,7 @@ trap 'exit 1' HUP INT TERM
 try() {
     subject=$1
     shift
-    sh "checks/faces/$subject.sh" "$folder" "$@"
+    python3 checks/took.py part "$subject" sh "checks/faces/$subject.sh" "$folder" "$@"
 }
 
 try library

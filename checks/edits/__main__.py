@@ -6,9 +6,7 @@
     python3 checks/edits --edit NAME          the one of that name
     python3 checks/edits --from FOLDER ..     those of FOLDER/CRATE/ in place of the crates' own
     python3 checks/edits --fits               only whether each fits the code, and each of must-fail/ too: nothing is proved
-    python3 checks/edits --anew FOLDER ..     over proofs of their own, not over what earlier checks here kept: FOLDER/crates/ is
-                                              given what they keep, and FOLDER/unit the processor seconds of the lowest crate's,
-                                              unless the toolchain had it from another copy on this machine
+    python3 checks/edits --over FOLDER ..     over what checks kept in FOLDER/crates/, and not over what they kept here
 
 Those of crates/NAME/must-fail/ `rt ci` tries by itself. Run from the repository's root. It works on copies, as many crates side
 by side as there are processors.
@@ -48,17 +46,16 @@ def crates_listed():
     return {crate: below(crate) for crate in stands_on}
 
 
-def copied(crate, below, room, is_anew):
-    """Makes a copy of the repository for one crate, with what its own checks have kept, unless it is to be proved anew, and the
-    libraries below it as they were proved: since no two crates share a folder, neither waits for the other's proof."""
+def copied(crate, below, room, over):
+    """Makes a copy of the repository for one crate, with what its own checks have kept, and the libraries below it as they were
+    proved: since no two crates share a folder, neither waits for the other's proof."""
     to = f'{room}/{crate}'
     for name in os.listdir('crates'):
         shutil.copytree(f'crates/{name}', f'{to}/crates/{name}', ignore=shutil.ignore_patterns('target', 'out'), symlinks=True)
     for name in below:
         # no check writes into the library that another crate stands on
         shutil.copytree(f'{room}/{name}/crates/{name}/out/rlib', f'{to}/crates/{name}/out/rlib', copy_function=os.link)
-    if not is_anew:
-        keep(f'crates/{crate}', f'{to}/crates/{crate}')
+    keep(f'{over}/crates/{crate}', f'{to}/crates/{crate}')
     for name in ('HANDLES', 'crates.txt'):
         shutil.copy(name, to)
     return f'{to}/crates/{crate}'
@@ -72,38 +69,25 @@ def keep(crate, to):
             shutil.copytree(f'{crate}/out/{part}', f'{to}/out/{part}')
 
 
-def seconds_of(command, folder):
-    """Runs a command and answers whether it failed, its output and the processor seconds that it took."""
-    with tempfile.TemporaryFile('w+', errors='replace') as out:
-        started = subprocess.Popen(command, cwd=folder, stdin=subprocess.DEVNULL, stdout=out, stderr=subprocess.STDOUT)
-        _, status, used = os.wait4(started.pid, 0)
-        started.returncode = status
-        out.seek(0)
-        return status, out.read(), used.ru_utime + used.ru_stime
-
-
 class Run:
     """All crates that are tried: each proved once those below it are, and its edits tried once it is."""
 
     def __init__(self, room, edits, below, words):
-        self.room, self.edits, self.below, self.jobs, self.anew = room, edits, below, words.jobs, words.anew
-        self.wrong, self.ways, self.unit, self.said = [], set(), None, {}
+        self.room, self.edits, self.below, self.jobs, self.over = room, edits, below, words.jobs, words.over
+        self.wrong, self.ways, self.said = [], set(), {}
 
     def prove(self, crate, jobs):
         """Proves a crate, as a library where others stand on it."""
         is_library = any(crate in below for below in self.below.values())
         verb = ['rt', 'lib' if is_library else 'check', '--jobs', str(jobs)]
-        folder = copied(crate, self.below[crate], self.room, bool(self.anew))
-        status, said, used = seconds_of(verb, folder)
-        self.said[crate] = Said(said, crate)
-        if not self.below[crate] and self.said[crate].is_from_nothing():
-            self.unit = used
-        if status:
+        folder = copied(crate, self.below[crate], self.room, self.over)
+        how = {'cwd': folder, 'stdin': subprocess.DEVNULL, 'stdout': subprocess.PIPE, 'stderr': subprocess.STDOUT}
+        ran = subprocess.run(verb, text=True, errors='replace', **how)
+        self.said[crate] = Said(ran.stdout, crate)
+        if ran.returncode:
             self.wrong.append(f'{crate}: it is not proved as it stands')
-            say(f'{said[-3000:]}\n{self.wrong[-1]}')
-        elif self.anew:
-            keep(folder, f'{self.anew}/crates/{crate}')
-        return not status
+            say(f'{ran.stdout[-3000:]}\n{self.wrong[-1]}')
+        return not ran.returncode
 
     def try_edits(self, crate):
         """Tries the edits of a proved crate, and says how they were judged."""
@@ -177,7 +161,7 @@ def main():
     parser.add_argument('--edit')
     parser.add_argument('--from', dest='folder')
     parser.add_argument('--fits', action='store_true')
-    parser.add_argument('--anew', metavar='FOLDER')
+    parser.add_argument('--over', metavar='FOLDER', default='.')
     parser.add_argument('--jobs', type=int, default=len(os.sched_getaffinity(0)))
     words = parser.parse_args()
     below = crates_listed()
@@ -199,9 +183,6 @@ def main():
         run.wrong.append('not every way of refusing was seen: the prover speaks of it in other words now')
     for line in run.wrong:
         say(f'edits: {line}')
-    if words.anew and run.unit:
-        with open(f'{words.anew}/unit', 'w', encoding='utf-8') as file:
-            file.write(f'{run.unit:.0f}\n')
     say(f'edits: {count} tried, {len(run.wrong)} wrong')
     return 1 if run.wrong else 0
 

@@ -15,8 +15,6 @@ WAITS = re.compile(r'it (?:calls|passes|waits for) .*')
 END = re.compile(r'^logic=(proved|not-proved)', re.M)
 # that it ended with a function, whatever came of it
 CHECKED = re.compile(r'checked (\S+), \d+ of \d+')
-# that a check went by what another one had kept
-BEGUN = re.compile(r'begins with what a check kept')
 
 VALUES_WORD, SEARCH_WORD, ANSWER_WORD = 'with values', 'by search', 'by an answer'
 WAYS = (VALUES_WORD, SEARCH_WORD, ANSWER_WORD)
@@ -64,10 +62,6 @@ class Said:
     def is_whole(self):
         """Whether the check came to the functions."""
         return bool(END.search(self.text)) and bool(self.functions)
-
-    def is_from_nothing(self):
-        """Whether the check proved all that it tells of: a library that was taken as it stood tells of no function."""
-        return bool(self.functions) and not BEGUN.search(self.text)
 
     def is_proved(self):
         """Whether the whole crate is proved."""
