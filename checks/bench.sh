@@ -1,11 +1,11 @@
 #!/bin/sh
 # Times the built program over the files of checks/hostile.py and over a FILE, beside readelf where there is one:
-# SHOWN=FILE sh checks/bench.sh. A line tells the least of RUNS runs (9, if not said) taken by turns, in milliseconds, and readelf's
+# SHOWN=FILE sh checks/bench.sh. A line tells the least of RUNS runs (15, if not said) taken by turns, in milliseconds, and readelf's
 # time as a multiple of the strict one; readelf is stopped after 10 seconds. A file whose text is endless is timed up to the
 # first 100 MB of it. Run from the repository's root.
 set -eu
 export LC_ALL=C
-runs=${RUNS:-9}
+runs=${RUNS:-15}
 show=crates/goblin_show/out/goblin_show
 test -x "$show" || { echo "$show is not built: make show FILE=/bin/true builds it" >&2; exit 2; }
 folder=$(mktemp -d)
@@ -34,6 +34,7 @@ least() {
     if [ "$before" -eq 0 ] || [ "$took" -lt "$before" ]; then echo "$took"; else echo "$before"; fi
 }
 
+echo "each time is the least of $runs runs, in milliseconds; times: readelf's time divided by the strict one"
 printf '%-20s %10s %10s %10s %8s\n' file strict permissive readelf times
 for file in "$folder"/*; do
     s=0 p=0 r=0 run=0
