@@ -40,6 +40,7 @@ gate:
 # Rust and JavaScript; and allocations that fail.
 tested:
 	sh checks/quotes.sh
+	sh checks/lint.sh
 	python3 checks/edits --fits
 	@$(MAKE) --no-print-directory -j4 words files limits called refused unit
 

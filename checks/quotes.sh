@@ -4,6 +4,7 @@
 # indentation. Run from the repository's root, over all its pages and all `///` of its code.
 set -eu
 export LC_ALL=C
+# shellcheck disable=SC2016 # (the signs are awk's)
 git ls-files '*.md' 'crates/*.rt' | tr '\n' '\0' | xargs -0 awk '
 function bare(line) { sub(/^[ \t]+/, "", line); sub(/[ \t\r]+$/, "", line); return line }
 function fail(what) { print page ": " what; bad = 1 }
