@@ -1,8 +1,9 @@
 #!/usr/bin/env python3
 """Makes the page one file that opens from a folder: python3 pack.py MODULE writes it to standard output.
 
-The module and the worker's source stand in it as data, since a page of a folder may fetch nothing; the policy allows its own
-script and style alone, by their sums, and no request at all.
+A page of a folder may fetch nothing, so that its script and its worker's are one text each, of the files that they import, each in
+a scope of its own. The module and the worker's text stand in the page as data. The policy allows the page's own script and style
+alone, by their sums, and no request at all.
 """
 import base64
 import hashlib
@@ -11,7 +12,8 @@ import re
 import sys
 
 HERE = os.path.dirname(os.path.abspath(__file__))
-IMPORT = "import init, * as goblin from './goblin.js';\n"
+IMPORT = re.compile(r"^import (?P<what>[^;]+?) from '\./(?P<name>\w+)\.js';\n", re.M)
+EXPORT = re.compile(r'^export (?:const|class|function|function\*|async function) (\w+)', re.M)
 
 
 def read(name):
@@ -30,23 +32,52 @@ def sum_of(text):
     return "'sha256-" + base64.b64encode(hashlib.sha256(text.encode()).digest()).decode() + "'"
 
 
-def worker_of(library, worker):
-    """The worker with the library before it, in a scope of its own, in place of its import."""
-    library = placed(library, 'export default async function init', 'export async function init')
-    library = placed(library, " = new URL('goblin_c.wasm', import.meta.url)", '')  # (a worker of a folder's page is no module)
-    names = re.findall(r'^export (?:const|class|function|async function) (\w+)', library, re.M)
-    if len(names) != len(re.findall(r'^export ', library, re.M)):
-        sys.exit('pack.py: goblin.js exports what has no name')
-    library = re.sub('^export ', '', library, flags=re.M)
-    scope = f'const goblin = (() => {{\n{library}\nreturn {{ {", ".join(names)} }};\n}})();\nconst {{ init }} = goblin;\n'
-    return placed(worker, IMPORT, scope)
+def source_of(name):
+    """A file's text; that of goblin.js without what asks where it lies, which a script that is no module can't."""
+    text = read(f'{name}.js')
+    if name == 'goblin':
+        text = placed(text, 'export default async function init', 'export async function init')
+        text = placed(text, " = new URL('goblin_c.wasm', import.meta.url)", '')
+    return text
+
+
+def taken(match, exported):
+    """What stands in the place of an import: names of the other file's scope, all of which that exports."""
+    what, name = ' '.join(match['what'].split()), match['name']
+    form = re.fullmatch(r'{ (?P<names>[^}]+?),? }|(?:(?P<init>init), )?\* as (?P<whole>\w+)', what)
+    names = re.findall(r'\w+', form['names'] or form['init'] or '') if form else ['?']
+    for missing in set(names) - set(exported[name]):
+        sys.exit(f'pack.py: {name}.js exports no {missing}')
+    whole = f'const {form["whole"]} = $_{name};\n' if form['whole'] else ''
+    return whole + (f'const {{ {", ".join(names)} }} = $_{name};\n' if names else '')
+
+
+def script_of(name):
+    """A file and all that it imports as one script: each in a scope, behind those that it imports."""
+    exported, begun = {}, []
+
+    def add(name):
+        if name in exported:
+            return ''
+        if name in begun:
+            sys.exit(f'pack.py: {name}.js imports itself')
+        begun.append(name)
+        text = source_of(name)
+        before = ''.join(add(match['name']) for match in IMPORT.finditer(text))
+        names = EXPORT.findall(text)
+        if len(names) != len(re.findall(r'^export ', text, re.M)) or len(IMPORT.findall(text)) != len(re.findall(r'^import ', text, re.M)):
+            sys.exit(f'pack.py: {name}.js exports or imports what has no name')
+        text = re.sub('^export ', '', IMPORT.sub(lambda match: taken(match, exported), text), flags=re.M)
+        exported[name] = names
+        return f'{before}const $_{name} = (() => {{\n{text}\nreturn {{ {", ".join(names)} }};\n}})();\n'
+
+    return f"'use strict';\n{add(name)}"
 
 
 def main(module):
     with open(module, 'rb') as file:
         encoded = base64.b64encode(file.read()).decode()
-    style, script = read('page.css'), read('page.js')
-    worker = worker_of(read('goblin.js'), read('worker.js'))
+    style, script, worker = read('page.css'), script_of('page'), script_of('worker')
     for text in (script, worker):
         if '</' in text or '<!--' in text:
             sys.exit('pack.py: a script holds what may end it')
@@ -56,7 +87,7 @@ def main(module):
     page = placed(page, '<meta charset="utf-8">', f'<meta charset="utf-8">\n<meta http-equiv="Content-Security-Policy" content="{policy}">')
     page = placed(page, '<link rel="stylesheet" href="page.css">', f'<style>{style}</style>')
     data = f'<script type="text/plain" id="module">{encoded}</script>\n<script type="text/plain" id="worker">{worker}</script>\n'
-    page = placed(page, '<script src="page.js"></script>', f'{data}<script>{script}</script>')
+    page = placed(page, '<script type="module" src="page.js"></script>', f'{data}<script>{script}</script>')
     sys.stdout.write(page)
 
 

@@ -1,0 +1,225 @@
+// Headless browsers for the page's test, each with the same calls: Chromium, spoken to by its pipe, and Firefox, by its socket.
+// Both hear of every request and of every fault of a script, pick files as a person does, and press keys.
+import { spawn } from 'node:child_process';
+import { mkdirSync, writeFileSync } from 'node:fs';
+import { join } from 'node:path';
+
+// Answers to what was asked, by the numbers of what was asked.
+class Calls {
+    #waiting = new Map();
+    #asked = 0;
+
+    constructor(send) { this.send = send; }
+
+    ask(message) {
+        return new Promise((resolve, reject) => {
+            this.#waiting.set(++this.#asked, { resolve, reject });
+            this.send({ id: this.#asked, ...message });
+        });
+    }
+
+    answer({ id, result, error, message }) {
+        const { resolve, reject } = this.#waiting.get(id);
+        this.#waiting.delete(id);
+        if (error) reject(new Error(message ?? error.message)); else resolve(result);
+    }
+}
+
+class Browser {
+    requests = [];
+    faults = [];
+
+    constructor(folder) {
+        this.downloads = join(folder, 'downloads');
+        this.profile = join(folder, 'profile');
+        mkdirSync(this.downloads);
+        mkdirSync(this.profile);
+    }
+
+    /** What an expression, which may be a promise, is. */
+    async evaluate(expression) {
+        const told = await this.run(`(async () => JSON.stringify(await (${expression})) ?? 'null')()`);
+        return JSON.parse(told);
+    }
+
+    /** Waits until an expression is true. */
+    async until(expression) {
+        for (const end = Date.now() + 20000; Date.now() < end;) {
+            if (await this.evaluate(expression)) return;
+            await new Promise((resume) => setTimeout(resume, 20));
+        }
+        throw new Error(`not so after 20 seconds: ${expression}`);
+    }
+
+    async end() {
+        const ended = new Promise((resolve) => this.process.on('exit', resolve));
+        this.process.kill();
+        await ended;
+    }
+}
+
+const KEYS = { Enter: 13, Tab: 9 };
+
+export class Chromium extends Browser {
+    static title = 'Chromium';
+
+    async start(program) {
+        const options = ['--headless', '--no-sandbox', '--disable-gpu', '--remote-debugging-pipe', `--user-data-dir=${this.profile}`];
+        this.process = spawn(program, options, { stdio: ['ignore', 'ignore', 'ignore', 'pipe', 'pipe'] });
+        this.calls = new Calls((message) => this.process.stdio[3].write(`${JSON.stringify(message)}\0`));
+        let rest = '';
+        this.process.stdio[4].on('data', (data) => {
+            const parts = (rest + data).split('\0');
+            rest = parts.pop();
+            parts.map((part) => JSON.parse(part)).forEach((message) => this.#receive(message));
+        });
+        const { targetId } = await this.#ask('Target.createTarget', { url: 'about:blank' }, undefined);
+        this.tab = (await this.#ask('Target.attachToTarget', { targetId, flatten: true }, undefined)).sessionId;
+        await this.#watch(this.tab);
+        await this.#ask('Browser.setDownloadBehavior', { behavior: 'allow', downloadPath: this.downloads }, undefined);
+    }
+
+    #ask(method, params = {}, sessionId = this.tab) { return this.calls.ask({ method, params, sessionId }); }
+
+    #receive(message) {
+        const { id, method, params } = message;
+        if (id) this.calls.answer(message);
+        if (method === 'Network.requestWillBeSent') this.requests.push(params.request.url);
+        if (method === 'Runtime.exceptionThrown') this.faults.push(params.exceptionDetails.exception?.description ?? params.exceptionDetails.text);
+        if (method === 'Target.attachedToTarget') this.#watch(params.sessionId);
+    }
+
+    // Hears of the requests and faults of a page, and of its workers before they start.
+    async #watch(session) {
+        await Promise.all([
+            this.#ask('Network.enable', {}, session), this.#ask('Runtime.enable', {}, session),
+            this.#ask('Target.setAutoAttach', { autoAttach: true, waitForDebuggerOnStart: true, flatten: true }, session),
+        ]);
+        await this.#ask('Runtime.runIfWaitingForDebugger', {}, session);
+    }
+
+    /** Runs a script before each page's own. */
+    async before_pages(script) {
+        const { identifier } = await this.#ask('Page.addScriptToEvaluateOnNewDocument', { source: script });
+        return () => this.#ask('Page.removeScriptToEvaluateOnNewDocument', { identifier });
+    }
+
+    async open(url) {
+        await this.#ask('Page.navigate', { url: 'about:blank' });
+        await this.#ask('Page.navigate', { url });
+        await this.until(`document.readyState === 'complete' && location.href === ${JSON.stringify(url)}`);
+    }
+
+    async run(expression) {
+        const { result, exceptionDetails } = await this.#ask('Runtime.evaluate', { expression, awaitPromise: true, userGesture: true });
+        if (exceptionDetails) throw new Error(exceptionDetails.exception?.description ?? exceptionDetails.text);
+        return result.value;
+    }
+
+    async pick(selector, path) {
+        const { root } = await this.#ask('DOM.getDocument');
+        const { nodeId } = await this.#ask('DOM.querySelector', { nodeId: root.nodeId, selector });
+        await this.#ask('DOM.setFileInputFiles', { files: [path], nodeId });
+    }
+
+    async press(...keys) {
+        for (const key of keys) {
+            const given = { key, code: key, windowsVirtualKeyCode: KEYS[key], text: key === 'Enter' ? '\r' : undefined };
+            await this.#ask('Input.dispatchKeyEvent', { type: 'keyDown', ...given });
+            await this.#ask('Input.dispatchKeyEvent', { type: 'keyUp', key, code: key });
+        }
+    }
+
+    async point(x, y) { await this.#ask('Input.dispatchMouseEvent', { type: 'mouseMoved', x, y }); }
+
+    async resize(width, height) {
+        await this.#ask('Emulation.setDeviceMetricsOverride', { width, height, deviceScaleFactor: 1, mobile: false });
+    }
+
+    async theme(value) { await this.#ask('Emulation.setEmulatedMedia', { features: [{ name: 'prefers-color-scheme', value }] }); }
+
+    async screenshot() { return Buffer.from((await this.#ask('Page.captureScreenshot')).data, 'base64'); }
+}
+
+const NAMED_KEYS = { Enter: '\uE007', Tab: '\uE004', ArrowLeft: '\uE012', ArrowUp: '\uE013', ArrowRight: '\uE014', ArrowDown: '\uE015' };
+
+export class Firefox extends Browser {
+    static title = 'Firefox';
+
+    async start(program) {
+        const preferences = {
+            'browser.download.folderList': 2, 'browser.download.dir': this.downloads, 'browser.download.useDownloadDir': true,
+            'browser.helperApps.neverAsk.saveToDisk': 'text/csv', 'browser.shell.checkDefaultBrowser': false,
+            'datareporting.policy.dataSubmissionEnabled': false, 'remote.prefs.recommended': true,
+        };
+        const lines = Object.entries(preferences).map(([name, value]) => `user_pref(${JSON.stringify(name)}, ${JSON.stringify(value)});\n`);
+        writeFileSync(join(this.profile, 'user.js'), lines.join(''));
+        const options = ['--headless', '--no-remote', '--remote-debugging-port', '0', '--profile', this.profile, 'about:blank'];
+        this.process = spawn(program, options, { stdio: ['ignore', 'ignore', 'pipe'], env: { ...process.env, HOME: this.profile } });
+        this.socket = new WebSocket(`${await this.#address()}/session`);
+        await new Promise((resolve, reject) => { this.socket.onopen = resolve; this.socket.onerror = reject; });
+        this.calls = new Calls((message) => this.socket.send(JSON.stringify(message)));
+        this.socket.onmessage = ({ data }) => this.#receive(JSON.parse(data));
+        await this.#ask('session.new', { capabilities: {} });
+        await this.#ask('session.subscribe', { events: ['network.beforeRequestSent', 'log.entryAdded'] });
+        this.tab = (await this.#ask('browsingContext.getTree')).contexts[0].context;
+    }
+
+    // Where the browser listens, which it says once it does.
+    #address() {
+        return new Promise((resolve, reject) => {
+            let text = '';
+            this.process.stderr.on('data', (data) => {
+                text += data;
+                const found = /WebDriver BiDi listening on (ws:\S+)/.exec(text);
+                if (found) resolve(found[1]);
+            });
+            this.process.on('exit', () => reject(new Error(`Firefox ends: ${text}`)));
+        });
+    }
+
+    #ask(method, params = {}) { return this.calls.ask({ method, params }); }
+
+    #receive(message) {
+        const { id, method, params } = message;
+        if (id) this.calls.answer(message);
+        if (method === 'network.beforeRequestSent') this.requests.push(params.request.url);
+        if (method === 'log.entryAdded' && params.type === 'javascript' && params.level === 'error') this.faults.push(params.text);
+    }
+
+    async before_pages(script) {
+        const { script: id } = await this.#ask('script.addPreloadScript', { functionDeclaration: `() => { ${script} }` });
+        return () => this.#ask('script.removePreloadScript', { script: id });
+    }
+
+    async open(url) {
+        await this.#ask('browsingContext.navigate', { context: this.tab, url: 'about:blank', wait: 'complete' });
+        await this.#ask('browsingContext.navigate', { context: this.tab, url, wait: 'complete' });
+    }
+
+    async run(expression) {
+        const target = { context: this.tab };
+        const told = await this.#ask('script.evaluate', { expression, target, awaitPromise: true, userActivation: true });
+        if (told.type === 'exception') throw new Error(told.exceptionDetails.text);
+        return told.result.value;
+    }
+
+    async pick(selector, path) {
+        const { nodes } = await this.#ask('browsingContext.locateNodes', { context: this.tab, locator: { type: 'css', value: selector } });
+        await this.#ask('input.setFiles', { context: this.tab, element: { sharedId: nodes[0].sharedId }, files: [path] });
+    }
+
+    async press(...keys) {
+        const actions = keys.flatMap((key) => ['keyDown', 'keyUp'].map((type) => ({ type, value: NAMED_KEYS[key] ?? key })));
+        await this.#ask('input.performActions', { context: this.tab, actions: [{ type: 'key', id: 'keys', actions }] });
+    }
+
+    async point(x, y) {
+        const actions = [{ type: 'pointerMove', x: Math.round(x), y: Math.round(y) }];
+        await this.#ask('input.performActions', { context: this.tab, actions: [{ type: 'pointer', id: 'mouse', actions }] });
+    }
+
+    async resize(width, height) { await this.#ask('browsingContext.setViewport', { context: this.tab, viewport: { width, height } }); }
+
+    async screenshot() { return Buffer.from((await this.#ask('browsingContext.captureScreenshot', { context: this.tab })).data, 'base64'); }
+}

@@ -1,0 +1,279 @@
+// What the page's side says of an item or a place: a title, fields with where they lead, and blocks of the file's bytes.
+import * as goblin from './goblin.js';
+import {
+    called, file, GROUP, is_wide, part, RELOCATION_TYPES, section_at, section_refusal, sections, segment_refusal,
+    size_of, SYMBOL_TYPES, told_or,
+} from './file.js';
+import * as labels from './labels.js';
+import { addend, section_word, symbol_of_relocation } from './lists.js';
+import { title_of } from './notes.js';
+import { kind_of, kind_of_segment, part_at, parts, pieces_at, title_of_segment } from './pieces.js';
+import {
+    address_of_offset, address_of_symbol, behind, bytes_of_symbol, has_addresses, name_of_symbol, offset_of_address, place_of_relocation,
+    section_of_address, section_of_symbol, segments_of_address, symbol_of_address, symtab_at, to_address, to_offset, to_section, to_symbol,
+} from './resolve.js';
+import { count, hex } from './text.js';
+
+const { prefixed } = labels;
+// A field: its name, its value, what that means, and what it leads to, as `{ text, to }`.
+const field = (name, value, meaning = '', ...links) => ({ name, value: `${value}`, meaning, links: links.filter((link) => link) });
+const bytes_word = (size) => `${count(size)} bytes`;
+
+// An address as a field's link, where the file has addresses and there is something.
+const at_address = (address) => (has_addresses() && address > 0n ? { ...to_address(address), text: 'address' } : undefined);
+const at_offset = (offset) => (Number(offset) < file.content.length ? { ...to_offset(offset), text: 'offset' } : undefined);
+
+// The entry of a table of a section.
+function entry(of, index, kind) {
+    const size = size_of(kind);
+    return { word: `entry in ${called(of)}`, at: Number(section_at(of).sh_offset) + index * size, size };
+}
+
+// The bytes of a range, or why they are refused.
+function block(word, range, refused) {
+    const told = part(() => range() ?? {}, refused);
+    return told.offset === undefined ? { word, ...told } : { word, at: Number(told.offset), size: Number(told.size) };
+}
+
+const to_section_number = (index) => (index > 0 && section_at(index) ? to_section(index) : undefined);
+
+// What the sh_info of a section leads to: a section, or the symbol after the last local one, or that by which a group is known.
+function info_link({ sh_type, sh_flags, sh_info, sh_link }) {
+    const is_section = RELOCATION_TYPES.includes(sh_type) || sh_flags & 0x40n;
+    if (is_section) return to_section_number(sh_info);
+    return sh_type === GROUP ? symbol_link(sh_link, sh_info) : undefined;
+}
+
+function symbol_link(table, index) {
+    const symbol = index ? told_or(undefined, () => symtab_at(table)?.get(index)) : undefined;
+    if (!symbol) return undefined;
+    return to_symbol({ table, index, name: name_of_symbol(table, index, symbol) || `symbol ${index}` });
+}
+
+const INFO_WORDS = { [goblin.SHT_SYMTAB]: 'symbols that are local', [goblin.SHT_DYNSYM]: 'symbols that are local' };
+
+// The list that a section is.
+function list_of({ sh_type }, index) {
+    if (SYMBOL_TYPES.includes(sh_type)) return { text: 'its symbols', to: `symbols/${index}` };
+    if (RELOCATION_TYPES.includes(sh_type)) return { text: 'its relocations', to: `relocations/${index}` };
+    return undefined;
+}
+
+function section_details(item, index) {
+    const { sh_name, sh_type, sh_flags, sh_addr, sh_offset, sh_size, sh_link, sh_info, sh_addralign, sh_entsize } = item;
+    const header = { word: 'section header', at: Number(file.elf.header.e_shoff) + index * size_of('section'), size: size_of('section') };
+    return {
+        title: called(index, item), what: `section ${count(index)}`, kind: kind_of(item),
+        fields: [
+            field('sh_name', hex(sh_name)), field('sh_type', hex(sh_type), prefixed('SHT_', labels.section_type(sh_type)), list_of(item, index)),
+            field('sh_flags', hex(sh_flags), labels.section_flags(sh_flags)),
+            field('sh_addr', hex(sh_addr), '', sh_flags & 2n ? at_address(sh_addr) : undefined),
+            field('sh_offset', hex(sh_offset), '', at_offset(sh_offset)), field('sh_size', hex(sh_size), bytes_word(sh_size)),
+            field('sh_link', sh_link, '', to_section_number(sh_link)), field('sh_info', sh_info, INFO_WORDS[sh_type] ?? '', info_link(item)),
+            field('sh_addralign', sh_addralign), field('sh_entsize', sh_entsize),
+        ],
+        blocks: [block('bytes', () => file.elf.section_range(item), (error) => section_refusal(error, 'the bytes', index)), header],
+    };
+}
+
+// How many sections of a segment are named.
+const MOST_SECTIONS = 24;
+function sections_in({ p_offset, p_filesz, p_vaddr, p_memsz }) {
+    const found = [];
+    for (const { index, section } of sections()) {
+        const { sh_type, sh_offset, sh_size, sh_addr, sh_flags } = section;
+        const is_in = sh_type === goblin.SHT_NOBITS
+            ? sh_flags & 2n && sh_addr >= p_vaddr && sh_addr + sh_size <= p_vaddr + p_memsz && sh_size > 0n
+            : sh_offset >= p_offset && sh_offset + sh_size <= p_offset + p_filesz && sh_size > 0n;
+        if (is_in && found.push(to_section(index)) > MOST_SECTIONS) break;
+    }
+    return found;
+}
+
+function segment_details(item, index) {
+    const { p_type, p_flags, p_offset, p_vaddr, p_paddr, p_filesz, p_memsz, p_align } = item;
+    const inside = sections_in(item), is_cut = inside.length > MOST_SECTIONS;
+    const header = { word: 'program header', at: Number(file.elf.header.e_phoff) + index * size_of('segment'), size: size_of('segment') };
+    return {
+        title: title_of_segment(index, item), what: `segment ${count(index)} of ${count(file.elf.header.e_phnum)}`, kind: kind_of_segment(item),
+        fields: [
+            field('p_type', hex(p_type), prefixed('PT_', labels.segment_type(p_type))),
+            field('p_flags', hex(p_flags), labels.segment_flags(p_flags)), field('p_offset', hex(p_offset), '', at_offset(p_offset)),
+            field('p_vaddr', hex(p_vaddr), '', at_address(p_vaddr)), field('p_paddr', hex(p_paddr)),
+            field('p_filesz', hex(p_filesz), bytes_word(p_filesz)), field('p_memsz', hex(p_memsz), bytes_word(p_memsz)),
+            field('p_align', hex(p_align)),
+            ...(inside.length ? [field('sections', '', is_cut ? `the first ${MOST_SECTIONS}` : '', ...inside.slice(0, MOST_SECTIONS))] : []),
+        ],
+        blocks: [block('bytes', () => file.elf.segment_range(item), (error) => segment_refusal(error, index)), header],
+    };
+}
+
+function symbol_details(item, index, table) {
+    const { st_name, st_value, st_size, st_info, st_other } = item;
+    const of = section_of_symbol(table, index, item), place = bytes_of_symbol(table, index, item);
+    const bind = goblin.st_bind(st_info), type = goblin.st_type(st_info), visibility = goblin.st_visibility(st_other);
+    const address = of === undefined ? undefined : at_address(address_of_symbol(item));
+    const info = `${prefixed('STB_', labels.symbol_binding(bind))} (${bind}), ${prefixed('STT_', labels.symbol_type(type))} (${type})`;
+    return {
+        title: name_of_symbol(table, index, item) || `symbol ${index}`, what: `symbol ${count(index)} of ${called(table)}`,
+        kind: of === undefined || !section_at(of) ? undefined : kind_of(section_at(of)),
+        fields: [
+            field('st_name', hex(st_name)), field('st_value', hex(st_value), place ? behind(called(of), place.from) : '', address),
+            field('st_size', st_size, bytes_word(st_size)), field('st_info', hex(st_info), info),
+            field('st_other', hex(st_other), `${prefixed('STV_', labels.symbol_visibility(visibility))} (${visibility})`),
+            field('st_shndx', hex(item.st_shndx), of === undefined ? section_word(table, index, item) : `section ${of}`,
+                of === undefined ? undefined : to_section_number(of)),
+        ],
+        blocks: [
+            ...(place ? [{ word: `bytes in ${called(of)}`, at: place.at, size: place.size }] : []), entry(table, index, 'symbol'),
+        ],
+    };
+}
+
+function relocation_details(item, index, of) {
+    const section = section_at(of), { r_offset, r_type, r_sym } = item;
+    const place = place_of_relocation(section, item), name = symbol_of_relocation(section.sh_link, item);
+    const target = !has_addresses() && place ? { ...to_offset(place.at), text: behind(called(place.section), place.from) } : undefined;
+    const changed = has_addresses() ? symbol_of_address(r_offset) : undefined;
+    const word = place?.section === undefined ? 'from its place on' : `from its place in ${called(place.section)} on`;
+    return {
+        title: name || labels.relocation_type(r_type), what: `relocation ${count(index)} of ${called(of)}`, kind: 'relocations',
+        fields: [
+            field('r_offset', hex(r_offset), '', target ?? at_address(r_offset), changed && to_symbol(changed)),
+            field('r_type', r_type, prefixed('', labels.relocation_type(r_type)) === `${r_type}` ? '' : labels.relocation_type(r_type)),
+            field('r_sym', r_sym, '', symbol_link(section.sh_link, r_sym)), field('r_addend', addend(item)),
+        ],
+        blocks: [
+            ...(place ? [{ word, at: place.at, size: place.size }] : []),
+            entry(of, index, item.r_addend === undefined ? 'rel' : 'rela'),
+        ],
+    };
+}
+
+function note_details(item, index, by) {
+    const { note, holder, start, end, thread } = item, type = labels.note_type(note);
+    const of = { text: holder.title, to: `${by}/${holder.index}` };
+    return {
+        title: title_of(item), what: `note ${count(index)} of ${by}`, kind: 'notes',
+        fields: [
+            field('name', note.name), field('n_type', hex(note.n_type), type.startsWith('0x') ? '' : prefixed('NT_', type)),
+            field('n_descsz', note.desc_range.size, bytes_word(note.desc_range.size)), field('from', '', '', of),
+            ...(thread === undefined ? [] : [field('thread', thread)]),
+        ],
+        blocks: [
+            { word: 'descriptor', at: Number(note.desc_range.offset), size: Number(note.desc_range.size) },
+            { word: 'whole note', at: start, size: Math.min(end, file.content.length) - start },
+        ],
+    };
+}
+
+// A part of the map: the piece that is drawn there, and the others.
+function part_details(index) {
+    const { starts, depths } = parts(), [top, ...others] = pieces_at(index);
+    const [start, end] = [starts[index], starts[index + 1]], depth = depths[index];
+    const link = ({ title, to }) => ({ text: title, to });
+    return {
+        title: top?.title ?? 'gap', kind: top?.kind,
+        what: depth > 1 ? `part ${count(index)}, ${depth} pieces overlap` : `part ${count(index)}`,
+        fields: [
+            field('from', hex(start), '', at_address(address_of_offset(start) ?? 0n)), field('to', hex(end)),
+            ...(top ? [field('piece', '', '', link(top))] : []), ...(others.length ? [field('also', '', '', ...others.map(link))] : []),
+        ],
+        blocks: [top ? { word: 'bytes', at: top.start, size: top.end - top.start } : { word: 'bytes', at: start, size: end - start }],
+    };
+}
+
+const LISTS = {
+    sections: section_details, segments: segment_details, symbols: symbol_details, relocations: relocation_details,
+    notes: note_details, layout: (item, index) => part_details(index),
+};
+
+/** What is said of an item of a list. */
+export const item_details = (source, { list, index, of }) => LISTS[list](source.list.get(index), index, of);
+
+// ---- places ----
+
+/** What is said of an offset: which pieces hold it, and the bytes from there on to the end of that which is drawn there. */
+export function offset_details(offset) {
+    const index = part_at(offset), { starts } = parts(), pieces = pieces_at(index);
+    const end = pieces[0]?.end ?? starts[index + 1], address = address_of_offset(offset);
+    const inside = pieces.map(({ title, to, start }) => ({ text: behind(title, BigInt(offset - start)), to }));
+    const symbol = address === undefined ? undefined : symbol_of_address(address);
+    return {
+        title: `offset ${hex(offset)}`, what: pieces[0] ? `in ${pieces[0].title}` : 'in a gap', kind: pieces[0]?.kind,
+        fields: [
+            ...(inside.length ? [field('in', '', '', ...inside)] : []),
+            ...(address === undefined ? [] : [field('address', hex(address), '', at_address(address))]),
+            ...(symbol ? [field('symbol', '', '', to_symbol(symbol))] : []),
+        ],
+        blocks: [{ word: 'bytes from there on', at: offset, size: end - offset }],
+    };
+}
+
+/** Whether there is something at an address. */
+export const is_address = (address) =>
+    segments_of_address(address).length > 0 || section_of_address(address) !== undefined || symbol_of_address(address) !== undefined;
+
+/** What is said of an address: its segments, section and symbol, and the bytes that are loaded from there on. */
+export function address_details(address) {
+    const inside = segments_of_address(address), section = section_of_address(address), symbol = symbol_of_address(address);
+    const at = offset_of_address(address);
+    const segment = ({ index, segment: item }) => ({ text: behind(title_of_segment(index, item), address - item.p_vaddr), to: `segments/${index}` });
+    const of = section === undefined ? undefined
+        : { text: behind(called(section), address - section_at(section).sh_addr), to: `sections/${section}` };
+    const pieces = at === undefined ? [] : pieces_at(part_at(at));
+    return {
+        title: `address ${hex(address)}`, what: symbol ? `in ${symbol.name}` : of ? `in ${called(section)}` : 'in memory',
+        kind: section === undefined ? pieces[0]?.kind : kind_of(section_at(section)),
+        fields: [
+            ...(symbol ? [field('symbol', '', '', to_symbol(symbol))] : []), ...(of ? [field('section', '', '', of)] : []),
+            ...(inside.length ? [field('segment', '', '', ...inside.map(segment))] : []),
+            at === undefined ? field('offset', 'none', 'no bytes in the file') : field('offset', hex(at), '', at_offset(at)),
+        ],
+        blocks: at === undefined ? [] : [{ word: 'bytes from there on', at, size: (pieces[0]?.end ?? file.content.length) - at }],
+    };
+}
+
+// ---- the header ----
+
+const FIELDS = ['e_type', 'e_machine', 'e_version', 'e_entry', 'e_phoff', 'e_shoff', 'e_flags', 'e_ehsize', 'e_phentsize', 'e_phnum',
+    'e_shentsize', 'e_shnum', 'e_shstrndx'];
+const IDENT = ['ei_class', 'ei_data', 'ei_version', 'ei_osabi', 'ei_abiversion'];
+
+// What the fields are, in a few words.
+const WORDS = {
+    ei_class: 'class', ei_data: 'byte order', ei_version: 'version of the format', ei_osabi: 'operating system and ABI',
+    ei_abiversion: 'version of the ABI', e_type: 'what the file is', e_machine: 'machine', e_version: 'version of the format, once more',
+    e_entry: 'address at which the program starts', e_phoff: 'offset of the program headers', e_shoff: 'offset of the section headers',
+    e_flags: 'flags of the machine', e_ehsize: 'size of this header', e_phentsize: 'size of a program header',
+    e_phnum: 'number of program headers', e_shentsize: 'size of a section header', e_shnum: 'number of section headers',
+    e_shstrndx: 'index of the section with the names of sections',
+};
+
+// The meanings of the header's numbers that have one.
+function header_meanings({ ei_class, ei_data, ei_osabi, e_type, e_machine }) {
+    const known = (name, prefix) => (/^(0x|\d+$)/.test(name) ? '' : prefixed(prefix, name));
+    return {
+        ei_class: known(labels.file_class(ei_class), ''), ei_data: ei_data === 2 ? 'big endian' : 'little endian',
+        ei_osabi: known(labels.osabi(ei_osabi), 'ELFOSABI_'), e_type: known(labels.file_type(e_type), 'ET_'),
+        e_machine: known(labels.machine(e_machine), 'EM_'),
+    };
+}
+
+const header_links = ({ e_entry, e_phoff, e_shoff, e_shstrndx }) => ({
+    e_entry: at_address(e_entry), e_phoff: e_phoff ? at_offset(e_phoff) : undefined, e_shoff: e_shoff ? at_offset(e_shoff) : undefined,
+    e_shstrndx: told_or(undefined, () => to_section_number(e_shstrndx)),
+});
+
+/** The header's fields, each with its bytes. */
+export function header_fields() {
+    const { header } = file.elf, word = is_wide() ? 8 : 4;
+    const sizes = [2, 2, 4, word, word, word, 4, 2, 2, 2, 2, 2, 2], meanings = header_meanings(header), links = header_links(header);
+    let at = 16;
+    const places = [...IDENT.map((name, i) => ({ name, at: 4 + i, size: 1 })),
+        ...FIELDS.map((name, i) => ({ name, at: (at += sizes[i]) - sizes[i], size: sizes[i] }))];
+    return places.map(({ name, at: place, size }) => {
+        const value = ['e_entry', 'e_phoff', 'e_shoff', 'e_flags'].includes(name) ? hex(header[name]) : `${header[name]}`;
+        return { name, at: place, size, value, meaning: meanings[name] ?? '', words: WORDS[name], links: links[name] ? [links[name]] : [] };
+    });
+}

@@ -1,0 +1,67 @@
+// Elements of the page, and texts in them. Every text of a file is put as text, with what is not seen made visible.
+
+export const get = (id) => document.getElementById(id);
+export const number = (value) => value.toLocaleString('en');
+export const hex = (value) => `0x${value.toString(16)}`;
+export const plural = (count, word) => `${number(count)} ${word}${count === 1 ? '' : 's'}`;
+
+/** An element with attributes and what stands in it: elements, and texts, which stay texts. */
+export function make(name, given = {}, ...content) {
+    const element = document.createElement(name);
+    for (const [key, value] of Object.entries(given)) {
+        if (key.startsWith('on')) element.addEventListener(key.slice(2), value);
+        else if (value !== undefined && value !== false) element.setAttribute(key, value === true ? '' : value);
+    }
+    element.append(...content);
+    return element;
+}
+
+export const button = (text, onclick, given = {}) => make('button', { type: 'button', onclick, ...given }, text);
+
+// What is not seen, or changes how others are seen: control and format characters, separators, lone halves (which stand for bytes
+// that are no text), spaces that look like others.
+const UNSEEN = /[\p{Cc}\p{Cf}\p{Zl}\p{Zp}\p{Cs}\p{Co}\p{Cn}]|(?! )\p{Zs}/gu;
+
+function shown(sign) {
+    const code = sign.codePointAt(0);
+    if (code >= 0xdc80 && code <= 0xdcff) return `\\x${(code - 0xdc00).toString(16)}`;
+    return `U+${code.toString(16).toUpperCase().padStart(4, '0')}`;
+}
+
+/** A text with what is not seen made visible, for where there are no elements. */
+export const visible = (text) => text.replace(UNSEEN, shown);
+
+/** Puts a text of a file into an element, in place of all that it has. */
+export function put_text(element, text) {
+    if (!text.match(UNSEEN)) {
+        element.textContent = text;
+        return element;
+    }
+    const parts = [];
+    let end = 0;
+    for (const { 0: sign, index } of text.matchAll(UNSEEN)) {
+        parts.push(text.slice(end, index), make('span', { class: 'esc' }, shown(sign)));
+        end = index + sign.length;
+    }
+    element.replaceChildren(...parts, text.slice(end));
+    return element;
+}
+
+let said;
+/** Says for a while what was done, in the corner of the page. */
+export function say(text) {
+    const box = get('said');
+    box.textContent = text;
+    clearTimeout(said);
+    said = setTimeout(() => { box.textContent = ''; }, 4000);
+}
+
+/** Copies a text, and says so. */
+export async function copy(text, what) {
+    try {
+        await navigator.clipboard.writeText(text);
+        say(`Copied: ${what}`);
+    } catch (error) {
+        say(`The browser refuses to copy: ${error.message}`);
+    }
+}

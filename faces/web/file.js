@@ -1,0 +1,118 @@
+// The file that the worker reads, and what is asked of it in many places: sizes, names of sections, and refusals in words.
+import * as goblin from './goblin.js';
+import { count, hex, name_of, NAME } from './text.js';
+
+const { GoblinError } = goblin;
+
+export const file = { elf: undefined, content: new Uint8Array(0) };
+
+export const is_wide = () => file.elf.is_64();
+
+// How many bytes an entry of each table has, in files of 32 and 64 bits.
+const SIZES = { header: [52, 64], segment: [32, 56], section: [40, 64], symbol: [16, 24], rel: [8, 16], rela: [12, 24] };
+export const size_of = (kind) => SIZES[kind][Number(is_wide())];
+
+export const ET_REL = 1;
+export const ET_CORE = 4;
+export const EM_ARM = 40;
+export const STRTAB = 3;
+export const GROUP = 17;
+export const SYMTAB_SHNDX = 18;
+export const SYMBOL_TYPES = [goblin.SHT_SYMTAB, goblin.SHT_DYNSYM];
+export const RELOCATION_TYPES = [goblin.SHT_REL, goblin.SHT_RELA];
+
+// ---- refusals ----
+
+/** What a part tells, or that it is refused. */
+export function part(told, refused) {
+    try {
+        return told();
+    } catch (error) {
+        if (!(error instanceof GoblinError)) throw error;
+        return { refused: refused(error) };
+    }
+}
+
+/** What a part tells, or something else where it is refused. */
+export function told_or(other, told) {
+    try {
+        return told();
+    } catch (error) {
+        if (!(error instanceof GoblinError)) throw error;
+        return other;
+    }
+}
+
+/** A refusal in words: the library's, what was being read, and which bytes say where it is. */
+export function refusal(error, what, marks) {
+    if (!(error instanceof GoblinError)) throw error;
+    return { text: error.message, kind: error.kind, what, marks };
+}
+
+export function header_refusal(error) {
+    const { BAD_MAGIC, ELF_CLASS, DATA_TYPE } = goblin.Kind;
+    const mark = { [BAD_MAGIC]: { at: 0, size: 8 }, [ELF_CLASS]: { at: 4, size: 1 }, [DATA_TYPE]: { at: 5, size: 1 } }[error.kind];
+    return refusal(error, 'the file header, at 0x0', [mark ?? { at: 0, size: Math.min(64, file.content.length) }]);
+}
+
+// Where the header has a field, by the class: its offset and size.
+const FIELDS = {
+    e_phoff: [[0x1c, 4], [0x20, 8]], e_shoff: [[0x20, 4], [0x28, 8]], e_phnum: [[0x2c, 2], [0x38, 2]], e_shnum: [[0x30, 2], [0x3c, 2]],
+};
+
+export function list_refusal(error, what, offset, number) {
+    const { header } = file.elf;
+    const mark = (name) => { const [at, size] = FIELDS[name][Number(is_wide())]; return { at, size }; };
+    const told = `${number} ${count(header[number])}, ${offset} ${hex(header[offset])}, file size ${count(file.content.length)} bytes`;
+    return refusal(error, `${what}: ${told}`, [mark(offset), mark(number)]);
+}
+
+export function section_refusal(error, what, index) {
+    const { sh_offset, sh_size } = section_at(index);
+    const told = `${what} of section ${index}: offset ${hex(sh_offset)}, size ${hex(sh_size)}, file size ${count(file.content.length)} bytes`;
+    const at = Number(file.elf.header.e_shoff) + index * size_of('section');
+    return refusal(error, told, [{ at: at + (is_wide() ? 0x18 : 0x10), size: is_wide() ? 16 : 8 }]);
+}
+
+export function segment_refusal(error, index) {
+    const { p_offset, p_filesz } = file.elf.program_headers().get(index);
+    const size = size_of('segment'), at = Number(file.elf.header.e_phoff) + index * size;
+    const told = `the bytes of segment ${index}: offset ${hex(p_offset)}, file size ${hex(p_filesz)}`;
+    return refusal(error, `${told}, in a file of ${count(file.content.length)} bytes`, [{ at, size }]);
+}
+
+// ---- sections ----
+
+export const section_at = (index) => file.elf.section_headers().get(index);
+
+/** All sections with their indices: none where they are refused. */
+export function* sections() {
+    let list;
+    if (!told_or(false, () => { list = file.elf.section_headers(); return list.length > 0; })) return;
+    let index = 0;
+    for (const section of list) yield { index: index++, section };
+}
+
+/** All segments with their indices: none where they are refused. */
+export function* segments() {
+    let list;
+    if (!told_or(false, () => { list = file.elf.program_headers(); return list.length > 0; })) return;
+    let index = 0;
+    for (const segment of list) yield { index: index++, segment };
+}
+
+/** The name at an offset of a table: cut where it is long, empty where there is none. A table that is refused has no names. */
+export function name_at(strtab, offset) {
+    const bytes = told_or(undefined, () => strtab.get_start(offset, NAME + 1));
+    return bytes ? name_of(bytes) : '';
+}
+
+let section_names;
+/** The name of a section header. */
+export function name_of_section({ sh_name }) {
+    section_names ??= file.elf.shdr_strtab();
+    return name_at(section_names, sh_name);
+}
+
+/** What a section is called: its name, or its index where it has none. */
+export const called = (index, section = section_at(index)) => name_of_section(section) || `section ${index}`;

@@ -1,0 +1,75 @@
+// The field that leads anywhere: an offset, an address, a name. What is found stands below it, the best first.
+import { get, make, put_text } from './dom.js';
+import { ask } from './reader.js';
+import { go } from './route.js';
+
+let found = [], active = 0, asked = '';
+
+function show(places) {
+    found = places;
+    active = 0;
+    get('found').hidden = places.length === 0;
+    get('goto').setAttribute('aria-expanded', places.length > 0);
+    get('found').replaceChildren(...places.map(({ title, detail, to }, i) => make('li', {
+        role: 'option', id: `found-${i}`, onpointerdown: (event) => { event.preventDefault(); take(to); },
+    }, put_text(make('b'), title), put_text(make('span'), detail))));
+    mark();
+}
+
+function mark() {
+    [...get('found').children].forEach((item, i) => item.setAttribute('aria-selected', i === active));
+    get('found').children[active]?.scrollIntoView({ block: 'nearest' });
+    get('goto').setAttribute('aria-activedescendant', found.length ? `found-${active}` : '');
+}
+
+function take(to) {
+    close();
+    get('goto').blur();
+    go(to);
+}
+
+function close() {
+    show([]);
+    get('none').hidden = true;
+    asked = '';
+}
+
+// Looks for what the field has; returns whether that is shown.
+async function look() {
+    const text = get('goto').value.trim();
+    if (text === asked) return true;
+    asked = text;
+    if (!text) { close(); return false; }
+    const places = await ask('find', text);
+    if (!places || asked !== text) return false;
+    show(places);
+    get('none').hidden = places.length > 0;
+    return true;
+}
+
+async function key(event) {
+    if (event.key === 'Escape') { close(); return; }
+    if (event.key === 'Enter') {
+        if (await look() && found[active]) take(found[active].to);
+        return;
+    }
+    const step = { ArrowDown: 1, ArrowUp: -1 }[event.key];
+    if (!step || !found.length) return;
+    event.preventDefault();
+    active = (active + step + found.length) % found.length;
+    mark();
+}
+
+export function set_up_goto() {
+    let soon;
+    const field = get('goto');
+    field.addEventListener('input', () => { clearTimeout(soon); soon = setTimeout(look, 120); });
+    field.addEventListener('keydown', key);
+    field.addEventListener('blur', close);
+    field.addEventListener('focus', look);
+    addEventListener('keydown', (event) => {
+        if (event.key !== '/' || event.target.closest('input, select') || field.offsetParent === null) return;
+        event.preventDefault();
+        field.select();
+    });
+}

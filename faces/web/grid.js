@@ -1,0 +1,205 @@
+// Lists of any length, of which only what is seen is drawn.
+import { make, put_text, visible } from './dom.js';
+
+// The most that an element may be high in every engine: a longer list is scrolled by parts of its length.
+const HIGHEST = 6e6, BLOCK = 128, KEPT = 64;
+let ids = 0;
+
+/**
+ * A list: columns { title, wide, least, is_right, is_dim, sorts, hint }, and rows(from, size), which promises the cells of some rows.
+ * `chosen` is called with a row's place once it is chosen, `opened` once it is opened, and `sorted` with a column and an order.
+ */
+export class Grid {
+    constructor(label, columns, { rows, chosen = () => {}, opened = () => {}, sorted, high = 24, kind = '' }) {
+        Object.assign(this, { columns, rows, chosen, opened, sorted, high, length: 0, active: -1, column: 0 });
+        Object.assign(this, { blocks: new Map(), lines: [], version: 0, id: `list-${++ids}` });
+        this.columns_css = columns.map(({ wide }) => wide).join(' ');
+        this.body = make('div', { class: 'body', role: 'rowgroup' });
+        this.head = make('div', { class: 'row', role: 'row', id: `${this.id}-head`, 'aria-rowindex': '1' });
+        this.heads = make('div', { class: 'heads' }, this.head);
+        const has_heads = columns.some(({ title }) => title);
+        this.scroller = make('div', {
+            class: 'grid', role: 'grid', tabindex: '0', 'aria-label': label, 'aria-colcount': columns.length,
+            'aria-owns': has_heads && `${this.id}-head`,
+        }, this.body);
+        // (the heads stand before the list that they belong to, also in the order of the keyboard)
+        this.box = make('div', { class: `list-box ${kind}` }, ...(has_heads ? [this.heads] : []), this.scroller);
+        const least = columns.reduce((all, { least: own = 70 }) => all + own + 12, 12);
+        this.box.style.setProperty('--least', kind === 'hex' ? '0' : `${least}px`);
+        this.box.style.setProperty('--high', `${high}px`);
+        this.make_head();
+        this.listen();
+    }
+
+    listen() {
+        this.scroller.addEventListener('scroll', () => {
+            this.heads.scrollLeft = this.scroller.scrollLeft;
+            this.draw_soon();
+        });
+        this.scroller.addEventListener('keydown', (event) => this.key(event));
+        this.body.addEventListener('click', (event) => this.click(event));
+        this.body.addEventListener('dblclick', () => { if (this.active >= 0) this.opened(this.active); });
+        new ResizeObserver(() => this.draw_soon()).observe(this.scroller);
+    }
+
+    make_head() {
+        this.head.style.gridTemplateColumns = this.columns_css;
+        this.columns.forEach(({ title, is_right, sorts = true, hint }, column) => {
+            const inside = sorts && this.sorted ? make('button', { type: 'button', onclick: () => this.sort(column) }, title) : title;
+            this.head.append(make('div', { class: `cell ${is_right ? 'right' : ''}`, role: 'columnheader', 'aria-sort': 'none', title: hint }, inside));
+        });
+    }
+
+    sort(column) {
+        const before = this.head.children[column].getAttribute('aria-sort');
+        const now = before === 'none' ? 'ascending' : before === 'ascending' ? 'descending' : 'none';
+        this.show_order(column, now);
+        this.sorted(now === 'none' ? 0 : column, now === 'descending');
+    }
+
+    /** Shows by which column the rows are sorted, and how: `ascending`, `descending` or `none`. */
+    show_order(column, order) {
+        [...this.head.children].forEach((cell, i) => cell.setAttribute('aria-sort', i === column ? order : 'none'));
+    }
+
+    /** Shows a list of so many items anew. */
+    show(length) {
+        this.length = length;
+        this.active = -1;
+        this.version++;
+        this.blocks.clear();
+        this.scroller.setAttribute('aria-rowcount', length + 1);
+        this.body.style.height = `${Math.min(length * this.high, HIGHEST)}px`;
+        this.scroller.scrollTop = 0;
+        this.draw();
+    }
+
+    get room() { return this.scroller.clientHeight; }
+    get is_long() { return this.length * this.high > HIGHEST; }
+
+    // The index of the first row that is seen, with its place.
+    first() {
+        const { scrollTop } = this.scroller;
+        if (!this.is_long) return { index: Math.floor(scrollTop / this.high), top: Math.floor(scrollTop / this.high) * this.high };
+        const part = scrollTop / Math.max(HIGHEST - this.room, 1);
+        return { index: Math.round(Math.min(part, 1) * Math.max(this.length - Math.floor(this.room / this.high), 0)), top: scrollTop };
+    }
+
+    draw_soon() {
+        if (this.frame) return;
+        this.frame = requestAnimationFrame(() => { this.frame = 0; this.draw(); });
+    }
+
+    draw() {
+        const { index, top } = this.first();
+        const size = Math.max(Math.min(Math.ceil(this.room / this.high) + 1, this.length - index), 0);
+        while (this.lines.length < size) this.lines.push(this.make_line());
+        this.lines.forEach((line, i) => {
+            if (i >= size) { line.remove(); return; }
+            if (!line.isConnected) this.body.append(line);
+            line.style.transform = `translateY(${top + i * this.high}px)`;
+            this.fill(line, index + i);
+        });
+        this.scroller.setAttribute('aria-activedescendant', this.active_line?.id ?? '');
+    }
+
+    get active_line() { return this.lines.find((line) => line.at === this.active && line.isConnected); }
+
+    make_line() {
+        const line = make('div', { class: 'row', role: 'row', id: `row-${++ids}` });
+        line.style.gridTemplateColumns = this.columns_css;
+        for (const { is_right, is_dim } of this.columns) {
+            line.append(make('div', { class: `cell ${is_right ? 'right' : ''} ${is_dim ? 'dim' : ''}`, role: 'gridcell' }));
+        }
+        return line;
+    }
+
+    fill(line, at) {
+        line.at = at;
+        line.setAttribute('aria-rowindex', at + 2);
+        line.setAttribute('aria-selected', at === this.active);
+        [...line.children].forEach((cell, i) => cell.classList.toggle('on', at === this.active && i === this.column));
+        const row = this.block(Math.floor(at / BLOCK))?.[at % BLOCK];
+        if (line.row === row && row) return;
+        line.row = row;
+        // (after the cells of an item whose bytes are refused stands a word)
+        const mark = row?.[this.columns.length];
+        line.classList.toggle('bad', Boolean(mark));
+        this.columns.forEach((column, i) => {
+            const cell = line.children[i];
+            if (column.put) { column.put(cell, row?.[i]); return; }
+            const text = row ? row[i] ?? '' : i === 0 ? '…' : '';
+            put_text(cell, text);
+            // (what a cell cuts is seen whole beside the pointer)
+            cell.title = mark ? `${visible(text)} (its bytes are ${mark})` : visible(text);
+        });
+    }
+
+    // The rows of a block, once the worker has told them.
+    block(place) {
+        const found = this.blocks.get(place);
+        if (found) return found.rows;
+        const block = {}, { version } = this;
+        this.blocks.set(place, block);
+        if (this.blocks.size > KEPT) this.blocks.delete(this.blocks.keys().next().value);
+        this.rows(place * BLOCK, BLOCK).then((rows) => {
+            if (version !== this.version) return;
+            block.rows = rows;
+            this.draw_soon();
+        });
+        return undefined;
+    }
+
+    click(event) {
+        const line = event.target.closest('.row');
+        if (!line) return;
+        this.column = Math.max([...line.children].indexOf(event.target.closest('.cell')), 0);
+        this.choose(line.at);
+    }
+
+    /** Makes a row the active one, and scrolls to it. */
+    activate(at) {
+        if (this.length === 0) return;
+        this.active = Math.min(Math.max(at, 0), this.length - 1);
+        const seen = Math.floor(this.room / this.high), { index } = this.first();
+        let first = index;
+        if (this.active < index) first = this.active;
+        else if (this.active >= index + seen) first = this.active - seen + 1;
+        if (first !== index || (this.active === index && !this.is_long)) this.scroll_to(first, seen);
+        this.draw();
+    }
+
+    choose(at, is_step = false) {
+        this.activate(at);
+        if (this.length > 0) this.chosen(this.active, is_step);
+    }
+
+    scroll_to(first, seen) {
+        if (!this.is_long) { this.scroller.scrollTop = first * this.high; return; }
+        this.scroller.scrollTop = first / Math.max(this.length - seen, 1) * (HIGHEST - this.room);
+    }
+
+    /** The active row's cells, as texts. */
+    get active_cells() {
+        const row = this.active < 0 ? undefined : this.blocks.get(Math.floor(this.active / BLOCK))?.rows?.[this.active % BLOCK];
+        return row?.slice(0, this.columns.length);
+    }
+
+    key(event) {
+        const page = Math.max(Math.floor(this.room / this.high) - 1, 1);
+        const steps = { ArrowDown: 1, ArrowUp: -1, PageDown: page, PageUp: -page, Home: -this.length, End: this.length };
+        const sides = { ArrowLeft: -1, ArrowRight: 1 };
+        if (event.key in steps) {
+            this.choose(this.active < 0 ? (event.key === 'End' ? this.length : 0) : this.active + steps[event.key], true);
+        } else if (event.key in sides && this.active >= 0) {
+            this.column = Math.min(Math.max(this.column + sides[event.key], 0), this.columns.length - 1);
+            this.draw();
+            this.active_line?.children[this.column].scrollIntoView({ block: 'nearest', inline: 'nearest' });
+        } else if (event.key === 'Enter' && this.length > 0) {
+            this.opened(Math.max(this.active, 0));
+        } else {
+            return;
+        }
+        event.preventDefault();
+    }
+}

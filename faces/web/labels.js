@@ -1,0 +1,73 @@
+// What numbers are called: by the library's names, which are goblin's, where they fit the file's machine and system; else by the
+// page's own; else by the number.
+import * as goblin from './goblin.js';
+import { file } from './file.js';
+import * as own from './names.js';
+import { hex } from './text.js';
+
+// The library's names for the ends of ranges, which name no number.
+const ENDS = /^(SHT_|PT_)?(NUM|LO|HI|LOOS|HIOS|LOPROC|HIPROC|LOUSER|HIUSER)$/;
+const SOLARIS = 6, X86_64 = 62, ARM = 40;
+
+const without = (prefix, name) => (name.startsWith(prefix) ? name.slice(prefix.length) : name);
+
+// The library's name where it fits the file.
+function fitting(name) {
+    const { e_machine, ei_osabi } = file.elf.header;
+    if (name.includes('UNKNOWN') || ENDS.test(name)) return undefined;
+    if (name.includes('X86_64_') && e_machine !== X86_64) return undefined;
+    if (name.includes('ARM_') && e_machine !== ARM) return undefined;
+    if (name.includes('SUNW') && ei_osabi !== SOLARIS) return undefined;
+    return name;
+}
+
+// A function of a number that finds each name once.
+function once(find) {
+    const found = new Map();
+    return (number) => {
+        if (!found.has(number)) found.set(number, find(number));
+        return found.get(number);
+    };
+}
+
+const label = (prefix, own_name, library, shown = hex) => once((number) =>
+    own_name?.(number, file.elf.header.e_machine) ?? without(prefix, fitting(library(number)) ?? shown(number)));
+
+/** Names without their prefix, or the number. */
+export const section_type = label('SHT_', own.section_type, goblin.sht_to_str);
+export const segment_type = label('PT_', own.segment_type, goblin.pt_to_str);
+export const symbol_type = label('STT_', own.symbol_type, goblin.type_to_str, String);
+export const symbol_binding = label('STB_', undefined, goblin.bind_to_str, String);
+export const symbol_visibility = label('STV_', undefined, goblin.visibility_to_str, String);
+export const file_type = label('ET_', undefined, goblin.et_to_str);
+export const machine = label('EM_', undefined, goblin.machine_to_str, String);
+export const file_class = label('', undefined, goblin.class_to_str, String);
+export const osabi = label('ELFOSABI_', own.osabi, () => 'UNKNOWN', String);
+
+/** The name with its prefix, or the number alone. */
+export const prefixed = (prefix, name) => (/^(0x|\d+$)/.test(name) ? name : `${prefix}${name}`);
+
+/** The name of a relocation's type with its prefix, or the number. */
+export const relocation_type = once((type) => own.relocation_type(type, file.elf.header.e_machine) ?? `${type}`);
+
+const BITS = Array.from({ length: 32 }, (_, bit) => bit);
+/** The names of a section's flags, those without a name as numbers. */
+export const section_flags = once((flags) => {
+    const names = BITS.filter((bit) => flags >> BigInt(bit) & 1n).map((bit) => {
+        const given = own.section_flag(bit, file.elf.header.e_machine) ?? fitting(goblin.shf_to_str(2 ** bit));
+        return given ? without('SHF_', given) : hex(2 ** bit);
+    });
+    return (flags >> 32n ? [...names, hex(flags >> 32n << 32n)] : names).join(' ');
+});
+
+/** The flags of a segment, as `R W X`. */
+export const segment_flags = (flags) => {
+    const letters = [[4, 'R'], [2, 'W'], [1, 'X']].map(([bit, letter]) => (flags & bit ? letter : '·')).join(' ');
+    return flags & ~7 ? `${letters} ${hex((flags & ~7) >>> 0)}` : letters;
+};
+
+/** The name of a note's type, as its owner gives it one, or the number. */
+export function note_type(note) {
+    const library = ['GNU', 'CORE'].includes(note.name) ? fitting(note.type_to_str()) : undefined;
+    return library ? without('NT_', library) : own.note_type(note.name, note.n_type) ?? hex(note.n_type);
+}

@@ -1,0 +1,288 @@
+// The map: the file's parts drawn to scale, what is loaded of it, and what is chosen.
+import { get, hex, make, number, plural, put_text, visible } from './dom.js';
+import { ask, shown_file } from './reader.js';
+import { go } from './route.js';
+
+// In pixels: a row's bar, the way to the next one, and what is left free above; in rows: how many there are at most.
+const BAND = 15, STEP = 23, TOP = 8, MOST_ROWS = 16, SHARE = 1 / 3;
+const map = { part: -1, over: -1, chosen: undefined, rows: MOST_ROWS, view: { start: 0, each: 1 } };
+const KIND_WORDS = { header: 'ELF header', tables: 'header tables', names: 'symbols and names' };
+const words_of = (kind) => KIND_WORDS[kind] ?? kind;
+export const colour = (kind) => getComputedStyle(document.documentElement).getPropertyValue(`--${kind}`);
+
+/** Shows the parts of a file. */
+export function show_map(parts, size) {
+    Object.assign(map, parts, { size, part: -1, over: -1, chosen: undefined, titles: new Map() });
+    get('canvas').setAttribute('aria-valuemax', Math.max(map.kinds.length - 1, 0));
+    show_legend();
+    fit();
+    tell_part(-1);
+}
+
+function show_legend() {
+    const sums = new Map();
+    map.kinds.forEach((kind, i) => {
+        const name = kind < 0 ? 'gap' : map.KINDS[kind];
+        sums.set(name, (sums.get(name) ?? 0) + map.starts[i + 1] - map.starts[i]);
+    });
+    const overlapped = map.depths.reduce((all, depth, i) => (depth > 1 ? all + map.starts[i + 1] - map.starts[i] : all), 0);
+    const part = (size) => `${(100 * size / map.size).toFixed(size > 0 && size / map.size < 0.001 ? 2 : 1)} %`;
+    const items = [...map.KINDS, 'gap'].filter((name) => sums.has(name)).map((name) => {
+        const dot = make('i', { class: name === 'gap' && 'hollow' });
+        if (name !== 'gap') dot.style.background = colour(name);
+        return make('li', {}, dot, `${words_of(name)} ${part(sums.get(name))}`);
+    });
+    if (overlapped) items.push(make('li', {}, `overlapping ${part(overlapped)}`));
+    if (map.segments.length) items.push(make('li', {}, 'line below: loaded'));
+    get('legend').replaceChildren(...items);
+}
+
+// As many rows as leave the map its share of the window, each with as many bytes as show the whole file, where it was shown.
+function fit() {
+    const canvas = get('canvas'), was_whole = map.view.each === map.whole || !map.whole;
+    const others = canvas.parentElement.offsetHeight - canvas.offsetHeight;
+    map.rows = Math.min(Math.max(Math.floor((innerHeight * SHARE - others - TOP - 4) / STEP), 1), MOST_ROWS);
+    map.whole = Math.max(2 ** Math.ceil(Math.log2(Math.max(map.size, 1) / map.rows)), 16);
+    if (was_whole || map.view.each > map.whole) map.view = { start: 0, each: map.whole };
+    draw_map();
+}
+
+/** Which part holds a byte. */
+export function part_at(byte) {
+    let low = 0, high = map.kinds.length - 1;
+    while (low < high) {
+        const middle = (low + high + 1) >> 1;
+        if (map.starts[middle] <= byte) low = middle; else high = middle - 1;
+    }
+    return map.kinds.length ? low : -1;
+}
+
+const rows_of_view = () => Math.max(Math.min(map.rows, Math.ceil((map.size - map.view.start) / map.view.each)), 1);
+
+// Draws each piece of a range, cut at the rows' ends: to(x, width, y), in the canvas's own units.
+function over_rows(from, to, draw) {
+    const { start, each } = map.view, wide = map.wide - map.left - 10;
+    const first = Math.max(Math.floor((from - start) / each), 0), last = Math.min(Math.ceil((to - start) / each), rows_of_view());
+    for (let row = first; row < last; row++) {
+        const base = start + row * each;
+        const left = Math.max(from - base, 0) / each * wide, right = Math.min(to - base, each) / each * wide;
+        if (right > left) draw(map.left + left, right - left, TOP + row * STEP);
+    }
+}
+
+function sized_pen() {
+    const canvas = get('canvas'), scale = window.devicePixelRatio || 1, high = TOP + rows_of_view() * STEP + 2;
+    map.wide = canvas.parentElement.clientWidth;
+    map.left = 30 + 7 * hex(map.size).length;
+    canvas.style.height = `${high}px`;
+    if (canvas.width !== Math.round(map.wide * scale) || canvas.height !== Math.round(high * scale)) {
+        canvas.width = Math.round(map.wide * scale);
+        canvas.height = Math.round(high * scale);
+    }
+    const pen = canvas.getContext('2d');
+    pen.setTransform(scale, 0, 0, scale, 0, 0);
+    pen.clearRect(0, 0, map.wide, high);
+    return pen;
+}
+
+function draw_map() {
+    const pen = sized_pen();
+    draw_offsets(pen);
+    draw_segments(pen);
+    draw_names(pen, draw_parts(pen));
+    if (map.over >= 0) outline(pen, map.starts[map.over], map.starts[map.over + 1], colour('dim'), 1);
+    if (map.chosen) outline(pen, map.chosen.start, map.chosen.end, colour('ink'), 2);
+}
+
+// Draws the parts; returns those that have room for a name.
+function draw_parts(pen) {
+    const shades = map.KINDS.map(colour), gap = colour('gap'), hatch = hatching(pen), line = colour('raised');
+    const { start, each } = map.view, end = start + each * map.rows, named = [];
+    let seen = { x: 0, y: -1 }; // (of parts within half a point one is drawn)
+    for (let part = Math.max(part_at(start), 0); part < map.kinds.length && map.starts[part] < end; part++) {
+        over_rows(map.starts[part], map.starts[part + 1], (x, width, y) => {
+            if (y === seen.y && x + width < seen.x + 0.5) return;
+            seen = { x, y };
+            if (map.kinds[part] < 0) { draw_gap(pen, gap, x, width, y); return; }
+            pen.fillStyle = shades[map.kinds[part]];
+            pen.fillRect(x, y, width, BAND);
+            if (map.depths[part] > 1) { pen.fillStyle = hatch; pen.fillRect(x, y, width, BAND); }
+            if (width > 3) { pen.fillStyle = line; pen.fillRect(x + width - 0.75, y, 0.75, BAND); }
+            if (width > 34) named.push({ part, x, width, y });
+        });
+    }
+    return named;
+}
+
+// A gap is hollow, with an edge that stands off from the ground: full where there is no room for a hollow.
+function draw_gap(pen, shade, x, width, y) {
+    if (width < 5) {
+        pen.fillStyle = shade;
+        pen.fillRect(x, y + BAND / 2 - 1, width, 2);
+        return;
+    }
+    pen.strokeStyle = shade;
+    pen.lineWidth = 1;
+    pen.strokeRect(Math.round(x) + 1.5, y + 0.5, Math.round(width) - 3, BAND - 1);
+}
+
+// The offsets of the rows.
+function draw_offsets(pen) {
+    pen.font = `11px ${colour('mono')}`;
+    pen.textBaseline = 'middle';
+    pen.textAlign = 'right';
+    pen.fillStyle = colour('dim');
+    for (let row = 0; row < rows_of_view(); row++) {
+        pen.fillText(hex(map.view.start + row * map.view.each), map.left - 12, TOP + row * STEP + BAND / 2 + 0.5);
+    }
+}
+
+function hatching(pen) {
+    const tile = document.createElement('canvas');
+    tile.width = tile.height = 6;
+    const on = tile.getContext('2d');
+    on.strokeStyle = colour('ink');
+    on.globalAlpha = 0.55;
+    on.lineWidth = 1;
+    on.beginPath();
+    for (const x of [-6, 0, 6]) { on.moveTo(x, 6); on.lineTo(x + 6, 0); }
+    on.stroke();
+    return pen.createPattern(tile, 'repeat');
+}
+
+// What is loaded when the program runs: a line below, of the colour of code, data or constants.
+function draw_segments(pen) {
+    for (const [from, to, flags] of map.segments) {
+        pen.fillStyle = colour(flags & 1 ? 'code' : flags & 2 ? 'data' : 'constants');
+        over_rows(from, Math.min(to, map.size), (x, width, y) => pen.fillRect(x, y + BAND + 1.5, width, 2));
+    }
+}
+
+// How many names are asked for at once.
+const MOST_NAMES = 400;
+
+// The names of the pieces that have room for them, once the worker has told them.
+function draw_names(pen, named) {
+    ask_names([...new Set(named.map(({ part }) => part))].filter((part) => !map.titles.has(part)).slice(0, MOST_NAMES));
+    pen.font = `11px ${colour('text')}`;
+    pen.textAlign = 'left';
+    const drawn = new Set();
+    for (const { part, x, width, y } of named) {
+        const title = map.titles.get(part);
+        if (!title || drawn.has(part) || pen.measureText(title).width > width - 10) continue;
+        drawn.add(part);
+        pen.fillStyle = colour(map.KINDS[map.kinds[part]] === 'header' ? 'paper' : 'on-kind');
+        pen.fillText(title, x + 5, y + BAND / 2 + 0.5);
+    }
+}
+
+function ask_names(missing) {
+    if (missing.length === 0) return;
+    const { titles } = map;
+    missing.forEach((part) => titles.set(part, ''));
+    ask('titles', missing).then((told) => {
+        missing.forEach((part, i) => titles.set(part, visible(told[i])));
+        if (titles === map.titles) draw_map();
+    });
+}
+
+function outline(pen, from, to, shade, width) {
+    pen.strokeStyle = shade;
+    pen.lineWidth = width;
+    over_rows(from, to, (x, wide, y) => pen.strokeRect(x - 0.5, y - 0.5, Math.max(wide, 2) + 1, BAND + 1));
+}
+
+// ---- what is chosen ----
+
+const name_of = ({ title, kind }) => `${title ?? 'gap'} · ${kind ? words_of(kind) : 'in no section or segment'}`;
+
+// Tells what a part is, in the line above the map: of none, how the map is drawn.
+async function tell_part(part) {
+    const readout = get('readout');
+    if (part < 0) {
+        readout.textContent = `${plural(map.kinds.length, 'part')}, drawn to scale; each row has ${number(map.view.each)} bytes`;
+        return;
+    }
+    const { reader } = shown_file, told = await ask('item', { list: 'layout', index: part });
+    if (map.over !== part || reader !== shown_file.reader) return;
+    const [start, end] = [map.starts[part], map.starts[part + 1]];
+    const depth = map.depths[part] > 1 ? ` · ${map.depths[part]} pieces overlap` : '';
+    put_text(readout, `${name_of(told)} · ${hex(start)} to ${hex(end)} · ${plural(end - start, 'byte')}${depth}`);
+    readout.title = readout.textContent;
+}
+
+/** Outlines a range as what is chosen, or nothing, and shows its first byte. */
+export function mark_range(range, title = '') {
+    map.chosen = range && range.size > 0 && range.at < map.size ? { start: range.at, end: range.at + range.size } : undefined;
+    if (map.chosen) {
+        map.part = part_at(map.chosen.start);
+        const { start, each } = map.view;
+        if (map.chosen.start < start || map.chosen.start >= start + each * map.rows) look(map.chosen.start, each);
+        const canvas = get('canvas'), lies = `${hex(map.chosen.start)} to ${hex(map.chosen.end)}`;
+        canvas.setAttribute('aria-valuenow', map.part);
+        canvas.setAttribute('aria-valuetext', `${visible(title)}: ${lies}, ${plural(range.size, 'byte')}`);
+    }
+    draw_map();
+}
+
+function choose_part(part, is_replaced = false) {
+    if (map.kinds.length) go(`part/${Math.min(Math.max(part, 0), map.kinds.length - 1)}`, is_replaced);
+}
+
+// Shows rows of so many bytes, with a byte among them.
+function look(byte, each) {
+    each = Math.min(Math.max(each, 16), map.whole);
+    const last = Math.max(Math.ceil(map.size / each) - map.rows, 0) * each;
+    const start = Math.min(Math.max(Math.floor((byte - each * map.rows / 2) / each) * each, 0), last);
+    map.view = { start: each === map.whole ? 0 : start, each };
+    draw_map();
+    tell_part(-1);
+}
+
+const middle = () => (map.part >= 0 ? map.starts[map.part] : map.view.start + map.view.each * map.rows / 2);
+
+function byte_at(event) {
+    const { left, top } = get('canvas').getBoundingClientRect();
+    const row = Math.floor((event.clientY - top - TOP + 3) / STEP), part = (event.clientX - left - map.left) / (map.wide - map.left - 10);
+    const byte = map.view.start + (row + part) * map.view.each;
+    return row >= 0 && row < rows_of_view() && part >= 0 && part <= 1 && byte < map.size ? byte : undefined;
+}
+
+function hover(part) {
+    if (part === map.over) return;
+    map.over = part;
+    draw_map();
+    tell_part(part);
+}
+
+function key(event) {
+    const keys = {
+        ArrowRight: () => choose_part(map.part + 1, true), ArrowLeft: () => choose_part(map.part - 1, true), Home: () => choose_part(0, true),
+        ArrowDown: () => choose_part(Math.max(part_at(middle() + map.view.each), map.part + 1), true),
+        ArrowUp: () => choose_part(Math.min(part_at(Math.max(middle() - map.view.each, 0)), Math.max(map.part - 1, 0)), true),
+        End: () => choose_part(map.kinds.length, true), 0: () => look(0, map.whole),
+        '+': () => look(middle(), map.view.each / 2), '-': () => look(middle(), map.view.each * 2),
+    };
+    if (!(event.key in keys) || event.ctrlKey || event.metaKey) return;
+    event.preventDefault();
+    keys[event.key]();
+}
+
+export function set_up_map() {
+    const canvas = get('canvas');
+    canvas.addEventListener('pointermove', (event) => { const byte = byte_at(event); hover(byte === undefined ? -1 : part_at(byte)); });
+    canvas.addEventListener('pointerleave', () => hover(-1));
+    canvas.addEventListener('click', (event) => { const byte = byte_at(event); if (byte !== undefined) choose_part(part_at(byte)); });
+    canvas.addEventListener('dblclick', (event) => { const byte = byte_at(event); if (byte !== undefined) look(byte, map.view.each / 4); });
+    canvas.addEventListener('keydown', key);
+    get('in').addEventListener('click', () => look(middle(), map.view.each / 2));
+    get('out').addEventListener('click', () => look(middle(), map.view.each * 2));
+    get('whole').addEventListener('click', () => look(0, map.whole));
+    let before = 0;
+    new ResizeObserver(([{ contentRect: { width } }]) => {
+        if (map.kinds && width !== before) fit();
+        before = width;
+    }).observe(canvas.parentElement);
+    addEventListener('resize', () => { if (map.kinds) fit(); });
+    matchMedia('(prefers-color-scheme: dark)').addEventListener('change', () => { if (map.kinds) { show_legend(); draw_map(); } });
+}

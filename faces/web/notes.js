@@ -1,0 +1,66 @@
+// The notes of the sections, or of the segments.
+import * as goblin from './goblin.js';
+import { called, ET_CORE, file, is_wide, refusal, sections, segments, told_or } from './file.js';
+import { note_type } from './labels.js';
+import { hex } from './text.js';
+
+const MOST_NOTES = 100000, MOST_REFUSALS = 20, NHDR = 12;
+
+function* holders(by) {
+    if (by === 'sections') {
+        for (const { index, section } of sections()) {
+            if (section.sh_type !== goblin.SHT_NOTE) continue;
+            yield { index, title: called(index, section), start: section.sh_offset, notes: () => file.elf.notes(section) };
+        }
+    } else {
+        for (const { index, segment } of segments()) {
+            if (segment.p_type !== goblin.PT_NOTE) continue;
+            yield { index, title: `segment ${index}`, start: segment.p_offset, notes: () => file.elf.segment_notes(segment) };
+        }
+    }
+}
+
+const found = {};
+/** The notes of each holder up to the first that is refused, at most so many: each with its type's name and where it starts. */
+export function notes_of(by) {
+    if (found[by]) return found[by];
+    const items = [], refusals = [];
+    let is_cut = false;
+    for (const holder of holders(by)) {
+        let next = Number(holder.start);
+        try {
+            for (const note of holder.notes()) {
+                if (items.length >= MOST_NOTES) { is_cut = true; break; }
+                items.push({ holder, note, start: Number(note.name_range.offset) - NHDR, end: Number(note.next) });
+                next = Number(note.next);
+            }
+        } catch (error) {
+            const marks = next < file.content.length ? [{ at: next, size: Math.min(NHDR, file.content.length - next) }] : [];
+            refusals.push(refusal(error, `the note at ${hex(next)}, of ${holder.title}`, marks));
+        }
+        if (is_cut || refusals.length > MOST_REFUSALS) break;
+    }
+    name_threads(items);
+    return (found[by] = { items, refusals, is_cut });
+}
+
+// Gives each note of a core the thread that it is about: PRSTATUS, which starts with the signal's number and two sets of signals,
+// holds the thread's number, and the notes up to the next one are of the same thread.
+function name_threads(items) {
+    if (file.elf.header.e_type !== ET_CORE) return;
+    let thread;
+    for (const item of items) {
+        const { note } = item, type = note_type(note);
+        if (note.name === 'CORE' && type === 'PRSTATUS') {
+            thread = told_or(undefined, () => file.elf.number(note.desc_range.offset + (is_wide() ? 32n : 24n), 4));
+        }
+        if (!OF_PROCESS.has(type)) item.thread = thread;
+    }
+}
+const OF_PROCESS = new Set(['PRPSINFO', 'AUXV', 'FILE', 'SIGINFO', 'PLATFORM', 'UTSNAME']);
+
+/** What a note is called. */
+export function title_of({ note, thread }) {
+    const title = `${note.name} ${note_type(note)}`.trim();
+    return thread === undefined ? title : `${title}, thread ${thread}`;
+}

@@ -1,0 +1,164 @@
+// The pieces of the file, and the parts that their ends cut it into.
+import * as goblin from './goblin.js';
+import { called, file, RELOCATION_TYPES, section_at, sections, segments, size_of, STRTAB, SYMBOL_TYPES, told_or } from './file.js';
+import { segment_type } from './labels.js';
+import { notes_of, title_of } from './notes.js';
+
+export const KINDS = ['header', 'tables', 'code', 'data', 'constants', 'names', 'relocations', 'notes', 'other'];
+
+export function kind_of({ sh_type, sh_flags }) {
+    if (SYMBOL_TYPES.includes(sh_type) || sh_type === STRTAB) return 'names';
+    if (RELOCATION_TYPES.includes(sh_type)) return 'relocations';
+    if (sh_type === goblin.SHT_NOTE) return 'notes';
+    if (sh_flags & 4n) return 'code';
+    if (sh_flags & 2n) return sh_flags & 1n ? 'data' : 'constants';
+    return 'other';
+}
+
+export function kind_of_segment({ p_type, p_flags }) {
+    if (p_type === goblin.PT_NOTE) return 'notes';
+    if (p_type !== 1) return 'other';
+    return p_flags & 1 ? 'code' : p_flags & 2 ? 'data' : 'constants';
+}
+
+export const title_of_segment = (index, { p_type }) => `segment ${index}, ${segment_type(p_type)}`;
+
+// Collects pieces that lie in the file; each is cut at the file's end.
+function collector() {
+    const found = [];
+    const add = (start, size, given) => {
+        const end = Math.min(start + size, file.content.length);
+        if (end > start) found.push({ ...given, start, end });
+    };
+    return { found, add };
+}
+
+// The pieces that are drawn first: header, program headers, section headers, and each section's bytes. (What passes the end is
+// refused, and drawn nowhere.)
+function pieces_of_sections() {
+    const { found, add } = collector();
+    const { e_phoff, e_phnum, e_shoff } = file.elf.header;
+    add(0, size_of('header'), { title: 'ELF header', kind: 'header', to: 'header' });
+    if (e_phnum) add(Number(e_phoff), e_phnum * size_of('segment'), { title: 'Program headers', kind: 'tables', to: 'segments' });
+    const length = told_or(0, () => file.elf.section_headers().length);
+    if (length) add(Number(e_shoff), length * size_of('section'), { title: 'Section headers', kind: 'tables', to: 'sections' });
+    for (const { index, section } of sections()) {
+        const range = told_or(undefined, () => file.elf.section_range(section));
+        if (range) add(Number(range.offset), Number(range.size), { section: index, kind: kind_of(section), to: `sections/${index}` });
+    }
+    return found;
+}
+
+// The pieces that are drawn where none of those lies: segments, and over them their notes.
+function pieces_of_segments() {
+    const { found, add } = collector();
+    for (const { index, segment } of segments()) {
+        const range = told_or(undefined, () => file.elf.segment_range(segment));
+        const title = title_of_segment(index, segment);
+        if (range) add(Number(range.offset), Number(range.size), { title, kind: kind_of_segment(segment), to: `segments/${index}` });
+    }
+    notes_of('segments').items.forEach((item, index) =>
+        add(item.start, item.end - item.start, { title: title_of(item), kind: 'notes', to: `notes/segments/${index}` }));
+    return found;
+}
+
+// Heap of pieces, that with the last start on top, and of those with the same start the shortest.
+class Heap {
+    items = [];
+    before(a, b) { return a.start > b.start || (a.start === b.start && a.end < b.end); }
+    swap(a, b) { [this.items[a], this.items[b]] = [this.items[b], this.items[a]]; }
+    push(item) {
+        let at = this.items.push(item) - 1;
+        for (let up; at > 0 && this.before(this.items[at], this.items[up = (at - 1) >> 1]); at = up) this.swap(at, up);
+    }
+    pop() {
+        const last = this.items.pop();
+        if (this.items.length === 0) return;
+        this.items[0] = last;
+        for (let at = 0; ;) {
+            let least = at;
+            for (const down of [2 * at + 1, 2 * at + 2]) {
+                if (down < this.items.length && this.before(this.items[down], this.items[least])) least = down;
+            }
+            if (least === at) return;
+            this.swap(at, least);
+            at = least;
+        }
+    }
+}
+
+// The pieces that lie over a byte, for bytes that ascend.
+class Cover {
+    #by_start; #ends; #heap = new Heap(); #opened = 0; #closed = 0;
+
+    constructor(pieces) {
+        this.#by_start = [...pieces].sort((a, b) => a.start - b.start);
+        this.#ends = Float64Array.from(pieces, ({ end }) => end).sort();
+    }
+
+    // Goes on to a byte: that piece which starts last, if any, and how many there are.
+    go_to(byte) {
+        const { items } = this.#heap;
+        while (this.#opened < this.#by_start.length && this.#by_start[this.#opened].start <= byte) {
+            this.#heap.push(this.#by_start[this.#opened++]);
+        }
+        while (this.#closed < this.#ends.length && this.#ends[this.#closed] <= byte) this.#closed++;
+        while (items.length && items[0].end <= byte) this.#heap.pop();
+        return { top: items[0], depth: this.#opened - this.#closed };
+    }
+}
+
+const ends_of = (pieces) => pieces.flatMap(({ start, end }) => [start, end]);
+
+let known;
+/**
+ * The file's parts: where each starts, which piece is drawn there, or none in a gap, and how many pieces of sections lie there.
+ * Parts end where a piece of sections does, and where another piece of segments is drawn.
+ */
+export function parts() {
+    if (known) return known;
+    const first = pieces_of_sections(), second = pieces_of_segments(), size = file.content.length;
+    const ends = new Set([0, size, ...ends_of(first)]);
+    const cuts = [...new Set([...ends, ...ends_of(second)])].sort((a, b) => a - b);
+    const over = new Cover(first), under = new Cover(second), starts = [], tops = [], depths = [];
+    for (const cut of cuts) {
+        if (cut === size) break;
+        const { top, depth } = over.go_to(cut), below = under.go_to(cut).top;
+        const drawn = top ?? below;
+        if (!ends.has(cut) && drawn === tops.at(-1)) continue;
+        starts.push(cut);
+        tops.push(drawn);
+        depths.push(depth);
+    }
+    starts.push(size);
+    return (known = { starts, tops, depths, first, second });
+}
+
+/** A piece with its title. */
+export const titled = ({ section, title, ...piece }) => ({ ...piece, title: title ?? called(section, section_at(section)) });
+
+// How many pieces of a part are named.
+const MOST_NAMED = 8;
+
+/** The pieces that lie over a part: that which is drawn first, then others of its kind, at most so many. */
+export function pieces_at(index) {
+    const { starts, tops, first, second, depths } = parts(), top = tops[index];
+    const [start, end] = [starts[index], starts[index + 1]];
+    const found = top ? [titled(top)] : [];
+    for (const piece of depths[index] > 0 ? first : second) {
+        if (found.length > MOST_NAMED) break;
+        if (piece !== top && piece.start <= start && end <= piece.end) found.push(titled(piece));
+    }
+    return found;
+}
+
+/** Which part holds a byte. */
+export function part_at(byte) {
+    const { starts } = parts();
+    let low = 0, high = starts.length - 2;
+    while (low < high) {
+        const middle = (low + high + 1) >> 1;
+        if (starts[middle] <= byte) low = middle; else high = middle - 1;
+    }
+    return low;
+}

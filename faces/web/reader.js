@@ -1,0 +1,57 @@
+// The workers, each of which reads one file. The page shows what the current one tells; another takes its place once its file is read.
+import { get } from './dom.js';
+
+// A module with a memory of 64 bits and nothing else.
+const WITH_MEMORY = new Uint8Array([0, 0x61, 0x73, 0x6d, 1, 0, 0, 0, 5, 3, 1, 4, 0]);
+/** Whether the engine has what the library needs. */
+export const is_supported = () => typeof WebAssembly === 'object' && WebAssembly.validate(WITH_MEMORY);
+
+let source, module;
+function prepare() {
+    source ??= URL.createObjectURL(new Blob([get('worker').textContent], { type: 'text/javascript' }));
+    module ??= Uint8Array.from(atob(get('module').textContent), (sign) => sign.charCodeAt(0));
+}
+
+export class Reader {
+    #waiting = new Map();
+    #asked = 0;
+    /** Called with how far something has come: `{ progress, done }`. */
+    on_progress = () => {};
+
+    constructor() {
+        prepare();
+        this.worker = new Worker(source);
+        this.worker.onmessage = ({ data }) => this.#receive(data);
+        this.worker.onerror = (event) => this.#fail(new Error(event.message || 'the worker ends'));
+    }
+
+    #receive(data) {
+        if (data.progress) return this.on_progress(data);
+        const { resolve, reject } = this.#waiting.get(data.id);
+        this.#waiting.delete(data.id);
+        return 'failed' in data ? reject(new Error(data.failed)) : resolve(data.told);
+    }
+
+    #fail(error) {
+        for (const { reject } of this.#waiting.values()) reject(error);
+        this.#waiting.clear();
+    }
+
+    ask(call, given) {
+        return new Promise((resolve, reject) => {
+            this.#waiting.set(++this.#asked, { resolve, reject });
+            this.worker.postMessage({ id: this.#asked, call, given });
+        });
+    }
+
+    /** Reads a file; returns what there is to show of it first. */
+    open(file) { return this.ask('open', { module, given: file }); }
+
+    end() { this.worker.terminate(); }
+}
+
+/** The file that is shown: its reader, its size, and what it told first. */
+export const shown_file = { reader: undefined, size: 0, told: undefined };
+
+/** Asks the worker of the file that is shown. */
+export const ask = (call, given) => shown_file.reader.ask(call, given);

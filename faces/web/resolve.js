@@ -1,0 +1,158 @@
+// Where symbols, relocations and addresses lead: to sections, segments, symbols and bytes of the file.
+import * as goblin from './goblin.js';
+import { called, EM_ARM, ET_REL, file, name_at, section_at, sections, segments, SYMBOL_TYPES, SYMTAB_SHNDX, told_or } from './file.js';
+import { hex } from './text.js';
+
+const STT_SECTION = 3, STT_FUNC = 2, STT_TLS = 6, PT_LOAD = 1, PT_TLS = 7, SHF_ALLOC = 2n, SHF_TLS = 0x400n;
+const SHN_LORESERVE = 0xff00n, SHN_XINDEX = 0xffffn;
+
+/** Whether numbers of the file are addresses: in an object file they are offsets in sections. */
+export const has_addresses = () => file.elf.header.e_type !== ET_REL;
+
+// ---- symbols ----
+
+const tables = new Map();
+/** The table of symbols that a section is, or nothing where it is none. Refused as the table is. */
+export function symtab_at(index) {
+    if (!tables.has(index)) {
+        const section = index ? section_at(index) : undefined;
+        tables.set(index, section && SYMBOL_TYPES.includes(section.sh_type) ? file.elf.symtab(section) : undefined);
+    }
+    return tables.get(index);
+}
+
+const extended = new Map();
+// The table of the indices past 65,280 of the sections of a table's symbols.
+function extended_of(table) {
+    if (!extended.has(table)) {
+        const of = ({ section }) => section.sh_type === SYMTAB_SHNDX && section.sh_link === table;
+        extended.set(table, [...sections()].find(of)?.section);
+    }
+    return extended.get(table);
+}
+
+/** The index of the section that a symbol is of, or nothing. */
+export function section_of_symbol(table, index, { st_shndx }) {
+    if (st_shndx === SHN_XINDEX) {
+        const indices = extended_of(table);
+        if (!indices || BigInt(index) * 4n + 4n > indices.sh_size) return undefined;
+        return Number(told_or(undefined, () => file.elf.number(indices.sh_offset + BigInt(index) * 4n, 4)) ?? 0) || undefined;
+    }
+    return st_shndx === 0n || st_shndx >= SHN_LORESERVE ? undefined : Number(st_shndx);
+}
+
+/** A symbol's name: that of its section, where it stands for one. */
+export function name_of_symbol(table, index, symbol) {
+    const name = symbol.st_name ? name_at(symtab_at(table).strtab, symbol.st_name) : '';
+    if (name || goblin.st_type(symbol.st_info) !== STT_SECTION) return name;
+    const of = section_of_symbol(table, index, symbol);
+    return of !== undefined && section_at(of) ? called(of) : '';
+}
+
+/** The address of a symbol. (The lowest bit of a function's of ARM says that it is Thumb code, and those of threads start anew.) */
+export function address_of_symbol({ st_value, st_info }) {
+    const type = goblin.st_type(st_info);
+    if (file.elf.header.e_machine === EM_ARM && type === STT_FUNC) return st_value & ~1n;
+    if (type !== STT_TLS || !has_addresses()) return st_value;
+    const threads = [...segments()].find(({ segment }) => segment.p_type === PT_TLS);
+    return threads ? threads.segment.p_vaddr + st_value : st_value;
+}
+
+/** The bytes of the file that a symbol stands for, or nothing where it has none there. */
+export function bytes_of_symbol(table, index, symbol) {
+    const of = section_of_symbol(table, index, symbol), section = of === undefined ? undefined : section_at(of);
+    if (!section || section.sh_type === goblin.SHT_NOBITS) return undefined;
+    return bytes_in(section, of, address_of_symbol(symbol) - (has_addresses() ? section.sh_addr : 0n), symbol.st_size);
+}
+
+// So many bytes from a place of a section on, as far as these lie in it.
+function bytes_in(section, index, from, size) {
+    if (from < 0n || from >= section.sh_size) return undefined;
+    const left = section.sh_size - from;
+    return { section: index, from, at: Number(section.sh_offset + from), size: Number(size < left ? size : left) };
+}
+
+// ---- relocations ----
+
+/** How many bytes are shown from the place of a relocation on: how many it changes is its type's matter. */
+const PLACE = 8n;
+
+/** The bytes at the place that a relocation changes, or nothing where it has none in the file. */
+export function place_of_relocation({ sh_info }, { r_offset }) {
+    if (!has_addresses()) {
+        const section = sh_info ? section_at(sh_info) : undefined;
+        return section && section.sh_type !== goblin.SHT_NOBITS ? bytes_in(section, sh_info, r_offset, PLACE) : undefined;
+    }
+    const of = section_of_address(r_offset);
+    if (of === undefined) {
+        const at = offset_of_address(r_offset);
+        return at === undefined ? undefined : { at, size: Math.min(Number(PLACE), file.content.length - at) };
+    }
+    const section = section_at(of);
+    return section.sh_type === goblin.SHT_NOBITS ? undefined : bytes_in(section, of, r_offset - section.sh_addr, PLACE);
+}
+
+// ---- addresses ----
+
+const holds = (start, size, address) => start <= address && address < start + size;
+
+/** The segments that an address lies in, as they are loaded. */
+export const segments_of_address = (address) => (has_addresses()
+    ? [...segments()].filter(({ segment }) => segment.p_type === PT_LOAD && holds(segment.p_vaddr, segment.p_memsz, address)) : []);
+
+/** The index of the section that an address lies in, or nothing. */
+export function section_of_address(address) {
+    if (!has_addresses()) return undefined;
+    for (const { index, section } of sections()) {
+        const { sh_flags, sh_type, sh_addr, sh_size } = section;
+        const is_there = sh_flags & SHF_ALLOC && !(sh_type === goblin.SHT_NOBITS && sh_flags & SHF_TLS);
+        if (is_there && holds(sh_addr, sh_size, address)) return index;
+    }
+    return undefined;
+}
+
+/** The offset of the byte that is loaded at an address, or nothing. */
+export function offset_of_address(address) {
+    const segment = segments_of_address(address).find(({ segment: { p_vaddr, p_filesz } }) => holds(p_vaddr, p_filesz, address))?.segment;
+    let at;
+    if (segment) {
+        at = segment.p_offset + address - segment.p_vaddr;
+    } else {
+        const index = section_of_address(address), section = index === undefined ? undefined : section_at(index);
+        if (section && section.sh_type !== goblin.SHT_NOBITS) at = section.sh_offset + address - section.sh_addr;
+    }
+    return at !== undefined && at < BigInt(file.content.length) ? Number(at) : undefined;
+}
+
+/** The address at which a byte of the file is loaded, or nothing. */
+export function address_of_offset(offset) {
+    if (!has_addresses()) return undefined;
+    const at = BigInt(offset);
+    const of = [...segments()].find(({ segment }) => segment.p_type === PT_LOAD && holds(segment.p_offset, segment.p_filesz, at))?.segment;
+    return of && of.p_vaddr + at - of.p_offset;
+}
+
+/** The symbol that an address lies in, as its table, index, name and the distance from its start; or nothing. */
+export function symbol_of_address(address) {
+    if (!has_addresses()) return undefined;
+    for (const { index: table, section } of sections()) {
+        if (!SYMBOL_TYPES.includes(section.sh_type)) continue;
+        const thumb = file.elf.header.e_machine === EM_ARM ? 1n : 0n;
+        const index = told_or(undefined, () => symtab_at(table).at(address | thumb));
+        if (index === undefined) continue;
+        const symbol = symtab_at(table).get(index), start = address_of_symbol(symbol);
+        if (address !== start && !holds(start, symbol.st_size, address)) continue;
+        return { table, index, name: name_of_symbol(table, index, symbol) || `symbol ${index}`, from: address - start };
+    }
+    return undefined;
+}
+
+// ---- links ----
+
+/** A name with how far behind its start something lies. */
+export const behind = (name, from) => (from > 0n ? `${name} + ${hex(from)}` : name);
+
+export const to_section = (index) => ({ text: called(index), to: `sections/${index}` });
+export const to_symbol = ({ table, index, name, from = 0n }) => ({ text: behind(name, from), to: `symbols/${table}/${index}` });
+export const to_address = (address) => ({ text: hex(address), to: `address/${hex(address)}` });
+export const to_offset = (offset) => ({ text: hex(offset), to: `offset/${hex(offset)}` });

@@ -1,0 +1,56 @@
+// The side: what is chosen, with fields that lead on, and its bytes.
+import { button, get, hex, make, plural, put_text } from './dom.js';
+import { copy_hex, hex_view, refusal_of } from './hex.js';
+import { colour } from './map.js';
+import { ask } from './reader.js';
+
+const SIDE_BYTES = 8;
+
+/** The cell of a field: its value, what that means, and links to what it leads to. */
+export function value_of({ value, meaning, links }) {
+    const cell = make('td');
+    if (value) cell.append(put_text(make('span'), value));
+    if (meaning) cell.append(put_text(make('span', { class: 'meaning' }), meaning));
+    cell.append(...links.map(({ text, to }) => put_text(make('a', { href: `#${to}` }), text)));
+    return cell;
+}
+
+async function content_of({ at, size, refused }) {
+    if (refused) return [await refusal_of(refused, ask, SIDE_BYTES)];
+    const lies = at === undefined ? 'no bytes in the file' : `${hex(at)} to ${hex(at + size)}, ${plural(size, 'byte')}`;
+    return [make('p', { class: 'lies' }, lies), ...(size > 0 ? [hex_view(at, size)] : [])];
+}
+
+// The bytes of that block which is chosen among some, the first to begin with.
+async function bytes_box(blocks) {
+    let current;
+    const content = make('div', { class: 'content' });
+    const copying = button('Copy hex', () => copy_hex(current.at, current.size), { class: 'copy' });
+    const choices = blocks.map((block) => put_text(button('', () => show(block), { 'aria-pressed': 'false' }), block.word));
+    const show = async (block) => {
+        current = block;
+        choices.forEach((choice, i) => choice.setAttribute('aria-pressed', blocks[i] === block));
+        copying.hidden = !(block.size > 0);
+        const shown = await content_of(block);
+        if (current === block) content.replaceChildren(...shown);
+    };
+    await show(blocks[0]);
+    return make('div', { class: 'bytes' }, make('div', { class: 'blocks' }, ...choices, copying), content);
+}
+
+let asked = 0;
+/** Shows what the worker says of something. */
+export async function show_side({ title, what, kind, fields = [], blocks = [] }) {
+    const mine = ++asked;
+    const bytes = blocks.length ? [await bytes_box(blocks)] : [];
+    if (mine !== asked) return;
+    const sub = put_text(make('p', { class: 'sub' }), what);
+    if (kind) {
+        const dot = make('i', { 'data-kind': kind });
+        dot.style.background = colour(kind);
+        sub.prepend(dot);
+    }
+    const rows = fields.map((field) => make('tr', {}, make('th', { scope: 'row' }, field.name), value_of(field)));
+    const table = rows.length ? [make('div', { class: 'list' }, make('table', { class: 'fields' }, make('tbody', {}, ...rows)))] : [];
+    get('chosen').replaceChildren(put_text(make('h2', { tabindex: '-1' }), title), sub, ...table, ...bytes);
+}

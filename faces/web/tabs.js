@@ -1,0 +1,292 @@
+// The tabs: the header's fields, and the lists with what is searched for in them.
+import { button, copy, get, hex, make, number, plural, say, visible } from './dom.js';
+import { Grid } from './grid.js';
+import { refusal_of } from './hex.js';
+import { ask, shown_file } from './reader.js';
+import { go } from './route.js';
+import { value_of } from './side.js';
+
+// Columns: their titles, how wide they are at least, with a share of what is left or without, and the standard's name of the field.
+const wide = (least, share) => (share ? `minmax(${least}px, ${share}fr)` : `${least}px`);
+const left = (title, hint, least, share) => ({ title, hint, least, wide: wide(least, share) });
+const right = (...given) => ({ ...left(...given), is_right: true });
+const place = (least) => ({ ...right('#', 'index', least), is_dim: true });
+
+const COLUMNS = {
+    sections: [
+        place(30), left('Name', 'sh_name', 110, 2), left('Type', 'sh_type', 92, 1), right('Address', 'sh_addr', 74, 0.6),
+        right('Offset', 'sh_offset', 60, 0.3), right('Size', 'sh_size', 60, 0.3), left('Flags', 'sh_flags', 116, 1.3),
+        right('Link', 'sh_link', 32), right('Info', 'sh_info', 32), right('Align', 'sh_addralign', 36), right('Entry', 'sh_entsize', 36),
+    ],
+    segments: [
+        place(40), left('Type', 'p_type', 104, 1), left('Flags', 'p_flags', 46), right('Offset', 'p_offset', 74, 0.5),
+        right('File size', 'p_filesz', 74, 0.5), right('Address', 'p_vaddr', 106, 1), right('Memory size', 'p_memsz', 84, 0.5),
+        right('Physical', 'p_paddr', 106, 1), right('Align', 'p_align', 66),
+    ],
+    symbols: [
+        place(56), left('Name', 'st_name', 180, 2), right('Value', 'st_value', 110, 0.6), right('Size', 'st_size', 62),
+        left('Type', 'st_info, its low four bits', 74), left('Binding', 'st_info, its high four bits', 64),
+        left('Visibility', 'st_other', 78), left('Section', 'st_shndx', 90, 0.5),
+    ],
+    relocations: [
+        place(56), right('Offset', 'r_offset', 110, 0.6), left('Type', 'r_type', 190, 1), left('Symbol', 'the name of r_sym', 160, 2),
+        right('Addend', 'r_addend', 90, 0.6), right('Index', 'r_sym', 56),
+    ],
+    notes: [
+        place(40), left('From', 'the section or segment', 120, 1), left('Owner', 'the name', 72, 0.6), left('Type', 'n_type', 130, 0.8),
+        right('Thread', 'of a core', 60), right('Size', 'n_descsz', 56), left('Descriptor', 'its first bytes', 160, 2),
+    ],
+    layout: [
+        place(56), right('From', 'offset', 88), right('To', 'offset', 88), right('Bytes', 'size', 96), right('Share', 'of the file', 72),
+        left('What', 'the piece that is drawn', 160, 2), left('Overlap', 'how many pieces lie there', 120, 1),
+    ],
+};
+export const is_list = (name) => Object.hasOwn(COLUMNS, name);
+
+// The list that is open: its tab, of which section or by what, and its grid; and the header's rows.
+let open = { name: undefined };
+
+// ---- tabs ----
+
+// How many items the tables hold, as far as that is known.
+function sum_of({ refused, found, all }) {
+    if (refused || (found.length > 0 && found.every(({ length }) => length === undefined))) return 'refused';
+    const known = found.reduce((total, { length = 0 }) => total + length, 0);
+    return all > found.length ? `${number(known)}+` : number(known);
+}
+
+function notes_sum({ sections, segments }) {
+    if (sections.length === undefined && !segments.length) return 'refused';
+    return number(Math.max(sections.length ?? 0, segments.length ?? 0));
+}
+
+/** Shows the tabs with how many items each has; those that are refused say so. */
+export function show_tabs() {
+    const { told } = shown_file, length = ({ refused, length: count }) => (refused ? 'refused' : number(count));
+    open = { name: undefined };
+    const list = [
+        ['header', 'Header', ''], ['sections', 'Sections', length(told.sections)], ['segments', 'Segments', length(told.segments)],
+        ['symbols', 'Symbols', sum_of(told.symbols)], ['relocations', 'Relocations', sum_of(told.relocations)],
+        ['notes', 'Notes', notes_sum(told.notes)], ['layout', 'Layout', number(told.map.kinds.length)],
+    ];
+    get('tabs').replaceChildren(...list.map(([name, title, count]) => make('button', {
+        type: 'button', role: 'tab', id: `tab-${name}`, 'aria-controls': 'panel', 'aria-selected': 'false', tabindex: '-1',
+        onclick: () => go(name),
+    }, title, make('span', { class: count === 'refused' ? 'bad' : '' }, count))));
+}
+
+export function set_up_tabs() {
+    get('tabs').addEventListener('keydown', (event) => {
+        const all = [...get('tabs').children], at = all.findIndex((tab) => tab.getAttribute('aria-selected') === 'true');
+        const next = { ArrowRight: at + 1, ArrowLeft: at - 1 + all.length, Home: 0, End: all.length - 1 }[event.key];
+        if (next === undefined) return;
+        event.preventDefault();
+        all[next % all.length].click();
+        all[next % all.length].focus();
+    });
+    addEventListener('copy', (event) => {
+        const { grid } = open, cells = grid?.active_cells;
+        if (document.activeElement !== grid?.scroller || !cells || !getSelection().isCollapsed) return;
+        event.preventDefault();
+        event.clipboardData.setData('text/plain', visible(cells[grid.column]));
+        say('Copied: the cell');
+    });
+}
+
+function select_tab(name) {
+    for (const tab of get('tabs').children) {
+        const is_chosen = tab.id === `tab-${name}`;
+        tab.setAttribute('aria-selected', is_chosen);
+        tab.tabIndex = is_chosen ? 0 : -1;
+    }
+    get('panel').setAttribute('aria-labelledby', `tab-${name}`);
+}
+
+/** Opens a tab, of which section or by what; returns once it is shown, with whether it still is. */
+export async function open_tab(name, of) {
+    if (open.name === name && (of === undefined || open.of === of)) {
+        await open.ready;
+        return open.name === name;
+    }
+    const mine = open = { name, of };
+    select_tab(name);
+    mine.ready = (async () => {
+        const content = name === 'header' ? header_panel() : await list_panel(mine, of);
+        if (open === mine) get('panel').replaceChildren(...content);
+        if (open === mine) mine.grid?.draw();
+    })();
+    await mine.ready;
+    return open === mine;
+}
+
+// ---- the header ----
+
+function header_panel() {
+    const rows = shown_file.told.header.map(({ name, at, size, words, ...field }) => {
+        const row = make('tr', { tabindex: '0', 'data-field': name }, make('th', { scope: 'row' }, name), value_of(field),
+            make('td', { class: 'words' }, words), make('td', { class: 'dim' }, `${hex(at)}, ${plural(size, 'byte')}`));
+        row.addEventListener('click', (event) => { if (!event.target.closest('a')) go(`header/${name}`); });
+        row.addEventListener('keydown', (event) => {
+            if (event.target !== row || (event.key !== 'Enter' && event.key !== ' ')) return;
+            event.preventDefault();
+            go(`header/${name}`);
+        });
+        return row;
+    });
+    const table = make('table', { class: 'fields header', 'aria-label': 'Fields of the header' }, make('tbody', {}, ...rows));
+    return [make('div', { class: 'scroll' }, table)];
+}
+
+/** Marks a field of the header as the chosen one; returns what there is to say of it, or nothing where there is no such field. */
+export function choose_field(wanted) {
+    for (const row of get('panel').querySelectorAll('[data-field]')) row.setAttribute('aria-selected', row.dataset.field === wanted);
+    const field = shown_file.told.header.find(({ name }) => name === wanted);
+    if (!field) return undefined;
+    const { name, at, size, words, value, meaning, links } = field;
+    return { title: name, kind: 'header', what: words, fields: [{ name: 'value', value, meaning, links }], blocks: [{ word: 'bytes', at, size }] };
+}
+
+// ---- lists ----
+
+// Which tables of symbols, relocations or notes there are to choose from.
+function choices(name) {
+    const { told } = shown_file;
+    const text = (title, length) => `${title} (${length === undefined ? 'refused' : number(length)})`;
+    if (name === 'notes') return ['sections', 'segments'].map((of) => ({ of, length: told.notes[of].length, text: text(`of ${of}`, told.notes[of].length) }));
+    return told[name].found.map(({ index, name: title, length }) => ({ of: index, length, text: text(title, length) }));
+}
+
+const NONE = {
+    symbols: 'The file has no sections of symbols (SHT_SYMTAB, SHT_DYNSYM).',
+    relocations: 'The file has no sections of relocations (SHT_RELA, SHT_REL).',
+};
+
+async function list_panel(mine, wanted) {
+    const { name } = mine, { told } = shown_file;
+    if (told[name]?.refused) return [await refusal_of(told[name].refused)];
+    let list = Object.hasOwn(NONE, name) || name === 'notes' ? choices(name) : [{ of: undefined }];
+    if (wanted !== undefined && !list.some(({ of }) => of === wanted)) list = [{ of: wanted, text: `section ${wanted}` }, ...list];
+    if (list.length === 0) return [make('p', { class: 'empty' }, NONE[name])];
+    const longest = list.reduce((best, item) => ((item.length ?? -1) > (best.length ?? -1) ? item : best));
+    mine.of = wanted ?? longest.of;
+    Object.assign(mine, { list, query: '', column: 0, is_descending: false, output: make('output', {}), below: make('div', { class: 'notice' }) });
+    mine.grid = new Grid(name, COLUMNS[name], {
+        rows: (from, size) => ask('rows', { list: name, from, size }),
+        chosen: (at, is_step) => go_to_row(mine, at, is_step), opened: (at) => open_row(mine, at),
+        sorted: (column, is_descending) => { Object.assign(mine, { column, is_descending }); refresh(mine); },
+    });
+    const bar = tools(mine);
+    await refresh(mine);
+    return [bar, mine.below, mine.grid.box];
+}
+
+// Shows the list anew, as it is searched and sorted.
+async function refresh(mine) {
+    const { name, of, query, column, is_descending, output, below, grid } = mine;
+    output.textContent = 'reading …';
+    shown_file.reader.on_progress = ({ progress, done }) => {
+        if (progress === name) output.textContent = `reading … ${Math.floor(100 * done)} %`;
+    };
+    const view = await ask('view', { list: name, of, query, column, is_descending });
+    if (view.is_over) return;
+    const refusals = name === 'notes' ? await note_refusals(of) : view.refused ? [await refusal_of(view.refused)] : [];
+    const none = view.is_none ? [make('p', { class: 'empty' }, `Section ${of} holds no ${name}.`)] : [];
+    below.replaceChildren(...refusals, ...none);
+    grid.box.hidden = Boolean(view.refused || view.is_none);
+    output.textContent = view.refused ? 'refused' : query ? `${number(view.length)} of ${number(view.all)}` : number(view.all ?? 0);
+    grid.show(grid.box.hidden ? 0 : view.length);
+}
+
+const MOST_REFUSALS = 3;
+async function note_refusals(by) {
+    const { refusals, is_cut } = shown_file.told.notes[by];
+    const boxes = await Promise.all(refusals.slice(0, MOST_REFUSALS).map((refusal) => refusal_of(refusal)));
+    return is_cut ? [...boxes, make('p', { class: 'empty' }, 'There are more notes, which are not read.')] : boxes;
+}
+
+const place_of = ({ name, of }, index) => (['symbols', 'relocations', 'notes'].includes(name) ? `${name}/${of}/${index}` : `${name}/${index}`);
+
+async function go_to_row(mine, at, is_step) {
+    const index = await ask('index', { list: mine.name, at });
+    if (open === mine) go(place_of(mine, index), is_step);
+}
+
+// Goes to a row, and into what is said of it.
+async function open_row(mine, at) {
+    const index = await ask('index', { list: mine.name, at });
+    if (open !== mine) return;
+    await go(place_of(mine, index));
+    get('chosen').querySelector('h2')?.focus();
+}
+
+/** Makes the item of an index the active row of the list that is open: where it isn't among those that are shown, all are. */
+export async function activate(index) {
+    const mine = open, { name, grid } = mine;
+    if (!grid || grid.box.hidden) return;
+    let at = await ask('position', { list: name, index });
+    if (at < 0) {
+        Object.assign(mine, { query: '', column: 0, is_descending: false });
+        mine.search.value = '';
+        grid.show_order(0, 'none');
+        await refresh(mine);
+        at = await ask('position', { list: name, index });
+    }
+    if (open === mine && at >= 0 && at !== grid.active) grid.activate(at);
+}
+
+// ---- tools ----
+
+function tools(mine) {
+    const { name, list, of, output, grid } = mine;
+    const bar = make('div', { class: 'tools' });
+    if (list.length > 1) {
+        const choice = make('select', { 'aria-label': `Which ${name}` },
+            ...list.map((item, i) => make('option', { value: `${i}`, selected: item.of === of }, visible(item.text))));
+        choice.addEventListener('change', () => go(`${name}/${list[choice.selectedIndex].of}`));
+        bar.append(choice);
+    }
+    const hidden = (shown_file.told[name]?.all ?? 0) - (shown_file.told[name]?.found?.length ?? 0);
+    if (hidden > 0) bar.append(make('span', {}, `and ${number(hidden)} more: choose them among the sections`));
+    bar.append(mine.search = search_field(mine), output, make('span', { class: 'saving' },
+        button('Copy cell', () => copy_active(grid, ({ [grid.column]: cell }) => cell, 'the cell')),
+        button('Copy row', () => copy_active(grid, (cells) => cells.join('\t'), 'the row')), button('Save CSV', () => save(mine))));
+    return bar;
+}
+
+function search_field(mine) {
+    const hint = 'text or 0x…';
+    const search = make('input', {
+        type: 'search', placeholder: `Search: ${hint}`, 'aria-label': `Search ${mine.name} by text, offset or address`, spellcheck: 'false', autocomplete: 'off',
+    });
+    let soon;
+    const look = async () => {
+        clearTimeout(soon);
+        const query = search.value.trim();
+        if (query === mine.query) return;
+        mine.query = query;
+        await refresh(mine);
+    };
+    search.addEventListener('input', () => { clearTimeout(soon); soon = setTimeout(look, 120); });
+    search.addEventListener('keydown', async (event) => {
+        if (event.key !== 'Enter') return;
+        await look();
+        if (mine.grid.length > 0) open_row(mine, 0);
+    });
+    return search;
+}
+
+// Copies what a function makes of the active row's cells, whose signs that are not seen are made visible.
+function copy_active(grid, of, what) {
+    const cells = grid.active_cells;
+    if (cells) copy(of(cells.map(visible)), what); else say('Choose a row first');
+}
+
+async function save({ name, output }) {
+    const { reader, title } = shown_file, before = output.textContent;
+    reader.on_progress = ({ progress, done }) => { if (progress === 'csv') output.textContent = `saving … ${Math.floor(100 * done)} %`; };
+    const content = await ask('csv', { list: name, titles: COLUMNS[name].map(({ title: column }) => column) });
+    output.textContent = before;
+    const link = make('a', { href: URL.createObjectURL(content), download: `${visible(title)}.${name}.csv` });
+    link.click();
+    setTimeout(() => URL.revokeObjectURL(link.href), 60000);
+}
