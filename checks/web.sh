@@ -1,7 +1,7 @@
 #!/bin/sh
 # Whether an archive of faces/install.sh for wasm64-unknown-unknown serves: JavaScript tells of files, whole and damaged, what C
-# does, and the page shows them in a browser. Run from the repository's root: web.sh ARCHIVE DUMP FILE.., where DUMP is made of
-# faces/c/dump.c and each FILE by faces/c/made.c. What the machine hasn't is said in a line, and passes.
+# does, and the page shows them in browsers. Run from the repository's root: web.sh ARCHIVE DUMP FILE.., where DUMP is made of
+# faces/c/dump.c and the FILEs are all that faces/c/made.c makes in a folder. What the machine hasn't is said in a line, and passes.
 set -eu
 archive=$1
 dump=$2
@@ -22,15 +22,34 @@ else
     echo "node has no memories of 64 bits here: the module for WebAssembly is not called from it"
 fi
 
-# The page, which a headless browser opens from its folder.
+# The page, which headless browsers open from its folder.
 size=$(wc -c < "$web/index.html")
 if [ "$size" -gt 300000 ]; then echo "the page has $size bytes"; exit 1; fi
-for browser in chromium chromium-browser google-chrome; do
-    if command -v "$browser" > "$folder/output" 2>&1; then break; fi
-    browser=
-done
-if [ -z "$browser" ] || ! command -v readelf > "$folder/output" 2>&1; then
-    echo "no chromium and readelf here: the page is not opened"
+
+# Opens the page in a browser, the first that there is of some commands: open_page NAME OPTION COMMAND.., with an option for node.
+open_page() {
+    name=$1
+    option=$2
+    shift 2
+    for browser in "$@"; do
+        if command -v "$browser" > "$folder/output" 2>&1; then break; fi
+        browser=
+    done
+    if [ -z "$browser" ] || ! command -v readelf > "$folder/output" 2>&1; then
+        echo "no $name and readelf here: the page is not opened in $name"
+    else
+        node $option faces/web/browser.mjs "$name" "$browser" "$web/index.html" "$dump" "$made" /bin/true
+    fi
+}
+
+made=$(dirname "$1")
+open_page chromium '' chromium chromium-browser google-chrome
+# (Firefox is spoken to by a socket, which older ones of node have by a word alone, and still older ones not)
+sockets='process.exit(typeof WebSocket === "function" ? 0 : 1)'
+option=
+if ! node -e "$sockets"; then option=--experimental-websocket; fi
+if node $option -e "$sockets" 2> "$folder/output"; then
+    open_page firefox "$option" firefox firefox-esr
 else
-    node faces/web/browser.mjs "$browser" "$web/index.html" "$dump" "$1" /bin/true
+    echo "node has no WebSocket here: the page is not opened in firefox"
 fi

@@ -1,91 +1,88 @@
-// Whether the page shows files in a browser as readelf and C tell of them: browser.mjs BROWSER PAGE DUMP MADE FILE.., where DUMP is
-// made of faces/c/dump.c and MADE is a file that faces/c/made.c makes. The browser is spoken to by its pipe, and picks each file as a
-// person does. No request may leave, and no name may be markup.
+// Whether the page shows files in a browser as readelf and C report them, and leads from each thing to the next: browser.mjs NAME
+// BROWSER PAGE DUMP MADE FILE.., where NAME is chromium or firefox, DUMP is made of faces/c/dump.c with its symbols, and MADE is the
+// folder of the files that faces/c/made.c makes; the last FILE is a program for x86-64. The test picks each file as a person does. No
+// request may leave, no script may fail, and no name may be markup.
 import assert from 'node:assert/strict';
-import { spawn, spawnSync } from 'node:child_process';
-import { mkdtempSync, readFileSync, rmSync, writeFileSync } from 'node:fs';
+import { spawnSync } from 'node:child_process';
+import { mkdtempSync, readdirSync, readFileSync, rmSync, truncateSync, writeFileSync } from 'node:fs';
 import { tmpdir } from 'node:os';
 import { basename, join } from 'node:path';
 import { pathToFileURL } from 'node:url';
+import { Chromium, Firefox } from './browsers.mjs';
+import { elf_file, note, packed, rela, symbol } from './elves.mjs';
 
-const [, , program, page, dump, made, ...files] = process.argv;
+const [, , kind, program, page, dump, made_files, ...files] = process.argv;
+const made = join(made_files, 'little64');
 const folder = mkdtempSync(join(tmpdir(), 'goblin-'));
+const browser = new { chromium: Chromium, firefox: Firefox }[kind](folder);
+const url = pathToFileURL(page).href;
+const evaluate = (expression) => browser.evaluate(expression);
+const until = (expression) => browser.until(expression);
+const quoted = JSON.stringify;
 
-// ---- the browser ----
+// ---- the page ----
 
-const options = ['--headless', '--no-sandbox', '--disable-gpu', '--remote-debugging-pipe', `--user-data-dir=${folder}/profile`];
-const browser = spawn(program, options, { stdio: ['ignore', 'ignore', 'ignore', 'pipe', 'pipe'] });
-const waiting = new Map(), requests = [], faults = [], refusals = [];
-let asked = 0, rest = '';
+const text_of = (selector) => evaluate(`document.querySelector(${quoted(selector)})?.textContent ?? null`);
+const is_busy = `document.body.ariaBusy === 'true'`;
 
-function receive({ id, result, error, method, params }) {
-    if (id) {
-        const { resolve, reject } = waiting.get(id);
-        if (error) reject(new Error(error.message)); else resolve(result);
-    }
-    if (method === 'Network.requestWillBeSent') requests.push(params.request.url);
-    if (method === 'Runtime.exceptionThrown') faults.push(params.exceptionDetails.exception?.description ?? params.exceptionDetails.text);
-    // (what a policy refuses is told as a message)
-    if (method === 'Log.entryAdded') refusals.push(params.entry.text);
-    if (method === 'Target.attachedToTarget') watch(params.sessionId);
-}
-
-browser.stdio[4].on('data', (data) => {
-    const parts = (rest + data).split('\0');
-    rest = parts.pop();
-    parts.map((part) => JSON.parse(part)).forEach(receive);
-});
-
-function send(method, params, sessionId) {
-    return new Promise((resolve, reject) => {
-        waiting.set(++asked, { resolve, reject });
-        browser.stdio[3].write(`${JSON.stringify({ id: asked, method, params, sessionId })}\0`);
-    });
-}
-
-// Hears of the requests and faults of a page, and of its workers before they start.
-async function watch(session) {
-    await Promise.all([
-        send('Network.enable', {}, session), send('Runtime.enable', {}, session), send('Log.enable', {}, session),
-        send('Target.setAutoAttach', { autoAttach: true, waitForDebuggerOnStart: true, flatten: true }, session),
-    ]);
-    await send('Runtime.runIfWaitingForDebugger', {}, session);
-}
-
-let tab;
-
-async function evaluate(expression) {
-    const { result, exceptionDetails } = await send('Runtime.evaluate', { expression, awaitPromise: true, returnByValue: true }, tab);
-    if (exceptionDetails) throw new Error(exceptionDetails.exception?.description ?? exceptionDetails.text);
-    return result.value;
-}
-
-// Waits until an expression is true.
-async function until(expression) {
-    for (const end = Date.now() + 20000; Date.now() < end;) {
-        if (await evaluate(expression)) return;
-        await new Promise((resume) => setTimeout(resume, 20));
-    }
-    throw new Error(`not so after 20 seconds: ${expression}`);
-}
-
+// Picks a file, whose name the bar then has.
 async function pick(path) {
-    const { root } = await send('DOM.getDocument', {}, tab);
-    const { nodeId } = await send('DOM.querySelector', { nodeId: root.nodeId, selector: '#pick' }, tab);
     await evaluate(`document.getElementById('file').replaceChildren()`);
-    await send('DOM.setFileInputFiles', { files: [path], nodeId }, tab);
-    await until(`document.querySelector('#file b')?.textContent === ${JSON.stringify(basename(path))} && !document.body.ariaBusy`);
+    await browser.pick('#pick', path);
+    await until(`document.querySelector('#file b')?.textContent === ${quoted(basename(path))} && !(${is_busy})`);
 }
+
+// Writes a file, and picks it.
+async function pick_written(name, content) {
+    const path = join(folder, name);
+    writeFileSync(path, content);
+    await pick(path);
+    return path;
+}
+
+const drawn = `document.querySelector('#panel .body .row')?.row !== undefined || document.querySelector('#panel .grid')?.ariaRowCount === '1'`;
 
 async function open_tab(name) {
-    await evaluate(`document.getElementById('panel').replaceChildren(); document.getElementById('tab-${name}').click()`);
-    const is_open = `document.querySelector('#panel .grid[aria-label=${name}]')`;
-    await until(`${is_open}?.getAttribute('aria-rowcount') === '1' || ${is_open}?.querySelector('.body .row')?.row !== undefined`);
+    await evaluate(`document.getElementById('tab-${name}').click()`);
+    await until(`document.querySelector('#panel .grid[aria-label=${name}]') && (${drawn})`);
 }
 
-const cells = (column) => evaluate(`[...document.querySelectorAll('#panel .body .row')].map((row) => row.children[${column}].textContent)`);
+// Goes to a place, and waits until a text stands in the title of what is chosen.
+async function go(place, title) {
+    await evaluate(`void (location.hash = ${quoted(place)})`);
+    await until_chosen(title);
+}
 
-// ---- what others tell ----
+const until_chosen = (title) => until(`document.querySelector('#chosen h2')?.textContent === ${quoted(title)}`);
+const fragment = () => evaluate('location.hash.slice(1)');
+const side = () => text_of('#chosen');
+const cells = (column) => evaluate(`[...document.querySelectorAll('#panel .body .row')].map((row) => row.children[${column}].textContent)`);
+const follow = (text) => evaluate(`[...document.querySelectorAll('#chosen a')].find((link) => link.textContent === ${quoted(text)}).click()`);
+const press_button = (text) =>
+    evaluate(`[...document.querySelectorAll('main button')].find((button) => button.textContent === ${quoted(text)}).click()`);
+const field_of = (name) =>
+    evaluate(`[...document.querySelectorAll('#chosen tr')].find((row) => row.firstChild.textContent === ${quoted(name)})?.lastChild.innerText`);
+
+// The bytes that the side shows first, as many as its lines have that are drawn.
+async function bytes_shown() {
+    await until(`document.querySelector('#chosen .hex .row')?.row`);
+    const lines = await evaluate(`[...document.querySelectorAll('#chosen .hex .row')].map((row) => [...row.children[1].childNodes]
+        .filter((node) => node.nodeType === 3).map((node) => node.textContent).join(' '))`);
+    return lines.join(' ').split(/\s+/).filter((byte) => byte).join('');
+}
+
+async function search(text, shown) {
+    await evaluate(`(() => { const box = document.querySelector('#panel input'); box.value = ${quoted(text)};
+        box.dispatchEvent(new Event('input')); })()`);
+    await until(`document.querySelector('#panel output').textContent === ${quoted(shown)} && (${drawn})`);
+}
+
+async function go_by_field(text) {
+    await evaluate(`(() => { const field = document.getElementById('goto'); field.focus(); field.value = ${quoted(text)}; })()`);
+    await browser.press('Enter');
+}
+
+// ---- what others report ----
 
 function run(command, ...words) {
     const { stdout, error } = spawnSync(command, words, { encoding: 'utf8', env: { ...process.env, LC_ALL: 'C' }, maxBuffer: 1 << 28 });
@@ -104,14 +101,29 @@ function counts_of(path) {
     };
 }
 
-// ---- what is checked ----
+// The sections of a file, by their names: index, type, address, offset and size.
+function sections_of(path) {
+    const pattern = /^ {2}\[ *(\d+)\] (\S+) +([A-Z_]+) +([0-9a-f]+) ([0-9a-f]+) ([0-9a-f]+)/gm;
+    return Object.fromEntries([...run('readelf', '-W', '-S', path).matchAll(pattern)].map(([, index, name, type, ...numbers]) => {
+        const [address, offset, size] = numbers.map((number) => parseInt(number, 16));
+        return [name, { index: Number(index), type, address, offset, size }];
+    }));
+}
+
+// The symbols of the table of a file that has all: index, value, size, type, section and name.
+function symbols_of(path) {
+    const [, table] = run('readelf', '-W', '-s', path).split("'.symtab'");
+    return [...table.matchAll(/^ *(\d+): ([0-9a-f]+) +(\d+|0x[0-9a-f]+) (\w+) +\w+ +\w+ +(\S+) ?(\S*)$/gm)]
+        .map(([, index, value, size, type, section, name]) =>
+            ({ index: Number(index), value: parseInt(value, 16), size: Number(size), type, section, name }));
+}
+
+// ---- what is shown of files ----
 
 async function check_counts(path) {
     await pick(path);
     const wanted = counts_of(path), found = {};
-    for (const name of Object.keys(wanted)) {
-        found[name] = Number((await evaluate(`document.querySelector('#tab-${name} span').textContent`)).replaceAll(',', ''));
-    }
+    for (const name of Object.keys(wanted)) found[name] = Number((await text_of(`#tab-${name} span`)).replaceAll(',', ''));
     assert.deepEqual(found, wanted, path);
     assert.ok(wanted.sections > 5 && wanted.symbols > 5 && wanted.notes > 0, path);
     await open_tab('sections');
@@ -123,16 +135,480 @@ async function check_counts(path) {
 
 const told_of = (path) => run(dump, path).split('\n')[1];
 
-async function check_refusal(content, what) {
-    const path = join(folder, 'refused');
-    writeFileSync(path, content);
-    const told = told_of(path);
+async function check_refusal(content, what, ...words) {
+    const path = await pick_written('refused', content), told = told_of(path);
     assert.match(told, /^goblin_header kind=/);
-    await pick(path);
-    const text = await evaluate(`document.querySelector('#refused:not([hidden]) h3')?.textContent`);
+    const text = await text_of('#refused:not([hidden]) h3');
     assert.ok(text?.startsWith('Refused: ') && told.endsWith(text.slice('Refused: '.length)), `${text}, ${told}`);
-    const said = await evaluate(`document.querySelector('#refused').textContent`);
-    assert.ok(said.includes(what), said);
+    const said = await text_of('#refused');
+    for (const word of [what, ...words]) assert.ok(said.includes(word), said);
+    assert.equal(said.includes('This is not an ELF file'), words.length > 0);
+    assert.equal(await evaluate(`document.getElementById('told').hidden`), true);
+}
+
+// A file of which nothing is read: the page says why in its own words, in place of the file before.
+async function check_trouble(content) {
+    await pick(made);
+    await pick_written('empty', '');
+    assert.equal(await text_of('#trouble:not([hidden])'), 'The file is empty: it has 0 bytes.');
+    assert.equal(await evaluate(`document.getElementById('told').hidden && document.getElementById('refused').hidden`), true);
+    const large = join(folder, 'large');
+    writeFileSync(large, content);
+    truncateSync(large, 2 ** 31 + 1);
+    await pick(made);
+    await pick(large);
+    assert.equal(await text_of('#trouble:not([hidden])'),
+        'The file has 2,147,483,649 bytes. This page reads files of at most 2 GiB (2,147,483,648 bytes).');
+    assert.equal(await evaluate(`document.getElementById('told').hidden`), true);
+    assert.match(await text_of('#start .drop'), /at most 2 GiB/);
+}
+
+// Where the section headers are refused, no list that is made of them says that there is nothing.
+async function check_unknown(content) {
+    const cut = Buffer.from(content);
+    cut.writeBigUInt64LE(BigInt(content.length), 0x28);
+    await pick_written('headers', cut);
+    const words = [];
+    for (const name of ['sections', 'symbols', 'relocations', 'notes']) {
+        assert.equal(await text_of(`#tab-${name} span`), 'refused', name);
+        await evaluate(`(document.getElementById('panel').replaceChildren(), document.getElementById('tab-${name}').click())`);
+        await until(`document.querySelector('#panel .refused') !== null`);
+        words.push(await text_of('#panel .refused'));
+    }
+    assert.match(words[0], /^Refused: .* while reading the section headers: e_shnum \d+, e_shoff 0x/s);
+    assert.deepEqual(new Set(words), new Set([words[0]]));
+    await pick_written('none', elf_file({ sections: [{ name: '.text', type: 1, bytes: Buffer.alloc(4) }] }));
+    await evaluate(`document.getElementById('tab-symbols').click()`);
+    await until(`document.getElementById('panel').textContent.startsWith('The file has no sections of symbols')`);
+}
+
+// The legend's percentages, by its words.
+async function shares() {
+    const items = await evaluate(`[...document.querySelectorAll('#legend li')].map((item) => item.textContent)`);
+    return Object.fromEntries(items.flatMap((item) => [...item.matchAll(/^(.+) ([\d.]+) %$/g)]).map(([, word, share]) => [word, Number(share)]));
+}
+
+const status = (thread) => Buffer.concat([Buffer.alloc(32), packed([thread, 4]), Buffer.alloc(300)]);
+const core_notes = [
+    ['CORE', 1, 'PRSTATUS', 71], ['CORE', 3, 'PRPSINFO'], ['CORE', 0x53494749, 'SIGINFO'], ['CORE', 6, 'AUXV'], ['CORE', 0x46494c45, 'FILE'],
+    ['CORE', 2, 'FPREGSET', 71], ['LINUX', 0x202, 'X86_XSTATE', 71], ['CORE', 1, 'PRSTATUS', 72], ['CORE', 2, 'FPREGSET', 72],
+    ['LINUX', 0x7777, '0x7777', 72],
+];
+
+// A core's memory and notes are pieces, each thread's by its number, and so are the segments of a program without section headers.
+async function check_segments() {
+    const notes = core_notes.map(([owner, type, name, thread]) => note(owner, type, name === 'PRSTATUS' ? status(thread) : Buffer.alloc(64)));
+    const segments = [{ type: 4, bytes: Buffer.concat(notes) }, { flags: 5, vaddr: 0x400000, bytes: Buffer.alloc(4096, 1) },
+        { flags: 6, vaddr: 0x600000, bytes: Buffer.alloc(8192, 2) }];
+    const path = await pick_written('core', elf_file({ type: 4, segments }));
+    const core = await shares(), size = readFileSync(path).length, part = (bytes) => Math.round(1000 * bytes / size) / 10;
+    assert.equal(core.code, part(4096));
+    assert.equal(core.data, part(8192));
+    assert.equal(core.notes, part(Buffer.concat(notes).length));
+    assert.ok((core.gap ?? 0) < 0.2, `gap ${core.gap} %`);
+    await open_tab('notes');
+    assert.deepEqual(await cells(3), core_notes.map(([, , name]) => name));
+    assert.deepEqual(await cells(4), core_notes.map(([, , , thread]) => `${thread ?? ''}`));
+    await open_tab('layout');
+    const pieces = await cells(5), named = (name, thread) => (thread ? `${name}, thread ${thread}` : name);
+    for (const [owner, , name, thread] of core_notes) assert.ok(pieces.includes(named(`${owner} ${name}`, thread)), pieces.join('; '));
+    assert.ok(pieces.includes('segment 1, LOAD') && pieces.includes('segment 2, LOAD'), pieces.join('; '));
+    const stripped = readFileSync(files.at(-1));
+    stripped.fill(0, 0x28, 0x30);
+    stripped.fill(0, 0x3c, 0x40);
+    await pick_written('stripped', stripped);
+    const loaded = [...run('readelf', '-W', '-l', join(folder, 'stripped')).matchAll(/^ {2}LOAD +(\S+) \S+ \S+ (\S+)/gm)];
+    const covered = loaded.reduce((all, [, , bytes]) => all + Number(bytes), 0);
+    const { gap } = await shares();
+    assert.ok(covered > 0 && Math.abs(gap - 100 * (stripped.length - covered) / stripped.length) < 0.1, `gap ${gap} %`);
+}
+
+// Names where they fit machine and owner, and numbers where there is none.
+async function check_labels() {
+    const bytes = Buffer.alloc(8), text = (name, type, flags = 0) => ({ name, type, flags, bytes });
+    const notes = { name: '.note', type: 7, bytes: Buffer.concat([note('stapsdt', 3, bytes), note('GNU', 3, bytes), note('other', 3, bytes)]) };
+    const given = [notes, text('.unwind', 0x70000001), text('.relr.dyn', 19), text('.unknown', 0x61234567), text('.kept', 1, 0x200002)];
+    const names = { 62: 'X86_64_UNWIND', 40: 'ARM_EXIDX', 243: '0x70000001' };
+    for (const [machine, name] of Object.entries(names)) {
+        await pick_written(`labels${machine}`, elf_file({ machine: Number(machine), osabi: 3, sections: given }));
+        await open_tab('sections');
+        assert.deepEqual((await cells(2)).slice(2, 6), [name, 'RELR', '0x61234567', 'PROGBITS']);
+        assert.equal((await cells(6))[5], 'ALLOC GNU_RETAIN');
+    }
+    await open_tab('notes');
+    assert.deepEqual(await cells(3), ['STAPSDT', 'GNU_BUILD_ID', '0x3']);
+    await evaluate(`document.getElementById('tab-header').click()`);
+    await until(`document.querySelector('[data-field=ei_osabi]')?.textContent.includes('ELFOSABI_GNU')`);
+    const { index } = symbols_of(dump).find(({ name }) => name === 'main');
+    await pick(dump);
+    await go(`symbols/${sections_of(dump)['.symtab'].index}/${index}`, 'main');
+    assert.match(await field_of('st_info'), /0x12\s*STB_GLOBAL \(1\), STT_FUNC \(2\)/);
+    assert.match(await field_of('st_other'), /STV_DEFAULT \(0\)/);
+}
+
+// While a large file is read, the one before stays, named and usable; that it is read is said, with what is left.
+async function check_loading(content) {
+    await pick(dump);
+    await open_tab('sections');
+    const large = join(folder, 'large');
+    writeFileSync(large, content);
+    truncateSync(large, 4e8);
+    await browser.pick('#pick', large);
+    await until(is_busy);
+    for (let row = 1; row < 4; row++) {
+        const { title, name } = await evaluate(`(async () => {
+            const row = document.querySelectorAll('#panel .body .row')[${row}];
+            row.children[1].click();
+            await new Promise((resume) => setTimeout(resume, 60));
+            return { title: document.querySelector('#chosen h2').textContent, name: row.children[1].textContent };
+        })()`);
+        assert.equal(title, name);
+    }
+    await until(`document.body.classList.contains('dimmed')`);
+    assert.match(await text_of('#loading'), /^Reading large: [\d,]+ MB of 400 MB left$/);
+    assert.equal(await text_of('#file b'), 'dump');
+    await until(`document.querySelector('#file b').textContent === 'large' && !(${is_busy})`);
+    assert.equal(await text_of('#loading'), '');
+    assert.equal(await evaluate(`document.body.classList.contains('dimmed')`), false);
+    rmSync(large);
+}
+
+// ---- where things lead ----
+
+const bytes_of = (path, at, size) => readFileSync(path).subarray(at, at + size).toString('hex');
+
+async function check_symbol_links() {
+    const sections = sections_of(dump), main = symbols_of(dump).find(({ name }) => name === 'main');
+    const text = Object.entries(sections).find(([, { index }]) => `${index}` === main.section);
+    await pick(dump);
+    await go(`symbols/${sections['.symtab'].index}/${main.index}`, 'main');
+    const at = main.value - text[1].address + text[1].offset, shown = await bytes_shown();
+    assert.ok(shown.length > 40 && bytes_of(dump, at, main.size).startsWith(shown), shown);
+    await follow('address');
+    await until_chosen(`address 0x${main.value.toString(16)}`);
+    assert.match(await side(), /segment \d+, LOAD/);
+    await follow('main');
+    await until_chosen('main');
+    await follow(text[0]);
+    await until_chosen(text[0]);
+    const order = [`sections/${text[1].index}`, `symbols/${sections['.symtab'].index}/${main.index}`, `address/0x${main.value.toString(16)}`];
+    assert.equal(await fragment(), order[0]);
+    await evaluate('history.back()');
+    await until_chosen('main');
+    assert.equal(await fragment(), order[1]);
+    await evaluate('history.back()');
+    await until_chosen(`address 0x${main.value.toString(16)}`);
+    assert.equal(await fragment(), order[2]);
+    await evaluate('history.forward()');
+    await until_chosen('main');
+}
+
+// A link to a place leads there once the file is picked.
+async function check_kept_link() {
+    const { index } = sections_of(dump)['.dynstr'];
+    await browser.open(`${url}#sections/${index}`);
+    await pick(dump);
+    await until_chosen('.dynstr');
+    assert.equal(await evaluate(`document.querySelector('#panel .row[aria-selected=true]').children[1].textContent`), '.dynstr');
+}
+
+async function check_section_links() {
+    const sections = sections_of(dump);
+    await pick(dump);
+    for (const [name, link, info] of [['.rela.plt', '.dynsym', '.got'], ['.rela.dyn', '.dynsym'], ['.dynsym', '.dynstr'], ['.symtab', '.strtab']]) {
+        if (!sections[name]) continue;
+        await go(`sections/${sections[name].index}`, name);
+        assert.match(await field_of('sh_link'), new RegExp(`^\\d+\\s*${link.replace('.', '\\.')}$`));
+        if (info) assert.match(await field_of('sh_info'), /^\d+\s*\.got/);
+        await follow(link);
+        await until_chosen(link);
+    }
+}
+
+async function check_relocation_links() {
+    const path = files.at(-1), sections = sections_of(path), { index } = sections['.rela.dyn'];
+    const listed = run('readelf', '-W', '-r', path).split("'.rela.plt'")[0];
+    const all = [...listed.matchAll(/^([0-9a-f]{16}) +[0-9a-f]{16} (R_\w+) +(?:[0-9a-f]{16} (\w+)(?:@\S+)? \+ )?([0-9a-f]+)$/gm)];
+    const at = all.findIndex(([, , type]) => type === 'R_X86_64_GLOB_DAT');
+    await pick(path);
+    await go(`relocations/${index}/${at}`, all[at][3]);
+    const address = parseInt(all[at][1], 16), got = Object.values(sections).find((section) =>
+        section.address > 0 && address >= section.address && address < section.address + section.size && section.type !== 'NOBITS');
+    assert.equal(await bytes_shown(), bytes_of(path, address - got.address + got.offset, 8));
+    assert.match(await field_of('r_type'), /R_X86_64_GLOB_DAT/);
+    await follow('address');
+    await until_chosen(`address 0x${address.toString(16)}`);
+    await evaluate('history.back()');
+    await until_chosen(all[at][3]);
+    await follow(all[at][3]);
+    await until(`location.hash.startsWith('#symbols/${sections['.dynsym'].index}/')`);
+    await until(`[...document.querySelectorAll('#chosen th')].some((cell) => cell.textContent === 'st_info')`);
+    // of an object file, whose relocations have offsets in the section at sh_info
+    const bytes = Buffer.from('0011223344556677', 'hex'), table = { name: '.rela.text', type: 4, link: 0, info: 1, entsize: 24 };
+    const object = elf_file({ sections: [{ name: '.text', type: 1, flags: 6, bytes }, { ...table, bytes: rela({ offset: 3, type: 2 }) }] });
+    await pick_written('object', object);
+    await go('relocations/2/0', 'R_X86_64_PC32');
+    assert.equal(await bytes_shown(), '3344556677');
+}
+
+async function check_goto() {
+    const sections = sections_of(dump), main = symbols_of(dump).find(({ name }) => name === 'main');
+    await pick(dump);
+    await go_by_field(' 0x10 ');
+    await until_chosen('offset 0x10');
+    assert.match(await side(), /in ELF header/);
+    await go_by_field(`0x${(main.value + 1).toString(16)}`);
+    await until(`document.querySelector('#chosen h2').textContent.endsWith('0x${(main.value + 1).toString(16)}')`);
+    assert.match(await side(), /main \+ 0x1/);
+    await go_by_field('.dynstr');
+    await until_chosen('.dynstr');
+    await go_by_field('main');
+    await until_chosen('main');
+    assert.equal(await fragment(), `symbols/${sections['.symtab'].index}/${main.index}`);
+    await go_by_field('there is no such name');
+    await until(`!document.getElementById('none').hidden`);
+}
+
+async function check_search() {
+    const symbols = symbols_of(dump), main = symbols.find(({ name }) => name === 'main');
+    const { index } = sections_of(dump)['.symtab'], all = symbols.length.toLocaleString('en');
+    await pick(dump);
+    await evaluate(`void (location.hash = 'symbols/${index}')`);
+    await until(`document.querySelector('#panel output')?.textContent === '${all}'`);
+    const holding = symbols.filter(({ value, size }) => value === main.value + 1 || (value < main.value + 1 && main.value + 1 < value + size));
+    await search(`  0x${(main.value + 1).toString(16)} `, `${holding.length} of ${all}`);
+    assert.ok((await cells(1)).includes('main'));
+    const kinds = symbols.filter(({ type }) => type === 'SECTION' || type === 'FILE').length;
+    assert.ok(kinds > 0);
+    const files_of = symbols.filter(({ type, name }) => type === 'FILE' || /file/i.test(name));
+    await search('FILE', `${files_of.length} of ${all}`);
+    // Enter opens the first row that is found, and one of the list, whose heads stand before it.
+    await search('main', `${symbols.filter(({ name }) => name.includes('main')).length} of ${all}`);
+    await evaluate(`document.querySelector('#panel input').focus()`);
+    await browser.press('Enter');
+    await until(`document.activeElement === document.querySelector('#chosen h2')`);
+    await evaluate(`document.querySelector('#panel .saving button:last-child').focus()`);
+    await browser.press('Tab');
+    assert.equal(await evaluate(`document.activeElement.closest('[role=columnheader]')?.textContent`), '#');
+    for (let column = 0; column < 8; column++) await browser.press('Tab');
+    assert.equal(await evaluate(`document.activeElement.getAttribute('role')`), 'grid');
+    await browser.press('ArrowDown', 'Enter');
+    await until(`document.activeElement === document.querySelector('#chosen h2')`);
+}
+
+// Types that readelf calls by other names than the ABI.
+const NAMED_OTHERWISE = { 40: [32, 33, 34, 35, 36, 37, 129, 135], 183: [1028, 1029, 1030] };
+
+// The types of relocations of five machines have the names that readelf has for them.
+async function check_relocation_names() {
+    for (const [machine, least] of [[62, 43], [3, 42], [183, 117], [40, 117], [243, 53]]) {
+        const bytes = Buffer.concat(Array.from({ length: 1040 }, (_, type) => rela({ type })));
+        const path = await pick_written(`types${machine}`, elf_file({ machine, sections: [{ name: '.rela', type: 4, entsize: 24, bytes }] }));
+        const names = new Map([...run('readelf', '-W', '-r', path).matchAll(/^0{16} +([0-9a-f]{16}) (R_\w+)/gm)].map(([, info, name]) =>
+            [Number(BigInt(`0x${info}`) & 0xffffffffn), name]));
+        await evaluate(`void (location.hash = 'relocations/1')`);
+        await until(`document.querySelector('#panel output')?.textContent === '1,040'`);
+        const own = (await saved('relocations')).trim().split('\r\n').slice(1).map((line) => line.split(',')[2]);
+        const both = own.flatMap((name, type) => (name.startsWith('R_') && names.has(type) && !NAMED_OTHERWISE[machine]?.includes(type)
+            ? [[name, names.get(type)]] : []));
+        assert.deepEqual(both.map(([name]) => name), both.map(([, name]) => name), `machine ${machine}`);
+        assert.ok(both.length >= least, `${both.length} names of machine ${machine}`);
+    }
+}
+
+// Saves the list that is open; returns what the file has.
+async function saved(name) {
+    const before = new Set(readdirSync(browser.downloads)), is_done = (file) => file.endsWith('.csv') && !before.has(file);
+    await press_button('Save CSV');
+    for (const end = Date.now() + 20000; Date.now() < end;) {
+        const now = readdirSync(browser.downloads), file = now.find(is_done);
+        if (file && !now.some((other) => /\.(crdownload|part)$/.test(other))) {
+            const content = readFileSync(join(browser.downloads, file), 'utf8');
+            if (content) { assert.match(file, new RegExp(`\\.${name}(\\(\\d+\\))?( \\(\\d+\\))?\\.csv$`)); return content; }
+        }
+        await new Promise((resume) => setTimeout(resume, 20));
+    }
+    throw new Error('nothing is saved');
+}
+
+// An index of a section that has no room in its symbol, and the symbol that stands for a section.
+async function check_section_indices() {
+    const names = Buffer.from('\0past\0'), at = (index) => ({ name: `.s${index}`, type: 1, bytes: Buffer.alloc(0) });
+    const symbols = Buffer.concat([symbol({}), symbol({ info: 3, shndx: 5 }), symbol({ name: 1, info: 0x12, shndx: 0xffff })]);
+    const path = await pick_written('indices', elf_file({ sections: [
+        { name: '.symtab', type: 2, link: 2, info: 2, entsize: 24, bytes: symbols }, { name: '.strtab', type: 3, bytes: names },
+        { name: '.shndx', type: 18, link: 1, entsize: 4, bytes: packed([0, 4], [0, 4], [6, 4]) }, ...[4, 5, 6].map(at),
+    ] }));
+    assert.deepEqual(symbols_of(path).map(({ section }) => section), ['UND', '5', '6']);
+    await open_tab('symbols');
+    assert.deepEqual(await cells(1), ['', '.s5', 'past']);
+    assert.deepEqual(await cells(7), ['undefined', '.s5', '.s6']);
+    await go('symbols/1/2', 'past');
+    await follow('.s6');
+    await until_chosen('.s6');
+}
+
+async function check_copies() {
+    const { index } = sections_of(dump)['.symtab'], symbols = symbols_of(dump), main = symbols.find(({ name }) => name === 'main');
+    await pick(dump);
+    await go(`symbols/${index}/${main.index}`, 'main');
+    await evaluate(`void (navigator.clipboard.writeText = async (text) => { globalThis.copied = text; })`);
+    await evaluate(`document.querySelector('#panel .row[aria-selected=true]').children[1].click()`);
+    await until_chosen('main');
+    const copied = async (button) => {
+        await evaluate('void (globalThis.copied = undefined)');
+        await press_button(button);
+        await until('globalThis.copied !== undefined');
+        return evaluate('globalThis.copied');
+    };
+    assert.equal(await copied('Copy cell'), 'main');
+    assert.match(await copied('Copy row'), new RegExp(`^${main.index}\tmain\t0x${main.value.toString(16)}\t${main.size}\tFUNC\tGLOBAL\tDEFAULT\t\\.text$`));
+    const text = sections_of(dump)['.text'], at = main.value - text.address + text.offset;
+    assert.equal((await copied('Copy hex')).replaceAll(' ', ''), bytes_of(dump, at, main.size));
+    const lines = (await saved('symbols')).trim().split('\r\n').map((line) => line.split(','));
+    assert.deepEqual(lines[0], ['#', 'Name', 'Value', 'Size', 'Type', 'Binding', 'Visibility', 'Section']);
+    // (names have commas too)
+    assert.deepEqual(lines.slice(1).map(([number, ...others]) => [number, ...others.slice(-6, -4)].map(Number)),
+        symbols.map((item) => [item.index, item.value, item.size]));
+    assert.equal(lines[1 + main.index][1], 'main');
+    // (what a spreadsheet would run, and what ends a cell)
+    await check_formula();
+}
+
+async function check_formula() {
+    const names = Buffer.from('\0=1+1\0a,"b"\0'), symbols = Buffer.concat([symbol({}), symbol({ name: 1 }), symbol({ name: 6 })]);
+    await pick_written('formula', elf_file({ sections: [
+        { name: '.symtab', type: 2, link: 2, entsize: 24, bytes: symbols }, { name: '.strtab', type: 3, bytes: names } ] }));
+    await open_tab('symbols');
+    const lines = (await saved('symbols')).trim().split('\r\n');
+    assert.ok(lines[2].startsWith("1,'=1+1,0x0,") && lines[3].startsWith('2,"a,""b""",0x0,'), lines.join('\n'));
+}
+
+// ---- what one reads ----
+
+async function check_words() {
+    await pick(made);
+    assert.match(await text_of('#file'), /little endian/);
+    await pick_written('big', readFileSync(join(made_files, 'big64')));
+    assert.match(await text_of('#file'), /big endian/);
+    await open_tab('segments');
+    const heads = await evaluate(`[...document.querySelectorAll('#panel [role=columnheader]')].map((cell) => [cell.textContent, cell.title])`);
+    assert.deepEqual(heads.slice(3, 7), [['Offset', 'p_offset'], ['File size', 'p_filesz'], ['Address', 'p_vaddr'], ['Memory size', 'p_memsz']]);
+}
+
+// What a list cuts has the whole beside the pointer, and segments' cells are cut nowhere.
+async function check_cells() {
+    await browser.resize(1280, 900);
+    await pick(files.at(-1));
+    const seen = `(([a, b]) => a.left >= b.left - 1 && a.right <= b.right + 1)`;
+    const cut = (at) => evaluate(`[...document.querySelectorAll('#panel .body .cell')].filter((cell) => cell.scrollWidth > cell.clientWidth
+        || !${seen}([cell.getBoundingClientRect(), document.querySelector('#panel .grid').getBoundingClientRect()]))${at}`);
+    await open_tab('segments');
+    const aligned = [...run('readelf', '-W', '-l', files.at(-1)).matchAll(/^ {2}[A-Z_]+ +0x.* (0x[0-9a-f]+)$/gm)].map(([, number]) => number);
+    assert.ok(aligned.includes('0x1000'));
+    assert.deepEqual(await cells(8), aligned);
+    assert.equal(await cut('.length'), 0);
+    const name = 'a_name_that_has_no_room_in_any_list_'.repeat(9), names = Buffer.from(`\0${name}\0`);
+    await pick_written('long', elf_file({ sections: [
+        { name: '.symtab', type: 2, link: 2, entsize: 24, bytes: Buffer.concat([symbol({}), symbol({ name: 1 })]) },
+        { name: '.strtab', type: 3, bytes: names } ] }));
+    await open_tab('symbols');
+    assert.deepEqual(await cut('.map((cell) => cell.title)'), [name]);
+}
+
+const sizes = [[1280, 900], [800, 900], [400, 800]];
+
+// In windows of three widths: the map takes a third at most, nothing is broken in the middle of words, and the page has no scroll
+// bar beside that of the list.
+async function check_widths() {
+    await pick(files.at(-1));
+    for (const [width, height] of sizes) {
+        await browser.resize(width, height);
+        await until(`innerWidth === ${width} && document.querySelector('section.map').offsetHeight <= innerHeight / 3`);
+        await evaluate(`document.getElementById('tab-header').click()`);
+        await until(`document.querySelector('[data-field=ei_data]')`);
+        await evaluate(`document.getElementById('back').click()`);
+        const lines = await evaluate(`[...document.querySelectorAll('.fields.header span, .fields.header .words')].map((cell) =>
+            [cell.textContent, cell.getClientRects().length, cell.offsetHeight])`);
+        for (const [text, rects, high] of lines) assert.ok(rects === 1 && high < 30, `${width}: ${text}`);
+        await open_tab('symbols');
+        assert.equal((await evaluate(`[...document.querySelectorAll('#panel [role=columnheader]')].map((cell) => cell.textContent)`))[1], 'Name');
+        const bars = await evaluate(`[...document.querySelectorAll('html, body, main, #told, .columns, .lists, #panel, .grid')]
+            .filter((box) => box.offsetParent !== null || box.matches('html, body')).filter((box) => box.scrollHeight > box.clientHeight + 1
+                && !['visible', 'hidden'].includes(getComputedStyle(box).overflowY)).map((box) => box.className || box.tagName)`);
+        assert.ok(bars.length <= 1 && bars.every((name) => name === 'grid'), `${width}: ${bars}`);
+        assert.ok(await evaluate(`document.documentElement.scrollWidth <= innerWidth`), `${width}`);
+    }
+    await browser.resize(1400, 1600);
+}
+
+// The colours that the map has where a row of it starts, and how they stand off.
+const PIXELS = `(() => {
+    const canvas = document.getElementById('canvas'), pen = canvas.getContext('2d');
+    const probe = (colour) => {
+        const one = new OffscreenCanvas(1, 1).getContext('2d');
+        one.fillStyle = colour;
+        one.fillRect(0, 0, 1, 1);
+        return [...one.getImageData(0, 0, 1, 1).data].slice(0, 3);
+    };
+    const style = (name) => probe(getComputedStyle(document.documentElement).getPropertyValue('--' + name));
+    return { pen, canvas, style };
+})()`;
+
+async function check_map() {
+    const path = files.at(-1), [segment] = [...run('readelf', '-W', '-l', path).matchAll(/^ {2}LOAD +(\S+) \S+ \S+ (\S+) \S+ R E/gm)];
+    const [start, size] = [Number(segment[1]), Number(segment[2])];
+    await pick(path);
+    const each = Number(/each row has ([\d,]+) bytes/.exec(await text_of('#readout'))[1].replaceAll(',', ''));
+    await check_gap();
+    // A segment is outlined in each row that it lies in.
+    const index = [...run('readelf', '-W', '-l', path).matchAll(/^ {2}[A-Z_]+ +(0x\S+)/gm)].findIndex(([, offset]) => Number(offset) === start);
+    await go(`segments/${index}`, `segment ${index}, LOAD`);
+    const rows = await evaluate(`(() => {
+        const { pen, canvas, style } = ${PIXELS}, ink = style('ink').join();
+        const found = [];
+        for (let row = 0; 8 + row * 23 + 16 < canvas.height; row++) {
+            const { data } = pen.getImageData(0, 8 + row * 23 - 1, canvas.width, 1);
+            let all = 0;
+            for (let at = 0; at < data.length; at += 4) if (data.slice(at, at + 3).join() === ink) all++;
+            if (all > 20) found.push(row);
+        }
+        return found;
+    })()`);
+    const first = Math.floor(start / each), last = Math.floor((start + size - 1) / each);
+    assert.ok(last > first);
+    assert.deepEqual(rows, Array.from({ length: last - first + 1 }, (_, i) => first + i));
+    // The line above the map says what is below the pointer, and nothing of it once the pointer is elsewhere.
+    const { x, y } = await evaluate(`(({ left, top, width }) => ({ x: left + width / 2, y: top + 10 }))(document.getElementById('canvas').getBoundingClientRect())`);
+    await browser.point(x, y);
+    await until(`/ · 0x[0-9a-f]+ to 0x/.test(document.getElementById('readout').textContent)`);
+    await browser.point(5, 5);
+    await until(`/^\\d+ parts, drawn to scale/.test(document.getElementById('readout').textContent)`);
+}
+
+// The edge of a gap stands off from the ground and what is in it by 3 to 1.
+async function check_gap() {
+    const { edge, ground, count } = await evaluate(`(() => {
+        const { pen, canvas, style } = ${PIXELS}, edge = style('gap'), wanted = edge.join();
+        const { data } = pen.getImageData(0, 0, canvas.width, canvas.height);
+        let count = 0;
+        for (let at = 0; at < data.length; at += 4) if (data[at + 3] === 255 && data.slice(at, at + 3).join() === wanted) count++;
+        return { edge, ground: style('raised'), count };
+    })()`);
+    const light = (colour) => colour.map((part) => part / 255).map((part) => (part <= 0.04045 ? part / 12.92 : ((part + 0.055) / 1.055) ** 2.4))
+        .reduce((all, part, i) => all + part * [0.2126, 0.7152, 0.0722][i], 0.05);
+    const [more, less] = [light(edge), light(ground)].sort((a, b) => b - a);
+    assert.ok(count > 100, `${count} points of gaps`);
+    assert.ok(more / less >= 3, `${more / less} to 1`);
+}
+
+async function check_themes() {
+    for (const theme of browser.theme ? ['dark', 'light'] : []) {
+        await browser.theme(theme);
+        await until(`matchMedia('(prefers-color-scheme: ${theme})').matches`);
+        await pick(files.at(-1));
+        await check_gap();
+    }
 }
 
 // The made file with other bytes in the place of a name.
@@ -143,29 +619,21 @@ function renamed(content, name, bytes) {
 }
 
 async function check_names() {
-    const markup = '<img src onerror=a>', path = join(folder, 'names');
+    const markup = '<img src onerror=a>';
     let content = renamed(readFileSync(made), 'weak_undefined_data', Buffer.from(markup));
     content = renamed(content, 'zeros', Buffer.from([0xc2, 0x80, 0xe2, 0x80, 0xa8]));
     content = renamed(content, 'data', Buffer.from([0xff, 0x41, 0x1b, 0x0a]));
-    writeFileSync(path, content);
-    await pick(path);
+    await pick_written('<img src=a>', content);
     await open_tab('symbols');
-    const names = await cells(7);
+    const names = await cells(1);
     assert.ok(names.includes(markup) && names.includes('U+0080U+2028') && names.includes('\\xffAU+001BU+000A'), names.join(' '));
     assert.ok(names.includes('été'));
-    assert.equal(await evaluate(`document.querySelectorAll('img').length`), 0);
     assert.equal(await evaluate(`document.querySelectorAll('#panel .esc').length`), 5);
-    await evaluate(`{ const box = document.querySelector('#panel input'); box.value = 'ONERROR'; box.dispatchEvent(new Event('input')); }`);
-    await until(`document.querySelector('#panel output').textContent === '1 of 21'`);
-    await until(`document.querySelectorAll('#panel .body .row').length === 1 && document.querySelector('#panel .body .row').row`);
-    assert.deepEqual(await cells(7), [markup]);
-}
-
-async function press(...keys) {
-    for (const key of keys) {
-        await send('Input.dispatchKeyEvent', { type: 'keyDown', key, code: key }, tab);
-        await send('Input.dispatchKeyEvent', { type: 'keyUp', key, code: key }, tab);
-    }
+    await search('ONERROR', '1 of 21');
+    assert.deepEqual(await cells(1), [markup]);
+    await go_by_field('onerror');
+    await until_chosen(markup);
+    assert.equal(await evaluate(`document.querySelectorAll('img').length`), 0);
 }
 
 // By the keyboard: the map's parts, in words too, a row of a list, and the next tab.
@@ -173,53 +641,84 @@ async function check_keys() {
     await pick(made);
     await open_tab('sections');
     await evaluate(`document.getElementById('canvas').focus()`);
-    await press('ArrowRight');
+    await browser.press('ArrowRight');
     await until(`document.getElementById('canvas').ariaValueText?.startsWith('ELF header: ')`);
     await evaluate(`document.querySelector('#panel .grid').focus()`);
-    await press('ArrowDown', 'ArrowDown', 'ArrowDown', 'ArrowUp');
-    await until(`document.querySelector('#side h2').textContent === '.text'`);
+    await browser.press('ArrowDown', 'ArrowDown', 'ArrowDown', 'ArrowUp');
+    await until_chosen('.text');
     const active = `document.activeElement.getAttribute('aria-activedescendant')`;
     assert.equal(await evaluate(`document.getElementById(${active}).children[1].textContent`), '.text');
     await evaluate(`document.getElementById('tab-sections').focus()`);
-    await press('ArrowRight');
+    await browser.press('ArrowRight');
     await until(`document.activeElement.id === 'tab-segments' && document.activeElement.ariaSelected === 'true'`);
 }
 
-// (that requests are heard of is known by that for the page)
+// Where the engine lacks what the library needs, the page says so, and takes no file.
+async function check_unsupported() {
+    for (const hidden of ['WebAssembly.validate = () => false;', 'delete globalThis.WebAssembly;']) {
+        const show = await browser.before_pages(hidden);
+        await browser.open(`${url}?${hidden.length}`);
+        await until(`!document.getElementById('unsupported')?.hidden`);
+        assert.match(await text_of('#unsupported'), /no WebAssembly memories of 64 bits/);
+        assert.equal(await evaluate(`document.getElementById('drop').hidden`), true);
+        await show();
+    }
+    await browser.open(url);
+    assert.equal(await evaluate(`document.getElementById('unsupported').hidden && !document.getElementById('drop').hidden`), true);
+}
+
+// Whether requests of an empty page are heard of: without that none would be missed.
+async function check_hearing() {
+    const asked = 'http://127.0.0.1:4999/heard';
+    await evaluate(`fetch(${quoted(asked)}, { mode: 'no-cors' }).catch(() => null).then(() => null)`);
+    assert.ok(browser.requests.includes(asked), browser.requests.join(' '));
+    browser.requests.length = browser.refusals.length = 0;
+}
+
 async function check_requests() {
     const blocked = await evaluate(`new Promise((told) => {
         document.addEventListener('securitypolicyviolation', ({ blockedURI }) => told(blockedURI));
         fetch('http://127.0.0.1:9/asked').catch(() => setTimeout(() => told('not refused by the policy'), 500));
     })`);
     assert.match(blocked, /^http:\/\/127\.0\.0\.1:9\//);
-    const is_asked = (text) => text.includes('http://127.0.0.1:9/asked') && text.includes('Content Security Policy');
-    assert.ok(refusals.length > 0 && refusals.every(is_asked), refusals.join('\n'));
-    const url = pathToFileURL(page).href;
-    assert.ok(requests.includes(url));
-    const others = requests.filter((request) => request !== url && !/^(blob:|data:)/.test(request));
+    for (const end = Date.now() + 5000; browser.refusals.length === 0 && Date.now() < end;) await evaluate('null');
+    const is_asked = (text) => text.includes('http://127.0.0.1:9/asked') && /Content.Security.Policy/.test(text);
+    assert.ok(browser.refusals.length > 0 && browser.refusals.every(is_asked), browser.refusals.join('\n'));
+    const others = browser.requests.filter((request) => request.split(/[?#]/)[0] !== url && !/^(blob:|data:|about:blank$)/.test(request));
     assert.deepEqual(others, []);
-    assert.deepEqual(faults, []);
+    assert.deepEqual(browser.faults, []);
 }
 
+const content = readFileSync(made);
+const counted = [...readdirSync(made_files).map((name) => join(made_files, name)), dump, ...files];
+const checks = {
+    counts: async () => { for (const path of counted) await check_counts(path); },
+    refusals: async () => {
+        await check_refusal(content.subarray(0, 40), 'the file header');
+        await check_refusal(Buffer.concat([Buffer.from('MZ'), content.subarray(2)]), 'the file header', 'This is not an ELF file', '4d 5a 4c 46');
+        await check_refusal(Buffer.from('text\n'), 'the file header', 'This is not an ELF file', '74 65 78 74 0a');
+    },
+    trouble: () => check_trouble(content), unknown: () => check_unknown(content), segments: check_segments, labels: check_labels,
+    loading: () => check_loading(content), symbol_links: check_symbol_links, kept_link: check_kept_link, section_links: check_section_links,
+    relocation_links: check_relocation_links, goto: check_goto, search: check_search, relocation_names: check_relocation_names,
+    section_indices: check_section_indices, copies: check_copies, words: check_words, cells: check_cells, widths: check_widths,
+    map: check_map, themes: check_themes, names: check_names, keys: check_keys, requests: check_requests, unsupported: check_unsupported,
+};
+
+let current = 'hearing';
 try {
-    const { targetId } = await send('Target.createTarget', { url: 'about:blank' });
-    tab = (await send('Target.attachToTarget', { targetId, flatten: true })).sessionId;
-    await watch(tab);
-    await send('Emulation.setDeviceMetricsOverride', { width: 1400, height: 1600, deviceScaleFactor: 1, mobile: false }, tab);
-    await send('Page.navigate', { url: pathToFileURL(page).href }, tab);
-    await until(`document.readyState === 'complete' && document.getElementById('unmade')?.hidden`);
-    for (const path of [made, ...files]) await check_counts(path);
-    const content = readFileSync(made);
-    await check_refusal(content.subarray(0, 40), 'the file’s header');
-    await check_refusal(Buffer.concat([Buffer.from('MZ'), content.subarray(2)]), 'the file’s header');
-    await check_names();
-    await check_keys();
-    await check_requests();
-    console.log(`the page shows ${files.length + 1} files as readelf does, refuses in words, shows names as text, goes by keys,`
-        + ' and asks for nothing');
+    await browser.start(program);
+    await browser.resize(1400, 1600);
+    await check_hearing();
+    await browser.open(url);
+    await until(`document.getElementById('unmade')?.hidden`);
+    for (current of Object.keys(checks)) await checks[current]();
+    console.log(`${browser.constructor.title}: the page passes ${Object.keys(checks).length} checks over ${counted.length} files and those that it`
+        + ' writes, and asks for nothing');
+} catch (error) {
+    console.log(`${browser.constructor.title}: ${current}`);
+    throw error;
 } finally {
-    const ended = new Promise((resolve) => browser.on('exit', resolve));
-    browser.kill();
-    await ended;
+    await browser.end();
     rmSync(folder, { recursive: true, force: true });
 }

@@ -28,6 +28,8 @@ class Calls {
 class Browser {
     requests = [];
     faults = [];
+    /** What the browser says that a page's policy refuses, and in Chromium other messages of its own. */
+    refusals = [];
 
     constructor(folder) {
         this.downloads = join(folder, 'downloads');
@@ -76,6 +78,7 @@ export class Chromium extends Browser {
         const { targetId } = await this.#ask('Target.createTarget', { url: 'about:blank' }, undefined);
         this.tab = (await this.#ask('Target.attachToTarget', { targetId, flatten: true }, undefined)).sessionId;
         await this.#watch(this.tab);
+        await this.#ask('Page.enable');
         await this.#ask('Browser.setDownloadBehavior', { behavior: 'allow', downloadPath: this.downloads }, undefined);
     }
 
@@ -86,13 +89,15 @@ export class Chromium extends Browser {
         if (id) this.calls.answer(message);
         if (method === 'Network.requestWillBeSent') this.requests.push(params.request.url);
         if (method === 'Runtime.exceptionThrown') this.faults.push(params.exceptionDetails.exception?.description ?? params.exceptionDetails.text);
+        // (but hints on how a page draws)
+        if (method === 'Log.entryAdded' && params.entry.source !== 'rendering') this.refusals.push(params.entry.text);
         if (method === 'Target.attachedToTarget') this.#watch(params.sessionId);
     }
 
     // Hears of the requests and faults of a page, and of its workers before they start.
     async #watch(session) {
         await Promise.all([
-            this.#ask('Network.enable', {}, session), this.#ask('Runtime.enable', {}, session),
+            this.#ask('Network.enable', {}, session), this.#ask('Runtime.enable', {}, session), this.#ask('Log.enable', {}, session),
             this.#ask('Target.setAutoAttach', { autoAttach: true, waitForDebuggerOnStart: true, flatten: true }, session),
         ]);
         await this.#ask('Runtime.runIfWaitingForDebugger', {}, session);
@@ -184,7 +189,8 @@ export class Firefox extends Browser {
         const { id, method, params } = message;
         if (id) this.calls.answer(message);
         if (method === 'network.beforeRequestSent') this.requests.push(params.request.url);
-        if (method === 'log.entryAdded' && params.type === 'javascript' && params.level === 'error') this.faults.push(params.text);
+        if (method !== 'log.entryAdded' || params.type !== 'javascript' || params.level !== 'error') return;
+        (params.text.startsWith('Content-Security-Policy') ? this.refusals : this.faults).push(params.text);
     }
 
     async before_pages(script) {

@@ -167,7 +167,9 @@ async function list_panel(mine, wanted) {
     let list = Object.hasOwn(NONE, name) || name === 'notes' ? choices(name) : [{ of: undefined }];
     if (wanted !== undefined && !list.some(({ of }) => of === wanted)) list = [{ of: wanted, text: `section ${wanted}` }, ...list];
     if (list.length === 0) return [make('p', { class: 'empty' }, NONE[name])];
-    const longest = list.reduce((best, item) => ((item.length ?? -1) > (best.length ?? -1) ? item : best));
+    // (what is refused comes before what is empty)
+    const weight = ({ length }) => length ?? 0.5;
+    const longest = list.reduce((best, item) => (weight(item) > weight(best) ? item : best));
     mine.of = wanted ?? longest.of;
     Object.assign(mine, { list, query: '', column: 0, is_descending: false, output: make('output', {}), below: make('div', { class: 'notice' }) });
     mine.grid = new Grid(name, COLUMNS[name], {

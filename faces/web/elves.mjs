@@ -1,0 +1,64 @@
+// Small ELF files of 64 bits, lowest byte first, that the page's test writes: each section and segment with its bytes.
+
+const align = (number, to) => Math.ceil(number / to) * to;
+
+/** A record of fields, each a number with its width in bytes. */
+export function packed(...fields) {
+    const bytes = Buffer.alloc(fields.reduce((all, [, width]) => all + width, 0));
+    let at = 0;
+    for (const [value, width] of fields) {
+        if (width === 8) bytes.writeBigUInt64LE(BigInt(value), at); else bytes.writeUIntLE(Number(value), at, width);
+        at += width;
+    }
+    return bytes;
+}
+
+/** A note of an owner. */
+export function note(owner, type, descriptor) {
+    const name = Buffer.from(`${owner}\0`);
+    const padded = (bytes) => Buffer.concat([bytes, Buffer.alloc(align(bytes.length, 4) - bytes.length)]);
+    return Buffer.concat([packed([name.length, 4], [descriptor.length, 4], [type, 4]), padded(name), padded(descriptor)]);
+}
+
+/** A symbol. */
+export const symbol = ({ name = 0, info = 0, other = 0, shndx = 0, value = 0, size = 0 }) =>
+    packed([name, 4], [info, 1], [other, 1], [shndx, 2], [value, 8], [size, 8]);
+
+/** A relocation with an addend. */
+export const rela = ({ offset = 0, sym = 0, type, addend = 0 }) => packed([offset, 8], [type, 4], [sym, 4], [addend, 8]);
+
+/**
+ * A file of a type, for a machine, with sections { name, type, flags, addr, link, info, entsize, bytes } from the first one on (that
+ * at 0 and the last, of names, are added) and segments { type, flags, vaddr, bytes }.
+ */
+export function elf_file({ type = 1, machine = 62, osabi = 0, sections = [], segments = [] }) {
+    const parts = [];
+    let at = 64 + 56 * segments.length;
+    const put = (bytes) => {
+        const offset = align(at, 8);
+        parts.push(Buffer.alloc(offset - at), bytes);
+        at = offset + bytes.length;
+        return offset;
+    };
+    const heads = segments.map(({ type: p_type = 1, flags = 4, vaddr = 0, bytes }) =>
+        packed([p_type, 4], [flags, 4], [put(bytes), 8], [vaddr, 8], [vaddr, 8], [bytes.length, 8], [bytes.length, 8], [4, 8]));
+    if (sections.length === 0) return Buffer.concat([header({ type, machine, osabi, segments: heads.length }), ...heads, ...parts]);
+    const all = [{ type: 0, name: '', bytes: Buffer.alloc(0) }, ...sections, { name: '.shstrtab', type: 3 }];
+    const names = Buffer.from(all.map(({ name }) => `${name}\0`).join(''));
+    all.at(-1).bytes = names;
+    let name_at = 0;
+    const table = all.map(({ name, type: sh_type, flags = 0, addr = 0, link = 0, info = 0, entsize = 0, bytes }, index) => {
+        const named = packed([name_at, 4], [sh_type, 4], [flags, 8], [addr, 8], [index ? put(bytes) : 0, 8], [bytes.length, 8], [link, 4],
+            [info, 4], [4, 8], [entsize, 8]);
+        name_at += Buffer.byteLength(name) + 1;
+        return named;
+    });
+    const shoff = put(Buffer.concat(table));
+    return Buffer.concat([header({ type, machine, osabi, segments: heads.length, shoff, sections: all.length }), ...heads, ...parts]);
+}
+
+function header({ type, machine, osabi, segments, shoff = 0, sections = 0 }) {
+    const ident = Buffer.from([0x7f, 0x45, 0x4c, 0x46, 2, 1, 1, osabi, 0, 0, 0, 0, 0, 0, 0, 0]);
+    return Buffer.concat([ident, packed([type, 2], [machine, 2], [1, 4], [0, 8], [segments ? 64 : 0, 8], [shoff, 8], [0, 4], [64, 2], [56, 2],
+        [segments, 2], [sections ? 64 : 0, 2], [sections, 2], [sections ? sections - 1 : 0, 2])]);
+}
