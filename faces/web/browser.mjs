@@ -528,9 +528,13 @@ async function check_widths() {
         await evaluate(`document.getElementById('tab-header').click()`);
         await until(`document.querySelector('[data-field=ei_data]')`);
         await evaluate(`document.getElementById('back').click()`);
-        const lines = await evaluate(`[...document.querySelectorAll('.fields.header span, .fields.header .words')].map((cell) =>
-            [cell.textContent, cell.getClientRects().length, cell.offsetHeight])`);
-        for (const [text, rects, high] of lines) assert.ok(rects === 1 && high < 30, `${width}: ${text}`);
+        assert.deepEqual(await evaluate(`[...document.querySelectorAll('.fields.header span, .fields.header .words')].flatMap((cell) =>
+            [...cell.textContent.matchAll(/\\S+/g)].filter(({ 0: word, index }) => {
+                const range = new Range();
+                range.setStart(cell.firstChild, index);
+                range.setEnd(cell.firstChild, index + word.length);
+                return range.getClientRects().length > 1;
+            }).map(([word]) => word))`), [], `${width}`);
         await open_tab('symbols');
         assert.equal((await evaluate(`[...document.querySelectorAll('#panel [role=columnheader]')].map((cell) => cell.textContent)`))[1], 'Name');
         const bars = await evaluate(`[...document.querySelectorAll('html, body, main, #told, .columns, .lists, #panel, .grid')]
@@ -538,6 +542,12 @@ async function check_widths() {
                 && !['visible', 'hidden'].includes(getComputedStyle(box).overflowY)).map((box) => box.className || box.tagName)`);
         assert.ok(bars.length <= 1 && bars.every((name) => name === 'grid'), `${width}: ${bars}`);
         assert.ok(await evaluate(`document.documentElement.scrollWidth <= innerWidth`), `${width}`);
+        // The side is seen beside the list, or in its place until one goes back.
+        await evaluate(`document.querySelectorAll('#panel .body .row')[1].children[1].click()`);
+        await until(`document.querySelector('#chosen').offsetParent !== null && document.querySelector('#chosen h2').textContent !== 'ei_data'`);
+        assert.equal(await evaluate(`document.getElementById('panel').offsetParent !== null`), width > 1000);
+        await evaluate('history.back()');
+        await until(`document.getElementById('panel').offsetParent !== null`);
     }
     await browser.resize(1400, 1600);
 }

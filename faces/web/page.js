@@ -61,14 +61,16 @@ async function show_place(place) {
         if (!await open_tab(tab.name, tab.of)) return;
         details = await item_of(tab);
     }
-    if (mine === shown_places && details) await show_details(details);
+    if (mine !== shown_places) return;
+    // (where there is room for one alone, the side is seen while something is chosen, and else the list)
+    document.body.classList.toggle('chosen', Boolean(details));
+    if (details) await show_details(details);
 }
 
 async function show_details(details) {
     const [block] = details.blocks ?? [];
     mark_range(block?.at === undefined ? undefined : block, details.title);
     await show_side(details);
-    document.body.classList.add('chosen');
 }
 
 // ---- files ----

@@ -24,12 +24,12 @@ const COLUMNS = {
         right('Physical', 'p_paddr', 106, 1), right('Align', 'p_align', 66),
     ],
     symbols: [
-        place(56), left('Name', 'st_name', 180, 2), right('Value', 'st_value', 110, 0.6), right('Size', 'st_size', 62),
+        place(48), left('Name', 'st_name', 180, 2), right('Value', 'st_value', 110, 0.6), right('Size', 'st_size', 62),
         left('Type', 'st_info, its low four bits', 74), left('Binding', 'st_info, its high four bits', 64),
         left('Visibility', 'st_other', 78), left('Section', 'st_shndx', 90, 0.5),
     ],
     relocations: [
-        place(56), right('Offset', 'r_offset', 110, 0.6), left('Type', 'r_type', 190, 1), left('Symbol', 'the name of r_sym', 160, 2),
+        place(48), right('Offset', 'r_offset', 110, 0.6), left('Type', 'r_type', 190, 1), left('Symbol', 'the name of r_sym', 160, 2),
         right('Addend', 'r_addend', 90, 0.6), right('Index', 'r_sym', 56),
     ],
     notes: [
