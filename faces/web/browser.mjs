@@ -177,9 +177,17 @@ async function check_unknown(content) {
     }
     assert.match(words[0], /^Refused: .* while reading the section headers: e_shnum \d+, e_shoff 0x/s);
     assert.deepEqual(new Set(words), new Set([words[0]]));
-    await pick_written('none', elf_file({ sections: [{ name: '.text', type: 1, bytes: Buffer.alloc(4) }] }));
+    const note_section = { name: '.note', type: 7, bytes: Buffer.concat([note('GNU', 3, Buffer.alloc(4)), note('\xff', 1, Buffer.alloc(4))]) };
+    await pick_written('none', elf_file({ sections: [note_section, { name: '.relr.dyn', type: 19, bytes: Buffer.alloc(8) }] }));
     await evaluate(`document.getElementById('tab-symbols').click()`);
     await until(`document.getElementById('panel').textContent.startsWith('The file has no sections of symbols')`);
+    await evaluate(`document.getElementById('tab-relocations').click()`);
+    await until(`document.getElementById('panel').textContent.endsWith('Not listed are the packed relocations (SHT_RELR) of .relr.dyn')`);
+    assert.equal(await text_of('#tab-relocations span'), '0+');
+    // (a note whose owner is no text is refused, and those after it are not read)
+    await open_tab('notes');
+    assert.equal(await text_of('#tab-notes span'), '1+');
+    assert.match(await text_of('#panel .refused'), /^Refused: /);
 }
 
 // The legend's percentages, by its words.

@@ -13,9 +13,9 @@ export function packed(...fields) {
     return bytes;
 }
 
-/** A note of an owner. */
+/** A note of an owner, whose signs are bytes. */
 export function note(owner, type, descriptor) {
-    const name = Buffer.from(`${owner}\0`);
+    const name = Buffer.from(`${owner}\0`, 'latin1');
     const padded = (bytes) => Buffer.concat([bytes, Buffer.alloc(align(bytes.length, 4) - bytes.length)]);
     return Buffer.concat([packed([name.length, 4], [descriptor.length, 4], [type, 4]), padded(name), padded(descriptor)]);
 }

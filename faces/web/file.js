@@ -18,6 +18,7 @@ export const EM_ARM = 40;
 export const STRTAB = 3;
 export const GROUP = 17;
 export const SYMTAB_SHNDX = 18;
+export const RELR = 19;
 export const SYMBOL_TYPES = [goblin.SHT_SYMTAB, goblin.SHT_DYNSYM];
 export const RELOCATION_TYPES = [goblin.SHT_REL, goblin.SHT_RELA];
 

@@ -6,12 +6,15 @@ import { ask } from './reader.js';
 
 const SIDE_BYTES = 8;
 
+/** A link to a place. */
+export const link_to = ({ text, to }) => put_text(make('a', { href: `#${to}` }), text);
+
 /** The cell of a field: its value, what that means, and links to what it leads to. */
 export function value_of({ value, meaning, links }) {
     const cell = make('td');
     if (value) cell.append(put_text(make('span'), value));
     if (meaning) cell.append(put_text(make('span', { class: 'meaning' }), meaning));
-    cell.append(...links.map(({ text, to }) => put_text(make('a', { href: `#${to}` }), text)));
+    cell.append(...links.map(link_to));
     return cell;
 }
 

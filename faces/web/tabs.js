@@ -4,7 +4,7 @@ import { Grid } from './grid.js';
 import { refusal_of } from './hex.js';
 import { ask, shown_file } from './reader.js';
 import { go } from './route.js';
-import { value_of } from './side.js';
+import { link_to, value_of } from './side.js';
 
 // Columns: their titles, how wide they are at least, with a share of what is left or without, and the standard's name of the field.
 const wide = (least, share) => (share ? `minmax(${least}px, ${share}fr)` : `${least}px`);
@@ -49,15 +49,17 @@ let open = { name: undefined };
 // ---- tabs ----
 
 // How many items the tables hold, as far as that is known.
-function sum_of({ refused, found, all }) {
+function sum_of({ refused, found, all, others = [] }) {
     if (refused || (found.length > 0 && found.every(({ length }) => length === undefined))) return 'refused';
     const known = found.reduce((total, { length = 0 }) => total + length, 0);
-    return all > found.length ? `${number(known)}+` : number(known);
+    return all > found.length || others.length ? `${number(known)}+` : number(known);
 }
 
+// Those of sections, or of segments where these have more: not all where some are refused or not read.
 function notes_sum({ sections, segments }) {
     if (sections.length === undefined && !segments.length) return 'refused';
-    return number(Math.max(sections.length ?? 0, segments.length ?? 0));
+    const { length, refusals, is_cut } = (segments.length ?? 0) > (sections.length ?? 0) ? segments : sections;
+    return refusals.length || is_cut ? `${number(length)}+` : number(length);
 }
 
 /** Shows the tabs with how many items each has; those that are refused say so. */
@@ -166,7 +168,7 @@ async function list_panel(mine, wanted) {
     if (told[name]?.refused) return [await refusal_of(told[name].refused)];
     let list = Object.hasOwn(NONE, name) || name === 'notes' ? choices(name) : [{ of: undefined }];
     if (wanted !== undefined && !list.some(({ of }) => of === wanted)) list = [{ of: wanted, text: `section ${wanted}` }, ...list];
-    if (list.length === 0) return [make('p', { class: 'empty' }, NONE[name])];
+    if (list.length === 0) return [make('p', { class: 'empty' }, NONE[name]), ...others_of(name)];
     // (what is refused comes before what is empty)
     const weight = ({ length }) => length ?? 0.5;
     const longest = list.reduce((best, item) => (weight(item) > weight(best) ? item : best));
@@ -191,12 +193,19 @@ async function refresh(mine) {
     };
     const view = await ask('view', { list: name, of, query, column, is_descending });
     if (view.is_over) return;
-    const refusals = name === 'notes' ? await note_refusals(of) : view.refused ? [await refusal_of(view.refused)] : [];
+    const refusals = name === 'notes' ? await note_refusals(of) : view.refused ? [await refusal_of(view.refused)] : others_of(name);
     const none = view.is_none ? [make('p', { class: 'empty' }, `Section ${of} holds no ${name}.`)] : [];
     below.replaceChildren(...refusals, ...none);
     grid.box.hidden = Boolean(view.refused || view.is_none);
     output.textContent = view.refused ? 'refused' : query ? `${number(view.length)} of ${number(view.all)}` : number(view.all ?? 0);
     grid.show(grid.box.hidden ? 0 : view.length);
+}
+
+// What is said of the sections of relocations that are not listed.
+function others_of(name) {
+    const { others = [] } = shown_file.told[name] ?? {};
+    if (!others.length) return [];
+    return [make('p', { class: 'others' }, 'Not listed are the packed relocations (SHT_RELR) of ', ...others.map(link_to))];
 }
 
 const MOST_REFUSALS = 3;

@@ -4,7 +4,7 @@
 import init, * as goblin from './goblin.js';
 import { address_details, header_fields, is_address, item_details, offset_details } from './details.js';
 import {
-    called, file, header_refusal, is_wide, list_refusal, part, RELOCATION_TYPES, sections, segments, SYMBOL_TYPES, told_or,
+    called, file, header_refusal, is_wide, list_refusal, part, RELOCATION_TYPES, RELR, sections, segments, SYMBOL_TYPES, told_or,
 } from './file.js';
 import { find } from './find.js';
 import * as labels from './labels.js';
@@ -43,6 +43,10 @@ function tables(types, list_of) {
     return { found, all };
 }
 
+// The sections of relocations without types, packed as bits, which the library doesn't read.
+const packed_relocations = () => [...sections()].filter(({ section }) => section.sh_type === RELR).slice(0, MOST_TABLES)
+    .map(({ index, section }) => ({ text: called(index, section), to: `sections/${index}` }));
+
 function notes_told(by, headers) {
     if (headers.refused) return { length: undefined, refusals: [headers.refused] };
     const { items, refusals, is_cut } = notes_of(by);
@@ -73,7 +77,7 @@ function overview() {
         words: [labels.file_class(header.ei_class), elf.little_endian() ? 'little endian' : 'big endian', labels.file_type(header.e_type),
             labels.machine(header.e_machine), `entry ${hex(header.e_entry)}`],
         symbols: refused ? { refused } : tables(SYMBOL_TYPES, (section, index) => symtab_at(index)),
-        relocations: refused ? { refused } : tables(RELOCATION_TYPES, (section) => elf.relocs(section)),
+        relocations: refused ? { refused } : { ...tables(RELOCATION_TYPES, (section) => elf.relocs(section)), others: packed_relocations() },
         notes: { sections: notes_told('sections', headers.sections), segments: notes_told('segments', headers.segments) },
         map: map(),
     };
