@@ -8,11 +8,12 @@ use crate::told::{answers, are_alike, differs, holds, is, number, says};
 use goblin::elf::note::{
     NT_GNU_BUILD_ID, NT_SIGINFO, Note, NoteDataIterator, NoteIterator, NotePlaces,
 };
-use goblin::{elf32, elf64};
+use goblin::{elf, elf32, elf64};
 use goblin_base::container::{BE, Ctx, Endian, LE};
 use goblin_base::error::{Error, Fault, Result};
 use goblin_base::scroll;
 use goblin_base::scroll::{SizeWith, TryFromCtx};
+use goblin_records::note;
 use goblin_records::note::{Nhdr32, Nhdr64};
 use std::alloc::{AllocError, Global};
 use std::result;
@@ -64,6 +65,14 @@ fn reads_and_writes_note_headers(rt: HostRuntime) {
     assert!(rt; is_header32(rt, BE, HEADER_BIG32));
     assert!(rt; is_header64(rt, LE, HEADER_LITTLE64));
     assert!(rt; is_header64(rt, BE, HEADER_BIG64));
+}
+
+#[test]
+fn calls_the_laws_of_notes() {
+    note::constants();
+    note::laws();
+    elf::note::constants();
+    elf::note::laws();
 }
 
 #[test]

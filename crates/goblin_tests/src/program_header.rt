@@ -3,6 +3,7 @@ use crate::container::{BIG64, LITTLE32};
 use crate::record::{SHORT, has_form, lacks_room, lists};
 use crate::told::{gives, holds, is, is_named};
 use goblin_base::container::{BE, Container, Ctx, LE};
+use goblin_base::error::Result as Answer;
 use goblin_headers::program_header::{
     PF_R, PF_W, PF_X, PT_ARM_EXIDX, PT_GNU_EH_FRAME, PT_GNU_RELRO, PT_GNU_STACK, PT_HIOS, PT_LOAD,
     PT_SUNWBSS, ProgramHeader, pt_to_str,
@@ -161,15 +162,23 @@ static LISTED: [Listed; 7] = [
     (112, 0, 2, Ok(2)),
 ];
 
+// The list of a table.
+fn listed(
+    rt: HostRuntime,
+    bytes: &[u8],
+    offset: usize,
+    count: usize,
+    ctx: Ctx,
+) -> Answer<Vec<ProgramHeader>> {
+    ProgramHeader::table(bytes, offset, count, ctx)?.to_vec(rt.alloc())
+}
+
 fn is_listed(rt: HostRuntime, row: &Listed) -> bool {
     let (len, offset, count, ref wanted) = *row;
     let bytes = &[0; 112][..len.min(112)];
     let ctx = Ctx::new(Container::Big, LE);
-    lists(
-        rt,
-        ProgramHeader::parse(rt.alloc(), bytes, offset, count, ctx),
-        wanted,
-    )
+    let whole = ProgramHeader::parse(rt.alloc(), bytes, offset, count, ctx);
+    lists(rt, whole, wanted) && lists(rt, listed(rt, bytes, offset, count, ctx), wanted)
 }
 
 #[test]
@@ -190,6 +199,7 @@ fn file() -> [u8; 72] {
 fn reads_the_program_headers_of_a_file(rt: HostRuntime) {
     let one = ProgramHeader::parse(rt.alloc(), &file(), 16, 1, BIG64);
     assert!(rt; gives(rt, one, &[segment()]));
+    assert!(rt; gives(rt, listed(rt, &file(), 16, 1, BIG64), &[segment()]));
     let raw = program_header64::ProgramHeader::from(segment());
     let one = program_header64::ProgramHeader::parse(rt.alloc(), &file(), 16, 1, BE);
     assert!(rt; gives(rt, one, &[raw]));

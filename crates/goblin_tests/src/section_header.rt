@@ -6,6 +6,7 @@ use goblin_base::container::{BE, Ctx, LE};
 use goblin_base::error::Result as Answer;
 use goblin_base::scroll::IntoCtx;
 use goblin_base::strtab::Strtab;
+use goblin_base::table::Table;
 use goblin_headers::section_header::{
     SHF_ALLOC, SHF_EXCLUDE, SHF_EXECINSTR, SHF_FLAGS, SHF_ORDERED, SHF_WRITE, SHT_DYNSYM,
     SHT_GNU_VERSYM, SHT_HIUSER, SHT_NOBITS, SHT_NUM, SHT_PROGBITS, SHT_REL, SHT_RELA,
@@ -448,15 +449,55 @@ fn at(sh_name: usize) -> SectionHeader {
 }
 
 // The index of the first section with this name, where the names "f", one that is no text and "f" lie at 1, 3 and 5,
-// and the last place lies past them.
-fn found(name: &[u8]) -> Option<usize> {
-    let names = Strtab::new(b"\0f\0\xff\0f\0", 0);
-    SectionHeader::find(&[at(3), at(1), at(5), at(7)], &names, name)
+// and the last place lies past them; among sections over a string table, and in their table over its bytes.
+fn found(name: &[u8]) -> [Option<usize>; 2] {
+    let names = b"\0f\0\xff\0f\0";
+    // Four section headers of the 32-bit class in little order, which have nothing but the places of their names.
+    let mut bytes = [0; 160];
+    bytes[0] = 3;
+    bytes[40] = 1;
+    bytes[80] = 5;
+    bytes[120] = 7;
+    let sections = [at(3), at(1), at(5), at(7)];
+    [
+        SectionHeader::find(&sections, &Strtab::new(names, 0), name),
+        SectionHeader::find_in(&Table::of(&bytes, 4, LITTLE32), names, 0, name),
+    ]
 }
 
 #[test]
 fn finds_the_first_section_of_a_name(rt: HostRuntime) {
-    assert!(rt; is(rt, found(b"f"), Some(1)));
-    assert!(rt; is(rt, found(b"\xff"), None));
-    assert!(rt; is(rt, found(b""), None));
+    assert!(rt; is(rt, found(b"f"), [Some(1); 2]));
+    assert!(rt; is(rt, found(b"\xff"), [None; 2]));
+    assert!(rt; is(rt, found(b""), [None; 2]));
+}
+
+// What a header's `e_shstrndx` says, the `sh_link` of the first section if there is one, and the index of the section
+// that holds the names.
+static NAMES_AT: [(u16, Option<u32>, usize); 5] = [
+    (2, Some(7), 2),
+    (0, None, 0),
+    (0xfffe, Some(7), 0xfffe),
+    (0xffff, Some(0x10000), 0x10000),
+    (0xffff, None, 0),
+];
+
+fn names_at(e_shstrndx: u16, link: Option<u32>) -> usize {
+    match link {
+        Some(sh_link) => {
+            let first = SectionHeader {
+                sh_link,
+                ..section()
+            };
+            SectionHeader::names_index(e_shstrndx, Some(&first))
+        }
+        None => SectionHeader::names_index(e_shstrndx, None),
+    }
+}
+
+#[test]
+fn tells_where_the_names_are(rt: HostRuntime) {
+    for row in &NAMES_AT {
+        assert!(rt; holds(rt, row, is(rt, names_at(row.0, row.1), row.2)));
+    }
 }

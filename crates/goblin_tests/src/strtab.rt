@@ -1,8 +1,8 @@
 //! Cases of string tables with their answers.
-use crate::told::{differs, gives, holds, is, says};
+use crate::told::{answers, differs, gives, holds, is, says};
 use goblin_base::error::Result;
-use goblin_base::options::ParseOptions;
-use goblin_base::strtab::{Strtab, laws};
+use goblin_base::options::{ParseMode, ParseOptions};
+use goblin_base::strtab::{Strtab, WantedName, bytes_in_range, laws, string_at};
 
 // "\nƒoo\nmemmove\n🅱️usta\n"
 const FOO: &[u8] = b"\n\xC6\x92oo\nmemmove\n\xF0\x9F\x85\xB1\xEF\xB8\x8Fusta\n";
@@ -122,9 +122,9 @@ fn reads(rt: HostRuntime, table: &Strtab<'_>, len: usize, offset: usize, text: &
     }
 }
 
-// Whether the plain reading refuses with this text.
-fn cannot_read(rt: HostRuntime, table: &Strtab<'_>, offset: usize, text: &str) -> bool {
-    match table.get(offset) {
+// Whether a plain reading refuses with this text.
+fn cannot_read(rt: HostRuntime, read: Option<Result<&str>>, text: &str) -> bool {
+    match read {
         Some(answer) => says(rt, answer, text),
         None => differs(rt, &"nothing", &text),
     }
@@ -142,20 +142,45 @@ fn has_none(rt: HostRuntime, table: &Strtab<'_>, len: usize, offset: usize) -> b
 fn reads_plainly(rt: HostRuntime) {
     assert!(rt; reads(rt, &Strtab::new(NAMES, 0), 13, 3, "ext"));
     assert!(rt; has_none(rt, &Strtab::new(NAMES, 0), 13, 13));
-    assert!(rt;
-        cannot_read(
-            rt,
-            &Strtab::new(b"a\x80\0b", 0),
-            1,
-            "bad input invalid utf8 (3)"
-        )
-    );
+    let text = "bad input invalid utf8 (3)";
+    assert!(rt; cannot_read(rt, Strtab::new(b"a\x80\0b", 0).get(1), text));
+    assert!(rt; cannot_read(rt, string_at(b"a\x80\0b", 0, 1), text));
+    assert!(rt; matches!(string_at(NAMES, 0, 3), Some(Ok(piece)) if piece == "ext"));
+    assert!(rt; string_at(NAMES, 0, 13).is_none());
 }
 
 #[test]
 fn reads_a_part_plainly(rt: HostRuntime) {
     assert!(rt; reads(rt, &Strtab::from_slice_unparsed(NAMES, 7, 3, 0), 3, 1, "da"));
     assert!(rt; has_none(rt, &Strtab::default(), 0, 0));
+}
+
+// Offsets, names, and whether the string there is the name.
+const NAMED: &[(usize, &[u8], bool)] = &[
+    (1, b".text", true),
+    (3, b"ext", true),
+    (12, b"", true),
+    (1, b".tex", false),
+    (7, b".text", false),
+    (1, b".text\0", false),
+    (13, b"", false),
+];
+
+// The same as the table tells it, a search of the table, and a search of its bytes.
+fn has_name(offset: usize, name: &[u8]) -> [bool; 3] {
+    let table = Strtab::new(NAMES, 0);
+    [
+        table.has_name(offset, name),
+        table.wanted(name).is_at(offset),
+        WantedName::new(name, 0).is_at(NAMES, offset),
+    ]
+}
+
+#[test]
+fn tells_whether_a_string_is_a_name(rt: HostRuntime) {
+    for row in NAMED {
+        assert!(rt; holds(rt, row, is(rt, has_name(row.0, row.1), [row.2; 3])));
+    }
 }
 
 // Ranges of four bytes that are no tables, by offset and length, and why.
@@ -196,24 +221,41 @@ const REFUSED: &[(usize, usize, &str)] = &[
 ];
 
 // Whether these bytes are refused as a table with this line.
-fn refuses_range(rt: HostRuntime, bytes: &[u8], offset: usize, len: usize, line: &str) -> bool {
+fn refuses_table(rt: HostRuntime, bytes: &[u8], offset: usize, len: usize, line: &str) -> bool {
     says(rt, Strtab::parse(rt.alloc(), bytes, offset, len, 0), line)
+}
+
+// The bytes of a table in zeros.
+fn range(offset: usize, len: usize, mode: ParseMode) -> Result<&'static [u8]> {
+    bytes_in_range(ZEROS, offset, len, mode)
+}
+
+// Whether a range of zeros is refused with this line, as a table and as its bytes.
+fn refuses_range(rt: HostRuntime, offset: usize, len: usize, line: &str) -> bool {
+    refuses_table(rt, ZEROS, offset, len, line)
+        && says(rt, range(offset, len, ParseMode::Strict), line)
 }
 
 #[test]
 fn refuses_a_range_past_the_file(rt: HostRuntime) {
     for row in REFUSED {
-        assert!(rt; holds(rt, row, refuses_range(rt, ZEROS, row.0, row.1, row.2)));
+        assert!(rt; holds(rt, row, refuses_range(rt, row.0, row.1, row.2)));
     }
     assert!(rt; has_strings(rt, Strtab::parse(rt.alloc(), ZEROS, 4, 0, 0), &[]));
-    assert!(rt; refuses_range(rt, b"\x80\x80", 0, 2, "bad input invalid utf8 (2)"));
+    assert!(rt; refuses_table(rt, b"\x80\x80", 0, 2, "bad input invalid utf8 (2)"));
+    let data = bytes_in_range(NAMES, 7, 5, ParseMode::Strict);
+    assert!(rt; answers(rt, data, b".data"));
 }
 
-// Whether the permissive table has this length.
+// Whether the permissive table has this length, and so have its bytes.
 fn is_cut_to(rt: HostRuntime, offset: usize, len: usize, rest: usize) -> bool {
     let opts = ParseOptions::permissive();
     match Strtab::parse_with_opts(rt.alloc(), ZEROS, offset, len, 0, &opts) {
-        Ok(table) => is(rt, table.len(), rest),
+        Ok(table) => {
+            let bytes = ZEROS.get(..rest).unwrap_or(b"too few");
+            is(rt, table.len(), rest)
+                && answers(rt, range(offset, len, ParseMode::Permissive), bytes)
+        }
         Err(e) => differs(rt, &e, &rest),
     }
 }

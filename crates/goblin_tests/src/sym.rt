@@ -4,6 +4,7 @@ use crate::container::{BIG32, BIG64, LITTLE32, LITTLE64};
 use crate::record::{SHORT, has_form, lacks_room, lists, refuses, writes};
 use crate::table::yields;
 use crate::told::{differs, gives, holds, is, says, stands};
+use goblin::elf;
 use goblin::elf::sym::Symtab;
 use goblin_base::container::{BE, Ctx, LE};
 use goblin_base::error::Result;
@@ -252,10 +253,16 @@ fn imports(rt: HostRuntime, info: u8, value: u64, wanted: bool) -> bool {
 }
 
 #[test]
-fn calls_the_laws_of_constants() {
+fn calls_the_laws_of_symbols() {
     sym::constants();
     sym32::constants();
     sym64::constants();
+    elf::sym::constants();
+    sym::laws();
+    sym32::laws();
+    sym64::laws();
+    elf::sym::laws();
+    elf::sym::addresses();
 }
 
 #[test]

@@ -17,7 +17,7 @@ use goblin_base::record::Record;
 use goblin_base::scroll;
 use goblin_base::scroll::{TryFromCtx, TryIntoCtx};
 use goblin_base::strtab::Strtab;
-use goblin_base::table::{Table, TableIter};
+use goblin_base::table::{Table, TableIter, read_back, same_range};
 use goblin_base::walk::walk;
 use std::fmt::Debug;
 
@@ -69,11 +69,24 @@ fn has_all(rt: HostRuntime, table: &Table<'_, Sym, Ctx>, wanted: &[Sym]) -> bool
         && yields(rt, table.iter(), wanted)
 }
 
-// Whether a table of what was written has the symbols.
+// The same of a table that may be refused.
+fn gives_all(rt: HostRuntime, table: Result<Table<'_, Sym, Ctx>>, wanted: &[Sym]) -> bool {
+    match table {
+        Ok(table) => has_all(rt, &table, wanted),
+        Err(e) => differs(rt, &e, &wanted),
+    }
+}
+
+// Whether a table of what was written has the symbols, and so have those in a range.
 fn tabulates(rt: HostRuntime, ctx: Ctx) -> bool {
     let mut bytes = [0; 73];
     match put_symbols(&mut bytes, ctx) {
-        Ok(()) => has_all(rt, &Table::of(&bytes, 3, ctx), THREE),
+        Ok(()) => {
+            let size = Sym::size(ctx.container);
+            has_all(rt, &Table::of(&bytes, 3, ctx), THREE)
+                && gives_all(rt, Table::in_range(&bytes, size, 2, ctx), &THREE[1..])
+                && gives_all(rt, Table::counted(&bytes, 0, 3, ctx, "symbols"), THREE)
+        }
         Err(e) => differs(rt, &e, &"three symbols"),
     }
 }
@@ -86,6 +99,12 @@ fn gives_symbols_by_index_as_a_vector_and_in_turn(rt: HostRuntime) {
     // Of just so many bytes, and of none.
     assert!(rt; has_all(rt, &Table::of(&[0; 48], 2, LITTLE64), &[ZERO, ZERO]));
     assert!(rt; has_all(rt, &Table::of(&[], 0, LITTLE64), &[]));
+}
+
+#[test]
+fn calls_the_laws_of_tables() {
+    read_back::<Sym, Ctx>();
+    same_range::<Sym, Ctx>();
 }
 
 static ZEROS: [u8; 262_272] = [0; 262_272];
