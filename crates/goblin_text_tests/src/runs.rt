@@ -2,8 +2,9 @@
 use goblin::options::{ParseMode, ParseOptions};
 use goblin_text::command::show;
 use goblin_text::counted::Counted;
+use goblin_text::file_bytes::FileBytes;
 use goblin_text::options::options_of;
-use goblin_text::run::{Outcome, run};
+use goblin_text::run::{Outcome, run, show_file};
 use goblin_text::text::text_of;
 use std::alloc::Global;
 use std::io;
@@ -156,6 +157,42 @@ fn refuses(
         let reader = Cursor::new(bytes.as_slice());
         ends(alloc, opts, reader, Outcome::Refused, line)
     })
+}
+
+// Whether a file with these changes ends so, after so many looks that were taken to find and to test names.
+fn takes(
+    alloc: Global,
+    opts: &ParseOptions,
+    file: &str,
+    changes: &[(usize, u8)],
+    outcome: Outcome,
+    looks: u128,
+) -> bool {
+    changed(alloc, file, changes).is_some_and(|bytes| {
+        let mut file = FileBytes::new(bytes.as_slice());
+        let mut writer = Counted::new(Vec::new(alloc));
+        show_file(alloc, &mut writer, &mut file, opts) == outcome && file.names.count() == looks
+    })
+}
+
+// A strict table of four bytes takes four looks. A name in it takes one at its first byte, one at each byte up to and with the zero
+// byte, and one at each of its own bytes. A table that is no text is tested once, and then from its last string before the fault.
+#[test]
+fn counts_the_looks_of_a_file(rt: HostRuntime) {
+    assert!(rt; takes(rt.alloc(), &STRICT, NAMES, &[], Outcome::Shown, 4 + 2 + 6));
+    assert!(rt; takes(rt.alloc(), &PERMISSIVE, NAMES, &[], Outcome::Shown, 2 + 6));
+    assert!(rt; takes(rt.alloc(), &STRICT, SYMBOLS, &[], Outcome::Shown, 4 + 2 + 4));
+    assert!(rt;
+        takes(
+            rt.alloc(),
+            &STRICT,
+            SYMBOLS,
+            &[(54, 0xff)],
+            Outcome::Refused,
+            4 + 4 + 1
+        )
+    );
+    assert!(rt; takes(rt.alloc(), &STRICT, BIG, &[], Outcome::Shown, 0));
 }
 
 #[test]
