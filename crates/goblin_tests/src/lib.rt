@@ -7,6 +7,8 @@ mod constants;
 #[cfg(test)]
 mod container;
 #[cfg(test)]
+mod cost;
+#[cfg(test)]
 mod entries;
 #[cfg(test)]
 mod error;

@@ -1,0 +1,117 @@
+//! Calls over large tables of zero bytes, which are empty strings, and records whose fields are 0. Each takes a time in
+//! proportion to its table: one that read for each item all that lies before it would take longer than the 60 seconds that
+//! a test has.
+use crate::container::LITTLE32;
+use crate::told::{differs, is};
+use goblin::elf::note::NoteDataIterator;
+use goblin::elf::reloc::RelocSection;
+use goblin::elf::section_header::SectionHeader;
+use goblin::elf::sym::Symtab;
+use goblin_base::options::ParseOptions;
+use goblin_base::strtab::Strtab;
+
+// Whether a table lists as many strings as it has bytes.
+fn lists(rt: HostRuntime, table: &Strtab<'_>) -> bool {
+    match table.to_vec(rt.alloc()) {
+        Ok(strings) => is(rt, strings.len(), table.len()),
+        Err(e) => differs(rt, &e, &table.len()),
+    }
+}
+
+// Whether a table that is parsed by these options lists as many strings as it has bytes.
+fn parses(rt: HostRuntime, bytes: &[u8], opts: &ParseOptions) -> bool {
+    match Strtab::parse_with_opts(rt.alloc(), bytes, 0, bytes.len(), 0, opts) {
+        Ok(table) => lists(rt, &table),
+        Err(e) => differs(rt, &e, &bytes.len()),
+    }
+}
+
+// Whether so many zero bytes are as many strings, parsed and not.
+fn lists_zeros(rt: HostRuntime, count: usize) -> bool {
+    match vec![in rt.alloc(); 0u8; count] {
+        Ok(bytes) => {
+            lists(rt, &Strtab::new(&bytes, 0))
+                && parses(rt, &bytes, &ParseOptions::strict())
+                && parses(rt, &bytes, &ParseOptions::permissive())
+        }
+        Err(e) => differs(rt, &e, &count),
+    }
+}
+
+#[test]
+fn lists_a_million_strings(rt: HostRuntime) {
+    assert!(rt; lists_zeros(rt, 1000000));
+}
+
+// Whether these bytes have a symbol at each index, and none at an address.
+fn gets_symbols(rt: HostRuntime, bytes: &[u8]) -> bool {
+    let Ok(symbols) = Symtab::parse(bytes, 0, bytes.len() / 16, LITTLE32) else {
+        return differs(rt, &"no table", &bytes.len());
+    };
+    for index in 0..symbols.len() {
+        if symbols.get(index).is_none() {
+            return differs(rt, &"no symbol", &index);
+        }
+    }
+    is(
+        rt,
+        (symbols.iter().count(), symbols.at(0)),
+        (bytes.len() / 16, None),
+    )
+}
+
+// Whether these bytes have a relocation at each index.
+fn gets_relocs(rt: HostRuntime, bytes: &[u8]) -> bool {
+    let Ok(relocs) = RelocSection::parse(bytes, 0, bytes.len(), false, LITTLE32) else {
+        return differs(rt, &"no relocations", &bytes.len());
+    };
+    for index in 0..relocs.len() {
+        if relocs.get(index).is_none() {
+            return differs(rt, &"no relocation", &index);
+        }
+    }
+    is(rt, relocs.iter().count(), bytes.len() / 8)
+}
+
+// Whether the bytes after the first 40 have a section header at each index.
+fn gets_sections(rt: HostRuntime, bytes: &[u8]) -> bool {
+    let count = (bytes.len() / 40).saturating_sub(1);
+    let Ok(sections) = SectionHeader::table(bytes, 40, count, LITTLE32) else {
+        return differs(rt, &"no sections", &count);
+    };
+    for index in 0..count {
+        if sections.get(index).is_none() {
+            return differs(rt, &"no section", &index);
+        }
+    }
+    is(rt, sections.iter().count(), count)
+}
+
+// Whether these bytes are notes of 12 bytes.
+fn gets_notes(rt: HostRuntime, bytes: &[u8]) -> bool {
+    let notes = NoteDataIterator {
+        bytes,
+        size: bytes.len(),
+        offset: 0,
+        ctx: (4, LITTLE32),
+    };
+    is(rt, notes.count(), bytes.len() / 12)
+}
+
+// Whether so many zero bytes are records of each kind.
+fn gets_zeros(rt: HostRuntime, size: usize) -> bool {
+    match vec![in rt.alloc(); 0u8; size] {
+        Ok(bytes) => {
+            gets_symbols(rt, &bytes)
+                && gets_relocs(rt, &bytes)
+                && gets_sections(rt, &bytes)
+                && gets_notes(rt, &bytes)
+        }
+        Err(e) => differs(rt, &e, &size),
+    }
+}
+
+#[test]
+fn gets_each_record_of_some_megabytes(rt: HostRuntime) {
+    assert!(rt; gets_zeros(rt, 3600000));
+}
