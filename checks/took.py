@@ -6,8 +6,8 @@
     python3 checks/took.py part NAME COMMAND ..    runs a part, and notes in ROOM what it took
     python3 checks/took.py unit                    a part that only makes the proof of one unit
 
-Processor seconds depend on the machine and on what runs beside. A unit does so too: it is the processor seconds of a small proof
-that each run makes from nothing, of a crate that the toolchain brings. So units compare runs on different machines.
+Processor seconds depend on the machine and on what runs beside. So does a unit: it is the processor seconds of a small proof that
+each run makes from nothing, of a crate that the toolchain brings. So units compare runs on different machines.
 """
 import os
 import resource
@@ -37,43 +37,41 @@ def part(name, command):
 
 
 def unit():
-    """Proves a crate that the toolchain brings, from nothing."""
+    """Proves a crate that the toolchain brings, from nothing: no other check has kept anything of one of that name."""
     with tempfile.TemporaryDirectory(prefix='unit-') as folder:
-        crate = f'{folder}/one_unit'
-        made = subprocess.run(['rt', 'new', crate, 'start_io'], capture_output=True, text=True)
-        if made.returncode:
-            print(made.stdout + made.stderr)
-            return made.returncode
-        with open(f'{folder}/said', 'w+', encoding='utf-8') as said:
-            status = part(UNIT, ['sh', '-c', f'cd {crate} && rt check --jobs 1 > {folder}/said 2>&1'])
-            text = said.read()
-    if status or 'logic=proved' not in text:
-        print(f'{text}\ntook: the proof of one unit failed')
-        return 1
-    return 0
+        crate, said = f'{folder}/unit_{os.getpid()}', f'{folder}/said'
+        status = subprocess.run(['rt', 'new', crate, 'start_io'], stdout=subprocess.DEVNULL).returncode
+        status = status or part(UNIT, ['sh', '-c', f'cd {crate} && rt check --jobs 1 > {said} 2>&1'])
+        if status:
+            if os.path.isfile(said):
+                with open(said, encoding='utf-8') as text:
+                    print(text.read())
+            print('took: the proof of one unit failed')
+    return status
 
 
-def tell(room, minutes, seconds):
-    """Prints the table of the parts, in the order in which they began."""
-    rows = []
-    if os.path.isfile(f'{room}/parts'):
-        with open(f'{room}/parts', encoding='utf-8') as parts:
-            rows = sorted([float(it) for it in line.split('\t')[:3]] + [line.split('\t')[3].strip()] for line in parts)
-    proof = next((row[2] for row in rows if row[3] == UNIT), 0)
-    units = lambda of: f'{of / proof:7.1f}' if proof else '      -'
-    print(f'{"part":<12} {"from":>6} {"to":>6} {"processor minutes":>18} {"units":>7}')
-    for begun, ended, of, name in rows:
-        print(f'{name:<12} {(begun - rows[0][0]) / 60:6.1f} {(ended - rows[0][0]) / 60:6.1f} {of / 60:18.1f} {units(of)}')
-    print(f'{"all":<12} {0:6.1f} {minutes:6.1f} {seconds / 60:18.1f} {units(seconds)}')
-    if proof:
-        print(f'one unit, a small proof made beside the others, took {proof:.1f} processor seconds')
+def parts_in(room):
+    """The parts that ran: the name of each, when it began and ended, and its processor seconds."""
+    if not os.path.isfile(f'{room}/parts'):
+        return []
+    with open(f'{room}/parts', encoding='utf-8') as lines:
+        words = [line.rstrip('\n').split('\t') for line in lines]
+    return [(name, float(begun), float(ended), float(seconds)) for begun, ended, seconds, name in words]
 
 
 def whole(command):
+    """Runs a command, and prints a line for each part of it, in the order in which they began, and one for all."""
     start = time.time()
     with tempfile.TemporaryDirectory(prefix='took-') as room:
         status = subprocess.run(command, env={**os.environ, 'ROOM': room}).returncode
-        tell(room, (time.time() - start) / 60, used())
+        parts = parts_in(room)
+    proof = next((seconds for name, _, _, seconds in parts if name == UNIT), None)
+    print(f'{"part":<12} {"from":>6} {"to":>6} {"processor minutes":>18} {"units":>7}')
+    for name, begun, ended, seconds in [*sorted(parts, key=lambda it: it[1]), ('all', start, time.time(), used())]:
+        units = f'{seconds / proof:.1f}' if proof else '-'
+        print(f'{name:<12} {(begun - start) / 60:6.1f} {(ended - start) / 60:6.1f} {seconds / 60:18.1f} {units:>7}')
+    if proof:
+        print(f'one unit, a small proof made beside the others, took {proof:.1f} processor seconds')
     print('all passed' if status == 0 else 'FAILED, as said above', flush=True)
     return status
 
