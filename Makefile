@@ -34,10 +34,10 @@ gate:
 	$(has_rt)
 	@python3 checks/took.py whole $(MAKE) --no-print-directory -j1 tested tried left
 
-# First what takes seconds. Then side by side, so that two processors have work up to the end: every proof that the toolchain hasn't
-# kept on this machine, with the must-fail edits, the tests and the stored runs, and after it the program's words, real files, and
-# what hostile files may take; the library for C, which is proved in a copy, since `rt ci` holds the crates' folders, and then called from C,
-# Rust and JavaScript; and allocations that fail.
+# First what takes seconds. Then side by side, so that two processors have work up to the end: every proof that the toolchain
+# hasn't kept on this machine, with the must-fail edits, the tests and the stored runs, and after it the program's words, real
+# files, and what hostile files may take; the library for C, which is proved in a copy, since `rt ci` holds the crates' folders, and
+# then called from C, Rust and JavaScript; and allocations that fail.
 tested:
 	sh checks/quotes.sh
 	sh checks/lint.sh
