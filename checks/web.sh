@@ -38,6 +38,7 @@ open_page() {
     if [ -z "$browser" ] || ! command -v readelf > "$folder/output" 2>&1; then
         echo "no $name and readelf here: the page is not opened in $name"
     else
+        # shellcheck disable=SC2086 # (no option is no word)
         node $option faces/web/browser.mjs "$name" "$browser" "$web/index.html" "$dump" "$made" /bin/true
     fi
 }
