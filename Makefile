@@ -99,6 +99,7 @@ edits:
 # Checks each crate with half of the search's limits, and lists the functions that stay open and the ten slowest: make margin;
 # make margin CRATES=goblin_base
 margin:
+	$(has_rt)
 	@python3 checks/margin.py $(CRATES)
 
 # Times the program, once it is built, over files that ask for much work, and over a FILE: make bench FILE=/bin/true
@@ -126,5 +127,5 @@ uninstall:
 dist:
 	@sh faces/install.sh --archive
 
-.PHONY: help try show test gate tested tried left proved words files limits called refused unit edited planted faces edits margin bench \
-    bench-faces install uninstall dist
+.PHONY: help try show test gate tested tried left proved words files limits called refused unit edited planted faces edits margin \
+    bench bench-faces install uninstall dist
