@@ -72,9 +72,9 @@ async function bytes_shown() {
 }
 
 async function search(text, shown) {
-    await evaluate(`(() => { const box = document.querySelector('#panel input'); box.value = ${quoted(text)};
+    await evaluate(`(() => { document.querySelector('#panel output').textContent = ''; const box = document.querySelector('#panel input'); box.value = ${quoted(text)};
         box.dispatchEvent(new Event('input')); })()`);
-    await until(`document.querySelector('#panel output').textContent === ${quoted(shown)} && (${drawn})`);
+    await until(`document.querySelector('#panel output').textContent === ${quoted(shown)} && (${drawn} || ${quoted(shown)} === 'none')`);
 }
 
 async function go_by_field(text) {
@@ -184,6 +184,10 @@ async function check_unknown(content) {
     await evaluate(`document.getElementById('tab-relocations').click()`);
     await until(`document.getElementById('panel').textContent.endsWith('Not listed are the packed relocations (SHT_RELR) of .relr.dyn')`);
     assert.equal(await text_of('#tab-relocations span'), '0+');
+    // (a place may name a section that is no such list, in which nothing is found)
+    await evaluate(`void (location.hash = 'symbols/1')`);
+    await until(`document.querySelector('#panel .notice')?.textContent === 'Section 1 holds no symbols.'`);
+    await search('a', 'none');
     // (a note whose owner is no text is refused, and those after it are not read)
     await open_tab('notes');
     assert.equal(await text_of('#tab-notes span'), '1+');
@@ -264,13 +268,13 @@ async function check_loading(content) {
     await browser.pick('#pick', large);
     await until(is_busy);
     for (let row = 1; row < 4; row++) {
-        const { title, name } = await evaluate(`(async () => {
+        const name = await evaluate(`(() => {
             const row = document.querySelectorAll('#panel .body .row')[${row}];
             row.children[1].click();
-            await new Promise((resume) => setTimeout(resume, 60));
-            return { title: document.querySelector('#chosen h2').textContent, name: row.children[1].textContent };
+            return ${is_busy} && row.children[1].textContent;
         })()`);
-        assert.equal(title, name);
+        assert.ok(name, 'the file is read before its test is done');
+        await until_chosen(name);
     }
     await until(`document.body.classList.contains('dimmed')`);
     assert.match(await text_of('#loading'), /^Reading large: [\d,]+ MB of 400 MB left$/);
@@ -292,6 +296,13 @@ async function check_symbol_links() {
     await go(`symbols/${sections['.symtab'].index}/${main.index}`, 'main');
     const at = main.value - text[1].address + text[1].offset, shown = await bytes_shown();
     assert.ok(shown.length > 40 && bytes_of(dump, at, main.size).startsWith(shown), shown);
+    // (one without a size has those from its place on)
+    const label = symbols_of(dump).find(({ type, size, section }) => type === 'NOTYPE' && size === 0 && section === `${sections['.data'].index}`);
+    await go(`symbols/${sections['.symtab'].index}/${label.index}`, label.name);
+    const from = label.value - sections['.data'].address + sections['.data'].offset;
+    assert.ok((await bytes_shown()).length > 0);
+    assert.ok(bytes_of(dump, from, 16).startsWith(await bytes_shown()), label.name);
+    await go(`symbols/${sections['.symtab'].index}/${main.index}`, 'main');
     await follow('address');
     await until_chosen(`address 0x${main.value.toString(16)}`);
     assert.match(await side(), /segment \d+, LOAD/);
@@ -470,6 +481,13 @@ async function check_copies() {
         return evaluate('globalThis.copied');
     };
     assert.equal(await copied('Copy cell'), 'main');
+    assert.equal(await evaluate(`(() => {
+        const grid = document.querySelector('#panel .grid');
+        const event = new ClipboardEvent('copy', { clipboardData: new DataTransfer(), bubbles: true, cancelable: true });
+        grid.focus();
+        grid.dispatchEvent(event);
+        return event.clipboardData.getData('text/plain');
+    })()`), 'main');
     assert.match(await copied('Copy row'), new RegExp(`^${main.index}\tmain\t0x${main.value.toString(16)}\t${main.size}\tFUNC\tGLOBAL\tDEFAULT\t\\.text$`));
     const text = sections_of(dump)['.text'], at = main.value - text.address + text.offset;
     assert.equal((await copied('Copy hex')).replaceAll(' ', ''), bytes_of(dump, at, main.size));

@@ -35,6 +35,8 @@ function block(word, range, refused) {
     return told.offset === undefined ? { word, ...told } : { word, at: Number(told.offset), size: Number(told.size) };
 }
 
+const from_place = (section) => (section === undefined ? 'from its place on' : `from its place in ${called(section)} on`);
+
 const to_section_number = (index) => (index > 0 && section_at(index) ? to_section(index) : undefined);
 
 // What the sh_info of a section leads to: a section, or the symbol after the last local one, or that by which a group is known.
@@ -125,7 +127,8 @@ function symbol_details(item, index, table) {
                 of === undefined ? undefined : to_section_number(of)),
         ],
         blocks: [
-            ...(place ? [{ word: `bytes in ${called(of)}`, at: place.at, size: place.size }] : []), entry(table, index, 'symbol'),
+            ...(place ? [{ word: st_size ? `bytes in ${called(of)}` : from_place(of), at: place.at, size: place.size }] : []),
+            entry(table, index, 'symbol'),
         ],
     };
 }
@@ -135,7 +138,6 @@ function relocation_details(item, index, of) {
     const place = place_of_relocation(section, item), name = symbol_of_relocation(section.sh_link, item);
     const target = !has_addresses() && place ? { ...to_offset(place.at), text: behind(called(place.section), place.from) } : undefined;
     const changed = has_addresses() ? symbol_of_address(r_offset) : undefined;
-    const word = place?.section === undefined ? 'from its place on' : `from its place in ${called(place.section)} on`;
     return {
         title: name || labels.relocation_type(r_type), what: `relocation ${count(index)} of ${called(of)}`, kind: 'relocations',
         fields: [
@@ -144,7 +146,7 @@ function relocation_details(item, index, of) {
             field('r_sym', r_sym, '', symbol_link(section.sh_link, r_sym)), field('r_addend', addend(item)),
         ],
         blocks: [
-            ...(place ? [{ word, at: place.at, size: place.size }] : []),
+            ...(place ? [{ word: from_place(place.section), at: place.at, size: place.size }] : []),
             entry(of, index, item.r_addend === undefined ? 'rel' : 'rela'),
         ],
     };

@@ -120,7 +120,7 @@ function show_part(part, file, ...words) {
     get('trouble').hidden = true;
     document.body.classList.remove('chosen');
     document.title = `${visible(file.name)}: goblin`;
-    get('file').replaceChildren(put_text(make('b'), file.name), make('span', {}, plural(file.size, 'byte')),
+    get('file').replaceChildren(put_text(make('b', { title: visible(file.name) }), file.name), make('span', {}, plural(file.size, 'byte')),
         ...words.map((word) => make('span', {}, word)));
 }
 
@@ -151,6 +151,7 @@ async function show_refusal(file, reader, { refused, start }) {
         lines_of(start, 0, innerWidth < 600 ? 8 : 16, (byte) => byte < MAGIC.length && start[byte] !== MAGIC[byte]),
     ];
     if (shown_file.reader !== reader) return;
+    if (!is_elf) box.querySelector('pre').remove();
     show_part('refused', file);
     get('refused').replaceChildren(...words, ...box.childNodes);
 }

@@ -58,11 +58,15 @@ export function address_of_symbol({ st_value, st_info }) {
     return threads ? threads.segment.p_vaddr + st_value : st_value;
 }
 
-/** The bytes of the file that a symbol stands for, or nothing where it has none there. */
+// How many bytes are shown of a symbol whose size isn't known, and from the place of a relocation on: how many that changes is its
+// type's matter.
+const UNSIZED = 16n, PLACE = 8n;
+
+/** The bytes of the file that a symbol stands for, or some where its size isn't known, or nothing where it has none there. */
 export function bytes_of_symbol(table, index, symbol) {
     const of = section_of_symbol(table, index, symbol), section = of === undefined ? undefined : section_at(of);
     if (!section || section.sh_type === goblin.SHT_NOBITS) return undefined;
-    return bytes_in(section, of, address_of_symbol(symbol) - (has_addresses() ? section.sh_addr : 0n), symbol.st_size);
+    return bytes_in(section, of, address_of_symbol(symbol) - (has_addresses() ? section.sh_addr : 0n), symbol.st_size || UNSIZED);
 }
 
 // So many bytes from a place of a section on, as far as these lie in it.
@@ -73,9 +77,6 @@ function bytes_in(section, index, from, size) {
 }
 
 // ---- relocations ----
-
-/** How many bytes are shown from the place of a relocation on: how many it changes is its type's matter. */
-const PLACE = 8n;
 
 /** The bytes at the place that a relocation changes, or nothing where it has none in the file. */
 export function place_of_relocation({ sh_info }, { r_offset }) {

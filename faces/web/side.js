@@ -1,5 +1,5 @@
 // The side: what is chosen, with fields that lead on, and its bytes.
-import { button, get, hex, make, plural, put_text } from './dom.js';
+import { button, get, hex, make, plural, put_text, visible } from './dom.js';
 import { copy_hex, hex_view, refusal_of } from './hex.js';
 import { colour } from './map.js';
 import { ask } from './reader.js';
@@ -29,7 +29,7 @@ async function bytes_box(blocks) {
     let current;
     const content = make('div', { class: 'content' });
     const copying = button('Copy hex', () => copy_hex(current.at, current.size), { class: 'copy' });
-    const choices = blocks.map((block) => put_text(button('', () => show(block), { 'aria-pressed': 'false' }), block.word));
+    const choices = blocks.map((block) => put_text(button('', () => show(block), { 'aria-pressed': 'false', title: visible(block.word) }), block.word));
     const show = async (block) => {
         current = block;
         choices.forEach((choice, i) => choice.setAttribute('aria-pressed', blocks[i] === block));

@@ -12,36 +12,43 @@ const left = (title, hint, least, share) => ({ title, hint, least, wide: wide(le
 const right = (...given) => ({ ...left(...given), is_right: true });
 const place = (least) => ({ ...right('#', 'index', least), is_dim: true });
 
+// The columns of each list, where numbers of some kinds are so wide.
 const COLUMNS = {
-    sections: [
-        place(30), left('Name', 'sh_name', 110, 2), left('Type', 'sh_type', 92, 1), right('Address', 'sh_addr', 74, 0.6),
-        right('Offset', 'sh_offset', 60, 0.3), right('Size', 'sh_size', 60, 0.3), left('Flags', 'sh_flags', 116, 1.3),
-        right('Link', 'sh_link', 32), right('Info', 'sh_info', 32), right('Align', 'sh_addralign', 36), right('Entry', 'sh_entsize', 36),
+    sections: ({ address, offset, align, index }) => [
+        place(30), left('Name', 'sh_name', 110, 2), left('Type', 'sh_type', 92, 1), right('Address', 'sh_addr', address, 0.4),
+        right('Offset', 'sh_offset', offset, 0.3), right('Size', 'sh_size', offset, 0.3), left('Flags', 'sh_flags', 116, 1.3),
+        right('Link', 'sh_link', index), right('Info', 'sh_info', index), right('Align', 'sh_addralign', align), right('Entry', 'sh_entsize', 36),
     ],
-    segments: [
-        place(40), left('Type', 'p_type', 104, 1), left('Flags', 'p_flags', 46), right('Offset', 'p_offset', 74, 0.5),
-        right('File size', 'p_filesz', 74, 0.5), right('Address', 'p_vaddr', 106, 1), right('Memory size', 'p_memsz', 84, 0.5),
-        right('Physical', 'p_paddr', 106, 1), right('Align', 'p_align', 66),
+    segments: ({ address, offset }) => [
+        place(40), left('Type', 'p_type', 104, 1), left('Flags', 'p_flags', 46), right('Offset', 'p_offset', offset, 0.5),
+        right('File size', 'p_filesz', offset, 0.5), right('Address', 'p_vaddr', address, 1), right('Memory size', 'p_memsz', Math.max(offset, 80), 0.5),
+        right('Physical', 'p_paddr', address, 1), right('Align', 'p_align', 66),
     ],
-    symbols: [
-        place(48), left('Name', 'st_name', 180, 2), right('Value', 'st_value', 110, 0.6), right('Size', 'st_size', 62),
+    symbols: ({ address }) => [
+        place(48), left('Name', 'st_name', 180, 2), right('Value', 'st_value', address, 0.6), right('Size', 'st_size', 62),
         left('Type', 'st_info, its low four bits', 74), left('Binding', 'st_info, its high four bits', 64),
         left('Visibility', 'st_other', 78), left('Section', 'st_shndx', 90, 0.5),
     ],
-    relocations: [
-        place(48), right('Offset', 'r_offset', 110, 0.6), left('Type', 'r_type', 190, 1), left('Symbol', 'the name of r_sym', 160, 2),
-        right('Addend', 'r_addend', 90, 0.6), right('Index', 'r_sym', 56),
+    relocations: ({ address }) => [
+        place(48), right('Offset', 'r_offset', address, 0.6), left('Type', 'r_type', 190, 1), left('Symbol', 'the name of r_sym', 160, 2),
+        right('Addend', 'r_addend', address, 0.6), right('Index', 'r_sym', 56),
     ],
-    notes: [
+    notes: () => [
         place(40), left('From', 'the section or segment', 120, 1), left('Owner', 'the name', 72, 0.6), left('Type', 'n_type', 130, 0.8),
         right('Thread', 'of a core', 60), right('Size', 'n_descsz', 56), left('Descriptor', 'its first bytes', 160, 2),
     ],
-    layout: [
-        place(56), right('From', 'offset', 88), right('To', 'offset', 88), right('Bytes', 'size', 96), right('Share', 'of the file', 72),
+    layout: ({ offset }) => [
+        place(56), right('From', 'offset', offset), right('To', 'offset', offset), right('Bytes', 'size', 96), right('Share', 'of the file', 72),
         left('What', 'the piece that is drawn', 160, 2), left('Overlap', 'how many pieces lie there', 120, 1),
     ],
 };
 export const is_list = (name) => Object.hasOwn(COLUMNS, name);
+
+// The columns of a list of the file that is shown: no number of it is cut, but of damaged files some.
+function columns_of(name) {
+    const { address, offset, align, index } = shown_file.told.signs, room = (signs, least) => Math.max(Math.ceil(7.6 * signs) + 1, least);
+    return COLUMNS[name]({ address: room(address, 60), offset: room(offset, 60), align: room(Math.min(align, 10), 36), index: room(index, 32) });
+}
 
 // The list that is open: its tab, of which section or by what, and its grid; and the header's rows.
 let open = { name: undefined };
@@ -174,7 +181,7 @@ async function list_panel(mine, wanted) {
     const longest = list.reduce((best, item) => (weight(item) > weight(best) ? item : best));
     mine.of = wanted ?? longest.of;
     Object.assign(mine, { list, query: '', column: 0, is_descending: false, output: make('output', {}), below: make('div', { class: 'notice' }) });
-    mine.grid = new Grid(name, COLUMNS[name], {
+    mine.grid = new Grid(name, columns_of(name), {
         rows: (from, size) => ask('rows', { list: name, from, size }),
         chosen: (at, is_step) => go_to_row(mine, at, is_step), opened: (at) => open_row(mine, at),
         sorted: (column, is_descending) => { Object.assign(mine, { column, is_descending }); refresh(mine); },
@@ -193,12 +200,20 @@ async function refresh(mine) {
     };
     const view = await ask('view', { list: name, of, query, column, is_descending });
     if (view.is_over) return;
-    const refusals = name === 'notes' ? await note_refusals(of) : view.refused ? [await refusal_of(view.refused)] : others_of(name);
-    const none = view.is_none ? [make('p', { class: 'empty' }, `Section ${of} holds no ${name}.`)] : [];
-    below.replaceChildren(...refusals, ...none);
-    grid.box.hidden = Boolean(view.refused || view.is_none);
-    output.textContent = view.refused ? 'refused' : query ? `${number(view.length)} of ${number(view.all)}` : number(view.all ?? 0);
-    grid.show(grid.box.hidden ? 0 : view.length);
+    below.replaceChildren(...await notices_of(mine, view));
+    const is_shown = !view.refused && !view.is_none;
+    grid.box.hidden = !is_shown;
+    output.textContent = view.refused ? 'refused' : view.is_none ? 'none' : count_of(view, query);
+    grid.show(is_shown ? view.length : 0);
+}
+
+const count_of = ({ length, all }, query) => (query ? `${number(length)} of ${number(all)}` : number(all));
+
+// What is said of a list that is refused, or isn't there, or lacks items.
+async function notices_of({ name, of }, { refused, is_none }) {
+    if (name === 'notes') return note_refusals(of);
+    if (is_none) return [make('p', { class: 'empty' }, `Section ${of} holds no ${name}.`)];
+    return refused ? [await refusal_of(refused)] : others_of(name);
 }
 
 // What is said of the sections of relocations that are not listed.
@@ -295,7 +310,7 @@ function copy_active(grid, of, what) {
 async function save({ name, output }) {
     const { reader, title } = shown_file, before = output.textContent;
     reader.on_progress = ({ progress, done }) => { if (progress === 'csv') output.textContent = `saving … ${Math.floor(100 * done)} %`; };
-    const content = await ask('csv', { list: name, titles: COLUMNS[name].map(({ title: column }) => column) });
+    const content = await ask('csv', { list: name, titles: columns_of(name).map(({ title: column }) => column) });
     output.textContent = before;
     const link = make('a', { href: URL.createObjectURL(content), download: `${visible(title)}.${name}.csv` });
     link.click();

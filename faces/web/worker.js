@@ -63,6 +63,19 @@ function map() {
     return { starts: Float64Array.from(starts), kinds, depths: Uint32Array.from(depths), segments: loaded, KINDS };
 }
 
+// How many signs the longest number of some kinds has.
+function signs() {
+    let address = 0n, align = 0n, index = 0;
+    const raise = (end) => { if (end > address && end < 1n << 64n) address = end; };
+    for (const { section } of sections()) {
+        raise(section.sh_addr + section.sh_size);
+        if (section.sh_addralign > align) align = section.sh_addralign;
+        index = Math.max(index, section.sh_link, section.sh_info);
+    }
+    for (const { segment } of segments()) raise(segment.p_vaddr + segment.p_memsz);
+    return { address: hex(address).length, offset: hex(file.content.length).length, align: `${align}`.length, index: `${index}`.length };
+}
+
 function overview() {
     const { elf } = file, { header } = elf;
     const headers = {
@@ -79,7 +92,7 @@ function overview() {
         symbols: refused ? { refused } : tables(SYMBOL_TYPES, (section, index) => symtab_at(index)),
         relocations: refused ? { refused } : { ...tables(RELOCATION_TYPES, (section) => elf.relocs(section)), others: packed_relocations() },
         notes: { sections: notes_told('sections', headers.sections), segments: notes_told('segments', headers.segments) },
-        map: map(),
+        map: map(), signs: signs(),
     };
 }
 
