@@ -26,11 +26,10 @@ fi
 size=$(wc -c < "$web/index.html")
 if [ "$size" -gt 300000 ]; then echo "the page has $size bytes"; exit 1; fi
 
-# Opens the page in a browser, the first that there is of some commands: open_page NAME OPTION COMMAND.., with an option for node.
+# Opens the page in a browser, the first that there is of some commands: open_page NAME COMMAND..
 open_page() {
     name=$1
-    option=$2
-    shift 2
+    shift
     for browser in "$@"; do
         if command -v "$browser" > "$folder/output" 2>&1; then break; fi
         browser=
@@ -38,19 +37,10 @@ open_page() {
     if [ -z "$browser" ] || ! command -v readelf > "$folder/output" 2>&1; then
         echo "no $name and readelf here: the page is not opened in $name"
     else
-        # shellcheck disable=SC2086 # (no option is no word)
-        node $option faces/web/browser.mjs "$name" "$browser" "$web/index.html" "$dump" "$made" /bin/true
+        node faces/web/browser.mjs "$name" "$browser" "$web/index.html" "$dump" "$made" /bin/true
     fi
 }
 
 made=$(dirname "$1")
-open_page chromium '' chromium chromium-browser google-chrome
-# (Firefox is spoken to by a socket, which older ones of node have by a word alone, and still older ones not)
-sockets='process.exit(typeof WebSocket === "function" ? 0 : 1)'
-option=
-if ! node -e "$sockets"; then option=--experimental-websocket; fi
-if node $option -e "$sockets" 2> "$folder/output"; then
-    open_page firefox "$option" firefox firefox-esr
-else
-    echo "node has no WebSocket here: the page is not opened in firefox"
-fi
+open_page chromium chromium chromium-browser google-chrome
+open_page firefox firefox firefox-esr

@@ -1,7 +1,9 @@
 // Headless browsers for the page's test, each with the same calls: Chromium, spoken to by its pipe, and Firefox, by its socket.
 // Both hear of every request and of every fault of a script, pick files as a person does, and press keys.
 import { spawn } from 'node:child_process';
+import { randomBytes } from 'node:crypto';
 import { mkdirSync, writeFileSync } from 'node:fs';
+import { request } from 'node:http';
 import { join } from 'node:path';
 
 // Answers to what was asked, by the numbers of what was asked.
@@ -22,6 +24,61 @@ class Calls {
         const { resolve, reject } = this.#waiting.get(id);
         this.#waiting.delete(id);
         if (error) reject(new Error(message ?? error.message)); else resolve(result);
+    }
+}
+
+// A WebSocket that sends and receives texts (RFC 6455). Node 20 has none without an option, and with it one that stops after 4,096
+// messages.
+class Socket {
+    #rest = Buffer.alloc(0);
+    #parts = [];
+
+    constructor(receive) { this.receive = receive; }
+
+    connect(url) {
+        const headers = {
+            Connection: 'Upgrade', Upgrade: 'websocket', 'Sec-WebSocket-Key': randomBytes(16).toString('base64'), 'Sec-WebSocket-Version': 13,
+        };
+        return new Promise((resolve, reject) => {
+            request(url.replace(/^ws:/, 'http:'), { headers }).on('error', reject).on('upgrade', (response, stream, head) => {
+                this.stream = stream;
+                stream.on('data', (data) => this.#read(data)).on('error', () => {});
+                this.#read(head);
+                resolve();
+            }).end();
+        });
+    }
+
+    // A text in one frame, masked as those of clients are.
+    send(text) {
+        const content = Buffer.from(text), { length } = content, mask = randomBytes(4);
+        const head = length < 126 ? Buffer.from([0x81, 0x80 | length]) : Buffer.alloc(length < 0x10000 ? 4 : 10);
+        if (length >= 126) head.writeUInt16BE(0x8180 | (length < 0x10000 ? 126 : 127));
+        if (length >= 0x10000) head.writeBigUInt64BE(BigInt(length), 2); else if (length >= 126) head.writeUInt16BE(length, 2);
+        for (let at = 0; at < length; at++) content[at] ^= mask[at % 4];
+        this.stream.write(Buffer.concat([head, mask, content]));
+    }
+
+    // Takes the frames that have come whole, which a server doesn't mask.
+    #read(data) {
+        this.#rest = Buffer.concat([this.#rest, data]);
+        for (;;) {
+            const rest = this.#rest, short = rest[1], start = short === 127 ? 10 : short === 126 ? 4 : 2;
+            if (rest.length < start) return;
+            const length = short === 127 ? Number(rest.readBigUInt64BE(2)) : short === 126 ? rest.readUInt16BE(2) : short;
+            if (rest.length < start + length) return;
+            this.#rest = rest.subarray(start + length);
+            this.#take(rest[0], rest.subarray(start, start + length));
+        }
+    }
+
+    // A frame: the start of a text or more of it, where it is no ping or the like.
+    #take(first, content) {
+        if ((first & 0x0f) > 1) return;
+        this.#parts.push(content);
+        if (!(first & 0x80)) return;
+        const text = Buffer.concat(this.#parts.splice(0)).toString();
+        this.receive(text);
     }
 }
 
@@ -161,10 +218,9 @@ export class Firefox extends Browser {
         writeFileSync(join(this.profile, 'user.js'), lines.join(''));
         const options = ['--headless', '--no-remote', '--remote-debugging-port', '0', '--profile', this.profile, 'about:blank'];
         this.process = spawn(program, options, { stdio: ['ignore', 'ignore', 'pipe'], env: { ...process.env, HOME: this.profile } });
-        this.socket = new WebSocket(`${await this.#address()}/session`);
-        await new Promise((resolve, reject) => { this.socket.onopen = resolve; this.socket.onerror = reject; });
-        this.calls = new Calls((message) => this.socket.send(JSON.stringify(message)));
-        this.socket.onmessage = ({ data }) => this.#receive(JSON.parse(data));
+        const socket = new Socket((text) => this.#receive(JSON.parse(text)));
+        await socket.connect(`${await this.#address()}/session`);
+        this.calls = new Calls((message) => socket.send(JSON.stringify(message)));
         await this.#ask('session.new', { capabilities: {} });
         await this.#ask('session.subscribe', { events: ['network.beforeRequestSent', 'log.entryAdded'] });
         this.tab = (await this.#ask('browsingContext.getTree')).contexts[0].context;

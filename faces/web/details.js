@@ -67,11 +67,13 @@ function section_details(item, index) {
     return {
         title: called(index, item), what: `section ${count(index)}`, kind: kind_of(item),
         fields: [
-            field('sh_name', hex(sh_name)), field('sh_type', hex(sh_type), prefixed('SHT_', labels.section_type(sh_type)), list_of(item, index)),
+            field('sh_name', hex(sh_name)),
+            field('sh_type', hex(sh_type), prefixed('SHT_', labels.section_type(sh_type)), list_of(item, index)),
             field('sh_flags', hex(sh_flags), labels.section_flags(sh_flags)),
             field('sh_addr', hex(sh_addr), '', sh_flags & 2n ? at_address(sh_addr) : undefined),
             field('sh_offset', hex(sh_offset), '', at_offset(sh_offset)), field('sh_size', hex(sh_size), bytes_word(sh_size)),
-            field('sh_link', sh_link, '', to_section_number(sh_link)), field('sh_info', sh_info, INFO_WORDS[sh_type] ?? '', info_link(item)),
+            field('sh_link', sh_link, '', to_section_number(sh_link)),
+            field('sh_info', sh_info, INFO_WORDS[sh_type] ?? '', info_link(item)),
             field('sh_addralign', sh_addralign), field('sh_entsize', sh_entsize),
         ],
         blocks: [block('bytes', () => file.elf.section_range(item), (error) => section_refusal(error, 'the bytes', index)), header],
@@ -97,14 +99,16 @@ function segment_details(item, index) {
     const inside = sections_in(item), is_cut = inside.length > MOST_SECTIONS;
     const header = { word: 'program header', at: Number(file.elf.header.e_phoff) + index * size_of('segment'), size: size_of('segment') };
     return {
-        title: title_of_segment(index, item), what: `segment ${count(index)} of ${count(file.elf.header.e_phnum)}`, kind: kind_of_segment(item),
+        title: title_of_segment(index, item), what: `segment ${count(index)} of ${count(file.elf.header.e_phnum)}`,
+        kind: kind_of_segment(item),
         fields: [
             field('p_type', hex(p_type), prefixed('PT_', labels.segment_type(p_type))),
             field('p_flags', hex(p_flags), labels.segment_flags(p_flags)), field('p_offset', hex(p_offset), '', at_offset(p_offset)),
             field('p_vaddr', hex(p_vaddr), '', at_address(p_vaddr)), field('p_paddr', hex(p_paddr)),
             field('p_filesz', hex(p_filesz), bytes_word(p_filesz)), field('p_memsz', hex(p_memsz), bytes_word(p_memsz)),
             field('p_align', hex(p_align)),
-            ...(inside.length ? [field('sections', '', is_cut ? `the first ${MOST_SECTIONS}` : '', ...inside.slice(0, MOST_SECTIONS))] : []),
+            ...(inside.length
+                ? [field('sections', '', is_cut ? `the first ${MOST_SECTIONS}` : '', ...inside.slice(0, MOST_SECTIONS))] : []),
         ],
         blocks: [block('bytes', () => file.elf.segment_range(item), (error) => segment_refusal(error, index)), header],
     };
@@ -220,7 +224,8 @@ export const is_address = (address) =>
 export function address_details(address) {
     const inside = segments_of_address(address), section = section_of_address(address), symbol = symbol_of_address(address);
     const at = offset_of_address(address);
-    const segment = ({ index, segment: item }) => ({ text: behind(title_of_segment(index, item), address - item.p_vaddr), to: `segments/${index}` });
+    const segment = ({ index, segment: item }) =>
+        ({ text: behind(title_of_segment(index, item), address - item.p_vaddr), to: `segments/${index}` });
     const of = section === undefined ? undefined
         : { text: behind(called(section), address - section_at(section).sh_addr), to: `sections/${section}` };
     const pieces = at === undefined ? [] : pieces_at(part_at(at));
@@ -276,6 +281,7 @@ export function header_fields() {
         ...FIELDS.map((name, i) => ({ name, at: (at += sizes[i]) - sizes[i], size: sizes[i] }))];
     return places.map(({ name, at: place, size }) => {
         const value = ['e_entry', 'e_phoff', 'e_shoff', 'e_flags'].includes(name) ? hex(header[name]) : `${header[name]}`;
-        return { name, at: place, size, value, meaning: meanings[name] ?? '', words: WORDS[name], links: links[name] ? [links[name]] : [] };
+        const [meaning, leads] = [meanings[name] ?? '', links[name] ? [links[name]] : []];
+        return { name, at: place, size, value, meaning, words: WORDS[name], links: leads };
     });
 }

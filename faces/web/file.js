@@ -70,9 +70,10 @@ export function list_refusal(error, what, offset, number) {
 
 export function section_refusal(error, what, index) {
     const { sh_offset, sh_size } = section_at(index);
-    const told = `${what} of section ${index}: offset ${hex(sh_offset)}, size ${hex(sh_size)}, file size ${count(file.content.length)} bytes`;
+    const told = `${what} of section ${index}: offset ${hex(sh_offset)}, size ${hex(sh_size)}`;
     const at = Number(file.elf.header.e_shoff) + index * size_of('section');
-    return refusal(error, told, [{ at: at + (is_wide() ? 0x18 : 0x10), size: is_wide() ? 16 : 8 }]);
+    const mark = { at: at + (is_wide() ? 0x18 : 0x10), size: is_wide() ? 16 : 8 };
+    return refusal(error, `${told}, in a file of ${count(file.content.length)} bytes`, [mark]);
 }
 
 export function segment_refusal(error, index) {

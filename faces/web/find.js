@@ -19,8 +19,10 @@ function places_of_number(value) {
     if (value < BigInt(file.content.length)) {
         found.push({ title: `offset ${hex(value)}`, detail: offset_details(Number(value)).what, to: `offset/${hex(value)}` });
     }
-    if (is_address(value)) found.push({ title: `address ${hex(value)}`, detail: address_details(value).what, to: `address/${hex(value)}` });
-    // (what has the value as its address comes first, where offsets are others)
+    if (is_address(value)) {
+        found.push({ title: `address ${hex(value)}`, detail: address_details(value).what, to: `address/${hex(value)}` });
+    }
+    // (an offset in a gap is hardly what is meant)
     return found.length === 2 && offset_details(Number(value)).what === 'in a gap' ? found.reverse() : found;
 }
 

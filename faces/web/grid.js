@@ -46,7 +46,8 @@ export class Grid {
         this.head.style.gridTemplateColumns = this.columns_css;
         this.columns.forEach(({ title, is_right, sorts = true, hint }, column) => {
             const inside = sorts && this.sorted ? make('button', { type: 'button', onclick: () => this.sort(column) }, title) : title;
-            this.head.append(make('div', { class: `cell ${is_right ? 'right' : ''}`, role: 'columnheader', 'aria-sort': 'none', title: hint }, inside));
+            const given = { class: `cell ${is_right ? 'right' : ''}`, role: 'columnheader', 'aria-sort': 'none', title: hint };
+            this.head.append(make('div', given, inside));
         });
     }
 

@@ -108,7 +108,8 @@ const sources = {
         return {
             list: { length: tops.length, get: (at) => at, *from(at = 0) { for (; at < tops.length; at++) yield at; } },
             columns: [
-                { text: (at) => hex(starts[at]), number: (at) => starts[at] }, { text: (at) => hex(starts[at + 1]), number: (at) => starts[at + 1] },
+                { text: (at) => hex(starts[at]), number: (at) => starts[at] },
+                { text: (at) => hex(starts[at + 1]), number: (at) => starts[at + 1] },
                 { text: (at) => count(size(at)), number: size }, { text: share, number: size },
                 text((at) => (tops[at] ? titled(tops[at]).title : 'gap')),
                 { text: (at) => (depths[at] > 1 ? `${depths[at]} pieces overlap` : ''), number: (at) => depths[at] },

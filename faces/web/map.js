@@ -273,7 +273,10 @@ export function set_up_map() {
     canvas.addEventListener('pointermove', (event) => { const byte = byte_at(event); hover(byte === undefined ? -1 : part_at(byte)); });
     canvas.addEventListener('pointerleave', () => hover(-1));
     canvas.addEventListener('click', (event) => { const byte = byte_at(event); if (byte !== undefined) choose_part(part_at(byte)); });
-    canvas.addEventListener('dblclick', (event) => { const byte = byte_at(event); if (byte !== undefined) look(byte, map.view.each / 4); });
+    canvas.addEventListener('dblclick', (event) => {
+        const byte = byte_at(event);
+        if (byte !== undefined) look(byte, map.view.each / 4);
+    });
     canvas.addEventListener('keydown', key);
     get('in').addEventListener('click', () => look(middle(), map.view.each / 2));
     get('out').addEventListener('click', () => look(middle(), map.view.each * 2));

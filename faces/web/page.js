@@ -9,7 +9,7 @@ import { show_side } from './side.js';
 import { activate, choose_field, is_list, open_tab, set_up_tabs, show_tabs } from './tabs.js';
 
 const MAGIC = [0x7f, 0x45, 0x4c, 0x46];
-// The largest file that is read: engines have no longer arrays in every case.
+// The largest file that is read: not every browser has longer arrays.
 const LIMIT = 2 ** 31, LIMIT_WORDS = '2 GiB (2,147,483,648 bytes)';
 // After so many milliseconds a file that is being read is said to be.
 const SOON = 200;
@@ -75,12 +75,18 @@ async function show_details(details) {
 
 // ---- files ----
 
+// Why a file isn't read, or nothing.
+function why_unread({ size }) {
+    if (size === 0) return 'The file is empty: it has 0 bytes.';
+    return size > LIMIT ? `The file has ${number(size)} bytes. This page reads files of at most ${LIMIT_WORDS}.` : undefined;
+}
+
 let loading;
 
 async function open(file) {
     loading?.end();
-    if (file.size > LIMIT) { trouble(file, `The file has ${number(file.size)} bytes. This page reads files of at most ${LIMIT_WORDS}.`); return; }
-    if (file.size === 0) { trouble(file, 'The file is empty: it has 0 bytes.'); return; }
+    const wrong = why_unread(file);
+    if (wrong) { trouble(file, wrong); return; }
     const reader = loading = new Reader(), stop = show_loading(file, reader);
     try {
         const told = await reader.open(file);
@@ -95,7 +101,8 @@ async function open(file) {
 // Says that a file is being read, with what is left, unless that is done soon. The one before stays, dimmed.
 function show_loading(file, reader) {
     const box = get('loading');
-    const said = (left) => put_text(box, `Reading ${file.name}: ${number(Math.ceil(left / 1e6))} MB of ${number(Math.ceil(file.size / 1e6))} MB left`);
+    const megabytes = (size) => `${number(Math.ceil(size / 1e6))} MB`;
+    const said = (left) => put_text(box, `Reading ${file.name}: ${megabytes(left)} of ${megabytes(file.size)} left`);
     document.body.setAttribute('aria-busy', 'true');
     let left = file.size;
     const timer = setTimeout(() => { document.body.classList.add('dimmed'); said(left); }, SOON);
@@ -147,7 +154,8 @@ async function show_refusal(file, reader, { refused, start }) {
     const box = await refusal_of(refused, (call, given) => reader.ask(call, given));
     const is_elf = MAGIC.slice(0, start.length).every((byte, i) => start[i] === byte);
     const words = is_elf ? [] : [
-        make('h2', {}, 'This is not an ELF file'), make('p', { class: 'what' }, 'An ELF file starts with 7f 45 4c 46. This one starts with:'),
+        make('h2', {}, 'This is not an ELF file'),
+        make('p', { class: 'what' }, 'An ELF file starts with 7f 45 4c 46. This one starts with:'),
         lines_of(start, 0, innerWidth < 600 ? 8 : 16, (byte) => byte < MAGIC.length && start[byte] !== MAGIC[byte]),
     ];
     if (shown_file.reader !== reader) return;
@@ -166,7 +174,8 @@ async function show_file(file, reader, told) {
     show_map(told.map, file.size);
     show_tabs();
     get('panel').replaceChildren();
-    await show_side({ title: 'ELF header', kind: 'header', what: 'at the start of the file', blocks: [{ word: 'bytes', at: 0, size: told.header_size }] });
+    const blocks = [{ word: 'bytes', at: 0, size: told.header_size }];
+    await show_side({ title: 'ELF header', kind: 'header', what: 'at the start of the file', blocks });
     await show_place(current_place());
 }
 

@@ -29,7 +29,7 @@ async function bytes_box(blocks) {
     let current;
     const content = make('div', { class: 'content' });
     const copying = button('Copy hex', () => copy_hex(current.at, current.size), { class: 'copy' });
-    const choices = blocks.map((block) => put_text(button('', () => show(block), { 'aria-pressed': 'false', title: visible(block.word) }), block.word));
+    const choices = blocks.map((block) => button(visible(block.word), () => show(block), { title: visible(block.word) }));
     const show = async (block) => {
         current = block;
         choices.forEach((choice, i) => choice.setAttribute('aria-pressed', blocks[i] === block));

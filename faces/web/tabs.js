@@ -21,8 +21,8 @@ const COLUMNS = {
     ],
     segments: ({ address, offset }) => [
         place(40), left('Type', 'p_type', 104, 1), left('Flags', 'p_flags', 46), right('Offset', 'p_offset', offset, 0.5),
-        right('File size', 'p_filesz', offset, 0.5), right('Address', 'p_vaddr', address, 1), right('Memory size', 'p_memsz', Math.max(offset, 80), 0.5),
-        right('Physical', 'p_paddr', address, 1), right('Align', 'p_align', 66),
+        right('File size', 'p_filesz', offset, 0.5), right('Address', 'p_vaddr', address, 1),
+        right('Memory size', 'p_memsz', Math.max(offset, 80), 0.5), right('Physical', 'p_paddr', address, 1), right('Align', 'p_align', 66),
     ],
     symbols: ({ address }) => [
         place(48), left('Name', 'st_name', 180, 2), right('Value', 'st_value', address, 0.6), right('Size', 'st_size', 62),
@@ -46,8 +46,10 @@ export const is_list = (name) => Object.hasOwn(COLUMNS, name);
 
 // The columns of a list of the file that is shown: no number of it is cut, but of damaged files some.
 function columns_of(name) {
-    const { address, offset, align, index } = shown_file.told.signs, room = (signs, least) => Math.max(Math.ceil(7.6 * signs) + 1, least);
-    return COLUMNS[name]({ address: room(address, 60), offset: room(offset, 60), align: room(Math.min(align, 10), 36), index: room(index, 32) });
+    const { address, offset, align, index } = shown_file.told.signs;
+    const room = (signs, least) => Math.max(Math.ceil(7.6 * signs) + 1, least);
+    const rooms = { address: room(address, 60), offset: room(offset, 60), align: room(Math.min(align, 10), 36), index: room(index, 32) };
+    return COLUMNS[name](rooms);
 }
 
 // The list that is open: its tab, of which section or by what, and its grid; and the header's rows.
@@ -152,7 +154,8 @@ export function choose_field(wanted) {
     const field = shown_file.told.header.find(({ name }) => name === wanted);
     if (!field) return undefined;
     const { name, at, size, words, value, meaning, links } = field;
-    return { title: name, kind: 'header', what: words, fields: [{ name: 'value', value, meaning, links }], blocks: [{ word: 'bytes', at, size }] };
+    const [fields, blocks] = [[{ name: 'value', value, meaning, links }], [{ word: 'bytes', at, size }]];
+    return { title: name, kind: 'header', what: words, fields, blocks };
 }
 
 // ---- lists ----
@@ -160,9 +163,9 @@ export function choose_field(wanted) {
 // Which tables of symbols, relocations or notes there are to choose from.
 function choices(name) {
     const { told } = shown_file;
-    const text = (title, length) => `${title} (${length === undefined ? 'refused' : number(length)})`;
-    if (name === 'notes') return ['sections', 'segments'].map((of) => ({ of, length: told.notes[of].length, text: text(`of ${of}`, told.notes[of].length) }));
-    return told[name].found.map(({ index, name: title, length }) => ({ of: index, length, text: text(title, length) }));
+    const choice = (of, title, length) => ({ of, length, text: `${title} (${length === undefined ? 'refused' : number(length)})` });
+    if (name === 'notes') return ['sections', 'segments'].map((of) => choice(of, `of ${of}`, told.notes[of].length));
+    return told[name].found.map(({ index, name: title, length }) => choice(index, title, length));
 }
 
 const NONE = {
@@ -180,7 +183,8 @@ async function list_panel(mine, wanted) {
     const weight = ({ length }) => length ?? 0.5;
     const longest = list.reduce((best, item) => (weight(item) > weight(best) ? item : best));
     mine.of = wanted ?? longest.of;
-    Object.assign(mine, { list, query: '', column: 0, is_descending: false, output: make('output', {}), below: make('div', { class: 'notice' }) });
+    Object.assign(mine, { list, query: '', column: 0, is_descending: false, output: make('output', {}) });
+    mine.below = make('div', { class: 'notice' });
     mine.grid = new Grid(name, columns_of(name), {
         rows: (from, size) => ask('rows', { list: name, from, size }),
         chosen: (at, is_step) => go_to_row(mine, at, is_step), opened: (at) => open_row(mine, at),
@@ -230,7 +234,7 @@ async function note_refusals(by) {
     return is_cut ? [...boxes, make('p', { class: 'empty' }, 'There are more notes, which are not read.')] : boxes;
 }
 
-const place_of = ({ name, of }, index) => (['symbols', 'relocations', 'notes'].includes(name) ? `${name}/${of}/${index}` : `${name}/${index}`);
+const place_of = ({ name, of }, index) => (of === undefined ? `${name}/${index}` : `${name}/${of}/${index}`);
 
 async function go_to_row(mine, at, is_step) {
     const index = await ask('index', { list: mine.name, at });
@@ -280,9 +284,9 @@ function tools(mine) {
 }
 
 function search_field(mine) {
-    const hint = 'text or 0x…';
     const search = make('input', {
-        type: 'search', placeholder: `Search: ${hint}`, 'aria-label': `Search ${mine.name} by text, offset or address`, spellcheck: 'false', autocomplete: 'off',
+        type: 'search', placeholder: 'Search: text or 0x…', 'aria-label': `Search ${mine.name} by text, offset or address`,
+        spellcheck: 'false', autocomplete: 'off',
     });
     let soon;
     const look = async () => {
@@ -309,7 +313,9 @@ function copy_active(grid, of, what) {
 
 async function save({ name, output }) {
     const { reader, title } = shown_file, before = output.textContent;
-    reader.on_progress = ({ progress, done }) => { if (progress === 'csv') output.textContent = `saving … ${Math.floor(100 * done)} %`; };
+    reader.on_progress = ({ progress, done }) => {
+        if (progress === 'csv') output.textContent = `saving … ${Math.floor(100 * done)} %`;
+    };
     const content = await ask('csv', { list: name, titles: columns_of(name).map(({ title: column }) => column) });
     output.textContent = before;
     const link = make('a', { href: URL.createObjectURL(content), download: `${visible(title)}.${name}.csv` });
