@@ -29,6 +29,14 @@ compile() { bare $compiler "$@"; }
 run() { bare $runner "$@"; }
 quietly() { "$@" > "$folder/output" 2>&1 || { echo "failed: $*"; cat "$folder/output"; exit 1; }; }
 
+# Whether cargo just said that the library is missing, that it was looked for at this place, and in which archive it is.
+says_where() {
+    for line in "libgoblin_c.a is missing for " "$1" "to get it, unpack goblin_c-$version-$target.tar.gz"; do
+        grep -qF "$line" "$folder/output" && continue
+        echo "without the library there is no line '$line':"; cat "$folder/output"; exit 1
+    done
+}
+
 tried=
 if has rt; then echo "the toolchain stands on the bare PATH too"; fi
 cp faces/c/nm.c "$folder/"
@@ -65,19 +73,28 @@ if has "$linker" && bare cargo --version > "$folder/output" 2>&1 \
         "$there/share/goblin_c/rust" > "$folder/rust/Cargo.toml"
     cp faces/rust/examples/symbols.rs "$folder/rust/src/main.rs"
     app=$folder/target/$target/debug/app
-    build() {
+    # Runs a command of cargo over the program, with these variables.
+    with_cargo() {
+        command=$1
+        shift
         bare "$@" "CARGO_TARGET_$(echo "$target" | tr a-z- A-Z_)_LINKER=$linker" ${runner:+RUSTFLAGS=-Ctarget-feature=+crt-static} \
-            cargo build --offline --target "$target" --manifest-path "$folder/rust/Cargo.toml"
+            cargo "$command" --offline --target "$target" --manifest-path "$folder/rust/Cargo.toml"
     }
-    quietly build
+    quietly with_cargo build
     quietly run "$app" "$app"
     grep -q ' main$' "$folder/output" || { echo "symbols.rs finds no main in itself"; exit 1; }
     tried="$tried, Rust by its path"
+    # Without the library only what links fails, and each place that was looked in is named.
     mv "$libdir/libgoblin_c.a" "$folder/"
-    touch "$there/share/goblin_c/rust/build.rs"
-    if build PKG_CONFIG_PATH= > "$folder/output" 2>&1 \
-        || ! grep -q 'libgoblin_c.a is missing' "$folder/output"; then
-        echo "without the library there is no clear message"; cat "$folder/output"; exit 1
+    for command in check doc; do
+        quietly with_cargo $command PKG_CONFIG_PATH=
+        says_where "looked for in $libdir: "
+        quietly with_cargo $command GOBLIN_C_LIB="$folder/rust"
+        says_where "looked for in GOBLIN_C_LIB=$folder/rust: "
+    done
+    if with_cargo build PKG_CONFIG_PATH= > "$folder/output" 2>&1; then
+        echo "without the library something is linked"; exit 1
     fi
+    says_where "looked for in $libdir: "
 fi
 echo "the archive of goblin_c $version for $target serves without the toolchain${tried}"
