@@ -84,6 +84,10 @@ if has "$linker" && bare cargo --version > "$folder/output" 2>&1 \
     quietly run "$app" "$app"
     grep -q ' main$' "$folder/output" || { echo "symbols.rs finds no main in itself"; exit 1; }
     tried="$tried, Rust by its path"
+    if [ -z "$runner" ]; then
+        quietly bare cargo test --offline --manifest-path "$there/share/goblin_c/rust/Cargo.toml"
+        tried="$tried, the crate's own tests"
+    fi
     # Without the library only what links fails, and each place that was looked in is named.
     mv "$libdir/libgoblin_c.a" "$folder/"
     for command in check doc; do

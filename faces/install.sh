@@ -43,10 +43,13 @@ put_edited() {
     put "$folder/edited" "$3"
 }
 
-# Installs all files of a folder.
+# Installs the files of a folder, or those that further words of find ask for.
 put_all() {
-    find "$1" -type f | sort > "$folder/found"
-    while read -r file; do put "$file" "$2${file#"$1"}"; done < "$folder/found"
+    from=$1
+    below=$2
+    shift 2
+    find "$from" -type f "$@" | sort > "$folder/found"
+    while read -r file; do put "$file" "$below${file#"$from"}"; done < "$folder/found"
 }
 
 install_below() {
@@ -69,6 +72,8 @@ install_library() {
     put_edited "s|\"../../../lib\"|\"../../../$libdir\"|" faces/rust/build.rs share/goblin_c/rust/build.rs
     put_all faces/rust/src share/goblin_c/rust/src
     put_all faces/rust/examples share/goblin_c/rust/examples
+    # (what compares the crate with its repository stays there)
+    put_all faces/rust/tests share/goblin_c/rust/tests ! -name repository.rs
     put_edited 's|^license-file = .*|license-file = "LICENSE"|' faces/rust/Cargo.toml share/goblin_c/rust/Cargo.toml
 }
 

@@ -176,9 +176,18 @@ impl error::Error for Error {}
 mod tests {
     use super::*;
 
+    // `goblin.h`, beside this crate in the repository or where both are installed.
+    fn goblin_h() -> String {
+        let here = std::path::Path::new(env!("CARGO_MANIFEST_DIR"));
+        let places = ["../c/goblin.h", "../../../include/goblin.h"].map(|place| here.join(place));
+        let found = places.iter().find_map(|place| std::fs::read_to_string(place).ok());
+        found.unwrap_or_else(|| panic!("goblin.h is at none of {places:?}"))
+    }
+
     // The numbers of `goblin.h` behind a line: of each its comment, its name and its number.
     fn numbers_behind(line: &str) -> Vec<(String, String, u32)> {
-        let body = include_str!("../../c/goblin.h").split(line).nth(1).unwrap().split("};").next().unwrap();
+        let header = goblin_h();
+        let body = header.split(line).nth(1).unwrap().split("};").next().unwrap();
         let (mut all, mut comment) = (Vec::new(), String::new());
         for line in body.lines().map(str::trim) {
             match line.trim_end_matches(',').split_once(" = ") {

@@ -1,0 +1,50 @@
+//! What this crate has from elsewhere in its repository, and what holds of its own source. Only in the repository there is
+//! something to compare it with, so this file isn't installed.
+use std::path::Path;
+use std::{fs, mem};
+
+/// The sources in a folder of the repository, but for those in folders below it: the name and the text of each.
+fn sources(folder: &str) -> Vec<(String, String)> {
+    let folder = Path::new(env!("CARGO_MANIFEST_DIR")).join("../..").join(folder);
+    let files = fs::read_dir(folder).unwrap().map(|file| file.unwrap()).filter(|file| file.path().is_file());
+    files.map(|file| (file.file_name().into_string().unwrap(), fs::read_to_string(file.path()).unwrap())).collect()
+}
+
+/// The constants of the sources in a folder, each with its comment.
+fn constants(folder: &str) -> Vec<String> {
+    sources(folder).iter().flat_map(|(_, source)| constants_of(source)).collect()
+}
+
+fn constants_of(source: &str) -> Vec<String> {
+    let is_constant = |line: &str| line.starts_with("pub const ");
+    let (mut all, mut item, mut is_open) = (Vec::new(), String::new(), false);
+    for line in source.lines().map(str::trim) {
+        let is_comment = !is_open && line.starts_with("///");
+        is_open |= is_constant(line);
+        if is_comment || is_open {
+            item = item + line + "\n";
+        } else {
+            item.clear();
+        }
+        if is_open && line.ends_with(';') {
+            is_open = false;
+            all.push(mem::take(&mut item));
+        }
+    }
+    assert_eq!(all.len(), source.lines().filter(|line| is_constant(line.trim())).count());
+    all
+}
+
+#[test]
+fn constants_are_the_library_s() {
+    let mut theirs = constants("crates/goblin_headers/src");
+    theirs.extend(constants("crates/goblin_records/src"));
+    assert!(theirs.len() >= 374);
+    let mut ours = constants("faces/rust/src/constants");
+    theirs.sort();
+    ours.sort();
+    for (ours, theirs) in ours.iter().zip(&theirs) {
+        assert_eq!(ours, theirs);
+    }
+    assert_eq!(ours.len(), theirs.len());
+}
