@@ -30,17 +30,17 @@ impl SectionHeader {
 
     /// Whether the section is in memory and may be executed.
     pub fn is_executable(&self) -> bool {
-        self.is_alloc() && self.sh_flags & u64::from(SHF_EXECINSTR) != 0
+        self.is_alloc() && self.sh_flags & SHF_EXECINSTR != 0
     }
 
     /// Whether the section is in memory and may be written.
     pub fn is_writable(&self) -> bool {
-        self.is_alloc() && self.sh_flags & u64::from(SHF_WRITE) != 0
+        self.is_alloc() && self.sh_flags & SHF_WRITE != 0
     }
 
     /// Whether the section is in memory while the program runs.
     pub fn is_alloc(&self) -> bool {
-        self.sh_flags & u64::from(SHF_ALLOC) != 0
+        self.sh_flags & SHF_ALLOC != 0
     }
 
     /// Its bytes in the file: none of a section that has none there, whatever its size.
@@ -82,7 +82,8 @@ pub fn sht_to_str(sh_type: u32) -> Name {
     Name::from_room(|room| sys::goblin_sht_to_str(sh_type, room))
 }
 
-/// The name of one flag of a section, as SHF_WRITE, or SHF_UNKNOWN.
-pub fn shf_to_str(flag: u32) -> Name {
+/// Returns the name of one flag of a section, as SHF_WRITE, or SHF_UNKNOWN. No flag has more than 32 bits.
+pub fn shf_to_str(flag: u64) -> Name {
+    let flag = u32::try_from(flag).unwrap_or(0);
     Name::from_room(|room| sys::goblin_shf_to_str(flag, room))
 }

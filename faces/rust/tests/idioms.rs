@@ -191,7 +191,8 @@ fn constants_are_the_standard_s() {
     assert_eq!([ET_REL, ET_EXEC, ET_DYN, ET_CORE, EM_386, EM_ARM, EM_X86_64, EM_AARCH64, EM_RISCV], [1, 2, 3, 4, 3, 40, 62, 183, 243]);
     assert_eq!([PT_LOAD, PT_DYNAMIC, PT_INTERP, PT_NOTE, PT_TLS, PT_GNU_STACK, PF_X, PF_W, PF_R], [1, 2, 3, 4, 7, 0x6474_e551, 1, 2, 4]);
     assert_eq!([SHT_SYMTAB, SHT_STRTAB, SHT_DYNAMIC, SHT_GROUP, SHT_SYMTAB_SHNDX, SHT_GNU_HASH], [2, 3, 6, 17, 18, 0x6fff_fff6]);
-    assert_eq!([SHF_WRITE, SHF_ALLOC, SHF_EXECINSTR, SHF_TLS, SHN_ABS, SHN_COMMON, SHN_XINDEX], [1, 2, 4, 0x400, 0xfff1, 0xfff2, 0xffff]);
+    assert_eq!([SHF_WRITE, SHF_ALLOC, SHF_EXECINSTR, SHF_TLS], [1, 2, 4, 0x400]);
+    assert_eq!([SHN_UNDEF, SHN_ABS, SHN_COMMON, SHN_XINDEX], [0, 0xfff1, 0xfff2, 0xffff]);
     assert_eq!([STB_GLOBAL, STB_WEAK, STT_FUNC, STT_SECTION, STT_GNU_IFUNC, STV_HIDDEN, STV_PROTECTED], [1, 2, 2, 3, 10, 2, 3]);
     assert_eq!([NT_GNU_BUILD_ID, NT_GNU_PROPERTY_TYPE_0, NT_PRSTATUS, NT_FILE], [3, 5, 1, 0x4649_4c45]);
 }

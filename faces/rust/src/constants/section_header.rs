@@ -1,29 +1,29 @@
 //! The constants of section headers, as the library has them.
 
 /// No section.
-pub const SHN_UNDEF: u32 = 0;
+pub const SHN_UNDEF: usize = 0;
 /// The first index with a meaning of its own.
-pub const SHN_LORESERVE: u32 = 0xff00;
+pub const SHN_LORESERVE: usize = 0xff00;
 /// The first index that is left to processors.
-pub const SHN_LOPROC: u32 = 0xff00;
+pub const SHN_LOPROC: usize = 0xff00;
 /// Before all other sections (Solaris).
-pub const SHN_BEFORE: u32 = 0xff00;
+pub const SHN_BEFORE: usize = 0xff00;
 /// After all other sections (Solaris).
-pub const SHN_AFTER: u32 = 0xff01;
+pub const SHN_AFTER: usize = 0xff01;
 /// The last index that is left to processors.
-pub const SHN_HIPROC: u32 = 0xff1f;
+pub const SHN_HIPROC: usize = 0xff1f;
 /// The first index that is left to operating systems.
-pub const SHN_LOOS: u32 = 0xff20;
+pub const SHN_LOOS: usize = 0xff20;
 /// The last index that is left to operating systems.
-pub const SHN_HIOS: u32 = 0xff3f;
+pub const SHN_HIOS: usize = 0xff3f;
 /// What has no section: its value is absolute.
-pub const SHN_ABS: u32 = 0xfff1;
+pub const SHN_ABS: usize = 0xfff1;
 /// What is still to be placed in a section.
-pub const SHN_COMMON: u32 = 0xfff2;
+pub const SHN_COMMON: usize = 0xfff2;
 /// The index stands elsewhere, since it is too great for its field.
-pub const SHN_XINDEX: u32 = 0xffff;
+pub const SHN_XINDEX: usize = 0xffff;
 /// The last index with a meaning of its own.
-pub const SHN_HIRESERVE: u32 = 0xffff;
+pub const SHN_HIRESERVE: usize = 0xffff;
 
 // What a section holds.
 
@@ -105,40 +105,40 @@ pub const SHT_HIUSER: u32 = 0x8fff_ffff;
 // What may be done with a section.
 
 /// The section may be written.
-pub const SHF_WRITE: u32 = 0x1;
+pub const SHF_WRITE: u64 = 0x1;
 /// The section is in memory while the program runs.
-pub const SHF_ALLOC: u32 = 0x2;
+pub const SHF_ALLOC: u64 = 0x2;
 /// The section may be executed.
-pub const SHF_EXECINSTR: u32 = 0x4;
+pub const SHF_EXECINSTR: u64 = 0x4;
 /// Equal entries may be made one.
-pub const SHF_MERGE: u32 = 0x10;
+pub const SHF_MERGE: u64 = 0x10;
 /// The entries are texts that end with a zero.
-pub const SHF_STRINGS: u32 = 0x20;
+pub const SHF_STRINGS: u64 = 0x20;
 /// The index of a section stands in `sh_info`.
-pub const SHF_INFO_LINK: u32 = 0x40;
+pub const SHF_INFO_LINK: u64 = 0x40;
 /// The order of sections is to be kept.
-pub const SHF_LINK_ORDER: u32 = 0x80;
+pub const SHF_LINK_ORDER: u64 = 0x80;
 /// The operating system has to treat the section in its own way.
-pub const SHF_OS_NONCONFORMING: u32 = 0x100;
+pub const SHF_OS_NONCONFORMING: u64 = 0x100;
 /// The section belongs to a group.
-pub const SHF_GROUP: u32 = 0x200;
+pub const SHF_GROUP: u64 = 0x200;
 /// The section is storage that each thread has its own copy of.
-pub const SHF_TLS: u32 = 0x400;
+pub const SHF_TLS: u64 = 0x400;
 /// The contents are compressed.
-pub const SHF_COMPRESSED: u32 = 0x800;
+pub const SHF_COMPRESSED: u64 = 0x800;
 /// The flags that are left to operating systems.
-pub const SHF_MASKOS: u32 = 0x0ff0_0000;
+pub const SHF_MASKOS: u64 = 0x0ff0_0000;
 /// The flags that are left to processors.
-pub const SHF_MASKPROC: u32 = 0xf000_0000;
+pub const SHF_MASKPROC: u64 = 0xf000_0000;
 /// The section is to be ordered (Solaris).
-pub const SHF_ORDERED: u32 = 1 << 30;
+pub const SHF_ORDERED: u64 = 1 << 30;
 /// How many flags [`SHF_FLAGS`] has.
 pub const SHF_NUM_REGULAR_FLAGS: usize = 12;
 /// The section is left out where nothing refers to it (Solaris).
-pub const SHF_EXCLUDE: u32 = 0x8000_0000;
+pub const SHF_EXCLUDE: u64 = 0x8000_0000;
 
 /// The flags that have a name.
-pub const SHF_FLAGS: [u32; SHF_NUM_REGULAR_FLAGS] = [
+pub const SHF_FLAGS: [u64; SHF_NUM_REGULAR_FLAGS] = [
     SHF_WRITE,
     SHF_ALLOC,
     SHF_EXECINSTR,
