@@ -11,7 +11,7 @@ use std::{env, error, ffi, fs};
 
 /// The name of a relocation's symbol: of the symbol of a section that section's.
 fn name_of<'a>(elf: &Elf<'a>, symbols: &Symtab<'a>, reloc: &Reloc) -> Result<&'a str> {
-    let symbol = match symbols.get(reloc.r_sym)? {
+    let symbol = match symbols.get(reloc.r_sym) {
         Some(symbol) if reloc.r_sym != 0 => symbol,
         _ => return Ok(""),
     };
@@ -38,12 +38,10 @@ fn list(path: &ffi::OsStr) -> std::result::Result<(), Box<dyn error::Error>> {
     let elf = &Elf::parse(&bytes)?;
     let mut out = io::BufWriter::new(io::stdout().lock());
     let section_names = elf.shdr_strtab()?;
-    for section in elf.shdr_relocs() {
-        let (section, relocs) = section?;
+    for (section, relocs) in elf.shdr_relocs()? {
         writeln!(out, "{}:", section_names.get(section.sh_name)?.unwrap_or(""))?;
         let symbols = symbols_of(elf, &section)?;
         for reloc in &relocs {
-            let reloc = reloc?;
             let name = match &symbols {
                 Some(symbols) => name_of(elf, symbols, &reloc)?,
                 None => "",

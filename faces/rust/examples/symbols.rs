@@ -8,7 +8,6 @@ fn list(path: &ffi::OsStr) -> Result<(), Box<dyn error::Error>> {
     let elf = Elf::parse(&bytes)?;
     if let Some(symbols) = elf.syms()? {
         for symbol in &symbols {
-            let symbol = symbol?;
             println!("{:x} {}", symbol.st_value, symbols.name(&symbol)?.unwrap_or(""));
         }
     }

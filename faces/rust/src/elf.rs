@@ -1,14 +1,11 @@
 //! A file as a whole.
-use crate::error::Result;
+use crate::error::{Error, Result};
 use crate::file::File;
 use crate::header::Header;
-use crate::items::Items;
 use crate::note::{NoteIterator, Notes};
-use crate::program_header::{ProgramHeader, ProgramHeaderIterator, ProgramHeaders};
+use crate::program_header::{ProgramHeader, ProgramHeaders};
 use crate::reloc::{RelocSection, RelocSections};
-use crate::section_header::{
-    SectionHeader, SectionHeaderIterator, SectionHeaders, SHT_DYNSYM, SHT_RELA, SHT_SYMTAB,
-};
+use crate::section_header::{SectionHeader, SectionHeaders, SHT_DYNSYM, SHT_RELA, SHT_SYMTAB};
 use crate::strtab::Strtab;
 use crate::sym::Symtab;
 use crate::{raw, sys};
@@ -31,17 +28,17 @@ impl<'a> Elf<'a> {
         Ok(Elf { file: File(bytes), header })
     }
 
-    /// Whether the file is of the 64-bit class.
+    /// Reports whether the file is of the 64-bit class.
     pub fn is_64(&self) -> bool {
         self.header.is_64()
     }
 
-    /// Whether the lowest byte of a number comes first.
+    /// Reports whether the lowest byte of a number comes first.
     pub fn little_endian(&self) -> bool {
         self.header.little_endian()
     }
 
-    /// The program header at an index, or `None` past the last one.
+    /// Returns the program header at an index, or `None` past the last one.
     ///
     /// # Errors
     /// Where the program headers don't lie in the file.
@@ -49,21 +46,15 @@ impl<'a> Elf<'a> {
         sys::goblin_segment(&self.file, &self.header, index as u64)
     }
 
-    /// All program headers in their order. Where they are refused, the refusal is the one item.
-    pub fn program_headers(&self) -> ProgramHeaderIterator<'a> {
-        Items::new(ProgramHeaders(*self))
-    }
-
-    /// How many program headers there are.
+    /// Returns all program headers.
     ///
     /// # Errors
-    /// Where the program headers don't lie in the file.
-    pub fn program_header_count(&self) -> Result<usize> {
-        let count = sys::goblin_segment_count(&self.file, &self.header)?;
-        Ok(count.expect("headers that aren't refused have a count") as usize)
+    /// Where they don't lie in the file.
+    pub fn program_headers(&self) -> Result<ProgramHeaders<'a>> {
+        ProgramHeaders::of(*self)
     }
 
-    /// The section header at an index, or `None` past the last one.
+    /// Returns the section header at an index, or `None` past the last one.
     ///
     /// # Errors
     /// Where the section headers don't lie in the file.
@@ -71,21 +62,15 @@ impl<'a> Elf<'a> {
         sys::goblin_section(&self.file, &self.header, index as u64)
     }
 
-    /// All section headers in their order. Where they are refused, the refusal is the one item.
-    pub fn section_headers(&self) -> SectionHeaderIterator<'a> {
-        Items::new(SectionHeaders(*self))
-    }
-
-    /// How many section headers there are.
+    /// Returns all section headers.
     ///
     /// # Errors
-    /// Where the section headers don't lie in the file.
-    pub fn section_header_count(&self) -> Result<usize> {
-        let count = sys::goblin_section_count(&self.file, &self.header)?;
-        Ok(count.expect("headers that aren't refused have a count") as usize)
+    /// Where they don't lie in the file.
+    pub fn section_headers(&self) -> Result<SectionHeaders<'a>> {
+        SectionHeaders::of(*self)
     }
 
-    /// The index of the first section with a name.
+    /// Returns the index of the first section with a name.
     ///
     /// # Errors
     /// Where the section headers or their names don't lie in the file.
@@ -95,7 +80,7 @@ impl<'a> Elf<'a> {
         Ok(index.map(|index| index as usize))
     }
 
-    /// The index of the first section of a type, an `SHT_` number, from an index on.
+    /// Returns the index of the first section of a type, an `SHT_` number, from an index on.
     ///
     /// # Errors
     /// Where the section headers don't lie in the file.
@@ -104,7 +89,11 @@ impl<'a> Elf<'a> {
         Ok(index.map(|index| index as usize))
     }
 
-    /// The bytes of a section, or `None` where it has none in the file.
+    fn section_at(&self, index: Option<usize>) -> Result<Option<SectionHeader>> {
+        index.map_or(Ok(None), |index| self.section_header(index))
+    }
+
+    /// Returns the bytes of a section, or `None` where it has none in the file.
     ///
     /// # Errors
     /// Where they pass the file's end.
@@ -113,7 +102,7 @@ impl<'a> Elf<'a> {
         Ok(range.map(|range| self.file.slice(range)))
     }
 
-    /// The bytes of a segment, or `None` where it has none in the file.
+    /// Returns the bytes of a segment, or `None` where it has none in the file.
     ///
     /// # Errors
     /// Where they pass the file's end.
@@ -122,8 +111,8 @@ impl<'a> Elf<'a> {
         Ok(range.map(|range| self.file.slice(range)))
     }
 
-    /// The number that 1, 2, 4 or 8 bytes at an offset of the file stand for, in the file's order. There is none of another
-    /// width.
+    /// Returns the number that 1, 2, 4 or 8 bytes at an offset of the file stand for, in the file's order, or `None` for
+    /// another width.
     ///
     /// # Errors
     /// Where the bytes pass the file's end.
@@ -131,8 +120,8 @@ impl<'a> Elf<'a> {
         sys::goblin_number(&self.file, &self.header, offset, width as u64)
     }
 
-    /// The sections' names: an empty table where the file has none, as where their index is 0, or that of a section without
-    /// bytes in the file.
+    /// Returns the sections' names: an empty table where the file has none, as where their index is 0, or that of a section
+    /// without bytes in the file.
     ///
     /// # Errors
     /// Where the section headers don't lie in the file.
@@ -141,79 +130,102 @@ impl<'a> Elf<'a> {
         Ok(self.strtab(&names))
     }
 
-    /// The strings of a section: an empty table where it has no bytes in the file.
+    /// Returns the strings of a section: an empty table where it has no bytes in the file.
     pub fn strtab(&self, section: &SectionHeader) -> Strtab<'a> {
         Strtab { file: self.file, range: section.range() }
     }
 
-    /// The symbols of a section, with the names that the section at its `sh_link` holds: none where there is no such section,
-    /// as at index 0, or where it has no bytes in the file.
+    /// Returns the symbols of a section, with the names that the section at its `sh_link` holds: none where there is no such
+    /// section, as at index 0, or where it has no bytes in the file.
     ///
     /// # Errors
-    /// Where the section headers don't lie in the file.
+    /// Where the section headers or the symbols don't lie in the file.
     pub fn symtab(&self, section: &SectionHeader) -> Result<Symtab<'a>> {
         let names = sys::goblin_table(&self.file, &self.header, section.sh_link.into())?.unwrap_or_default();
-        Ok(Symtab { header: self.header, range: section.range(), strtab: self.strtab(&names) })
+        Symtab::of(self, section.range(), self.strtab(&names))
     }
 
-    /// The first table of symbols that has all of them, if there is one.
+    /// Returns the first table of symbols that has all of them, if there is one.
     ///
     /// # Errors
-    /// Where the section headers don't lie in the file.
+    /// Where the section headers or the symbols don't lie in the file.
     pub fn syms(&self) -> Result<Option<Symtab<'a>>> {
         self.first_symtab(SHT_SYMTAB)
     }
 
-    /// The first table of the symbols that are wanted when the program runs, if there is one.
+    /// Returns the first table of the symbols that are wanted when the program runs, if there is one.
     ///
     /// # Errors
-    /// Where the section headers don't lie in the file.
+    /// Where the section headers or the symbols don't lie in the file.
     pub fn dynsyms(&self) -> Result<Option<Symtab<'a>>> {
         self.first_symtab(SHT_DYNSYM)
     }
 
     fn first_symtab(&self, sh_type: u32) -> Result<Option<Symtab<'a>>> {
-        let index = self.section_by_type(sh_type, 0)?;
-        let section = index.map(|index| self.section_header(index)).transpose()?.flatten();
+        let section = self.section_at(self.section_by_type(sh_type, 0)?)?;
         section.map(|section| self.symtab(&section)).transpose()
     }
 
-    /// The relocations of a section of type `SHT_RELA` or `SHT_REL`.
-    pub fn relocs(&self, section: &SectionHeader) -> RelocSection<'a> {
-        RelocSection {
-            file: self.file,
-            header: self.header,
-            range: section.range(),
-            is_rela: section.sh_type == SHT_RELA,
-        }
+    /// Returns the relocations of a section of type `SHT_RELA` or `SHT_REL`.
+    ///
+    /// # Errors
+    /// Where the relocations don't lie in the file.
+    pub fn relocs(&self, section: &SectionHeader) -> Result<RelocSection<'a>> {
+        RelocSection::of(self, section.range(), section.sh_type == SHT_RELA)
     }
 
-    /// All sections of relocations, each with its header. Where the section headers are refused, the refusal is the one item.
-    pub fn shdr_relocs(&self) -> RelocSections<'a> {
+    /// Returns all sections of relocations, each with its header. Where some are damaged, [`Elf::relocs`] reads the others.
+    ///
+    /// # Errors
+    /// Where the section headers, or the relocations of any section, don't lie in the file.
+    pub fn shdr_relocs(&self) -> Result<RelocSections<'a>> {
         RelocSections::of(*self)
     }
 
-    /// The notes of a section.
-    pub fn notes(&self, section: &SectionHeader) -> Notes<'a> {
-        self.notes_of(section.range(), section.sh_addralign)
+    /// Returns the notes of a section. Where one is damaged, [`Elf::readable_notes`] returns those before it.
+    ///
+    /// # Errors
+    /// Where the notes are aligned to neither 4 nor 8, one of them doesn't lie in the file, or a name is no text.
+    pub fn notes(&self, section: &SectionHeader) -> Result<Notes<'a>> {
+        all_notes(self.readable_notes(section))
     }
 
-    /// The notes of a segment.
-    pub fn segment_notes(&self, segment: &ProgramHeader) -> Notes<'a> {
-        self.notes_of(raw::Range { offset: segment.p_offset, size: segment.p_filesz }, segment.p_align)
+    /// Returns the notes of a segment. Where one is damaged, [`Elf::readable_segment_notes`] returns those before it.
+    ///
+    /// # Errors
+    /// Where the notes are aligned to neither 4 nor 8, one of them doesn't lie in the file, or a name is no text.
+    pub fn segment_notes(&self, segment: &ProgramHeader) -> Result<Notes<'a>> {
+        all_notes(self.readable_segment_notes(segment))
     }
 
-    fn notes_of(&self, range: raw::Range, alignment: u64) -> Notes<'a> {
-        Notes { file: self.file, header: self.header, range, alignment, next: Some(range.offset) }
+    /// Returns the notes of a section up to the first that can't be read, and why it can't.
+    pub fn readable_notes(&self, section: &SectionHeader) -> (Notes<'a>, Option<Error>) {
+        Notes::of(self, section.range(), section.sh_addralign)
     }
 
-    /// The notes of all segments of type `PT_NOTE`. What is refused is an item.
-    pub fn iter_note_headers(&self) -> NoteIterator<'a> {
+    /// Returns the notes of a segment up to the first that can't be read, and why it can't.
+    pub fn readable_segment_notes(&self, segment: &ProgramHeader) -> (Notes<'a>, Option<Error>) {
+        let range = raw::Range { offset: segment.p_offset, size: segment.p_filesz };
+        Notes::of(self, range, segment.p_align)
+    }
+
+    /// Returns the notes of all segments of type `PT_NOTE`.
+    ///
+    /// # Errors
+    /// Where the program headers don't lie in the file, or the notes of any of these segments can't be read.
+    pub fn iter_note_headers(&self) -> Result<NoteIterator<'a>> {
         NoteIterator::of_segments(*self)
     }
 
-    /// The notes of all sections of type `SHT_NOTE`. What is refused is an item.
-    pub fn iter_note_sections(&self) -> NoteIterator<'a> {
+    /// Returns the notes of all sections of type `SHT_NOTE`.
+    ///
+    /// # Errors
+    /// Where the section headers don't lie in the file, or the notes of any of these sections can't be read.
+    pub fn iter_note_sections(&self) -> Result<NoteIterator<'a>> {
         NoteIterator::of_sections(*self)
     }
+}
+
+fn all_notes<'a>((notes, refusal): (Notes<'a>, Option<Error>)) -> Result<Notes<'a>> {
+    refusal.map_or(Ok(notes), Err)
 }

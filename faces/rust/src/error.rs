@@ -2,11 +2,13 @@
 use crate::{raw, sys};
 use std::{error, fmt, result};
 
-/// Why a file is refused. Its text is the library's, by `Debug` too: so a `main` that answers it tells it in words.
+/// Why a file is refused.
+///
+/// `Debug` prints the same text as `Display`, so a `main` that returns an error prints it in words.
 #[derive(Clone, Copy, PartialEq, Eq, Hash)]
 pub struct Error(raw::Refusal);
 
-/// An answer, or why the file is refused.
+/// A value, or why the file is refused.
 pub type Result<T> = result::Result<T, Error>;
 
 /// What kind of refusal it is, with the numbers that belong to it, in the order of `goblin.h`. More may come.
@@ -122,7 +124,7 @@ impl Error {
         Error(why)
     }
 
-    /// Its kind.
+    /// Returns its kind.
     pub fn kind(&self) -> Kind {
         let raw::Refusal { kind, item, first, second, third, fourth } = self.0;
         let (byte, overflow) = (first as u8, fourth != 0);
@@ -213,7 +215,7 @@ mod tests {
         assert_eq!(refusals.len(), 21);
         for (comment, name, number) in refusals {
             let why = raw::Refusal { kind: number, item: 0, first: 101, second: 102, third: 103, fourth: 1 };
-            let told = format!("{:?}", Error(why).kind()).replace("true", "1");
+            let told = format!("{:?}", Error::new(why).kind()).replace("true", "1");
             let camel: String = name.split('_').map(|word| word[..1].to_string() + &word[1..].to_lowercase()).collect();
             let words: Vec<_> = told.split(|c: char| !c.is_alphanumeric()).filter(|word| !word.is_empty()).collect();
             assert_eq!(words[0], camel, "{number}");
@@ -224,12 +226,12 @@ mod tests {
         assert_eq!(items.len(), 3);
         for (_, name, item) in items {
             let name = name.replace('_', " ").to_lowercase();
-            let kind = |kind| format!("{:?}", Error(raw::Refusal { kind, item, ..raw::Refusal::default() }).kind());
+            let kind = |kind| format!("{:?}", Error::new(raw::Refusal { kind, item, ..raw::Refusal::default() }).kind());
             assert_eq!(kind(5), format!("BadInput {{ size: 0, msg: {name:?} }}"));
             assert_eq!(kind(6), format!("BufferTooShort(0, {name:?})"));
         }
         let later = raw::Refusal { kind: 25, ..raw::Refusal::default() };
-        assert_eq!(Error(later).kind(), Kind::Other(25));
+        assert_eq!(Error::new(later).kind(), Kind::Other(25));
     }
 
     // What the library tells of each kind, where the first number is 31, the second 5, the third 6 and the fourth 1.
@@ -262,7 +264,7 @@ mod tests {
     fn texts_are_the_library_s() {
         for (kind, item, text) in TEXTS {
             let why = raw::Refusal { kind, item, first: 31, second: 5, third: 6, fourth: 1 };
-            assert_eq!(Error(why).to_string(), text, "{kind}");
+            assert_eq!(Error::new(why).to_string(), text, "{kind}");
         }
         let told: Vec<_> = numbers_behind("GOBLIN_END = 1,\n").iter().map(|(_, _, number)| *number).collect();
         let mut tried = TEXTS.map(|(kind, _, _)| kind).to_vec();

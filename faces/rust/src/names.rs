@@ -8,7 +8,7 @@ use std::{fmt, str};
 /// More than the longest name has, by the test.
 pub(crate) const ROOM: usize = 23;
 
-/// The name of a number, as `X86_64` of a machine. It is text to use, and is kept and compared as text is.
+/// The name of a number, as `X86_64` of a machine. It can be used and compared as text is.
 #[derive(Clone, Copy)]
 pub struct Name {
     len: u8,
@@ -23,7 +23,7 @@ impl Name {
         Name { len, text }
     }
 
-    /// Its text.
+    /// Returns its text.
     pub fn as_str(&self) -> &str {
         str::from_utf8(&self.text[..self.len.into()]).expect("the library's names are text")
     }

@@ -1,11 +1,12 @@
 //! Notes, their constants, and the names of their types.
 pub use crate::constants::note::*;
 use crate::elf::Elf;
-use crate::error::Result;
+use crate::error::{Error, Result};
 use crate::file::File;
+use crate::items::{list, made};
 use crate::names::Name;
-use crate::program_header::PT_NOTE;
-use crate::section_header::SHT_NOTE;
+use crate::program_header::{ProgramHeaders, PT_NOTE};
+use crate::section_header::{SectionHeaders, SHT_NOTE};
 use crate::{raw, sys};
 use std::iter::FusedIterator;
 
@@ -21,93 +22,150 @@ pub struct Note<'a> {
 }
 
 impl Note<'_> {
-    /// The name of its type, as NT_GNU_BUILD_ID, or NT_UNKNOWN.
+    /// Returns the name of its type, as NT_GNU_BUILD_ID, or NT_UNKNOWN.
     pub fn type_to_str(&self) -> Name {
         Name::from_room(|room| sys::goblin_note_type_to_str(self.name.as_bytes(), self.n_type, room))
     }
 }
 
-/// The notes of a range, in their order. A refusal is the last item.
+/// The notes of a range of the file.
 #[derive(Clone, Copy, Debug)]
 pub struct Notes<'a> {
-    pub(crate) file: File<'a>,
-    pub(crate) header: raw::Header,
-    pub(crate) range: raw::Range,
-    pub(crate) alignment: u64,
-    // Where the next one is to be asked for, unless one was refused.
-    pub(crate) next: Option<u64>,
+    file: File<'a>,
+    header: raw::Header,
+    range: raw::Range,
+    alignment: u64,
+    count: usize,
 }
 
-impl<'a> Iterator for Notes<'a> {
-    type Item = Result<Note<'a>>;
+impl<'a> Notes<'a> {
+    /// Reads the notes of a range up to the first that can't be read, and returns why it can't.
+    pub(crate) fn of(elf: &Elf<'a>, range: raw::Range, alignment: u64) -> (Self, Option<Error>) {
+        let Elf { file, header } = *elf;
+        let mut notes = Notes { file, header, range, alignment, count: 0 };
+        let mut offset = range.offset;
+        loop {
+            match notes.read(offset) {
+                Ok(Some(note)) => offset = note.next,
+                Ok(None) => return (notes, None),
+                Err(e) => return (notes, Some(e)),
+            }
+            notes.count += 1;
+        }
+    }
 
-    fn next(&mut self) -> Option<Self::Item> {
-        let told = sys::goblin_note(&self.file, &self.header, &self.range, self.alignment, self.next?).transpose()?;
-        self.next = told.ok().map(|note| note.next);
-        Some(told.map(|note| Note {
-            n_type: note.n_type,
-            name: self.file.text(note.name),
-            desc: self.file.slice(note.desc),
-        }))
+    fn read(&self, offset: u64) -> Result<Option<raw::Note>> {
+        sys::goblin_note(&self.file, &self.header, &self.range, self.alignment, offset)
     }
 }
 
-impl FusedIterator for Notes<'_> {}
+list!(Notes of Note<'a>, by NoteDataIterator<'a>, "note", "notes");
 
-#[derive(Clone, Copy, Debug)]
-enum Holders {
-    Segments,
-    Sections,
+/// An iterator over the notes of a range.
+#[derive(Clone, Debug)]
+pub struct NoteDataIterator<'a> {
+    notes: Notes<'a>,
+    // The offset at which the next note is asked for.
+    next: u64,
+    left: usize,
 }
 
-/// The notes of all segments of notes, or of all sections of notes. What is refused is an item.
+impl<'a> NoteDataIterator<'a> {
+    fn new(notes: Notes<'a>) -> Self {
+        NoteDataIterator { notes, next: notes.range.offset, left: notes.count }
+    }
+}
+
+impl<'a> Iterator for NoteDataIterator<'a> {
+    type Item = Note<'a>;
+
+    fn next(&mut self) -> Option<Self::Item> {
+        self.left = self.left.checked_sub(1)?;
+        let note = made(self.notes.read(self.next))?;
+        self.next = note.next;
+        let file = self.notes.file;
+        Some(Note { n_type: note.n_type, name: file.text(note.name), desc: file.slice(note.desc) })
+    }
+
+    fn size_hint(&self) -> (usize, Option<usize>) {
+        (self.left, Some(self.left))
+    }
+}
+
+impl ExactSizeIterator for NoteDataIterator<'_> {}
+
+impl FusedIterator for NoteDataIterator<'_> {}
+
+#[derive(Clone, Copy, Debug)]
+enum Holders<'a> {
+    Segments(ProgramHeaders<'a>),
+    Sections(SectionHeaders<'a>),
+}
+
+/// An iterator over the notes of all segments of notes, or of all sections of notes.
 #[derive(Clone, Debug)]
 pub struct NoteIterator<'a> {
     elf: Elf<'a>,
-    holders: Holders,
-    // The index of the next header, unless they are refused.
-    next: Option<usize>,
-    // The notes of the one before it.
-    notes: Option<Notes<'a>>,
+    holders: Holders<'a>,
+    // The index of the next header.
+    next: usize,
+    // The notes of the last header of notes before it.
+    notes: Option<NoteDataIterator<'a>>,
+    left: usize,
 }
 
 impl<'a> NoteIterator<'a> {
-    pub(crate) fn of_segments(elf: Elf<'a>) -> Self {
-        NoteIterator { elf, holders: Holders::Segments, next: Some(0), notes: None }
+    pub(crate) fn of_segments(elf: Elf<'a>) -> Result<Self> {
+        Self::of(elf, Holders::Segments(elf.program_headers()?))
     }
 
-    pub(crate) fn of_sections(elf: Elf<'a>) -> Self {
-        NoteIterator { elf, holders: Holders::Sections, next: Some(0), notes: None }
+    pub(crate) fn of_sections(elf: Elf<'a>) -> Result<Self> {
+        Self::of(elf, Holders::Sections(elf.section_headers()?))
     }
 
-    // The notes of the header at an index: none of one that isn't of notes.
-    fn notes_at(&self, index: usize) -> Result<Option<Option<Notes<'a>>>> {
-        let elf = &self.elf;
-        Ok(match self.holders {
-            Holders::Segments => elf.program_header(index)?.map(|h| Some(elf.segment_notes(&h)).filter(|_| h.p_type == PT_NOTE)),
-            Holders::Sections => elf.section_header(index)?.map(|h| Some(elf.notes(&h)).filter(|_| h.sh_type == SHT_NOTE)),
-        })
+    fn of(elf: Elf<'a>, holders: Holders<'a>) -> Result<Self> {
+        let mut all = NoteIterator { elf, holders, next: 0, notes: None, left: 0 };
+        let mut counted = all.clone();
+        while let Some(notes) = counted.next_notes() {
+            all.left += notes?.len();
+        }
+        Ok(all)
     }
-}
 
-impl<'a> Iterator for NoteIterator<'a> {
-    type Item = Result<Note<'a>>;
-
-    fn next(&mut self) -> Option<Self::Item> {
+    // The notes of the next header of notes.
+    fn next_notes(&mut self) -> Option<Result<Notes<'a>>> {
         loop {
-            if let Some(note) = self.notes.as_mut().and_then(Iterator::next) {
-                return Some(note);
-            }
-            let index = self.next?;
-            match self.notes_at(index).transpose()? {
-                Ok(notes) => (self.notes, self.next) = (notes, Some(index + 1)),
-                Err(e) => {
-                    (self.notes, self.next) = (None, None);
-                    return Some(Err(e));
-                }
+            let (elf, index) = (&self.elf, self.next);
+            let notes = match &self.holders {
+                Holders::Segments(all) => all.get(index).map(|h| (h.p_type == PT_NOTE).then(|| elf.segment_notes(&h))),
+                Holders::Sections(all) => all.get(index).map(|h| (h.sh_type == SHT_NOTE).then(|| elf.notes(&h))),
+            }?;
+            self.next += 1;
+            if notes.is_some() {
+                return notes;
             }
         }
     }
 }
+
+impl<'a> Iterator for NoteIterator<'a> {
+    type Item = Note<'a>;
+
+    fn next(&mut self) -> Option<Self::Item> {
+        loop {
+            if let Some(note) = self.notes.as_mut().and_then(Iterator::next) {
+                self.left -= 1;
+                return Some(note);
+            }
+            self.notes = Some(made(self.next_notes()?).iter());
+        }
+    }
+
+    fn size_hint(&self) -> (usize, Option<usize>) {
+        (self.left, Some(self.left))
+    }
+}
+
+impl ExactSizeIterator for NoteIterator<'_> {}
 
 impl FusedIterator for NoteIterator<'_> {}

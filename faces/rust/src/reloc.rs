@@ -3,8 +3,8 @@ pub use crate::constants::reloc::*;
 use crate::elf::Elf;
 use crate::error::Result;
 use crate::file::File;
-use crate::items::{Items, List};
-use crate::section_header::{SectionHeader, SectionHeaderIterator, SHT_REL, SHT_RELA};
+use crate::items::{list, made, table, Items, List};
+use crate::section_header::{SectionHeader, SectionHeaderIterator, SectionHeaders, SHT_REL, SHT_RELA};
 use crate::{raw, sys};
 use std::iter::FusedIterator;
 
@@ -35,47 +35,25 @@ impl From<raw::Reloc> for Reloc {
 /// The relocations of a section.
 #[derive(Clone, Copy, Debug, Default)]
 pub struct RelocSection<'a> {
-    pub(crate) file: File<'a>,
-    pub(crate) header: raw::Header,
-    pub(crate) range: raw::Range,
-    pub(crate) is_rela: bool,
+    file: File<'a>,
+    header: raw::Header,
+    range: raw::Range,
+    is_rela: bool,
+    count: u64,
 }
 
 /// Relocations in their order.
 pub type RelocIterator<'a> = Items<RelocSection<'a>>;
 
 impl<'a> RelocSection<'a> {
-    /// The relocation at an index, or `None` past the last one.
-    ///
-    /// # Errors
-    /// Where the section doesn't lie in the file.
-    #[inline]
-    pub fn get(&self, index: usize) -> Result<Option<Reloc>> {
-        let reloc = sys::goblin_reloc(&self.file, &self.header, &self.range, self.is_rela, index as u64)?;
-        Ok(reloc.map(Reloc::from))
-    }
-
-    /// How many relocations there are.
-    ///
-    /// # Errors
-    /// Where the section doesn't lie in the file.
-    pub fn len(&self) -> Result<usize> {
-        self.count().map(|count| count as usize)
-    }
-
-    /// Whether there are no relocations.
-    ///
-    /// # Errors
-    /// Where the section doesn't lie in the file.
-    pub fn is_empty(&self) -> Result<bool> {
-        Ok(self.len()? == 0)
-    }
-
-    /// All relocations in their order. Where the section is refused, the refusal is the one item.
-    pub fn iter(&self) -> RelocIterator<'a> {
-        Items::new(*self)
+    pub(crate) fn of(elf: &Elf<'a>, range: raw::Range, is_rela: bool) -> Result<Self> {
+        let Elf { file, header } = *elf;
+        let count = sys::goblin_reloc_count(&file, &header, &range, is_rela)?;
+        Ok(RelocSection { file, header, range, is_rela, count: count.expect("a section that isn't refused has a count") })
     }
 }
+
+table!(RelocSection of Reloc, "relocation", "relocations");
 
 impl List for RelocSection<'_> {
     type Raw = raw::Reloc;
@@ -86,9 +64,13 @@ impl List for RelocSection<'_> {
         [Default::default(); 64]
     }
 
-    fn count(&self) -> Result<u64> {
-        let count = sys::goblin_reloc_count(&self.file, &self.header, &self.range, self.is_rela)?;
-        Ok(count.expect("a section that isn't refused has a count"))
+    fn count(&self) -> u64 {
+        self.count
+    }
+
+    #[inline]
+    fn read(&self, index: u64) -> Result<Option<raw::Reloc>> {
+        sys::goblin_reloc(&self.file, &self.header, &self.range, self.is_rela, index)
     }
 
     fn fill(&self, first: u64, into: &mut [raw::Reloc]) -> Result<Option<u64>> {
@@ -96,58 +78,73 @@ impl List for RelocSection<'_> {
     }
 }
 
-impl<'a> IntoIterator for &RelocSection<'a> {
-    type Item = Result<Reloc>;
-    type IntoIter = RelocIterator<'a>;
-
-    fn into_iter(self) -> RelocIterator<'a> {
-        self.iter()
-    }
-}
-
-/// The sections of relocations of a file, each with its header, in their order.
-#[derive(Clone, Debug)]
+/// The sections of relocations of a file, each with its header, in their order. Each lies in the file.
+#[derive(Clone, Copy, Debug)]
 pub struct RelocSections<'a> {
     elf: Elf<'a>,
-    headers: SectionHeaderIterator<'a>,
+    headers: SectionHeaders<'a>,
+    count: usize,
 }
 
 impl<'a> RelocSections<'a> {
-    pub(crate) fn of(elf: Elf<'a>) -> Self {
-        RelocSections { elf, headers: elf.section_headers() }
-    }
-
-    // Where a section is one of relocations, or is refused.
-    fn item(&self, header: Result<SectionHeader>) -> Option<Result<(SectionHeader, RelocSection<'a>)>> {
-        match header {
-            Ok(h) if h.sh_type != SHT_RELA && h.sh_type != SHT_REL => None,
-            header => Some(header.map(|h| (h, self.elf.relocs(&h)))),
+    pub(crate) fn of(elf: Elf<'a>) -> Result<Self> {
+        let headers = elf.section_headers()?;
+        let mut count = 0;
+        for header in headers.iter().filter(holds_relocs) {
+            elf.relocs(&header)?;
+            count += 1;
         }
+        Ok(RelocSections { elf, headers, count })
     }
 }
 
-impl<'a> Iterator for RelocSections<'a> {
-    type Item = Result<(SectionHeader, RelocSection<'a>)>;
+list!(RelocSections of (SectionHeader, RelocSection<'a>), by RelocSectionIterator<'a>, "section of relocations", "sections of relocations");
+
+pub(crate) fn holds_relocs(header: &SectionHeader) -> bool {
+    header.sh_type == SHT_RELA || header.sh_type == SHT_REL
+}
+
+/// An iterator over the sections of relocations of a file, each with its header, from both ends.
+#[derive(Clone, Debug)]
+pub struct RelocSectionIterator<'a> {
+    elf: Elf<'a>,
+    headers: SectionHeaderIterator<'a>,
+    left: usize,
+}
+
+impl<'a> RelocSectionIterator<'a> {
+    fn new(list: RelocSections<'a>) -> Self {
+        RelocSectionIterator { elf: list.elf, headers: list.headers.iter(), left: list.count }
+    }
+
+    // The relocations of the section header that was found.
+    fn take(&mut self, header: Option<SectionHeader>) -> Option<(SectionHeader, RelocSection<'a>)> {
+        let header = header?;
+        self.left -= 1;
+        Some((header, made(self.elf.relocs(&header))))
+    }
+}
+
+impl<'a> Iterator for RelocSectionIterator<'a> {
+    type Item = (SectionHeader, RelocSection<'a>);
 
     fn next(&mut self) -> Option<Self::Item> {
-        loop {
-            let header = self.headers.next()?;
-            if let Some(item) = self.item(header) {
-                return Some(item);
-            }
-        }
+        let header = self.headers.find(holds_relocs);
+        self.take(header)
+    }
+
+    fn size_hint(&self) -> (usize, Option<usize>) {
+        (self.left, Some(self.left))
     }
 }
 
-impl DoubleEndedIterator for RelocSections<'_> {
+impl DoubleEndedIterator for RelocSectionIterator<'_> {
     fn next_back(&mut self) -> Option<Self::Item> {
-        loop {
-            let header = self.headers.next_back()?;
-            if let Some(item) = self.item(header) {
-                return Some(item);
-            }
-        }
+        let header = self.headers.rfind(holds_relocs);
+        self.take(header)
     }
 }
 
-impl FusedIterator for RelocSections<'_> {}
+impl ExactSizeIterator for RelocSectionIterator<'_> {}
+
+impl FusedIterator for RelocSectionIterator<'_> {}

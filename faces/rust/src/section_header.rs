@@ -2,43 +2,43 @@
 pub use crate::constants::section_header::*;
 use crate::elf::Elf;
 use crate::error::Result;
-use crate::items::{Items, List};
+use crate::items::{table, Items, List};
 use crate::names::Name;
 pub use crate::raw::SectionHeader;
 use crate::{raw, sys};
 use std::ops::Range;
 
 impl SectionHeader {
-    /// Where the section lies in the file, inside it or not, or `None` where it has no bytes there (`SHT_NOBITS`). An end past
-    /// the greatest number is that number. [`Elf::section_data`] answers its bytes.
+    /// Returns where the section lies in the file, inside it or not, or `None` for a section without bytes there
+    /// (`SHT_NOBITS`). An end past the greatest number is that number. [`Elf::section_data`] returns the bytes.
     pub fn file_range(&self) -> Option<Range<usize>> {
         let start = self.sh_offset as usize;
         let range = start..start.saturating_add(self.sh_size as usize);
         Some(range).filter(|_| self.sh_type != SHT_NOBITS)
     }
 
-    /// Where the section lies in memory. An end past the greatest address is that address.
+    /// Returns where the section lies in memory. An end past the greatest address is that address.
     pub fn vm_range(&self) -> Range<usize> {
         let start = self.sh_addr as usize;
         start..start.saturating_add(self.sh_size as usize)
     }
 
-    /// Whether the section holds relocations with addends (`SHT_RELA`). Those without (`SHT_REL`) are not counted, as in goblin.
+    /// Reports whether the section holds relocations with addends (`SHT_RELA`). Those without (`SHT_REL`) are not counted, as in goblin.
     pub fn is_relocation(&self) -> bool {
         self.sh_type == SHT_RELA
     }
 
-    /// Whether the section is in memory and may be executed.
+    /// Reports whether the section is in memory and may be executed.
     pub fn is_executable(&self) -> bool {
         self.is_alloc() && self.sh_flags & SHF_EXECINSTR != 0
     }
 
-    /// Whether the section is in memory and may be written.
+    /// Reports whether the section is in memory and may be written.
     pub fn is_writable(&self) -> bool {
         self.is_alloc() && self.sh_flags & SHF_WRITE != 0
     }
 
-    /// Whether the section is in memory while the program runs.
+    /// Reports whether the section is in memory while the program runs.
     pub fn is_alloc(&self) -> bool {
         self.sh_flags & SHF_ALLOC != 0
     }
@@ -54,10 +54,22 @@ impl SectionHeader {
 
 /// The section headers of a file.
 #[derive(Clone, Copy, Debug)]
-pub struct SectionHeaders<'a>(pub(crate) Elf<'a>);
+pub struct SectionHeaders<'a> {
+    elf: Elf<'a>,
+    count: u64,
+}
 
 /// Section headers in their order.
 pub type SectionHeaderIterator<'a> = Items<SectionHeaders<'a>>;
+
+impl<'a> SectionHeaders<'a> {
+    pub(crate) fn of(elf: Elf<'a>) -> Result<Self> {
+        let count = sys::goblin_section_count(&elf.file, &elf.header)?;
+        Ok(SectionHeaders { elf, count: count.expect("headers that aren't refused have a count") })
+    }
+}
+
+table!(SectionHeaders of SectionHeader, "section header", "section headers");
 
 impl List for SectionHeaders<'_> {
     type Raw = SectionHeader;
@@ -68,16 +80,21 @@ impl List for SectionHeaders<'_> {
         [Default::default(); 32]
     }
 
-    fn count(&self) -> Result<u64> {
-        self.0.section_header_count().map(|count| count as u64)
+    fn count(&self) -> u64 {
+        self.count
+    }
+
+    #[inline]
+    fn read(&self, index: u64) -> Result<Option<SectionHeader>> {
+        sys::goblin_section(&self.elf.file, &self.elf.header, index)
     }
 
     fn fill(&self, first: u64, into: &mut [SectionHeader]) -> Result<Option<u64>> {
-        sys::goblin_sections(&self.0.file, &self.0.header, first, into)
+        sys::goblin_sections(&self.elf.file, &self.elf.header, first, into)
     }
 }
 
-/// The name of a section's type, as SHT_PROGBITS, or UNKNOWN_SHT.
+/// Returns the name of a section's type, as SHT_PROGBITS, or UNKNOWN_SHT.
 pub fn sht_to_str(sh_type: u32) -> Name {
     Name::from_room(|room| sys::goblin_sht_to_str(sh_type, room))
 }

@@ -11,7 +11,7 @@ pub struct Strtab<'a> {
 }
 
 impl<'a> Strtab<'a> {
-    /// The string at an offset from the table's start, or `None` past its end.
+    /// Returns the string at an offset from the table's start, or `None` past its end.
     ///
     /// # Errors
     /// Where the table doesn't lie in the file, and where the string is no UTF-8.
@@ -20,7 +20,7 @@ impl<'a> Strtab<'a> {
         sys::string(self.file.0, &self.range, offset as u64)
     }
 
-    /// The bytes of the string at an offset, text or not, or `None` past the table's end.
+    /// Returns the bytes of the string at an offset, text or not, or `None` past the table's end.
     ///
     /// # Errors
     /// Where the table doesn't lie in the file.

@@ -1,61 +1,63 @@
 //! Symbols, their constants, and the names of their numbers.
 pub use crate::constants::sym::*;
+use crate::elf::Elf;
 use crate::error::Result;
-use crate::items::{Items, List};
+use crate::file::File;
+use crate::items::{made, table, Items, List};
 use crate::names::Name;
 pub use crate::raw::Sym;
 use crate::strtab::Strtab;
 use crate::{raw, sys};
 
 impl Sym {
-    /// The binding.
+    /// Returns the binding.
     pub fn st_bind(&self) -> u8 {
         st_bind(self.st_info)
     }
 
-    /// The type.
+    /// Returns the type.
     pub fn st_type(&self) -> u8 {
         st_type(self.st_info)
     }
 
-    /// The visibility.
+    /// Returns the visibility.
     pub fn st_visibility(&self) -> u8 {
         st_visibility(self.st_other)
     }
 
-    /// Whether the symbol is imported: its binding is `STB_GLOBAL` or `STB_WEAK`, and its value 0.
+    /// Reports whether the symbol is imported: its binding is `STB_GLOBAL` or `STB_WEAK`, and its value 0.
     pub fn is_import(&self) -> bool {
         (self.st_bind() == STB_GLOBAL || self.st_bind() == STB_WEAK) && self.st_value == 0
     }
 
-    /// Whether the symbol is a function: its type is `STT_FUNC`.
+    /// Reports whether the symbol is a function: its type is `STT_FUNC`.
     pub fn is_function(&self) -> bool {
         self.st_type() == STT_FUNC
     }
 }
 
-/// The binding in an `st_info`: its high four bits.
+/// Returns the binding in an `st_info`: its high four bits.
 pub fn st_bind(info: u8) -> u8 {
     info >> 4
 }
 
-/// The type in an `st_info`: its low four bits.
+/// Returns the type in an `st_info`: its low four bits.
 pub fn st_type(info: u8) -> u8 {
     info & 0xf
 }
 
-/// The visibility in an `st_other`: its low three bits.
+/// Returns the visibility in an `st_other`: its low three bits.
 pub fn st_visibility(other: u8) -> u8 {
     other & 0x7
 }
 
-/// Whether a symbol with this `st_info` and value is global and has no value. Weak symbols are not counted here, but by
-/// [`Sym::is_import`], as in goblin.
+/// Reports whether a symbol with this `st_info` and value is global and has no value. A weak symbol isn't counted here, but
+/// by [`Sym::is_import`], as in goblin.
 pub fn is_import(info: u8, value: u64) -> bool {
     st_bind(info) == STB_GLOBAL && value == 0
 }
 
-/// The name of the type in an `st_info`.
+/// Returns the name of the type in an `st_info`.
 pub fn get_type(info: u8) -> Name {
     type_to_str(st_type(info))
 }
@@ -63,47 +65,29 @@ pub fn get_type(info: u8) -> Name {
 /// A table of symbols, with their names.
 #[derive(Clone, Copy, Debug)]
 pub struct Symtab<'a> {
-    pub(crate) header: raw::Header,
-    pub(crate) range: raw::Range,
-    /// The string table.
-    pub strtab: Strtab<'a>,
+    file: File<'a>,
+    header: raw::Header,
+    range: raw::Range,
+    count: u64,
+    strtab: Strtab<'a>,
 }
 
 /// Symbols in their order.
 pub type SymIterator<'a> = Items<Symtab<'a>>;
 
 impl<'a> Symtab<'a> {
-    /// The symbol at an index, or `None` past the last one.
-    ///
-    /// # Errors
-    /// Where the table doesn't lie in the file.
-    #[inline]
-    pub fn get(&self, index: usize) -> Result<Option<Sym>> {
-        sys::goblin_symbol(&self.strtab.file, &self.header, &self.range, index as u64)
+    pub(crate) fn of(elf: &Elf<'a>, range: raw::Range, strtab: Strtab<'a>) -> Result<Self> {
+        let Elf { file, header } = *elf;
+        let count = sys::goblin_symbol_count(&file, &header, &range)?;
+        Ok(Symtab { file, header, range, count: count.expect("a table that isn't refused has a count"), strtab })
     }
 
-    /// How many symbols there are.
-    ///
-    /// # Errors
-    /// Where the table doesn't lie in the file.
-    pub fn len(&self) -> Result<usize> {
-        self.count().map(|count| count as usize)
+    /// Returns the string table.
+    pub fn strtab(&self) -> Strtab<'a> {
+        self.strtab
     }
 
-    /// Whether there are no symbols.
-    ///
-    /// # Errors
-    /// Where the table doesn't lie in the file.
-    pub fn is_empty(&self) -> Result<bool> {
-        Ok(self.len()? == 0)
-    }
-
-    /// All symbols in their order. Where the table is refused, the refusal is the one item.
-    pub fn iter(&self) -> SymIterator<'a> {
-        Items::new(*self)
-    }
-
-    /// The name of a symbol, or `None` where it lies past the string table.
+    /// Returns the name of a symbol, or `None` where it lies past the string table.
     ///
     /// # Errors
     /// Where the string table doesn't lie in the file, and where the name is no text.
@@ -112,7 +96,7 @@ impl<'a> Symtab<'a> {
         self.strtab.get(symbol.st_name)
     }
 
-    /// The bytes of a symbol's name, text or not, or `None` where it lies past the string table.
+    /// Returns the bytes of a symbol's name, text or not, or `None` where it lies past the string table.
     ///
     /// # Errors
     /// Where the string table doesn't lie in the file.
@@ -121,25 +105,24 @@ impl<'a> Symtab<'a> {
         self.strtab.get_bytes(symbol.st_name)
     }
 
-    /// The index of the symbol that an address lies in: the highest one at it or below it, as `goblin.h` says.
-    ///
-    /// # Errors
-    /// Where the table doesn't lie in the file.
-    pub fn at(&self, address: u64) -> Result<Option<usize>> {
-        let index = sys::goblin_symbol_by_address(&self.strtab.file, &self.header, &self.range, address)?;
-        Ok(index.map(|index| index as usize))
+    /// Returns the index of the symbol that an address lies in: the highest one at it or below it, as `goblin.h` says.
+    pub fn at(&self, address: u64) -> Option<usize> {
+        let index = sys::goblin_symbol_by_address(&self.file, &self.header, &self.range, address);
+        made(index).map(|index| index as usize)
     }
 
-    /// The index of the first symbol with a name.
+    /// Returns the index of the first symbol with a name.
     ///
     /// # Errors
-    /// Where the table or its string table doesn't lie in the file.
+    /// Where the string table doesn't lie in the file.
     pub fn find(&self, name: &str) -> Result<Option<usize>> {
-        let Strtab { file, range } = &self.strtab;
-        let index = sys::goblin_symbol_by_name(file, &self.header, &self.range, range, name.as_bytes())?;
+        let names = &self.strtab.range;
+        let index = sys::goblin_symbol_by_name(&self.file, &self.header, &self.range, names, name.as_bytes())?;
         Ok(index.map(|index| index as usize))
     }
 }
+
+table!(Symtab of Sym, "symbol", "symbols");
 
 impl List for Symtab<'_> {
     type Raw = Sym;
@@ -150,36 +133,31 @@ impl List for Symtab<'_> {
         [Default::default(); 64]
     }
 
-    fn count(&self) -> Result<u64> {
-        let count = sys::goblin_symbol_count(&self.strtab.file, &self.header, &self.range)?;
-        Ok(count.expect("a table that isn't refused has a count"))
+    fn count(&self) -> u64 {
+        self.count
+    }
+
+    #[inline]
+    fn read(&self, index: u64) -> Result<Option<Sym>> {
+        sys::goblin_symbol(&self.file, &self.header, &self.range, index)
     }
 
     fn fill(&self, first: u64, into: &mut [Sym]) -> Result<Option<u64>> {
-        sys::goblin_symbols(&self.strtab.file, &self.header, &self.range, first, into)
+        sys::goblin_symbols(&self.file, &self.header, &self.range, first, into)
     }
 }
 
-impl<'a> IntoIterator for &Symtab<'a> {
-    type Item = Result<Sym>;
-    type IntoIter = SymIterator<'a>;
-
-    fn into_iter(self) -> SymIterator<'a> {
-        self.iter()
-    }
-}
-
-/// The name of a binding, as GLOBAL, or UNKNOWN_STB.
+/// Returns the name of a binding, as GLOBAL, or UNKNOWN_STB.
 pub fn bind_to_str(binding: u8) -> Name {
     Name::from_room(|room| sys::goblin_bind_to_str(binding, room))
 }
 
-/// The name of a symbol's type, as FUNC, or UNKNOWN_STT.
+/// Returns the name of a symbol's type, as FUNC, or UNKNOWN_STT.
 pub fn type_to_str(type_: u8) -> Name {
     Name::from_room(|room| sys::goblin_type_to_str(type_, room))
 }
 
-/// The name of a visibility, as HIDDEN, or UNKNOWN_STV.
+/// Returns the name of a visibility, as HIDDEN, or UNKNOWN_STV.
 pub fn visibility_to_str(visibility: u8) -> Name {
     Name::from_room(|room| sys::goblin_visibility_to_str(visibility, room))
 }

@@ -28,8 +28,8 @@ fn with_names_at(form: Form, index: u64) -> Vec<u8> {
     file
 }
 
-fn section<'a>(elf: &Elf<'a>, kind: u32) -> SectionHeader {
-    elf.section_headers().map(Result::unwrap).find(|section| section.sh_type == kind).unwrap()
+fn section(elf: &Elf<'_>, kind: u32) -> SectionHeader {
+    elf.section_headers().unwrap().iter().find(|section| section.sh_type == kind).unwrap()
 }
 
 #[test]
@@ -52,7 +52,7 @@ fn sections() {
         let file = made(form, 0);
         let elf = Elf::parse(&file).unwrap();
         let names = elf.shdr_strtab().unwrap();
-        let sections: Vec<_> = elf.section_headers().map(Result::unwrap).collect();
+        let sections: Vec<_> = elf.section_headers().unwrap().iter().collect();
         let found: Vec<_> = sections.iter().map(|s| names.get(s.sh_name).unwrap().unwrap()).collect();
         assert_eq!(found, ["", ".note", ".symtab", ".strtab", ".rela", ".rel", ".names"]);
         for (index, name) in found.iter().enumerate() {
@@ -82,7 +82,7 @@ fn segments() {
     for form in FORMS {
         let file = made(form, 0);
         let elf = Elf::parse(&file).unwrap();
-        let segments: Vec<_> = elf.program_headers().map(Result::unwrap).collect();
+        let segments: Vec<_> = elf.program_headers().unwrap().iter().collect();
         assert_eq!(segments.len(), 2);
         let load = segments[1];
         assert_eq!((load.p_type, load.p_flags, load.p_offset, load.p_filesz), (1, 5, 0, elf.header.e_shoff));
@@ -102,16 +102,16 @@ fn symbols() {
         let elf = Elf::parse(&file).unwrap();
         let symbols = elf.syms().unwrap().unwrap();
         let second = Sym { st_name: 7, st_info: 0x21, st_other: 0, st_shndx: 0xfff1, st_value: 0x2030, st_size: 0x40 };
-        assert_eq!(symbols.get(2), Ok(Some(second)));
+        assert_eq!(symbols.get(2), Some(second));
         assert_eq!((second.st_bind(), second.st_type()), (2, 1));
-        let first = symbols.get(1).unwrap().unwrap();
+        let first = symbols.get(1).unwrap();
         assert_eq!((first.st_visibility(), first.st_value, first.st_size, first.st_shndx), (2, 0x1020, 0x30, 3));
-        let names: Vec<_> = symbols.iter().map(|symbol| symbols.name(&symbol.unwrap()).map_err(|e| e.kind())).collect();
+        let names: Vec<_> = symbols.iter().map(|symbol| symbols.name(&symbol).map_err(|e| e.kind())).collect();
         assert_eq!(names, [Ok(Some("")), Ok(Some("first")), Ok(Some("second")), Ok(Some("été")), Err(NO_TEXT)]);
         assert_eq!(symbols.find("été"), Ok(Some(3)));
         assert_eq!(symbols.find("t"), Ok(None));
-        assert_eq!(symbols.get(5), Ok(None));
-        assert_eq!(symbols.strtab.get(STRINGS.len()), Ok(None));
+        assert_eq!(symbols.get(5), None);
+        assert_eq!(symbols.strtab().get(STRINGS.len()), Ok(None));
         assert!(elf.dynsyms().unwrap().is_none());
     }
 }
@@ -126,7 +126,7 @@ fn first_section(file: &[u8]) -> Named {
 
 fn first_symbol(file: &[u8]) -> Named {
     let symbols = Elf::parse(file).unwrap().syms().unwrap().unwrap();
-    let symbol = symbols.get(1).unwrap().unwrap();
+    let symbol = symbols.get(1).unwrap();
     (symbols.name(&symbol).map(|name| name.map(String::from)), symbols.find("first"))
 }
 
@@ -156,9 +156,9 @@ fn sections_without_bytes_hold_nothing() {
             assert_ne!(elf.strtab(&section).get(0), Ok(None));
             section.sh_type = SHT_NOBITS;
             assert_eq!(elf.strtab(&section).get(0), Ok(None));
-            assert_eq!(elf.symtab(&section).unwrap().get(0), Ok(None));
-            assert_eq!(elf.relocs(&section).get(0), Ok(None));
-            assert!(elf.notes(&section).next().is_none());
+            assert!(elf.symtab(&section).unwrap().is_empty());
+            assert!(elf.relocs(&section).unwrap().is_empty());
+            assert!(elf.notes(&section).unwrap().is_empty());
         }
     }
 }
@@ -168,14 +168,13 @@ fn counts_and_bytes() {
     for form in FORMS {
         let file = made(form, 2);
         let elf = Elf::parse(&file).unwrap();
-        assert_eq!(elf.program_header_count(), Ok(2));
         let symbols = elf.syms().unwrap().unwrap();
-        assert_eq!((symbols.len(), symbols.is_empty()), (Ok(7), Ok(false)));
-        assert_eq!((symbols.at(0), symbols.at(0x101f)), (Ok(Some(5)), Ok(Some(6))));
-        assert_eq!(symbols.at(0x1020), Ok(Some(1)));
-        assert_eq!(symbols.at(u64::MAX >> 32), Ok(Some(1)));
-        let counts: Vec<_> = elf.shdr_relocs().map(|relocs| relocs.unwrap().1.len()).collect();
-        assert_eq!(counts, [Ok(2), Ok(1)]);
+        assert_eq!((symbols.len(), symbols.is_empty()), (7, false));
+        assert_eq!((symbols.at(0), symbols.at(0x101f)), (Some(5), Some(6)));
+        assert_eq!(symbols.at(0x1020), Some(1));
+        assert_eq!(symbols.at(u64::MAX >> 32), Some(1));
+        let counts: Vec<_> = elf.shdr_relocs().unwrap().iter().map(|(_, relocs)| relocs.len()).collect();
+        assert_eq!(counts, [2, 1]);
         assert_eq!(elf.section_by_type(3, 0), Ok(Some(3)));
         assert_eq!(elf.section_by_type(3, 4), Ok(Some(6)));
         assert_eq!(elf.section_by_type(3, 7), Ok(None));
@@ -186,8 +185,8 @@ fn counts_and_bytes() {
         assert_eq!(elf.section_data(&past).map_err(|e| e.kind()), Err(Kind::TooBig { size: 2, len: 1 }));
         let load = elf.program_header(1).unwrap().unwrap();
         assert_eq!(elf.segment_data(&load), Ok(Some(&file[..elf.header.e_shoff as usize])));
-        assert_eq!(symbols.strtab.get_bytes(20), Ok(Some(&b"\xff"[..])));
-        assert_eq!(symbols.strtab.get_bytes(STRINGS.len()), Ok(None));
+        assert_eq!(symbols.strtab().get_bytes(20), Ok(Some(&b"\xff"[..])));
+        assert_eq!(symbols.strtab().get_bytes(STRINGS.len()), Ok(None));
         assert_eq!(elf.number(18, 2), Ok(Some(0x3e)));
         assert_eq!(elf.number(18, 3), Ok(None));
         assert_eq!(elf.number(file.len() as u64, 1).map_err(|e| e.kind()), Err(Kind::BadOffset(file.len() as u64)));
@@ -199,12 +198,12 @@ fn as_many_symbols_as_there_are() {
     for more in [0, 58, 59, 60, 123, 124, 1000] {
         let file = made(FORMS[0], more);
         let symbols = Elf::parse(&file).unwrap().syms().unwrap().unwrap();
-        let listed: Vec<_> = symbols.iter().map(Result::unwrap).collect();
+        let listed: Vec<_> = symbols.iter().collect();
         assert_eq!(listed.len(), 5 + more);
         for (number, symbol) in listed[5..].iter().enumerate() {
             assert_eq!(symbol.st_value, number as u64);
         }
-        assert_eq!(symbols.get(5 + more), Ok(None));
+        assert_eq!(symbols.get(5 + more), None);
     }
 }
 
@@ -215,13 +214,12 @@ fn relocations() {
         let elf = Elf::parse(&file).unwrap();
         let symbols = elf.syms().unwrap().unwrap();
         let mut listed = Vec::new();
-        for relocs in elf.shdr_relocs() {
-            let (section, relocs) = relocs.unwrap();
+        for (section, relocs) in elf.shdr_relocs().unwrap() {
             assert_eq!(section.sh_type == SHT_REL, !listed.is_empty());
-            for reloc in relocs.iter().map(Result::unwrap) {
-                assert_eq!(relocs.get(listed.len() % 2), Ok(Some(reloc)));
+            for reloc in relocs {
+                assert_eq!(relocs.get(listed.len() % 2), Some(reloc));
                 let Reloc { r_offset, r_addend, r_sym, r_type } = reloc;
-                let symbol = symbols.get(r_sym).unwrap().unwrap();
+                let symbol = symbols.get(r_sym).unwrap();
                 listed.push((r_offset, r_type, symbols.name(&symbol).unwrap().unwrap(), r_addend));
             }
         }
@@ -235,10 +233,10 @@ fn notes() {
     for form in FORMS {
         let file = made(form, 0);
         let elf = Elf::parse(&file).unwrap();
-        let of_section: Vec<_> = elf.iter_note_sections().map(Result::unwrap).collect();
-        let of_segment: Vec<_> = elf.iter_note_headers().map(Result::unwrap).collect();
+        let of_section: Vec<_> = elf.iter_note_sections().unwrap().collect();
+        let of_segment: Vec<_> = elf.iter_note_headers().unwrap().collect();
         assert_eq!(of_section, of_segment);
-        assert_eq!(of_section, elf.notes(&section(&elf, SHT_NOTE)).map(Result::unwrap).collect::<Vec<_>>());
+        assert_eq!(of_section, elf.notes(&section(&elf, SHT_NOTE)).unwrap().iter().collect::<Vec<_>>());
         let told: Vec<_> = of_section.iter().map(|note| (note.n_type, note.name, note.desc)).collect();
         assert_eq!(told, [(3, "GNU", &b"abcd"[..]), (0x1234, "goblin", &b"hello"[..])]);
         assert_eq!(of_section[0].type_to_str(), "NT_GNU_BUILD_ID");
@@ -267,10 +265,6 @@ fn refusals() {
     assert_eq!(format!("{:?}", Elf::parse(&file[..63]).err().unwrap()), "type is too big (64) for 63");
     let class = refused(&|f| f[4] = 3);
     assert_eq!(class.0, Kind::ElfClass(3));
-    // Where the section headers lie past the file's end: the refusal is the one item.
-    let elf = Elf::parse(&file[..100]).unwrap();
-    let refused: Vec<_> = elf.section_headers().map(|section| section.map_err(|e| e.kind())).collect();
-    assert_eq!(refused, [Err(Kind::BadOffset(elf.header.e_shoff))]);
 }
 
 #[test]
@@ -297,23 +291,23 @@ fn names_of_numbers() {
 fn read_all(file: &[u8]) -> Result<(usize, usize)> {
     let elf = Elf::parse(file)?;
     let (mut items, mut refusals) = (0, 0);
-    let mut count = |is_ok: bool| if is_ok { items += 1 } else { refusals += 1 };
-    elf.program_headers().for_each(|segment| count(segment.is_ok()));
-    elf.iter_note_headers().for_each(|note| count(note.is_ok()));
-    elf.iter_note_sections().for_each(|note| count(note.is_ok()));
-    for section in elf.section_headers() {
-        count(section.is_ok());
-        let section = match section {
-            Ok(section) => section,
-            Err(_) => break,
-        };
-        count(elf.shdr_strtab()?.get(section.sh_name).is_ok());
-        elf.relocs(&section).iter().for_each(|reloc| count(reloc.is_ok()));
-        if section.sh_type == SHT_SYMTAB {
-            let symbols = elf.symtab(&section)?;
-            for symbol in symbols.iter() {
-                count(symbol.and_then(|symbol| symbols.name(&symbol)).is_ok());
-            }
+    let mut count = |found: Result<usize>| match found {
+        Ok(found) => items += found,
+        Err(_) => refusals += 1,
+    };
+    count(elf.program_headers().map(|all| all.iter().map(|_| 1).sum()));
+    count(elf.iter_note_headers().map(|all| all.map(|_| 1).sum()));
+    count(elf.iter_note_sections().map(|all| all.map(|_| 1).sum()));
+    count(elf.section_headers().map(|all| all.len()));
+    for section in elf.section_headers().iter().flatten() {
+        count(elf.shdr_strtab().and_then(|names| names.get(section.sh_name)).map(|_| 1));
+        match section.sh_type {
+            SHT_RELA | SHT_REL => count(elf.relocs(&section).map(|all| all.iter().map(|_| 1).sum())),
+            SHT_SYMTAB => match elf.symtab(&section) {
+                Ok(symbols) => symbols.iter().for_each(|symbol| count(symbols.name(&symbol).map(|_| 1))),
+                Err(e) => count(Err(e)),
+            },
+            _ => {}
         }
     }
     Ok((items, refusals))

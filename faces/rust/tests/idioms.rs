@@ -7,7 +7,7 @@ use goblin_rs::program_header::{program_header32, program_header64, *};
 use goblin_rs::reloc::{reloc32, reloc64};
 use goblin_rs::section_header::{section_header32, section_header64, *};
 use goblin_rs::sym::{self, sym32, sym64, *};
-use goblin_rs::{Elf, Error, Name, Result};
+use goblin_rs::{Elf, Error, Name};
 use std::collections::{HashMap, HashSet};
 use std::fmt::Debug;
 
@@ -15,7 +15,7 @@ mod made;
 use made::{made, FORMS, STRINGS};
 
 /// Whether an iterator gives what `of` tells of its items: from both ends, by turns, by jumps, cloned and counted.
-fn gives<L: List + Clone, T: Clone + Debug + PartialEq>(items: Items<L>, of: impl Fn(Result<L::Item>) -> T, list: &[T]) {
+fn gives<L: List, T: Clone + Debug + PartialEq>(items: Items<L>, of: impl Fn(L::Item) -> T, list: &[T]) {
     assert_eq!((items.len(), items.size_hint()), (list.len(), (list.len(), Some(list.len()))));
     assert_eq!(items.clone().map(&of).collect::<Vec<_>>(), list);
     let backwards: Vec<_> = list.iter().rev().cloned().collect();
@@ -51,11 +51,11 @@ fn symbols_from_both_ends() {
         let symbols = Elf::parse(&file).unwrap().syms().unwrap().unwrap();
         let mut values = Vec::new();
         for symbol in &symbols {
-            values.push(symbol.unwrap().st_value);
+            values.push(symbol.st_value);
         }
         let made: Vec<u64> = [0, 0x1020, 0x2030, 0x3040, 0x4050].into_iter().chain(0..more as u64).collect();
         assert_eq!(values, made);
-        gives(symbols.iter(), |symbol| symbol.unwrap().st_value, &made);
+        gives(symbols.iter(), |symbol| symbol.st_value, &made);
     }
 }
 
@@ -64,46 +64,40 @@ fn tables_from_both_ends() {
     for form in FORMS {
         let file = made(form, 0);
         let elf = Elf::parse(&file).unwrap();
-        gives(elf.section_headers(), |section| section.unwrap().sh_type, &[0, 7, 2, 3, 4, 9, 3]);
-        gives(elf.program_headers(), |segment| segment.unwrap().p_type, &[4, 1]);
-        let of_relocs: Vec<_> = elf.shdr_relocs().map(|relocs| relocs.unwrap().0.sh_type).collect();
-        assert_eq!(of_relocs, [SHT_RELA, SHT_REL]);
-        let (_, last) = elf.shdr_relocs().next_back().unwrap().unwrap();
-        gives(last.iter(), |reloc| reloc.unwrap().r_type, &[11]);
-        let (_, first) = elf.shdr_relocs().rev().nth(1).unwrap().unwrap();
-        gives((&first).into_iter(), |reloc| reloc.unwrap().r_offset, &[0x8, 0x18]);
-        assert_eq!((elf.section_header_count(), elf.program_header_count()), (Ok(7), Ok(2)));
-        let mut notes = elf.iter_note_sections();
-        assert_eq!(notes.clone().count(), 2);
-        assert_eq!(notes.by_ref().last().unwrap().unwrap().name, "goblin");
-        assert!(notes.next().is_none() && notes.next().is_none());
+        let (sections, segments) = (elf.section_headers().unwrap(), elf.program_headers().unwrap());
+        gives(sections.iter(), |section| section.sh_type, &[0, 7, 2, 3, 4, 9, 3]);
+        gives(segments.iter(), |segment| segment.p_type, &[4, 1]);
+        let relocs = elf.shdr_relocs().unwrap();
+        assert_eq!(relocs.iter().map(|(section, _)| section.sh_type).collect::<Vec<_>>(), [SHT_RELA, SHT_REL]);
+        let mut from_behind = relocs.iter();
+        let (_, last) = from_behind.next_back().unwrap();
+        assert_eq!((from_behind.len(), from_behind.size_hint(), relocs.len()), (1, (1, Some(1)), 2));
+        gives(last.iter(), |reloc| reloc.r_type, &[11]);
+        let (_, first) = relocs.into_iter().rev().nth(1).unwrap();
+        gives((&first).into_iter(), |reloc| reloc.r_offset, &[0x8, 0x18]);
+        assert_eq!((sections.len(), segments.len(), segments.is_empty()), (7, 2, false));
+        assert_eq!((sections.get(4).map(|section| section.sh_type), sections.get(7)), (Some(SHT_RELA), None));
+        assert_eq!((segments.get(1).map(|segment| segment.p_type), segments.get(2)), (Some(PT_LOAD), None));
+        for mut notes in [elf.iter_note_sections().unwrap(), elf.iter_note_headers().unwrap()] {
+            assert_eq!((notes.len(), notes.clone().count()), (2, 2));
+            assert_eq!(notes.by_ref().last().unwrap().name, "goblin");
+            assert!(notes.next().is_none() && notes.next().is_none() && notes.len() == 0);
+        }
     }
 }
 
 #[test]
-fn a_refused_list_has_its_refusal_alone() {
-    for form in FORMS {
-        let file = made(form, 0);
-        let elf = Elf::parse(&file[..100]).unwrap();
-        let offset = elf.header.e_shoff;
-        gives(elf.section_headers(), |section| section.map_err(|e| e.kind()), &[Err(Kind::BadOffset(offset))]);
-        let refused: Vec<_> = elf.shdr_relocs().map(|relocs| relocs.err().map(|e| e.kind())).collect();
-        assert_eq!(refused, [Some(Kind::BadOffset(offset))]);
-        assert_eq!(elf.iter_note_sections().map(|note| note.err()).collect::<Vec<_>>().len(), 1);
-        assert_eq!(elf.iter_note_headers().map(|note| note.err()).collect::<Vec<_>>().len(), 1);
-        let whole = Elf::parse(&file).unwrap();
-        let mut section = whole.section_header(2).unwrap().unwrap();
-        section.sh_offset = file.len() as u64;
-        let (offset, len) = (section.sh_offset, section.sh_offset);
-        let symbols = whole.symtab(&section).unwrap();
-        gives(symbols.iter(), |symbol| symbol.map_err(|e| e.kind()), &[Err(Kind::SymtabOffset { offset, len })]);
-        section.sh_offset -= 1;
-        let symbols = whole.symtab(&section).unwrap();
-        let past = Kind::SymtabPast { requested: section.sh_size, available: 1 };
-        gives(symbols.iter(), |symbol| symbol.map_err(|e| e.kind()), &[Err(past)]);
-        let strings = whole.strtab(&section).get(0).map_err(|e| e.kind());
-        assert_eq!(strings, Err(Kind::StrtabRange { size: section.sh_size, offset: offset - 1, len, overflow: false }));
-    }
+fn lists_are_equal_where_their_items_are() {
+    let (file, longer) = (made(FORMS[0], 0), made(FORMS[0], 1));
+    let (one, other) = (Elf::parse(&file).unwrap(), Elf::parse(&longer).unwrap());
+    assert_eq!(one.section_headers(), Elf::parse(&file.clone()).unwrap().section_headers());
+    assert_ne!(one.section_headers(), other.section_headers());
+    assert_eq!(one.program_headers().unwrap().get(0), other.program_headers().unwrap().get(0));
+    assert_ne!(one.program_headers(), other.program_headers());
+    assert_ne!(one.syms(), other.syms());
+    let section = |file, index| Elf::parse(file).unwrap().section_header(index).unwrap().unwrap();
+    assert_eq!(one.relocs(&section(&file, 4)), other.relocs(&section(&longer, 4)));
+    assert_ne!(one.relocs(&section(&file, 4)), one.relocs(&section(&file, 5)));
 }
 
 #[test]
@@ -113,7 +107,7 @@ fn what_symbols_and_headers_are() {
         let elf = Elf::parse(&file).unwrap();
         assert_eq!((elf.is_64(), elf.little_endian()), (form.is_64, !form.is_big));
         let symbols = elf.syms().unwrap().unwrap();
-        let first = symbols.get(1).unwrap().unwrap();
+        let first = symbols.get(1).unwrap();
         assert!(first.is_function() && !first.is_import());
         // global and weak symbols of value 0 are imported, local ones are not
         for (st_info, is_import, is_global_import, is_function) in
@@ -149,18 +143,17 @@ fn notes_and_names_as_bytes() {
     for form in FORMS {
         let file = made(form, 0);
         let elf = Elf::parse(&file).unwrap();
-        let of_segment: Vec<_> = elf.segment_notes(&elf.program_header(0).unwrap().unwrap()).map(Result::unwrap).collect();
+        let of_segment: Vec<_> = elf.segment_notes(&elf.program_header(0).unwrap().unwrap()).unwrap().iter().collect();
         assert_eq!(of_segment.iter().map(|note| note.name).collect::<Vec<_>>(), ["GNU", "goblin"]);
         let segment = ProgramHeader { p_align: 16, ..elf.program_header(0).unwrap().unwrap() };
         let section = SectionHeader { sh_addralign: 16, ..elf.section_header(1).unwrap().unwrap() };
-        for mut notes in [elf.segment_notes(&segment), elf.notes(&section)] {
-            assert_eq!(notes.next().map(|note| note.map_err(|e| e.kind())), Some(Err(Kind::NoteAlign(16))));
-            assert_eq!(notes.next(), None);
+        for notes in [elf.segment_notes(&segment), elf.notes(&section)] {
+            assert_eq!(notes.unwrap_err().kind(), Kind::NoteAlign(16));
         }
-        let notes: HashSet<_> = elf.iter_note_headers().map(Result::unwrap).collect();
+        let notes: HashSet<_> = elf.iter_note_headers().unwrap().collect();
         assert_eq!(notes, of_segment.into_iter().collect());
         let symbols = elf.syms().unwrap().unwrap();
-        let names: Vec<_> = symbols.iter().map(|symbol| symbols.name_bytes(&symbol.unwrap()).unwrap().unwrap()).collect();
+        let names: Vec<_> = symbols.iter().map(|symbol| symbols.name_bytes(&symbol).unwrap().unwrap()).collect();
         assert_eq!(names, [&b""[..], b"first", b"second", b"\xc3\xa9t\xc3\xa9", b"\xff"]);
     }
 }

@@ -1,0 +1,246 @@
+//! Adaptors of iterators over lists, whole and refused: none loses a refusal or an item.
+use goblin_rs::error::Kind;
+use goblin_rs::section_header::{SectionHeader, SHT_DYNSYM, SHT_NOTE, SHT_REL, SHT_RELA};
+use goblin_rs::{Elf, Error};
+use std::fmt::Debug;
+
+mod made;
+use made::{made, FORMS};
+
+/// What each adaptor gives of some items, and what each call that consumes them.
+fn forwards<I>(items: impl Fn() -> I) -> Vec<(&'static str, String)>
+where
+    I: ExactSizeIterator + Clone,
+    I::Item: Debug + PartialEq,
+{
+    fn told<T: Debug>(items: impl Iterator<Item = T>) -> String {
+        format!("{:?}", items.collect::<Vec<_>>())
+    }
+    let mut half = items();
+    let first = format!("{:?}", half.by_ref().take(1).collect::<Vec<_>>());
+    let mut peeked = items().peekable();
+    let peek = format!("{:?}", peeked.peek());
+    vec![
+        ("by_ref", first + &told(half)),
+        ("chain", told(items().chain(items().skip(1)))),
+        ("collect", format!("{:?}", items().map(Ok).collect::<Result<Vec<_>, Error>>())),
+        ("count", items().count().to_string()),
+        ("cycle", told(items().cycle().take(9))),
+        ("enumerate", told(items().enumerate().skip(1))),
+        ("eq", items().eq(items().take(1)).to_string()),
+        ("filter", told(items().enumerate().filter(|(i, _)| i % 2 == 1))),
+        ("filter_map", told(items().enumerate().filter_map(|(i, item)| (i != 1).then_some(item)))),
+        ("find", format!("{:?}", items().enumerate().find(|(i, _)| *i == 2))),
+        ("flat_map", told(items().flat_map(|item| [Some(item), None]))),
+        ("fold", items().fold(String::new(), |text, item| text + &format!("{item:?}"))),
+        ("fuse", told(items().fuse())),
+        ("inspect", told(items().inspect(|_| ()))),
+        ("last", format!("{:?}", items().last())),
+        ("len", items().len().to_string()),
+        ("map_while", told(items().enumerate().map_while(|(i, item)| (i < 2).then_some(item)))),
+        ("nth", format!("{:?}", items().nth(1))),
+        ("nth past the end", format!("{:?}", items().nth(usize::MAX))),
+        ("partition", format!("{:?}", items().enumerate().partition::<Vec<_>, _>(|(i, _)| i % 3 == 0))),
+        ("peekable", peek + &told(peeked)),
+        ("position", format!("{:?}", items().position(|item| Some(item) == items().last()))),
+        ("reduce", format!("{:?}", items().reduce(|_, last| last))),
+        ("scan", told(items().scan(0, |sum, item| { *sum += 1; Some((*sum, item)) }))),
+        ("size_hint", format!("{:?}", items().size_hint())),
+        ("skip", told(items().skip(1))),
+        ("skip, collected as results", format!("{:?}", items().skip(1).map(Ok).collect::<Result<Vec<_>, Error>>())),
+        ("skip, counted", items().skip(1).count().to_string()),
+        ("skip, folded", items().skip(1).fold(0, |sum, _| sum + 1).to_string()),
+        ("skip_while", told(items().enumerate().skip_while(|(i, _)| *i < 2))),
+        ("step_by", told(items().step_by(2))),
+        ("take", told(items().take(2))),
+        ("take_while", told(items().enumerate().take_while(|(i, _)| *i < 2))),
+        ("try_fold", format!("{:?}", items().try_fold(0, |sum, _| if sum < 3 { Ok(sum + 1) } else { Err(sum) }))),
+        ("unzip", format!("{:?}", items().map(|item| (1, item)).unzip::<i32, _, Vec<_>, Vec<_>>())),
+        ("zip", told(items().zip(items().skip(1)))),
+    ]
+}
+
+/// The same of those that go from the end.
+fn backwards<I>(items: impl Fn() -> I) -> Vec<(&'static str, String)>
+where
+    I: ExactSizeIterator + DoubleEndedIterator + Clone,
+    I::Item: Debug + PartialEq,
+{
+    vec![
+        ("next_back", format!("{:?}", items().next_back())),
+        ("nth_back", format!("{:?}", items().nth_back(1))),
+        ("rev", format!("{:?}", items().rev().collect::<Vec<_>>())),
+        ("rev, skip", format!("{:?}", items().rev().skip(1).collect::<Vec<_>>())),
+        ("rev, step_by", format!("{:?}", items().rev().step_by(2).collect::<Vec<_>>())),
+        ("rfind", format!("{:?}", items().rfind(|item| Some(item) == items().next().as_ref()))),
+        ("rfold", items().rfold(String::new(), |text, item| text + &format!("{item:?}"))),
+        ("rposition", format!("{:?}", items().rposition(|item| Some(item) == items().next()))),
+        ("skip, rev", format!("{:?}", items().skip(1).rev().collect::<Vec<_>>())),
+    ]
+}
+
+/// Whether each adaptor gives of a list what it gives of its items that were read one by one.
+fn has_each<L>(list: L, items: Vec<L::Item>)
+where
+    L: IntoIterator + Copy,
+    L::IntoIter: ExactSizeIterator + DoubleEndedIterator + Clone,
+    L::Item: Debug + Clone + PartialEq,
+{
+    assert_eq!(forwards(|| list.into_iter()), forwards(|| items.clone().into_iter()));
+    assert_eq!(backwards(|| list.into_iter()), backwards(|| items.clone().into_iter()));
+}
+
+/// The items that a call reads by their indices.
+fn each<T>(by_index: impl Fn(usize) -> Option<T>) -> Vec<T> {
+    (0..).map_while(by_index).collect()
+}
+
+#[test]
+fn headers_are_refused_or_all_there() {
+    for form in FORMS {
+        let file = made(form, 0);
+        let (mut whole, mut refused) = (0, 0);
+        for end in 0..=file.len() {
+            let elf = match Elf::parse(&file[..end]) {
+                Ok(elf) => elf,
+                Err(_) => continue,
+            };
+            match elf.section_headers() {
+                Ok(sections) => has_each(sections, each(|index| elf.section_header(index).unwrap())),
+                Err(e) => assert!([0, 1, 7, usize::MAX].iter().all(|index| elf.section_header(*index) == Err(e))),
+            }
+            match elf.program_headers() {
+                Ok(segments) => has_each(segments, each(|index| elf.program_header(index).unwrap())),
+                Err(e) => assert!([0, 1, 2, usize::MAX].iter().all(|index| elf.program_header(*index) == Err(e))),
+            }
+            whole += usize::from(elf.section_headers().is_ok()) + usize::from(elf.program_headers().is_ok());
+            refused += usize::from(elf.section_headers().is_err()) + usize::from(elf.program_headers().is_err());
+        }
+        // (the program headers lie last, behind the section headers)
+        let of_program = 2 * if form.is_64 { 56 } else { 32 };
+        assert_eq!(whole, of_program + 2);
+        assert!(refused > file.len());
+    }
+}
+
+/// Ranges of which some pass the file's end.
+fn ranges(len: u64) -> Vec<(u64, u64)> {
+    let offsets = [0, 1, len - 100, len - 1, len, len + 1, u64::MAX];
+    let sizes = [0, 1, 24, 60, 99, 100, 101, len, u64::MAX];
+    offsets.iter().flat_map(|offset| sizes.iter().map(move |size| (*offset, *size))).collect()
+}
+
+#[test]
+fn symbols_are_refused_or_all_there() {
+    for form in FORMS {
+        let file = made(form, 0);
+        let elf = Elf::parse(&file).unwrap();
+        let (len, entry) = (file.len() as u64, if form.is_64 { 24 } else { 16 });
+        for (offset, size) in ranges(len) {
+            let requested = size / entry * entry;
+            let wanted = match len.checked_sub(offset) {
+                None | Some(0) => Err(Kind::SymtabOffset { offset, len }),
+                Some(available) if available < requested => Err(Kind::SymtabPast { requested, available }),
+                Some(_) => Ok(size / entry),
+            };
+            let section = SectionHeader { sh_type: SHT_DYNSYM, sh_offset: offset, sh_size: size, ..SectionHeader::default() };
+            let symbols = elf.symtab(&section).map_err(|e| e.kind());
+            assert_eq!(symbols.map(|symbols| symbols.len() as u64), wanted, "{offset} {size}");
+            if let Ok(symbols) = symbols {
+                assert_eq!(symbols.len(), each(|index| symbols.get(index)).len());
+                has_each(symbols, each(|index| symbols.get(index)));
+            }
+        }
+    }
+}
+
+#[test]
+fn relocations_are_refused_or_all_there() {
+    for form in FORMS {
+        let file = made(form, 0);
+        let elf = Elf::parse(&file).unwrap();
+        let len = file.len() as u64;
+        for ((offset, size), (sh_type, numbers)) in ranges(len).into_iter().flat_map(|range| [(range, (SHT_RELA, 3)), (range, (SHT_REL, 2))]) {
+            let wanted = match len.checked_sub(offset) {
+                _ if size == 0 => Ok(0),
+                None | Some(0) => Err(Kind::BadOffset(offset)),
+                Some(left) if left < size => Err(Kind::TooBig { size, len: left }),
+                Some(_) => Ok(size / (numbers * form.wide() as u64)),
+            };
+            let section = SectionHeader { sh_type, sh_offset: offset, sh_size: size, ..SectionHeader::default() };
+            let relocs = elf.relocs(&section).map_err(|e| e.kind());
+            assert_eq!(relocs.map(|relocs| relocs.len() as u64), wanted, "{offset} {size}");
+            if let Ok(relocs) = relocs {
+                assert_eq!(relocs.len(), each(|index| relocs.get(index)).len());
+                has_each(relocs, each(|index| relocs.get(index)));
+            }
+        }
+    }
+}
+
+/// A made file with another byte at a place of a section: counted from its start in the file.
+fn with_byte(file: &[u8], section: usize, place: usize, byte: u8) -> Vec<u8> {
+    let mut file = file.to_vec();
+    let start = Elf::parse(&file).unwrap().section_header(section).unwrap().unwrap().sh_offset as usize;
+    file[start + place] = byte;
+    file
+}
+
+#[test]
+fn notes_are_refused_or_all_there() {
+    for form in FORMS {
+        let file = made(form, 0);
+        let elf = Elf::parse(&file).unwrap();
+        let (section, segment) = (elf.section_header(1).unwrap().unwrap(), elf.program_header(0).unwrap().unwrap());
+        assert_eq!(section.sh_type, SHT_NOTE);
+        let notes: Vec<_> = elf.notes(&section).unwrap().iter().collect();
+        assert_eq!(notes.iter().map(|note| note.name).collect::<Vec<_>>(), ["GNU", "goblin"]);
+        let wanted = forwards(|| notes.clone().into_iter());
+        assert_eq!(forwards(|| elf.segment_notes(&segment).unwrap().into_iter()), wanted);
+        assert_eq!(forwards(|| elf.iter_note_sections().unwrap()), wanted);
+        assert_eq!(forwards(|| elf.iter_note_headers().unwrap()), wanted);
+        // the first byte of each name is no text
+        for (place, readable) in [(12, 0), (32, 1)] {
+            let damaged = with_byte(&file, 1, place, 0xff);
+            let elf = Elf::parse(&damaged).unwrap();
+            let refused = elf.notes(&section).unwrap_err();
+            assert!(matches!(refused.kind(), Kind::BadInput { msg: "invalid utf8", .. }));
+            assert_eq!(elf.segment_notes(&segment).unwrap_err(), refused);
+            assert_eq!(elf.iter_note_sections().unwrap_err(), refused);
+            assert_eq!(elf.iter_note_headers().unwrap_err(), refused);
+            for (before, why) in [elf.readable_notes(&section), elf.readable_segment_notes(&segment)] {
+                assert_eq!((forwards(|| before.iter()), why), (forwards(|| notes[..readable].iter().copied()), Some(refused)));
+            }
+        }
+        let (all, why) = elf.readable_notes(&section);
+        assert_eq!((all.len(), why), (2, None));
+        let cut = Elf::parse(&file[..200]).unwrap();
+        assert_eq!(cut.iter_note_sections().unwrap_err().kind(), Kind::BadOffset(cut.header.e_shoff));
+        assert_eq!(cut.iter_note_headers().unwrap_err().kind(), Kind::BadOffset(cut.header.e_phoff));
+    }
+}
+
+#[test]
+fn sections_of_relocations_are_refused_or_all_there() {
+    for form in FORMS {
+        let file = made(form, 0);
+        let elf = Elf::parse(&file).unwrap();
+        let sections = elf.section_headers().unwrap();
+        let wanted: Vec<_> = [4, 5].iter().map(|index| sections.get(*index).unwrap()).map(|h| (h, elf.relocs(&h).unwrap())).collect();
+        has_each(elf.shdr_relocs().unwrap(), wanted);
+        for (index, len) in [(4, 6 * form.wide()), (5, 2 * form.wide())] {
+            // `sh_offset` of this section is the file's last byte
+            let mut damaged = file.clone();
+            let place = elf.header.e_shoff as usize + if form.is_64 { 64 * index + 24 } else { 40 * index + 16 };
+            damaged[place..place + form.wide()].copy_from_slice(&form.numbers(&[(form.wide(), file.len() as u64 - 1)]));
+            let elf = Elf::parse(&damaged).unwrap();
+            assert_eq!(elf.shdr_relocs().unwrap_err().kind(), Kind::TooBig { size: len as u64, len: 1 });
+            let read: Vec<_> = [4, 5].iter().map(|index| elf.relocs(&elf.section_header(*index).unwrap().unwrap()).is_ok()).collect();
+            assert_eq!(read, [index != 4, index != 5]);
+        }
+        let cut = Elf::parse(&file[..200]).unwrap();
+        assert_eq!(cut.shdr_relocs().unwrap_err().kind(), Kind::BadOffset(cut.header.e_shoff));
+        assert_eq!(cut.syms().unwrap_err().kind(), Kind::BadOffset(cut.header.e_shoff));
+        assert_eq!(cut.dynsyms().unwrap_err().kind(), Kind::BadOffset(cut.header.e_shoff));
+    }
+}
