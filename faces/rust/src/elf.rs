@@ -1,10 +1,10 @@
 //! A file as a whole.
-use crate::error::{Error, Result};
+use crate::error::{Error, Result, RELOCATIONS, SYMBOLS};
 use crate::file::File;
 use crate::header::Header;
 use crate::note::{NoteIterator, Notes};
 use crate::program_header::{ProgramHeader, ProgramHeaders};
-use crate::reloc::{RelocSection, RelocSections};
+use crate::reloc::{holds_relocs, RelocSection, RelocSections};
 use crate::section_header::{SectionHeader, SectionHeaders, SHT_DYNSYM, SHT_RELA, SHT_SYMTAB};
 use crate::strtab::Strtab;
 use crate::sym::Symtab;
@@ -135,12 +135,15 @@ impl<'a> Elf<'a> {
         Strtab { file: self.file, range: section.range() }
     }
 
-    /// Returns the symbols of a section, with the names that the section at its `sh_link` holds: none where there is no such
-    /// section, as at index 0, or where it has no bytes in the file.
+    /// Returns the symbols of a section of type `SHT_SYMTAB` or `SHT_DYNSYM`, with the names that the section at its `sh_link`
+    /// holds: none where there is no such section, as at index 0, or where it has no bytes in the file.
     ///
     /// # Errors
-    /// Where the section headers or the symbols don't lie in the file.
+    /// Where the section has another type, and where the section headers or the symbols don't lie in the file.
     pub fn symtab(&self, section: &SectionHeader) -> Result<Symtab<'a>> {
+        if ![SHT_SYMTAB, SHT_DYNSYM].contains(&section.sh_type) {
+            return Err(Error::section_type(section.sh_type, SYMBOLS));
+        }
         let names = sys::goblin_table(&self.file, &self.header, section.sh_link.into())?.unwrap_or_default();
         Symtab::of(self, section.range(), self.strtab(&names))
     }
@@ -169,8 +172,11 @@ impl<'a> Elf<'a> {
     /// Returns the relocations of a section of type `SHT_RELA` or `SHT_REL`.
     ///
     /// # Errors
-    /// Where the relocations don't lie in the file.
+    /// Where the section has another type, and where the relocations don't lie in the file.
     pub fn relocs(&self, section: &SectionHeader) -> Result<RelocSection<'a>> {
+        if !holds_relocs(section) {
+            return Err(Error::section_type(section.sh_type, RELOCATIONS));
+        }
         RelocSection::of(self, section.range(), section.sh_type == SHT_RELA)
     }
 

@@ -1,12 +1,20 @@
 //! Why a file is refused.
+use crate::section_header::sht_to_str;
 use crate::{raw, sys};
 use std::{error, fmt, result};
 
-/// Why a file is refused.
+/// Why a file, or a section of it, is refused.
 ///
 /// `Debug` prints the same text as `Display`, so a `main` that returns an error prints it in words.
 #[derive(Clone, Copy, PartialEq, Eq, Hash)]
 pub struct Error(raw::Refusal);
+
+// The one kind of refusal that is this crate's own, with a number that the library doesn't use: `first` is the type of a section,
+// which isn't a type that holds what `item` stands for.
+const SECTION_TYPE: u32 = u32::MAX;
+const HELD: [&str; 2] = ["symbols", "relocations"];
+pub(crate) const SYMBOLS: u32 = 0;
+pub(crate) const RELOCATIONS: u32 = 1;
 
 /// A value, or why the file is refused.
 pub type Result<T> = result::Result<T, Error>;
@@ -114,6 +122,13 @@ pub enum Kind {
     },
     /// A number doesn't fit.
     IntegerFit,
+    /// A section is asked for what its type doesn't hold: symbols or relocations.
+    SectionType {
+        /// Its type, an `SHT_` number.
+        sh_type: u32,
+        /// What was expected: "symbols" or "relocations".
+        expected: &'static str,
+    },
     /// A later library's refusal, by its number.
     Other(u32),
 }
@@ -122,6 +137,11 @@ impl Error {
     #[inline]
     pub(crate) fn new(why: raw::Refusal) -> Self {
         Error(why)
+    }
+
+    /// The refusal of a section of this type where `SYMBOLS` or `RELOCATIONS` are expected.
+    pub(crate) fn section_type(sh_type: u32, expected: u32) -> Self {
+        Error(raw::Refusal { kind: SECTION_TYPE, item: expected, first: sh_type.into(), ..raw::Refusal::default() })
     }
 
     /// Returns its kind.
@@ -151,14 +171,18 @@ impl Error {
             22 => Kind::SectionOffset { name: first, size: second, offset: third, overflow },
             23 => Kind::SectionAddr { name: first, size: second, addr: third, overflow },
             24 => Kind::IntegerFit,
+            SECTION_TYPE => Kind::SectionType { sh_type: first as u32, expected: HELD[self.0.item as usize] },
             other => Kind::Other(other),
         }
     }
 }
 
-/// The library's text of it.
+/// The library's text of it, or this crate's where a section has another type than expected.
 impl fmt::Display for Error {
     fn fmt(&self, f: &mut fmt::Formatter<'_>) -> fmt::Result {
+        if let Kind::SectionType { sh_type, expected } = self.kind() {
+            return write!(f, "A section of type {:#x} ({}) holds no {}", sh_type, sht_to_str(sh_type), expected);
+        }
         let mut text = vec![0; sys::goblin_refusal_text(&self.0, &mut [])];
         sys::goblin_refusal_text(&self.0, &mut text);
         f.write_str(&String::from_utf8_lossy(&text))
@@ -270,5 +294,13 @@ mod tests {
         let mut tried = TEXTS.map(|(kind, _, _)| kind).to_vec();
         tried.dedup();
         assert_eq!(tried, told);
+    }
+
+    #[test]
+    fn texts_of_section_types() {
+        let strings = Error::section_type(3, SYMBOLS);
+        assert_eq!(strings.kind(), Kind::SectionType { sh_type: 3, expected: "symbols" });
+        assert_eq!(strings.to_string(), "A section of type 0x3 (SHT_STRTAB) holds no symbols");
+        assert_eq!(format!("{:?}", Error::section_type(0x40, RELOCATIONS)), "A section of type 0x40 (UNKNOWN_SHT) holds no relocations");
     }
 }

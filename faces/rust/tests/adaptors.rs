@@ -1,6 +1,6 @@
 //! Adaptors of iterators over lists, whole and refused: none loses a refusal or an item.
 use goblin_rs::error::Kind;
-use goblin_rs::section_header::{SectionHeader, SHT_DYNSYM, SHT_NOTE, SHT_REL, SHT_RELA};
+use goblin_rs::section_header::{SectionHeader, SHT_DYNSYM, SHT_NOTE, SHT_REL, SHT_RELA, SHT_SYMTAB};
 use goblin_rs::{Elf, Error};
 use std::fmt::Debug;
 
@@ -242,5 +242,21 @@ fn sections_of_relocations_are_refused_or_all_there() {
         assert_eq!(cut.shdr_relocs().unwrap_err().kind(), Kind::BadOffset(cut.header.e_shoff));
         assert_eq!(cut.syms().unwrap_err().kind(), Kind::BadOffset(cut.header.e_shoff));
         assert_eq!(cut.dynsyms().unwrap_err().kind(), Kind::BadOffset(cut.header.e_shoff));
+    }
+}
+
+#[test]
+fn a_table_of_another_type_is_refused() {
+    for form in FORMS {
+        let file = made(form, 0);
+        let elf = Elf::parse(&file).unwrap();
+        for section in elf.section_headers().unwrap() {
+            let sh_type = section.sh_type;
+            let of_symbols = elf.symtab(&section).err().map(|e| e.kind());
+            assert_eq!(of_symbols, (sh_type != SHT_SYMTAB).then_some(Kind::SectionType { sh_type, expected: "symbols" }));
+            let of_relocs = elf.relocs(&section).err().map(|e| e.kind());
+            let is_of_relocs = [SHT_RELA, SHT_REL].contains(&sh_type);
+            assert_eq!(of_relocs, (!is_of_relocs).then_some(Kind::SectionType { sh_type, expected: "relocations" }));
+        }
     }
 }

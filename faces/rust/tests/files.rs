@@ -156,9 +156,10 @@ fn sections_without_bytes_hold_nothing() {
             assert_ne!(elf.strtab(&section).get(0), Ok(None));
             section.sh_type = SHT_NOBITS;
             assert_eq!(elf.strtab(&section).get(0), Ok(None));
-            assert!(elf.symtab(&section).unwrap().is_empty());
-            assert!(elf.relocs(&section).unwrap().is_empty());
             assert!(elf.notes(&section).unwrap().is_empty());
+            let holds_no = |expected| Kind::SectionType { sh_type: SHT_NOBITS, expected };
+            assert_eq!(elf.symtab(&section).unwrap_err().kind(), holds_no("symbols"));
+            assert_eq!(elf.relocs(&section).unwrap_err().kind(), holds_no("relocations"));
         }
     }
 }
