@@ -1,7 +1,7 @@
 //! Why a file is refused.
 use crate::section_header::sht_to_str;
 use crate::{raw, sys};
-use std::{error, fmt, result};
+use std::{error, fmt, io, result};
 
 /// Why a file, or a section of it, is refused.
 ///
@@ -198,6 +198,13 @@ impl fmt::Debug for Error {
 
 impl error::Error for Error {}
 
+/// An error of the kind `InvalidData`, with the same text.
+impl From<Error> for io::Error {
+    fn from(e: Error) -> io::Error {
+        io::Error::new(io::ErrorKind::InvalidData, e)
+    }
+}
+
 #[cfg(test)]
 mod tests {
     use super::*;
@@ -302,5 +309,13 @@ mod tests {
         assert_eq!(strings.kind(), Kind::SectionType { sh_type: 3, expected: "symbols" });
         assert_eq!(strings.to_string(), "A section of type 0x3 (SHT_STRTAB) holds no symbols");
         assert_eq!(format!("{:?}", Error::section_type(0x40, RELOCATIONS)), "A section of type 0x40 (UNKNOWN_SHT) holds no relocations");
+    }
+
+    #[test]
+    fn an_error_of_input_has_the_same_text() {
+        let refused = Error::new(raw::Refusal { kind: 12, ..raw::Refusal::default() });
+        let of_input = io::Error::from(refused);
+        assert_eq!((of_input.kind(), of_input.to_string()), (io::ErrorKind::InvalidData, refused.to_string()));
+        assert_eq!(of_input.get_ref().and_then(|e| e.downcast_ref()), Some(&refused));
     }
 }
