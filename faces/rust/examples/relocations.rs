@@ -18,7 +18,7 @@ fn name_of<'a>(elf: &Elf<'a>, symbols: &Symtab<'a>, reloc: &Reloc) -> Result<&'a
     let name = symbols.name(&symbol)?.unwrap_or("");
     if symbol.st_type() == STT_SECTION && name.is_empty() {
         return match elf.section_header(symbol.st_shndx)? {
-            Some(section) => Ok(elf.shdr_strtab()?.get(section.sh_name)?.unwrap_or("")),
+            Some(section) => Ok(elf.section_name(&section)?.unwrap_or("")),
             None => Ok(""),
         };
     }
@@ -37,9 +37,8 @@ fn list(path: &ffi::OsStr) -> std::result::Result<(), Box<dyn error::Error>> {
     let bytes = fs::read(path)?;
     let elf = &Elf::parse(&bytes)?;
     let mut out = io::BufWriter::new(io::stdout().lock());
-    let section_names = elf.shdr_strtab()?;
     for (section, relocs) in elf.shdr_relocs()? {
-        writeln!(out, "{}:", section_names.get(section.sh_name)?.unwrap_or(""))?;
+        writeln!(out, "{}:", elf.section_name(&section)?.unwrap_or(""))?;
         let symbols = symbols_of(elf, &section)?;
         for reloc in &relocs {
             let name = match &symbols {

@@ -1,7 +1,7 @@
 //! A file as a whole.
 use crate::error::{Error, Result, RELOCATIONS, SYMBOLS};
 use crate::file::File;
-use crate::header::Header;
+use crate::header::{Header, ET_DYN};
 use crate::note::{NoteIterator, Notes};
 use crate::program_header::{ProgramHeader, ProgramHeaders};
 use crate::reloc::{holds_relocs, RelocSection, RelocSections};
@@ -16,6 +16,15 @@ pub struct Elf<'a> {
     pub(crate) file: File<'a>,
     /// The header. Its class, order, machine and places are what everything else is read by.
     pub header: Header,
+}
+
+/// The same as [`Elf::parse`].
+impl<'a> TryFrom<&'a [u8]> for Elf<'a> {
+    type Error = Error;
+
+    fn try_from(bytes: &'a [u8]) -> Result<Self> {
+        Elf::parse(bytes)
+    }
 }
 
 impl<'a> Elf<'a> {
@@ -36,6 +45,16 @@ impl<'a> Elf<'a> {
     /// Reports whether the lowest byte of a number comes first.
     pub fn little_endian(&self) -> bool {
         self.header.little_endian()
+    }
+
+    /// Returns the address at which the program starts, or 0.
+    pub fn entry(&self) -> u64 {
+        self.header.e_entry
+    }
+
+    /// Reports whether the file's type is `ET_DYN`: that of a shared library, and of a program that runs at any address.
+    pub fn is_lib(&self) -> bool {
+        self.header.e_type == ET_DYN
     }
 
     /// Returns the program header at an index, or `None` past the last one.
@@ -70,6 +89,14 @@ impl<'a> Elf<'a> {
         SectionHeaders::of(*self)
     }
 
+    /// Returns the first section with a name.
+    ///
+    /// # Errors
+    /// Where the section headers or their names don't lie in the file.
+    pub fn section(&self, name: &str) -> Result<Option<SectionHeader>> {
+        self.section_at(self.section_by_name(name)?)
+    }
+
     /// Returns the index of the first section with a name.
     ///
     /// # Errors
@@ -91,6 +118,14 @@ impl<'a> Elf<'a> {
 
     fn section_at(&self, index: Option<usize>) -> Result<Option<SectionHeader>> {
         index.map_or(Ok(None), |index| self.section_header(index))
+    }
+
+    /// Returns the name of a section, or `None` where it lies past the sections' names.
+    ///
+    /// # Errors
+    /// Where the section headers or their names don't lie in the file, and where the name is no text.
+    pub fn section_name(&self, section: &SectionHeader) -> Result<Option<&'a str>> {
+        self.shdr_strtab()?.get(section.sh_name)
     }
 
     /// Returns the bytes of a section, or `None` where it has none in the file.

@@ -9,7 +9,7 @@
 //! let bytes = std::fs::read(path)?;
 //! let elf = goblin_rs::Elf::parse(&bytes)?;
 //! for section in elf.section_headers()? {
-//!     println!("{:#x}", section.sh_offset);
+//!     println!("{:#x} {}", section.sh_offset, elf.section_name(&section)?.unwrap_or(""));
 //! }
 //! # Ok(())
 //! # }

@@ -92,6 +92,31 @@ fn segments() {
     }
 }
 
+#[test]
+fn sections_and_their_names() {
+    for form in FORMS {
+        let file = made(form, 0);
+        let elf = Elf::parse(&file).unwrap();
+        assert_eq!((elf.entry(), elf.is_lib()), (0x1234, true));
+        let mut program = elf;
+        (program.header.e_type, program.header.e_entry) = (header::ET_EXEC, 5);
+        assert_eq!((program.entry(), program.is_lib()), (5, false));
+        for (index, name) in ["", ".note", ".symtab", ".strtab", ".rela", ".rel", ".names"].iter().enumerate() {
+            let section = elf.section(name).unwrap().unwrap();
+            assert_eq!(elf.section_header(index), Ok(Some(section)));
+            assert_eq!(elf.section_name(&section), Ok(Some(*name)));
+        }
+        assert_eq!(elf.section(".no"), Ok(None));
+        let names = elf.section(".names").unwrap().unwrap();
+        let named = |sh_name| elf.section_name(&SectionHeader { sh_name, ..names }).map_err(|e| e.kind());
+        assert_eq!((named(names.sh_size as usize), named(names.sh_size as usize - 2)), (Ok(None), Err(NO_TEXT)));
+        let cut = Elf::parse(&file[..200]).unwrap();
+        let refused = Kind::BadOffset(elf.header.e_shoff);
+        assert_eq!(cut.section(".names").map_err(|e| e.kind()), Err(refused));
+        assert_eq!(cut.section_name(&names).map_err(|e| e.kind()), Err(refused));
+    }
+}
+
 /// The refusal of the name that is no text: it and the zero byte that closes it are left of the strings.
 const NO_TEXT: Kind = Kind::BadInput { size: 2, msg: "invalid utf8" };
 
@@ -301,7 +326,7 @@ fn read_all(file: &[u8]) -> Result<(usize, usize)> {
     count(elf.iter_note_sections().map(|all| all.map(|_| 1).sum()));
     count(elf.section_headers().map(|all| all.len()));
     for section in elf.section_headers().iter().flatten() {
-        count(elf.shdr_strtab().and_then(|names| names.get(section.sh_name)).map(|_| 1));
+        count(elf.section_name(&section).map(|_| 1));
         match section.sh_type {
             SHT_RELA | SHT_REL => count(elf.relocs(&section).map(|all| all.iter().map(|_| 1).sum())),
             SHT_SYMTAB => match elf.symtab(&section) {

@@ -95,9 +95,9 @@ fn lists_are_equal_where_their_items_are() {
     assert_eq!(one.program_headers().unwrap().get(0), other.program_headers().unwrap().get(0));
     assert_ne!(one.program_headers(), other.program_headers());
     assert_ne!(one.syms(), other.syms());
-    let section = |file, index| Elf::parse(file).unwrap().section_header(index).unwrap().unwrap();
-    assert_eq!(one.relocs(&section(&file, 4)), other.relocs(&section(&longer, 4)));
-    assert_ne!(one.relocs(&section(&file, 4)), one.relocs(&section(&file, 5)));
+    let relocs = |file| Elf::parse(file).unwrap().section(".rela").unwrap().unwrap();
+    assert_eq!(one.relocs(&relocs(&file)), other.relocs(&relocs(&longer)));
+    assert_ne!(one.relocs(&relocs(&file)), one.relocs(&one.section(".rel").unwrap().unwrap()));
 }
 
 #[test]
