@@ -146,6 +146,16 @@ impl<'a> Elf<'a> {
         Ok(range.map(|range| self.file.slice(range)))
     }
 
+    /// Returns the sections that lie in a segment, by [`ProgramHeader::holds`]. The one at index 0, which stands for no
+    /// section, is none of them.
+    ///
+    /// # Errors
+    /// Where the section headers don't lie in the file.
+    pub fn segment_sections(&self, segment: &ProgramHeader) -> Result<impl Iterator<Item = SectionHeader> + 'a> {
+        let segment = *segment;
+        Ok(self.section_headers()?.iter().skip(1).filter(move |section| segment.holds(section)))
+    }
+
     /// Returns the number that 1, 2, 4 or 8 bytes at an offset of the file stand for, in the file's order, or `None` for
     /// another width.
     ///

@@ -5,6 +5,7 @@ use crate::error::Result;
 use crate::items::{table, Items, List};
 use crate::names::Name;
 pub use crate::raw::ProgramHeader;
+use crate::section_header::{SectionHeader, SHF_TLS, SHT_NOBITS};
 use crate::sys;
 use std::ops::Range;
 
@@ -17,6 +18,42 @@ impl ProgramHeader {
     /// Returns where the segment lies in memory. An end past the greatest address is that address.
     pub fn vm_range(&self) -> Range<usize> {
         self.p_vaddr as usize..self.p_vaddr.saturating_add(self.p_memsz) as usize
+    }
+
+    /// Reports whether a section lies in the segment, as `readelf -l` maps sections to segments.
+    ///
+    /// The section's bytes in the file, if it has any there, lie in the segment's, and its addresses, if it is loaded
+    /// (`SHF_ALLOC`), lie in the segment's. Not every segment holds every section:
+    /// - `PT_PHDR` holds none.
+    /// - `PT_TLS` holds those with `SHF_TLS` alone. Of these, `PT_LOAD` and `PT_GNU_RELRO` hold those that have bytes in the
+    ///   file, and other segments hold none.
+    /// - `PT_LOAD`, `PT_GNU_RELRO`, `PT_DYNAMIC`, `PT_GNU_EH_FRAME` and `PT_GNU_STACK` hold loaded sections alone.
+    /// - An empty section isn't held at the segment's end, nor at the start of `PT_DYNAMIC` or `PT_NOTE`, unless the segment
+    ///   is empty too.
+    ///
+    /// The rule is this crate's and not the library's: it is tested and compared with `readelf`, but not proved.
+    pub fn holds(&self, section: &SectionHeader) -> bool {
+        let has_bytes = section.sh_type != SHT_NOBITS;
+        let first = u64::from(section.sh_size == 0 && self.p_memsz != 0 && [PT_DYNAMIC, PT_NOTE].contains(&self.p_type));
+        let lies_in = |start: u64, from: u64, size: u64| {
+            let before = start.checked_sub(from).filter(|before| *before >= first && (*before < size || size == 0));
+            before.and_then(|before| before.checked_add(section.sh_size)).map_or(false, |end| end <= size)
+        };
+        self.may_hold(section)
+            && (!has_bytes || lies_in(section.sh_offset, self.p_offset, self.p_filesz))
+            && (!section.is_alloc() || lies_in(section.sh_addr, self.p_vaddr, self.p_memsz))
+    }
+
+    // Whether segments of this type hold sections like this one.
+    fn may_hold(&self, section: &SectionHeader) -> bool {
+        let is_tls = section.sh_flags & SHF_TLS != 0;
+        match self.p_type {
+            PT_PHDR => false,
+            PT_TLS => is_tls,
+            PT_LOAD | PT_GNU_RELRO => section.is_alloc() && !(is_tls && section.sh_type == SHT_NOBITS),
+            PT_DYNAMIC | PT_GNU_EH_FRAME | PT_GNU_STACK => section.is_alloc() && !is_tls,
+            _ => !is_tls,
+        }
     }
 
     /// Reports whether the segment may be executed.

@@ -1,7 +1,12 @@
 //! What is read of small files that are made here, in both classes and orders, whole and damaged.
 use goblin_rs::error::Kind;
+use goblin_rs::program_header::{
+    ProgramHeader, PT_DYNAMIC, PT_GNU_EH_FRAME, PT_GNU_RELRO, PT_GNU_STACK, PT_INTERP, PT_LOAD, PT_NOTE, PT_PHDR, PT_TLS,
+};
 use goblin_rs::reloc::Reloc;
-use goblin_rs::section_header::{SectionHeader, SHT_NOBITS, SHT_NOTE, SHT_REL, SHT_RELA, SHT_SYMTAB};
+use goblin_rs::section_header::{
+    SectionHeader, SHF_ALLOC, SHF_TLS, SHT_NOBITS, SHT_NOTE, SHT_PROGBITS, SHT_REL, SHT_RELA, SHT_SYMTAB,
+};
 use goblin_rs::sym::Sym;
 use goblin_rs::{header, program_header, section_header, sym, Elf, Result};
 
@@ -89,6 +94,59 @@ fn segments() {
         assert_eq!((load.p_vaddr, load.p_paddr, load.p_memsz, load.p_align), (0x4000, 0x5000, load.p_filesz + 1, 4));
         assert_eq!(elf.program_header(1), Ok(Some(load)));
         assert_eq!(elf.program_header(2), Ok(None));
+    }
+}
+
+#[test]
+fn sections_in_segments() {
+    // the segment has 0x50 bytes of the file from 0x100 on, and 0x80 addresses from 0x1100 on
+    let holds = |p_type, sh_flags, sh_type, (before, size): (u64, u64)| {
+        let segment = ProgramHeader { p_type, p_offset: 0x100, p_filesz: 0x50, p_vaddr: 0x1100, p_memsz: 0x80, ..Default::default() };
+        let (sh_offset, sh_addr) = (0x100u64.wrapping_add(before), 0x1100u64.wrapping_add(before));
+        segment.holds(&SectionHeader { sh_type, sh_flags, sh_offset, sh_addr, sh_size: size, ..Default::default() })
+    };
+    let loaded = |p_type, range| holds(p_type, SHF_ALLOC, SHT_PROGBITS, range);
+    assert!(loaded(PT_LOAD, (0, 0x50)) && loaded(PT_LOAD, (0x4f, 1)));
+    assert!(!loaded(PT_LOAD, (0, 0x51)) && !loaded(PT_LOAD, (u64::MAX, 1)) && !loaded(PT_LOAD, (0x50, 1)) && !loaded(PT_LOAD, (1, u64::MAX)));
+    assert!(loaded(PT_LOAD, (0, 0)) && !loaded(PT_LOAD, (0x50, 0)));
+    // without bytes in the file the addresses tell
+    let zeros = |range| holds(PT_LOAD, SHF_ALLOC, SHT_NOBITS, range);
+    assert!(zeros((0x50, 0x30)) && !zeros((0x50, 0x31)) && !zeros((0x80, 0)));
+    // some segments hold loaded sections alone
+    let found = [PT_LOAD, PT_DYNAMIC, PT_GNU_EH_FRAME, PT_GNU_RELRO, PT_GNU_STACK].map(|p_type| holds(p_type, 0, SHT_PROGBITS, (1, 1)));
+    assert_eq!(found, [false; 5]);
+    assert!(holds(PT_INTERP, 0, SHT_PROGBITS, (1, 1)) && holds(PT_NOTE, 0, SHT_NOTE, (1, 1)));
+    assert!(!loaded(PT_PHDR, (1, 1)) && loaded(PT_DYNAMIC, (1, 1)));
+    // each thread's own
+    let of_thread = |p_type, sh_type| holds(p_type, SHF_ALLOC | SHF_TLS, sh_type, (1, 1));
+    assert_eq!([PT_TLS, PT_LOAD, PT_GNU_RELRO, PT_NOTE, PT_GNU_STACK].map(|p| of_thread(p, SHT_PROGBITS)), [true, true, true, false, false]);
+    assert_eq!([PT_TLS, PT_LOAD, PT_GNU_RELRO].map(|p| of_thread(p, SHT_NOBITS)), [true, false, false]);
+    assert!(!loaded(PT_TLS, (1, 1)));
+    // an empty section at the start of notes is none of them
+    assert_eq!([PT_NOTE, PT_DYNAMIC, PT_LOAD].map(|p_type| loaded(p_type, (0, 0))), [false, false, true]);
+    assert_eq!([PT_NOTE, PT_DYNAMIC, PT_LOAD].map(|p_type| loaded(p_type, (1, 0))), [true; 3]);
+    let empty = ProgramHeader { p_type: PT_NOTE, p_offset: 0x100, ..Default::default() };
+    let at = |sh_offset, sh_size| SectionHeader { sh_type: SHT_NOTE, sh_offset, sh_size, ..Default::default() };
+    assert!(empty.holds(&at(0x100, 0)) && !empty.holds(&at(0x101, 0)) && !empty.holds(&at(0x100, 1)));
+}
+
+#[test]
+fn sections_of_the_segments_of_a_file() {
+    for form in FORMS {
+        let file = made(form, 0);
+        let elf = Elf::parse(&file).unwrap();
+        let names = |segment: &ProgramHeader| {
+            let sections = elf.segment_sections(segment).unwrap();
+            sections.map(|section| elf.section_name(&section).unwrap().unwrap()).collect::<Vec<_>>()
+        };
+        let (notes, load) = (elf.program_header(0).unwrap().unwrap(), elf.program_header(1).unwrap().unwrap());
+        // (the addresses of the sections lie past those of the segments)
+        assert_eq!((names(&notes), names(&load)), (vec![], vec![]));
+        let everywhere = |segment| ProgramHeader { p_vaddr: 0, p_memsz: u64::MAX, ..segment };
+        assert_eq!(names(&everywhere(notes)), [".note"]);
+        assert_eq!(names(&everywhere(load)), [".note", ".symtab", ".strtab", ".rela", ".rel", ".names"]);
+        let cut = Elf::parse(&file[..200]).unwrap();
+        assert_eq!(cut.segment_sections(&load).err().map(|e| e.kind()), Some(Kind::BadOffset(elf.header.e_shoff)));
     }
 }
 
