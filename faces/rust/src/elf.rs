@@ -11,6 +11,19 @@ use crate::sym::Symtab;
 use crate::{raw, sys};
 
 /// A file in memory, and its header. All else is read when it is asked for.
+///
+/// ```
+/// # fn main() -> Result<(), Box<dyn std::error::Error>> {
+/// # let bytes = std::fs::read(std::env::current_exe()?)?;
+/// let elf = goblin_rs::Elf::parse(&bytes)?;
+/// println!("entry {:#x}", elf.entry());
+/// if let Some(text) = elf.section(".text")? {
+///     let code = elf.section_data(&text)?.unwrap_or(&[]);
+///     assert_eq!(code.len() as u64, text.sh_size);
+/// }
+/// # Ok(())
+/// # }
+/// ```
 #[derive(Clone, Copy, Debug)]
 pub struct Elf<'a> {
     pub(crate) file: File<'a>,

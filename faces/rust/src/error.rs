@@ -6,6 +6,14 @@ use std::{error, fmt, io, result};
 /// Why a file, or a section of it, is refused.
 ///
 /// `Debug` prints the same text as `Display`, so a `main` that returns an error prints it in words.
+///
+/// ```
+/// let refused = goblin_rs::Elf::parse(b"#!/bin/sh\n# no ELF file").unwrap_err();
+/// assert_eq!(refused.to_string(), "Invalid magic number: 0x732f6e69622f2123");
+/// // among other errors of input
+/// let refused: std::io::Error = refused.into();
+/// assert_eq!(refused.kind(), std::io::ErrorKind::InvalidData);
+/// ```
 #[derive(Clone, Copy, PartialEq, Eq, Hash)]
 pub struct Error(raw::Refusal);
 
@@ -20,6 +28,13 @@ pub(crate) const RELOCATIONS: u32 = 1;
 pub type Result<T> = result::Result<T, Error>;
 
 /// What kind of refusal it is, with the numbers that belong to it, in the order of `goblin.h`. More may come.
+///
+/// ```
+/// use goblin_rs::{Elf, Kind};
+///
+/// let refused = Elf::parse(b"\x7fELF").unwrap_err();
+/// assert_eq!(refused.kind(), Kind::TooSmall);
+/// ```
 #[derive(Clone, Copy, Debug, PartialEq, Eq, Hash)]
 #[non_exhaustive]
 pub enum Kind {

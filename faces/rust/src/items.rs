@@ -24,6 +24,22 @@ use std::{fmt, mem};
 const BACK: u64 = 16;
 
 /// A list of a file: symbols, relocations, section headers or program headers.
+///
+/// ```
+/// use goblin_rs::items::{Items, List};
+///
+/// /// Returns each second item.
+/// fn each_second<L: List>(items: Items<L>) -> Vec<L::Item> {
+///     items.step_by(2).collect()
+/// }
+/// # fn main() -> Result<(), Box<dyn std::error::Error>> {
+/// # let bytes = std::fs::read(std::env::current_exe()?)?;
+/// let elf = goblin_rs::Elf::parse(&bytes)?;
+/// let segments = elf.program_headers()?;
+/// assert_eq!(each_second(segments.iter()).len(), (segments.len() + 1) / 2);
+/// # Ok(())
+/// # }
+/// ```
 pub trait List: Copy {
     /// An item as the library fills it in.
     type Raw: Copy;
@@ -131,6 +147,18 @@ macro_rules! table {
 pub(crate) use {list, table};
 
 /// An iterator over the items of a list in their order, from both ends. It reads some at a time.
+///
+/// ```
+/// # fn main() -> Result<(), Box<dyn std::error::Error>> {
+/// # let bytes = std::fs::read(std::env::current_exe()?)?;
+/// let elf = goblin_rs::Elf::parse(&bytes)?;
+/// let mut sections = elf.section_headers()?.iter();
+/// let (first, left) = (sections.next(), sections.len());
+/// assert_eq!(first, elf.section_header(0)?);
+/// assert_eq!(sections.next_back(), elf.section_header(left)?);
+/// # Ok(())
+/// # }
+/// ```
 #[derive(Clone)]
 pub struct Items<L: List> {
     list: L,

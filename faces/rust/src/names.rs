@@ -9,6 +9,13 @@ use std::{fmt, str};
 pub(crate) const ROOM: usize = 23;
 
 /// The name of a number, as `X86_64` of a machine. It can be used and compared as text is.
+///
+/// ```
+/// use goblin_rs::header::{machine_to_str, EM_X86_64};
+///
+/// let name = machine_to_str(EM_X86_64);
+/// assert!(name == "X86_64" && name.starts_with("X86"));
+/// ```
 #[derive(Clone, Copy)]
 pub struct Name {
     len: u8,

@@ -11,6 +11,13 @@ use crate::{raw, sys};
 use std::iter::FusedIterator;
 
 /// A note.
+///
+/// ```
+/// use goblin_rs::note::Note;
+///
+/// let note = Note { n_type: 3, name: "GNU", desc: b"\x01\x02" };
+/// assert_eq!(note.type_to_str(), "NT_GNU_BUILD_ID");
+/// ```
 #[derive(Clone, Copy, Debug, PartialEq, Eq, Hash)]
 pub struct Note<'a> {
     /// Its type, which the name gives its meaning.
@@ -29,6 +36,20 @@ impl Note<'_> {
 }
 
 /// The notes of a range of the file.
+///
+/// ```
+/// # fn main() -> Result<(), Box<dyn std::error::Error>> {
+/// # let bytes = std::fs::read(std::env::current_exe()?)?;
+/// let elf = goblin_rs::Elf::parse(&bytes)?;
+/// use goblin_rs::note::NT_GNU_BUILD_ID;
+///
+/// if let Some(section) = elf.section(".note.gnu.build-id")? {
+///     let build_id = elf.notes(&section)?.iter().find(|note| note.n_type == NT_GNU_BUILD_ID);
+///     assert!(build_id.map_or(false, |note| !note.desc.is_empty()));
+/// }
+/// # Ok(())
+/// # }
+/// ```
 #[derive(Clone, Copy, Debug)]
 pub struct Notes<'a> {
     file: File<'a>,
@@ -62,6 +83,18 @@ impl<'a> Notes<'a> {
 list!(Notes of Note<'a>, by NoteDataIterator<'a>, "note", "notes");
 
 /// An iterator over the notes of a range.
+///
+/// ```
+/// # fn main() -> Result<(), Box<dyn std::error::Error>> {
+/// # let bytes = std::fs::read(std::env::current_exe()?)?;
+/// let elf = goblin_rs::Elf::parse(&bytes)?;
+/// let section = elf.section(".note.gnu.build-id")?.unwrap_or_default();
+/// let mut notes = elf.notes(&section)?.iter();
+/// let left = notes.len();
+/// assert_eq!(notes.next().is_some(), left > 0);
+/// # Ok(())
+/// # }
+/// ```
 #[derive(Clone, Debug)]
 pub struct NoteDataIterator<'a> {
     notes: Notes<'a>,
@@ -103,6 +136,17 @@ enum Holders<'a> {
 }
 
 /// An iterator over the notes of all segments of notes, or of all sections of notes.
+///
+/// ```
+/// # fn main() -> Result<(), Box<dyn std::error::Error>> {
+/// # let bytes = std::fs::read(std::env::current_exe()?)?;
+/// let elf = goblin_rs::Elf::parse(&bytes)?;
+/// for note in elf.iter_note_headers()? {
+///     println!("{} {}: {} bytes", note.name, note.type_to_str(), note.desc.len());
+/// }
+/// # Ok(())
+/// # }
+/// ```
 #[derive(Clone, Debug)]
 pub struct NoteIterator<'a> {
     elf: Elf<'a>,

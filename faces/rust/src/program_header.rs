@@ -73,6 +73,18 @@ impl ProgramHeader {
 }
 
 /// The program headers of a file.
+///
+/// ```
+/// # fn main() -> Result<(), Box<dyn std::error::Error>> {
+/// # let bytes = std::fs::read(std::env::current_exe()?)?;
+/// let elf = goblin_rs::Elf::parse(&bytes)?;
+/// use goblin_rs::program_header::PT_LOAD;
+///
+/// let loaded: u64 = elf.program_headers()?.iter().filter(|segment| segment.p_type == PT_LOAD).map(|segment| segment.p_memsz).sum();
+/// assert!(loaded > 0);
+/// # Ok(())
+/// # }
+/// ```
 #[derive(Clone, Copy, Debug)]
 pub struct ProgramHeaders<'a> {
     elf: Elf<'a>,

@@ -25,6 +25,18 @@ records! {
     /// Some bytes of the file.
     Range { offset: u64, size: u64 }
     /// A file's header.
+    ///
+    /// ```
+    /// # fn main() -> Result<(), Box<dyn std::error::Error>> {
+    /// # let bytes = std::fs::read(std::env::current_exe()?)?;
+    /// use goblin_rs::header::{machine_to_str, EM_X86_64, ET_DYN};
+    ///
+    /// let header = goblin_rs::Elf::parse(&bytes)?.header;
+    /// let is_for_this = header.e_machine == EM_X86_64 && header.e_type == ET_DYN;
+    /// println!("{}: {}", machine_to_str(header.e_machine), is_for_this);
+    /// # Ok(())
+    /// # }
+    /// ```
     Header {
         /// The address at which the program starts, or 0.
         e_entry: u64,
@@ -64,6 +76,13 @@ records! {
         ei_abiversion: u8,
     }
     /// A section header.
+    ///
+    /// ```
+    /// use goblin_rs::section_header::{SectionHeader, SHF_ALLOC, SHF_WRITE, SHT_PROGBITS};
+    ///
+    /// let section = SectionHeader { sh_type: SHT_PROGBITS, sh_flags: SHF_ALLOC | SHF_WRITE, ..SectionHeader::default() };
+    /// assert!(section.sh_flags & SHF_ALLOC != 0 && section.is_writable());
+    /// ```
     SectionHeader {
         /// Where it starts, in bytes from the file's start.
         sh_offset: u64,
@@ -87,6 +106,13 @@ records! {
         sh_info: u32,
     }
     /// A program header.
+    ///
+    /// ```
+    /// use goblin_rs::program_header::{ProgramHeader, PF_R, PF_X, PT_LOAD};
+    ///
+    /// let segment = ProgramHeader { p_type: PT_LOAD, p_flags: PF_R | PF_X, ..ProgramHeader::default() };
+    /// assert!(segment.is_executable() && !segment.is_write());
+    /// ```
     ProgramHeader {
         /// Where the segment starts, in bytes from the file's start.
         p_offset: u64,
@@ -106,6 +132,14 @@ records! {
         p_flags: u32,
     }
     /// A symbol.
+    ///
+    /// ```
+    /// use goblin_rs::section_header::SHN_UNDEF;
+    /// use goblin_rs::sym::{Sym, STB_GLOBAL, STT_FUNC};
+    ///
+    /// let symbol = Sym { st_info: STB_GLOBAL << 4 | STT_FUNC, ..Sym::default() };
+    /// assert!(symbol.is_function() && symbol.is_import() && symbol.st_shndx == SHN_UNDEF);
+    /// ```
     Sym {
         /// Where the name lies in the string table, in bytes from its start; 0 for none.
         st_name: usize,

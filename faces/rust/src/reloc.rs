@@ -9,6 +9,13 @@ use crate::{raw, sys};
 use std::iter::FusedIterator;
 
 /// A relocation.
+///
+/// ```
+/// use goblin_rs::reloc::Reloc;
+///
+/// let reloc = Reloc { r_offset: 0x18, r_addend: Some(-4), r_sym: 3, r_type: 2 };
+/// assert_eq!(reloc, Reloc { r_addend: Some(-4), ..reloc });
+/// ```
 #[derive(Clone, Copy, Debug, Default, PartialEq, Eq, Hash)]
 pub struct Reloc {
     /// The place, as the file's type says: an offset in a section, or an address.
@@ -33,6 +40,20 @@ impl From<raw::Reloc> for Reloc {
 }
 
 /// The relocations of a section.
+///
+/// ```
+/// # fn main() -> Result<(), Box<dyn std::error::Error>> {
+/// # let bytes = std::fs::read(std::env::current_exe()?)?;
+/// let elf = goblin_rs::Elf::parse(&bytes)?;
+/// use goblin_rs::section_header::SHT_RELA;
+///
+/// for section in elf.section_headers()?.iter().filter(|section| section.sh_type == SHT_RELA) {
+///     let relocs = elf.relocs(&section)?;
+///     assert!(relocs.iter().all(|reloc| reloc.r_addend.is_some()));
+/// }
+/// # Ok(())
+/// # }
+/// ```
 #[derive(Clone, Copy, Debug, Default)]
 pub struct RelocSection<'a> {
     file: File<'a>,
@@ -79,6 +100,17 @@ impl List for RelocSection<'_> {
 }
 
 /// The sections of relocations of a file, each with its header, in their order. Each lies in the file.
+///
+/// ```
+/// # fn main() -> Result<(), Box<dyn std::error::Error>> {
+/// # let bytes = std::fs::read(std::env::current_exe()?)?;
+/// let elf = goblin_rs::Elf::parse(&bytes)?;
+/// for (section, relocs) in elf.shdr_relocs()? {
+///     println!("{}: {} relocations", elf.section_name(&section)?.unwrap_or(""), relocs.len());
+/// }
+/// # Ok(())
+/// # }
+/// ```
 #[derive(Clone, Copy, Debug)]
 pub struct RelocSections<'a> {
     elf: Elf<'a>,
@@ -105,6 +137,17 @@ pub(crate) fn holds_relocs(header: &SectionHeader) -> bool {
 }
 
 /// An iterator over the sections of relocations of a file, each with its header, from both ends.
+///
+/// ```
+/// # fn main() -> Result<(), Box<dyn std::error::Error>> {
+/// # let bytes = std::fs::read(std::env::current_exe()?)?;
+/// let elf = goblin_rs::Elf::parse(&bytes)?;
+/// let mut all = elf.shdr_relocs()?.iter();
+/// let left = all.len();
+/// assert_eq!(all.next_back().is_some(), left > 0);
+/// # Ok(())
+/// # }
+/// ```
 #[derive(Clone, Debug)]
 pub struct RelocSectionIterator<'a> {
     elf: Elf<'a>,

@@ -4,6 +4,16 @@ use crate::file::File;
 use crate::{raw, sys};
 
 /// A string table: a range of the file.
+///
+/// ```
+/// # fn main() -> Result<(), Box<dyn std::error::Error>> {
+/// # let bytes = std::fs::read(std::env::current_exe()?)?;
+/// let elf = goblin_rs::Elf::parse(&bytes)?;
+/// let names = elf.shdr_strtab()?;
+/// assert_eq!(names.get(0)?, Some(""));
+/// # Ok(())
+/// # }
+/// ```
 #[derive(Clone, Copy, Debug, Default)]
 pub struct Strtab<'a> {
     pub(crate) file: File<'a>,

@@ -63,6 +63,21 @@ pub fn get_type(info: u8) -> Name {
 }
 
 /// A table of symbols, with their names.
+///
+/// ```
+/// # fn main() -> Result<(), Box<dyn std::error::Error>> {
+/// # let bytes = std::fs::read(std::env::current_exe()?)?;
+/// let elf = goblin_rs::Elf::parse(&bytes)?;
+/// if let Some(symbols) = elf.syms()? {
+///     for symbol in symbols.iter().filter(|symbol| symbol.is_function()) {
+///         println!("{:x} {}", symbol.st_value, symbols.name(&symbol)?.unwrap_or(""));
+///     }
+///     let main = symbols.find("main")?.and_then(|index| symbols.get(index));
+///     assert!(main.map_or(true, |symbol| symbol.is_function()));
+/// }
+/// # Ok(())
+/// # }
+/// ```
 #[derive(Clone, Copy, Debug)]
 pub struct Symtab<'a> {
     file: File<'a>,

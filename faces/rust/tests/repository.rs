@@ -56,3 +56,30 @@ fn constants_are_the_library_s() {
     }
     assert_eq!(ours.len(), theirs.len());
 }
+
+/// The lines of a source that declare what is public: types, and the records that `raw.rs` declares by a macro.
+fn declarations<'a>(name: &str, source: &'a str) -> Vec<(usize, &'a str)> {
+    let words = ["pub struct ", "pub enum ", "pub trait "];
+    let records = ["    Header {", "    SectionHeader {", "    ProgramHeader {", "    Sym {"];
+    let declares = |line: &str| match name {
+        "raw.rs" => records.contains(&line),
+        // (its type crosses no border of the crate)
+        "file.rs" => false,
+        _ => words.iter().any(|word| line.starts_with(word)),
+    };
+    source.lines().enumerate().filter(|(_, line)| declares(line)).collect()
+}
+
+#[test]
+fn each_type_has_an_example() {
+    let mut found = 0;
+    for (name, source) in sources("faces/rust/src") {
+        let lines: Vec<_> = source.lines().map(str::trim).collect();
+        for (number, declaration) in declarations(&name, &source) {
+            let mut comment = lines[..number].iter().rev().skip_while(|line| line.starts_with("#[")).take_while(|line| line.starts_with("///"));
+            assert!(comment.any(|line| *line == "/// ```"), "{name}: {declaration}");
+            found += 1;
+        }
+    }
+    assert!(found >= 22, "{found} types");
+}
