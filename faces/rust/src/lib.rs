@@ -19,6 +19,75 @@
 //! The call that makes a list fails where the list can't be read. The items of a list that was made are plain values, and all
 //! of them are there, so no adaptor of an iterator can drop a refusal. Each list has `len`, `is_empty` and `iter`, and is
 //! iterated over by value or by reference; those whose items have indices have `get`.
+//!
+//! # Lines that are written otherwise than with goblin
+//! A part of the file is read when it is asked for, which can fail, and a list is no slice. So some lines of goblin's users
+//! don't compile here. Each is a comment below, before what to write:
+//!
+//! ```
+//! # fn main() -> Result<(), Box<dyn std::error::Error>> {
+//! # let path = std::env::current_exe()?;
+//! # let bytes = std::fs::read(path)?;
+//! use goblin_rs::note::Note;
+//! use goblin_rs::section_header::{SectionHeader, SHF_ALLOC};
+//! use goblin_rs::{Elf, Kind};
+//!
+//! // match Object::parse(&bytes)? { Object::Elf(elf) => .. }
+//! let elf = Elf::parse(&bytes)?;
+//! // elf.is_64, elf.little_endian, elf.is_lib, elf.entry
+//! let _ = (elf.is_64(), elf.little_endian(), elf.is_lib(), elf.entry());
+//! // elf.header.e_ident[EI_OSABI]
+//! let _ = elf.header.ei_osabi;
+//!
+//! // for section in &elf.section_headers
+//! for section in elf.section_headers()? {
+//!     // elf.shdr_strtab.get_at(section.sh_name)
+//!     let name: Option<&str> = elf.section_name(&section)?;
+//!     // section.sh_flags as u32 & SHF_ALLOC != 0
+//!     let is_loaded = section.sh_flags & SHF_ALLOC != 0;
+//!     println!("{name:?} {is_loaded}");
+//! }
+//! // elf.section_headers[1], elf.section_headers.first()
+//! let _: (Option<SectionHeader>, _) = (elf.section_headers()?.get(1), elf.section_headers()?.get(0));
+//! // &elf.section_headers[1..], elf.section_headers.to_vec()
+//! let sections: Vec<SectionHeader> = elf.section_headers()?.iter().skip(1).collect();
+//! # assert!(!sections.is_empty());
+//! // elf.section_headers()?.skip(1): it is `iter` that makes an iterator
+//! let _ = elf.section_headers()?.iter().skip(1);
+//!
+//! // for symbol in &elf.syms
+//! if let Some(symbols) = elf.syms()? {
+//!     for symbol in symbols {
+//!         // elf.strtab[symbol.st_name], elf.strtab.get_at(symbol.st_name)
+//!         let name: Option<&str> = symbols.name(&symbol)?;
+//!         # assert!(name.map_or(true, |name| name.len() < 10000));
+//!     }
+//! }
+//!
+//! // for (index, relocs) in &elf.shdr_relocs
+//! for (section, relocs) in elf.shdr_relocs()? {
+//!     println!("{} of section {}", relocs.len(), section.sh_info);
+//! }
+//! // elf.pltrelocs, elf.dynrelas
+//! if let Some(section) = elf.section(".rela.plt")? {
+//!     println!("{}", elf.relocs(&section)?.len());
+//! }
+//!
+//! // elf.iter_note_headers(&bytes), whose items are results
+//! let _: Vec<Note> = elf.iter_note_headers()?.collect();
+//! // elf.iter_note_sections(&bytes, Some(".note.ABI-tag"))
+//! if let Some(section) = elf.section(".note.ABI-tag")? {
+//!     println!("{}", elf.notes(&section)?.len());
+//! }
+//!
+//! // Err(Error::BadMagic(magic)) => ..
+//! match Elf::parse(b"no file of this kind").map_err(|e| e.kind()) {
+//!     Err(Kind::BadMagic(magic)) => assert_eq!(magic.to_le_bytes(), *b"no file "),
+//!     other => panic!("{other:?}"),
+//! }
+//! # Ok(())
+//! # }
+//! ```
 #![deny(missing_docs, unsafe_code)]
 #![warn(clippy::missing_errors_doc)]
 
