@@ -88,6 +88,9 @@
 //! # Ok(())
 //! # }
 //! ```
+//!
+//! The dynamic section is another layer, so `elf.libraries`, `elf.soname`, `elf.rpaths`, `elf.runpaths` and `elf.interpreter`
+//! aren't here: the example `needed` reads them in a few lines.
 #![deny(missing_docs, unsafe_code)]
 #![warn(clippy::missing_errors_doc)]
 

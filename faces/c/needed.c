@@ -1,0 +1,65 @@
+/* Lists what an ELF file asks of the dynamic linker: its interpreter, and from its dynamic section the libraries that it
+   needs, its own name and its paths: needed FILE.
+
+   The library has no calls for the dynamic section. It is read here by its own layout, as pairs of numbers, of which some
+   are offsets of strings. The calls for numbers and strings are proved; what this program makes of them is only tested. */
+#include "goblin.h"
+#include <elf.h>
+#include <stdio.h>
+#include <stdlib.h>
+
+static goblin_refusal_t why;
+
+/* Prints a string with its name, text or not. */
+static uint32_t print(const uint8_t *bytes, size_t len, const char *name, const goblin_range_t *strings, uint64_t offset) {
+    goblin_range_t string = {0, 0};
+    if (goblin_string_bytes(bytes, len, strings, offset, &string, &why) > GOBLIN_END) return why.kind;
+    printf("%s %.*s\n", name, (int)string.size, (const char *)bytes + string.offset);
+    return GOBLIN_OK;
+}
+
+static uint32_t list_interpreter(const uint8_t *bytes, size_t len, const goblin_header_t *header) {
+    goblin_segment_t segment;
+    uint32_t answer;
+    for (uint64_t i = 0; (answer = goblin_segment(bytes, len, header, i, &segment, &why)) == GOBLIN_OK; i++)
+        if (segment.p_type == PT_INTERP) return print(bytes, len, "interpreter", &segment.file, 0);
+    return answer;
+}
+
+static uint32_t list_dynamic(const uint8_t *bytes, size_t len, const goblin_header_t *header) {
+    const char *const names[] = {[DT_NEEDED] = "needed", [DT_SONAME] = "soname", [DT_RPATH] = "rpath", [DT_RUNPATH] = "runpath"};
+    uint64_t width = header->ei_class == ELFCLASS64 ? 8 : 4, index, tag, value;
+    goblin_section_t dynamic, strings = {.sh_type = SHT_NULL};
+    uint32_t answer = goblin_section_by_type(bytes, len, header, SHT_DYNAMIC, 0, &index, &why);
+    if (answer == GOBLIN_OK) answer = goblin_section(bytes, len, header, index, &dynamic, &why);
+    if (answer != GOBLIN_OK) return answer;
+    if (goblin_table(bytes, len, header, dynamic.sh_link, &strings, &why) > GOBLIN_END) return why.kind;
+    for (uint64_t at = 0; answer == GOBLIN_OK && dynamic.file.size - at >= 2 * width; at += 2 * width) {
+        if ((answer = goblin_number(bytes, len, header, dynamic.file.offset + at, width, &tag, &why)) != GOBLIN_OK) break;
+        if ((answer = goblin_number(bytes, len, header, dynamic.file.offset + at + width, width, &value, &why)) != GOBLIN_OK) break;
+        if (tag == DT_NULL) break;
+        if (tag < sizeof names / sizeof *names && names[tag]) answer = print(bytes, len, names[tag], &strings.file, value);
+    }
+    return answer;
+}
+
+static int list(const uint8_t *bytes, size_t len) {
+    goblin_header_t header;
+    uint32_t answer = goblin_header(bytes, len, &header, &why);
+    if (answer == GOBLIN_OK) answer = list_interpreter(bytes, len, &header);
+    if (answer <= GOBLIN_END) answer = list_dynamic(bytes, len, &header);
+    if (answer <= GOBLIN_END) return 0;
+    uint8_t text[160];
+    uint64_t size = goblin_refusal_text(&why, text, sizeof text);
+    fprintf(stderr, "needed: %.*s\n", (int)(size < sizeof text ? size : sizeof text), (const char *)text);
+    return 1;
+}
+
+int main(int argc, char **argv) {
+    FILE *file = argc == 2 ? fopen(argv[1], "rb") : NULL;
+    if (!file || fseek(file, 0, SEEK_END) != 0) return 2;
+    size_t len = (size_t)ftell(file);
+    uint8_t *bytes = malloc(len ? len : 1);
+    rewind(file);
+    return bytes && fread(bytes, 1, len, file) == len ? list(bytes, len) : 2;
+}

@@ -1,0 +1,75 @@
+//! Lists what an ELF file asks of the dynamic linker: its interpreter, and from its dynamic section the libraries that it
+//! needs, its own name and its paths.
+//!
+//! The library has no calls for the dynamic section. It is read here by its own layout, as pairs of numbers, of which some
+//! are offsets of strings. The calls for numbers and strings are proved; what this program makes of them is only tested.
+use goblin_rs::error::Result;
+use goblin_rs::program_header::PT_INTERP;
+use goblin_rs::section_header::SHT_DYNAMIC;
+use goblin_rs::Elf;
+use std::io::{self, Write};
+use std::process::ExitCode;
+use std::{env, error, ffi, fs};
+
+const DT_NULL: u64 = 0;
+
+/// The name under which a string of the dynamic section is listed, by its tag.
+fn name_of(tag: u64) -> Option<&'static str> {
+    [(1, "needed"), (14, "soname"), (15, "rpath"), (29, "runpath")].iter().find(|(known, _)| *known == tag).map(|(_, name)| *name)
+}
+
+/// The path of the interpreter, up to the zero byte that closes it.
+fn interpreter<'a>(elf: &Elf<'a>) -> Result<Option<&'a [u8]>> {
+    let segment = elf.program_headers()?.iter().find(|segment| segment.p_type == PT_INTERP);
+    let bytes = segment.map_or(Ok(None), |segment| elf.segment_data(&segment))?;
+    Ok(bytes.and_then(|bytes| bytes.split(|byte| *byte == 0).next()))
+}
+
+/// The strings of the dynamic section, text or not, each with its name, in their order.
+fn strings<'a>(elf: &Elf<'a>) -> Result<Vec<(&'static str, &'a [u8])>> {
+    let mut all = Vec::new();
+    let width = if elf.is_64() { 8 } else { 4 };
+    for section in elf.section_headers()?.iter().filter(|section| section.sh_type == SHT_DYNAMIC).take(1) {
+        let strings = elf.strtab(&elf.section_header(section.sh_link as usize)?.unwrap_or_default());
+        for entry in 0..section.sh_size / (2 * width) {
+            let offset = section.sh_offset + entry * 2 * width;
+            let tag = elf.number(offset, width as usize)?.unwrap_or(DT_NULL);
+            let value = elf.number(offset + width, width as usize)?.unwrap_or(0);
+            if tag == DT_NULL {
+                break;
+            }
+            if let Some(name) = name_of(tag) {
+                all.push((name, strings.get_bytes(value as usize)?.unwrap_or(b"")));
+            }
+        }
+    }
+    Ok(all)
+}
+
+fn list(path: &ffi::OsStr) -> std::result::Result<(), Box<dyn error::Error>> {
+    let bytes = fs::read(path)?;
+    let elf = Elf::parse(&bytes)?;
+    let interpreter = interpreter(&elf)?.map(|path| ("interpreter", path));
+    let mut out = io::stdout().lock();
+    for (name, string) in interpreter.into_iter().chain(strings(&elf)?) {
+        out.write_all(&[name.as_bytes(), b" ", string, b"\n"].concat())?;
+    }
+    Ok(())
+}
+
+fn main() -> ExitCode {
+    let path = match env::args_os().nth(1) {
+        Some(path) => path,
+        None => {
+            eprintln!("usage: needed FILE");
+            return ExitCode::from(2);
+        }
+    };
+    match list(&path) {
+        Ok(()) => ExitCode::SUCCESS,
+        Err(why) => {
+            eprintln!("needed: {}: {why}", path.to_string_lossy());
+            ExitCode::FAILURE
+        }
+    }
+}
