@@ -69,7 +69,7 @@ install_library() {
     put LICENSE share/goblin_c/LICENSE
     put crates/goblin_c/CALLING.md share/goblin_c/CALLING.md
     put LICENSE share/goblin_c/rust/LICENSE
-    put_edited "s|\"../../../lib\"|\"../../../$libdir\"|" faces/rust/build.rs share/goblin_c/rust/build.rs
+    put_edited "s|join(\"lib\")|join(\"$libdir\")|" faces/rust/build.rs share/goblin_c/rust/build.rs
     put_all faces/rust/src share/goblin_c/rust/src
     put_all faces/rust/examples share/goblin_c/rust/examples
     # (what compares the crate with its repository stays there)

@@ -75,6 +75,7 @@ check_programs() {
     head -c 15 "$file" > "$short"
     [ "$("$folder/nm" "$short" 2>&1)" = 'nm: header: Malformed entity: Too small' ] || fail "nm.c: a short file"
     [ "$("$folder/values" "$short" 2>&1)" = 'values: Malformed entity: Too small' ] || fail "values.c: a short file"
+    [ "$("$folder/needed" "$short" 2>&1)" = 'needed: Malformed entity: Too small' ] || fail "needed.c: a short file"
     [ "$("$folder/size" "$short" 2>&1 > "$folder/output")" = "size: $short: Malformed entity: Too small" ] || fail "size.c: a short file"
     echo "nm.c lists $(echo "$symbols_made" | wc -l) symbols in each class and order"
 }
@@ -93,7 +94,7 @@ check_damaged() {
 }
 
 check_header
-for program in nm size symbolize values made search cost; do build $program -std=c99; done
+for program in nm size symbolize values made search cost needed; do build $program -std=c99; done
 quietly "$folder/search"
 echo "search.c: $(wc -l < "$folder/output") searches among long names stay within their limit"
 quietly "$folder/cost"

@@ -80,6 +80,61 @@ compare_relocations() {
     (cd "$folder" && awk -v least="$1" -f "$root/checks/relocations.awk" ours readelf)
 }
 
+# Shared objects whose dynamic sections have what few others have: a name of their own and a path, of either kind.
+make_shared() {
+    echo 'int made;' > "$folder/shared.c"
+    for tags in enable disable; do
+        if cc -shared -o "$folder/$tags.so" "$folder/shared.c" -Wl,-soname,made.so,--$tags-new-dtags,-rpath,/made/path \
+            > "$folder/output" 2>&1; then echo "$folder/$tags.so"; fi
+    done
+}
+
+# What readelf lists of a file as needed.c and needed.rs do.
+list_needed() {
+    readelf -lW "$1" | sed -n 's/^ *\[Requesting program interpreter: \(.*\)\]$/interpreter \1/p'
+    readelf -dW "$1" | sed -n -e 's/^.*(NEEDED) .*\[\(.*\)\]$/needed \1/p' -e 's/^.*(SONAME) .*\[\(.*\)\]$/soname \1/p' \
+        -e 's/^.*(RPATH) .*\[\(.*\)\]$/rpath \1/p' -e 's/^.*(RUNPATH) .*\[\(.*\)\]$/runpath \1/p'
+}
+
+# What readelf lists of a file's segments as segments.rs does, but for their types.
+list_segments() {
+    readelf -lW "$1" | sed -n '/^ Section to Segment mapping:$/,$s/^ *\([0-9][0-9]\) */\1 /p' | sed 's/ *$//'
+}
+list_our_segments() { "$examples/segments" "$1" | sed 's/^\([0-9]*\) [^ ]*/\1/'; }
+
+# Runs a command for each of some files, for what it lists of them.
+for_each() {
+    while read -r file; do
+        echo "file: $file"
+        "$@" "$file" 2> "$folder/said" || echo "refused"
+    done < "$folder/some"
+}
+
+# Compares with readelf what a program lists of some files that the dynamic linker needs.
+compare_needed_by() {
+    for_each "$1" > "$folder/ours"
+    quietly diff "$folder/theirs" "$folder/ours"
+    echo "${1##*/}.$2 lists the $(grep -vc '^file: ' "$folder/theirs") interpreters, libraries, names and paths of readelf"
+}
+
+compare_needed() {
+    { cat "$folder/list"; echo "$folder/nm"; make_shared; } > "$folder/some"
+    for_each list_needed > "$folder/theirs"
+    for name in interpreter needed soname rpath runpath; do
+        grep -q "^$name " "$folder/theirs" || { echo "no file has a $name"; exit 1; }
+    done
+    compare_needed_by "$folder/needed" c
+    if [ -x "$examples/needed" ]; then compare_needed_by "$examples/needed" rs; fi
+}
+
+compare_segments() {
+    { cat "$folder/list"; echo "$folder/nm"; } > "$folder/some"
+    for_each list_segments > "$folder/theirs"
+    for_each list_our_segments > "$folder/ours"
+    quietly diff "$folder/theirs" "$folder/ours"
+    echo "segments.rs lists the sections of $(grep -vc '^file: ' "$folder/theirs") segments as readelf does"
+}
+
 if ! has nm || ! has readelf; then
     echo "no nm and readelf here: no lists are compared"
     exit 0
@@ -95,3 +150,5 @@ compare_symbols "$count"
 if has size; then compare_sizes "$count"; else echo "no size here: no sizes are compared"; fi
 if has addr2line; then compare_addresses; else echo "no addr2line here: no addresses are compared"; fi
 if [ -x "$examples/relocations" ]; then compare_relocations "$count"; fi
+compare_needed
+if [ -x "$examples/segments" ]; then compare_segments; fi

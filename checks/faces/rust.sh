@@ -10,13 +10,13 @@ if ! cargo --version > "$folder/output" 2>&1 || ! rustc --version > "$folder/out
     exit 0
 fi
 quietly cargo test --offline --manifest-path $crate
-awk '/^test result: ok\. / { tests += $4 } END { print "the Rust crate passes " tests + 0 " tests"; exit tests < 26 }' "$folder/output"
+awk '/^test result: ok\. / { tests += $4 } END { print "the Rust crate passes " tests + 0 " tests"; exit tests < 60 }' "$folder/output"
 # (cargo has built the examples beside the tests)
 for file in "$files"/*; do
     "$examples/symbols" "$file" > "$folder/listed"
     [ "$(grep -c -x -e '12 function' -e '18 été' "$folder/listed")" -eq 2 ] || { echo "symbols.rs: $file"; exit 1; }
 done
-for example in symbols relocations; do
+for example in symbols relocations needed segments; do
     said=$("$examples/$example" "$folder/short" 2>&1) && { echo "$example.rs: a short file"; exit 1; }
     [ "$said" = "$example: $folder/short: Malformed entity: Too small" ] || { echo "$example.rs: $said"; exit 1; }
 done
