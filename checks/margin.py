@@ -2,13 +2,13 @@
 """Which functions the search proves with little to spare, and which take longest: python3 checks/margin.py [CRATE ..], from the
 repository's root.
 
-Each crate of crates.txt, or each one named, is checked with half of the search's limits, without its tests. A function is open
-where a goal of its own stays open then: the next toolchain, or one field more, may leave it open at the full limits too. One that
-only calls an open function isn't listed. The libraries below a crate are those that were proved at the full limits.
+Each crate of crates.txt, or each one named, is checked without its tests: at the full limits, unless earlier checks on this machine
+have kept that, and then at half of them. A function is open where a goal of its own stays open then: the next toolchain, or one
+field more, may leave it open at the full limits too. One that only calls an open function isn't listed. The libraries below a
+crate are proved at the full limits.
 
 The checker reports the end of each function, and no times. So a function's seconds are those since the function before it, on the
-clock and with one job, and the first has none. They hold what is checked on the way, as lemmas that no function before it cites,
-and lack what earlier checks on this machine have kept: after one at the full limits, all that doesn't depend on them.
+clock and with one job, and the first has none. They are those of the second check, and so of what depends on the limits.
 """
 import os
 import shutil
@@ -39,8 +39,8 @@ def copy(room):
 def check(crate, folder):
     """What a check at half limits says of a crate, and the seconds of the functions that it checked."""
     run = {'cwd': folder, 'stdin': subprocess.DEVNULL, 'stderr': subprocess.STDOUT}
-    # builds the libraries below it where needed, so that what follows reports this crate alone
-    subprocess.run(['rt', 'check', '--only', ''], stdout=subprocess.DEVNULL, **run)
+    # at the full limits, which leaves what depends on them to the second check, and builds the libraries below
+    subprocess.run(['rt', 'check'], stdout=subprocess.DEVNULL, **run)
     lines, seconds, before = [], {}, None
     words = ['rt', 'check', '--margin', '--jobs', '1']
     with subprocess.Popen(words, stdout=subprocess.PIPE, text=True, errors='replace', **run) as ran:
