@@ -11,7 +11,10 @@ invariant-loop-number l =
     let context = l.self in
     let bytes = l.initial.file.bytes in
     let shows = symbols_shown context.opts.now.parse_mode bytes context.ctx context.sections.now in
-    (l.file.bytes ≡ bytes) × (IsShort bytes → Spends l.initial.file l.file (table_looks * l.number))
-    × CountsAtLeast l.initial.file.count 0 l.file.count
-    × (lines : List ℕ) × (symbols_text bytes l.parts.items ≡ symbols_text bytes l.initial.parts.items ++ lines)
-    × (each_shown shows 0 context.sections.now ≡ behind lines (each_shown shows l.number (drop l.number context.sections.now)))
+    record {
+      same : l.file.bytes ≡ bytes;
+      looks : IsShort bytes → Spends l.initial.file l.file (table_looks * l.number);
+      least : CountsAtLeast l.initial.file.count 0 l.file.count;
+      shown : (lines : List ℕ) × (symbols_text bytes l.parts.items ≡ symbols_text bytes l.initial.parts.items ++ lines)
+          × (each_shown shows 0 context.sections.now ≡ behind lines (each_shown shows l.number (drop l.number context.sections.now)));
+    }
