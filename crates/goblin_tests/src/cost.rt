@@ -2,9 +2,10 @@
 //! proportion to its table: one that read for each item all that lies before it would take longer than the 60 seconds that
 //! a test has.
 use crate::container::LITTLE32;
+use crate::sym::ZERO;
 use crate::told::{differs, is};
 use goblin::elf::note::NoteDataIterator;
-use goblin::elf::reloc::RelocSection;
+use goblin::elf::reloc::{Reloc, RelocSection};
 use goblin::elf::section_header::SectionHeader;
 use goblin::elf::sym::Symtab;
 use goblin_base::options::ParseOptions;
@@ -43,14 +44,21 @@ fn lists_a_million_strings(rt: HostRuntime) {
     assert!(rt; lists_zeros(rt, 1000000));
 }
 
+const ZERO_RELOC: Reloc = Reloc {
+    r_offset: 0,
+    r_addend: None,
+    r_sym: 0,
+    r_type: 0,
+};
+
 // Whether these bytes have a symbol at each index, and none at an address.
 fn gets_symbols(rt: HostRuntime, bytes: &[u8]) -> bool {
     let Ok(symbols) = Symtab::parse(bytes, 0, bytes.len() / 16, LITTLE32) else {
         return differs(rt, &"no table", &bytes.len());
     };
     for index in 0..symbols.len() {
-        if symbols.get(index).is_none() {
-            return differs(rt, &"no symbol", &index);
+        if symbols.get(index) != Some(ZERO) {
+            return differs(rt, &"another symbol", &index);
         }
     }
     is(
@@ -66,8 +74,8 @@ fn gets_relocs(rt: HostRuntime, bytes: &[u8]) -> bool {
         return differs(rt, &"no relocations", &bytes.len());
     };
     for index in 0..relocs.len() {
-        if relocs.get(index).is_none() {
-            return differs(rt, &"no relocation", &index);
+        if relocs.get(index) != Some(ZERO_RELOC) {
+            return differs(rt, &"another relocation", &index);
         }
     }
     is(rt, relocs.iter().count(), bytes.len() / 8)
