@@ -350,6 +350,24 @@ async function check_section_links() {
     }
 }
 
+// One goes back from row to row, and over the steps of the arrow keys at once.
+async function check_history() {
+    await pick(dump);
+    await open_tab('sections');
+    const [, first, second, third] = await cells(1);
+    const click = (row) => evaluate(`document.querySelectorAll('#panel .body .row')[${row}].children[1].click()`);
+    await click(1);
+    await until_chosen(first);
+    await click(2);
+    await until_chosen(second);
+    await evaluate(`document.querySelector('#panel .grid').focus()`);
+    await browser.press('ArrowDown');
+    await until_chosen(third);
+    await evaluate('history.back()');
+    await until_chosen(first);
+    assert.equal(await evaluate(`document.querySelector('#panel .row[aria-selected=true]').children[1].textContent`), first);
+}
+
 async function check_relocation_links() {
     const path = files.at(-1), sections = sections_of(path), { index } = sections['.rela.dyn'];
     const listed = run('readelf', '-W', '-r', path).split("'.rela.plt'")[0];
@@ -743,7 +761,7 @@ const checks = {
     },
     trouble: () => check_trouble(content), unknown: () => check_unknown(content), segments: check_segments, labels: check_labels,
     loading: () => check_loading(content), symbol_links: check_symbol_links, kept_link: check_kept_link, section_links: check_section_links,
-    relocation_links: check_relocation_links, goto: check_goto, search: check_search, relocation_names: check_relocation_names,
+    history: check_history, relocation_links: check_relocation_links, goto: check_goto, search: check_search, relocation_names: check_relocation_names,
     section_indices: check_section_indices, copies: check_copies, words: check_words, cells: check_cells, widths: check_widths,
     map: check_map, themes: check_themes, names: check_names, keys: check_keys, requests: check_requests, unsupported: check_unsupported,
 };
