@@ -366,6 +366,12 @@ async function check_history() {
     await evaluate('history.back()');
     await until_chosen(first);
     assert.equal(await evaluate(`document.querySelector('#panel .row[aria-selected=true]').children[1].textContent`), first);
+    // (what names no place leaves a tab open; that no script fails at it is seen at the end)
+    for (const wrong of ['%', 'sections/x', 'offset/0xffffffffffffffff', 'address/0x', 'symbols/99999/1', '__proto__/1']) {
+        await evaluate(`void (location.hash = ${quoted(wrong)})`);
+        await new Promise((resume) => setTimeout(resume, 50));
+        assert.equal(await evaluate(`document.querySelectorAll('[role=tab][aria-selected=true]').length`), 1, wrong);
+    }
 }
 
 async function check_relocation_links() {

@@ -163,8 +163,8 @@ export async function go_over(source, list, is_wanted, each) {
     return true;
 }
 
-/** The number that a search is for, if it is for one: an offset or address. */
-export const number_in = (query) => (/^0x[0-9a-f]{1,16}$/i.test(query) ? BigInt(query) : undefined);
+// The number that a search is for, if it is for one: an offset or address.
+const number_in = (query) => (/^0x[0-9a-f]{1,16}$/i.test(query) ? BigInt(query) : undefined);
 
 /** The indices of those that are searched for, in their order; nothing where these are all in the list's own. */
 export async function arranged(source, { query, column, is_descending, list }, is_wanted) {

@@ -1,7 +1,7 @@
 // The places of the page: the tab that is open, and what is chosen, as a text in the address bar, which a link keeps: `sections/5`,
 // `symbols/6/12` (of the section 6 the symbol 12), `offset/0x2020`. Back and forward go through them.
 
-const here = () => decodeURIComponent(location.hash.slice(1));
+const here = () => location.hash.slice(1);
 let show = () => {};
 
 /** Says what shows a place. */

@@ -5,8 +5,8 @@ export const NAME = 1024;
 
 const strict = new TextDecoder('utf-8', { fatal: true, ignoreBOM: true });
 
-/** A text of bytes that may be none: each byte that is no text is U+DC00 and the byte, which no text holds. */
-export function text_of(bytes) {
+// A text of bytes that may be none: each byte that is no text is U+DC00 and the byte, which no text holds.
+function text_of(bytes) {
     try {
         return strict.decode(bytes);
     } catch {
