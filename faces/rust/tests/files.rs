@@ -364,7 +364,7 @@ fn names_of_numbers() {
         (program_header::pt_to_str(1), "PT_LOAD"),
         (section_header::sht_to_str(1), "SHT_PROGBITS"),
         (section_header::shf_to_str(1), "SHF_WRITE"),
-        (section_header::shf_to_str(1 << 32), "SHF_UNKNOWN"),
+        (section_header::shf_to_str(1 << 32 | 1), "SHF_UNKNOWN"),
         (sym::bind_to_str(1), "GLOBAL"),
         (sym::type_to_str(2), "FUNC"),
         (sym::visibility_to_str(0), "DEFAULT"),
