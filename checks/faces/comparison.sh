@@ -100,7 +100,12 @@ list_needed() {
 list_segments() {
     readelf -lW "$1" | sed -n '/^ Section to Segment mapping:$/,$s/^ *\([0-9][0-9]\) */\1 /p' | sed 's/ *$//'
 }
-list_our_segments() { "$examples/segments" "$1" | sed 's/^\([0-9]*\) [^ ]*/\1/'; }
+
+# What segments.rs lists of a file, but for the types. Without sections, as in a core file, readelf lists no segments there.
+list_our_segments() {
+    if readelf -SW "$1" | grep -q '^There are no sections in this file'; then return; fi
+    "$examples/segments" "$1" | sed 's/^\([0-9]*\) [^ ]*/\1/'
+}
 
 # Runs a command for each of some files, for what it lists of them.
 for_each() {
