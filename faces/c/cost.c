@@ -1,6 +1,6 @@
 /* Whether calls over many items take a time in proportion to them: cost, which makes a file of zero bytes, in which each range is
-   sections, symbols, relocations, segments, notes or empty strings as it is asked for. A call that walked to its item from the first
-   one would take the whole list more than ten times as long as the limit. */
+   sections, symbols, relocations, segments, notes or empty strings as it is asked for. Of a library that was made to walk to each
+   symbol from the first one the list of symbols took more than ten times the limit. */
 #include "goblin.h"
 #include <elf.h>
 #include <inttypes.h>
@@ -9,7 +9,8 @@
 #include <string.h>
 #include <time.h>
 
-enum { ITEMS = 300000, SEGMENTS = 65535, LIMIT = 500000 };
+/* How many items there are, and how many microseconds a list of them may take. */
+enum { ITEMS = 100000, SEGMENTS = 65535, LIMIT = 500000 };
 
 static uint8_t *bytes;
 static size_t len;
