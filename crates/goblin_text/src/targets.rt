@@ -1,5 +1,5 @@
 //! What takes a text part by part: a buffer of fixed size before a writer, and a text in memory.
-ghost use Rattle.std.specs.Prelude.{◌≡◌, ◌↔◌, ◌+◌, ◌≤◌, ◌++◌, IsTrue, OnErr, OnOk, Some, length, [], string_bytes, take};
+ghost use Rattle.std.specs.Prelude.{◌≡◌, ◌↔◌, ◌+◌, ◌≤◌, ◌++◌, IsTrue, OnErr, OnOk, Some, false, length, [], string_bytes, take};
 ghost use Rattle.std.specs.Borrow.{GName};
 ghost use Rattle.std.specs.Io.KnownBytes.{Appends, Keeps};
 ghost use Rattle.goblin_text.specs.Put.{Puts, State, held};
@@ -163,9 +163,10 @@ pub struct Gathered {
 }
 
 impl Gathered {
-    /// An empty text.
+    /// An empty text, to which nothing was refused.
     pub fn new(alloc: Global) -> Self
-        ensures { string_bytes result.text ≡ [] }
+        ensures text { string_bytes result.text ≡ [] }
+        ensures told_error { result.told_error ≡ false }
     {
         Gathered {
             text: String::new(alloc),
