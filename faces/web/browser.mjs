@@ -8,7 +8,7 @@ import { mkdtempSync, readdirSync, readFileSync, rmSync, truncateSync, writeFile
 import { tmpdir } from 'node:os';
 import { basename, join } from 'node:path';
 import { pathToFileURL } from 'node:url';
-import { Chromium, Firefox } from './browsers.mjs';
+import { PATIENCE, Chromium, Firefox } from './browsers.mjs';
 import { elf_file, note, packed, rela, symbol } from './elves.mjs';
 
 const [, , kind, program, page, dump, made_files, ...files] = process.argv;
@@ -469,7 +469,7 @@ async function check_relocation_names() {
 async function saved(name) {
     const before = new Set(readdirSync(browser.downloads)), is_done = (file) => file.endsWith('.csv') && !before.has(file);
     await press_button('Save CSV');
-    for (const end = Date.now() + 20000; Date.now() < end;) {
+    for (const end = Date.now() + PATIENCE; Date.now() < end;) {
         const now = readdirSync(browser.downloads), file = now.find(is_done);
         if (file && !now.some((other) => /\.(crdownload|part)$/.test(other))) {
             const content = readFileSync(join(browser.downloads, file), 'utf8');
@@ -748,7 +748,7 @@ async function check_requests() {
         fetch('http://127.0.0.1:9/asked').catch(() => setTimeout(() => told('not refused by the policy'), 500));
     })`);
     assert.match(blocked, /^http:\/\/127\.0\.0\.1:9\//);
-    for (const end = Date.now() + 5000; browser.refusals.length === 0 && Date.now() < end;) await evaluate('null');
+    for (const end = Date.now() + PATIENCE; browser.refusals.length === 0 && Date.now() < end;) await evaluate('null');
     const is_asked = (text) => text.includes('http://127.0.0.1:9/asked') && /Content.Security.Policy/.test(text);
     assert.ok(browser.refusals.length > 0 && browser.refusals.every(is_asked), browser.refusals.join('\n'));
     const others = browser.requests.filter((request) => request.split(/[?#]/)[0] !== url && !/^(blob:|data:|about:blank$)/.test(request));

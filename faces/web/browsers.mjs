@@ -6,6 +6,9 @@ import { mkdirSync, writeFileSync } from 'node:fs';
 import { request } from 'node:http';
 import { join } from 'node:path';
 
+/** How many milliseconds are waited for what is to come, on a machine that may be busy with proofs. */
+export const PATIENCE = 120_000;
+
 // Answers to what was asked, by the numbers of what was asked.
 class Calls {
     #waiting = new Map();
@@ -103,11 +106,11 @@ class Browser {
 
     /** Waits until an expression is true. */
     async until(expression) {
-        for (const end = Date.now() + 20000; Date.now() < end;) {
+        for (const end = Date.now() + PATIENCE; Date.now() < end;) {
             if (await this.evaluate(expression)) return;
             await new Promise((resume) => setTimeout(resume, 20));
         }
-        throw new Error(`not so after 20 seconds: ${expression}`);
+        throw new Error(`not so after ${PATIENCE / 1000} seconds: ${expression}`);
     }
 
     async end() {
