@@ -12,12 +12,9 @@ trap 'exit 1' HUP INT TERM
 tar -C "$folder" -xzf "$archive"
 web=$(ls -d "$folder"/goblin_c-*)/share/goblin_c/web
 
-# (older ones have memories of 64 bits by a word alone)
-memories='process.exit(WebAssembly.validate(new Uint8Array([0, 97, 115, 109, 1, 0, 0, 0, 5, 3, 1, 4, 0])) ? 0 : 1)'
-option=
-if ! node -e "$memories"; then option=--experimental-wasm-memory64; fi
-if node $option -e "$memories" 2> "$folder/output"; then
-    node $option faces/web/test.mjs "$web" "$dump" "$@" "$dump"
+if flag=$(sh checks/node_flag.sh); then
+    call() { node ${flag:+"$flag"} "$@"; }
+    call faces/web/test.mjs "$web" "$dump" "$@" "$dump"
 else
     echo "node has no memories of 64 bits here: the module for WebAssembly is not called from it"
 fi
