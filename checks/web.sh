@@ -1,7 +1,8 @@
 #!/bin/sh
 # Whether an archive of faces/install.sh for wasm64-unknown-unknown serves: JavaScript tells of files, whole and damaged, what C
-# does, and the page shows them in browsers. Run from the repository's root: web.sh ARCHIVE DUMP FILE.., where DUMP is made of
-# faces/c/dump.c and the FILEs are all that faces/c/made.c makes in a folder. What the machine hasn't is said in a line, and passes.
+# does, its calls do what their comments say, and the page shows files in browsers. Run from the repository's root:
+# web.sh ARCHIVE DUMP FILE.., where DUMP is made of faces/c/dump.c and the FILEs are all that faces/c/made.c makes in a folder. What
+# the machine hasn't is said in a line, and passes.
 set -eu
 archive=$1
 dump=$2
@@ -15,6 +16,7 @@ web=$(ls -d "$folder"/goblin_c-*)/share/goblin_c/web
 if flag=$(sh checks/node_flag.sh); then
     call() { node ${flag:+"$flag"} "$@"; }
     call faces/web/test.mjs "$web" "$dump" "$@" "$dump"
+    call faces/web/calls.mjs "$web" "$@" "$dump"
 else
     echo "node has no memories of 64 bits here: the module for WebAssembly is not called from it"
 fi

@@ -12,6 +12,9 @@
  * for (const section of Elf.parse(bytes).section_headers()) console.log(section.sh_offset);
  * ```
  */
+import { PT_NOTE, SHT_DYNSYM, SHT_NOBITS, SHT_NOTE, SHT_REL, SHT_RELA, SHT_SYMTAB } from './constants.js';
+
+export * from './constants.js';
 
 /** The version of `goblin.h` whose calls and structs this file knows. */
 export const VERSION = 3;
@@ -23,14 +26,6 @@ export const Kind = Object.freeze({
     TOO_MANY_SYMBOLS: 18, SYMTAB_PAST: 19, STRTAB_OFFSET: 20, STRTAB_RANGE: 21, SECTION_OFFSET: 22, SECTION_ADDR: 23,
     INTEGER_FIT: 24,
 });
-
-export const SHT_SYMTAB = 2;
-export const SHT_RELA = 4;
-export const SHT_NOTE = 7;
-export const SHT_NOBITS = 8;
-export const SHT_REL = 9;
-export const SHT_DYNSYM = 11;
-export const PT_NOTE = 4;
 
 /**
  * A file's header. `goblin.h` says what each field is.

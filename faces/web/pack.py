@@ -14,6 +14,8 @@ import sys
 HERE = os.path.dirname(os.path.abspath(__file__))
 IMPORT = re.compile(r"^import (?P<what>[^;]+?) from '\./(?P<name>\w+)\.js';\n", re.M)
 EXPORT = re.compile(r'^export (?:const|class|function|function\*|async function) (\w+)', re.M)
+REEXPORT = re.compile(r"^export \* from '\./(?P<name>\w+)\.js';\n", re.M)
+DOC = re.compile(r'^ */\*\*(?:(?!\*/).)*\*/\n', re.M | re.S)
 
 
 def read(name):
@@ -33,8 +35,9 @@ def sum_of(text):
 
 
 def source_of(name):
-    """A file's text; that of goblin.js without what asks where it lies, which a script that is no module can't."""
-    text = read(f'{name}.js')
+    """A file's text without its documentation; that of goblin.js without what asks where it lies, which a script that is no
+    module can't."""
+    text = DOC.sub('', read(f'{name}.js'))
     if name == 'goblin':
         text = placed(text, 'export default async function init', 'export async function init')
         text = placed(text, " = new URL('goblin_c.wasm', import.meta.url)", '')
@@ -63,13 +66,16 @@ def script_of(name):
             sys.exit(f'pack.py: {name}.js imports itself')
         begun.append(name)
         text = source_of(name)
-        before = ''.join(add(match['name']) for match in IMPORT.finditer(text))
+        before = ''.join(add(match['name']) for match in [*IMPORT.finditer(text), *REEXPORT.finditer(text)])
+        passed_on = REEXPORT.findall(text)
+        text = REEXPORT.sub('', text)
         names = EXPORT.findall(text)
         if len(names) != len(re.findall(r'^export ', text, re.M)) or len(IMPORT.findall(text)) != len(re.findall(r'^import ', text, re.M)):
             sys.exit(f'pack.py: {name}.js exports or imports what has no name')
         text = re.sub('^export ', '', IMPORT.sub(lambda match: taken(match, exported), text), flags=re.M)
-        exported[name] = names
-        return f'{before}const $_{name} = (() => {{\n{text}\nreturn {{ {", ".join(names)} }};\n}})();\n'
+        exported[name] = [*names, *(passed for other in passed_on for passed in exported[other])]
+        returned = [*(f'...$_{other}' for other in passed_on), *names]
+        return f'{before}const $_{name} = (() => {{\n{text}\nreturn {{ {", ".join(returned)} }};\n}})();\n'
 
     return f"'use strict';\n{add(name)}"
 
