@@ -9,10 +9,14 @@
  * ```js
  * import init, { Elf } from './goblin.js';
  * await init();
- * for (const section of Elf.parse(bytes).section_headers()) console.log(section.sh_offset);
+ * const elf = Elf.parse(bytes);
+ * for (const section of elf.section_headers()) console.log(elf.section_name(section), section.sh_size);
  * ```
  */
-import { PT_NOTE, SHT_DYNSYM, SHT_NOBITS, SHT_NOTE, SHT_REL, SHT_RELA, SHT_SYMTAB } from './constants.js';
+import {
+    PT_DYNAMIC, PT_GNU_EH_FRAME, PT_GNU_RELRO, PT_GNU_STACK, PT_LOAD, PT_NOTE, PT_PHDR, PT_TLS, SHF_ALLOC, SHF_TLS, SHT_DYNSYM,
+    SHT_NOBITS, SHT_NOTE, SHT_REL, SHT_RELA, SHT_SYMTAB,
+} from './constants.js';
 
 export * from './constants.js';
 
@@ -339,6 +343,16 @@ export class Elf {
     section_headers() { return new List(this.#memory, 'section', []); }
 
     /**
+     * Returns the first section with a name, if there is one.
+     * @param {string} name
+     * @returns {SectionHeader | undefined}
+     */
+    section(name) {
+        const index = this.section_by_name(name);
+        return index === undefined ? undefined : this.section_headers().get(index);
+    }
+
+    /**
      * The index of the first section with a name.
      * @param {string} name
      * @returns {number | undefined}
@@ -358,6 +372,13 @@ export class Elf {
     section_by_type(sh_type, first = 0) {
         return as_index(this.#ask('goblin_section_by_type', 'number', unsigned(sh_type, 32), unsigned(first, 64)));
     }
+
+    /**
+     * Returns the name of a section, or nothing where it lies past the sections' names. Refused where it is no text.
+     * @param {SectionHeader} section
+     * @returns {string | undefined}
+     */
+    section_name(section) { return this.shdr_strtab().get(section.sh_name); }
 
     /**
      * Where the bytes of a section lie in the file, or nothing where it has none there.
@@ -396,6 +417,14 @@ export class Elf {
         const range = this.segment_range(segment);
         return range && this.#memory.bytes(range);
     }
+
+    /**
+     * Returns the sections that lie in a segment, by `segment_holds`. The one at index 0, which stands for no section, is none
+     * of them.
+     * @param {ProgramHeader} segment
+     * @returns {SectionHeader[]}
+     */
+    segment_sections(segment) { return [...this.section_headers().from(1)].filter((section) => segment_holds(segment, section)); }
 
     /**
      * The number that 1, 2, 4 or 8 bytes at an offset of the file stand for, in the file's order. There is none of another width.
@@ -518,6 +547,45 @@ function range_of(section) {
 
 function reloc({ r_offset, r_sym, r_addend, r_type, has_addend }) {
     return { r_offset, r_sym, r_addend: has_addend ? r_addend : undefined, r_type };
+}
+
+/**
+ * Reports whether a section lies in a segment, as `readelf -l` maps sections to segments.
+ *
+ * The section's bytes in the file, if it has any there, lie in the segment's, and its addresses, if it is loaded (SHF_ALLOC), lie
+ * in the segment's. Not every segment holds every section:
+ * - PT_PHDR holds none.
+ * - PT_TLS holds those with SHF_TLS alone. Of these, PT_LOAD and PT_GNU_RELRO hold those that have bytes in the file, and other
+ *   segments hold none.
+ * - PT_LOAD, PT_GNU_RELRO, PT_DYNAMIC, PT_GNU_EH_FRAME and PT_GNU_STACK hold loaded sections alone.
+ * - An empty section isn't held at the segment's end, nor at the start of PT_DYNAMIC or PT_NOTE, unless the segment is empty too.
+ *
+ * The rule is this file's and not the library's: it is compared with `readelf`, but not proved.
+ * @param {ProgramHeader} segment
+ * @param {SectionHeader} section
+ * @returns {boolean}
+ */
+export function segment_holds(segment, section) {
+    const { p_type, p_offset, p_filesz, p_vaddr, p_memsz } = segment, { sh_type, sh_offset, sh_addr, sh_size } = section;
+    const first = sh_size === 0n && p_memsz !== 0n && [PT_DYNAMIC, PT_NOTE].includes(p_type) ? 1n : 0n;
+    const lies_in = (before, size) => before >= first && (before < size || size === 0n) && before + sh_size <= size;
+    return may_hold(segment, section)
+        && (sh_type === SHT_NOBITS || lies_in(sh_offset - p_offset, p_filesz))
+        && (!is_alloc(section) || lies_in(sh_addr - p_vaddr, p_memsz));
+}
+
+const is_alloc = ({ sh_flags }) => (sh_flags & SHF_ALLOC) !== 0n;
+
+// Whether segments of this type hold sections like this one.
+function may_hold({ p_type }, section) {
+    const is_tls = (section.sh_flags & SHF_TLS) !== 0n;
+    switch (p_type) {
+    case PT_PHDR: return false;
+    case PT_TLS: return is_tls;
+    case PT_LOAD: case PT_GNU_RELRO: return is_alloc(section) && !(is_tls && section.sh_type === SHT_NOBITS);
+    case PT_DYNAMIC: case PT_GNU_EH_FRAME: case PT_GNU_STACK: return is_alloc(section) && !is_tls;
+    default: return !is_tls;
+    }
 }
 
 /**
