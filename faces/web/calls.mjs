@@ -1,23 +1,243 @@
-// Whether the calls of goblin.js take and return what its comments say: calls.mjs FOLDER FILE.. tries them over these files. And
-// whether its constants are the library's.
+// Whether the calls of goblin.js take and return what its comments say: calls.mjs FOLDER FILE.. tries them over these files, whole,
+// cut and damaged. A list is refused where it is made, or has each item however one goes over it. And whether its constants are the
+// library's.
 import assert from 'node:assert/strict';
 import { readdirSync, readFileSync } from 'node:fs';
 import { join, resolve } from 'node:path';
 import { fileURLToPath, pathToFileURL } from 'node:url';
+import { elf_file, note } from './elves.mjs';
 
 const [, , web, ...paths] = process.argv;
 const goblin = await import(pathToFileURL(resolve(web, 'goblin.js')));
-const { Elf } = goblin;
+const { Elf, GoblinError, Kind } = goblin;
 const files = paths.map((path) => readFileSync(path));
 const own = files.at(-1); // (a program of this machine, with relocations and both tables of symbols)
+// A file with two notes, in a section and in a segment, and what they say.
+const NOTES = [['GNU', 3, 'abcd'], ['goblin', 0x1234, 'hello']];
+const note_bytes = Buffer.concat(NOTES.map(([name, type, desc]) => note(name, type, Buffer.from(desc))));
+const noted = elf_file({ sections: [{ name: '.note', type: 7, bytes: note_bytes }], segments: [{ type: 4, bytes: note_bytes }] });
+files.push(noted);
+
+const is_refusal = (kind) => (error) => error instanceof GoblinError && (kind === undefined || error.kind === kind);
+
+// ---- lists ----
+
+// The items that a way of going over a list gives.
+const WAYS = {
+    spread: (list) => [...list],
+    destructuring: (list) => { const [...items] = list; return items; },
+    'destructuring but the first': (list) => { const [first, ...items] = list; return list.length ? [first, ...items] : items; },
+    'for-of': (list) => { const items = []; for (const item of list) items.push(item); return items; },
+    'Array.from': (list) => Array.from(list),
+    'Array.from, mapped': (list) => Array.from(list, (item) => item),
+    'as arguments': (list) => ((...items) => items)(...list),
+    Set: (list) => [...new Set(list)],
+    'next by next': (list) => {
+        const items = [];
+        for (let step, left = list[Symbol.iterator](); !(step = left.next()).done;) items.push(step.value);
+        return items;
+    },
+    'a generator over it': (list) => [...(function* go() { yield* list; }())],
+    map: (list) => list.map((item) => item),
+    'map by indices': (list) => list.map((_, index) => list.at(index)),
+    forEach: (list) => { const items = []; list.forEach((item, index) => { items[index] = item; }); return items; },
+    filter: (list) => list.filter(() => true),
+    'filter by indices': (list) => Array.from({ length: list.length }, (_, wanted) => list.filter((_item, index) => index === wanted)).flat(),
+    find: (list) => Array.from({ length: list.length }, (_, wanted) => list.find((_item, index) => index === wanted)),
+    entries: (list) => [...list.entries()].map(([, item]) => item),
+    'entries by indices': (list) => { const items = []; for (const [index, item] of list.entries()) items[index] = item; return items; },
+    'at and length': (list) => Array.from({ length: list.length }, (_, index) => list.at(index)),
+    'at from the end': (list) => Array.from({ length: list.length }, (_, index) => list.at(index - list.length)),
+    'at until there is none': (list) => {
+        const items = [];
+        for (let i = 0; list.at(i) !== undefined; i++) items.push(list.at(i));
+        return items;
+    },
+};
+const WAYS_OF_LISTS = {
+    get: (list) => Array.from({ length: list.length }, (_, index) => list.get(index)),
+    'get until there is none': (list) => { const items = []; for (let i = 0n; list.get(i); i++) items.push(list.get(i)); return items; },
+    from: (list) => [...list.from(0, 1), ...list.from(1)],
+};
+
+// Whether each way gives these items.
+function has_each(list, items, what) {
+    const ways = Object.entries(list instanceof goblin.List ? { ...WAYS, ...WAYS_OF_LISTS } : WAYS);
+    for (const [name, way] of ways) assert.deepEqual(way(list), items, `${what}, by ${name}`);
+    assert.equal(list.length, items.length, what);
+    for (const index of [0, 1, -1, items.length, -items.length - 1, 1.9, -0.5, NaN, Infinity, -Infinity, undefined, '1']) {
+        assert.deepEqual(list.at(index), items.at(index), `${what}, at ${index}`);
+    }
+    assert.equal(list.find(() => false), undefined);
+}
+
+// The items that a call reads by their indices.
+function each(by_index) {
+    const items = [];
+    for (let item; (item = by_index(items.length)) !== undefined;) items.push(item);
+    return items;
+}
+
+// Lists that a file has: what each is, the call that makes it of a file, how many of the file's first bytes that needs, and its items.
+function lists_of(whole) {
+    const { e_phoff, e_phnum, e_shoff, e_shnum } = whole.header, [of_segment, of_section] = whole.is_64() ? [56n, 64n] : [32n, 40n];
+    const segments = each((i) => whole.program_header(i)), sections = each((i) => whole.section_header(i));
+    assert.equal(segments.length, e_phnum);
+    assert.equal(sections.length, e_shnum);
+    const of_segments = e_phnum ? e_phoff + of_segment * BigInt(e_phnum) : 0n, of_sections = e_shoff + of_section * BigInt(e_shnum);
+    const end = ({ sh_offset, sh_size }) => sh_offset + sh_size, latest = (...ends) => ends.reduce((a, b) => (a > b ? a : b), 0n);
+    const made = [
+        ['program headers', (elf) => elf.program_headers(), of_segments, segments],
+        ['section headers', (elf) => elf.section_headers(), of_sections, sections],
+    ];
+    for (const segment of segments) {
+        made.push(['sections of a segment', (elf) => elf.segment_sections(segment), of_sections,
+            sections.slice(1).filter((section) => goblin.segment_holds(segment, section))]);
+    }
+    const of_type = (...types) => sections.filter(({ sh_type }) => types.includes(sh_type));
+    const pairs = (list) => list.map(([section, relocs]) => [section, [...relocs]]);
+    for (const section of of_type(goblin.SHT_SYMTAB, goblin.SHT_DYNSYM)) {
+        const symtab = whole.symtab(section), items = each((i) => symtab.get(i)), needed = latest(of_sections, end(section));
+        made.push(['symbols', (elf) => elf.symtab(section), needed, items]);
+        const first = section.sh_type === goblin.SHT_SYMTAB ? 'syms' : 'dynsyms';
+        made.push([first, (elf) => elf[first](), needed, items]);
+    }
+    const of_relocs = of_type(goblin.SHT_REL, goblin.SHT_RELA);
+    const items_of = (section) => {
+        const list = whole.relocs(section);
+        return each((i) => list.get(i));
+    };
+    for (const section of of_relocs) made.push(['relocations', (elf) => elf.relocs(section), end(section), items_of(section)]);
+    made.push(['sections of relocations', (elf) => pairs(elf.shdr_relocs()), latest(of_sections, ...of_relocs.map(end)),
+        of_relocs.map((section) => [section, items_of(section)])]);
+    // (what fills the last descriptor up to the alignment isn't needed)
+    const end_of_notes = (notes) => latest(...notes.map(({ desc_range: { offset, size } }) => offset + size));
+    const section_notes = [], segment_notes = [];
+    for (const section of of_type(goblin.SHT_NOTE)) {
+        const notes = whole.notes(section);
+        made.push(['notes of a section', (elf) => elf.notes(section), end_of_notes(notes), notes]);
+        section_notes.push(...notes);
+    }
+    for (const segment of segments.filter(({ p_type }) => p_type === goblin.PT_NOTE)) {
+        const notes = whole.segment_notes(segment);
+        made.push(['notes of a segment', (elf) => elf.segment_notes(segment), end_of_notes(notes), notes]);
+        segment_notes.push(...notes);
+    }
+    made.push(['notes of all sections', (elf) => elf.iter_note_sections(), latest(of_sections, end_of_notes(section_notes)), section_notes]);
+    made.push(['notes of all segments', (elf) => elf.iter_note_headers(), latest(of_segments, end_of_notes(segment_notes)), segment_notes]);
+    return made;
+}
+
+// Of each file, cut to each length or to some, each list is refused where it is made, or has each item.
+function check_lists() {
+    let refused = 0, made = 0;
+    for (const content of files) {
+        const lists = lists_of(Elf.parse(content)), step = Math.ceil(content.length / 2000);
+        const ends = new Set(lists.flatMap(([, , needed]) => [Number(needed) - 1, Number(needed), Number(needed) + 1, content.length]));
+        for (let end = 64; end < content.length; end += step) ends.add(end);
+        for (const end of [...ends].filter((end) => end >= 64 && end <= content.length)) {
+            const elf = Elf.parse(content.subarray(0, end));
+            for (const [what, make, needed, items] of lists) {
+                if (end < Number(needed)) {
+                    assert.throws(() => make(elf), is_refusal(), `${what} of the first ${end} bytes`);
+                    refused++;
+                } else {
+                    const list = make(elf), is_near = end - Number(needed) < 2 || end === content.length;
+                    if (is_near && items.length < 200) has_each(list, items, what);
+                    else assert.deepEqual([...list].length, items.length);
+                    made++;
+                }
+            }
+        }
+    }
+    assert.ok(refused > 10000 && made > 10000, `${refused} lists are refused, and ${made} are made`);
+    return `${made} lists that have each item, ${refused} that are refused where they are made`;
+}
+
+// A copy of a file in which the bytes of a section start at its last byte.
+function with_moved(content, elf, index) {
+    const copy = Buffer.from(content), view = new DataView(copy.buffer, copy.byteOffset), at = Number(elf.header.e_shoff);
+    if (elf.is_64()) view.setBigUint64(at + 64 * index + 24, BigInt(content.length - 1), elf.little_endian());
+    else view.setUint32(at + 40 * index + 16, content.length - 1, elf.little_endian());
+    return copy;
+}
+
+// Where one section of several passes the file's end, its list is refused, and each that has it as a part; lists of others are not.
+function check_moved_sections() {
+    const calls = {
+        2: [(elf, section) => elf.symtab(section), (elf) => elf.syms()], 11: [(elf, section) => elf.symtab(section), (elf) => elf.dynsyms()],
+        4: [(elf, section) => elf.relocs(section), (elf) => elf.shdr_relocs()], 9: [(elf, section) => elf.relocs(section), (elf) => elf.shdr_relocs()],
+        7: [(elf, section) => elf.notes(section), (elf) => elf.iter_note_sections()],
+    };
+    let moved = 0;
+    for (const content of files) {
+        const whole = Elf.parse(content), sections = [...whole.section_headers()];
+        sections.forEach(({ sh_type }, index) => {
+            if (!calls[sh_type]) return;
+            const elf = Elf.parse(with_moved(content, whole, index));
+            for (const call of calls[sh_type]) assert.throws(() => call(elf, elf.section_header(index)), is_refusal());
+            for (const other of sections) {
+                if (calls[other.sh_type] && other !== sections[index]) assert.ok(calls[other.sh_type][0](elf, other).length > 0);
+            }
+            moved++;
+        });
+    }
+    assert.ok(moved >= 10, `${moved} sections`);
+    return `${moved} sections that pass the end`;
+}
+
+function check_types_of_sections() {
+    let found = 0;
+    for (const content of files) {
+        const elf = Elf.parse(content);
+        for (const section of elf.section_headers()) {
+            const { sh_type } = section, of = `A section of type 0x${sh_type.toString(16)} (${goblin.sht_to_str(sh_type)}) holds no `;
+            const wrong = (expected) => ({ kind, numbers, message }) => kind === Kind.SECTION_TYPE && numbers[0] === BigInt(sh_type)
+                && message === of + expected;
+            if (![2, 11].includes(sh_type)) assert.throws(() => elf.symtab(section), wrong('symbols'));
+            if (![4, 9].includes(sh_type)) assert.throws(() => elf.relocs(section), wrong('relocations'));
+            found++;
+        }
+    }
+    return `${found} sections by their types`;
+}
+
+// ---- notes ----
+
+function check_notes() {
+    const elf = Elf.parse(noted), said = (notes) => notes.map(({ name, n_type, desc }) => [name, n_type, Buffer.from(desc).toString()]);
+    const calls = [
+        [elf.section('.note'), 'notes', 'readable_notes', 'iter_note_sections'],
+        [elf.program_header(0), 'segment_notes', 'readable_segment_notes', 'iter_note_headers'],
+    ];
+    for (const [holder, of_one, readable, of_all] of calls) {
+        const notes = elf[of_one](holder);
+        assert.deepEqual([said(notes), said(elf[of_all]())], [NOTES, NOTES]);
+        assert.deepEqual(notes.map((item) => goblin.note_type_to_str(item)), ['NT_GNU_BUILD_ID', 'NT_UNKNOWN']);
+        assert.deepEqual(elf[readable](holder), { notes, refusal: undefined });
+        assert.deepEqual(elf[readable](holder, 1), { notes: notes.slice(0, 1), refusal: undefined });
+        notes.forEach(({ name_range }, before) => {
+            const copy = Buffer.from(noted);
+            copy[Number(name_range.offset)] = 0xff; // (which starts no text)
+            const damaged = Elf.parse(copy), found = damaged[readable](holder);
+            assert.deepEqual([said(found.notes), found.refusal.kind], [NOTES.slice(0, before), Kind.BAD_INPUT]);
+            assert.throws(() => damaged[of_one](holder), is_refusal(Kind.BAD_INPUT));
+            assert.throws(() => damaged[of_all](), is_refusal(Kind.BAD_INPUT));
+        });
+    }
+    assert.equal(goblin.note_type_to_str({ name: 'GNU', n_type: 99 }), 'NT_UNKNOWN');
+    return `${2 * NOTES.length} notes`;
+}
 
 // ---- arguments ----
 
 function check_arguments() {
     const elf = Elf.parse(own), text = elf.section('.text');
-    assert.deepEqual(text, elf.section_headers().get(elf.section_by_name('.text')));
+    assert.deepEqual(text, elf.section_header(elf.section_by_name('.text')));
     assert.equal(elf.section_name(text), '.text');
     assert.equal(elf.section('.none'), undefined);
+    const symbols = elf.syms(), main = symbols.by_name('main'), { st_value } = symbols.get(main);
+    assert.equal(symbols.name(symbols.get(symbols.by_address(st_value))), 'main');
 }
 
 // ---- sections of segments ----
@@ -102,7 +322,7 @@ async function check_constants() {
 }
 
 await goblin.default();
-const told = [await check_constants()];
+const told = [check_lists(), check_moved_sections(), check_types_of_sections(), check_notes(), await check_constants()];
 check_arguments();
 check_segments();
 console.log(`goblin.js takes and returns what it says: ${told.join(', ')}`);

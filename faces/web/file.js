@@ -77,7 +77,7 @@ export function section_refusal(error, what, index) {
 }
 
 export function segment_refusal(error, index) {
-    const { p_offset, p_filesz } = file.elf.program_headers().get(index);
+    const { p_offset, p_filesz } = file.elf.program_header(index);
     const size = size_of('segment'), at = Number(file.elf.header.e_phoff) + index * size;
     const told = `the bytes of segment ${index}: offset ${hex(p_offset)}, file size ${hex(p_filesz)}`;
     return refusal(error, `${told}, in a file of ${count(file.content.length)} bytes`, [{ at, size }]);
@@ -85,22 +85,20 @@ export function segment_refusal(error, index) {
 
 // ---- sections ----
 
-export const section_at = (index) => file.elf.section_headers().get(index);
+export const section_at = (index) => file.elf.section_header(index);
 
 /** All sections with their indices: none where they are refused. */
 export function* sections() {
-    let list;
-    if (!told_or(false, () => { list = file.elf.section_headers(); return list.length > 0; })) return;
-    let index = 0;
-    for (const section of list) yield { index: index++, section };
+    const list = told_or(undefined, () => file.elf.section_headers());
+    if (!list) return;
+    for (const [index, section] of list.entries()) yield { index, section };
 }
 
 /** All segments with their indices: none where they are refused. */
 export function* segments() {
-    let list;
-    if (!told_or(false, () => { list = file.elf.program_headers(); return list.length > 0; })) return;
-    let index = 0;
-    for (const segment of list) yield { index: index++, segment };
+    const list = told_or(undefined, () => file.elf.program_headers());
+    if (!list) return;
+    for (const [index, segment] of list.entries()) yield { index, segment };
 }
 
 /** The name at an offset of a table: cut where it is long, empty where there is none. A table that is refused has no names. */

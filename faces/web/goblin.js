@@ -2,9 +2,13 @@
  * ELF files in JavaScript, read by `goblin_c.wasm`: the library of a verified port of goblin's ELF layer, as one WebAssembly
  * module with a memory of 64 bits, which needs nothing from outside.
  *
- * A file is an array of bytes: `Elf.parse` copies it into a memory of its own and reads its header; all else is read when it is
- * asked for. What the library answers is proved; this file hands it on. Names are goblin's where goblin has the thing. What has 64
- * bits in `goblin.h` is a BigInt, other numbers are Numbers, names are strings, and bytes are copies of the file's.
+ * `Elf.parse` copies a file's bytes into a memory of its own and reads its header; all else is read when it is asked for. What
+ * the library returns is proved; this file passes it on. Names are goblin's where goblin has the thing.
+ *
+ * - A number of 64 bits in `goblin.h` is a BigInt in every file, whatever its value; every other number is a Number. Bytes are
+ *   copies of the file's.
+ * - Items are plain objects.
+ * - The call that makes a list throws where the list can't be read. A list that was made has each of its items.
  *
  * ```js
  * import init, { Elf } from './goblin.js';
@@ -23,12 +27,12 @@ export * from './constants.js';
 /** The version of `goblin.h` whose calls and structs this file knows. */
 export const VERSION = 3;
 
-/** The numbers of refusals, as in `goblin.h`. */
+/** The numbers of refusals, as in `goblin.h`, and one of this file: a section is asked for what its type doesn't hold. */
 export const Kind = Object.freeze({
     BAD_MAGIC: 2, TOO_BIG: 3, BAD_OFFSET: 4, BAD_INPUT: 5, BUFFER_TOO_SHORT: 6, OUT_OF_MEMORY: 7, INVALID_CLASS: 10,
     INVALID_ENDIANNESS: 11, TOO_SMALL: 12, ELF_CLASS: 13, DATA_TYPE: 14, DATA: 15, NOTE_ALIGN: 16, SYMTAB_OFFSET: 17,
     TOO_MANY_SYMBOLS: 18, SYMTAB_PAST: 19, STRTAB_OFFSET: 20, STRTAB_RANGE: 21, SECTION_OFFSET: 22, SECTION_ADDR: 23,
-    INTEGER_FIT: 24,
+    INTEGER_FIT: 24, SECTION_TYPE: 0xffffffff,
 });
 
 /**
@@ -100,6 +104,17 @@ export const Kind = Object.freeze({
  * @property {bigint} r_sym the index of the symbol, 0 for none
  * @property {bigint | undefined} r_addend what is added; none where the place itself holds it
  * @property {number} r_type the type, which the machine gives its meaning
+ */
+
+/**
+ * A note.
+ * @typedef {object} Note
+ * @property {number} n_type its type, which the name gives its meaning: see `note_type_to_str`
+ * @property {Range} name_range where its name lies, without the zero byte that closes it
+ * @property {Range} desc_range where its descriptor lies
+ * @property {bigint} next the offset at which the next note starts
+ * @property {string} name its name, decoded when it is asked for
+ * @property {Uint8Array} desc its descriptor, copied when it is asked for
  */
 
 /**
@@ -181,11 +196,17 @@ let compiled;
 /** @type {Memory | undefined} */
 let shared;
 
+// What `init` makes.
+function ready(made) {
+    if (!made) throw new Error('goblin.js is not ready: await init() first');
+    return made;
+}
+
 /**
- * Makes the library ready, which each call of this file needs.
+ * Makes the library ready, which each call of this file needs. Fails where the engine has no memories of 64 bits, and where the
+ * module is of another version.
  * @param {URL | BufferSource | WebAssembly.Module} [source] the module, its bytes, or where it lies: by default beside this file
  * @returns {Promise<void>}
- * @throws where the engine has no memories of 64 bits, or the module is of another version
  */
 export default async function init(source = new URL('goblin_c.wasm', import.meta.url)) {
     if (!WebAssembly.validate(WITH_MEMORY)) throw new Error('this engine has no WebAssembly memories of 64 bits');
@@ -219,8 +240,7 @@ function grow(memory, pages) {
 // The library with a memory that holds a file's bytes.
 class Memory {
     constructor(bytes) {
-        if (!compiled) throw new Error('goblin.js is not ready: await init() first');
-        this.calls = new WebAssembly.Instance(compiled, {}).exports;
+        this.calls = new WebAssembly.Instance(ready(compiled), {}).exports;
         this.base = Math.ceil(Number(this.calls.__heap_base.value) / 16) * 16;
         this.length = bytes.length;
         this.reserve(FILE + bytes.length);
@@ -261,7 +281,7 @@ class Memory {
     // What a call answers: an item of a kind, or nothing past the last one.
     ask(call, kind, ...given) {
         const answer = this.calls[call](...this.file, ...given, this.address(ITEM), this.address(WHY)) >>> 0;
-        if (answer > 1) throw new GoblinError(this);
+        if (answer > 1) throw GoblinError.of(this);
         return answer === 0 ? read(this.view, this.base + ITEM, records[kind]) : undefined;
     }
 
@@ -284,19 +304,29 @@ class Memory {
     string({ offset, size }) { return decoder.decode(this.part(FILE + Number(offset), Number(size))); }
 }
 
-/** Why a file is refused. Its message is the library's text. */
+/** Why a file, or a part of it, is refused. */
 export class GoblinError extends Error {
-    /** @param {Memory} memory */
-    constructor(memory) {
-        super(memory.text('goblin_refusal_text', memory.address(WHY)));
-        const why = read(memory.view, memory.base + WHY, records.refusal);
+    constructor(message, { kind, item, first, second, third, fourth }) {
+        super(message);
         this.name = 'GoblinError';
         /** @type {number} which refusal it is, a number of `Kind` */
-        this.kind = why.kind;
+        this.kind = kind;
         /** @type {number} 1 for invalid UTF-8, 2 for section headers, 3 for program headers, else 0 */
-        this.item = why.item;
+        this.item = item;
         /** @type {bigint[]} the four numbers that belong to it, as `goblin.h` says, and behind them 0 */
-        this.numbers = [why.first, why.second, why.third, why.fourth];
+        this.numbers = [first, second, third, fourth];
+    }
+
+    // The refusal that a call has just written, with the library's text.
+    static of(memory) {
+        const why = read(memory.view, memory.base + WHY, records.refusal);
+        return new GoblinError(memory.text('goblin_refusal_text', memory.address(WHY)), why);
+    }
+
+    // The refusal of a section whose type doesn't hold what is asked for: its first number is the type.
+    static of_type({ sh_type }, expected) {
+        const message = `A section of type 0x${sh_type.toString(16)} (${sht_to_str(sh_type)}) holds no ${expected}`;
+        return new GoblinError(message, { kind: Kind.SECTION_TYPE, item: 0, first: BigInt(sh_type), second: 0n, third: 0n, fourth: 0n });
     }
 }
 
@@ -317,27 +347,47 @@ export class Elf {
         this.#memory = new Memory(bytes);
         const header = this.#memory.ask('goblin_header', 'header');
         this.#memory.give(HEADER, 'header', header);
-        /** @type {Readonly<Header>} */
+        /** @type {Readonly<Header>} the header */
         this.header = Object.freeze(header);
     }
 
     // A call that is handed the header.
     #ask(call, kind, ...given) { return this.#memory.ask(call, kind, this.#memory.address(HEADER), ...given); }
 
-    /** Whether the file is of the 64-bit class. */
+    /**
+     * Reports whether the file is of the 64-bit class.
+     * @returns {boolean}
+     */
     is_64() { return this.header.ei_class === 2; }
 
-    /** Whether the lowest byte of a number comes first. */
+    /**
+     * Reports whether the lowest byte of a number comes first.
+     * @returns {boolean}
+     */
     little_endian() { return this.header.ei_data !== 2; }
 
     /**
-     * All program headers.
+     * Returns the program header at an index, or nothing past the last one.
+     * @param {number | bigint} index
+     * @returns {ProgramHeader | undefined}
+     */
+    program_header(index) { return this.#ask('goblin_segment', 'segment', unsigned(index, 64)); }
+
+    /**
+     * Returns all program headers.
      * @returns {List<ProgramHeader>}
      */
     program_headers() { return new List(this.#memory, 'segment', [], { has_many: false }); }
 
     /**
-     * All section headers.
+     * Returns the section header at an index, or nothing past the last one.
+     * @param {number | bigint} index
+     * @returns {SectionHeader | undefined}
+     */
+    section_header(index) { return this.#ask('goblin_section', 'section', unsigned(index, 64)); }
+
+    /**
+     * Returns all section headers.
      * @returns {List<SectionHeader>}
      */
     section_headers() { return new List(this.#memory, 'section', []); }
@@ -347,13 +397,10 @@ export class Elf {
      * @param {string} name
      * @returns {SectionHeader | undefined}
      */
-    section(name) {
-        const index = this.section_by_name(name);
-        return index === undefined ? undefined : this.section_headers().get(index);
-    }
+    section(name) { return this.#section_at(this.section_by_name(name)); }
 
     /**
-     * The index of the first section with a name.
+     * Returns the index of the first section with a name, if there is one.
      * @param {string} name
      * @returns {number | undefined}
      */
@@ -364,7 +411,7 @@ export class Elf {
     }
 
     /**
-     * The index of the first section of a type, an SHT_ number, from an index on.
+     * Returns the index of the first section of a type, an SHT_ number, from an index on, if there is one.
      * @param {number} sh_type
      * @param {number | bigint} [first]
      * @returns {number | undefined}
@@ -372,6 +419,8 @@ export class Elf {
     section_by_type(sh_type, first = 0) {
         return as_index(this.#ask('goblin_section_by_type', 'number', unsigned(sh_type, 32), unsigned(first, 64)));
     }
+
+    #section_at(index) { return index === undefined ? undefined : this.section_header(index); }
 
     /**
      * Returns the name of a section, or nothing where it lies past the sections' names. Refused where it is no text.
@@ -381,7 +430,7 @@ export class Elf {
     section_name(section) { return this.shdr_strtab().get(section.sh_name); }
 
     /**
-     * Where the bytes of a section lie in the file, or nothing where it has none there.
+     * Returns where the bytes of a section lie in the file, or nothing where it has none there.
      * @param {SectionHeader} section
      * @returns {Range | undefined}
      */
@@ -390,7 +439,7 @@ export class Elf {
     }
 
     /**
-     * Where the bytes of a segment lie in the file, or nothing where it has none there.
+     * Returns where the bytes of a segment lie in the file, or nothing where it has none there.
      * @param {ProgramHeader} segment
      * @returns {Range | undefined}
      */
@@ -399,7 +448,7 @@ export class Elf {
     }
 
     /**
-     * The bytes of a section, or nothing where it has none in the file.
+     * Returns the bytes of a section, or nothing where it has none in the file.
      * @param {SectionHeader} section
      * @returns {Uint8Array | undefined}
      */
@@ -409,7 +458,7 @@ export class Elf {
     }
 
     /**
-     * The bytes of a segment, or nothing where it has none in the file.
+     * Returns the bytes of a segment, or nothing where it has none in the file.
      * @param {ProgramHeader} segment
      * @returns {Uint8Array | undefined}
      */
@@ -427,7 +476,8 @@ export class Elf {
     segment_sections(segment) { return [...this.section_headers().from(1)].filter((section) => segment_holds(segment, section)); }
 
     /**
-     * The number that 1, 2, 4 or 8 bytes at an offset of the file stand for, in the file's order. There is none of another width.
+     * Returns the number that 1, 2, 4 or 8 bytes at an offset of the file stand for, in the file's order. There is none of another
+     * width.
      * @param {number | bigint} offset
      * @param {number} width
      * @returns {bigint | undefined}
@@ -437,107 +487,131 @@ export class Elf {
     }
 
     /**
-     * The sections' names: an empty table where the file has none.
+     * Returns the sections' names: an empty table where the file has none.
      * @returns {Strtab}
      */
     shdr_strtab() { return new Strtab(this.#memory, range_of(this.#ask('goblin_section_names', 'section'))); }
 
     /**
-     * The strings of a section: an empty table where it has no bytes in the file.
+     * Returns the strings of a section: an empty table where it has no bytes in the file.
      * @param {SectionHeader} section
      * @returns {Strtab}
      */
     strtab(section) { return new Strtab(this.#memory, range_of(section)); }
 
     /**
-     * The symbols of a section, with the names that the section at its `sh_link` holds: none where there is no such section.
+     * Returns the symbols of a section of type SHT_SYMTAB or SHT_DYNSYM, with the names that the section at its `sh_link` holds:
+     * none where there is no such section. A section of another type is refused.
      * @param {SectionHeader} section
      * @returns {Symtab}
      */
     symtab(section) {
+        if (![SHT_SYMTAB, SHT_DYNSYM].includes(section.sh_type)) throw GoblinError.of_type(section, 'symbols');
         const names = this.#ask('goblin_table', 'section', unsigned(section.sh_link, 64));
         return new Symtab(this.#memory, range_of(section), new Strtab(this.#memory, range_of(names)));
     }
 
     /**
-     * The first table of symbols that has all of them, if there is one.
+     * Returns the first table of symbols that has all of them, if there is one.
      * @returns {Symtab | undefined}
      */
     syms() { return this.#first_symtab(SHT_SYMTAB); }
 
     /**
-     * The first table of the symbols that are wanted when the program runs, if there is one.
+     * Returns the first table of the symbols that are wanted when the program runs, if there is one.
      * @returns {Symtab | undefined}
      */
     dynsyms() { return this.#first_symtab(SHT_DYNSYM); }
 
     #first_symtab(sh_type) {
-        const at = this.section_by_type(sh_type);
-        const section = at === undefined ? undefined : this.section_headers().get(at);
+        const section = this.#section_at(this.section_by_type(sh_type));
         return section && this.symtab(section);
     }
 
     /**
-     * The relocations of a section of type SHT_RELA or SHT_REL.
+     * Returns the relocations of a section of type SHT_RELA or SHT_REL. A section of another type is refused.
      * @param {SectionHeader} section
      * @returns {List<Reloc>}
      */
     relocs(section) {
+        if (!holds_relocs(section)) throw GoblinError.of_type(section, 'relocations');
         return new List(this.#memory, 'reloc', [Number(section.sh_type === SHT_RELA)], { range: range_of(section), made: reloc });
     }
 
     /**
-     * All sections of relocations, each with its relocations.
-     * @returns {Generator<[SectionHeader, List<Reloc>]>}
+     * Returns all sections of relocations, each with its relocations. Where some are damaged, `relocs` reads the others.
+     * @returns {[SectionHeader, List<Reloc>][]}
      */
-    *shdr_relocs() {
-        for (const section of this.section_headers()) {
-            if (section.sh_type === SHT_RELA || section.sh_type === SHT_REL) yield [section, this.relocs(section)];
-        }
-    }
+    shdr_relocs() { return this.section_headers().filter(holds_relocs).map((section) => [section, this.relocs(section)]); }
 
     /**
-     * The notes of a section.
+     * Returns the notes of a section. Where one is damaged, `readable_notes` returns those before it.
      * @param {SectionHeader} section
-     * @returns {Generator<Note>}
+     * @returns {Note[]}
      */
-    notes(section) { return this.#notes_of(range_of(section), section.sh_addralign); }
+    notes(section) { return all_notes(this.readable_notes(section)); }
 
     /**
-     * The notes of a segment.
+     * Returns the notes of a segment. Where one is damaged, `readable_segment_notes` returns those before it.
      * @param {ProgramHeader} segment
-     * @returns {Generator<Note>}
+     * @returns {Note[]}
      */
-    segment_notes(segment) { return this.#notes_of({ offset: segment.p_offset, size: segment.p_filesz }, segment.p_align); }
+    segment_notes(segment) { return all_notes(this.readable_segment_notes(segment)); }
 
-    *#notes_of(range, alignment) {
-        for (let next = range.offset; ;) {
-            const given = this.#memory.give(GIVEN, 'range', range);
-            const told = this.#ask('goblin_note', 'note', given, unsigned(alignment, 64), next);
-            if (!told) return;
-            next = told.next;
-            yield new Note(this.#memory, told);
+    /**
+     * Returns the notes of a section up to the first that can't be read, at most so many, and why it can't.
+     * @param {SectionHeader} section
+     * @param {number} [most]
+     * @returns {{ notes: Note[], refusal: GoblinError | undefined }}
+     */
+    readable_notes(section, most = Infinity) { return this.#read_notes(range_of(section), section.sh_addralign, most); }
+
+    /**
+     * Returns the notes of a segment up to the first that can't be read, at most so many, and why it can't.
+     * @param {ProgramHeader} segment
+     * @param {number} [most]
+     * @returns {{ notes: Note[], refusal: GoblinError | undefined }}
+     */
+    readable_segment_notes(segment, most = Infinity) {
+        return this.#read_notes({ offset: segment.p_offset, size: segment.p_filesz }, segment.p_align, most);
+    }
+
+    #read_notes(range, alignment, most) {
+        const notes = [];
+        try {
+            for (let next = range.offset; notes.length < most; next = notes.at(-1).next) {
+                const given = this.#memory.give(GIVEN, 'range', range);
+                const told = this.#ask('goblin_note', 'note', given, unsigned(alignment, 64), next);
+                if (!told) break;
+                notes.push(note(this.#memory, told));
+            }
+        } catch (error) {
+            if (!(error instanceof GoblinError)) throw error;
+            return { notes, refusal: error };
         }
+        return { notes, refusal: undefined };
     }
 
     /**
-     * The notes of all segments of type PT_NOTE.
-     * @returns {Generator<Note>}
+     * Returns the notes of all segments of type PT_NOTE.
+     * @returns {Note[]}
      */
-    *iter_note_headers() {
-        for (const segment of this.program_headers()) if (segment.p_type === PT_NOTE) yield* this.segment_notes(segment);
+    iter_note_headers() {
+        return this.program_headers().filter(({ p_type }) => p_type === PT_NOTE).flatMap((segment) => this.segment_notes(segment));
     }
 
     /**
-     * The notes of all sections of type SHT_NOTE.
-     * @returns {Generator<Note>}
+     * Returns the notes of all sections of type SHT_NOTE.
+     * @returns {Note[]}
      */
-    *iter_note_sections() {
-        for (const section of this.section_headers()) if (section.sh_type === SHT_NOTE) yield* this.notes(section);
+    iter_note_sections() {
+        return this.section_headers().filter(({ sh_type }) => sh_type === SHT_NOTE).flatMap((section) => this.notes(section));
     }
 }
 
 const as_index = (told) => (told ? Number(told.value) : undefined);
+
+const holds_relocs = ({ sh_type }) => sh_type === SHT_RELA || sh_type === SHT_REL;
 
 // The bytes of a section in the file: none of no section, and of one that has none there, whatever its size.
 function range_of(section) {
@@ -547,6 +621,20 @@ function range_of(section) {
 
 function reloc({ r_offset, r_sym, r_addend, r_type, has_addend }) {
     return { r_offset, r_sym, r_addend: has_addend ? r_addend : undefined, r_type };
+}
+
+function note(memory, { name_offset, name_size, desc_offset, desc_size, next, n_type }) {
+    const name_range = { offset: name_offset, size: name_size }, desc_range = { offset: desc_offset, size: desc_size };
+    return {
+        n_type, name_range, desc_range, next,
+        get name() { return memory.string(name_range); },
+        get desc() { return memory.bytes(desc_range); },
+    };
+}
+
+function all_notes({ notes, refusal }) {
+    if (refusal) throw refusal;
+    return notes;
 }
 
 /**
@@ -589,13 +677,13 @@ function may_hold({ p_type }, section) {
 }
 
 /**
- * A list of a file. To go over it asks for some items at a time.
+ * A list of a file. The call that makes one has read how many items there are, and throws where it can't be read. Going over it
+ * reads some items at a time. What else arrays have, `[...list]` has.
  * @template T
  */
 export class List {
-    #memory; #kind; #given; #range; #made; #has_many;
+    #memory; #kind; #given; #range; #made; #has_many; #length;
 
-    /** @param {Memory} memory */
     constructor(memory, kind, given, { range = undefined, made = (item) => item, has_many = true } = {}) {
         this.#memory = memory;
         this.#kind = kind;
@@ -603,6 +691,7 @@ export class List {
         this.#range = range;
         this.#made = made;
         this.#has_many = has_many;
+        this.#length = Number(memory.ask(`goblin_${kind}_count`, 'number', ...this.#hand_over()).value);
     }
 
     #hand_over() {
@@ -610,11 +699,14 @@ export class List {
         return [this.#memory.address(HEADER), ...range, ...this.#given];
     }
 
-    /** How many items there are. @returns {number} */
-    get length() { return Number(this.#memory.ask(`goblin_${this.#kind}_count`, 'number', ...this.#hand_over()).value); }
+    /**
+     * How many items there are.
+     * @returns {number}
+     */
+    get length() { return this.#length; }
 
     /**
-     * The item at an index, or nothing past the last one.
+     * Returns the item at an index, or nothing past the last one.
      * @param {number | bigint} index
      * @returns {T | undefined}
      */
@@ -624,10 +716,20 @@ export class List {
     }
 
     /**
-     * At most so many items from an index on, some at a time.
+     * Returns the item at an index, as `at` of an array does: one below 0 counts from the end.
+     * @param {number} index
+     * @returns {T | undefined}
+     */
+    at(index) {
+        const whole = Math.trunc(index) || 0, from_start = whole < 0 ? whole + this.#length : whole;
+        return from_start >= 0 && from_start < this.#length ? this.get(from_start) : undefined;
+    }
+
+    /**
+     * Goes over at most so many items from an index on.
      * @param {number | bigint} [first]
      * @param {number} [most]
-     * @returns {Generator<T>}
+     * @returns {Generator<T, void, undefined>}
      */
     *from(first = 0, most = Infinity) {
         for (let next = unsigned(first, 64), left = most; left > 0;) {
@@ -641,8 +743,52 @@ export class List {
         }
     }
 
-    /** @returns {Generator<T>} */
+    /**
+     * Goes over the items.
+     * @returns {Generator<T, void, undefined>}
+     */
     [Symbol.iterator]() { return this.from(); }
+
+    /**
+     * Goes over the items, each behind its index.
+     * @returns {Generator<[number, T], void, undefined>}
+     */
+    *entries() {
+        let index = 0;
+        for (const item of this) yield [index++, item];
+    }
+
+    /**
+     * Calls a function with each item and its index.
+     * @param {(item: T, index: number) => void} call
+     * @returns {void}
+     */
+    forEach(call) { for (const [index, item] of this.entries()) call(item, index); }
+
+    /**
+     * Returns what a function returns of each item and its index.
+     * @template U
+     * @param {(item: T, index: number) => U} call
+     * @returns {U[]}
+     */
+    map(call) { return Array.from(this, (item, index) => call(item, index)); }
+
+    /**
+     * Returns the items of which a function says so, called with each item and its index.
+     * @param {(item: T, index: number) => unknown} call
+     * @returns {T[]}
+     */
+    filter(call) { return Array.from(this).filter((item, index) => call(item, index)); }
+
+    /**
+     * Returns the first item of which a function says so, called with each item up to there and its index, if there is one.
+     * @param {(item: T, index: number) => unknown} call
+     * @returns {T | undefined}
+     */
+    find(call) {
+        for (const [index, item] of this.entries()) if (call(item, index)) return item;
+        return undefined;
+    }
 }
 
 /**
@@ -656,41 +802,42 @@ export class Symtab extends List {
         super(memory, 'symbol', [], { range });
         this.#memory = memory;
         this.#range = range;
-        /** @type {Strtab} */
+        /** @type {Strtab} the names of its symbols */
         this.strtab = strtab;
     }
 
     /**
-     * The name of a symbol, or nothing where it lies past the string table. Refused where it is no text.
+     * Returns the name of a symbol, or nothing where it lies past the string table. Refused where it is no text.
      * @param {Sym} symbol
      * @returns {string | undefined}
      */
     name(symbol) { return this.strtab.get(symbol.st_name); }
 
     /**
-     * The bytes of a symbol's name, text or not, or nothing where it lies past the string table.
+     * Returns the bytes of a symbol's name, text or not, or nothing where it lies past the string table.
      * @param {Sym} symbol
      * @returns {Uint8Array | undefined}
      */
     name_bytes(symbol) { return this.strtab.get_bytes(symbol.st_name); }
 
     /**
-     * The index of the symbol that an address lies in: the highest one at it or below it, as `goblin.h` says.
+     * Returns the index of the symbol that an address lies in, if there is one: the highest one at it or below it, as `goblin.h`
+     * says.
      * @param {number | bigint} address
      * @returns {number | undefined}
      */
-    at(address) {
+    by_address(address) {
         const memory = this.#memory;
         const table = memory.give(GIVEN, 'range', this.#range);
         return as_index(memory.ask('goblin_symbol_by_address', 'number', memory.address(HEADER), table, unsigned(address, 64)));
     }
 
     /**
-     * The index of the first symbol with a name.
+     * Returns the index of the first symbol with a name, if there is one.
      * @param {string} name
      * @returns {number | undefined}
      */
-    find(name) {
+    by_name(name) {
         const memory = this.#memory;
         const bytes = memory.give_bytes(encoder.encode(name));
         const table = memory.give(GIVEN, 'range', this.#range);
@@ -706,7 +853,7 @@ export class Strtab {
 
     constructor(memory, range) {
         this.#memory = memory;
-        /** @type {Range} */
+        /** @type {Range} where it lies, inside the file or not */
         this.range = range;
     }
 
@@ -715,7 +862,7 @@ export class Strtab {
     }
 
     /**
-     * The string at an offset from the table's start, or nothing past its end. Refused where it is no UTF-8.
+     * Returns the string at an offset from the table's start, or nothing past its end. Refused where it is no UTF-8.
      * @param {number | bigint} offset
      * @returns {string | undefined}
      */
@@ -725,7 +872,7 @@ export class Strtab {
     }
 
     /**
-     * The bytes of the string at an offset, text or not, or nothing past the table's end.
+     * Returns the bytes of the string at an offset, text or not, or nothing past the table's end.
      * @param {number | bigint} offset
      * @returns {Uint8Array | undefined}
      */
@@ -735,7 +882,7 @@ export class Strtab {
     }
 
     /**
-     * The first bytes of that string, at most so many: it looks at no more of them. Refused as `get_bytes` is.
+     * Returns the first bytes of that string, at most so many: it looks at no more of them. Refused as `get_bytes` is.
      * @param {number | bigint} offset
      * @param {number} most
      * @returns {Uint8Array | undefined}
@@ -752,82 +899,59 @@ export class Strtab {
     }
 }
 
-/** A note. */
-export class Note {
-    #memory;
-
-    constructor(memory, { name_offset, name_size, desc_offset, desc_size, next, n_type }) {
-        this.#memory = memory;
-        /** @type {number} its type, which the name gives its meaning: see `type_to_str` */
-        this.n_type = n_type;
-        /** @type {Range} where its name lies, without the zero byte that closes it */
-        this.name_range = { offset: name_offset, size: name_size };
-        /** @type {Range} where its descriptor lies */
-        this.desc_range = { offset: desc_offset, size: desc_size };
-        /** @type {bigint} the offset at which the next note is asked for */
-        this.next = next;
-    }
-
-    /** Its name. @returns {string} */
-    get name() { return this.#memory.string(this.name_range); }
-
-    /** Its descriptor. @returns {Uint8Array} */
-    get desc() { return this.#memory.bytes(this.desc_range); }
-
-    /** The name of its type, as NT_GNU_BUILD_ID, or NT_UNKNOWN. @returns {string} */
-    type_to_str() {
-        const { offset, size } = this.name_range;
-        return this.#memory.text('goblin_note_type_to_str', this.#memory.address(FILE + Number(offset)), size, this.n_type);
-    }
-}
-
 // ---- names of numbers ----
 
-const name_of = (call, number, bits) => {
-    if (!shared) throw new Error('goblin.js is not ready: await init() first');
-    return shared.text(call, unsigned(number, bits));
-};
+const name_of = (call, number, bits) => ready(shared).text(call, unsigned(number, bits));
 
-/** The name of a class, as ELF64, or UNKNOWN_CLASS. @param {number} ei_class */
+/** Returns the name of a class, as ELF64, or UNKNOWN_CLASS. @param {number} ei_class @returns {string} */
 export const class_to_str = (ei_class) => name_of('goblin_class_to_str', ei_class, 8);
-/** The name of a file's type, as DYN, or UNKNOWN_ET. @param {number} e_type */
+/** Returns the name of a file's type, as DYN, or UNKNOWN_ET. @param {number} e_type @returns {string} */
 export const et_to_str = (e_type) => name_of('goblin_et_to_str', e_type, 16);
-/** The name of a machine, as X86_64, or EM_UNKNOWN. @param {number} e_machine */
+/** Returns the name of a machine, as X86_64, or EM_UNKNOWN. @param {number} e_machine @returns {string} */
 export const machine_to_str = (e_machine) => name_of('goblin_machine_to_str', e_machine, 16);
-/** The name of a segment's type, as PT_LOAD, or UNKNOWN_PT. @param {number} p_type */
+/** Returns the name of a segment's type, as PT_LOAD, or UNKNOWN_PT. @param {number} p_type @returns {string} */
 export const pt_to_str = (p_type) => name_of('goblin_pt_to_str', p_type, 32);
-/** The name of a section's type, as SHT_PROGBITS, or UNKNOWN_SHT. @param {number} sh_type */
+/** Returns the name of a section's type, as SHT_PROGBITS, or UNKNOWN_SHT. @param {number} sh_type @returns {string} */
 export const sht_to_str = (sh_type) => name_of('goblin_sht_to_str', sh_type, 32);
-/** The name of one flag of a section, as SHF_WRITE, or SHF_UNKNOWN. @param {number} flag */
+/** Returns the name of one flag of a section, as SHF_WRITE, or SHF_UNKNOWN. @param {number | bigint} flag @returns {string} */
 export const shf_to_str = (flag) => name_of('goblin_shf_to_str', flag, 32);
-/** The name of a symbol's binding, as GLOBAL, or UNKNOWN_STB. @param {number} binding */
+/** Returns the name of a symbol's binding, as GLOBAL, or UNKNOWN_STB. @param {number} binding @returns {string} */
 export const bind_to_str = (binding) => name_of('goblin_bind_to_str', binding, 8);
-/** The name of a symbol's type, as FUNC, or UNKNOWN_STT. @param {number} type */
+/** Returns the name of a symbol's type, as FUNC, or UNKNOWN_STT. @param {number} type @returns {string} */
 export const type_to_str = (type) => name_of('goblin_type_to_str', type, 8);
-/** The name of a symbol's visibility, as HIDDEN, or UNKNOWN_STV. @param {number} visibility */
+/** Returns the name of a symbol's visibility, as HIDDEN, or UNKNOWN_STV. @param {number} visibility @returns {string} */
 export const visibility_to_str = (visibility) => name_of('goblin_visibility_to_str', visibility, 8);
+/**
+ * Returns the name of a note's type, as NT_GNU_BUILD_ID, or NT_UNKNOWN.
+ * @param {Pick<Note, 'name' | 'n_type'>} note
+ * @returns {string}
+ */
+export function note_type_to_str({ name, n_type }) {
+    const memory = ready(shared);
+    return memory.text('goblin_note_type_to_str', ...memory.give_bytes(encoder.encode(name)), unsigned(n_type, 32));
+}
 
-/** The binding in an `st_info`: its high four bits. @param {number} info */
+/** Returns the binding in an `st_info`: its high four bits. @param {number} info @returns {number} */
 export const st_bind = (info) => info >> 4;
-/** The type in an `st_info`: its low four bits. @param {number} info */
+/** Returns the type in an `st_info`: its low four bits. @param {number} info @returns {number} */
 export const st_type = (info) => info & 0xf;
-/** The visibility in an `st_other`: its low three bits. @param {number} other */
+/** Returns the visibility in an `st_other`: its low three bits. @param {number} other @returns {number} */
 export const st_visibility = (other) => other & 0x7;
 
 /**
- * What `goblin_layout` fills, read by the records of this file, each beside the library's size of it: for the test.
+ * Returns what `goblin_layout` fills, read by the records of this file, each beside the library's size of it: for the test.
  * @returns {Record<string, { item: object, size: number, told: bigint }>}
  */
 export function layout() {
-    if (!shared) throw new Error('goblin.js is not ready: await init() first');
-    shared.calls.goblin_layout(shared.address(ROOM));
+    const { calls, base, view } = ready(shared);
+    calls.goblin_layout(shared.address(ROOM));
     const kinds = ['refusal', 'range', 'header', 'section', 'segment', 'symbol', 'reloc', 'note'];
-    const start = shared.base + ROOM;
+    const start = base + ROOM;
     let at = start + 8 * kinds.length;
     return Object.fromEntries(kinds.map((kind, i) => {
         const { size } = records[kind];
-        const item = read(shared.view, at, records[kind]);
+        const item = read(view, at, records[kind]);
         at += size;
-        return [kind, { item, size, told: shared.view.getBigUint64(start + 8 * i, true) }];
+        return [kind, { item, size, told: view.getBigUint64(start + 8 * i, true) }];
     }));
 }

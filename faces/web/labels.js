@@ -68,6 +68,6 @@ export const segment_flags = (flags) => {
 
 /** The name of a note's type, as its owner gives it one, or the number. */
 export function note_type(note) {
-    const library = ['GNU', 'CORE'].includes(note.name) ? fitting(note.type_to_str()) : undefined;
+    const library = ['GNU', 'CORE'].includes(note.name) ? fitting(goblin.note_type_to_str(note)) : undefined;
     return library ? without('NT_', library) : own.note_type(note.name, note.n_type) ?? hex(note.n_type);
 }

@@ -129,9 +129,7 @@ function is_there(list, of) {
 export function open_source(list, of) {
     try {
         if (!is_there(list, of)) return undefined;
-        const source = sources[list](of);
-        void source.list.length;
-        return source;
+        return sources[list](of);
     } catch (error) {
         if (list === 'symbols' || list === 'relocations') return { refused: section_refusal(error, `the ${list}`, of) };
         return { refused: refusal(error, `the ${list}`, []) };

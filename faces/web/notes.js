@@ -10,12 +10,12 @@ function* holders(by) {
     if (by === 'sections') {
         for (const { index, section } of sections()) {
             if (section.sh_type !== goblin.SHT_NOTE) continue;
-            yield { index, title: called(index, section), start: section.sh_offset, notes: () => file.elf.notes(section) };
+            yield { index, title: called(index, section), start: section.sh_offset, notes: (most) => file.elf.readable_notes(section, most) };
         }
     } else {
         for (const { index, segment } of segments()) {
             if (segment.p_type !== goblin.PT_NOTE) continue;
-            yield { index, title: `segment ${index}`, start: segment.p_offset, notes: () => file.elf.segment_notes(segment) };
+            yield { index, title: `segment ${index}`, start: segment.p_offset, notes: (most) => file.elf.readable_segment_notes(segment, most) };
         }
     }
 }
@@ -27,14 +27,13 @@ export function notes_of(by) {
     const items = [], refusals = [];
     let is_cut = false;
     for (const holder of holders(by)) {
-        let next = Number(holder.start);
-        try {
-            for (const note of holder.notes()) {
-                if (items.length >= MOST_NOTES) { is_cut = true; break; }
-                items.push({ holder, note, start: Number(note.name_range.offset) - NHDR, end: Number(note.next) });
-                next = Number(note.next);
-            }
-        } catch (error) {
+        const left = MOST_NOTES - items.length, { notes, refusal: error } = holder.notes(left + 1);
+        for (const note of notes.slice(0, left)) {
+            items.push({ holder, note, start: Number(note.name_range.offset) - NHDR, end: Number(note.next) });
+        }
+        is_cut = notes.length > left;
+        if (error) {
+            const next = Number(notes.at(-1)?.next ?? holder.start);
             const marks = next < file.content.length ? [{ at: next, size: Math.min(NHDR, file.content.length - next) }] : [];
             refusals.push(refusal(error, `the note at ${hex(next)}, of ${holder.title}`, marks));
         }

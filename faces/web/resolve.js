@@ -139,7 +139,7 @@ export function symbol_of_address(address) {
     for (const { index: table, section } of sections()) {
         if (!SYMBOL_TYPES.includes(section.sh_type)) continue;
         const thumb = file.elf.header.e_machine === EM_ARM ? 1n : 0n;
-        const index = told_or(undefined, () => symtab_at(table).at(address | thumb));
+        const index = told_or(undefined, () => symtab_at(table).by_address(address | thumb));
         if (index === undefined) continue;
         const symbol = symtab_at(table).get(index), start = address_of_symbol(symbol);
         if (address !== start && !holds(start, symbol.st_size, address)) continue;

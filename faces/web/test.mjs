@@ -42,7 +42,7 @@ function check_kinds() {
     const refusals = header.split('GOBLIN_END = 1,\n')[1].split('};')[0];
     const kinds = Object.fromEntries([...refusals.matchAll(/GOBLIN_(\w+) = (\d+)/g)].map(([, name, number]) => [name, Number(number)]));
     assert.equal(Object.keys(kinds).length, 21);
-    assert.deepEqual({ ...goblin.Kind }, kinds);
+    assert.deepEqual({ ...goblin.Kind }, { ...kinds, SECTION_TYPE: 2 ** 32 - 1 });
     assert.equal(goblin.VERSION, Number(/GOBLIN_VERSION (\d+)/.exec(header)[1]));
 }
 
@@ -70,6 +70,10 @@ const IN_C = {
     sh_offset: 'file.offset', sh_size: 'file.size', p_offset: 'file.offset', p_filesz: 'file.size', name_offset: 'name.offset',
     name_size: 'name.size', desc_offset: 'desc.offset', desc_size: 'desc.size',
 };
+const length = ({ length }) => ` ${hex(length)}`;
+// A section as one of another type, with the same bytes in the file.
+const as_type = (section, sh_type) =>
+    ({ ...section, ...(section.sh_type === goblin.SHT_NOBITS ? { sh_offset: 0n, sh_size: 0n } : {}), sh_type });
 const hex = (number) => BigInt.asUintN(64, BigInt(number)).toString(16);
 const fields = (item) => Object.entries(item).map(([name, value]) => ` ${IN_C[name] ?? name}=${hex(value)}`).join('');
 const bytes = (array) => ` ${Buffer.from(array).toString('hex')}`;
@@ -105,16 +109,19 @@ class Dump {
         const symbol = this.ask('goblin_symbol', told, (item) => fields(item) + names(item));
         if (!symbol) return;
         const name = this.string(symtab.strtab, symbol.st_name);
-        if (name !== undefined) this.ask('goblin_symbol_by_name', () => symtab.find(name));
-        this.ask('goblin_symbol_by_address', () => symtab.at(symbol.st_value));
+        if (name !== undefined) this.ask('goblin_symbol_by_name', () => symtab.by_name(name));
+        this.ask('goblin_symbol_by_address', () => symtab.by_address(symbol.st_value));
     }
 
     symbols(elf, section) {
-        const symtab = this.ask('goblin_table', () => elf.symtab(section), ({ strtab }) => fields(strtab.range));
-        if (!symtab) return;
-        const count = this.ask('goblin_symbol_count', () => symtab.length);
-        if (count === undefined) return;
         const is_table = section.sh_type === goblin.SHT_SYMTAB || section.sh_type === goblin.SHT_DYNSYM;
+        const table = is_table ? section : as_type(section, goblin.SHT_SYMTAB);
+        // (the names of a table without symbols are those of one that is refused)
+        const without = { ...table, sh_offset: 0n, sh_size: 0n };
+        if (!this.ask('goblin_table', () => elf.symtab(without), ({ strtab }) => fields(strtab.range))) return;
+        const symtab = this.ask('goblin_symbol_count', () => elf.symtab(table), length);
+        if (!symtab) return;
+        const count = symtab.length;
         let index = 0;
         for (const symbol of symtab.from(0, is_table ? count : FEW)) this.symbol(symtab, index++, () => symbol);
         this.symbol(symtab, Math.max(count - 1, 0));
@@ -122,40 +129,40 @@ class Dump {
     }
 
     relocs(elf, section) {
-        const relocs = elf.relocs(section);
         const is_list = section.sh_type === goblin.SHT_RELA || section.sh_type === goblin.SHT_REL;
         const put = ({ r_offset, r_sym, r_addend, r_type }) =>
             fields({ r_offset, r_sym, r_addend: r_addend ?? 0, r_type, has_addend: Number(r_addend !== undefined) })
                 + ` ${r_addend ?? 0}`;
-        const count = this.ask('goblin_reloc_count', () => relocs.length);
-        if (count === undefined) return;
+        const relocs = this.ask('goblin_reloc_count', () => elf.relocs(is_list ? section : as_type(section, goblin.SHT_REL)), length);
+        if (!relocs) return;
+        const count = relocs.length;
         for (const reloc of relocs.from(0, is_list ? count : FEW)) this.ask('goblin_reloc', () => reloc, put);
         this.ask('goblin_reloc', () => relocs.get(count), put);
     }
 
-    notes(notes) {
-        const put = ({ name_range, desc_range, next, n_type, name, desc, type }) => fields({
+    notes({ notes, refusal }) {
+        const put = ({ name_range, desc_range, next, n_type, name, desc }) => fields({
             name_offset: name_range.offset, name_size: name_range.size, desc_offset: desc_range.offset, desc_size: desc_range.size,
             next, n_type,
-        }) + ` ${type}${bytes(Buffer.from(name))}${bytes(desc)}`;
-        const whole = (note) => note && { ...note, name: note.name, desc: note.desc, type: note.type_to_str() };
-        while (this.ask('goblin_note', () => whole(notes.next().value), put));
+        }) + ` ${goblin.note_type_to_str({ name, n_type })}${bytes(Buffer.from(name))}${bytes(desc)}`;
+        for (const note of notes) this.ask('goblin_note', () => note, put);
+        this.ask('goblin_note', () => { if (refusal) throw refusal; });
     }
 
     segments(elf) {
-        const list = elf.program_headers();
-        if (this.ask('goblin_segment_count', () => list.length) === undefined) return;
+        const list = this.ask('goblin_segment_count', () => elf.program_headers(), length);
+        if (!list) return;
         for (const segment of list) {
             this.ask('goblin_segment', () => segment, (item) => `${fields(item)} ${goblin.pt_to_str(item.p_type)}`);
             this.ask('goblin_segment_bytes', () => elf.segment_range(segment));
-            this.notes(elf.segment_notes(segment));
+            this.notes(elf.readable_segment_notes(segment));
         }
         this.ask('goblin_segment', () => list.get(list.length));
     }
 
     sections(elf) {
-        const list = elf.section_headers();
-        if (this.ask('goblin_section_count', () => list.length) === undefined) return;
+        const list = this.ask('goblin_section_count', () => elf.section_headers(), length);
+        if (!list) return;
         const names = this.ask('goblin_section_names', () => elf.shdr_strtab(), ({ range }) => fields(range));
         if (!names) return;
         let index = 0;
@@ -170,7 +177,7 @@ class Dump {
             this.ask('goblin_section_bytes', () => elf.section_range(section));
             this.symbols(elf, section);
             this.relocs(elf, section);
-            this.notes(elf.notes(section));
+            this.notes(elf.readable_notes(section));
             index++;
         }
         this.ask('goblin_section', () => list.get(index));
