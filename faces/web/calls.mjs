@@ -5,6 +5,7 @@ import assert from 'node:assert/strict';
 import { readdirSync, readFileSync } from 'node:fs';
 import { join, resolve } from 'node:path';
 import { fileURLToPath, pathToFileURL } from 'node:url';
+import { runInNewContext } from 'node:vm';
 import { elf_file, note } from './elves.mjs';
 
 const [, , web, ...paths] = process.argv;
@@ -19,6 +20,39 @@ const noted = elf_file({ sections: [{ name: '.note', type: 7, bytes: note_bytes 
 files.push(noted);
 
 const is_refusal = (kind) => (error) => error instanceof GoblinError && (kind === undefined || error.kind === kind);
+
+// ---- what a file is given as ----
+
+function check_bytes() {
+    const length = own.length + 8 - own.length % 8, whole = new ArrayBuffer(length + 16), shared = new SharedArrayBuffer(length);
+    const within = new Uint8Array(whole, 16, length);
+    within.set(own);
+    new Uint8Array(shared).set(own);
+    const buffer = within.slice().buffer, other = runInNewContext('new ArrayBuffer(length)', { length });
+    new Uint8Array(other).set(within);
+    const given = {
+        ArrayBuffer: buffer, SharedArrayBuffer: shared, 'one of another realm': other, DataView: new DataView(whole, 16, length),
+        Uint8Array: new Uint8Array(buffer), 'of shared ones': new Uint8Array(shared), 'a part': within, Buffer: Buffer.from(within),
+        'a part of a Buffer': Buffer.from(whole).subarray(16), Int8Array: new Int8Array(buffer), Uint8ClampedArray: new Uint8ClampedArray(buffer),
+        Uint16Array: new Uint16Array(whole, 16), Uint32Array: new Uint32Array(buffer), Float64Array: new Float64Array(whole, 16),
+        BigInt64Array: new BigInt64Array(buffer),
+    };
+    const names = (elf) => elf.section_headers().map((section) => elf.section_name(section));
+    const wanted = Elf.parse(own);
+    assert.ok(names(wanted).includes('.text'));
+    for (const [what, bytes] of Object.entries(given)) {
+        const elf = Elf.parse(bytes);
+        assert.deepEqual(elf.header, wanted.header, what);
+        assert.deepEqual(names(elf), names(wanted), what);
+    }
+    structuredClone(buffer, { transfer: [buffer] });
+    const wrong = [undefined, null, 'ELF', 5, 5n, true, [...own.subarray(0, 64)], {}, { length: 64 }, new Map(), new Blob([own]),
+        Promise.resolve(own), () => own, Symbol('ELF'), { [Symbol.toStringTag]: 'ArrayBuffer' }, buffer, given.Uint8Array];
+    for (const bytes of wrong) assert.throws(() => Elf.parse(bytes), TypeError);
+    assert.throws(() => Elf.parse('ELF'), /ArrayBuffer.* string/);
+    assert.throws(() => Elf.parse(new ArrayBuffer(0)), is_refusal(Kind.TOO_SMALL));
+    return `${Object.keys(given).length} kinds of bytes`;
+}
 
 // ---- lists ----
 
@@ -322,7 +356,9 @@ async function check_constants() {
 }
 
 await goblin.default();
-const told = [check_lists(), check_moved_sections(), check_types_of_sections(), check_notes(), await check_constants()];
+const told = [
+    check_bytes(), check_lists(), check_moved_sections(), check_types_of_sections(), check_notes(), await check_constants(),
+];
 check_arguments();
 check_segments();
 console.log(`goblin.js takes and returns what it says: ${told.join(', ')}`);

@@ -174,6 +174,9 @@ function unsigned(number, bits) {
     return bits === 64 ? big : Number(big);
 }
 
+// What something is that isn't what was expected, for a message.
+const describe = (given) => (given === null || typeof given !== 'object' ? typeof given : given.constructor?.name ?? 'object');
+
 // ---- the module ----
 
 const PAGE = 0x10000;
@@ -235,6 +238,24 @@ function grow(memory, pages) {
         if (!(error instanceof TypeError)) throw error;
         memory.grow(pages);
     }
+}
+
+// Whether something is an array buffer, shared or not, of this realm or another one, as a frame's, which `instanceof` doesn't say.
+const BUFFERS = [ArrayBuffer, globalThis.SharedArrayBuffer].filter((type) => type)
+    .map(({ prototype }) => Object.getOwnPropertyDescriptor(prototype, 'byteLength').get);
+const is_buffer = (given) => BUFFERS.some((length) => {
+    try {
+        return length.call(given) >= 0;
+    } catch {
+        return false;
+    }
+});
+
+// The bytes of a buffer, or those that a view is of, whatever its items are.
+function bytes_of(given) {
+    if (ArrayBuffer.isView(given)) return new Uint8Array(given.buffer, given.byteOffset, given.byteLength);
+    if (is_buffer(given)) return new Uint8Array(given);
+    throw new TypeError(`a file's bytes are an ArrayBuffer or a view of one, as a Uint8Array, and no ${describe(given)}`);
 }
 
 // The library with a memory that holds a file's bytes.
@@ -337,14 +358,15 @@ export class Elf {
     #memory;
 
     /**
-     * Reads the header of a file.
-     * @param {Uint8Array} bytes
+     * Reads the header of a file. Throws a `TypeError` for anything but bytes: a view stands for the bytes that it is of,
+     * whatever its items are.
+     * @param {ArrayBufferLike | ArrayBufferView} bytes
      * @returns {Elf}
      */
     static parse(bytes) { return new Elf(bytes); }
 
     constructor(bytes) {
-        this.#memory = new Memory(bytes);
+        this.#memory = new Memory(bytes_of(bytes));
         const header = this.#memory.ask('goblin_header', 'header');
         this.#memory.give(HEADER, 'header', header);
         /** @type {Readonly<Header>} the header */
