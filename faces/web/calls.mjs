@@ -92,6 +92,7 @@ const WAYS_OF_LISTS = {
     get: (list) => Array.from({ length: list.length }, (_, index) => list.get(index)),
     'get until there is none': (list) => { const items = []; for (let i = 0n; list.get(i); i++) items.push(list.get(i)); return items; },
     from: (list) => [...list.from(0, 1), ...list.from(1)],
+    toJSON: (list) => list.toJSON(),
 };
 
 // Whether each way gives these items.
@@ -103,6 +104,7 @@ function has_each(list, items, what) {
         assert.deepEqual(list.at(index), items.at(index), `${what}, at ${index}`);
     }
     assert.equal(list.find(() => false), undefined);
+    assert.equal(JSON.stringify(list), JSON.stringify(items), what);
 }
 
 // The items that a call reads by their indices.
@@ -263,6 +265,46 @@ function check_notes() {
     return `${2 * NOTES.length} notes`;
 }
 
+// ---- items and JSON ----
+
+// An item as JSON has it, by the type of each of its fields.
+const as_json = (item) => Object.fromEntries(Object.entries(item).filter(([, value]) => value !== undefined).map(([name, value]) => {
+    if (typeof value === 'bigint') return [name, value.toString()];
+    if (value instanceof Uint8Array) return [name, Buffer.from(value).toString('hex')];
+    return [name, typeof value === 'object' ? as_json(value) : value];
+}));
+
+// One of each item of a file of this machine, by the name of its type.
+function some_items() {
+    const elf = Elf.parse(own), sections = elf.section_headers(), [[, relocs]] = elf.shdr_relocs();
+    return {
+        Header: elf.header, SectionHeader: sections.at(1), ProgramHeader: elf.program_headers().at(0), Sym: elf.syms().at(-1),
+        Reloc: relocs.at(0), Note: Elf.parse(noted).iter_note_headers()[0], Range: elf.section_range(sections.at(1)),
+    };
+}
+
+function check_json() {
+    const items = Object.values(some_items());
+    for (const item of items) {
+        assert.equal(Object.getPrototypeOf(item), Object.prototype);
+        assert.deepEqual(item, Object.fromEntries(Object.entries(item)));
+        assert.deepEqual(JSON.parse(JSON.stringify(item)), as_json(item));
+        assert.deepEqual(JSON.parse(JSON.stringify({ more: 1n, ...item }, goblin.json)), { more: '1', ...as_json(item) });
+        assert.deepEqual(structuredClone(item), item);
+    }
+    // a field of 64 bits is exact, whatever it holds
+    const elf = Elf.parse(own), copy = Buffer.from(own), at = Number(elf.header.e_shoff) + 64 + 16;
+    copy.fill(0xff, at, at + 8);
+    const section = Elf.parse(copy).section_header(1);
+    assert.equal(section.sh_addr, (1n << 64n) - 1n);
+    assert.equal(BigInt(JSON.parse(JSON.stringify(section)).sh_addr), section.sh_addr);
+    assert.equal(JSON.parse(JSON.stringify(elf.section_header(0))).sh_addr, '0');
+    const refused = (() => { try { return Elf.parse(own.subarray(0, 20)); } catch (error) { return error; } })();
+    const { name, message, kind, numbers } = JSON.parse(JSON.stringify(refused));
+    assert.deepEqual([name, message, kind, numbers], ['GoblinError', refused.message, Kind.TOO_BIG, ['64', '20', '0', '0']]);
+    return `${items.length} items as JSON`;
+}
+
 // ---- arguments ----
 
 function check_arguments() {
@@ -357,7 +399,8 @@ async function check_constants() {
 
 await goblin.default();
 const told = [
-    check_bytes(), check_lists(), check_moved_sections(), check_types_of_sections(), check_notes(), await check_constants(),
+    check_bytes(), check_lists(), check_moved_sections(), check_types_of_sections(), check_notes(), check_json(),
+    await check_constants(),
 ];
 check_arguments();
 check_segments();

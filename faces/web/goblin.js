@@ -7,7 +7,9 @@
  *
  * - A number of 64 bits in `goblin.h` is a BigInt in every file, whatever its value; every other number is a Number. Bytes are
  *   copies of the file's.
- * - Items are plain objects.
+ * - Items are plain objects. JSON has no BigInts and no bytes, so `JSON.stringify` writes a BigInt as a string of its decimal
+ *   digits, which `BigInt` reads back, and bytes as a string of hexadecimal digits. For an object that is made of an item, as
+ *   `{ ...section }`, pass it `json`: `JSON.stringify({ ...section }, json)`.
  * - The call that makes a list throws where the list can't be read. A list that was made has each of its items.
  *
  * ```js
@@ -126,7 +128,14 @@ export const Kind = Object.freeze({
 
 // ---- what crosses to the library ----
 
-const METHODS = { 1: 'Uint8', 2: 'Uint16', 4: 'Uint32', 8: 'BigUint64', s: 'BigInt64' };
+// How a number of so many bytes is read and written, the lowest byte first.
+const WIDTHS = {
+    1: { get: (view, at) => view.getUint8(at), set: 'setUint8' },
+    2: { get: (view, at) => view.getUint16(at, true), set: 'setUint16' },
+    4: { get: (view, at) => view.getUint32(at, true), set: 'setUint32' },
+    8: { get: (view, at) => view.getBigUint64(at, true), set: 'setBigUint64' },
+    s: { get: (view, at) => view.getBigInt64(at, true), set: 'setBigInt64' },
+};
 
 // The fields of the structs of goblin.h in their order, each with the number of its bytes; `s` for a signed one.
 const records = {
@@ -150,7 +159,7 @@ function record(text) {
     for (const [, name, width] of text.matchAll(/(\w+) (\w)/g)) {
         const bytes = width === 's' ? 8 : Number(width);
         const at = Math.ceil(end / bytes) * bytes;
-        fields.push({ name, at, get: `get${METHODS[width]}`, set: `set${METHODS[width]}` });
+        fields.push({ name, at, ...WIDTHS[width] });
         end = at + bytes;
         widest = Math.max(widest, bytes);
     }
@@ -158,8 +167,9 @@ function record(text) {
 }
 
 function read(view, at, { fields }) {
-    const item = {};
-    for (const field of fields) item[field.name] = view[field.get](at + field.at, true);
+    // (added to an object that has its fields already, toJSON takes longer)
+    const item = plain({});
+    for (const field of fields) item[field.name] = field.get(view, at + field.at);
     return item;
 }
 
@@ -176,6 +186,29 @@ function unsigned(number, bits) {
 
 // What something is that isn't what was expected, for a message.
 const describe = (given) => (given === null || typeof given !== 'object' ? typeof given : given.constructor?.name ?? 'object');
+
+// ---- JSON ----
+
+// What JSON has in place of BigInts and bytes: digits.
+function json_value(value) {
+    if (typeof value === 'bigint') return `${value}`;
+    if (value instanceof Uint8Array) return Array.from(value, (byte) => byte.toString(16).padStart(2, '0')).join('');
+    return value;
+}
+
+/**
+ * Writes BigInts and bytes as digits, as the second argument of `JSON.stringify`: for objects that are made of items.
+ * @param {string} key
+ * @param {unknown} value
+ * @returns {unknown}
+ */
+export const json = (key, value) => json_value(value);
+
+// What JSON.stringify writes of an item. The item has it as a property that no loop over its fields sees, and no copy takes on.
+const TO_JSON = {
+    value() { return Object.fromEntries(Object.entries(this).map(([name, value]) => [name, json_value(value)])); },
+};
+const plain = (item) => Object.defineProperty(item, 'toJSON', TO_JSON);
 
 // ---- the module ----
 
@@ -336,6 +369,15 @@ export class GoblinError extends Error {
         this.item = item;
         /** @type {bigint[]} the four numbers that belong to it, as `goblin.h` says, and behind them 0 */
         this.numbers = [first, second, third, fourth];
+    }
+
+    /**
+     * Returns what `JSON.stringify` writes of it.
+     * @returns {{ name: string, message: string, kind: number, item: number, numbers: string[] }}
+     */
+    toJSON() {
+        const { name, message, kind, item, numbers } = this;
+        return { name, message, kind, item, numbers: numbers.map(String) };
     }
 
     // The refusal that a call has just written, with the library's text.
@@ -637,21 +679,21 @@ const holds_relocs = ({ sh_type }) => sh_type === SHT_RELA || sh_type === SHT_RE
 
 // The bytes of a section in the file: none of no section, and of one that has none there, whatever its size.
 function range_of(section) {
-    if (!section || section.sh_type === SHT_NOBITS) return { offset: 0n, size: 0n };
-    return { offset: section.sh_offset, size: section.sh_size };
+    if (!section || section.sh_type === SHT_NOBITS) return plain({ offset: 0n, size: 0n });
+    return plain({ offset: section.sh_offset, size: section.sh_size });
 }
 
 function reloc({ r_offset, r_sym, r_addend, r_type, has_addend }) {
-    return { r_offset, r_sym, r_addend: has_addend ? r_addend : undefined, r_type };
+    return plain({ r_offset, r_sym, r_addend: has_addend ? r_addend : undefined, r_type });
 }
 
 function note(memory, { name_offset, name_size, desc_offset, desc_size, next, n_type }) {
-    const name_range = { offset: name_offset, size: name_size }, desc_range = { offset: desc_offset, size: desc_size };
-    return {
+    const name_range = plain({ offset: name_offset, size: name_size }), desc_range = plain({ offset: desc_offset, size: desc_size });
+    return plain({
         n_type, name_range, desc_range, next,
         get name() { return memory.string(name_range); },
         get desc() { return memory.bytes(desc_range); },
-    };
+    });
 }
 
 function all_notes({ notes, refusal }) {
@@ -811,6 +853,12 @@ export class List {
         for (const [index, item] of this.entries()) if (call(item, index)) return item;
         return undefined;
     }
+
+    /**
+     * Returns the items, which `JSON.stringify` writes as an array.
+     * @returns {T[]}
+     */
+    toJSON() { return Array.from(this); }
 }
 
 /**
