@@ -308,7 +308,24 @@ function check_json() {
 // ---- arguments ----
 
 function check_arguments() {
-    const elf = Elf.parse(own), text = elf.section('.text');
+    const elf = Elf.parse(own);
+    for (const width of [0, 3, 5, 7, 9, 16, -1, 1.5, 8n, '8', undefined, null, NaN, Symbol('8')]) {
+        assert.throws(() => elf.number(0, width), RangeError);
+        assert.throws(() => elf.number(own.length, width), RangeError);
+    }
+    assert.equal(elf.number(1, 1), 0x45n);
+    assert.throws(() => elf.number(own.length, 1), is_refusal(Kind.BAD_OFFSET));
+    for (const wrong of [-1, 1.5, NaN, 1n << 64n]) {
+        assert.throws(() => elf.section_header(wrong), RangeError);
+        assert.throws(() => elf.section_headers().get(wrong), RangeError);
+    }
+    for (const wrong of [undefined, null, '1', '', true, {}]) {
+        assert.throws(() => elf.section_header(wrong), TypeError);
+        assert.throws(() => elf.program_headers().get(wrong), TypeError);
+    }
+    assert.equal(goblin.shf_to_str(goblin.SHF_ALLOC), 'SHF_ALLOC');
+    assert.equal(goblin.shf_to_str(goblin.SHF_ALLOC | 1n << 32n), 'SHF_UNKNOWN');
+    const text = elf.section('.text');
     assert.deepEqual(text, elf.section_header(elf.section_by_name('.text')));
     assert.equal(elf.section_name(text), '.text');
     assert.equal(elf.section('.none'), undefined);

@@ -179,6 +179,7 @@ function write(view, at, { fields }, item) {
 
 // A number as the library takes it: an integer of so many bits.
 function unsigned(number, bits) {
+    if (typeof number !== 'number' && typeof number !== 'bigint') throw new TypeError(`${describe(number)} is no number`);
     const big = BigInt(number);
     if (big < 0n || big >> BigInt(bits) !== 0n) throw new RangeError(`${number} is no unsigned number of ${bits} bits`);
     return bits === 64 ? big : Number(big);
@@ -540,14 +541,15 @@ export class Elf {
     segment_sections(segment) { return [...this.section_headers().from(1)].filter((section) => segment_holds(segment, section)); }
 
     /**
-     * Returns the number that 1, 2, 4 or 8 bytes at an offset of the file stand for, in the file's order. There is none of another
-     * width.
+     * Returns the number that 1, 2, 4 or 8 bytes at an offset of the file stand for, in the file's order. Throws a `RangeError`
+     * for another width.
      * @param {number | bigint} offset
-     * @param {number} width
-     * @returns {bigint | undefined}
+     * @param {1 | 2 | 4 | 8} width
+     * @returns {bigint}
      */
     number(offset, width) {
-        return this.#ask('goblin_number', 'number', unsigned(offset, 64), unsigned(width, 64))?.value;
+        if (![1, 2, 4, 8].includes(width)) throw new RangeError(`no number has a width of ${String(width)} bytes, but of 1, 2, 4 or 8`);
+        return this.#ask('goblin_number', 'number', unsigned(offset, 64), unsigned(width, 64)).value;
     }
 
     /**
@@ -983,8 +985,12 @@ export const machine_to_str = (e_machine) => name_of('goblin_machine_to_str', e_
 export const pt_to_str = (p_type) => name_of('goblin_pt_to_str', p_type, 32);
 /** Returns the name of a section's type, as SHT_PROGBITS, or UNKNOWN_SHT. @param {number} sh_type @returns {string} */
 export const sht_to_str = (sh_type) => name_of('goblin_sht_to_str', sh_type, 32);
-/** Returns the name of one flag of a section, as SHF_WRITE, or SHF_UNKNOWN. @param {number | bigint} flag @returns {string} */
-export const shf_to_str = (flag) => name_of('goblin_shf_to_str', flag, 32);
+/**
+ * Returns the name of one flag of a section, as SHF_WRITE, or SHF_UNKNOWN. No flag of more than 32 bits has a name.
+ * @param {number | bigint} flag
+ * @returns {string}
+ */
+export const shf_to_str = (flag) => name_of('goblin_shf_to_str', unsigned(flag, 64) >> 32n ? 0 : flag, 32);
 /** Returns the name of a symbol's binding, as GLOBAL, or UNKNOWN_STB. @param {number} binding @returns {string} */
 export const bind_to_str = (binding) => name_of('goblin_bind_to_str', binding, 8);
 /** Returns the name of a symbol's type, as FUNC, or UNKNOWN_STT. @param {number} type @returns {string} */

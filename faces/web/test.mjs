@@ -187,7 +187,9 @@ class Dump {
         const half = BigInt(Math.floor(length / 2));
         for (let width = 0; width <= 9; width++) {
             for (const place of [0n, half, 2n * half - 4n]) {
-                this.ask('goblin_number', () => elf.number(BigInt.asUintN(64, place), width));
+                // (of which there is no other)
+                const is_width = [1, 2, 4, 8].includes(width);
+                this.ask('goblin_number', () => (is_width ? elf.number(BigInt.asUintN(64, place), width) : undefined));
             }
         }
     }
