@@ -21,6 +21,18 @@ files.push(noted);
 
 const is_refusal = (kind) => (error) => error instanceof GoblinError && (kind === undefined || error.kind === kind);
 
+// ---- engines ----
+
+async function check_missing_memories() {
+    assert.throws(() => Elf.parse(own), /not ready/);
+    assert.throws(() => goblin.et_to_str(1), /not ready/);
+    const { validate } = WebAssembly;
+    WebAssembly.validate = () => false;
+    const words = ['memory64', '--experimental-wasm-memory64', 'Chromium 133', 'Firefox 134', 'Node.js 24'];
+    await assert.rejects(goblin.default(), ({ message }) => words.every((word) => message.includes(word)));
+    WebAssembly.validate = validate;
+}
+
 // ---- what a file is given as ----
 
 function check_bytes() {
@@ -414,6 +426,7 @@ async function check_constants() {
     return `${wanted.size} constants`;
 }
 
+await check_missing_memories();
 await goblin.default();
 const told = [
     check_bytes(), check_lists(), check_moved_sections(), check_types_of_sections(), check_notes(), check_json(),

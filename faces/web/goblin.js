@@ -222,8 +222,10 @@ const BATCH = 64;
 // header, room for a batch or a text, and the file.
 const HEADER = 0, WHY = 0x80, ITEM = 0x100, GIVEN = 0x180, NAMES = 0x1d0, ROOM = 0x200, ROOM_SIZE = 0x1800, FILE = ROOM + ROOM_SIZE;
 
-// A module with a memory of 64 bits and nothing else.
+// A module with a memory of 64 bits and nothing else, and what is said where an engine can't compile it.
 const WITH_MEMORY = new Uint8Array([0, 0x61, 0x73, 0x6d, 1, 0, 0, 0, 5, 3, 1, 4, 0]);
+const WITHOUT_MEMORY = 'this engine has no WebAssembly memories of 64 bits (memory64): Chromium 133, Firefox 134, Node.js 24 and later '
+    + 'ones have them, and Node.js from 20 on with the flag --experimental-wasm-memory64';
 
 const decoder = new TextDecoder('utf-8', { fatal: true, ignoreBOM: true });
 const encoder = new TextEncoder();
@@ -246,7 +248,7 @@ function ready(made) {
  * @returns {Promise<void>}
  */
 export default async function init(source = new URL('goblin_c.wasm', import.meta.url)) {
-    if (!WebAssembly.validate(WITH_MEMORY)) throw new Error('this engine has no WebAssembly memories of 64 bits');
+    if (!WebAssembly.validate(WITH_MEMORY)) throw new Error(WITHOUT_MEMORY);
     const content = source instanceof URL ? await load(source) : source;
     compiled = content instanceof WebAssembly.Module ? content : await WebAssembly.compile(content);
     shared = new Memory(new Uint8Array(0));
