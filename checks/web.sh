@@ -17,6 +17,14 @@ if flag=$(sh checks/node_flag.sh); then
     call() { node ${flag:+"$flag"} "$@"; }
     call faces/web/test.mjs "$web" "$dump" "$@" "$dump"
     call faces/web/calls.mjs "$web" "$@" "$dump"
+    # A program that has the package among its own finds it by its name.
+    mkdir -p "$folder/app/node_modules"
+    ln -s "$web" "$folder/app/node_modules/goblin_c"
+    printf '%s\n' "import init, { Elf } from 'goblin_c';" "import { readFileSync } from 'node:fs';" 'await init();' \
+        'console.log(Elf.parse(readFileSync(process.argv[2])).section_headers().length);' > "$folder/app/app.mjs"
+    wanted=$(readelf -hW "$dump" 2> "$folder/output" | awk '/Number of section headers/ { print $5 }')
+    counted=$(call "$folder/app/app.mjs" "$dump")
+    [ "$counted" = "${wanted:-$counted}" ] || { echo "by the package's name there are $counted sections"; exit 1; }
 else
     echo "node has no memories of 64 bits here: the module for WebAssembly is not called from it"
 fi

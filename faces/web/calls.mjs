@@ -1,8 +1,8 @@
 // Whether the calls of goblin.js take and return what its comments say: calls.mjs FOLDER FILE.. tries them over these files, whole,
 // cut and damaged. A list is refused where it is made, or has each item however one goes over it. And whether its constants are the
-// library's.
+// library's, and its package and its types hold what it exports.
 import assert from 'node:assert/strict';
-import { readdirSync, readFileSync } from 'node:fs';
+import { existsSync, readdirSync, readFileSync } from 'node:fs';
 import { join, resolve } from 'node:path';
 import { fileURLToPath, pathToFileURL } from 'node:url';
 import { runInNewContext } from 'node:vm';
@@ -426,12 +426,68 @@ async function check_constants() {
     return `${wanted.size} constants`;
 }
 
+// ---- the package ----
+
+// What the declarations for TypeScript say of each type: the names of its members, each with its own type.
+function declared_members(declared, word) {
+    const bodies = declared.matchAll(new RegExp(`^export ${word} (\\w+)[^\\n]* {\\n(.*?)^}`, 'gms'));
+    return Object.fromEntries([...bodies].map(([, name, body]) =>
+        [name, Object.fromEntries([...body.matchAll(/^ {4}(?:static |readonly )?(\w+|\[Symbol\.iterator\])(?:<\w+>)?(?:: |(?=\())(.*);$/gm)]
+            .map(([, member, type]) => [member, type]))]));
+}
+
+function check_declarations() {
+    const declared = readFileSync(join(web, 'goblin.d.ts'), 'utf8');
+    const names = [...declared.matchAll(/^export (?:const|function|class) (\w+)/gm)].map(([, name]) => name);
+    assert.deepEqual(names.sort(), Object.keys(goblin).filter((name) => name !== 'default').sort());
+    assert.match(declared, /^export default function init\(source\?: /m);
+    for (const [, name, type] of declared.matchAll(/^export const (\w+): (.*);$/gm)) {
+        const value = goblin[name], [, list] = /^readonly (\w+)\[\]$/.exec(type) ?? [];
+        if (type.startsWith('{')) {
+            assert.deepEqual([...type.matchAll(/readonly (\w+): number;/g)].map(([, field]) => field), Object.keys(value), name);
+        } else {
+            assert.deepEqual([...new Set([value].flat().map((item) => typeof item))], [list ?? type], name);
+        }
+    }
+    const items = some_items();
+    const interfaces = declared_members(declared, 'interface');
+    assert.deepEqual(Object.keys(interfaces).sort(), Object.keys(items).sort());
+    for (const [name, fields] of Object.entries(interfaces)) {
+        assert.deepEqual(Object.keys(fields).sort(), Object.keys(items[name]).sort());
+        for (const [field, type] of Object.entries(fields)) {
+            const found = typeof items[name][field];
+            assert.ok(type.split(' | ').includes(found) || (found === 'object' && /^[A-Z]/.test(type)), `${name}.${field}: ${type}`);
+        }
+    }
+    const elf = Elf.parse(own), refused = (() => { try { return elf.number(own.length, 1); } catch (error) { return error; } })();
+    const made = { GoblinError: refused, Elf: elf, List: elf.section_headers(), Symtab: elf.syms(), Strtab: elf.shdr_strtab() };
+    const classes = declared_members(declared, 'class');
+    assert.deepEqual(Object.keys(classes).sort(), Object.keys(made).sort());
+    for (const [name, members] of Object.entries(classes)) {
+        const { prototype } = goblin[name], symbols = Object.getOwnPropertySymbols(prototype).map((symbol) => `[${symbol.description}]`);
+        const there = [...Object.getOwnPropertyNames(prototype), ...symbols, ...Object.keys(made[name]), ...(name === 'Elf' ? ['parse'] : [])];
+        const wanted = there.filter((member) => !['constructor', 'name'].includes(member) || (member === 'name' && name === 'Symtab'));
+        assert.deepEqual(Object.keys(members).filter((member) => member !== 'constructor').sort(), wanted.sort(), name);
+    }
+    return `${names.length} declared names`;
+}
+
+function check_package() {
+    const { types, exports, engines, files: listed } = JSON.parse(readFileSync(join(web, 'package.json')));
+    assert.deepEqual(exports, { types, default: './goblin.js' });
+    for (const name of [types, exports.default, ...listed]) assert.ok(existsSync(join(web, name)), name);
+    assert.deepEqual(readdirSync(web).filter((name) => !['LICENSE', 'package.json'].includes(name)).sort(), listed.sort());
+    const [least] = /\d+/.exec(engines.node);
+    assert.ok(Number(process.versions.node.split('.')[0]) >= Number(least));
+}
+
 await check_missing_memories();
 await goblin.default();
 const told = [
-    check_bytes(), check_lists(), check_moved_sections(), check_types_of_sections(), check_notes(), check_json(),
-    await check_constants(),
+    check_bytes(), check_lists(), check_moved_sections(), check_types_of_sections(), check_notes(), check_json(), await check_constants(),
+    check_declarations(),
 ];
 check_arguments();
 check_segments();
+check_package();
 console.log(`goblin.js takes and returns what it says: ${told.join(', ')}`);
