@@ -17,6 +17,11 @@ if flag=$(sh checks/node_flag.sh); then
     call() { node ${flag:+"$flag"} "$@"; }
     call faces/web/test.mjs "$web" "$dump" "$@" "$dump"
     call faces/web/calls.mjs "$web" "$@" "$dump"
+    head -c 15 "$dump" > "$folder/short"
+    for example in needed segments; do
+        said=$(call "$web/examples/$example.mjs" "$folder/short" 2>&1) && { echo "$example.mjs: a short file"; exit 1; }
+        [ "$said" = "$example: $folder/short: Malformed entity: Too small" ] || { echo "$example.mjs: $said"; exit 1; }
+    done
     # A program that has the package among its own finds it by its name.
     mkdir -p "$folder/app/node_modules"
     ln -s "$web" "$folder/app/node_modules/goblin_c"

@@ -85,6 +85,7 @@ install_web() {
     put faces/web/constants.js share/goblin_c/web/constants.js
     python3 faces/web/types.py > "$folder/types"
     put "$folder/types" share/goblin_c/web/goblin.d.ts
+    put_all faces/web/examples share/goblin_c/web/examples
     put_edited "s/@VERSION@/$version/" faces/web/package.json.in share/goblin_c/web/package.json
     python3 faces/web/pack.py "$library" > "$folder/page"
     put "$folder/page" share/goblin_c/web/index.html

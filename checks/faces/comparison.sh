@@ -1,7 +1,7 @@
 #!/bin/sh
-# Whether the programs of C and Rust list of this machine's files what binutils' nm, readelf, size and addr2line do:
-# sh checks/faces/comparison.sh FOLDER [FILE ..], after c.sh and rust.sh. Files named by words are taken in place of others. What the
-# machine has no such program for is said in a line, and passes.
+# Whether the programs of C, Rust and JavaScript list of this machine's files what binutils' nm, readelf, size and addr2line do:
+# sh checks/faces/comparison.sh FOLDER [FILE ..], after c.sh, rust.sh and webassembly.sh. Files named by words are taken in place of
+# others. What the machine has no such program for is said in a line, and passes.
 . checks/faces/shared.sh
 shift
 root=$PWD
@@ -89,23 +89,24 @@ make_shared() {
     done
 }
 
-# What readelf lists of a file as needed.c and needed.rs do.
+# What readelf lists of a file as needed.c, needed.rs and needed.mjs do.
 list_needed() {
     readelf -lW "$1" | sed -n 's/^ *\[Requesting program interpreter: \(.*\)\]$/interpreter \1/p'
     readelf -dW "$1" | sed -n -e 's/^.*(NEEDED) .*\[\(.*\)\]$/needed \1/p' -e 's/^.*(SONAME) .*\[\(.*\)\]$/soname \1/p' \
         -e 's/^.*(RPATH) .*\[\(.*\)\]$/rpath \1/p' -e 's/^.*(RUNPATH) .*\[\(.*\)\]$/runpath \1/p'
 }
 
-# What readelf lists of a file's segments as segments.rs does, but for their types.
+# What readelf lists of a file's segments as segments.rs and segments.mjs do, but for their types.
 list_segments() {
-    readelf -lW "$1" | sed -n '/^ Section to Segment mapping:$/,$s/^ *\([0-9][0-9]\) */\1 /p' | sed 's/ *$//'
+    readelf -lW "$1" > "$folder/segments"
+    if grep -q '^ Section to Segment mapping:$' "$folder/segments"; then
+        sed -n '/^ Section to Segment mapping:$/,$s/^ *\([0-9][0-9]\) */\1 /p' "$folder/segments" | sed 's/ *$//'
+    else
+        # (it maps no sections where there are none, as in a core)
+        readelf -hW "$1" | awk '/^ *Number of program headers:/ { for (i = 0; i < $5; i++) printf "%02d\n", i }'
+    fi
 }
-
-# What segments.rs lists of a file, but for the types. Without sections, as in a core file, readelf lists no segments there.
-list_our_segments() {
-    if readelf -SW "$1" | grep -q '^There are no sections in this file'; then return; fi
-    "$examples/segments" "$1" | sed 's/^\([0-9]*\) [^ ]*/\1/'
-}
+without_types() { sed 's/^\([0-9][0-9]*\) [^ ]*/\1/'; }
 
 # Runs a command for each of some files, for what it lists of them.
 for_each() {
@@ -115,11 +116,21 @@ for_each() {
     done < "$folder/some"
 }
 
-# Compares with readelf what a program lists of some files that the dynamic linker needs.
+# Unpacks the examples in JavaScript, and finds the flag that node needs for them, unless the machine has no such node.
+find_web() {
+    if [ ! -e "$folder/goblin_web.tar.gz" ] || ! flag=$(sh checks/node_flag.sh); then return 1; fi
+    mkdir "$folder/web"
+    tar -C "$folder/web" -xzf "$folder/goblin_web.tar.gz"
+    in_js=$(echo "$folder"/web/goblin_c-*/share/goblin_c/web/examples)
+}
+
+# What an example in JavaScript lists of some files: one run for all, since node takes long to start.
+list_by_js() { tr '\n' '\0' < "$folder/some" | xargs -0 node ${flag:+"$flag"} "$in_js/$1.mjs"; }
+
+# Compares with readelf what a program has listed of some files that the dynamic linker needs.
 compare_needed_by() {
-    for_each "$1" > "$folder/ours"
     quietly diff "$folder/theirs" "$folder/ours"
-    echo "${1##*/}.$2 lists the $(grep -vc '^file: ' "$folder/theirs") interpreters, libraries, names and paths of readelf"
+    echo "$1 lists the $(grep -vc '^file: ' "$folder/theirs") interpreters, libraries, names and paths of readelf"
 }
 
 compare_needed() {
@@ -128,16 +139,35 @@ compare_needed() {
     for name in interpreter needed soname rpath runpath; do
         grep -q "^$name " "$folder/theirs" || { echo "no file has a $name"; exit 1; }
     done
-    compare_needed_by "$folder/needed" c
-    if [ -x "$examples/needed" ]; then compare_needed_by "$examples/needed" rs; fi
+    for_each "$folder/needed" > "$folder/ours"
+    compare_needed_by needed.c
+    if [ -x "$examples/needed" ]; then
+        for_each "$examples/needed" > "$folder/ours"
+        compare_needed_by needed.rs
+    fi
+    if [ "$in_js" ]; then
+        list_by_js needed > "$folder/ours"
+        compare_needed_by needed.mjs
+    fi
+}
+
+compare_segments_by() {
+    without_types < "$folder/typed" > "$folder/ours"
+    quietly diff "$folder/theirs" "$folder/ours"
+    echo "$1 lists the sections of $(grep -vc '^file: ' "$folder/theirs") segments as readelf does"
 }
 
 compare_segments() {
     { cat "$folder/list"; echo "$folder/nm"; } > "$folder/some"
     for_each list_segments > "$folder/theirs"
-    for_each list_our_segments > "$folder/ours"
-    quietly diff "$folder/theirs" "$folder/ours"
-    echo "segments.rs lists the sections of $(grep -vc '^file: ' "$folder/theirs") segments as readelf does"
+    if [ -x "$examples/segments" ]; then
+        for_each "$examples/segments" > "$folder/typed"
+        compare_segments_by segments.rs
+    fi
+    if [ "$in_js" ]; then
+        list_by_js segments > "$folder/typed"
+        compare_segments_by segments.mjs
+    fi
 }
 
 if ! has nm || ! has readelf; then
@@ -155,5 +185,7 @@ compare_symbols "$count"
 if has size; then compare_sizes "$count"; else echo "no size here: no sizes are compared"; fi
 if has addr2line; then compare_addresses; else echo "no addr2line here: no addresses are compared"; fi
 if [ -x "$examples/relocations" ]; then compare_relocations "$count"; fi
+in_js=
+find_web || echo "no node with memories of 64 bits here: no examples in JavaScript are compared"
 compare_needed
-if [ -x "$examples/segments" ]; then compare_segments; fi
+compare_segments
