@@ -34,7 +34,8 @@ impl Count {
     // Adds a number, or stays at the greatest where the sum would pass it.
     #[inline]
     fn add(&mut self, more: u64)
-        ensures { self.new ≡ min (self.old + more) u128.MAX }
+        ensures exact { self.new ≡ min (self.old + more) u128.MAX }
+        ensures rising { self.old ≤ self.new }
     {
         match self.low.checked_add(more) {
             Some(low) => self.low = low,
@@ -110,6 +111,7 @@ impl<'a> Looked<'a> {
         ensures value { result ≡ slice_index self.old.bytes i }
         ensures counted { self.new ≡ record self.old { count = min (self.old.count + 1) u128.MAX } }
         ensures unchanged { self.new.bytes ≡ self.old.bytes }
+        ensures rising { self.old.count ≤ self.new.count }
     {
         self.count.add(1);
         self.bytes[i]
@@ -122,6 +124,7 @@ impl<'a> Looked<'a> {
         ensures value { IsTrue result ↔ IsUtf8 (slice_range self.old.bytes from to) }
         ensures counted { self.new ≡ record self.old { count = min (self.old.count + (to - from)) u128.MAX } }
         ensures unchanged { self.new.bytes ≡ self.old.bytes }
+        ensures rising { self.old.count ≤ self.new.count }
     {
         self.count.add((to - from) as u64);
         std::str::from_utf8(&self.bytes[from..to]).is_ok()

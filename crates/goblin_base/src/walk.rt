@@ -37,6 +37,7 @@ pub fn walk<'a>(
     ensures given { Gives (λ entries. entries) result (walked mode view.old.bytes delim) }
     ensures unchanged { view.new.bytes ≡ view.old.bytes }
     ensures looks { view.new.count ≤ view.old.count + 5 * length view.old.bytes }
+    ensures rising { view.old.count ≤ view.new.count }
     ensures looks_least { let least = length view.old.bytes in
         IfOk result (λ _. CountsAtLeast view.old.count least view.new.count) }
 
@@ -74,6 +75,7 @@ fn end_of_piece(view: &mut Looked<'_>, delim: u8, from: usize) -> usize
     ensures within { result ≤ length view.old.bytes }
     ensures unchanged { view.new.bytes ≡ view.old.bytes }
     ensures looks { view.new.count ≤ view.old.count + (min (result + 1) (length view.old.bytes) - from) }
+    ensures rising { view.old.count ≤ view.new.count }
     ensures looks_least { let least = min (result + 1) (length view.old.bytes) - from in
         CountsAtLeast view.old.count least view.new.count }
 {
@@ -106,6 +108,7 @@ fn walk_damaged(
     ensures past { IfOk result (λ next. next ≤ end + 1) }
     ensures unchanged { view.new.bytes ≡ view.old.bytes }
     ensures looks { view.new.count ≤ view.old.count + 2 * (end - from) }
+    ensures rising { view.old.count ≤ view.new.count }
     ensures looks_least { IfOk result (λ _. CountsAtLeast view.old.count (end - from) view.new.count) }
 {
     let mut i = from;
@@ -140,6 +143,7 @@ fn scan(view: &mut Looked<'_>, delim: u8, from: usize) -> Found
     ensures found { IsScan view.old.bytes delim from result }
     ensures unchanged { view.new.bytes ≡ view.old.bytes }
     ensures looks { view.new.count ≤ view.old.count + looks_of from result }
+    ensures rising { view.old.count ≤ view.new.count }
     ensures looks_least { CountsAtLeast view.old.count (found_end result - from) view.new.count }
 {
     let mut at = from;

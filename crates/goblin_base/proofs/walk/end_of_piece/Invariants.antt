@@ -9,6 +9,7 @@ invariant-loop-end l = record {
   within : l.end ≤ length l.fn.view.bytes;
   none : (k : ℕ) → l.from ≤ k → k < l.end → eqb (get_or l.fn.view.bytes k 0) l.delim ≡ false;
   looks : l.view.count ≤ l.fn.view.count + (l.end - l.from);
+  rising : l.fn.view.count ≤ l.view.count;
   least : CountsAtLeast l.fn.view.count (l.end - l.from) l.view.count;
 }
 

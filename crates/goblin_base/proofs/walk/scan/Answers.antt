@@ -10,6 +10,7 @@ pub loop-at-init : goal.loop-at-init
 loop-at-init c = record {
   same = refl;
   looks = omega arith;
+  rising = omega arith;
   least = omega arith;
   scanned = rw c.first-awaited.ensures (scan_starts c.args.view.now.bytes c.args.delim c.args.from (omega arith));
 }
@@ -36,6 +37,7 @@ loop-at-preserved c =
     record {
       same = ap (λ v. v.bytes) c.at-byte.ensures.counted ∙ i.same;
       looks = omega (arith, ap (λ v. v.count) c.at-byte.ensures.counted, i.scanned.from);
+      rising = omega (arith, c.at-byte.ensures.rising, i.rising);
       least = omega (arith, ap (λ v. v.count) c.at-byte.ensures.counted, i.scanned.from, i.least);
       scanned = scan_steps c.args.view.now.bytes c.args.delim c.args.from c.loop-at.at c.loop-at.awaited c.in-Some.next (omega (arith, ap length i.same)) test (ap (after_byte c.loop-at.awaited) (sym byte) ∙ sym c.in-Some.ensures) i.scanned;
     }

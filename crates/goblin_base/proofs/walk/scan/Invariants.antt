@@ -7,6 +7,7 @@ abbrev pub invariant-loop-at : goal.invariant-loop-at
 invariant-loop-at l = record {
   same : l.view.bytes ≡ l.fn.view.bytes;
   looks : l.view.count ≤ l.fn.view.count + (l.at - l.from);
+  rising : l.fn.view.count ≤ l.view.count;
   least : CountsAtLeast l.fn.view.count (l.at - l.from) l.view.count;
   scanned : IsScanned l.fn.view.bytes l.delim l.from l.at l.awaited;
 }

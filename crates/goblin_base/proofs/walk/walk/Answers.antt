@@ -23,6 +23,7 @@ loop-i-init c = record {
   walked = rw c.new-places.ensures.items (walked_none c.args.view.now.bytes c.args.delim);
   strict = λ _. text_so_far_none c.args.view.now.bytes c.args.delim;
   looks = omega arith;
+  rising = omega arith;
   least = omega arith;
 }
 
@@ -49,6 +50,7 @@ loop-i-preserved-then-text c =
       walked = walked_text bytes d _ _ i c.end_of_piece-end.result in_range e.ordered (omega (arith, e.within, ap length s.same)) here.0 here.1 c.in_ok-push.ensures.items s.walked;
       strict = λ m. subst (λ k. IsTextSoFar bytes d (k + 1)) (sym here.0) (text_so_far_more bytes d i in_range here.1 (s.strict m));
       looks = omega (arith, ap (λ v. v.count) c.text.ensures.counted, e.looks, e.within, e.ordered, s.looks, ap length s.same);
+      rising = omega (arith, c.text.ensures.rising, e.rising, s.rising);
       least = omega (arith, ap (λ v. v.count) c.text.ensures.counted, e.looks_least, e.within, e.ordered, s.least, ap length s.same);
     }
 
@@ -70,6 +72,7 @@ returns-else-is_permissive c =
       given = λ _. ap (λ m. walked m bytes d) strict ∙ walked_fault bytes d i in_range bad so_far ∙ ap (λ k. Err (invalid_utf8 (k - i))) (sym left) ∙ ap Err (sym c.invalid_utf8.ensures);
       unchanged = search rules;
       looks = search rules;
+      rising = search rules;
       looks_least = search rules;
       looks_least_refused = λ _.
           let here = ap (piece_end bytes d) (bad_here bytes d i in_range bad so_far) ∙ sym end in

@@ -13,6 +13,7 @@ invariant-loop-i l = record {
   strict : l.mode ≡ Strict → IsTextSoFar l.fn.view.bytes l.delim l.i;
   -- five looks for each byte before i
   looks : l.view.count ≤ l.fn.view.count + 5 * min l.i (length l.fn.view.bytes);
+  rising : l.fn.view.count ≤ l.view.count;
   -- and as many at least as bytes were passed
   least : CountsAtLeast l.fn.view.count (min l.i (length l.fn.view.bytes)) l.view.count;
 }

@@ -37,5 +37,6 @@ loop-i-preserved c =
       ends = found.3;
       walked = subst (IsWalkedTo c.args.view.now.bytes c.args.delim c.loop-place.places.items) e c.loop-place.invariant;
       looks = omega (arith, found.1, c.in-Fault.ensures.looks, s.looks);
+      rising = omega (arith, c.in-Fault.ensures.rising, s.rising);
       least = omega (arith, found.1, s.from, c.in-Fault.ensures.looks_least, s.least);
     }

@@ -12,6 +12,7 @@ invariant-loop-i l = record {
   ends : piece_end l.fn.view.bytes l.delim l.i ≡ l.end;
   walked : IsWalkedTo l.fn.view.bytes l.delim l.places.items l.i;
   looks : l.view.count ≤ l.fn.view.count + 2 * (l.i - l.from);
+  rising : l.fn.view.count ≤ l.view.count;
   least : CountsAtLeast l.fn.view.count (l.i - l.from) l.view.count;
 }
 
