@@ -1,7 +1,7 @@
 #!/bin/sh
-# Whether what the pages and the comments of the code quote stands in the code: of each fenced block below a line
-# '<!-- quoted: FILE -->' the parts between blank lines must stand in FILE, line for line and in this order, whatever their
-# indentation. Run from the repository's root, over all its pages and all `///` of its code.
+# Checks that the code that pages and doc comments quote stands in the code. A quotation is a fenced block below a line
+# '<!-- quoted: FILE -->'. Its parts, which blank lines separate, must stand in FILE, line for line and in this order. Indentation
+# doesn't count. Reads all pages and all `///` comments. Run from the repository's root.
 set -eu
 export LC_ALL=C
 # shellcheck disable=SC2016 # (the signs are awk's)
@@ -12,10 +12,10 @@ function load(    line) {
     code = 0
     while ((getline line < source) > 0) text[++code] = bare(line)
     close(source)
-    if (code == 0) fail("no such file to quote, or nothing in it: " source)
+    if (code == 0) fail("quotes " source ", which does not exist or is empty")
     place = 1
 }
-# the part of so many lines stands from the place on, which moves behind it
+# Reports whether the part of the quotation stands in the code, at or after `place`, and moves `place` past it.
 function stands(    i, k) {
     for (i = place; i + lines - 1 <= code; i++) {
         for (k = 1; k <= lines && text[i + k - 1] == quoted[k]; k++) ;
@@ -25,24 +25,24 @@ function stands(    i, k) {
 }
 function end_part() {
     if (lines == 0) return
-    if (code && !stands()) fail("line " FNR ": does not stand there in " source ": " quoted[1])
+    if (code && !stands()) fail("line " FNR ": what is quoted above it is not in " source ", or not in this order: " quoted[1])
     parts++; lines = 0
 }
-FNR == 1 { if (source != "") fail("a quotation of " source " has no end"); source = ""; inside = 0; page = FILENAME }
+FNR == 1 { if (source != "") fail("the quotation of " source " has no closing fence"); source = ""; inside = 0; page = FILENAME }
 FILENAME ~ /[.]rt$/ && !sub(/^ *\/\/\/ ?/, "") { next }
 !inside && /^<!-- quoted: .* -->$/ { source = $0; sub(/^<!-- quoted: /, "", source); sub(/ -->$/, "", source); next }
 source != "" && !inside && /^```/ { inside = 1; lines = 0; parts = 0; load(); next }
 inside && /^```/ {
     end_part()
-    if (parts == 0) fail("line " FNR ": an empty quotation of " source)
+    if (parts == 0) fail("line " FNR ": the quotation of " source " is empty")
     count++; source = ""; inside = 0; next
 }
 inside && /^[ \t]*$/ { end_part(); next }
 inside { quoted[++lines] = bare($0); next }
-source != "" && !/^$/ { fail("line " FNR ": a quotation of " source " without a block"); source = "" }
+source != "" && !/^$/ { fail("line " FNR ": no fenced block follows the line that quotes " source); source = "" }
 END {
-    if (source != "") fail("a quotation of " source " has no end")
-    if (!bad && count == 0) { print "no quotation found"; bad = 1 }
-    if (!bad) print count " quotations stand in the code"
+    if (source != "") fail("the quotation of " source " has no closing fence")
+    if (!bad && count == 0) { print "quotes: no quotation was found"; bad = 1 }
+    if (!bad) print "quotes: " count " quotations agree with the code"
     exit bad
 }'
