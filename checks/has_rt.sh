@@ -1,5 +1,5 @@
 #!/bin/sh
-# Whether the command rt can be run: sh checks/has_rt.sh COMMAND. If not, says that COMMAND needs it, and what to set.
+# Checks that the command rt is on PATH: sh checks/has_rt.sh COMMAND. If not, says what to set, and that COMMAND needs it.
 command -v rt > /dev/null && exit 0
-echo "$1 needs the command rt of the Rattle toolchain: set PATH=KIT/bin:\$PATH, where KIT is the folder of the toolchain" >&2
+echo "$1: the command rt was not found. Add the Rattle toolchain to your PATH: export PATH=TOOLCHAIN/bin:\$PATH" >&2
 exit 2
