@@ -1,10 +1,9 @@
 #!/bin/sh
-# Shows a file by the program of this repository: sh checks/show.sh show|try. SHOWN names the file, whatever signs its name
-# has, and MODE may be permissive. Both run the program that was proved and built of the sources as they stand, if there is one.
-# Else `show` proves each crate first, with a line for each, and builds the program; `try` builds it without a proof, and shows
-# the first 1 MiB of the text, since an unproved run prints no more. A refused file is no failure: what can't be read, proved
-# or written is. `sh checks/show.sh built` only notes that the program was proved and built of the sources as they stand. Run
-# from the repository's root.
+# Shows a file with the program of this repository: sh checks/show.sh show|try. SHOWN is the name of the file, and MODE may be
+# permissive. Both run the proved program if it was built from the present sources. Otherwise `show` first proves each crate, with
+# a line for each, and builds the program. `try` runs it without a proof and prints the first 1 MiB of the text, because such a run
+# prints no more. The exit status is 0 also for a refused file, and 2 if something can't be read, proved or written. `sh
+# checks/show.sh built` only notes that the program was proved and built from the present sources. Run from the repository's root.
 set -eu
 goal=$1
 show=crates/goblin_show/out/goblin_show
@@ -18,13 +17,13 @@ fail() {
     exit 2
 }
 
-# Fails with the end of what the toolchain said.
+# Fails after the last lines of the toolchain's output.
 fail_as_said() {
     tail -n 40 "$said" >&2
-    fail "$1, as said above"
+    fail "$1; the toolchain's messages are above"
 }
 
-# The sums of the sources and of the program, and where they stand once it is proved and built.
+# Prints checksums of the sources and of the program. They are stored in $note after the program was proved and built.
 sums() {
     sh checks/sources.sh --sum goblin_show
     sha256sum "$show"
@@ -34,11 +33,11 @@ note=$show.sources
 run_program() {
     status=0
     "$show" "$@" < "$file" || status=$?
-    [ "$status" -lt 2 ] || fail 'reading or writing failed'
+    [ "$status" -lt 2 ] || fail 'the file could not be read, or the output could not be written'
     exit 0
 }
 
-# Runs the program without a proof, with a `main` that writes no more of the text than such a run prints.
+# Runs the program without a proof, with a `main` that stops at what such a run can print.
 try_program() {
     sh checks/has_rt.sh 'make try'
     cp -R --parents crates.txt HANDLES crates/*/src crates/*/specs crates/*/proofs "$folder"
@@ -47,19 +46,19 @@ try_program() {
     cp checks/try.main "$folder/crates/goblin_try/src/main.rt"
     status=0
     (cd "$folder/crates/goblin_try" && rt try --steps 1000 --seconds 300 -- "$@") < "$file" > "$folder/text" 2> "$said" || status=$?
-    if [ "$status" -ge 2 ] || ! grep -q '^run=ended' "$said"; then fail_as_said 'the program did not end well'; fi
+    if [ "$status" -ge 2 ] || ! grep -q '^run=ended' "$said"; then fail_as_said 'the program failed'; fi
     if [ "$(wc -c < "$folder/text")" -lt 1048576 ]; then
         cat "$folder/text"
     else
         # (its last line may be cut)
         sed '$d' "$folder/text"
-        echo 'make try: these are the first 1 MiB of the text; make show shows all of it.' >&2
+        echo 'make try: the output ends after 1 MiB. make show prints all of it.' >&2
     fi
-    echo 'make try: nothing was proved. make show proves the program first.' >&2
+    echo 'make try: this program was not proved. make show proves it first.' >&2
     exit 0
 }
 
-# Proves each crate that the program stands on, and builds it.
+# Proves each crate that the program depends on, and builds the program.
 prove_program() {
     sh checks/has_rt.sh 'make show'
     crates=$(sh checks/sources.sh --crates goblin_show)
@@ -67,15 +66,15 @@ prove_program() {
     start=$(date +%s) number=0
     for crate in $crates; do
         number=$((number + 1))
-        # the program is run once over its stored input, which says whether it was built
+        # (the program runs once over its stored input, which shows that it was built)
         input=/dev/null verb=lib
         if [ "$crate" = goblin_show ]; then input=stdin verb=run; fi
-        printf '%s of %s: %s' "$number" "$count" "$crate" >&2
+        printf 'make show: proving %s (%s of %s)' "$crate" "$number" "$count" >&2
         if ! (cd "crates/$crate" && rt "$verb" < "$input") > "$said" 2>&1; then
             echo >&2
-            fail_as_said "$crate is not proved"
+            fail_as_said "the proof of $crate failed"
         fi
-        printf ' is proved, after %s seconds\n' "$(($(date +%s) - start))" >&2
+        printf ', done after %s seconds\n' "$(($(date +%s) - start))" >&2
     done
     sums > "$note"
 }
@@ -84,18 +83,19 @@ if [ "$goal" = built ]; then
     sums > "$note"
     exit 0
 fi
-test -n "${SHOWN:-}" || fail "it wants a file, as: make $goal FILE=/bin/true"
-! test -d "$SHOWN" || fail "$SHOWN is a folder"
-test -r "$SHOWN" || fail "$SHOWN can not be read"
+test -n "${SHOWN:-}" || fail "no file is given. For example: make $goal FILE=/bin/true"
+! test -d "$SHOWN" || fail "$SHOWN is a folder. FILE must be a file"
+test -e "$SHOWN" || fail "$SHOWN does not exist"
+test -r "$SHOWN" || fail "$SHOWN can't be read. Check its permissions"
 case ${MODE:-strict} in
     strict) set -- ;;
     permissive) set -- permissive ;;
-    *) fail "MODE is strict or permissive, and not $MODE" ;;
+    *) fail "unknown MODE=$MODE. Use MODE=strict or MODE=permissive" ;;
 esac
 file=$(cd "$(dirname -- "$SHOWN")" && pwd)/$(basename -- "$SHOWN")
 
 if [ -x "$show" ] && [ -f "$note" ] && [ "$(sums)" = "$(cat "$note")" ]; then
-    [ "$goal" = show ] || echo 'make try: this is the program that was proved and built of these sources.' >&2
+    [ "$goal" = show ] || echo 'make try: this is the proved program, built from these sources.' >&2
     run_program "$@"
 fi
 if [ "$goal" = try ]; then try_program "$@"; fi
