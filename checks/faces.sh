@@ -14,6 +14,8 @@ try() {
     python3 checks/took.py part "$subject" sh "checks/faces/$subject.sh" "$folder" "$@"
 }
 
+python3 faces/constants.py --check
+echo "the constants in C, Rust and JavaScript are the library's"
 try library
 if ! command -v cc > /dev/null; then
     echo "no cc here: no C is compiled, and no Rust, which cc links"

@@ -1,5 +1,6 @@
 // The constants of goblin's ELF layer; goblin.js exports them all. The flags and the indices of sections are BigInts, as the fields
-// that hold them are: `sh_flags` and `st_shndx`. calls.mjs compares the numbers with the library's.
+// that hold them are: `sh_flags` and `st_shndx`.
+// Made by faces/constants.py of the library's constants: do not edit.
 
 // ---- file headers ----
 
@@ -478,6 +479,8 @@ export const header64 = Object.freeze({
 
 // ---- program headers ----
 
+// What a segment is.
+
 /** No segment. */
 export const PT_NULL = 0;
 /** A segment that is loaded. */
@@ -549,6 +552,8 @@ export const program_header64 = Object.freeze({
 });
 
 // ---- section headers ----
+
+// Indices of sections with a meaning of their own.
 
 /** No section. */
 export const SHN_UNDEF = 0n;
@@ -706,6 +711,8 @@ export const section_header64 = Object.freeze({
 });
 
 // ---- symbols ----
+
+// Bindings.
 
 /** A symbol that other files do not see. */
 export const STB_LOCAL = 0;

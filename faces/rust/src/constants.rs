@@ -1,6 +1,5 @@
-//! The constants of the records, each in the module of its record. They are the library's own, word for word, but that flags
-//! of sections and their indices have the types of the fields that hold them. A test of the repository compares them: what is
-//! added there is added here too.
+//! The constants of the records, each in the module of its record. `faces/constants.py` makes these files from the library's
+//! constants, word for word. Only flags and indices of sections have other types: those of the fields that hold them.
 pub mod header;
 pub mod note;
 pub mod program_header;

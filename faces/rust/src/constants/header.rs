@@ -1,4 +1,5 @@
 //! The constants of a file's header, as the library has them.
+// Made by faces/constants.py of the library's constants: do not edit.
 
 /// No file type.
 pub const ET_NONE: u16 = 0;

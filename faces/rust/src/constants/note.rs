@@ -1,4 +1,5 @@
 //! The constants of notes, as the library has them.
+// Made by faces/constants.py of the library's constants: do not edit.
 
 /// The system that a file was built for, as words: the system's number, and the major, minor and
 /// subminor version of its binary interface.

@@ -1,4 +1,7 @@
 //! The constants of program headers, as the library has them.
+// Made by faces/constants.py of the library's constants: do not edit.
+
+// What a segment is.
 
 /// No segment.
 pub const PT_NULL: u32 = 0;

@@ -1,4 +1,5 @@
 //! The sizes of relocations, as the library has them.
+// Made by faces/constants.py of the library's constants: do not edit.
 
 /// What the 32-bit class has of its own.
 pub mod reloc32 {

@@ -1,4 +1,7 @@
 //! The constants of section headers, as the library has them.
+// Made by faces/constants.py of the library's constants: do not edit.
+
+// Indices of sections with a meaning of their own.
 
 /// No section.
 pub const SHN_UNDEF: usize = 0;

@@ -1,4 +1,7 @@
 //! The constants of symbols, as the library has them.
+// Made by faces/constants.py of the library's constants: do not edit.
+
+// Bindings.
 
 /// A symbol that other files do not see.
 pub const STB_LOCAL: u8 = 0;

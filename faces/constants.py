@@ -1,0 +1,269 @@
+#!/usr/bin/env python3
+"""Writes the constants of the library's records for C, Rust and JavaScript.
+
+    python3 faces/constants.py            writes the end of faces/c/goblin.h, faces/rust/src/constants/*.rs and
+                                          faces/web/constants.js
+    python3 faces/constants.py --check    writes nothing, and fails if a file is not what it would write
+
+The names, values, types and comments are those of crates/goblin_headers and crates/goblin_records. So a constant is written by
+hand only there.
+
+Flags of sections and indices of sections get the type of the field that holds them: `sh_flags` and `st_shndx`.
+"""
+import os
+import re
+import sys
+import textwrap
+
+ROOT = os.path.dirname(os.path.dirname(os.path.abspath(__file__)))
+WIDTH = 120
+# Each record: its name in Rust, its crate, its title in JavaScript and C, and what its file in Rust holds.
+RECORDS = [
+    ('header', 'goblin_headers', 'file headers', "The constants of a file's header"),
+    ('program_header', 'goblin_headers', 'program headers', 'The constants of program headers'),
+    ('section_header', 'goblin_headers', 'section headers', 'The constants of section headers'),
+    ('sym', 'goblin_records', 'symbols', 'The constants of symbols'),
+    ('reloc', 'goblin_records', 'relocations', 'The sizes of relocations'),
+    ('note', 'goblin_records', 'notes', 'The constants of notes'),
+]
+CLASSES = (32, 64)
+MADE = "Made by faces/constants.py of the library's constants: do not edit."
+
+
+class Constant:
+    """A constant of the library, with the lines of its comment, and with what stands before it: a heading, an empty line."""
+
+    def __init__(self, name, kind, value, comment, heading, is_apart):
+        self.name, self.kind, self.value = name, kind, value
+        self.comment, self.heading, self.is_apart = comment, heading, is_apart
+
+    def prefix(self):
+        return self.name.split('_')[0]
+
+    def is_text(self):
+        return self.value.startswith('b"')
+
+    def is_list(self):
+        return self.value.startswith('[')
+
+    def items(self):
+        """The names in a list."""
+        return re.findall(r'\w+', self.value)
+
+    def has_wide_field(self):
+        """Whether it is held by a field of 64 bits."""
+        return self.prefix() in ('SHF', 'SHN') and 'u32' in self.kind
+
+
+def path_of(name):
+    return os.path.join(ROOT, *name.split('/'))
+
+
+def read(name):
+    with open(path_of(name), encoding='utf-8') as file:
+        return file.read()
+
+
+def constants_in(name):
+    """The constants of a source in Rattle, in its order."""
+    constants, comment, heading, is_apart, statement = [], [], '', False, ''
+    for line in read(name).split('\n'):
+        if statement or line.startswith('pub const '):
+            statement += line.strip() if statement.endswith(('[', ',')) else line
+            if statement.endswith(';'):
+                match = re.fullmatch(r'pub const (\w+): ([^=]+) = (.+);', statement)
+                constants.append(Constant(*match.groups(), comment, heading, is_apart))
+                comment, heading, is_apart, statement = [], '', False, ''
+        elif line.startswith('///'):
+            comment.append(line[4:])
+        elif line == '':
+            is_apart = True
+        else:
+            # (a heading stands before an empty line and a comment; all else has no constant)
+            comment, heading = [], line[3:] if line.startswith('// ') else ''
+    return constants
+
+
+def constants_of(record, crate):
+    """The constants of a record for both classes."""
+    name = f'crates/{crate}/src/constants_{record}.rt'
+    return constants_in(name) if os.path.exists(path_of(name)) else []
+
+
+def constants_of_class(record, crate, bits):
+    """The constants of a record for one class."""
+    name = f'crates/{crate}/src/{record}{bits}.rt'
+    return constants_in(name) if os.path.exists(path_of(name)) else []
+
+
+def listed(constants, write, heading_format):
+    """The constants as some text each, with their headings and the empty lines between them."""
+    text = ''
+    for constant in constants:
+        if constant.heading:
+            text += '\n' + heading_format.format(constant.heading) + '\n\n'
+        elif constant.is_apart:
+            text += '\n'
+        text += write(constant)
+    return text
+
+
+# ---- Rust ----
+
+def rust_constant(constant):
+    kind = constant.kind
+    if constant.has_wide_field():
+        kind = kind.replace('u32', 'u64' if constant.prefix() == 'SHF' else 'usize')
+    value = constant.value
+    if constant.is_list():
+        value = '[\n' + ''.join(f'    {name},\n' for name in constant.items()) + ']'
+    return ''.join(f'/// {line}\n' for line in constant.comment) + f'pub const {constant.name}: {kind} = {value};\n'
+
+
+def rust_module(record, bits, constants):
+    defined = [constant.name for constant in constants]
+    values = ' '.join(constant.value for constant in constants)
+    used = sorted(set(re.findall(r'\b[A-Z]\w+', values)) - set(defined))
+    use = ''.join(f'use super::{name};\n' for name in used)
+    body = textwrap.indent((use + '\n' if use else '') + listed(constants, rust_constant, '// {}').lstrip('\n'), '    ')
+    return f'\n/// What the {bits}-bit class has of its own.\npub mod {record}{bits} {{\n{body}}}\n'
+
+
+def rust_files():
+    for record, crate, _, content in RECORDS:
+        text = f'//! {content}, as the library has them.\n// {MADE}\n'
+        text += listed(constants_of(record, crate), rust_constant, '// {}')
+        for bits in CLASSES:
+            constants = constants_of_class(record, crate, bits)
+            text += rust_module(record, bits, constants) if constants else ''
+        yield f'faces/rust/src/constants/{record}.rs', text
+
+
+# ---- JavaScript ----
+
+def js_value(constant):
+    if constant.is_text():
+        return f'Object.freeze([{", ".join(f"0x{byte:02x}" for byte in bytes_of(constant))}])'
+    if constant.is_list():
+        names = textwrap.fill(', '.join(constant.items()) + ',', WIDTH, initial_indent='    ', subsequent_indent='    ')
+        return f'Object.freeze([\n{names}\n])'
+    value = constant.value.replace('_', '') if re.match(r'\d', constant.value) else constant.value
+    return re.sub(r'\b(\d\w*)', r'\1n', value) if constant.has_wide_field() else value
+
+
+def js_comment(constant, indent=''):
+    text = re.sub(r'\[(`\w+`)\]', r'\1', ' '.join(constant.comment))
+    if len(constant.comment) == 1:
+        return f'{indent}/** {text} */\n'
+    lines = textwrap.fill(text, WIDTH + 8, initial_indent=f'{indent} * ', subsequent_indent=f'{indent} * ', break_on_hyphens=False)
+    return f'{indent}/**\n{lines}\n{indent} */\n'
+
+
+def js_constant(constant):
+    return f'{js_comment(constant)}export const {constant.name} = {js_value(constant)};\n'
+
+
+def js_object(record, bits, constants):
+    fields = ''.join(f'{js_comment(constant, "    ")}    {constant.name}: {js_value(constant)},\n' for constant in constants)
+    return f'\n/** What the {bits}-bit class has of its own. */\nexport const {record}{bits} = Object.freeze({{\n{fields}}});\n'
+
+
+def js_file():
+    text = f"""// The constants of goblin's ELF layer; goblin.js exports them all. The flags and the indices of sections are BigInts, as the fields
+// that hold them are: `sh_flags` and `st_shndx`.
+// {MADE}
+"""
+    for record, crate, title, _ in RECORDS:
+        text += f'\n// ---- {title} ----\n' + listed(constants_of(record, crate), js_constant, '// {}')
+        for bits in CLASSES:
+            constants = constants_of_class(record, crate, bits)
+            text += js_object(record, bits, constants) if constants else ''
+    return text
+
+
+# ---- C ----
+
+START = '/* ---- constants ----\n'
+END = '\n#endif\n'
+
+
+def bytes_of(constant):
+    return constant.value[2:-1].encode().decode('unicode_escape').encode('latin-1')
+
+
+def c_value(constant):
+    if constant.is_text():
+        # (a sign in octal ends after three digits, whatever stands behind it)
+        signs = (chr(byte) if 0x20 <= byte < 0x7f else f'\\{byte:03o}' for byte in bytes_of(constant))
+        return '"' + ''.join(signs) + '"'
+    if constant.is_list():
+        names = textwrap.wrap(', '.join(f'GOBLIN_{name}' for name in constant.items()), WIDTH - 6, break_on_hyphens=False)
+        return '{ \\\n' + ''.join(f'    {line} \\\n' for line in names) + '}'
+    value = re.sub(r'(?<=[\da-f])_(?=[\da-f])', '', constant.value)
+    value = re.sub(r'\b([A-Z]\w*)', r'GOBLIN_\1', value)
+    if constant.has_wide_field():
+        value = re.sub(r'^(\d\w*)', r'UINT64_C(\1)', value)
+    elif constant.kind == 'u32':
+        value = re.sub(r'^(\d\w*)', r'\1u', value)
+    return f'({value})' if ' ' in value else value
+
+
+def c_constant(suffix, known):
+    def write(constant):
+        definition = f'#define GOBLIN_{constant.name}{suffix} {c_value(constant)}'
+        comment = re.sub(r'\[?`(\w+)`\]?', lambda match: f'GOBLIN_{match[1]}' if match[1] in known else match[1],
+                         ' '.join(constant.comment))
+        if constant.is_list() or len(definition) + len(comment) + 7 > WIDTH:
+            lines = textwrap.fill(f'/* {comment} */', WIDTH, subsequent_indent='   ', break_on_hyphens=False)
+            return f'{lines}\n{definition}\n'
+        return f'{definition} /* {comment} */\n'
+    return write
+
+
+def c_part():
+    records = [(title, constants_of(record, crate), {bits: constants_of_class(record, crate, bits) for bits in CLASSES})
+               for record, crate, title, _ in RECORDS]
+    known = {constant.name for _, constants, _ in records for constant in constants}
+    text = START + f"""
+   The library's constants. Each has the standard's name after GOBLIN_, so this file and <elf.h> can be included together.
+   Flags of sections (sh_flags) and indices of sections (st_shndx) have 64 bits, as their fields have, so
+   `section.sh_flags & ~GOBLIN_SHF_WRITE` clears one bit alone.
+
+   {MADE} */
+"""
+    for title, constants, of_class in records:
+        text += f'\n/* -- {title} -- */\n' + listed(constants, c_constant('', known), '/* {} */')
+        for bits, more in of_class.items():
+            # (as the class byte of a class, which is a constant already)
+            more = [constant for constant in more if f'{constant.name}{bits}' not in known]
+            if more:
+                text += f'\n/* What the {bits}-bit class has of its own. */\n'
+                text += ''.join(c_constant(bits, known)(constant) for constant in more)
+    return text
+
+
+def c_file():
+    text = read('faces/c/goblin.h')
+    if text.count(START) != 1 or not text.endswith(END):
+        sys.exit(f'constants.py: goblin.h must have one line {START.strip()!r}, and end with a line {END.strip()!r}')
+    return text[:text.index(START)] + c_part() + END
+
+
+def main(arguments):
+    if arguments not in ([], ['--check']):
+        sys.exit('usage: python3 faces/constants.py [--check]')
+    files = [('faces/c/goblin.h', c_file()), *rust_files(), ('faces/web/constants.js', js_file())]
+    differing = [(name, text) for name, text in files if read(name) != text]
+    if arguments:
+        for name, _ in differing:
+            print(f'{name} does not have the constants of the library: run python3 faces/constants.py')
+        return 1 if differing else 0
+    for name, text in differing:
+        with open(path_of(name), 'w', encoding='utf-8') as file:
+            file.write(text)
+        print(f'{name} is written anew')
+    return 0
+
+
+if __name__ == '__main__':
+    sys.exit(main(sys.argv[1:]))
