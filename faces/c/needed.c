@@ -4,9 +4,11 @@
    The library has no calls for the dynamic section. It is read here by its own layout, as pairs of numbers, of which some
    are offsets of strings. The calls for numbers and strings are proved; what this program makes of them is only tested. */
 #include "goblin.h"
-#include <elf.h>
 #include <stdio.h>
 #include <stdlib.h>
+
+/* Tags of the dynamic section, which goblin.h doesn't have. */
+enum { DT_NULL = 0, DT_NEEDED = 1, DT_SONAME = 14, DT_RPATH = 15, DT_RUNPATH = 29 };
 
 static goblin_refusal_t why;
 
@@ -22,15 +24,15 @@ static uint32_t list_interpreter(const uint8_t *bytes, size_t len, const goblin_
     goblin_segment_t segment;
     uint32_t answer;
     for (uint64_t i = 0; (answer = goblin_segment(bytes, len, header, i, &segment, &why)) == GOBLIN_OK; i++)
-        if (segment.p_type == PT_INTERP) return print(bytes, len, "interpreter", &segment.file, 0);
+        if (segment.p_type == GOBLIN_PT_INTERP) return print(bytes, len, "interpreter", &segment.file, 0);
     return answer;
 }
 
 static uint32_t list_dynamic(const uint8_t *bytes, size_t len, const goblin_header_t *header) {
     const char *const names[] = {[DT_NEEDED] = "needed", [DT_SONAME] = "soname", [DT_RPATH] = "rpath", [DT_RUNPATH] = "runpath"};
-    uint64_t width = header->ei_class == ELFCLASS64 ? 8 : 4, index, tag, value;
-    goblin_section_t dynamic, strings = {.sh_type = SHT_NULL};
-    uint32_t answer = goblin_section_by_type(bytes, len, header, SHT_DYNAMIC, 0, &index, &why);
+    uint64_t width = header->ei_class == GOBLIN_ELFCLASS64 ? 8 : 4, index, tag, value;
+    goblin_section_t dynamic, strings = {.sh_type = GOBLIN_SHT_NULL};
+    uint32_t answer = goblin_section_by_type(bytes, len, header, GOBLIN_SHT_DYNAMIC, 0, &index, &why);
     if (answer == GOBLIN_OK) answer = goblin_section(bytes, len, header, index, &dynamic, &why);
     if (answer != GOBLIN_OK) return answer;
     if (goblin_table(bytes, len, header, dynamic.sh_link, &strings, &why) > GOBLIN_END) return why.kind;

@@ -3,7 +3,6 @@
    room in its symbol, in a file of 65,280 sections and more, it reads from the section of type SHT_SYMTAB_SHNDX. */
 #include "goblin.h"
 #include <ctype.h>
-#include <elf.h>
 #include <inttypes.h>
 #include <stdio.h>
 #include <stdlib.h>
@@ -35,31 +34,31 @@ static bool starts(goblin_range_t name, const char *with) {
 
 static int section_letter(const goblin_section_t *section) {
     static const char *const debugging[] = {".debug", ".zdebug", ".gnu.debuglto_.debug_", ".line", ".stab", ".gdb_index"};
-    if (section->sh_flags & SHF_EXECINSTR) return 't';
-    if (section->sh_type == SHT_NOBITS) return 'b';
-    if (section->sh_flags & SHF_ALLOC) return section->sh_flags & SHF_WRITE ? 'd' : 'r';
+    if (section->sh_flags & GOBLIN_SHF_EXECINSTR) return 't';
+    if (section->sh_type == GOBLIN_SHT_NOBITS) return 'b';
+    if (section->sh_flags & GOBLIN_SHF_ALLOC) return section->sh_flags & GOBLIN_SHF_WRITE ? 'd' : 'r';
     goblin_range_t name = string(&names_of_sections, section->sh_name);
     for (size_t i = 0; i < sizeof debugging / sizeof *debugging; i++)
         if (starts(name, debugging[i])) return 'N';
-    return section->sh_flags & SHF_WRITE ? '?' : 'n';
+    return section->sh_flags & GOBLIN_SHF_WRITE ? '?' : 'n';
 }
 
 /* The letter of a symbol and its section, which is null for a symbol of none. */
 static int letter(const goblin_symbol_t *symbol, const goblin_section_t *section) {
-    unsigned bind = ELF64_ST_BIND(symbol->st_info), type = ELF64_ST_TYPE(symbol->st_info);
-    if (symbol->st_shndx == SHN_COMMON) return 'C';
-    if (symbol->st_shndx == SHN_UNDEF && bind != STB_WEAK) return 'U';
-    if (symbol->st_shndx == SHN_UNDEF) return type == STT_OBJECT ? 'v' : 'w';
-    if (type == STT_GNU_IFUNC) return 'i';
-    if (bind == STB_WEAK) return type == STT_OBJECT ? 'V' : 'W';
-    if (bind == STB_GNU_UNIQUE) return 'u';
+    unsigned bind = symbol->st_info >> 4, type = symbol->st_info & 15;
+    if (symbol->st_shndx == GOBLIN_SHN_COMMON) return 'C';
+    if (symbol->st_shndx == GOBLIN_SHN_UNDEF && bind != GOBLIN_STB_WEAK) return 'U';
+    if (symbol->st_shndx == GOBLIN_SHN_UNDEF) return type == GOBLIN_STT_OBJECT ? 'v' : 'w';
+    if (type == GOBLIN_STT_GNU_IFUNC) return 'i';
+    if (bind == GOBLIN_STB_WEAK) return type == GOBLIN_STT_OBJECT ? 'V' : 'W';
+    if (bind == GOBLIN_STB_GNU_UNIQUE) return 'u';
     int of_section = section ? section_letter(section) : 'a';
-    return bind == STB_LOCAL ? of_section : toupper(of_section);
+    return bind == GOBLIN_STB_LOCAL ? of_section : toupper(of_section);
 }
 
 /* The section of type SHT_SYMTAB_SHNDX that belongs to the symbol table at an index, if there is one. */
 static bool find_indices(uint64_t table, goblin_section_t *indices) {
-    for (uint64_t i = 0; goblin_section_by_type(bytes, len, &header, SHT_SYMTAB_SHNDX, i, &i, &why) == GOBLIN_OK; i++)
+    for (uint64_t i = 0; goblin_section_by_type(bytes, len, &header, GOBLIN_SHT_SYMTAB_SHNDX, i, &i, &why) == GOBLIN_OK; i++)
         if (goblin_section(bytes, len, &header, i, indices, &why) == GOBLIN_OK && indices->sh_link == table) return true;
     return false;
 }
@@ -67,21 +66,21 @@ static bool find_indices(uint64_t table, goblin_section_t *indices) {
 static int list(uint64_t at, const goblin_section_t *table) {
     goblin_section_t indices;
     bool has_indices = find_indices(at, &indices);
-    goblin_section_t names = {.sh_type = SHT_NULL};
+    goblin_section_t names = {.sh_type = GOBLIN_SHT_NULL};
     if (goblin_table(bytes, len, &header, table->sh_link, &names, &why) > GOBLIN_END) return refused("string table");
     goblin_symbol_t symbol;
     uint32_t answer;
     for (uint64_t i = 1; (answer = goblin_symbol(bytes, len, &header, &table->file, i, &symbol, &why)) == GOBLIN_OK; i++) {
         goblin_section_t section;
         uint64_t index = symbol.st_shndx;
-        bool is_index = index < SHN_LORESERVE || (index == SHN_XINDEX && has_indices
+        bool is_index = index < GOBLIN_SHN_LORESERVE || (index == GOBLIN_SHN_XINDEX && has_indices
             && goblin_number(bytes, len, &header, indices.file.offset + 4 * i, 4, &index, &why) == GOBLIN_OK);
         bool has_section = is_index && goblin_section(bytes, len, &header, index, &section, &why) == GOBLIN_OK;
         goblin_range_t name = string(&names, symbol.st_name);
-        if (name.size == 0 && has_section && ELF64_ST_TYPE(symbol.st_info) == STT_SECTION)
+        if (name.size == 0 && has_section && (symbol.st_info & 15) == GOBLIN_STT_SECTION)
             name = string(&names_of_sections, section.sh_name);
-        uint64_t value = symbol.st_shndx == SHN_COMMON ? symbol.st_size : symbol.st_value;
-        printf("%0*" PRIx64 " %c %" PRIu64 " ", header.ei_class == ELFCLASS64 ? 16 : 8, value,
+        uint64_t value = symbol.st_shndx == GOBLIN_SHN_COMMON ? symbol.st_size : symbol.st_value;
+        printf("%0*" PRIx64 " %c %" PRIu64 " ", header.ei_class == GOBLIN_ELFCLASS64 ? 16 : 8, value,
                letter(&symbol, has_section ? &section : NULL), index);
         fwrite(bytes + name.offset, 1, name.size, stdout);
         putchar('\n');
@@ -106,6 +105,6 @@ int main(int argc, char **argv) {
     goblin_section_t section;
     int failed = 0;
     for (uint64_t i = 0; goblin_section(bytes, len, &header, i, &section, &why) == GOBLIN_OK; i++)
-        if (section.sh_type == (is_dynamic ? SHT_DYNSYM : SHT_SYMTAB)) failed |= list(i, &section);
+        if (section.sh_type == (is_dynamic ? GOBLIN_SHT_DYNSYM : GOBLIN_SHT_SYMTAB)) failed |= list(i, &section);
     return failed;
 }

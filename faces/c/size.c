@@ -1,7 +1,6 @@
 /* Adds up the sizes of the sections of ELF files that take memory, as `size` does: those that are executed or not written
    as text, other bytes of the file as data, and the rest as bss. */
 #include "goblin.h"
-#include <elf.h>
 #include <inttypes.h>
 #include <stdio.h>
 #include <stdlib.h>
@@ -41,9 +40,9 @@ static int add_up(const char *path, const uint8_t *bytes, size_t len) {
          (answer = goblin_sections(bytes, len, &header, first, sections, BATCH, &filled, &why)) == GOBLIN_OK; first += filled)
         for (uint64_t i = 0; i < filled; i++) {
             const goblin_section_t *section = &sections[i];
-            if (section->sh_type == SHT_NULL || !(section->sh_flags & SHF_ALLOC)) continue;
-            bool is_text = (section->sh_flags & SHF_EXECINSTR) || !(section->sh_flags & SHF_WRITE);
-            *(is_text ? &text : section->sh_type == SHT_NOBITS ? &bss : &data) += section->file.size;
+            if (section->sh_type == GOBLIN_SHT_NULL || !(section->sh_flags & GOBLIN_SHF_ALLOC)) continue;
+            bool is_text = (section->sh_flags & GOBLIN_SHF_EXECINSTR) || !(section->sh_flags & GOBLIN_SHF_WRITE);
+            *(is_text ? &text : section->sh_type == GOBLIN_SHT_NOBITS ? &bss : &data) += section->file.size;
         }
     if (answer != GOBLIN_END) return refused(path, &why);
     printf("%7" PRIu64 "\t%7" PRIu64 "\t%7" PRIu64 "\t%7" PRIu64 "\t%7" PRIx64 "\t%s\n", text, data, bss,

@@ -1,7 +1,6 @@
 /* Tells of each address the function of an ELF file that it lies in, as `addr2line -fs` does where there are no lines:
    symbolize FILE ADDRESS.., a line with the symbol's name, or ?? where none is there, and a line ??:0. */
 #include "goblin.h"
-#include <elf.h>
 #include <stdio.h>
 #include <stdlib.h>
 
@@ -29,8 +28,8 @@ static uint8_t *load(const char *path) {
 /* Finds the symbol table, or where there is none the dynamic one, and its strings. */
 static uint32_t find_table(goblin_section_t *table, goblin_section_t *names) {
     uint64_t index;
-    uint32_t answer = goblin_section_by_type(bytes, len, &header, SHT_SYMTAB, 0, &index, &why);
-    if (answer == GOBLIN_END) answer = goblin_section_by_type(bytes, len, &header, SHT_DYNSYM, 0, &index, &why);
+    uint32_t answer = goblin_section_by_type(bytes, len, &header, GOBLIN_SHT_SYMTAB, 0, &index, &why);
+    if (answer == GOBLIN_END) answer = goblin_section_by_type(bytes, len, &header, GOBLIN_SHT_DYNSYM, 0, &index, &why);
     if (answer == GOBLIN_OK) answer = goblin_section(bytes, len, &header, index, table, &why);
     return answer == GOBLIN_OK ? goblin_table(bytes, len, &header, table->sh_link, names, &why) : answer;
 }

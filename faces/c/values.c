@@ -1,6 +1,5 @@
 /* Lists the symbols of an ELF file, each with its value and its name: values FILE. */
 #include "goblin.h"
-#include <elf.h>
 #include <inttypes.h>
 #include <stdio.h>
 
@@ -20,8 +19,8 @@ static int list(const uint8_t *bytes, size_t len) {
     uint32_t answer;
     if (goblin_header(bytes, len, &header, &why) != GOBLIN_OK) return refused();
     for (uint64_t i = 0; (answer = goblin_section(bytes, len, &header, i, &table, &why)) == GOBLIN_OK; i++) {
-        if (table.sh_type != SHT_SYMTAB && table.sh_type != SHT_DYNSYM) continue;
-        goblin_section_t strings = {.sh_type = SHT_NULL};
+        if (table.sh_type != GOBLIN_SHT_SYMTAB && table.sh_type != GOBLIN_SHT_DYNSYM) continue;
+        goblin_section_t strings = {.sh_type = GOBLIN_SHT_NULL};
         if (goblin_table(bytes, len, &header, table.sh_link, &strings, &why) > GOBLIN_END) return refused();
         for (uint64_t k = 0; (answer = goblin_symbol(bytes, len, &header, &table.file, k, &symbol, &why)) == GOBLIN_OK; k++) {
             goblin_range_t name = {0, 0};
