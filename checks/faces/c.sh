@@ -49,6 +49,22 @@ check_header() {
     "$folder/layout"
 }
 
+# Compares the constants of goblin.h with those of <elf.h>, where this machine has it. Where both have a name, both have one number,
+# but for counts of types and machines, which differ from version to version.
+check_constants() {
+    if ! echo '#include <elf.h>' | cc -E - > "$folder/output" 2>&1; then
+        echo "no elf.h here: the constants of goblin.h are not compared"
+        return
+    fi
+    awk 'BEGIN { print "#include \"goblin.h\"\n#include <elf.h>" }
+        /---- constants ----/ { is_constant = 1 }
+        is_constant && /^#define GOBLIN_/ && !/"|_NUM |_FLAGS / { name = substr($2, 8)
+            print "#if defined " name " && GOBLIN_" name " != " name "\n#error " name " is another number in elf.h\n#endif" }
+        END { print "extern int compared;" }' faces/c/goblin.h > "$folder/constants.c"
+    quietly strictly cc -std=c99 -Ifaces/c -c -o "$folder/constants.o" "$folder/constants.c"
+    echo "where goblin.h and elf.h have the same name, they have the same number"
+}
+
 check_bench() {
     if echo '#include <gelf.h>' | cc -E - > "$folder/output" 2>&1; then
         quietly strictly cc -std=c99 -Ifaces/c -o "$folder/bench" faces/c/bench.c -L"$folder" -lgoblin_c -lelf
@@ -94,6 +110,7 @@ check_damaged() {
 }
 
 check_header
+check_constants
 for program in nm size symbolize values made search cost needed; do build $program -std=c99; done
 quietly "$folder/search"
 echo "search.c: $(wc -l < "$folder/output") searches among long names stay within their limit"
