@@ -32,6 +32,9 @@ fail() {
 
 # Compiles goblin.h by each standard, and holds its structs to the library's layout.
 check_header() {
+    version=$(awk -F '"' '/^version = / { print $2; exit }' faces/rust/Cargo.toml)
+    grep -qxF "#define GOBLIN_VERSION_STRING \"$version\"" faces/c/goblin.h \
+        || fail "goblin.h and faces/rust/Cargo.toml have different versions: GOBLIN_VERSION_STRING is to be \"$version\""
     awk -f checks/fields.awk faces/c/goblin.h > "$folder/fields.h"
     for standard in c99 c11; do
         build layout -std=$standard

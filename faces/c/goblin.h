@@ -30,8 +30,11 @@
 extern "C" {
 #endif
 
-/* The version of this file. goblin_version() answers that of the library, which must be the same. */
+/* The number of the interface. It goes up if a call or a struct changes. goblin_version() returns the library's, which must be the
+   same. */
 #define GOBLIN_VERSION 3
+/* The version of the package that this file is part of. */
+#define GOBLIN_VERSION_STRING "0.4.0"
 
 /* What calls answer. Behind a refusal stands what `first`, `second`, .. of goblin_refusal_t are for it. */
 enum {
