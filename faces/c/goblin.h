@@ -261,7 +261,7 @@ uint32_t goblin_section_names(const uint8_t *bytes, size_t len, const goblin_hea
    has it.
    Refused as goblin_section_count is, and then as goblin_string is for the range `names`, but never by GOBLIN_BAD_INPUT. */
 uint32_t goblin_section_by_name(const uint8_t *bytes, size_t len, const goblin_header_t *header,
-                                const goblin_range_t *names, const uint8_t *name, size_t name_len, uint64_t *index,
+                                const goblin_range_t *names, const void *name, size_t name_len, uint64_t *index,
                                 goblin_refusal_t *why);
 
 /* The index of the first section of a type, an SHT_ number, among those from the index `first` on. GOBLIN_END where there is
@@ -380,29 +380,29 @@ uint32_t goblin_number(const uint8_t *bytes, size_t len, const goblin_header_t *
    text has. It is text without a zero byte at its end; what lies behind it is as it was. They are never refused. */
 
 /* The name of a class (ei_class): NONE, ELF32, ELF64, or UNKNOWN_CLASS. */
-uint64_t goblin_class_to_str(uint8_t ei_class, uint8_t *text, size_t room);
+uint64_t goblin_class_to_str(uint8_t ei_class, void *text, size_t room);
 /* The name of a file's type (e_type), as DYN, or UNKNOWN_ET. */
-uint64_t goblin_et_to_str(uint16_t e_type, uint8_t *text, size_t room);
+uint64_t goblin_et_to_str(uint16_t e_type, void *text, size_t room);
 /* The name of a machine (e_machine), as X86_64, or EM_UNKNOWN. */
-uint64_t goblin_machine_to_str(uint16_t e_machine, uint8_t *text, size_t room);
+uint64_t goblin_machine_to_str(uint16_t e_machine, void *text, size_t room);
 /* The name of a segment's type (p_type), as PT_LOAD, or UNKNOWN_PT. */
-uint64_t goblin_pt_to_str(uint32_t p_type, uint8_t *text, size_t room);
+uint64_t goblin_pt_to_str(uint32_t p_type, void *text, size_t room);
 /* The name of a section's type (sh_type), as SHT_PROGBITS, or UNKNOWN_SHT. */
-uint64_t goblin_sht_to_str(uint32_t sh_type, uint8_t *text, size_t room);
+uint64_t goblin_sht_to_str(uint32_t sh_type, void *text, size_t room);
 /* The name of one flag of a section (a single one of sh_flags), as SHF_WRITE, or SHF_UNKNOWN. */
-uint64_t goblin_shf_to_str(uint32_t flag, uint8_t *text, size_t room);
+uint64_t goblin_shf_to_str(uint32_t flag, void *text, size_t room);
 /* The name of a symbol's binding (st_info >> 4), as GLOBAL, or UNKNOWN_STB. */
-uint64_t goblin_bind_to_str(uint8_t binding, uint8_t *text, size_t room);
+uint64_t goblin_bind_to_str(uint8_t binding, void *text, size_t room);
 /* The name of a symbol's type (st_info & 15), as FUNC, or UNKNOWN_STT. */
-uint64_t goblin_type_to_str(uint8_t type, uint8_t *text, size_t room);
+uint64_t goblin_type_to_str(uint8_t type, void *text, size_t room);
 /* The name of a symbol's visibility (st_other & 7), as HIDDEN, or UNKNOWN_STV. */
-uint64_t goblin_visibility_to_str(uint8_t visibility, uint8_t *text, size_t room);
+uint64_t goblin_visibility_to_str(uint8_t visibility, void *text, size_t room);
 /* The name of a note's type (n_type), as NT_GNU_BUILD_ID, which the note's name gives its meaning, or NT_UNKNOWN. */
-uint64_t goblin_note_type_to_str(const uint8_t *name, size_t name_len, uint32_t n_type, uint8_t *text, size_t room);
+uint64_t goblin_note_type_to_str(const void *name, size_t name_len, uint32_t n_type, void *text, size_t room);
 /* The text of a refusal that a call told, in the library's words, as "type is too big (64) for 52". It goes by what `why`
    holds, which a caller may fill itself: where `fourth` stands for a yes or no, any number but 0 is a yes; an `item` that is
    none of GOBLIN_INVALID_UTF8 and the like has the empty name; and a `kind` that is no refusal has the empty text. */
-uint64_t goblin_refusal_text(const goblin_refusal_t *why, uint8_t *text, size_t room);
+uint64_t goblin_refusal_text(const goblin_refusal_t *why, void *text, size_t room);
 
 #ifdef __cplusplus
 }

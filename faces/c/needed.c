@@ -51,9 +51,9 @@ static int list(const uint8_t *bytes, size_t len) {
     if (answer == GOBLIN_OK) answer = list_interpreter(bytes, len, &header);
     if (answer <= GOBLIN_END) answer = list_dynamic(bytes, len, &header);
     if (answer <= GOBLIN_END) return 0;
-    uint8_t text[160];
-    uint64_t size = goblin_refusal_text(&why, text, sizeof text);
-    fprintf(stderr, "needed: %.*s\n", (int)(size < sizeof text ? size : sizeof text), (const char *)text);
+    char text[160] = {0};
+    goblin_refusal_text(&why, text, sizeof text - 1);
+    fprintf(stderr, "needed: %s\n", text);
     return 1;
 }
 

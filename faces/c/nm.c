@@ -15,9 +15,9 @@ static goblin_section_t names_of_sections;
 static goblin_refusal_t why;
 
 static int refused(const char *what) {
-    uint8_t text[160];
-    uint64_t size = goblin_refusal_text(&why, text, sizeof text);
-    fprintf(stderr, "nm: %s: %.*s\n", what, (int)(size < sizeof text ? size : sizeof text), (const char *)text);
+    char text[160] = {0};
+    goblin_refusal_text(&why, text, sizeof text - 1);
+    fprintf(stderr, "nm: %s: %s\n", what, text);
     return 1;
 }
 

@@ -22,9 +22,9 @@ static uint8_t *load(const char *path, size_t *len) {
 }
 
 static int refused(const char *path, const goblin_refusal_t *why) {
-    uint8_t text[160];
-    uint64_t size = goblin_refusal_text(why, text, sizeof text);
-    fprintf(stderr, "size: %s: %.*s\n", path, (int)(size < sizeof text ? size : sizeof text), (const char *)text);
+    char text[160] = {0};
+    goblin_refusal_text(why, text, sizeof text - 1);
+    fprintf(stderr, "size: %s: %s\n", path, text);
     return 1;
 }
 

@@ -6,9 +6,9 @@
 static goblin_refusal_t why;
 
 static int refused(void) {
-    uint8_t text[160];
-    uint64_t size = goblin_refusal_text(&why, text, sizeof text);
-    fprintf(stderr, "values: %.*s\n", (int)(size < sizeof text ? size : sizeof text), (const char *)text);
+    char text[160] = {0};
+    goblin_refusal_text(&why, text, sizeof text - 1);
+    fprintf(stderr, "values: %s\n", text);
     return 1;
 }
 
