@@ -324,6 +324,12 @@ uint32_t goblin_symbol_by_address(const uint8_t *bytes, size_t len, const goblin
 
 /* ---- relocations ---- */
 
+#ifdef __clang__
+/* (in C89 clang warns of bool, which is an extension there) */
+#pragma clang diagnostic push
+#pragma clang diagnostic ignored "-Wc99-extensions"
+#endif
+
 /* The relocation at an index of those in a range, with addends (as of a section of type 4, SHT_RELA) or without (type 9,
    SHT_REL): as many as lie in it whole, and GOBLIN_END from there on. In a MIPS64 file of little order r_sym and r_type are
    read through the pair that such files keep.
@@ -339,6 +345,10 @@ uint32_t goblin_reloc_count(const uint8_t *bytes, size_t len, const goblin_heade
 uint32_t goblin_relocs(const uint8_t *bytes, size_t len, const goblin_header_t *header, const goblin_range_t *relocs,
                        bool is_rela, uint64_t first, goblin_reloc_t *items, size_t room, uint64_t *filled,
                        goblin_refusal_t *why);
+
+#ifdef __clang__
+#pragma clang diagnostic pop
+#endif
 
 /* ---- notes ---- */
 
