@@ -1,6 +1,6 @@
 #!/bin/sh
 # Whether C can call the library as goblin.h says: sh checks/faces/c.sh FOLDER
-# goblin.h against the library; the programs of faces/c over files that they make themselves, whole and damaged.
+# goblin.h against the library and <elf.h>, and its examples; the programs of faces/c over files that they make themselves, whole and damaged.
 . checks/faces/shared.sh
 
 # The value, letter, section index and name of each symbol of a made file.
@@ -50,6 +50,23 @@ check_header() {
         echo "no c++ here: goblin.h is compiled as C alone"
     fi
     "$folder/layout"
+}
+
+# Compiles the example of each call in goblin.h, with the variables that its first comment declares, by each standard and compiler.
+check_examples() {
+    awk 'BEGIN { print "#include \"goblin.h\"" }
+        /All are compiled with these variables:$/ { is_variables = 1; next }
+        is_variables { gsub(/^ +/, "static "); is_variables = !sub(/ *\*\/$/, ""); gsub(/; /, ";\nstatic "); print
+            if (!is_variables) print "extern int run_examples(void);\nint run_examples(void) {" }
+        /^(uint(32|64)_t|void) goblin_/ { calls++ }
+        sub(/^ *Example: /, "") { examples++; sub(/ \*\/$/, ""); print "    { " $0 " }" }
+        END { print "    return range.size + string.size + value + note.n_type + count > 0;\n}"; exit calls == 0 || calls != examples }' \
+        faces/c/goblin.h > "$folder/examples.c" || fail "goblin.h: not each call has one example"
+    for compiler in cc clang; do
+        has $compiler || continue
+        for standard in c89 c99 c11; do quietly strictly $compiler -std=$standard -Ifaces/c -c -o "$folder/examples.o" "$folder/examples.c"; done
+    done
+    echo "the $(grep -c '^    { ' "$folder/examples.c") examples of goblin.h can be compiled"
 }
 
 # Compares the constants of goblin.h with those of <elf.h>, where this machine has it. Where both have a name, both have one number,
@@ -113,6 +130,7 @@ check_damaged() {
 }
 
 check_header
+check_examples
 check_constants
 for program in nm size symbolize values made search cost needed; do build $program -std=c99; done
 quietly "$folder/search"

@@ -1,24 +1,45 @@
-/* goblin for C and C++: the ELF records of a file that lies in memory, each call proved.
+/* goblin for C and C++: reads the ELF records of a file that lies in memory. Each call is proved.
 
-   The calls take no memory, keep nothing from call to call and answer on every input. Link with libgoblin_c.a,
-   which needs nothing but the C library's memcpy and its like.
+   The calls allocate nothing, keep nothing from call to call, and return on every input. Link with libgoblin_c.a, which needs
+   only memcpy of the C library.
 
-   One convention for all calls that can be refused. They answer a uint32_t:
-     GOBLIN_OK (0)   what was asked for is there, and lies where the call's next to last argument points;
-     GOBLIN_END (1)  the index or the offset is past the last one, or nothing has that name;
-     from 2 on       why the file is refused, one of the GOBLIN_ numbers below: then the last argument, `why`, tells
-                     the same number and the numbers that belong to it.
-   Whatever isn't named there is left as it was: the item unless the answer is GOBLIN_OK, and `why` unless it is a
-   refusal. So one `goblin_refusal_t` serves all calls of a program. A list or a range that is refused is refused whatever
-   is asked of it: refusals stand before GOBLIN_END, save where a call says otherwise, as goblin_note does.
+   Results
+     Each call that can fail returns a uint32_t:
+       GOBLIN_OK (0)   The call has written its result.
+       GOBLIN_END (1)  There is no such item: the index or the offset is past the end, or no item has that name, type or address.
+       2 or more       The file is refused. The number is one of the GOBLIN_ numbers below. The call has written the same number to
+                       `*why`, with the numbers that belong to it.
+     The result is the argument before `why`. A call that fills an array writes that, too. It writes the result only at GOBLIN_OK,
+     `*why` only at a refusal, and nothing else. So a result that is zero before the call is still zero at GOBLIN_END, and one
+     goblin_refusal_t serves all calls of a program.
+     Refusals come before GOBLIN_END, if a call does not say otherwise: a table that is refused is refused past its end, too.
 
-   A pointer may be null where it stands for no bytes, no name or no room, with 0 for its length: so an empty file may be
-   null. No other pointer may. `bytes` are the `len` bytes of the whole file, which nothing writes during the call; what a
-   call writes to overlaps nothing else that it is handed. Offsets and sizes count bytes, offsets from the file's start, and
-   numbers are in the machine's own order, whatever the file's.
+   Pointers
+     `bytes` points to the `len` bytes of the whole file. A pointer may be null if its length is 0, so an empty file may be null.
+     No other pointer may be null. What a call writes must not overlap anything else that it is given.
 
-   A file's header is read first, and handed back to the other calls: they go by its class, order, machine and places.
-   It is no secret: a caller may fill one itself. */
+   Files that change
+     Nothing may write the bytes during a call. They may change between two calls, since each call checks all that it reads. But
+     what an earlier call returned may then be out of date. If a mapped file is made shorter, the operating system ends a program
+     that reads past its new end (SIGBUS). Read a file into a buffer if others may shorten it.
+
+   Units
+     Offsets and sizes are in bytes. Offsets start at the file's first byte if nothing else is said. Numbers are in the machine's
+     own byte order, whatever the file's.
+
+   Header
+     Read the header first, and pass it to the other calls. They use its class, byte order, machine, and the offsets and counts of
+     its tables. A caller may also fill a header itself.
+
+   One item or many
+     To read a whole table, use the plural calls, such as goblin_symbols: they check the table once for each array that they fill.
+     With 64 items at once an item takes about a third of the time of a goblin_symbol.
+
+   Examples
+     Each call has an example. All are compiled with these variables:
+       const uint8_t *bytes; size_t len; goblin_header_t header; goblin_refusal_t why; goblin_range_t range, string;
+       goblin_section_t section, table, names, sections[64]; goblin_segment_t segment; goblin_symbol_t symbol, symbols[64];
+       goblin_reloc_t reloc, relocs[64]; goblin_note_t note; uint64_t count, index, filled, value; char text[160]; */
 #ifndef GOBLIN_H
 #define GOBLIN_H
 
@@ -36,61 +57,61 @@ extern "C" {
 /* The version of the package that this file is part of. */
 #define GOBLIN_VERSION_STRING "0.4.0"
 
-/* What calls answer. Behind a refusal stands what `first`, `second`, .. of goblin_refusal_t are for it. */
+/* What calls return. The comment of each refusal lists the numbers that goblin_refusal_t has for it, from `first` on. */
 enum {
     GOBLIN_OK = 0,
     GOBLIN_END = 1,
 
-    /* The file doesn't begin with the magic number: its first eight bytes, read in little order. */
+    /* The file does not start with the magic number: the first eight bytes as a little-endian number. */
     GOBLIN_BAD_MAGIC = 2,
-    /* Something ends past the file's end: its size; how many bytes are left at its offset. */
+    /* An item ends past the end of the file: its size; how many bytes there are from its offset to the end. */
     GOBLIN_TOO_BIG = 3,
-    /* Something starts at the file's end or past it: its offset. */
+    /* An item starts at the end of the file or past it: its offset. */
     GOBLIN_BAD_OFFSET = 4,
-    /* A name is no text: how many bytes there are from there to the end of what is read. `item` is GOBLIN_INVALID_UTF8. */
+    /* A name is not UTF-8: how many bytes there are from its offset to the end of what is read. `item` is GOBLIN_INVALID_UTF8. */
     GOBLIN_BAD_INPUT = 5,
-    /* More items than the file could hold, wherever they are: their number. `item` is GOBLIN_SECTION_HEADERS or
+    /* There are more items than the file could hold, wherever they are: their number. `item` is GOBLIN_SECTION_HEADERS or
        GOBLIN_PROGRAM_HEADERS. */
     GOBLIN_BUFFER_TOO_SHORT = 6,
-    /* No call takes memory, so none answers this. */
+    /* No call returns this, since none allocates. */
     GOBLIN_OUT_OF_MEMORY = 7,
 
-    /* Numbers of the library that no call here answers so far are kept for it: 10, 11, 15, 18, 22, 23 and 24. */
-    /* A class byte that is neither 1 nor 2, of a header that is asked or written: the byte. */
+    /* No call returns 10, 11, 15, 18, 22, 23 or 24 so far. They are here since the library has them. */
+    /* The class byte is neither 1 nor 2, of a header that is queried or written: the byte. */
     GOBLIN_INVALID_CLASS = 10,
-    /* An order byte that is neither 1 nor 2, of a header that is asked: the byte. */
+    /* The byte of the byte order is neither 1 nor 2, of a header that is queried: the byte. */
     GOBLIN_INVALID_ENDIANNESS = 11,
     /* The file has fewer than 16 bytes. */
     GOBLIN_TOO_SMALL = 12,
     /* The class byte is neither 1 nor 2: the byte. */
     GOBLIN_ELF_CLASS = 13,
-    /* The order byte is neither 1 nor 2: the byte. */
+    /* The byte of the byte order is neither 1 nor 2: the byte. */
     GOBLIN_DATA_TYPE = 14,
-    /* The order byte is neither 1 nor 2, of a raw header or one that is written: the byte. */
+    /* The byte of the byte order is neither 1 nor 2, of a raw header or one that is written: the byte. */
     GOBLIN_DATA = 15,
-    /* Notes are aligned to neither 4 nor 8: the alignment. */
+    /* The alignment of notes is neither 4 nor 8: the alignment. */
     GOBLIN_NOTE_ALIGN = 16,
-    /* A symbol table starts at the file's end or past it: its offset; the file's length. */
+    /* A symbol table starts at the end of the file or past it: its offset; the file's length. */
     GOBLIN_SYMTAB_OFFSET = 17,
-    /* The size of a symbol table passes 64 bits: its offset; how many symbols. */
+    /* The size of a symbol table does not fit in 64 bits: its offset; the number of its symbols. */
     GOBLIN_TOO_MANY_SYMBOLS = 18,
-    /* A symbol table ends past the file's end: its size; how many bytes are left at its offset. */
+    /* A symbol table ends past the end of the file: its size; how many bytes there are from its offset to the end. */
     GOBLIN_SYMTAB_PAST = 19,
-    /* A string table starts past the file's end: its offset; the file's length. */
+    /* A string table starts past the end of the file: its offset; the file's length. */
     GOBLIN_STRTAB_OFFSET = 20,
-    /* A string table ends past the file's end: its size; its offset; the file's length; 1 where its end passes 64 bits,
-       and else 0. */
+    /* A string table ends past the end of the file: its size; its offset; the file's length; 1 if its end does not fit in 64 bits,
+       else 0. */
     GOBLIN_STRTAB_RANGE = 21,
-    /* A section ends past the file's end: where its name lies in the section names; its size; its offset; 1 where its end
-       passes 64 bits, and else 0. */
+    /* A section ends past the end of the file: the offset of its name in the section names; its size; its offset; 1 if its end does
+       not fit in 64 bits, else 0. */
     GOBLIN_SECTION_OFFSET = 22,
-    /* The addresses of a section pass 64 bits: where its name lies in the section names; its size; its address; 1. */
+    /* The addresses of a section do not fit in 64 bits: the offset of its name in the section names; its size; its address; 1. */
     GOBLIN_SECTION_ADDR = 23,
-    /* A number doesn't fit. */
+    /* A number does not fit. */
     GOBLIN_INTEGER_FIT = 24
 };
 
-/* What `item` of goblin_refusal_t tells: 0 for refusals that have none. */
+/* Values of `item` of goblin_refusal_t: 0 for refusals that have none. */
 enum {
     GOBLIN_INVALID_UTF8 = 1,
     GOBLIN_SECTION_HEADERS = 2,
@@ -99,97 +120,97 @@ enum {
 
 /* Why a file is refused. */
 typedef struct {
-    uint32_t kind; /* what the call answered */
-    uint32_t item; /* GOBLIN_INVALID_UTF8 or the like, and else 0 */
-    uint64_t first; /* the numbers that belong to the kind, in the order in which it names them, and behind them 0 */
+    uint32_t kind; /* what the call returned */
+    uint32_t item; /* GOBLIN_INVALID_UTF8 or the like, else 0 */
+    uint64_t first; /* the numbers that belong to the kind, in the order of its comment; those that it does not have are 0 */
     uint64_t second;
     uint64_t third;
     uint64_t fourth;
 } goblin_refusal_t;
 
-/* Some bytes of the file. A range that a call answers lies inside the file, unless its struct says otherwise. */
+/* Some bytes of the file. A range that a call returns lies inside the file, if its struct does not say otherwise. */
 typedef struct {
-    uint64_t offset; /* where they start, in bytes from the file's start */
-    uint64_t size;   /* how many bytes they are */
+    uint64_t offset; /* where the bytes start */
+    uint64_t size;   /* how many bytes there are */
 } goblin_range_t;
 
-/* A file's header. */
+/* The file's header. */
 typedef struct {
     uint64_t e_entry;     /* the address at which the program starts, or 0 */
-    uint64_t e_phoff;     /* where the program headers start, in bytes from the file's start, or 0 */
-    uint64_t e_shoff;     /* where the section headers start, in bytes from the file's start, or 0 for none */
+    uint64_t e_phoff;     /* the offset of the program headers, or 0 */
+    uint64_t e_shoff;     /* the offset of the section headers, or 0 if there are none */
     uint32_t e_version;   /* the version of the format */
     uint32_t e_flags;     /* flags of the machine */
-    uint16_t e_type;      /* what the file is, an ET_ number */
-    uint16_t e_machine;   /* the machine, an EM_ number */
-    uint16_t e_ehsize;    /* the header's size in bytes, as it says */
-    uint16_t e_phentsize; /* the size of a program header in bytes, as it says; the class tells what is read */
-    uint16_t e_phnum;     /* how many program headers there are, 0xffff (PN_XNUM) too, which stands for itself here */
-    uint16_t e_shentsize; /* the size of a section header in bytes, as it says; the class tells what is read */
-    uint16_t e_shnum;     /* how many section headers there are; where it is 0, the first one's sh_size tells */
-    uint16_t e_shstrndx;  /* the index of the section that holds the sections' names; see goblin_section_names */
-    uint8_t ei_class;     /* 2 for 64 bits; any other number is taken for 32 bits, which is 1 */
-    uint8_t ei_data;      /* 2 where the highest byte comes first; any other number is taken for the other order, 1 */
+    uint16_t e_type;      /* what kind of file it is, a GOBLIN_ET_ number */
+    uint16_t e_machine;   /* the machine, a GOBLIN_EM_ number */
+    uint16_t e_ehsize;    /* the size of this header that the file states */
+    uint16_t e_phentsize; /* the size of a program header that the file states; the size that is read depends on the class alone */
+    uint16_t e_phnum;     /* the number of program headers; 0xffff (PN_XNUM) is not special here */
+    uint16_t e_shentsize; /* the size of a section header that the file states; the size that is read depends on the class alone */
+    uint16_t e_shnum;     /* the number of section headers; if it is 0, the first section's sh_size has the number */
+    uint16_t e_shstrndx;  /* the index of the section that holds the section names: see goblin_section_names */
+    uint8_t ei_class;     /* GOBLIN_ELFCLASS64 (2) for 64 bits; any other number counts as GOBLIN_ELFCLASS32 (1) */
+    uint8_t ei_data;      /* GOBLIN_ELFDATA2MSB (2) for big endian; any other number counts as GOBLIN_ELFDATA2LSB (1) */
     uint8_t ei_version;   /* the version of the format once more */
-    uint8_t ei_osabi;     /* the operating system */
-    uint8_t ei_abiversion; /* its version */
+    uint8_t ei_osabi;     /* the operating system or ABI, a GOBLIN_ELFOSABI_ number */
+    uint8_t ei_abiversion; /* the version of that ABI */
 } goblin_header_t;
 
 /* A section header. */
 typedef struct {
-    goblin_range_t file;   /* sh_offset and sh_size as they stand, inside the file or not; a section of type 8
-                              (SHT_NOBITS) has no bytes in the file, whatever its size */
-    uint64_t sh_name;      /* where the name lies in the section names, in bytes from their start */
-    uint64_t sh_flags;     /* SHF_ flags */
+    goblin_range_t file;   /* sh_offset and sh_size as they stand, inside the file or not; a section of type GOBLIN_SHT_NOBITS has
+                              no bytes in the file, whatever its size */
+    uint64_t sh_name;      /* the offset of its name in the section names */
+    uint64_t sh_flags;     /* GOBLIN_SHF_ flags */
     uint64_t sh_addr;      /* its address in memory, or 0 */
-    uint64_t sh_addralign; /* what the address is aligned to, in bytes; 0 and 1 for nothing */
-    uint64_t sh_entsize;   /* the size of an entry in bytes, where it is a table of them; the class tells what is read */
-    uint32_t sh_type;      /* what it holds, an SHT_ number */
+    uint64_t sh_addralign; /* the alignment of its address; 0 and 1 for none */
+    uint64_t sh_entsize;   /* the size of an entry if it is a table; the size that is read depends on the class alone */
+    uint32_t sh_type;      /* what it holds, a GOBLIN_SHT_ number */
     uint32_t sh_link;      /* the index of a section that belongs to it */
-    uint32_t sh_info;      /* more, as its type says */
+    uint32_t sh_info;      /* further information that depends on the type */
 } goblin_section_t;
 
 /* A program header. */
 typedef struct {
     goblin_range_t file; /* p_offset and p_filesz as they stand, inside the file or not */
     uint64_t p_vaddr;    /* its address in memory */
-    uint64_t p_paddr;    /* its physical address, where there are such */
-    uint64_t p_memsz;    /* how many bytes it takes in memory */
-    uint64_t p_align;    /* what it is aligned to, in bytes */
-    uint32_t p_type;     /* what it is, a PT_ number */
-    uint32_t p_flags;    /* PF_ flags: 1 executed, 2 written, 4 read */
+    uint64_t p_paddr;    /* its physical address, on systems that have such */
+    uint64_t p_memsz;    /* its size in memory */
+    uint64_t p_align;    /* its alignment */
+    uint32_t p_type;     /* what it is, a GOBLIN_PT_ number */
+    uint32_t p_flags;    /* GOBLIN_PF_ flags: 1 execute, 2 write, 4 read */
 } goblin_segment_t;
 
 /* A symbol. */
 typedef struct {
-    uint64_t st_name;  /* where the name lies in the string table, in bytes from its start; 0 for none */
-    uint64_t st_value; /* the value, an address for most symbols */
-    uint64_t st_size;  /* how many bytes it stands for; 0 for none or an unknown number */
-    uint64_t st_shndx; /* the index of its section, or an SHN_ number: 0 for a symbol that is not defined here */
+    uint64_t st_name;  /* the offset of its name in the string table, or 0 for none */
+    uint64_t st_value; /* its value: mostly an address; in a file of type GOBLIN_ET_REL an offset in its section */
+    uint64_t st_size;  /* its size; 0 for none or an unknown size */
+    uint64_t st_shndx; /* the index of its section, or a GOBLIN_SHN_ number: 0 if it is not defined in this file */
     uint8_t st_info;   /* the binding in the high four bits, the type in the low four */
     uint8_t st_other;  /* the visibility in the low three bits */
 } goblin_symbol_t;
 
 /* A relocation. */
 typedef struct {
-    uint64_t r_offset;   /* the place, as the file's type says: an offset in a section, or an address */
-    uint64_t r_sym;      /* the index of the symbol, 0 for none */
-    int64_t r_addend;    /* what is added; 0 where the place itself holds it */
-    uint32_t r_type;     /* the type, which the machine gives its meaning */
-    uint32_t has_addend; /* 1 where r_addend was read, and else 0 */
+    uint64_t r_offset;   /* where it applies: an offset in a section, or an address, which depends on the file's type */
+    uint64_t r_sym;      /* the index of the symbol, or 0 for none */
+    int64_t r_addend;    /* the addend; 0 if the relocation has none of its own */
+    uint32_t r_type;     /* its type, whose meaning depends on the machine */
+    uint32_t has_addend; /* 1 if r_addend was read, else 0 */
 } goblin_reloc_t;
 
 /* A note. */
 typedef struct {
-    goblin_range_t name; /* its name, without the zero byte that closes it: text */
+    goblin_range_t name; /* its name, which is UTF-8, without the zero byte at its end */
     goblin_range_t desc; /* its descriptor */
-    uint64_t next;       /* the offset at which the next note is to be asked for, which may lie behind the file */
-    uint32_t n_type;     /* its type, which the name gives its meaning */
+    uint64_t next;       /* the offset to read the next note at, which may lie past the end of the file */
+    uint32_t n_type;     /* its type, whose meaning depends on the name */
 } goblin_note_t;
 
-/* One of each, for a test that this file says what the library does: see goblin_layout. */
+/* One of each struct, to test that this file matches the library: see goblin_layout. */
 typedef struct {
-    uint64_t size_of_refusal; /* the library's own sizes, in bytes */
+    uint64_t size_of_refusal; /* the sizes of the structs in the library */
     uint64_t size_of_range;
     uint64_t size_of_header;
     uint64_t size_of_section;
@@ -209,116 +230,139 @@ typedef struct {
 
 /* ---- the library itself ---- */
 
-/* The version of the library, GOBLIN_VERSION where this file belongs to it. */
+/* Returns the library's number of the interface. It is GOBLIN_VERSION if this file belongs to the library.
+   Example: if (goblin_version() != GOBLIN_VERSION) return 1; */
 uint32_t goblin_version(void);
 
-/* Fills a goblin_layout_t: the sizes of the structs, and in each struct as many as it has fields: each byte of its first
-   field is 1, of its second 2, and so on, in the order in which this file declares them, the two fields of a range
-   counted as two. A field that C places or sizes otherwise than the library reads as another number. */
+/* Fills a goblin_layout_t with the sizes of the structs and with marks: in each struct all bytes of the first field are 1, those of
+   the second field 2, and so on, in the order of this file. A range counts as two fields. A field whose offset or size differs in C
+   and in the library reads as another number.
+   Example: goblin_layout_t layout; goblin_layout(&layout); */
 void goblin_layout(goblin_layout_t *layout);
 
 /* ---- the header ---- */
 
-/* The header at the file's start.
-   GOBLIN_TOO_SMALL, GOBLIN_BAD_MAGIC, GOBLIN_ELF_CLASS, GOBLIN_DATA_TYPE or GOBLIN_TOO_BIG, the first of these that
-   applies, in this order. Never GOBLIN_END. */
+/* Reads the header, which is at the start of the file.
+   Returns GOBLIN_TOO_SMALL, GOBLIN_BAD_MAGIC, GOBLIN_ELF_CLASS, GOBLIN_DATA_TYPE or GOBLIN_TOO_BIG, the first of these that
+   applies, in this order. Never returns GOBLIN_END.
+   Example: if (goblin_header(bytes, len, &header, &why) != GOBLIN_OK) return 1; */
 uint32_t goblin_header(const uint8_t *bytes, size_t len, goblin_header_t *header, goblin_refusal_t *why);
 
 /* ---- sections and segments ---- */
 
-/* How many section headers there are: none where e_shoff is 0; else e_shnum, or where that is 0 what the first section's
-   sh_size tells, but one at least.
-   GOBLIN_BAD_OFFSET or GOBLIN_TOO_BIG: the first header has no room. GOBLIN_BUFFER_TOO_SHORT: there are more than the file
-   could hold. GOBLIN_BAD_OFFSET or GOBLIN_TOO_BIG: a later one has no room. Never GOBLIN_END. */
+/* Returns the number of section headers. It is 0 if e_shoff is 0. Else it is e_shnum. If that is 0, too, it is sh_size of the first
+   section, but at least 1.
+   The table is checked in this order. GOBLIN_BAD_OFFSET or GOBLIN_TOO_BIG: the first header is not inside the file.
+   GOBLIN_BUFFER_TOO_SHORT: there are more headers than the file could hold. GOBLIN_BAD_OFFSET or GOBLIN_TOO_BIG: a later header is
+   not inside the file. Never returns GOBLIN_END.
+   Example: if (goblin_section_count(bytes, len, &header, &count, &why) != GOBLIN_OK) return 1; */
 uint32_t goblin_section_count(const uint8_t *bytes, size_t len, const goblin_header_t *header, uint64_t *count,
                               goblin_refusal_t *why);
 
-/* The section header at an index, GOBLIN_END from the count on. Refused as goblin_section_count is. */
+/* Reads the section header at an index. GOBLIN_END if the index is not below the number of sections.
+   Refused as goblin_section_count is.
+   Example: while (goblin_section(bytes, len, &header, index, &section, &why) == GOBLIN_OK) index++; */
 uint32_t goblin_section(const uint8_t *bytes, size_t len, const goblin_header_t *header, uint64_t index,
                         goblin_section_t *section, goblin_refusal_t *why);
 
-/* The section headers from the index `first` on, as many as there are and as `sections` has room for, which is `room` of
-   them. `filled` tells how many; what lies behind them is as it was. GOBLIN_END where `first` is the count or more.
-   Refused as goblin_section_count is. */
+/* Reads the section headers from the index `first` on into an array of `capacity` items, until the table or the array ends.
+   `*filled` is the number of items that are written; those after them are unchanged. GOBLIN_END if `first` is not below the number
+   of sections. Refused as goblin_section_count is.
+   Example: while (goblin_sections(bytes, len, &header, index, sections, 64, &filled, &why) == GOBLIN_OK) index += filled; */
 uint32_t goblin_sections(const uint8_t *bytes, size_t len, const goblin_header_t *header, uint64_t first,
-                         goblin_section_t *sections, size_t room, uint64_t *filled, goblin_refusal_t *why);
+                         goblin_section_t *sections, size_t capacity, uint64_t *filled, goblin_refusal_t *why);
 
-/* The section at an index that something names it by, as the strings at the sh_link of a symbol table. GOBLIN_END at
-   index 0, which stands for no section, from the count on, and where the section has no bytes in the file (type 8,
-   SHT_NOBITS), whatever its size. Refused as goblin_section_count is. */
+/* Reads the section that a section header links to by its sh_link, such as the string table of a symbol table.
+   GOBLIN_END if the index is 0, which means no section, if it is not below the number of sections, or if the section is of type
+   GOBLIN_SHT_NOBITS, which has no bytes in the file. `*section` is unchanged then. Refused as goblin_section_count is.
+   Example: if (goblin_table(bytes, len, &header, table.sh_link, &names, &why) > GOBLIN_END) return 1; */
 uint32_t goblin_table(const uint8_t *bytes, size_t len, const goblin_header_t *header, uint64_t index,
                       goblin_section_t *section, goblin_refusal_t *why);
 
-/* The section that holds the sections' names: what goblin_table tells at e_shstrndx, or where that is 0xffff (SHN_XINDEX)
-   at the sh_link of the section at 0. GOBLIN_END where there is no such section, also as goblin_table has it. Refused as
-   goblin_section_count is. */
+/* Reads the section that holds the section names. Its index is e_shstrndx, or sh_link of section 0 if e_shstrndx is 0xffff
+   (GOBLIN_SHN_XINDEX). GOBLIN_END if goblin_table returns that for this index, or if there is no section 0. Refused as
+   goblin_section_count is.
+   Example: if (goblin_section_names(bytes, len, &header, &names, &why) > GOBLIN_END) return 1; */
 uint32_t goblin_section_names(const uint8_t *bytes, size_t len, const goblin_header_t *header, goblin_section_t *section,
                               goblin_refusal_t *why);
 
-/* The index of the first section with a name, where `names` is the file's range of the sections' names. A section whose name
-   is no text or lies past the names has none. The empty name is one too, which most files' section at 0 has. A name that
-   holds a zero byte, as one that is handed over with the byte that closes it, no section has. GOBLIN_END where no section
-   has it.
-   Refused as goblin_section_count is, and then as goblin_string is for the range `names`, but never by GOBLIN_BAD_INPUT. */
+/* Returns the index of the first section with a name. `names` is the range of the section names in the file. A section has no name
+   if its name is not UTF-8 or lies past the names. The empty name is a name, which section 0 has in most files. No section has a
+   name with a zero byte in it, so leave out the zero byte at the end of `name`. GOBLIN_END if no section has the name.
+   Refused as goblin_section_count is, and then as goblin_string is for the range `names`, but never by GOBLIN_BAD_INPUT.
+   Example: goblin_section_by_name(bytes, len, &header, &names.file, ".text", 5, &index, &why); */
 uint32_t goblin_section_by_name(const uint8_t *bytes, size_t len, const goblin_header_t *header,
                                 const goblin_range_t *names, const void *name, size_t name_len, uint64_t *index,
                                 goblin_refusal_t *why);
 
-/* The index of the first section of a type, an SHT_ number, among those from the index `first` on. GOBLIN_END where there is
-   none. Refused as goblin_section_count is. */
+/* Returns the index of the first section of a type, a GOBLIN_SHT_ number, from the index `first` on. GOBLIN_END if there is none.
+   Refused as goblin_section_count is.
+   Example: goblin_section_by_type(bytes, len, &header, GOBLIN_SHT_SYMTAB, 0, &index, &why); */
 uint32_t goblin_section_by_type(const uint8_t *bytes, size_t len, const goblin_header_t *header, uint32_t sh_type,
                                 uint64_t first, uint64_t *index, goblin_refusal_t *why);
 
-/* Where the bytes of a section lie in the file: its range `file`, once that is known to lie there. GOBLIN_END where it has
-   none: type 0 (SHT_NULL), which stands for no section, type 8 (SHT_NOBITS), and where its size is 0.
-   GOBLIN_BAD_OFFSET or GOBLIN_TOO_BIG where they pass the file's end. */
+/* Returns the range of a section's bytes, which is its `file`, if it is inside the file. GOBLIN_END if the section has no bytes in
+   the file: its type is GOBLIN_SHT_NULL or GOBLIN_SHT_NOBITS, or its size is 0. This is tested before any refusal.
+   GOBLIN_BAD_OFFSET or GOBLIN_TOO_BIG: the bytes are not inside the file.
+   Example: goblin_section_bytes(bytes, len, &section, &range, &why); */
 uint32_t goblin_section_bytes(const uint8_t *bytes, size_t len, const goblin_section_t *section, goblin_range_t *range,
                               goblin_refusal_t *why);
 
-/* How many program headers there are, e_phnum. Refused as goblin_segment is. Never GOBLIN_END. */
+/* Returns the number of program headers, which is e_phnum. Refused as goblin_segment is. Never returns GOBLIN_END.
+   Example: if (goblin_segment_count(bytes, len, &header, &count, &why) != GOBLIN_OK) return 1; */
 uint32_t goblin_segment_count(const uint8_t *bytes, size_t len, const goblin_header_t *header, uint64_t *count,
                               goblin_refusal_t *why);
 
-/* Where the bytes of a segment lie in the file. GOBLIN_END where it has none: type 0 (PT_NULL), which stands for no segment,
-   and where its size in the file is 0. Refused as goblin_section_bytes is. */
+/* Returns the range of a segment's bytes in the file. GOBLIN_END if it has none: its type is GOBLIN_PT_NULL, or its size in the
+   file is 0. This is tested before any refusal. Refused as goblin_section_bytes is.
+   Example: goblin_segment_bytes(bytes, len, &segment, &range, &why); */
 uint32_t goblin_segment_bytes(const uint8_t *bytes, size_t len, const goblin_segment_t *segment, goblin_range_t *range,
                               goblin_refusal_t *why);
 
-/* The program header at an index, GOBLIN_END from e_phnum on.
-   GOBLIN_BUFFER_TOO_SHORT: there are more than the file could hold. GOBLIN_BAD_OFFSET or GOBLIN_TOO_BIG: one of them has no
-   room. */
+/* Reads the program header at an index. GOBLIN_END if the index is not below e_phnum.
+   GOBLIN_BUFFER_TOO_SHORT: there are more headers than the file could hold. GOBLIN_BAD_OFFSET or GOBLIN_TOO_BIG: one of them is not
+   inside the file.
+   Example: while (goblin_segment(bytes, len, &header, index, &segment, &why) == GOBLIN_OK) index++; */
 uint32_t goblin_segment(const uint8_t *bytes, size_t len, const goblin_header_t *header, uint64_t index,
                         goblin_segment_t *segment, goblin_refusal_t *why);
 
 /* ---- symbols ---- */
 
-/* The symbol at an index of the table in a range, which has as many as lie in it whole: GOBLIN_END from there on.
-   GOBLIN_SYMTAB_OFFSET where the range starts at the file's end or past it, also where it has no bytes; else
-   GOBLIN_SYMTAB_PAST where the symbols end past the file's end. */
+/* Reads the symbol at an index of a symbol table. `table` is the range of the table, whose last symbol is the last that lies in the
+   range whole. GOBLIN_END after that one.
+   GOBLIN_SYMTAB_OFFSET: the range starts at the end of the file or past it, even if its size is 0. GOBLIN_SYMTAB_PAST: the symbols
+   end past the end of the file.
+   Example: while (goblin_symbol(bytes, len, &header, &table.file, index, &symbol, &why) == GOBLIN_OK) index++; */
 uint32_t goblin_symbol(const uint8_t *bytes, size_t len, const goblin_header_t *header, const goblin_range_t *table,
                        uint64_t index, goblin_symbol_t *symbol, goblin_refusal_t *why);
 
-/* How many symbols there are in a range, as many as lie in it whole. Refused as goblin_symbol is. Never GOBLIN_END. */
+/* Returns the number of symbols that lie in a range whole. Refused as goblin_symbol is. Never returns GOBLIN_END.
+   Example: goblin_symbol_count(bytes, len, &header, &table.file, &count, &why); */
 uint32_t goblin_symbol_count(const uint8_t *bytes, size_t len, const goblin_header_t *header, const goblin_range_t *table,
                              uint64_t *count, goblin_refusal_t *why);
 
-/* The symbols from the index `first` on, as goblin_sections does it for sections. Refused as goblin_symbol is. */
+/* Reads the symbols from the index `first` on, as goblin_sections reads sections. Refused as goblin_symbol is.
+   Example: while (!goblin_symbols(bytes, len, &header, &table.file, index, symbols, 64, &filled, &why)) index += filled; */
 uint32_t goblin_symbols(const uint8_t *bytes, size_t len, const goblin_header_t *header, const goblin_range_t *table,
-                        uint64_t first, goblin_symbol_t *symbols, size_t room, uint64_t *filled, goblin_refusal_t *why);
+                        uint64_t first, goblin_symbol_t *symbols, size_t capacity, uint64_t *filled, goblin_refusal_t *why);
 
-/* The index of the first symbol with a name, where `names` is the range of its string table. A symbol whose name is no text
-   or lies past the string table has none. The empty name and zero bytes are as for goblin_section_by_name: the symbol at 0
-   mostly has the empty name. GOBLIN_END where no symbol has it.
-   Refused as goblin_symbol is, and then as goblin_string is for the range `names`, but never by GOBLIN_BAD_INPUT. */
+/* Returns the index of the first symbol with a name. `names` is the range of the table's strings. A symbol has no name if its name
+   is not UTF-8 or lies past the strings. The empty name and names with zero bytes are as for goblin_section_by_name; symbol 0 has
+   the empty name in most files. GOBLIN_END if no symbol has the name.
+   Refused as goblin_symbol is, and then as goblin_string is for the range `names`, but never by GOBLIN_BAD_INPUT.
+   Example: goblin_symbol_by_name(bytes, len, &header, &table.file, &names.file, "main", 4, &index, &why); */
 uint32_t goblin_symbol_by_name(const uint8_t *bytes, size_t len, const goblin_header_t *header,
-                               const goblin_range_t *table, const goblin_range_t *names, const uint8_t *name,
+                               const goblin_range_t *table, const goblin_range_t *names, const void *name,
                                size_t name_len, uint64_t *index, goblin_refusal_t *why);
 
-/* The index of the symbol that an address lies in: the one with the highest st_value that isn't above the address; of those
-   with the same value the first whose st_size reaches the address, or else the first. Only symbols of sections count (st_shndx
-   from 1 on and below 0xff00, or 0xffff), of the types 0, 1, 2 and 10 (none, object, function, indirect function). Whether the
-   symbol reaches the address, where its size is known, is left to the caller. GOBLIN_END where none is at the address or
-   below it. It looks at each symbol. Refused as goblin_symbol is. */
+/* Returns the index of the symbol for an address: the symbol with the highest st_value that is not above the address. Of those with
+   the same st_value it is the first whose st_size reaches the address, or the first if none does. Only symbols of a section
+   (st_shndx from 1 to 0xfeff, or 0xffff) and of type GOBLIN_STT_NOTYPE, _OBJECT, _FUNC or _GNU_IFUNC count. GOBLIN_END if none is
+   at the address or below it. Each call reads all symbols. Refused as goblin_symbol is.
+   The symbol may end before the address: compare st_value + st_size with it, if st_size is not 0. If a symbol `inner` lies inside a
+   symbol `outer`, an address after the end of `inner` gives `inner`, too. In a file of type GOBLIN_ET_REL an st_value is an offset
+   in a section, so symbols of different sections mix.
+   Example: goblin_symbol_by_address(bytes, len, &header, &table.file, 0x401000, &index, &why); */
 uint32_t goblin_symbol_by_address(const uint8_t *bytes, size_t len, const goblin_header_t *header,
                                   const goblin_range_t *table, uint64_t address, uint64_t *index, goblin_refusal_t *why);
 
@@ -330,20 +374,23 @@ uint32_t goblin_symbol_by_address(const uint8_t *bytes, size_t len, const goblin
 #pragma clang diagnostic ignored "-Wc99-extensions"
 #endif
 
-/* The relocation at an index of those in a range, with addends (as of a section of type 4, SHT_RELA) or without (type 9,
-   SHT_REL): as many as lie in it whole, and GOBLIN_END from there on. In a MIPS64 file of little order r_sym and r_type are
-   read through the pair that such files keep.
-   GOBLIN_BAD_OFFSET or GOBLIN_TOO_BIG where the range has bytes, and not all of them lie in the file. */
-uint32_t goblin_reloc(const uint8_t *bytes, size_t len, const goblin_header_t *header, const goblin_range_t *relocs,
+/* Reads the relocation at an index of a relocation section. `table` is the range of the section, and `is_rela` says whether its
+   relocations have addends (type GOBLIN_SHT_RELA) or not (GOBLIN_SHT_REL). The last one is the last that lies in the range whole.
+   GOBLIN_END after that one. In a little-endian MIPS64 file, r_sym and r_type are read in the format of those files.
+   GOBLIN_BAD_OFFSET or GOBLIN_TOO_BIG: the range has bytes, and not all of them are inside the file.
+   Example: while (goblin_reloc(bytes, len, &header, &table.file, true, index, &reloc, &why) == GOBLIN_OK) index++; */
+uint32_t goblin_reloc(const uint8_t *bytes, size_t len, const goblin_header_t *header, const goblin_range_t *table,
                       bool is_rela, uint64_t index, goblin_reloc_t *reloc, goblin_refusal_t *why);
 
-/* How many relocations there are in a range. Refused as goblin_reloc is. Never GOBLIN_END. */
-uint32_t goblin_reloc_count(const uint8_t *bytes, size_t len, const goblin_header_t *header, const goblin_range_t *relocs,
+/* Returns the number of relocations that lie in a range whole. Refused as goblin_reloc is. Never returns GOBLIN_END.
+   Example: goblin_reloc_count(bytes, len, &header, &table.file, true, &count, &why); */
+uint32_t goblin_reloc_count(const uint8_t *bytes, size_t len, const goblin_header_t *header, const goblin_range_t *table,
                             bool is_rela, uint64_t *count, goblin_refusal_t *why);
 
-/* The relocations from the index `first` on, as goblin_sections does it for sections. Refused as goblin_reloc is. */
-uint32_t goblin_relocs(const uint8_t *bytes, size_t len, const goblin_header_t *header, const goblin_range_t *relocs,
-                       bool is_rela, uint64_t first, goblin_reloc_t *items, size_t room, uint64_t *filled,
+/* Reads the relocations from the index `first` on, as goblin_sections reads sections. Refused as goblin_reloc is.
+   Example: while (!goblin_relocs(bytes, len, &header, &table.file, true, index, relocs, 64, &filled, &why)) index += filled; */
+uint32_t goblin_relocs(const uint8_t *bytes, size_t len, const goblin_header_t *header, const goblin_range_t *table,
+                       bool is_rela, uint64_t first, goblin_reloc_t *relocs, size_t capacity, uint64_t *filled,
                        goblin_refusal_t *why);
 
 #ifdef __clang__
@@ -352,67 +399,88 @@ uint32_t goblin_relocs(const uint8_t *bytes, size_t len, const goblin_header_t *
 
 /* ---- notes ---- */
 
-/* The note at an offset of the file, among those of a range. The first one stands at the range's start, and each tells by
-   `next` where the next one is to be asked for. GOBLIN_END from the range's end on, before any refusal; a note that begins
-   before it may reach behind it. An offset before the range's start is read as one inside it. `alignment` is the segment's p_align or the section's sh_addralign: below 4 it counts as 4.
-   GOBLIN_BAD_OFFSET where the offset is the file's end or past it; GOBLIN_NOTE_ALIGN where the alignment is neither 4 nor
-   8; GOBLIN_BAD_OFFSET or GOBLIN_TOO_BIG where the header has no room; the same for the name; GOBLIN_BAD_INPUT where the
-   name is no text; GOBLIN_BAD_OFFSET or GOBLIN_TOO_BIG where the descriptor has no room. But for the first, the numbers of
-   these count from the note's start. */
+/* Reads the note at an offset of the file. `notes` is the range of a segment or section of notes, and `alignment` its p_align or
+   sh_addralign; below 4 it counts as 4. The first note is at the range's offset, and each note's `next` is the offset to read the
+   next one at.
+   GOBLIN_END if the offset is the end of the range or past it. This is tested before any refusal. A note that starts before the end
+   of the range may end past it. An offset before the range is read as one inside it.
+   Then, in this order. GOBLIN_BAD_OFFSET: the offset is the end of the file or past it. GOBLIN_NOTE_ALIGN: the alignment is neither
+   4 nor 8. GOBLIN_BAD_OFFSET or GOBLIN_TOO_BIG: the note's header is not inside the file, or then its name. GOBLIN_BAD_INPUT: the
+   name is not UTF-8. GOBLIN_BAD_OFFSET or GOBLIN_TOO_BIG: the descriptor is not inside the file. But for the first, the numbers of
+   these refusals count from the start of the note.
+   Example: goblin_note(bytes, len, &header, &section.file, section.sh_addralign, section.file.offset, &note, &why); */
 uint32_t goblin_note(const uint8_t *bytes, size_t len, const goblin_header_t *header, const goblin_range_t *notes,
                      uint64_t alignment, uint64_t offset, goblin_note_t *note, goblin_refusal_t *why);
 
 /* ---- strings ---- */
 
-/* Where the string at an offset of a range of strings lies in the file, without the zero byte that closes it: up to the next
-   zero byte or the range's end, and text (UTF-8). The offset counts from the range's start: GOBLIN_END from its size on.
-   GOBLIN_STRTAB_OFFSET where the range starts past the file's end; else GOBLIN_STRTAB_RANGE where it ends past it; else
-   GOBLIN_BAD_INPUT where the string is no text. */
+/* Returns the range of the string at an offset of a string table, without the zero byte at its end. `strings` is the range of the
+   table, and the offset counts from its start. The string ends at the next zero byte or at the end of the table, and is UTF-8.
+   GOBLIN_END if the offset is not below the size of the table.
+   GOBLIN_STRTAB_OFFSET: the table starts past the end of the file. GOBLIN_STRTAB_RANGE: it ends past the end of the file.
+   GOBLIN_BAD_INPUT: the string is not UTF-8.
+   Example: goblin_string(bytes, len, &names.file, symbol.st_name, &string, &why); */
 uint32_t goblin_string(const uint8_t *bytes, size_t len, const goblin_range_t *strings, uint64_t offset,
                        goblin_range_t *string, goblin_refusal_t *why);
 
-/* The same of a string that may be no text: never GOBLIN_BAD_INPUT. Where goblin_string tells a string, this tells the same
-   place. */
+/* As goblin_string, for a string that need not be UTF-8: never returns GOBLIN_BAD_INPUT. If goblin_string returns a string, this
+   call returns the same range.
+   Example: goblin_string_bytes(bytes, len, &names.file, symbol.st_name, &string, &why); */
 uint32_t goblin_string_bytes(const uint8_t *bytes, size_t len, const goblin_range_t *strings, uint64_t offset,
                              goblin_range_t *string, goblin_refusal_t *why);
 
 /* ---- numbers ---- */
 
-/* The number that `width` bytes at an offset of the file stand for, in the order of the header, where `width` is 1, 2, 4 or
-   8. GOBLIN_END where it is none of these, before any refusal.
-   GOBLIN_BAD_OFFSET or GOBLIN_TOO_BIG where they pass the file's end. */
+/* Reads the number in `width` bytes at an offset of the file, in the byte order of the header. `width` is 1, 2, 4 or 8. GOBLIN_END
+   if it is none of these. This is tested before any refusal.
+   GOBLIN_BAD_OFFSET or GOBLIN_TOO_BIG: the bytes are not inside the file.
+   Example: goblin_number(bytes, len, &header, section.file.offset, 4, &value, &why); */
 uint32_t goblin_number(const uint8_t *bytes, size_t len, const goblin_header_t *header, uint64_t offset, uint64_t width,
                        uint64_t *value, goblin_refusal_t *why);
 
 /* ---- texts ----
 
-   Each of these writes a text into `room` bytes, as much of it as there is room for, and answers how many bytes the whole
-   text has. It is text without a zero byte at its end; what lies behind it is as it was. They are never refused. */
+   Each of these calls writes a text into `capacity` bytes, or as much of it as fits, and returns the length of the whole text. It
+   writes no zero byte after the text, and no byte after it changes. So start with `char text[160] = {0}` and pass one byte less:
+   then the text ends with a zero byte. These calls never fail. */
 
-/* The name of a class (ei_class): NONE, ELF32, ELF64, or UNKNOWN_CLASS. */
-uint64_t goblin_class_to_str(uint8_t ei_class, void *text, size_t room);
-/* The name of a file's type (e_type), as DYN, or UNKNOWN_ET. */
-uint64_t goblin_et_to_str(uint16_t e_type, void *text, size_t room);
-/* The name of a machine (e_machine), as X86_64, or EM_UNKNOWN. */
-uint64_t goblin_machine_to_str(uint16_t e_machine, void *text, size_t room);
-/* The name of a segment's type (p_type), as PT_LOAD, or UNKNOWN_PT. */
-uint64_t goblin_pt_to_str(uint32_t p_type, void *text, size_t room);
-/* The name of a section's type (sh_type), as SHT_PROGBITS, or UNKNOWN_SHT. */
-uint64_t goblin_sht_to_str(uint32_t sh_type, void *text, size_t room);
-/* The name of one flag of a section (a single one of sh_flags), as SHF_WRITE, or SHF_UNKNOWN. */
-uint64_t goblin_shf_to_str(uint32_t flag, void *text, size_t room);
-/* The name of a symbol's binding (st_info >> 4), as GLOBAL, or UNKNOWN_STB. */
-uint64_t goblin_bind_to_str(uint8_t binding, void *text, size_t room);
-/* The name of a symbol's type (st_info & 15), as FUNC, or UNKNOWN_STT. */
-uint64_t goblin_type_to_str(uint8_t type, void *text, size_t room);
-/* The name of a symbol's visibility (st_other & 7), as HIDDEN, or UNKNOWN_STV. */
-uint64_t goblin_visibility_to_str(uint8_t visibility, void *text, size_t room);
-/* The name of a note's type (n_type), as NT_GNU_BUILD_ID, which the note's name gives its meaning, or NT_UNKNOWN. */
-uint64_t goblin_note_type_to_str(const void *name, size_t name_len, uint32_t n_type, void *text, size_t room);
-/* The text of a refusal that a call told, in the library's words, as "type is too big (64) for 52". It goes by what `why`
-   holds, which a caller may fill itself: where `fourth` stands for a yes or no, any number but 0 is a yes; an `item` that is
-   none of GOBLIN_INVALID_UTF8 and the like has the empty name; and a `kind` that is no refusal has the empty text. */
-uint64_t goblin_refusal_text(const goblin_refusal_t *why, void *text, size_t room);
+/* Writes the name of a class (ei_class): NONE, ELF32, ELF64, or UNKNOWN_CLASS.
+   Example: goblin_class_to_str(header.ei_class, text, sizeof text - 1); */
+uint64_t goblin_class_to_str(uint8_t ei_class, void *text, size_t capacity);
+/* Writes the name of a file's type (e_type), such as DYN, or UNKNOWN_ET.
+   Example: goblin_et_to_str(header.e_type, text, sizeof text - 1); */
+uint64_t goblin_et_to_str(uint16_t e_type, void *text, size_t capacity);
+/* Writes the name of a machine (e_machine), such as X86_64, or EM_UNKNOWN.
+   Example: goblin_machine_to_str(header.e_machine, text, sizeof text - 1); */
+uint64_t goblin_machine_to_str(uint16_t e_machine, void *text, size_t capacity);
+/* Writes the name of a segment's type (p_type), such as PT_LOAD, or UNKNOWN_PT.
+   Example: goblin_pt_to_str(segment.p_type, text, sizeof text - 1); */
+uint64_t goblin_pt_to_str(uint32_t p_type, void *text, size_t capacity);
+/* Writes the name of a section's type (sh_type), such as SHT_PROGBITS, or UNKNOWN_SHT. The names are goblin's: 19 is SHT_NUM, which
+   newer tools print as RELR, and 0x70000001 is SHT_X86_64_UNWIND for every machine.
+   Example: goblin_sht_to_str(section.sh_type, text, sizeof text - 1); */
+uint64_t goblin_sht_to_str(uint32_t sh_type, void *text, size_t capacity);
+/* Writes the name of one flag of a section (a single bit of sh_flags), such as SHF_WRITE, or SHF_UNKNOWN.
+   Example: goblin_shf_to_str(GOBLIN_SHF_WRITE, text, sizeof text - 1); */
+uint64_t goblin_shf_to_str(uint32_t flag, void *text, size_t capacity);
+/* Writes the name of a symbol's binding (st_info >> 4), such as GLOBAL, or UNKNOWN_STB.
+   Example: goblin_bind_to_str(symbol.st_info >> 4, text, sizeof text - 1); */
+uint64_t goblin_bind_to_str(uint8_t binding, void *text, size_t capacity);
+/* Writes the name of a symbol's type (st_info & 15), such as FUNC, or UNKNOWN_STT.
+   Example: goblin_type_to_str(symbol.st_info & 15, text, sizeof text - 1); */
+uint64_t goblin_type_to_str(uint8_t type, void *text, size_t capacity);
+/* Writes the name of a symbol's visibility (st_other & 7), such as HIDDEN, or UNKNOWN_STV.
+   Example: goblin_visibility_to_str(symbol.st_other & 7, text, sizeof text - 1); */
+uint64_t goblin_visibility_to_str(uint8_t visibility, void *text, size_t capacity);
+/* Writes the name of a note's type (n_type), such as NT_GNU_BUILD_ID, or NT_UNKNOWN. It depends on the note's name. The names are
+   goblin's: type 3 is NT_GNU_BUILD_ID for every name but CORE.
+   Example: goblin_note_type_to_str("GNU", 3, note.n_type, text, sizeof text - 1); */
+uint64_t goblin_note_type_to_str(const void *name, size_t name_len, uint32_t n_type, void *text, size_t capacity);
+/* Writes the text of a refusal in the library's words, such as "type is too big (64) for 52". It depends on `*why` alone, which a
+   caller may fill itself: a `fourth` that means yes or no is yes unless it is 0; an `item` that is none of GOBLIN_INVALID_UTF8 and
+   the like has the empty name; a `kind` that is no refusal has the empty text.
+   Example: goblin_refusal_text(&why, text, sizeof text - 1); */
+uint64_t goblin_refusal_text(const goblin_refusal_t *why, void *text, size_t capacity);
 
 #ifdef __cplusplus
 }
