@@ -83,7 +83,7 @@ install_web() {
     put LICENSE share/goblin_c/web/LICENSE
     put faces/web/goblin.js share/goblin_c/web/goblin.js
     put faces/web/constants.js share/goblin_c/web/constants.js
-    python3 faces/web/types.py > "$folder/types"
+    python3 faces/web/declarations.py > "$folder/types"
     put "$folder/types" share/goblin_c/web/goblin.d.ts
     put_all faces/web/examples share/goblin_c/web/examples
     put_edited "s/@VERSION@/$version/" faces/web/package.json.in share/goblin_c/web/package.json

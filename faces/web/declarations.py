@@ -1,5 +1,5 @@
 #!/usr/bin/env python3
-"""Writes goblin.d.ts, the declarations of goblin.js for TypeScript, to standard output: python3 types.py
+"""Writes goblin.d.ts, the declarations of goblin.js for TypeScript, to standard output: python3 declarations.py
 
 They are made from the JSDoc comments of goblin.js and constants.js, whose types are TypeScript's. Only what has such a comment is
 declared. calls.mjs compares the declarations with what goblin.js exports.
@@ -26,7 +26,7 @@ def split_type(text):
         depth += (character == '{') - (character == '}')
         if depth == 0:
             return text[1:index].strip(), text[index + 1:].strip()
-    sys.exit(f'types.py: the type has no closing brace: {text}')
+    sys.exit(f'declarations.py: the type has no closing brace: {text}')
 
 
 class Comment:
@@ -61,9 +61,9 @@ class Comment:
         tags = [(kind, text.split()[0]) for kind, text in self.tags.get('param', [])]
         names = [tag.strip('[]') for _, tag in tags]
         if '{' not in code and names != [parameter.split(' = ')[0] for parameter in re.split(r', (?![^(]*\))', code) if parameter]:
-            sys.exit(f'types.py: {name} has the parameters {code}, but its comment has {names}')
+            sys.exit(f'declarations.py: {name} has the parameters {code}, but its comment has {names}')
         if 'returns' not in self.tags:
-            sys.exit(f'types.py: the comment of {name} has no @returns')
+            sys.exit(f'declarations.py: the comment of {name} has no @returns')
         parameters = ', '.join(f'{tag.strip("[]")}{"?" if tag.startswith("[") else ""}: {kind}' for kind, tag in tags)
         return f'{name}{self.templates()}({parameters}): {self.first("returns")[0]};\n'
 
@@ -136,5 +136,5 @@ def declarations(name):
     return declared
 
 
-print('// The types of goblin.js, made from its comments by types.py.\n')
+print('// The types of goblin.js, made from its comments by declarations.py.\n')
 print(declarations('goblin.js') + declarations('constants.js').strip())
