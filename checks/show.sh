@@ -3,7 +3,8 @@
 # permissive. Both run the proved program if it was built from the present sources. Otherwise `show` first proves each crate, with
 # a line for each, and builds the program. `try` runs it without a proof and prints the first 1 MiB of the text, because such a run
 # prints no more. The exit status is 0 also for a refused file, and 2 if something can't be read, proved or written. `sh
-# checks/show.sh built` only notes that the program was proved and built from the present sources. Run from the repository's root.
+# checks/show.sh built` only notes that the program was proved and built from the present sources, and `sh checks/show.sh is_built`
+# only reports by its exit status whether it was. Run from the repository's root.
 set -eu
 goal=$1
 show=crates/goblin_show/out/goblin_show
@@ -29,6 +30,8 @@ sums() {
     sha256sum "$show"
 }
 note=$show.sources
+
+is_built() { [ -x "$show" ] && [ -f "$note" ] && [ "$(sums)" = "$(cat "$note")" ]; }
 
 run_program() {
     status=0
@@ -83,6 +86,10 @@ if [ "$goal" = built ]; then
     sums > "$note"
     exit 0
 fi
+if [ "$goal" = is_built ]; then
+    is_built
+    exit
+fi
 test -n "${SHOWN:-}" || fail "no file is given. For example: make $goal FILE=/bin/true"
 ! test -d "$SHOWN" || fail "$SHOWN is a folder. FILE must be a file"
 test -e "$SHOWN" || fail "$SHOWN does not exist"
@@ -94,7 +101,7 @@ case ${MODE:-strict} in
 esac
 file=$(cd "$(dirname -- "$SHOWN")" && pwd)/$(basename -- "$SHOWN")
 
-if [ -x "$show" ] && [ -f "$note" ] && [ "$(sums)" = "$(cat "$note")" ]; then
+if is_built; then
     [ "$goal" = show ] || echo 'make try: this is the proved program, built from these sources.' >&2
     run_program "$@"
 fi
