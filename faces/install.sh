@@ -1,10 +1,16 @@
 #!/bin/sh
-# Installs what calls the library needs: install.sh FOLDER puts it below FOLDER, which can then be moved as a whole, and removes
-# what an earlier one put there; install.sh --archive ARCHIVE puts it into an archive; install.sh --uninstall FOLDER only removes
-# it. It is for the TARGET, by default x86_64-unknown-linux-gnu; for wasm64-unknown-unknown the library is one module. LIBDIR is the
-# folder of the library below FOLDER, by default lib. LIBRARY names a library to take; else one is made, for the processors that CPU
-# names, by default every one of the target, unless it was made before of the same sources. Run from the repository's root. The
-# version is that of faces/rust/Cargo.toml.
+# Installs the library with all that calls it. Run it from the repository's root:
+#   install.sh FOLDER               installs below FOLDER, which can be moved as a whole; what an earlier version installed there is
+#                                   removed first
+#   install.sh --archive [ARCHIVE]  puts the same into an archive
+#   install.sh --uninstall FOLDER   removes what is installed below FOLDER
+# Variables:
+#   TARGET   x86_64-unknown-linux-gnu (the default), aarch64-unknown-linux-gnu, or wasm64-unknown-unknown, for which the library is
+#            one module
+#   CPU      the processors of the target that the library runs on, by default all
+#   LIBDIR   the folder of the library below FOLDER, by default lib
+#   LIBRARY  a library to install; else one is made, if none was made of the same sources before
+# The version is that of faces/rust/Cargo.toml.
 set -eu
 umask 022
 fail() {
@@ -18,32 +24,31 @@ x86_64-unknown-linux-gnu) every=x86-64 ;;
 aarch64-unknown-linux-gnu) every=generic ;;
 wasm64-unknown-unknown) every=lime1 ;;
 *)
-    fail "goblin_c is not made for the target $target: only for x86_64-unknown-linux-gnu, aarch64-unknown-linux-gnu and \
-wasm64-unknown-unknown"
+    fail "there is no target $target: TARGET must be x86_64-unknown-linux-gnu, aarch64-unknown-linux-gnu or wasm64-unknown-unknown"
     ;;
 esac
 libdir=${LIBDIR:-lib}
 case /$libdir/ in
-//* | */../* | */./* | *//*) fail "LIBDIR is a folder below PREFIX, as lib/x86_64-linux-gnu, and not $libdir" ;;
+//* | */../* | */./* | *//*) fail "LIBDIR is $libdir: it must be a folder below PREFIX, such as lib/x86_64-linux-gnu" ;;
 esac
 folder=$(mktemp -d)
 trap 'rm -rf "$folder"' EXIT
 trap 'exit 1' HUP INT TERM
 
-# Installs a file below the folder, and notes that.
+# Installs a file below the folder, and notes it in the list of installed files: put FILE NAME
 put() {
     install -d -m 755 "$to/$(dirname "$2")"
     install -m 644 "$1" "$to/$2"
     echo "$2" >> "$folder/files"
 }
 
-# Installs a file as sed edits it.
+# Installs a file that sed edits: put_edited SCRIPT FILE NAME
 put_edited() {
     sed "$1" "$2" > "$folder/edited"
     put "$folder/edited" "$3"
 }
 
-# Installs the files of a folder, or those that further words of find ask for.
+# Installs the files of a folder, or those that further arguments of find select: put_all FOLDER NAME [ARGUMENT ..]
 put_all() {
     from=$1
     below=$2
@@ -91,7 +96,7 @@ install_web() {
     put "$folder/page" share/goblin_c/web/index.html
 }
 
-# Removes what was installed below a folder, by the list of its files, and the folders of its own that are empty then.
+# Removes what was installed below a folder, by the list of its files, and the empty folders that are left of its own.
 remove_from() {
     list=$1/share/goblin_c/$2.files
     [ -e "$list" ] || return 0
@@ -101,58 +106,58 @@ remove_from() {
 }
 
 if [ "$1" = --uninstall ]; then
-    [ -e "$2/share/goblin_c/library.files" ] || [ -e "$2/share/goblin_c/web.files" ] || fail "goblin_c is not installed below $2"
+    [ -e "$2/share/goblin_c/library.files" ] || [ -e "$2/share/goblin_c/web.files" ] || fail "goblin_c is not installed below $2: nothing is removed"
     remove_from "$2" library
     remove_from "$2" web
-    echo "goblin_c is no more below $2"
+    echo "goblin_c is removed from $2"
     exit 0
 fi
 
-# Links the module; the toolchain's linker stands beside `rt`.
+# Links the module by the toolchain's linker, which is in the folder of `rt`.
 link_module() {
     bin=$(dirname "$(readlink -f "$(command -v rt)")")
     "$bin/rattle-link" --target "$target" --toolchain "$bin/../toolchain" -o "$folder/goblin_c.wasm" "$1"
     mv "$folder/goblin_c.wasm" "$1"
 }
 
-# What a library was made of, and what was made.
+# Prints the sums of what a library was made of, and of the library.
 sums() {
     rt version
     sh checks/sources.sh --sum goblin_c
     sha256sum < "$1"
 }
 
-# Makes the library, for this target and these processors, and prints what the toolchain said of it.
+# Makes the library for this target and these processors, and prints what the toolchain reported.
 make_library() {
     made=crates/goblin_c/out/libgoblin_c.a
     if [ -e "$made" ]; then cp -p "$made" "$folder/before"; fi
     (cd crates/goblin_c && rt lib --target "$target" --cpu "$cpu") > "$folder/said" 2>&1 || { cat "$folder/said"; exit 1; }
     cat "$folder/said"
     mv "$made" "$folder/made"
-    # (what `rt lib` made there before stays, whatever it is for)
+    # (the library that `rt lib` made there before is put back)
     if [ -e "$folder/before" ]; then mv "$folder/before" "$made"; fi
     if [ "$target" = wasm64-unknown-unknown ]; then link_module "$folder/made"; fi
-    mkdir -p "$kept"
-    mv "$folder/made" "$kept/library"
-    mv "$folder/said" "$kept/said"
-    sums "$kept/library" > "$kept/sums"
+    mkdir -p "$cache"
+    mv "$folder/made" "$cache/library"
+    mv "$folder/said" "$cache/said"
+    sums "$cache/library" > "$cache/sums"
 }
 
 library=${LIBRARY:-}
 if [ -z "$library" ]; then
     sh checks/has_rt.sh 'making the library'
     cpu=${CPU:-$every}
-    kept=out/library/$target-$cpu
-    library=$kept/library
-    if [ -f "$kept/sums" ] && [ "$(sums "$library")" = "$(cat "$kept/sums")" ]; then
-        cat "$kept/said"
+    cache=out/library/$target-$cpu
+    library=$cache/library
+    if [ -f "$cache/sums" ] && [ "$(sums "$library")" = "$(cat "$cache/sums")" ]; then
+        cat "$cache/said"
     else
         make_library
     fi
 fi
 if [ "$1" != --archive ]; then
     install_below "$1"
-    echo "goblin_c $version for $target is below $1"
+    echo "goblin_c $version for $target is installed below $1"
     exit 0
 fi
 name=goblin_c-$version-$target
