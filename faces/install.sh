@@ -72,7 +72,7 @@ install_library() {
     up=$(echo "$libdir/pkgconfig" | sed 's|[^/][^/]*|..|g')
     put_edited "s|@VERSION@|$version|; s|@UP@|$up|; s|@LIBDIR@|$libdir|" faces/goblin_c.pc.in "$libdir/pkgconfig/goblin_c.pc"
     put LICENSE share/goblin_c/LICENSE
-    put crates/goblin_c/CALLING.md share/goblin_c/CALLING.md
+    for example in needed nm size symbolize values; do put "faces/c/$example.c" "share/goblin_c/examples/$example.c"; done
     put LICENSE share/goblin_c/rust/LICENSE
     put_edited "s|join(\"lib\")|join(\"$libdir\")|" faces/rust/build.rs share/goblin_c/rust/build.rs
     put_all faces/rust/src share/goblin_c/rust/src
@@ -80,6 +80,23 @@ install_library() {
     # (what compares the crate with its repository stays there)
     put_all faces/rust/tests share/goblin_c/rust/tests ! -name repository.rs
     put_edited 's|^license-file = .*|license-file = "LICENSE"|' faces/rust/Cargo.toml share/goblin_c/rust/Cargo.toml
+    { cat crates/goblin_c/CALLING.md; list_installed; } > "$folder/page"
+    put "$folder/page" share/goblin_c/CALLING.md
+}
+
+# Prints the last section of the installed page: the installed files and folders, each by the start of its name.
+list_installed() {
+    printf '\n## Installed files\n\nBelow the folder of the installation:\n\n'
+    while read -r start content; do
+        # shellcheck disable=SC2016 # (they are markdown's)
+        if grep -qF "$start" "$folder/files"; then printf -- '- `%s`: %s\n' "$start" "$content"; fi
+    done << END
+$libdir/libgoblin_c.a the static library
+$libdir/pkgconfig/goblin_c.pc the file for pkg-config
+include/goblin.h the header for C and C++
+share/goblin_c/examples/ the examples in C
+share/goblin_c/rust/ the Rust crate
+END
 }
 
 # The module, the JavaScript over it, and the page, which holds both.
