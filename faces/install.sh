@@ -9,6 +9,7 @@
 #            one module
 #   CPU      the processors of the target that the library runs on, by default all
 #   LIBDIR   the folder of the library below FOLDER, by default lib
+#   SHARED   1 for a shared library, too, which the C compiler CC links
 #   LIBRARY  a library to install; else one is made, if none was made of the same sources before
 # The version is that of faces/rust/Cargo.toml.
 set -eu
@@ -19,10 +20,11 @@ fail() {
 }
 version=$(awk -F '"' '/^version = / { print $2; exit }' faces/rust/Cargo.toml)
 target=${TARGET:-x86_64-unknown-linux-gnu}
+interface=$(awk '$2 == "GOBLIN_VERSION" { print $3 }' faces/c/goblin.h)
 case $target in
-x86_64-unknown-linux-gnu) every=x86-64 ;;
-aarch64-unknown-linux-gnu) every=generic ;;
-wasm64-unknown-unknown) every=lime1 ;;
+x86_64-unknown-linux-gnu) every=x86-64 compiler=cc ;;
+aarch64-unknown-linux-gnu) every=generic compiler=aarch64-linux-gnu-gcc ;;
+wasm64-unknown-unknown) every=lime1 compiler= ;;
 *)
     fail "there is no target $target: TARGET must be x86_64-unknown-linux-gnu, aarch64-unknown-linux-gnu or wasm64-unknown-unknown"
     ;;
@@ -31,6 +33,16 @@ libdir=${LIBDIR:-lib}
 case /$libdir/ in
 //* | */../* | */./* | *//*) fail "LIBDIR is $libdir: it must be a folder below PREFIX, such as lib/x86_64-linux-gnu" ;;
 esac
+compiler=${CC:-$compiler}
+case $target-${SHARED:-} in
+*- | *-0) shared= ;;
+wasm64-unknown-unknown-*) fail "a module for WebAssembly can't be a shared library: leave out SHARED" ;;
+*-1) shared=$libdir/libgoblin_c.so.$interface ;;
+*) fail "SHARED is $SHARED: it must be 1 for a shared library, else 0" ;;
+esac
+if [ "$shared" ] && ! command -v "$compiler" > /dev/null; then
+    fail "a shared library needs a C compiler, and there is no $compiler: set CC to one for $target"
+fi
 folder=$(mktemp -d)
 trap 'rm -rf "$folder"' EXIT
 trap 'exit 1' HUP INT TERM
@@ -80,8 +92,24 @@ install_library() {
     # (what compares the crate with its repository stays there)
     put_all faces/rust/tests share/goblin_c/rust/tests ! -name repository.rs
     put_edited 's|^license-file = .*|license-file = "LICENSE"|' faces/rust/Cargo.toml share/goblin_c/rust/Cargo.toml
+    if [ "$shared" ]; then
+        link_shared
+        put "$folder/shared" "$shared"
+        ln -sf "${shared##*/}" "$to/$libdir/libgoblin_c.so"
+        echo "$libdir/libgoblin_c.so" >> "$folder/files"
+    fi
     { cat crates/goblin_c/CALLING.md; list_installed; } > "$folder/page"
     put "$folder/page" share/goblin_c/CALLING.md
+}
+
+# Links the shared library, which exports the calls alone.
+link_shared() {
+    echo '{ global: goblin_*; local: *; };' > "$folder/exports"
+    # (the compiler may have arguments)
+    # shellcheck disable=SC2086
+    $compiler -shared -o "$folder/shared" -Wl,-soname,"${shared##*/}" -Wl,--version-script="$folder/exports" -Wl,-z,defs,-z,relro,-z,now \
+        -Wl,--whole-archive "$library" -Wl,--no-whole-archive > "$folder/said" 2>&1 \
+        || { cat "$folder/said"; fail "the shared library can't be linked by $compiler, for the reason above"; }
 }
 
 # Prints the last section of the installed page: the installed files and folders, each by the start of its name.
@@ -92,6 +120,7 @@ list_installed() {
         if grep -qF "$start" "$folder/files"; then printf -- '- `%s`: %s\n' "$start" "$content"; fi
     done << END
 $libdir/libgoblin_c.a the static library
+$libdir/libgoblin_c.so.$interface the shared library of interface $interface, to which \`libgoblin_c.so\` links
 $libdir/pkgconfig/goblin_c.pc the file for pkg-config
 include/goblin.h the header for C and C++
 share/goblin_c/examples/ the examples in C
