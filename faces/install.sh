@@ -1,5 +1,5 @@
 #!/bin/sh
-# Installs the library with all that calls it. Run it from the repository's root:
+# Installs the library with all that calls it, and the program goblin_show. Run it from the repository's root:
 #   install.sh FOLDER               installs below FOLDER, which can be moved as a whole; what an earlier version installed there is
 #                                   removed first
 #   install.sh --archive [ARCHIVE]  puts the same into an archive
@@ -11,6 +11,7 @@
 #   LIBDIR   the folder of the library below FOLDER, by default lib
 #   SHARED   1 for a shared library, too, which the C compiler CC links
 #   LIBRARY  a library to install; else one is made, if none was made of the same sources before
+#   PROGRAM  a goblin_show to install, for x86-64 alone; else the one in the repository, if it is proved and built of these sources
 # The version is that of faces/rust/Cargo.toml.
 set -eu
 umask 022
@@ -47,10 +48,10 @@ folder=$(mktemp -d)
 trap 'rm -rf "$folder"' EXIT
 trap 'exit 1' HUP INT TERM
 
-# Installs a file below the folder, and notes it in the list of installed files: put FILE NAME
+# Installs a file below the folder, with a mode or 644, and notes it in the list of installed files: put FILE NAME [MODE]
 put() {
     install -d -m 755 "$to/$(dirname "$2")"
-    install -m 644 "$1" "$to/$2"
+    install -m "${3:-644}" "$1" "$to/$2"
     echo "$2" >> "$folder/files"
 }
 
@@ -98,6 +99,10 @@ install_library() {
         ln -sf "${shared##*/}" "$to/$libdir/libgoblin_c.so"
         echo "$libdir/libgoblin_c.so" >> "$folder/files"
     fi
+    if [ "$program" ]; then
+        put "$program" bin/goblin_show 755
+        put faces/goblin_show.1 share/man/man1/goblin_show.1
+    fi
     { cat crates/goblin_c/CALLING.md; list_installed; } > "$folder/page"
     put "$folder/page" share/goblin_c/CALLING.md
 }
@@ -123,6 +128,8 @@ $libdir/libgoblin_c.a the static library
 $libdir/libgoblin_c.so.$interface the shared library of interface $interface, to which \`libgoblin_c.so\` links
 $libdir/pkgconfig/goblin_c.pc the file for pkg-config
 include/goblin.h the header for C and C++
+bin/goblin_show the program that shows a file
+share/man/man1/goblin_show.1 its manual page
 share/goblin_c/examples/ the examples in C
 share/goblin_c/rust/ the Rust crate
 END
@@ -200,6 +207,14 @@ if [ -z "$library" ]; then
     else
         make_library
     fi
+fi
+program=
+if [ "$target" = x86_64-unknown-linux-gnu ]; then
+    program=${PROGRAM:-}
+    if [ -z "$program" ] && sh checks/show.sh is_built; then program=crates/goblin_show/out/goblin_show; fi
+fi
+if [ "$target" = x86_64-unknown-linux-gnu ] && [ -z "$program" ]; then
+    echo "goblin_show is left out: it is not proved and built of these sources, which \`make show FILE=/bin/true\` does"
 fi
 if [ "$1" != --archive ]; then
     install_below "$1"
