@@ -1,8 +1,9 @@
 #!/bin/sh
-# Whether an archive of faces/install.sh can be used without the toolchain: unpacked elsewhere, in an environment in which
-# nothing stands but the compilers, C finds it by pkg-config, CMake by its module for that, and Rust by a path. What the
-# machine hasn't is left out. Run from the repository's root: installed.sh ARCHIVE [COMPILER RUNNER], the last two for an archive
-# of another target, whose programs the runner runs, linked with all that they call.
+# Whether an archive of faces/install.sh can be used without the toolchain: installed.sh ARCHIVE [COMPILER RUNNER]
+# It is unpacked elsewhere, and used in an environment that has only the compilers. C finds it by pkg-config, CMake by its module for
+# that, and Rust by a path. The examples are compiled, and a shared library and the program are tried if the archive has them. What the
+# machine lacks is left out. COMPILER and RUNNER are for an archive of another target: the compiler makes static programs, which the
+# runner runs. Run it from the repository's root.
 set -eu
 compiler=${2:-cc}
 runner=${3:-}
@@ -17,37 +18,110 @@ version=$(awk -F '"' '/^version = / { print $2; exit }' faces/rust/Cargo.toml)
 target=${there##*"/goblin_c-$version-"}
 cargo_folder=$(dirname "$(command -v cargo || echo /usr/bin/cargo)")
 
+# Runs a command in an environment that has only the compilers and the library.
 bare() {
-    env -i PATH="/usr/bin:/bin:$cargo_folder" HOME="${HOME:-/}" PKG_CONFIG_PATH="$libdir/pkgconfig" \
+    env -i PATH="/usr/bin:/bin:$cargo_folder" HOME="${HOME:-/}" PKG_CONFIG_PATH="$libdir/pkgconfig" LD_LIBRARY_PATH="$libdir" \
         CARGO_TARGET_DIR="$folder/target" "$@"
 }
 has() { bare sh -c "command -v $1" > /dev/null; }
-# The compiler, and a program that it made, each with its words.
+# Runs the compiler, and a program that it made, each with its arguments.
 # shellcheck disable=SC2086
 compile() { bare $compiler "$@"; }
 # shellcheck disable=SC2086
 run() { bare $runner "$@"; }
 quietly() { "$@" > "$folder/output" 2>&1 || { echo "failed: $*"; cat "$folder/output"; exit 1; }; }
 
-# Whether cargo just said that the library is missing, that it was looked for at this place, and in which archive it is.
+# Fails if cargo's output doesn't say that the library is missing, where it was looked for, and in which archive it is.
 says_where() {
     for line in "libgoblin_c.a is missing for " "$1" "to get it, unpack goblin_c-$version-$target.tar.gz"; do
         grep -qF "$line" "$folder/output" && continue
-        echo "without the library there is no line '$line':"; cat "$folder/output"; exit 1
+        echo "cargo should have printed '$line', since the library is missing; it printed:"; cat "$folder/output"; exit 1
     done
 }
 
+fail() {
+    echo "$1"
+    exit 1
+}
+
+# Checks that the installed page lists each installed file, or a folder that has it, but for the licences and the page itself.
+check_page() {
+    sed -n '/^## Installed files$/,$s/^- `\([^`]*\)`.*/\1/p' "$there/share/goblin_c/CALLING.md" > "$folder/listed"
+    while read -r file; do
+        case $file in */LICENSE | */CALLING.md | */libgoblin_c.so) continue ;; esac
+        while read -r name; do
+            case $file in "$name"*) continue 2 ;; esac
+        done < "$folder/listed"
+        fail "the installed CALLING.md doesn't list $file"
+    done < "$there/share/goblin_c/library.files"
+}
+
+# Prints the names that a shared object exports.
+list_exported() { readelf --dyn-syms -W "$1" | awk '$7 ~ /^[0-9]+$/ && ($5 == "GLOBAL" || $5 == "WEAK") { print $8 }' | sort; }
+
+# Checks the shared library: its soname, and that it exports the calls of goblin.h alone.
+check_shared() {
+    shared=$(find "$there" -name 'libgoblin_c.so.*')
+    if [ -z "$shared" ] || ! has readelf; then return; fi
+    interface=$(awk '$2 == "GOBLIN_VERSION" { print $3 }' "$there/include/goblin.h")
+    [ "${shared##*/}" = "libgoblin_c.so.$interface" ] || fail "the shared library of interface $interface is $shared"
+    readelf -dW "$shared" > "$folder/dynamic"
+    grep -q "(SONAME).*\[libgoblin_c.so.$interface\]" "$folder/dynamic" || fail "the shared library has no soname libgoblin_c.so.$interface"
+    if grep -q TEXTREL "$folder/dynamic"; then fail "the code of the shared library is relocated"; fi
+    sed -n 's/^\(uint[0-9]*_t\|void\) \(goblin_[a-z_]*\)(.*/\2/p' "$there/include/goblin.h" | sort > "$folder/calls"
+    list_exported "$shared" > "$folder/exported"
+    quietly diff "$folder/calls" "$folder/exported"
+    tried="$tried, the shared library"
+}
+
+# Checks that a flag hides the names of the static library in a shared library that takes it in.
+check_hidden() {
+    if [ -n "$runner" ] || ! has "$linker" || ! has readelf; then return; fi
+    printf '%s\n' '#include <goblin.h>' 'extern uint32_t own_name(void);' 'uint32_t own_name(void) { return goblin_version(); }' \
+        > "$folder/own.c"
+    quietly compile -shared -fPIC -o "$folder/own.so" -I"$there/include" "$folder/own.c" "$libdir/libgoblin_c.a" \
+        -Wl,--exclude-libs,libgoblin_c.a -Wl,--gc-sections
+    [ "$(list_exported "$folder/own.so")" = own_name ] || fail "a shared library exports names of the static library in it"
+    tried="$tried, hidden in a shared library"
+}
+
+# Runs the program over its stored input.
+check_program() {
+    if [ ! -e "$there/bin/goblin_show" ]; then return; fi
+    "$there/bin/goblin_show" < crates/goblin_show/stdin > "$folder/shown"
+    quietly diff crates/goblin_show/stdout "$folder/shown"
+    tried="$tried, goblin_show"
+}
+
+# Formats the manual page, which must cause no warning.
+check_manual() {
+    page=$there/share/man/man1/goblin_show.1
+    if [ ! -e "$page" ] || ! has groff; then return; fi
+    groff -man -Tutf8 -ww "$page" 2>&1 > "$folder/page" | tee "$folder/output" >&2
+    if [ -s "$folder/output" ] || ! grep -q goblin_show "$folder/page"; then fail "the manual page can't be formatted"; fi
+    tried="$tried, its manual page"
+}
+
 tried=
-if has rt; then echo "the toolchain stands on the bare PATH too"; fi
+if has rt; then echo "rt is on the bare PATH, so it is not shown that the toolchain isn't needed"; fi
 cp faces/c/nm.c "$folder/"
+check_page
+check_shared
+check_hidden
+check_program
+check_manual
 if has "$linker" && has pkg-config; then
-    [ "$(bare pkg-config --modversion goblin_c)" = "$version" ] || { echo "goblin_c.pc has another version"; exit 1; }
+    [ "$(bare pkg-config --modversion goblin_c)" = "$version" ] || fail "goblin_c.pc has another version than $version"
     flags=$(bare pkg-config --cflags --libs goblin_c)
-    # (each word is an option)
+    # (the flags are several arguments)
     # shellcheck disable=SC2086
     quietly compile -std=c99 -Wall -Wextra -Werror -pedantic -o "$folder/nm" "$folder/nm.c" $flags
     quietly run "$folder/nm" "$folder/nm"
-    grep -q ' T [0-9]* main$' "$folder/output" || { echo "nm.c finds no main in itself"; exit 1; }
+    grep -q ' T [0-9]* main$' "$folder/output" || fail "nm.c lists no main of itself"
+    for example in "$there"/share/goblin_c/examples/*.c; do
+        # shellcheck disable=SC2086
+        quietly compile -std=c99 -Wall -Wextra -Werror -pedantic -o "$folder/example" "$example" $flags
+    done
     tried="$tried, C by pkg-config"
 fi
 if has "$linker" && has pkg-config && has cmake; then
@@ -65,7 +139,7 @@ END
     quietly run "$folder/built/listing" "$folder/built/listing"
     tried="$tried, CMake"
 fi
-# (where Rust's own library is there for the target)
+# (if Rust's own library for the target is there)
 if has "$linker" && bare cargo --version > "$folder/output" 2>&1 \
     && [ -d "$(bare rustc --print target-libdir --target "$target")" ]; then
     mkdir -p "$folder/rust/src"
@@ -73,7 +147,7 @@ if has "$linker" && bare cargo --version > "$folder/output" 2>&1 \
         "$there/share/goblin_c/rust" > "$folder/rust/Cargo.toml"
     cp faces/rust/examples/symbols.rs "$folder/rust/src/main.rs"
     app=$folder/target/$target/debug/app
-    # Runs a command of cargo over the program, with these variables.
+    # Runs a command of cargo over the program, with environment variables: with_cargo COMMAND [VARIABLE=VALUE ..]
     with_cargo() {
         command=$1
         shift
@@ -82,13 +156,13 @@ if has "$linker" && bare cargo --version > "$folder/output" 2>&1 \
     }
     quietly with_cargo build
     quietly run "$app" "$app"
-    grep -q ' main$' "$folder/output" || { echo "symbols.rs finds no main in itself"; exit 1; }
+    grep -q ' main$' "$folder/output" || fail "symbols.rs lists no main of itself"
     tried="$tried, Rust by its path"
     if [ -z "$runner" ]; then
         quietly bare cargo test --offline --manifest-path "$there/share/goblin_c/rust/Cargo.toml"
         tried="$tried, the crate's own tests"
     fi
-    # Without the library only what links fails, and each place that was looked in is named.
+    # Without the library only linking fails, and cargo prints each folder that was searched.
     mv "$libdir/libgoblin_c.a" "$folder/"
     for command in check doc; do
         quietly with_cargo $command PKG_CONFIG_PATH=
@@ -97,8 +171,8 @@ if has "$linker" && bare cargo --version > "$folder/output" 2>&1 \
         says_where "looked for in GOBLIN_C_LIB=$folder/rust: "
     done
     if with_cargo build PKG_CONFIG_PATH= > "$folder/output" 2>&1; then
-        echo "without the library something is linked"; exit 1
+        fail "cargo links the program, though the library is missing"
     fi
     says_where "looked for in $libdir: "
 fi
-echo "the archive of goblin_c $version for $target serves without the toolchain${tried}"
+echo "the archive of goblin_c $version for $target can be used without the toolchain${tried}"

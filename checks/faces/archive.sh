@@ -1,20 +1,24 @@
 #!/bin/sh
-# Whether the library's archive can be used without the toolchain, and whether installing is as it should be: sh
-# checks/faces/archive.sh FOLDER, after library.sh. Whatever the umask, the archive's bytes are the same, and what is installed can be
-# read by all. Installed in another LIBDIR, it can be used too; nothing of it is left by another installation, nor by removing it.
+# Whether the library can be installed and used without the toolchain: sh checks/faces/archive.sh FOLDER, after library.sh
+# The archive has the same bytes whatever the umask, and all users can read what is installed. Another LIBDIR and a shared library can be
+# used too. A new installation and an uninstallation leave no old file.
 . checks/faces/shared.sh
 root=$folder/root
 export LIBRARY="$folder/libgoblin_c.a" TARGET='' CPU=''
 
+# Installs with an umask, a LIBDIR and more variables: install_as UMASK LIBDIR [VARIABLE=VALUE ..]
 install_as() {
-    (umask "$1" && LIBDIR=$2 && export LIBDIR && quietly sh faces/install.sh "$root")
+    mask=$1
+    libdir=$2
+    shift 2
+    (umask "$mask" && quietly env LIBDIR="$libdir" "$@" sh faces/install.sh "$root")
 }
 
-# Fails where a file or a folder is left, or is there, that should not be.
+# Fails if find finds a file or a folder.
 none_of() {
     found=$(find "$@")
     if [ "$found" ]; then
-        printf 'installed, and should not be so: %s\n' "$found"
+        printf 'this should not be there after an installation: %s\n' "$found"
         exit 1
     fi
 }
@@ -25,19 +29,23 @@ done
 quietly cmp "$folder/goblin_c.077.tar.gz" "$folder/goblin_c.022.tar.gz"
 sh checks/installed.sh "$folder/goblin_c.022.tar.gz"
 
+# With another LIBDIR, a shared library where there is a compiler, and a program in place of goblin_show.
 multiarch=lib/x86_64-linux-gnu
-install_as 077 $multiarch
-none_of "$root" -mindepth 1 '(' -type f ! -perm 644 -o -type d ! -perm 755 ')'
+printf '#!/bin/sh\ncat crates/goblin_show/stdout\n' > "$folder/program"
+shared=0
+if has cc; then shared=1; fi
+install_as 077 $multiarch SHARED=$shared PROGRAM="$folder/program"
+none_of "$root" -mindepth 1 '(' -type f ! -perm 644 ! -path '*/bin/*' -o -path '*/bin/*' ! -perm 755 -o -type d ! -perm 755 ')'
 mkdir "$folder/packed"
 cp -R "$root" "$folder/packed/goblin_c-$(awk -F '"' '/^version = / { print $2; exit }' faces/rust/Cargo.toml)-x86_64-unknown-linux-gnu"
 tar -C "$folder/packed" -czf "$folder/multiarch.tar.gz" .
 sh checks/installed.sh "$folder/multiarch.tar.gz"
 
-# (a file of an earlier version)
+# (as if an earlier version had installed a file more)
 echo share/goblin_c/rust/src/earlier.rs >> "$root/share/goblin_c/library.files"
 touch "$root/share/goblin_c/rust/src/earlier.rs"
 install_as 022 lib
-none_of "$root" -path '*/x86_64-linux-gnu/*' -type f -o -name earlier.rs
+none_of "$root" -path '*/x86_64-linux-gnu/*' ! -type d -o -name earlier.rs
 quietly sh faces/install.sh --uninstall "$root"
-none_of "$root" -type f -o -name goblin_c
-echo "what is installed can be read by all, and is removed whole"
+none_of "$root" ! -type d -o -name goblin_c
+echo "all users can read what is installed, and it can be removed"
