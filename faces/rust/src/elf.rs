@@ -10,7 +10,7 @@ use crate::strtab::Strtab;
 use crate::sym::Symtab;
 use crate::{raw, sys};
 
-/// A file in memory, and its header. All else is read when it is asked for.
+/// A file in memory, with its header. Everything else is read on demand.
 ///
 /// ```
 /// # fn main() -> Result<(), Box<dyn std::error::Error>> {
@@ -27,7 +27,7 @@ use crate::{raw, sys};
 #[derive(Clone, Copy, Debug)]
 pub struct Elf<'a> {
     pub(crate) file: File<'a>,
-    /// The header. Its class, order, machine and places are what everything else is read by.
+    /// The header. Everything else is read by its class, byte order and machine, and by the offsets and counts of its tables.
     pub header: Header,
 }
 
@@ -44,9 +44,9 @@ impl<'a> Elf<'a> {
     /// Reads the header.
     ///
     /// # Errors
-    /// Where the file is too short for one, doesn't begin with the magic number, or has another class or order than there are.
+    /// If the file is too short, does not start with the magic number, or has an invalid class or byte order.
     pub fn parse(bytes: &'a [u8]) -> Result<Self> {
-        let header = sys::goblin_header(bytes)?.expect("each file that isn't refused has a header");
+        let header = sys::goblin_header(bytes)?.expect("a file that is not refused has a header");
         Ok(Elf { file: File(bytes), header })
     }
 
@@ -55,7 +55,7 @@ impl<'a> Elf<'a> {
         self.header.is_64()
     }
 
-    /// Reports whether the lowest byte of a number comes first.
+    /// Reports whether the file is little endian.
     pub fn little_endian(&self) -> bool {
         self.header.little_endian()
     }
@@ -65,15 +65,15 @@ impl<'a> Elf<'a> {
         self.header.e_entry
     }
 
-    /// Reports whether the file's type is `ET_DYN`: that of a shared library, and of a program that runs at any address.
+    /// Reports whether the file's type is `ET_DYN`, which shared libraries and position-independent programs have.
     pub fn is_lib(&self) -> bool {
         self.header.e_type == ET_DYN
     }
 
-    /// Returns the program header at an index, or `None` past the last one.
+    /// Returns the program header at an index, or `None` past the end.
     ///
     /// # Errors
-    /// Where the program headers don't lie in the file.
+    /// If the program headers are not inside the file.
     pub fn program_header(&self, index: usize) -> Result<Option<ProgramHeader>> {
         sys::goblin_segment(&self.file, &self.header, index as u64)
     }
@@ -81,15 +81,15 @@ impl<'a> Elf<'a> {
     /// Returns all program headers.
     ///
     /// # Errors
-    /// Where they don't lie in the file.
+    /// If they are not inside the file.
     pub fn program_headers(&self) -> Result<ProgramHeaders<'a>> {
         ProgramHeaders::of(*self)
     }
 
-    /// Returns the section header at an index, or `None` past the last one.
+    /// Returns the section header at an index, or `None` past the end.
     ///
     /// # Errors
-    /// Where the section headers don't lie in the file.
+    /// If the section headers are not inside the file.
     pub fn section_header(&self, index: usize) -> Result<Option<SectionHeader>> {
         sys::goblin_section(&self.file, &self.header, index as u64)
     }
@@ -97,7 +97,7 @@ impl<'a> Elf<'a> {
     /// Returns all section headers.
     ///
     /// # Errors
-    /// Where they don't lie in the file.
+    /// If they are not inside the file.
     pub fn section_headers(&self) -> Result<SectionHeaders<'a>> {
         SectionHeaders::of(*self)
     }
@@ -105,7 +105,7 @@ impl<'a> Elf<'a> {
     /// Returns the first section with a name.
     ///
     /// # Errors
-    /// Where the section headers or their names don't lie in the file.
+    /// If the section headers or their names are not inside the file.
     pub fn section(&self, name: &str) -> Result<Option<SectionHeader>> {
         self.section_at(self.section_by_name(name)?)
     }
@@ -113,7 +113,7 @@ impl<'a> Elf<'a> {
     /// Returns the index of the first section with a name.
     ///
     /// # Errors
-    /// Where the section headers or their names don't lie in the file.
+    /// If the section headers or their names are not inside the file.
     pub fn section_by_name(&self, name: &str) -> Result<Option<usize>> {
         let names = self.shdr_strtab()?.range;
         let index = sys::goblin_section_by_name(&self.file, &self.header, &names, name.as_bytes())?;
@@ -123,7 +123,7 @@ impl<'a> Elf<'a> {
     /// Returns the index of the first section of a type, an `SHT_` number, from an index on.
     ///
     /// # Errors
-    /// Where the section headers don't lie in the file.
+    /// If the section headers are not inside the file.
     pub fn section_by_type(&self, sh_type: u32, first: usize) -> Result<Option<usize>> {
         let index = sys::goblin_section_by_type(&self.file, &self.header, sh_type, first as u64)?;
         Ok(index.map(|index| index as usize))
@@ -133,71 +133,71 @@ impl<'a> Elf<'a> {
         index.map_or(Ok(None), |index| self.section_header(index))
     }
 
-    /// Returns the name of a section, or `None` where it lies past the sections' names.
+    /// Returns the name of a section, or `None` if its offset is past the end of the section names.
     ///
     /// # Errors
-    /// Where the section headers or their names don't lie in the file, and where the name is no text.
+    /// If the section headers or their names are not inside the file, or the name is not UTF-8.
     pub fn section_name(&self, section: &SectionHeader) -> Result<Option<&'a str>> {
         self.shdr_strtab()?.get(section.sh_name)
     }
 
-    /// Returns the bytes of a section, or `None` where it has none in the file.
+    /// Returns the bytes of a section, or `None` if it has none in the file.
     ///
     /// # Errors
-    /// Where they pass the file's end.
+    /// If they are not inside the file.
     pub fn section_data(&self, section: &SectionHeader) -> Result<Option<&'a [u8]>> {
         let range = sys::goblin_section_bytes(&self.file, section)?;
         Ok(range.map(|range| self.file.slice(range)))
     }
 
-    /// Returns the bytes of a segment, or `None` where it has none in the file.
+    /// Returns the bytes of a segment, or `None` if it has none in the file.
     ///
     /// # Errors
-    /// Where they pass the file's end.
+    /// If they are not inside the file.
     pub fn segment_data(&self, segment: &ProgramHeader) -> Result<Option<&'a [u8]>> {
         let range = sys::goblin_segment_bytes(&self.file, segment)?;
         Ok(range.map(|range| self.file.slice(range)))
     }
 
-    /// Returns the sections that lie in a segment, by [`ProgramHeader::holds`]. The one at index 0, which stands for no
-    /// section, is none of them.
+    /// Returns the sections of a segment, in the sense of [`ProgramHeader::holds`]. The section header at index 0, which means no
+    /// section, is left out.
     ///
     /// # Errors
-    /// Where the section headers don't lie in the file.
+    /// If the section headers are not inside the file.
     pub fn segment_sections(&self, segment: &ProgramHeader) -> Result<impl Iterator<Item = SectionHeader> + 'a> {
         let segment = *segment;
         Ok(self.section_headers()?.iter().skip(1).filter(move |section| segment.holds(section)))
     }
 
-    /// Returns the number that 1, 2, 4 or 8 bytes at an offset of the file stand for, in the file's order, or `None` for
-    /// another width.
+    /// Returns the number in `width` bytes at an offset of the file, in the file's byte order. Returns `None` if the width is not 1,
+    /// 2, 4 or 8.
     ///
     /// # Errors
-    /// Where the bytes pass the file's end.
+    /// If the bytes are not inside the file.
     pub fn number(&self, offset: u64, width: usize) -> Result<Option<u64>> {
         sys::goblin_number(&self.file, &self.header, offset, width as u64)
     }
 
-    /// Returns the sections' names: an empty table where the file has none, as where their index is 0, or that of a section
-    /// without bytes in the file.
+    /// Returns the string table of the section names. It is empty if the file has none: the index of its section is 0 or past the end,
+    /// or that section has no bytes in the file.
     ///
     /// # Errors
-    /// Where the section headers don't lie in the file.
+    /// If the section headers are not inside the file.
     pub fn shdr_strtab(&self) -> Result<Strtab<'a>> {
         let names = sys::goblin_section_names(&self.file, &self.header)?.unwrap_or_default();
         Ok(self.strtab(&names))
     }
 
-    /// Returns the strings of a section: an empty table where it has no bytes in the file.
+    /// Returns a section as a string table. It is empty if the section has no bytes in the file.
     pub fn strtab(&self, section: &SectionHeader) -> Strtab<'a> {
         Strtab { file: self.file, range: section.range() }
     }
 
-    /// Returns the symbols of a section of type `SHT_SYMTAB` or `SHT_DYNSYM`, with the names that the section at its `sh_link`
-    /// holds: none where there is no such section, as at index 0, or where it has no bytes in the file.
+    /// Returns the symbols of a section of type `SHT_SYMTAB` or `SHT_DYNSYM`. Their names are in the section at its `sh_link`. The
+    /// string table is empty if `sh_link` is 0 or past the end, or that section has no bytes in the file.
     ///
     /// # Errors
-    /// Where the section has another type, and where the section headers or the symbols don't lie in the file.
+    /// If the section has another type, or the section headers or the symbols are not inside the file.
     pub fn symtab(&self, section: &SectionHeader) -> Result<Symtab<'a>> {
         if ![SHT_SYMTAB, SHT_DYNSYM].contains(&section.sh_type) {
             return Err(Error::section_type(section.sh_type, SYMBOLS));
@@ -206,18 +206,18 @@ impl<'a> Elf<'a> {
         Symtab::of(self, section.range(), self.strtab(&names))
     }
 
-    /// Returns the first table of symbols that has all of them, if there is one.
+    /// Returns the first symbol table (`SHT_SYMTAB`), if there is one.
     ///
     /// # Errors
-    /// Where the section headers or the symbols don't lie in the file.
+    /// If the section headers or the symbols are not inside the file.
     pub fn syms(&self) -> Result<Option<Symtab<'a>>> {
         self.first_symtab(SHT_SYMTAB)
     }
 
-    /// Returns the first table of the symbols that are wanted when the program runs, if there is one.
+    /// Returns the first symbol table for dynamic linking (`SHT_DYNSYM`), if there is one.
     ///
     /// # Errors
-    /// Where the section headers or the symbols don't lie in the file.
+    /// If the section headers or the symbols are not inside the file.
     pub fn dynsyms(&self) -> Result<Option<Symtab<'a>>> {
         self.first_symtab(SHT_DYNSYM)
     }
@@ -230,7 +230,7 @@ impl<'a> Elf<'a> {
     /// Returns the relocations of a section of type `SHT_RELA` or `SHT_REL`.
     ///
     /// # Errors
-    /// Where the section has another type, and where the relocations don't lie in the file.
+    /// If the section has another type, or the relocations are not inside the file.
     pub fn relocs(&self, section: &SectionHeader) -> Result<RelocSection<'a>> {
         if !holds_relocs(section) {
             return Err(Error::section_type(section.sh_type, RELOCATIONS));
@@ -238,36 +238,36 @@ impl<'a> Elf<'a> {
         RelocSection::of(self, section.range(), section.sh_type == SHT_RELA)
     }
 
-    /// Returns all sections of relocations, each with its header. Where some are damaged, [`Elf::relocs`] reads the others.
+    /// Returns all relocation sections, each with its header. If one is damaged, [`Elf::relocs`] reads the others.
     ///
     /// # Errors
-    /// Where the section headers, or the relocations of any section, don't lie in the file.
+    /// If the section headers or the relocations of any section are not inside the file.
     pub fn shdr_relocs(&self) -> Result<RelocSections<'a>> {
         RelocSections::of(*self)
     }
 
-    /// Returns the notes of a section. Where one is damaged, [`Elf::readable_notes`] returns those before it.
+    /// Returns the notes of a section. If one is damaged, [`Elf::readable_notes`] returns those before it.
     ///
     /// # Errors
-    /// Where the notes are aligned to neither 4 nor 8, one of them doesn't lie in the file, or a name is no text.
+    /// If the alignment is neither 4 nor 8, a note is not inside the file, or a name is not UTF-8.
     pub fn notes(&self, section: &SectionHeader) -> Result<Notes<'a>> {
         all_notes(self.readable_notes(section))
     }
 
-    /// Returns the notes of a segment. Where one is damaged, [`Elf::readable_segment_notes`] returns those before it.
+    /// Returns the notes of a segment. If one is damaged, [`Elf::readable_segment_notes`] returns those before it.
     ///
     /// # Errors
-    /// Where the notes are aligned to neither 4 nor 8, one of them doesn't lie in the file, or a name is no text.
+    /// If the alignment is neither 4 nor 8, a note is not inside the file, or a name is not UTF-8.
     pub fn segment_notes(&self, segment: &ProgramHeader) -> Result<Notes<'a>> {
         all_notes(self.readable_segment_notes(segment))
     }
 
-    /// Returns the notes of a section up to the first that can't be read, and why it can't.
+    /// Returns the notes of a section up to the first damaged one, and the error of that one.
     pub fn readable_notes(&self, section: &SectionHeader) -> (Notes<'a>, Option<Error>) {
         Notes::of(self, section.range(), section.sh_addralign)
     }
 
-    /// Returns the notes of a segment up to the first that can't be read, and why it can't.
+    /// Returns the notes of a segment up to the first damaged one, and the error of that one.
     pub fn readable_segment_notes(&self, segment: &ProgramHeader) -> (Notes<'a>, Option<Error>) {
         let range = raw::Range { offset: segment.p_offset, size: segment.p_filesz };
         Notes::of(self, range, segment.p_align)
@@ -276,7 +276,7 @@ impl<'a> Elf<'a> {
     /// Returns the notes of all segments of type `PT_NOTE`.
     ///
     /// # Errors
-    /// Where the program headers don't lie in the file, or the notes of any of these segments can't be read.
+    /// If the program headers are not inside the file, or a note of any of these segments is damaged.
     pub fn iter_note_headers(&self) -> Result<NoteIterator<'a>> {
         NoteIterator::of_segments(*self)
     }
@@ -284,7 +284,7 @@ impl<'a> Elf<'a> {
     /// Returns the notes of all sections of type `SHT_NOTE`.
     ///
     /// # Errors
-    /// Where the section headers don't lie in the file, or the notes of any of these sections can't be read.
+    /// If the section headers are not inside the file, or a note of any of these sections is damaged.
     pub fn iter_note_sections(&self) -> Result<NoteIterator<'a>> {
         NoteIterator::of_sections(*self)
     }

@@ -3,31 +3,31 @@ use crate::section_header::sht_to_str;
 use crate::{raw, sys};
 use std::{error, fmt, io, result};
 
-/// Why a file, or a section of it, is refused.
+/// Why a file or a section of it is refused.
 ///
-/// `Debug` prints the same text as `Display`, so a `main` that returns an error prints it in words.
+/// `Debug` prints the same text as `Display`, so a `main` that returns an error prints a readable message.
 ///
 /// ```
 /// let refused = goblin_rs::Elf::parse(b"#!/bin/sh\n# no ELF file").unwrap_err();
 /// assert_eq!(refused.to_string(), "Invalid magic number: 0x732f6e69622f2123");
-/// // among other errors of input
+/// // as an error of std::io
 /// let refused: std::io::Error = refused.into();
 /// assert_eq!(refused.kind(), std::io::ErrorKind::InvalidData);
 /// ```
 #[derive(Clone, Copy, PartialEq, Eq, Hash)]
 pub struct Error(raw::Refusal);
 
-// The one kind of refusal that is this crate's own, with a number that the library doesn't use: `first` is the type of a section,
-// which isn't a type that holds what `item` stands for.
+// The only kind of error that is this crate's own, with a number that the library doesn't use. `first` is the type of a section, and
+// `item` an index in `HELD`: what was expected of the section.
 const SECTION_TYPE: u32 = u32::MAX;
 const HELD: [&str; 2] = ["symbols", "relocations"];
 pub(crate) const SYMBOLS: u32 = 0;
 pub(crate) const RELOCATIONS: u32 = 1;
 
-/// A value, or why the file is refused.
+/// A result with this crate's [`Error`].
 pub type Result<T> = result::Result<T, Error>;
 
-/// What kind of refusal it is, with the numbers that belong to it, in the order of `goblin.h`. More may come.
+/// The kind of an error, with the numbers that belong to it, in the order of `goblin.h`. Later versions may have more kinds.
 ///
 /// ```
 /// use goblin_rs::{Elf, Kind};
@@ -38,95 +38,95 @@ pub type Result<T> = result::Result<T, Error>;
 #[derive(Clone, Copy, Debug, PartialEq, Eq, Hash)]
 #[non_exhaustive]
 pub enum Kind {
-    /// The file doesn't begin with the magic number, but with these eight bytes, read in little order.
+    /// The file does not start with the magic number. The first eight bytes as a little-endian number.
     BadMagic(u64),
-    /// Something of this size ends past the file's end: so many bytes are left at its offset.
+    /// An item ends past the end of the file.
     TooBig {
-        /// How many bytes it has.
+        /// Its size.
         size: u64,
-        /// How many are left.
+        /// How many bytes there are from its offset to the end of the file.
         len: u64,
     },
-    /// Something starts at the file's end or past it, at this offset.
+    /// An item starts at the end of the file or past it, at this offset.
     BadOffset(u64),
-    /// A name is no text.
+    /// A name is not UTF-8.
     BadInput {
-        /// How many bytes there are from there to the end of what is read.
+        /// How many bytes there are from its offset to the end of what is read.
         size: u64,
         /// What is wrong with it: "invalid utf8".
         msg: &'static str,
     },
-    /// More items than the file could hold: their number, and whether they are "section headers" or "program headers".
+    /// There are more items than the file could hold: their number, and "section headers" or "program headers".
     BufferTooShort(u64, &'static str),
-    /// Memory is wanting. No call here takes any.
+    /// Out of memory. The library never returns this, since it does not allocate.
     OutOfMemory,
-    /// The class byte of a header that is asked or written.
+    /// The class byte is neither 1 nor 2, of a header that is queried or written.
     InvalidClass(u8),
-    /// The order byte of a header that is asked.
+    /// The byte of the byte order is neither 1 nor 2, of a header that is queried.
     InvalidEndianness(u8),
     /// The file has fewer than 16 bytes.
     TooSmall,
     /// The class byte is neither 1 nor 2.
     ElfClass(u8),
-    /// The order byte is neither 1 nor 2.
+    /// The byte of the byte order is neither 1 nor 2.
     DataType(u8),
-    /// The order byte is neither 1 nor 2, of a raw header or one that is written.
+    /// The byte of the byte order is neither 1 nor 2, of a raw header or one that is written.
     Data(u8),
-    /// Notes are aligned to neither 4 nor 8.
+    /// The alignment of notes is neither 4 nor 8.
     NoteAlign(u64),
-    /// A symbol table starts at the file's end or past it.
+    /// A symbol table starts at the end of the file or past it.
     SymtabOffset {
-        /// Where it starts.
+        /// Its offset.
         offset: u64,
         /// The file's length.
         len: u64,
     },
-    /// The size of a symbol table passes 64 bits.
+    /// The size of a symbol table does not fit in 64 bits.
     TooManySymbols {
-        /// Where it starts.
+        /// Its offset.
         offset: u64,
-        /// How many symbols there are.
+        /// The number of its symbols.
         count: u64,
     },
-    /// A symbol table ends past the file's end.
+    /// A symbol table ends past the end of the file.
     SymtabPast {
         /// Its size.
         requested: u64,
-        /// How many bytes are left at its offset.
+        /// How many bytes there are from its offset to the end of the file.
         available: u64,
     },
-    /// A string table starts past the file's end.
+    /// A string table starts past the end of the file.
     StrtabOffset {
-        /// Where it starts.
+        /// Its offset.
         offset: u64,
         /// The file's length.
         len: u64,
     },
-    /// A string table ends past the file's end.
+    /// A string table ends past the end of the file.
     StrtabRange {
         /// Its size.
         size: u64,
-        /// Where it starts.
+        /// Its offset.
         offset: u64,
         /// The file's length.
         len: u64,
-        /// Whether its end passes 64 bits.
+        /// Whether its end does not fit in 64 bits.
         overflow: bool,
     },
-    /// A section ends past the file's end.
+    /// A section ends past the end of the file.
     SectionOffset {
-        /// Where its name lies in the section names.
+        /// The offset of its name in the section names.
         name: u64,
         /// Its size.
         size: u64,
-        /// Where it starts.
+        /// Its offset.
         offset: u64,
-        /// Whether its end passes 64 bits.
+        /// Whether its end does not fit in 64 bits.
         overflow: bool,
     },
-    /// The addresses of a section pass 64 bits.
+    /// The addresses of a section do not fit in 64 bits.
     SectionAddr {
-        /// Where its name lies in the section names.
+        /// The offset of its name in the section names.
         name: u64,
         /// Its size.
         size: u64,
@@ -135,16 +135,16 @@ pub enum Kind {
         /// True.
         overflow: bool,
     },
-    /// A number doesn't fit.
+    /// A number does not fit.
     IntegerFit,
-    /// A section is asked for what its type doesn't hold: symbols or relocations.
+    /// A section was read as symbols or relocations, and has another type.
     SectionType {
         /// Its type, an `SHT_` number.
         sh_type: u32,
         /// What was expected: "symbols" or "relocations".
         expected: &'static str,
     },
-    /// A later library's refusal, by its number.
+    /// The number of an error of a later version of the library.
     Other(u32),
 }
 
@@ -154,12 +154,12 @@ impl Error {
         Error(why)
     }
 
-    /// The refusal of a section of this type where `SYMBOLS` or `RELOCATIONS` are expected.
+    /// Returns the error of a section with this type that was read as `SYMBOLS` or `RELOCATIONS`.
     pub(crate) fn section_type(sh_type: u32, expected: u32) -> Self {
         Error(raw::Refusal { kind: SECTION_TYPE, item: expected, first: sh_type.into(), ..raw::Refusal::default() })
     }
 
-    /// Returns its kind.
+    /// Returns the kind of this error.
     pub fn kind(&self) -> Kind {
         let raw::Refusal { kind, item, first, second, third, fourth } = self.0;
         let (byte, overflow) = (first as u8, fourth != 0);
@@ -192,7 +192,7 @@ impl Error {
     }
 }
 
-/// The library's text of it, or this crate's where a section has another type than expected.
+/// Writes the library's text of the error. That of [`Kind::SectionType`] is this crate's own.
 impl fmt::Display for Error {
     fn fmt(&self, f: &mut fmt::Formatter<'_>) -> fmt::Result {
         if let Kind::SectionType { sh_type, expected } = self.kind() {
@@ -204,7 +204,7 @@ impl fmt::Display for Error {
     }
 }
 
-/// The same.
+/// Writes the same text.
 impl fmt::Debug for Error {
     fn fmt(&self, f: &mut fmt::Formatter<'_>) -> fmt::Result {
         fmt::Display::fmt(self, f)
@@ -213,7 +213,7 @@ impl fmt::Debug for Error {
 
 impl error::Error for Error {}
 
-/// An error of the kind `InvalidData`, with the same text.
+/// Returns an error of the kind `InvalidData` with the same text.
 impl From<Error> for io::Error {
     fn from(e: Error) -> io::Error {
         io::Error::new(io::ErrorKind::InvalidData, e)
@@ -224,16 +224,16 @@ impl From<Error> for io::Error {
 mod tests {
     use super::*;
 
-    // `goblin.h`, beside this crate in the repository or where both are installed.
+    // Returns the text of `goblin.h`, from the repository or from where it is installed with this crate.
     fn goblin_h() -> String {
         let here = std::path::Path::new(env!("CARGO_MANIFEST_DIR"));
-        let places = ["../c/goblin.h", "../../../include/goblin.h"].map(|place| here.join(place));
-        let found = places.iter().find_map(|place| std::fs::read_to_string(place).ok());
-        found.unwrap_or_else(|| panic!("goblin.h is at none of {places:?}"))
+        let paths = ["../c/goblin.h", "../../../include/goblin.h"].map(|path| here.join(path));
+        let found = paths.iter().find_map(|path| std::fs::read_to_string(path).ok());
+        found.unwrap_or_else(|| panic!("goblin.h is missing: looked for {paths:?}"))
     }
 
-    // The numbers of `goblin.h` behind a line: of each its comment, its name and its number.
-    fn numbers_behind(line: &str) -> Vec<(String, String, u32)> {
+    // Returns the constants of `goblin.h` after a line: the comment, the name and the number of each.
+    fn constants_after(line: &str) -> Vec<(String, String, u32)> {
         let header = goblin_h();
         let body = header.split(line).nth(1).unwrap().split("};").next().unwrap();
         let (mut all, mut comment) = (Vec::new(), String::new());
@@ -249,7 +249,7 @@ mod tests {
         all
     }
 
-    // How many numbers a comment of `goblin.h` names: behind the colon, each but the first behind a semicolon.
+    // Returns how many numbers a comment of `goblin.h` lists after its colon, separated by semicolons.
     fn numbers(comment: &str) -> usize {
         let numbers = comment.split_once(": ").map(|(_, numbers)| numbers.split(". ").next().unwrap());
         numbers.map_or(0, |numbers| numbers.split(';').count())
@@ -257,18 +257,18 @@ mod tests {
 
     #[test]
     fn kinds_are_those_of_goblin_h() {
-        let refusals = numbers_behind("GOBLIN_END = 1,\n");
+        let refusals = constants_after("GOBLIN_END = 1,\n");
         assert_eq!(refusals.len(), 21);
         for (comment, name, number) in refusals {
             let why = raw::Refusal { kind: number, item: 0, first: 101, second: 102, third: 103, fourth: 1 };
-            let told = format!("{:?}", Error::new(why).kind()).replace("true", "1");
+            let printed = format!("{:?}", Error::new(why).kind()).replace("true", "1");
             let camel: String = name.split('_').map(|word| word[..1].to_string() + &word[1..].to_lowercase()).collect();
-            let words: Vec<_> = told.split(|c: char| !c.is_alphanumeric()).filter(|word| !word.is_empty()).collect();
+            let words: Vec<_> = printed.split(|c: char| !c.is_alphanumeric()).filter(|word| !word.is_empty()).collect();
             assert_eq!(words[0], camel, "{number}");
             let found: Vec<_> = words.iter().filter(|word| word.parse::<u64>().is_ok()).collect();
             assert_eq!(found, [&"101", &"102", &"103", &"1"][..numbers(&comment)], "{comment}");
         }
-        let items = numbers_behind("0 for refusals that have none. */\nenum {\n");
+        let items = constants_after("0 for refusals that have none. */\nenum {\n");
         assert_eq!(items.len(), 3);
         for (_, name, item) in items {
             let name = name.replace('_', " ").to_lowercase();
@@ -280,7 +280,7 @@ mod tests {
         assert_eq!(Error::new(later).kind(), Kind::Other(25));
     }
 
-    // What the library tells of each kind, where the first number is 31, the second 5, the third 6 and the fourth 1.
+    // The library's text of each kind, if the first number is 31, the second 5, the third 6 and the fourth 1.
     const TEXTS: [(u32, u32, &str); 22] = [
         (2, 0, "Invalid magic number: 0x1f"),
         (3, 0, "type is too big (31) for 5"),
@@ -312,10 +312,10 @@ mod tests {
             let why = raw::Refusal { kind, item, first: 31, second: 5, third: 6, fourth: 1 };
             assert_eq!(Error::new(why).to_string(), text, "{kind}");
         }
-        let told: Vec<_> = numbers_behind("GOBLIN_END = 1,\n").iter().map(|(_, _, number)| *number).collect();
+        let kinds: Vec<_> = constants_after("GOBLIN_END = 1,\n").iter().map(|(_, _, number)| *number).collect();
         let mut tried = TEXTS.map(|(kind, _, _)| kind).to_vec();
         tried.dedup();
-        assert_eq!(tried, told);
+        assert_eq!(tried, kinds);
     }
 
     #[test]

@@ -3,20 +3,20 @@ use crate::raw::Range;
 use std::ops::Deref;
 use std::{fmt, str};
 
-/// The bytes of a file. Its `Debug` tells how many they are.
+/// The bytes of a file. Its `Debug` prints only their number.
 #[derive(Clone, Copy, Default)]
 pub struct File<'a>(pub &'a [u8]);
 
 impl<'a> File<'a> {
-    /// Some bytes that the library told of.
+    /// Returns the bytes of a range that the library returned.
     #[inline]
     pub fn slice(self, range: Range) -> &'a [u8] {
         &self.0[range.offset as usize..][..range.size as usize]
     }
 
-    /// Some bytes that it told of as text, which is tested once more.
+    /// Returns the text of a range that the library returned for text. It is checked once more.
     pub fn text(self, range: Range) -> &'a str {
-        str::from_utf8(self.slice(range)).expect("the library tells places of text")
+        str::from_utf8(self.slice(range)).expect("the library returned a range of text")
     }
 }
 

@@ -1,7 +1,7 @@
 //! What all lists of a file have in common, and the iterator over their items.
 //!
-//! The call that makes a list fails where the list can't be read. So a list that was made has each of its items, and they
-//! are plain values: no adaptor of an iterator can drop a refusal.
+//! The call that makes a list fails if the list can't be read. So a list has all of its items, and they are plain values: no
+//! iterator adaptor can drop an error.
 //!
 //! ```
 //! # fn main() -> Result<(), Box<dyn std::error::Error>> {
@@ -9,7 +9,7 @@
 //! let elf = goblin_rs::Elf::parse(&bytes)?;
 //! let sections = elf.section_headers()?;
 //! assert_eq!(sections.iter().skip(1).count(), sections.len() - 1);
-//! // without the section headers there is no list
+//! // half of the file has no section headers, so there is no list
 //! let cut = goblin_rs::Elf::parse(&bytes[..bytes.len() / 2])?;
 //! assert!(cut.section_headers().is_err());
 //! # Ok(())
@@ -20,15 +20,15 @@ use std::iter::FusedIterator;
 use std::ops::Range;
 use std::{fmt, mem};
 
-// How many items are asked for at once at the back; in front as many as the batch has room for beside them.
+// The number of items at the end of a batch that are for the back of the list. The others are for the front.
 const BACK: u64 = 16;
 
-/// A list of a file: symbols, relocations, section headers or program headers.
+/// A list in a file: symbols, relocations, section headers or program headers.
 ///
 /// ```
 /// use goblin_rs::items::{Items, List};
 ///
-/// /// Returns each second item.
+/// /// Returns every second item.
 /// fn each_second<L: List>(items: Items<L>) -> Vec<L::Item> {
 ///     items.step_by(2).collect()
 /// }
@@ -41,18 +41,18 @@ const BACK: u64 = 16;
 /// # }
 /// ```
 pub trait List: Copy {
-    /// An item as the library fills it in.
+    /// An item as the library writes it.
     type Raw: Copy;
-    /// Room for some.
+    /// An array of some items.
     type Batch: AsRef<[Self::Raw]> + AsMut<[Self::Raw]> + Clone;
     /// An item.
     type Item: From<Self::Raw>;
 
-    /// Returns room in which nothing is yet.
+    /// Returns an array whose items are not read yet.
     #[doc(hidden)]
-    fn room() -> Self::Batch;
+    fn batch() -> Self::Batch;
 
-    /// Returns the number of items, which the call that made the list has read.
+    /// Returns the number of items, which was read when the list was made.
     #[doc(hidden)]
     fn count(&self) -> u64;
 
@@ -60,13 +60,13 @@ pub trait List: Copy {
     #[doc(hidden)]
     fn read(&self, index: u64) -> Result<Option<Self::Raw>>;
 
-    /// Fills in items from an index on, as many as there are and as there is room for, and returns how many.
+    /// Reads the items from an index on until the list or the array ends, and returns how many were read.
     #[doc(hidden)]
-    fn fill(&self, first: u64, into: &mut [Self::Raw]) -> Result<Option<u64>>;
+    fn fill(&self, first: u64, items: &mut [Self::Raw]) -> Result<Option<u64>>;
 }
 
-/// Returns what the library reads of a list that was made. By its clauses it refuses a list at each index or at none, and the
-/// bytes don't change, so this can't be a refusal.
+/// Returns what the library read of a list that was made. This is no error: by its contracts the library refuses a list at every
+/// index or at none, and the bytes have not changed.
 #[inline]
 pub(crate) fn made<T>(read: Result<T>) -> T {
     match read {
@@ -78,10 +78,10 @@ pub(crate) fn made<T>(read: Result<T>) -> T {
 #[cold]
 #[inline(never)]
 fn refused_late(e: &Error) -> ! {
-    panic!("a list that was made is refused at no index, but here: {e}")
+    panic!("a list was made, so it must be refused at no index, but is refused: {e}")
 }
 
-// The calls of all lists, with the words for their items. A list has its `count`, and its iterator is made of it.
+// The methods of all lists. A list has a `count`, and its iterator is made from the list. The texts name one item and several.
 macro_rules! list {
     ($list:ident of $item:ty, by $iterator:ty, $one:literal, $more:literal) => {
         impl<'a> $list<'a> {
@@ -95,7 +95,7 @@ macro_rules! list {
                 self.count == 0
             }
 
-            #[doc = concat!("Returns an iterator over the ", $more, " in their order.")]
+            #[doc = concat!("Returns an iterator over the ", $more, " in order.")]
             pub fn iter(&self) -> $iterator {
                 <$iterator>::new(*self)
             }
@@ -121,20 +121,20 @@ macro_rules! list {
     };
 }
 
-// The calls of a list whose items have indices.
+// The methods of a list whose items have indices.
 macro_rules! table {
     ($list:ident of $item:ty, $one:literal, $more:literal) => {
         $crate::items::list!($list of $item, by $crate::items::Items<$list<'a>>, $one, $more);
 
         impl $list<'_> {
-            #[doc = concat!("Returns the ", $one, " at an index, or `None` past the last one.")]
+            #[doc = concat!("Returns the ", $one, " at an index, or `None` past the end.")]
             #[inline]
             pub fn get(&self, index: usize) -> Option<$item> {
                 $crate::items::made($crate::items::List::read(self, index as u64)).map(<$item>::from)
             }
         }
 
-        /// Two lists are equal where their items are.
+        /// Two lists are equal if their items are equal.
         impl PartialEq for $list<'_> {
             fn eq(&self, other: &Self) -> bool {
                 self.iter().eq(other.iter())
@@ -146,7 +146,7 @@ macro_rules! table {
 }
 pub(crate) use {list, table};
 
-/// An iterator over the items of a list in their order, from both ends. It reads some at a time.
+/// An iterator over the items of a list, from both ends. It reads several items at a time.
 ///
 /// ```
 /// # fn main() -> Result<(), Box<dyn std::error::Error>> {
@@ -162,9 +162,9 @@ pub(crate) use {list, table};
 #[derive(Clone)]
 pub struct Items<L: List> {
     list: L,
-    // What was asked for: first for the front, behind it for the back.
+    // Items that were read: those for the front, then those for the back.
     batch: L::Batch,
-    // What is left: places of the batch, then indices of the list, then places of the batch.
+    // The items that are left: indices of the batch, then of the list, then of the batch.
     front: Range<u64>,
     middle: Range<u64>,
     back: Range<u64>,
@@ -172,43 +172,45 @@ pub struct Items<L: List> {
 
 impl<L: List> Items<L> {
     pub(crate) fn new(list: L) -> Self {
-        Items { list, batch: L::room(), front: 0..0, middle: 0..list.count(), back: 0..0 }
+        Items { list, batch: L::batch(), front: 0..0, middle: 0..list.count(), back: 0..0 }
     }
 
-    // The item at a place of the batch, which is its own remainder: so no test of it is left, where the length is a power of two.
+    // Returns the item at an index of the batch. The remainder changes nothing, but the compiler then needs no bounds check if the
+    // length is a power of two.
     #[inline]
-    fn item(&self, place: u64) -> L::Item {
+    fn item(&self, index: u64) -> L::Item {
         let batch = self.batch.as_ref();
-        L::Item::from(batch[place as usize % batch.len()])
+        L::Item::from(batch[index as usize % batch.len()])
     }
 
-    fn room_in_front(&self) -> u64 {
+    // The number of items of a batch that are for the front.
+    fn front_len(&self) -> u64 {
         self.batch.as_ref().len() as u64 - BACK
     }
 
-    // Fills the batch from a place on with the items at some indices.
-    fn fill(&mut self, place: u64, indices: Range<u64>) -> Range<u64> {
-        let places = place..place + (indices.end - indices.start);
-        let room = &mut self.batch.as_mut()[places.start as usize..places.end as usize];
-        let filled = made(self.list.fill(indices.start, room));
-        assert_eq!(filled, Some(room.len() as u64), "the library fills the room that there are items for");
-        places
+    // Reads the items at some indices of the list into the batch, from an index of the batch on. Returns their indices there.
+    fn fill(&mut self, start: u64, indices: Range<u64>) -> Range<u64> {
+        let in_batch = start..start + (indices.end - indices.start);
+        let items = &mut self.batch.as_mut()[in_batch.start as usize..in_batch.end as usize];
+        let filled = made(self.list.fill(indices.start, items));
+        assert_eq!(filled, Some(items.len() as u64), "the library must fill an array that the list has enough items for");
+        in_batch
     }
 
-    // Whether there is something in front now, where there was nothing.
+    // Reads items for the front, if it has none. Reports whether it then has some.
     #[inline(never)]
     fn fill_front(&mut self) -> bool {
         if self.middle.is_empty() {
             self.front = mem::take(&mut self.back);
         } else {
             let Range { start, end } = self.middle;
-            self.middle.start = end.min(start + self.room_in_front());
+            self.middle.start = end.min(start + self.front_len());
             self.front = self.fill(0, start..self.middle.start);
         }
         !self.front.is_empty()
     }
 
-    // Whether there is something at the back now, where there was nothing.
+    // Reads items for the back, if it has none. Reports whether it then has some.
     #[inline(never)]
     fn fill_back(&mut self) -> bool {
         if self.middle.is_empty() {
@@ -216,7 +218,7 @@ impl<L: List> Items<L> {
         } else {
             let Range { start, end } = self.middle;
             self.middle.end = start.max(end.saturating_sub(BACK));
-            self.back = self.fill(self.room_in_front(), self.middle.end..end);
+            self.back = self.fill(self.front_len(), self.middle.end..end);
         }
         !self.back.is_empty()
     }
@@ -242,9 +244,9 @@ impl<L: List> Iterator for Items<L> {
     fn nth(&mut self, n: usize) -> Option<Self::Item> {
         let mut n = n as u64;
         for range in [&mut self.front, &mut self.middle, &mut self.back] {
-            let jump = n.min(range.end - range.start);
-            range.start += jump;
-            n -= jump;
+            let skipped = n.min(range.end - range.start);
+            range.start += skipped;
+            n -= skipped;
         }
         self.next()
     }

@@ -1,7 +1,7 @@
 //! Safe Rust over `goblin_c`, the static library of a verified port of goblin's ELF layer.
 //!
-//! A file is a slice of bytes: [`Elf::parse`] reads its header, and all else is read when it is asked for. What the library
-//! returns is proved; this crate passes it on. Names are goblin's where goblin has the thing.
+//! A file is a slice of bytes. [`Elf::parse`] reads its header, and everything else is read on demand. The library's results are
+//! proved, and this crate passes them on. Names are goblin's for everything that goblin has.
 //!
 //! ```
 //! # fn main() -> Result<(), Box<dyn std::error::Error>> {
@@ -16,13 +16,13 @@
 //! ```
 //!
 //! # Lists
-//! The call that makes a list fails where the list can't be read. The items of a list that was made are plain values, and all
-//! of them are there, so no adaptor of an iterator can drop a refusal. Each list has `len`, `is_empty` and `iter`, and is
-//! iterated over by value or by reference; those whose items have indices have `get`.
+//! The call that makes a list fails if the list can't be read. So a list has all of its items, and they are plain values: no iterator
+//! adaptor can drop an error. Each list has `len`, `is_empty` and `iter`, and can be iterated over by value or by reference. Lists
+//! whose items have indices also have `get`.
 //!
-//! # Lines that are written otherwise than with goblin
-//! A part of the file is read when it is asked for, which can fail, and a list is no slice. So some lines of goblin's users
-//! don't compile here. Each is a comment below, before what to write:
+//! # Coming from goblin
+//! Here each part of the file is read on demand, which can fail, and a list is not a slice. So some lines that work with goblin don't
+//! compile. They are the comments below, each before what to write instead:
 //!
 //! ```
 //! # fn main() -> Result<(), Box<dyn std::error::Error>> {
@@ -52,7 +52,7 @@
 //! // &elf.section_headers[1..], elf.section_headers.to_vec()
 //! let sections: Vec<SectionHeader> = elf.section_headers()?.iter().skip(1).collect();
 //! # assert!(!sections.is_empty());
-//! // elf.section_headers()?.skip(1): it is `iter` that makes an iterator
+//! // elf.section_headers()?.skip(1), since `iter` makes the iterator
 //! let _ = elf.section_headers()?.iter().skip(1);
 //!
 //! // for symbol in &elf.syms
@@ -89,8 +89,8 @@
 //! # }
 //! ```
 //!
-//! The dynamic section is another layer, so `elf.libraries`, `elf.soname`, `elf.rpaths`, `elf.runpaths` and `elf.interpreter`
-//! aren't here: the example `needed` reads them in a few lines.
+//! This crate does not read the dynamic section, so it has no `elf.libraries`, `elf.soname`, `elf.rpaths`, `elf.runpaths` and
+//! `elf.interpreter`. The example `needed` reads them in a few lines.
 #![deny(missing_docs, unsafe_code)]
 #![warn(clippy::missing_errors_doc)]
 

@@ -1,14 +1,14 @@
-//! Names of numbers, as values that take no memory.
+//! Names of numbers, as values that are not allocated.
 use std::borrow::Borrow;
 use std::cmp::Ordering;
 use std::hash::{Hash, Hasher};
 use std::ops::Deref;
 use std::{fmt, str};
 
-/// More than the longest name has, by the test.
-pub(crate) const ROOM: usize = 23;
+// The longest name is shorter, by the test.
+const CAPACITY: usize = 23;
 
-/// The name of a number, as `X86_64` of a machine. It can be used and compared as text is.
+/// The name of a number, such as `X86_64` for a machine. It can be used and compared like a `str`.
 ///
 /// ```
 /// use goblin_rs::header::{machine_to_str, EM_X86_64};
@@ -19,20 +19,20 @@ pub(crate) const ROOM: usize = 23;
 #[derive(Clone, Copy)]
 pub struct Name {
     len: u8,
-    text: [u8; ROOM],
+    text: [u8; CAPACITY],
 }
 
 impl Name {
-    /// The name that `write` writes into the room that it is handed, and whose size it answers.
-    pub(crate) fn from_room(write: impl FnOnce(&mut [u8]) -> usize) -> Self {
-        let mut text = [0; ROOM];
-        let len = write(&mut text).min(ROOM) as u8;
+    /// Returns the name that `write` writes into a buffer. `write` returns the length of the name.
+    pub(crate) fn written_by(write: impl FnOnce(&mut [u8]) -> usize) -> Self {
+        let mut text = [0; CAPACITY];
+        let len = write(&mut text).min(CAPACITY) as u8;
         Name { len, text }
     }
 
-    /// Returns its text.
+    /// Returns the name as text.
     pub fn as_str(&self) -> &str {
-        str::from_utf8(&self.text[..self.len.into()]).expect("the library's names are text")
+        str::from_utf8(&self.text[..self.len.into()]).expect("the library's names are UTF-8")
     }
 }
 
@@ -126,36 +126,36 @@ impl Hash for Name {
 
 #[cfg(test)]
 mod tests {
-    use super::ROOM;
+    use super::CAPACITY;
     use crate::sys;
 
     #[test]
-    fn no_name_is_longer() {
+    fn each_name_fits() {
         let mut longest = 0;
-        let mut holds = |size: usize| longest = size.max(longest);
+        let mut measure = |size: usize| longest = size.max(longest);
         for number in 0..=u16::MAX {
-            holds(sys::goblin_machine_to_str(number, &mut []));
-            holds(sys::goblin_et_to_str(number, &mut []));
+            measure(sys::goblin_machine_to_str(number, &mut []));
+            measure(sys::goblin_et_to_str(number, &mut []));
             let near = [0, 0x6000_0000, 0x6474_e000, 0x6fff_0000, 0x7000_0000, 0x7fff_0000, 0x8000_0000, 0x8fff_0000];
             for number in near.map(|start| start + u32::from(number)) {
-                holds(sys::goblin_pt_to_str(number, &mut []));
-                holds(sys::goblin_sht_to_str(number, &mut []));
+                measure(sys::goblin_pt_to_str(number, &mut []));
+                measure(sys::goblin_sht_to_str(number, &mut []));
             }
         }
         for number in 0..=u8::MAX {
-            holds(sys::goblin_class_to_str(number, &mut []));
-            holds(sys::goblin_bind_to_str(number, &mut []));
-            holds(sys::goblin_type_to_str(number, &mut []));
-            holds(sys::goblin_visibility_to_str(number, &mut []));
-            holds(sys::goblin_note_type_to_str(b"GNU", number.into(), &mut []));
-            holds(sys::goblin_note_type_to_str(b"CORE", number.into(), &mut []));
+            measure(sys::goblin_class_to_str(number, &mut []));
+            measure(sys::goblin_bind_to_str(number, &mut []));
+            measure(sys::goblin_type_to_str(number, &mut []));
+            measure(sys::goblin_visibility_to_str(number, &mut []));
+            measure(sys::goblin_note_type_to_str(b"GNU", number.into(), &mut []));
+            measure(sys::goblin_note_type_to_str(b"CORE", number.into(), &mut []));
         }
         for bit in 0..32 {
-            holds(sys::goblin_shf_to_str(1 << bit, &mut []));
+            measure(sys::goblin_shf_to_str(1 << bit, &mut []));
         }
-        // NT_SIGINFO, of files of memory
-        holds(sys::goblin_note_type_to_str(b"CORE", 0x5349_4749, &mut []));
+        // NT_SIGINFO, of core files
+        measure(sys::goblin_note_type_to_str(b"CORE", 0x5349_4749, &mut []));
         assert_eq!(longest, "SHT_GNU_ATTRIBUTES".len().max("SHF_OS_NONCONFORMING".len()));
-        assert!(longest <= ROOM);
+        assert!(longest <= CAPACITY);
     }
 }

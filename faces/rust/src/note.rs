@@ -20,7 +20,7 @@ use std::iter::FusedIterator;
 /// ```
 #[derive(Clone, Copy, Debug, PartialEq, Eq, Hash)]
 pub struct Note<'a> {
-    /// Its type, which the name gives its meaning.
+    /// Its type, whose meaning depends on the name.
     pub n_type: u32,
     /// Its name.
     pub name: &'a str,
@@ -29,13 +29,14 @@ pub struct Note<'a> {
 }
 
 impl Note<'_> {
-    /// Returns the name of its type, as NT_GNU_BUILD_ID, or NT_UNKNOWN.
+    /// Returns the name of its type, such as `NT_GNU_BUILD_ID`, or `NT_UNKNOWN`. Type 3 is `NT_GNU_BUILD_ID` for every name but
+    /// `CORE`, as in goblin.
     pub fn type_to_str(&self) -> Name {
-        Name::from_room(|room| sys::goblin_note_type_to_str(self.name.as_bytes(), self.n_type, room))
+        Name::written_by(|text| sys::goblin_note_type_to_str(self.name.as_bytes(), self.n_type, text))
     }
 }
 
-/// The notes of a range of the file.
+/// The notes of a section or a segment.
 ///
 /// ```
 /// # fn main() -> Result<(), Box<dyn std::error::Error>> {
@@ -60,7 +61,7 @@ pub struct Notes<'a> {
 }
 
 impl<'a> Notes<'a> {
-    /// Reads the notes of a range up to the first that can't be read, and returns why it can't.
+    /// Reads the notes of a range up to the first damaged one, and returns the error of that one.
     pub(crate) fn of(elf: &Elf<'a>, range: raw::Range, alignment: u64) -> (Self, Option<Error>) {
         let Elf { file, header } = *elf;
         let mut notes = Notes { file, header, range, alignment, count: 0 };
@@ -82,7 +83,7 @@ impl<'a> Notes<'a> {
 
 list!(Notes of Note<'a>, by NoteDataIterator<'a>, "note", "notes");
 
-/// An iterator over the notes of a range.
+/// An iterator over the notes of a section or a segment.
 ///
 /// ```
 /// # fn main() -> Result<(), Box<dyn std::error::Error>> {
@@ -98,7 +99,7 @@ list!(Notes of Note<'a>, by NoteDataIterator<'a>, "note", "notes");
 #[derive(Clone, Debug)]
 pub struct NoteDataIterator<'a> {
     notes: Notes<'a>,
-    // The offset at which the next note is asked for.
+    // The offset to read the next note at.
     next: u64,
     left: usize,
 }
@@ -129,13 +130,14 @@ impl ExactSizeIterator for NoteDataIterator<'_> {}
 
 impl FusedIterator for NoteDataIterator<'_> {}
 
+// The headers of what holds notes.
 #[derive(Clone, Copy, Debug)]
 enum Holders<'a> {
     Segments(ProgramHeaders<'a>),
     Sections(SectionHeaders<'a>),
 }
 
-/// An iterator over the notes of all segments of notes, or of all sections of notes.
+/// An iterator over the notes of all segments of type `PT_NOTE`, or of all sections of type `SHT_NOTE`.
 ///
 /// ```
 /// # fn main() -> Result<(), Box<dyn std::error::Error>> {
@@ -153,7 +155,7 @@ pub struct NoteIterator<'a> {
     holders: Holders<'a>,
     // The index of the next header.
     next: usize,
-    // The notes of the last header of notes before it.
+    // The notes of the last segment or section of notes before it.
     notes: Option<NoteDataIterator<'a>>,
     left: usize,
 }
@@ -176,7 +178,7 @@ impl<'a> NoteIterator<'a> {
         Ok(all)
     }
 
-    // The notes of the next header of notes.
+    // Returns the notes of the next segment or section of notes.
     fn next_notes(&mut self) -> Option<Result<Notes<'a>>> {
         loop {
             let (elf, index) = (&self.elf, self.next);

@@ -10,28 +10,28 @@ use crate::sys;
 use std::ops::Range;
 
 impl ProgramHeader {
-    /// Returns where the segment lies in the file, inside it or not. An end past the greatest number is that number.
+    /// Returns the segment's range in the file, inside the file or not. Its end is at most `u64::MAX`.
     pub fn file_range(&self) -> Range<usize> {
         self.p_offset as usize..self.p_offset.saturating_add(self.p_filesz) as usize
     }
 
-    /// Returns where the segment lies in memory. An end past the greatest address is that address.
+    /// Returns the segment's range in memory. Its end is at most `u64::MAX`.
     pub fn vm_range(&self) -> Range<usize> {
         self.p_vaddr as usize..self.p_vaddr.saturating_add(self.p_memsz) as usize
     }
 
-    /// Reports whether a section lies in the segment, as `readelf -l` maps sections to segments.
+    /// Reports whether the segment holds a section, as `readelf -l` maps sections to segments.
     ///
-    /// The section's bytes in the file, if it has any there, lie in the segment's, and its addresses, if it is loaded
-    /// (`SHF_ALLOC`), lie in the segment's. Not every segment holds every section:
+    /// The section's range in the file, if it has one, must be inside the segment's. If it is loaded (`SHF_ALLOC`), its addresses must
+    /// be inside the segment's, too. Some segments hold only some sections:
     /// - `PT_PHDR` holds none.
-    /// - `PT_TLS` holds those with `SHF_TLS` alone. Of these, `PT_LOAD` and `PT_GNU_RELRO` hold those that have bytes in the
-    ///   file, and other segments hold none.
-    /// - `PT_LOAD`, `PT_GNU_RELRO`, `PT_DYNAMIC`, `PT_GNU_EH_FRAME` and `PT_GNU_STACK` hold loaded sections alone.
-    /// - An empty section isn't held at the segment's end, nor at the start of `PT_DYNAMIC` or `PT_NOTE`, unless the segment
-    ///   is empty too.
+    /// - `PT_TLS` holds only sections with `SHF_TLS`. Of these, `PT_LOAD` and `PT_GNU_RELRO` hold those with bytes in the file, and
+    ///   other segments hold none.
+    /// - `PT_LOAD`, `PT_GNU_RELRO`, `PT_DYNAMIC`, `PT_GNU_EH_FRAME` and `PT_GNU_STACK` hold only loaded sections.
+    /// - An empty section is not held at the segment's end, nor at the start of `PT_DYNAMIC` or `PT_NOTE`, unless the segment is
+    ///   empty, too.
     ///
-    /// The rule is this crate's and not the library's: it is tested and compared with `readelf`, but not proved.
+    /// This rule is not part of the library. It is tested, and compared with `readelf`, but not proved.
     pub fn holds(&self, section: &SectionHeader) -> bool {
         let has_bytes = section.sh_type != SHT_NOBITS;
         let first = u64::from(section.sh_size == 0 && self.p_memsz != 0 && [PT_DYNAMIC, PT_NOTE].contains(&self.p_type));
@@ -44,7 +44,7 @@ impl ProgramHeader {
             && (!section.is_alloc() || lies_in(section.sh_addr, self.p_vaddr, self.p_memsz))
     }
 
-    // Whether segments of this type hold sections like this one.
+    // Reports whether segments of this type hold sections of this kind.
     fn may_hold(&self, section: &SectionHeader) -> bool {
         let is_tls = section.sh_flags & SHF_TLS != 0;
         match self.p_type {
@@ -91,13 +91,13 @@ pub struct ProgramHeaders<'a> {
     count: u64,
 }
 
-/// Program headers in their order.
+/// An iterator over program headers.
 pub type ProgramHeaderIterator<'a> = Items<ProgramHeaders<'a>>;
 
 impl<'a> ProgramHeaders<'a> {
     pub(crate) fn of(elf: Elf<'a>) -> Result<Self> {
         let count = sys::goblin_segment_count(&elf.file, &elf.header)?;
-        Ok(ProgramHeaders { elf, count: count.expect("headers that aren't refused have a count") })
+        Ok(ProgramHeaders { elf, count: count.expect("headers that are not refused have a count") })
     }
 }
 
@@ -108,7 +108,7 @@ impl List for ProgramHeaders<'_> {
     type Batch = [ProgramHeader; 32];
     type Item = ProgramHeader;
 
-    fn room() -> Self::Batch {
+    fn batch() -> Self::Batch {
         [Default::default(); 32]
     }
 
@@ -121,11 +121,11 @@ impl List for ProgramHeaders<'_> {
         sys::goblin_segment(&self.elf.file, &self.elf.header, index)
     }
 
-    fn fill(&self, first: u64, into: &mut [ProgramHeader]) -> Result<Option<u64>> {
+    fn fill(&self, first: u64, items: &mut [ProgramHeader]) -> Result<Option<u64>> {
         let mut filled = 0;
-        for (place, index) in into.iter_mut().zip(first..) {
+        for (item, index) in items.iter_mut().zip(first..) {
             match self.read(index)? {
-                Some(segment) => *place = segment,
+                Some(segment) => *item = segment,
                 None => break,
             }
             filled += 1;
@@ -134,7 +134,7 @@ impl List for ProgramHeaders<'_> {
     }
 }
 
-/// Returns the name of a segment's type, as PT_LOAD, or UNKNOWN_PT.
+/// Returns the name of a segment's type, such as `PT_LOAD`, or `UNKNOWN_PT`.
 pub fn pt_to_str(p_type: u32) -> Name {
-    Name::from_room(|room| sys::goblin_pt_to_str(p_type, room))
+    Name::written_by(|text| sys::goblin_pt_to_str(p_type, text))
 }

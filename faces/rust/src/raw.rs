@@ -1,7 +1,7 @@
-//! What crosses to the library: the structs of `goblin.h`, whose comments say what their fields are; some are this crate's
-//! own records. The test compares the place and the size of each field with the library's.
+//! The structs of `goblin.h`, which the library reads and writes. Some are public types of this crate. The test compares the offset
+//! and the size of each field with the library's.
 
-const _: () = assert!(usize::BITS == 64, "the library is made for machines of 64 bits");
+const _: () = assert!(usize::BITS == 64, "the library is only for 64-bit machines");
 
 macro_rules! records {
     ($($(#[$doc:meta])* $name:ident { $($(#[$of_field:meta])* $field:ident: $type:ty),* $(,)? })*) => {$(
@@ -40,39 +40,39 @@ records! {
     Header {
         /// The address at which the program starts, or 0.
         e_entry: u64,
-        /// Where the program headers start, in bytes from the file's start, or 0.
+        /// The offset of the program headers, or 0.
         e_phoff: u64,
-        /// Where the section headers start, in bytes from the file's start, or 0 for none.
+        /// The offset of the section headers, or 0 if there are none.
         e_shoff: u64,
         /// The version of the format.
         e_version: u32,
         /// Flags of the machine.
         e_flags: u32,
-        /// What the file is, an `ET_` number.
+        /// What kind of file it is, an `ET_` number.
         e_type: u16,
         /// The machine, an `EM_` number.
         e_machine: u16,
-        /// The header's size in bytes, as it says.
+        /// The size of this header that the file states.
         e_ehsize: u16,
-        /// The size of a program header in bytes, as it says; the class tells what is read.
+        /// The size of a program header that the file states. The size that is read depends on the class alone.
         e_phentsize: u16,
-        /// How many program headers there are.
+        /// The number of program headers.
         e_phnum: u16,
-        /// The size of a section header in bytes, as it says; the class tells what is read.
+        /// The size of a section header that the file states. The size that is read depends on the class alone.
         e_shentsize: u16,
-        /// How many section headers there are; where it is 0, the first one's `sh_size` tells.
+        /// The number of section headers. If it is 0, the first section's `sh_size` has the number.
         e_shnum: u16,
-        /// The index of the section that holds the sections' names, or 0xffff where the first one's `sh_link` tells.
+        /// The index of the section that holds the section names, or 0xffff if the first section's `sh_link` has the index.
         e_shstrndx: u16,
-        /// 2 for 64 bits; any other number is taken for 32 bits, which is 1.
+        /// 2 for 64 bits. Any other number counts as 1, for 32 bits.
         ei_class: u8,
-        /// 2 where the highest byte comes first; any other number is taken for the other order, which is 1.
+        /// 2 for big endian. Any other number counts as 1, for little endian.
         ei_data: u8,
         /// The version of the format once more.
         ei_version: u8,
-        /// The operating system.
+        /// The operating system or ABI, an `ELFOSABI_` number.
         ei_osabi: u8,
-        /// Its version.
+        /// The version of that ABI.
         ei_abiversion: u8,
     }
     /// A section header.
@@ -84,25 +84,25 @@ records! {
     /// assert!(section.sh_flags & SHF_ALLOC != 0 && section.is_writable());
     /// ```
     SectionHeader {
-        /// Where it starts, in bytes from the file's start.
+        /// The offset of its bytes in the file.
         sh_offset: u64,
-        /// How many bytes it has.
+        /// Its size.
         sh_size: u64,
-        /// Where the name lies in the section names, in bytes from their start.
+        /// The offset of its name in the section names.
         sh_name: usize,
         /// `SHF_` flags.
         sh_flags: u64,
         /// Its address in memory, or 0.
         sh_addr: u64,
-        /// What its address is aligned to, in bytes.
+        /// The alignment of its address; 0 and 1 for none.
         sh_addralign: u64,
-        /// The size of an entry in bytes, where it is a table of them.
+        /// The size of an entry if the section is a table.
         sh_entsize: u64,
-        /// What the section holds, an `SHT_` number.
+        /// What it holds, an `SHT_` number.
         sh_type: u32,
         /// The index of a section that belongs to it.
         sh_link: u32,
-        /// More, as its type says.
+        /// Further information that depends on the type.
         sh_info: u32,
     }
     /// A program header.
@@ -114,21 +114,21 @@ records! {
     /// assert!(segment.is_executable() && !segment.is_write());
     /// ```
     ProgramHeader {
-        /// Where the segment starts, in bytes from the file's start.
+        /// The offset of its bytes in the file.
         p_offset: u64,
-        /// How many bytes of the file it takes.
+        /// Its size in the file.
         p_filesz: u64,
         /// Its address in memory.
         p_vaddr: u64,
-        /// Its physical address, where there are such.
+        /// Its physical address, on systems that have such.
         p_paddr: u64,
-        /// How many bytes it takes in memory.
+        /// Its size in memory.
         p_memsz: u64,
-        /// What it is aligned to, in bytes.
+        /// Its alignment.
         p_align: u64,
-        /// What the segment is, a `PT_` number.
+        /// What it is, a `PT_` number.
         p_type: u32,
-        /// `PF_` flags: 1 executed, 2 written, 4 read.
+        /// `PF_` flags: 1 execute, 2 write, 4 read.
         p_flags: u32,
     }
     /// A symbol.
@@ -141,13 +141,13 @@ records! {
     /// assert!(symbol.is_function() && symbol.is_import() && symbol.st_shndx == SHN_UNDEF);
     /// ```
     Sym {
-        /// Where the name lies in the string table, in bytes from its start; 0 for none.
+        /// The offset of its name in the string table, or 0 for none.
         st_name: usize,
-        /// The value, an address for most symbols.
+        /// Its value: mostly an address. In a file of type `ET_REL` an offset in its section.
         st_value: u64,
-        /// How many bytes it stands for; 0 for none or an unknown number.
+        /// Its size, or 0 for none or an unknown size.
         st_size: u64,
-        /// The index of its section, or an `SHN_` number: 0 for a symbol that is not defined here.
+        /// The index of its section, or an `SHN_` number: 0 if it is not defined in this file.
         st_shndx: usize,
         /// The binding in the high four bits, the type in the low four.
         st_info: u8,
@@ -166,7 +166,7 @@ pub mod tests {
     use crate::sys;
 
     pub trait Fields {
-        /// The bytes of each field, a range's two counted as two.
+        /// Returns the bytes of each field. A range counts as two fields.
         fn fields(&self) -> Vec<Vec<u8>>;
     }
 
@@ -182,7 +182,7 @@ pub mod tests {
     numbers!(u8 u16 u32 u64 i64 usize);
 
     records! {
-        /// One of each, which the library fills.
+        /// One of each struct, which the library fills.
         Layout {
             size_of_refusal: u64, size_of_range: u64, size_of_header: u64, size_of_section: u64, size_of_segment: u64,
             size_of_symbol: u64, size_of_reloc: u64, size_of_note: u64, refusal: Refusal, range: Range, header: Header,
@@ -190,7 +190,7 @@ pub mod tests {
         }
     }
 
-    // Each byte of a record's first field is 1, of its second 2, and so on.
+    // Fails unless each byte of a record's first field is 1, of its second 2, and so on.
     fn assert_filled<T: Fields>(record: &T, size: u64, fields: usize) {
         assert_eq!(std::mem::size_of::<T>() as u64, size);
         let found = record.fields();
@@ -201,7 +201,7 @@ pub mod tests {
     }
 
     #[test]
-    fn fields_lie_where_the_library_puts_them() {
+    fn fields_have_the_offsets_of_the_library() {
         let (version, layout) = sys::version_and_layout();
         assert_eq!(version, 3);
         assert_filled(&layout.refusal, layout.size_of_refusal, 6);

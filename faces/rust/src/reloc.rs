@@ -18,13 +18,13 @@ use std::iter::FusedIterator;
 /// ```
 #[derive(Clone, Copy, Debug, Default, PartialEq, Eq, Hash)]
 pub struct Reloc {
-    /// The place, as the file's type says: an offset in a section, or an address.
+    /// Where it applies: an offset in a section, or an address, which depends on the file's type.
     pub r_offset: u64,
-    /// What is added, or `None` where the place itself holds it.
+    /// The addend, or `None` if the relocation has none of its own.
     pub r_addend: Option<i64>,
-    /// The index of the symbol, 0 for none.
+    /// The index of the symbol, or 0 for none.
     pub r_sym: usize,
-    /// The type, which the machine gives its meaning.
+    /// The type, whose meaning depends on the machine.
     pub r_type: u32,
 }
 
@@ -63,14 +63,14 @@ pub struct RelocSection<'a> {
     count: u64,
 }
 
-/// Relocations in their order.
+/// An iterator over relocations.
 pub type RelocIterator<'a> = Items<RelocSection<'a>>;
 
 impl<'a> RelocSection<'a> {
     pub(crate) fn of(elf: &Elf<'a>, range: raw::Range, is_rela: bool) -> Result<Self> {
         let Elf { file, header } = *elf;
         let count = sys::goblin_reloc_count(&file, &header, &range, is_rela)?;
-        Ok(RelocSection { file, header, range, is_rela, count: count.expect("a section that isn't refused has a count") })
+        Ok(RelocSection { file, header, range, is_rela, count: count.expect("a section that is not refused has a count") })
     }
 }
 
@@ -81,7 +81,7 @@ impl List for RelocSection<'_> {
     type Batch = [raw::Reloc; 64];
     type Item = Reloc;
 
-    fn room() -> Self::Batch {
+    fn batch() -> Self::Batch {
         [Default::default(); 64]
     }
 
@@ -94,12 +94,12 @@ impl List for RelocSection<'_> {
         sys::goblin_reloc(&self.file, &self.header, &self.range, self.is_rela, index)
     }
 
-    fn fill(&self, first: u64, into: &mut [raw::Reloc]) -> Result<Option<u64>> {
-        sys::goblin_relocs(&self.file, &self.header, &self.range, self.is_rela, first, into)
+    fn fill(&self, first: u64, items: &mut [raw::Reloc]) -> Result<Option<u64>> {
+        sys::goblin_relocs(&self.file, &self.header, &self.range, self.is_rela, first, items)
     }
 }
 
-/// The sections of relocations of a file, each with its header, in their order. Each lies in the file.
+/// The relocation sections of a file, each with its header. Each is inside the file.
 ///
 /// ```
 /// # fn main() -> Result<(), Box<dyn std::error::Error>> {
@@ -130,13 +130,13 @@ impl<'a> RelocSections<'a> {
     }
 }
 
-list!(RelocSections of (SectionHeader, RelocSection<'a>), by RelocSectionIterator<'a>, "section of relocations", "sections of relocations");
+list!(RelocSections of (SectionHeader, RelocSection<'a>), by RelocSectionIterator<'a>, "relocation section", "relocation sections");
 
 pub(crate) fn holds_relocs(header: &SectionHeader) -> bool {
     header.sh_type == SHT_RELA || header.sh_type == SHT_REL
 }
 
-/// An iterator over the sections of relocations of a file, each with its header, from both ends.
+/// An iterator over the relocation sections of a file, each with its header, from both ends.
 ///
 /// ```
 /// # fn main() -> Result<(), Box<dyn std::error::Error>> {
@@ -160,7 +160,7 @@ impl<'a> RelocSectionIterator<'a> {
         RelocSectionIterator { elf: list.elf, headers: list.headers.iter(), left: list.count }
     }
 
-    // The relocations of the section header that was found.
+    // Returns the relocations of a section header, if one was found.
     fn take(&mut self, header: Option<SectionHeader>) -> Option<(SectionHeader, RelocSection<'a>)> {
         let header = header?;
         self.left -= 1;

@@ -9,41 +9,42 @@ use crate::{raw, sys};
 use std::ops::Range;
 
 impl SectionHeader {
-    /// Returns where the section lies in the file, inside it or not, or `None` for a section without bytes there
-    /// (`SHT_NOBITS`). An end past the greatest number is that number. [`Elf::section_data`] returns the bytes.
+    /// Returns the section's range in the file, inside the file or not, or `None` if it has no bytes there (`SHT_NOBITS`). Its end is
+    /// at most `usize::MAX`. [`Elf::section_data`] returns the bytes.
     pub fn file_range(&self) -> Option<Range<usize>> {
         let start = self.sh_offset as usize;
         let range = start..start.saturating_add(self.sh_size as usize);
         Some(range).filter(|_| self.sh_type != SHT_NOBITS)
     }
 
-    /// Returns where the section lies in memory. An end past the greatest address is that address.
+    /// Returns the section's range in memory. Its end is at most `usize::MAX`.
     pub fn vm_range(&self) -> Range<usize> {
         let start = self.sh_addr as usize;
         start..start.saturating_add(self.sh_size as usize)
     }
 
-    /// Reports whether the section holds relocations with addends (`SHT_RELA`). Those without (`SHT_REL`) are not counted, as in goblin.
+    /// Reports whether the section holds relocations with addends (`SHT_RELA`). As in goblin, it is false for those without
+    /// (`SHT_REL`).
     pub fn is_relocation(&self) -> bool {
         self.sh_type == SHT_RELA
     }
 
-    /// Reports whether the section is in memory and may be executed.
+    /// Reports whether the section is loaded and executable.
     pub fn is_executable(&self) -> bool {
         self.is_alloc() && self.sh_flags & SHF_EXECINSTR != 0
     }
 
-    /// Reports whether the section is in memory and may be written.
+    /// Reports whether the section is loaded and writable.
     pub fn is_writable(&self) -> bool {
         self.is_alloc() && self.sh_flags & SHF_WRITE != 0
     }
 
-    /// Reports whether the section is in memory while the program runs.
+    /// Reports whether the section is loaded into memory.
     pub fn is_alloc(&self) -> bool {
         self.sh_flags & SHF_ALLOC != 0
     }
 
-    /// Its bytes in the file: none of a section that has none there, whatever its size.
+    /// Returns its range in the file, which is empty for `SHT_NOBITS`, whatever its size.
     pub(crate) fn range(&self) -> raw::Range {
         match self.sh_type {
             SHT_NOBITS => raw::Range::default(),
@@ -71,13 +72,13 @@ pub struct SectionHeaders<'a> {
     count: u64,
 }
 
-/// Section headers in their order.
+/// An iterator over section headers.
 pub type SectionHeaderIterator<'a> = Items<SectionHeaders<'a>>;
 
 impl<'a> SectionHeaders<'a> {
     pub(crate) fn of(elf: Elf<'a>) -> Result<Self> {
         let count = sys::goblin_section_count(&elf.file, &elf.header)?;
-        Ok(SectionHeaders { elf, count: count.expect("headers that aren't refused have a count") })
+        Ok(SectionHeaders { elf, count: count.expect("headers that are not refused have a count") })
     }
 }
 
@@ -88,7 +89,7 @@ impl List for SectionHeaders<'_> {
     type Batch = [SectionHeader; 32];
     type Item = SectionHeader;
 
-    fn room() -> Self::Batch {
+    fn batch() -> Self::Batch {
         [Default::default(); 32]
     }
 
@@ -101,18 +102,20 @@ impl List for SectionHeaders<'_> {
         sys::goblin_section(&self.elf.file, &self.elf.header, index)
     }
 
-    fn fill(&self, first: u64, into: &mut [SectionHeader]) -> Result<Option<u64>> {
-        sys::goblin_sections(&self.elf.file, &self.elf.header, first, into)
+    fn fill(&self, first: u64, items: &mut [SectionHeader]) -> Result<Option<u64>> {
+        sys::goblin_sections(&self.elf.file, &self.elf.header, first, items)
     }
 }
 
-/// Returns the name of a section's type, as SHT_PROGBITS, or UNKNOWN_SHT.
+/// Returns the name of a section's type, such as `SHT_PROGBITS`, or `UNKNOWN_SHT`. As in goblin, 19 is `SHT_NUM`, which newer tools
+/// print as `RELR`, and 0x70000001 is `SHT_X86_64_UNWIND` for every machine.
 pub fn sht_to_str(sh_type: u32) -> Name {
-    Name::from_room(|room| sys::goblin_sht_to_str(sh_type, room))
+    Name::written_by(|text| sys::goblin_sht_to_str(sh_type, text))
 }
 
-/// Returns the name of one flag of a section, as SHF_WRITE, or SHF_UNKNOWN. No flag has more than 32 bits.
+/// Returns the name of one flag of a section, such as `SHF_WRITE`, or `SHF_UNKNOWN`.
 pub fn shf_to_str(flag: u64) -> Name {
+    // (no flag above 32 bits has a name, and neither has 0)
     let flag = u32::try_from(flag).unwrap_or(0);
-    Name::from_room(|room| sys::goblin_shf_to_str(flag, room))
+    Name::written_by(|text| sys::goblin_shf_to_str(flag, text))
 }

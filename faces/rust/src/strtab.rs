@@ -24,19 +24,19 @@ impl<'a> Strtab<'a> {
     /// Returns the string at an offset from the table's start, or `None` past its end.
     ///
     /// # Errors
-    /// Where the table doesn't lie in the file, and where the string is no UTF-8.
+    /// If the table is not inside the file, or the string is not UTF-8.
     #[inline]
     pub fn get(&self, offset: usize) -> Result<Option<&'a str>> {
         sys::string(self.file.0, &self.range, offset as u64)
     }
 
-    /// Returns the bytes of the string at an offset, text or not, or `None` past the table's end.
+    /// Returns the bytes of the string at an offset, which need not be UTF-8, or `None` past the end of the table.
     ///
     /// # Errors
-    /// Where the table doesn't lie in the file.
+    /// If the table is not inside the file.
     #[inline]
     pub fn get_bytes(&self, offset: usize) -> Result<Option<&'a [u8]>> {
-        let place = sys::goblin_string_bytes(&self.file, &self.range, offset as u64)?;
-        Ok(place.map(|place| self.file.slice(place)))
+        let range = sys::goblin_string_bytes(&self.file, &self.range, offset as u64)?;
+        Ok(range.map(|range| self.file.slice(range)))
     }
 }

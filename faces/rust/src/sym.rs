@@ -25,7 +25,7 @@ impl Sym {
         st_visibility(self.st_other)
     }
 
-    /// Reports whether the symbol is imported: its binding is `STB_GLOBAL` or `STB_WEAK`, and its value 0.
+    /// Reports whether the symbol is imported: its binding is `STB_GLOBAL` or `STB_WEAK`, and its value is 0.
     pub fn is_import(&self) -> bool {
         (self.st_bind() == STB_GLOBAL || self.st_bind() == STB_WEAK) && self.st_value == 0
     }
@@ -51,8 +51,7 @@ pub fn st_visibility(other: u8) -> u8 {
     other & 0x7
 }
 
-/// Reports whether a symbol with this `st_info` and value is global and has no value. A weak symbol isn't counted here, but
-/// by [`Sym::is_import`], as in goblin.
+/// Reports whether a symbol is global and its value is 0. As in goblin, it is false for a weak symbol, unlike [`Sym::is_import`].
 pub fn is_import(info: u8, value: u64) -> bool {
     st_bind(info) == STB_GLOBAL && value == 0
 }
@@ -62,7 +61,7 @@ pub fn get_type(info: u8) -> Name {
     type_to_str(st_type(info))
 }
 
-/// A table of symbols, with their names.
+/// A symbol table, with the string table of its names.
 ///
 /// ```
 /// # fn main() -> Result<(), Box<dyn std::error::Error>> {
@@ -87,14 +86,14 @@ pub struct Symtab<'a> {
     strtab: Strtab<'a>,
 }
 
-/// Symbols in their order.
+/// An iterator over symbols.
 pub type SymIterator<'a> = Items<Symtab<'a>>;
 
 impl<'a> Symtab<'a> {
     pub(crate) fn of(elf: &Elf<'a>, range: raw::Range, strtab: Strtab<'a>) -> Result<Self> {
         let Elf { file, header } = *elf;
         let count = sys::goblin_symbol_count(&file, &header, &range)?;
-        Ok(Symtab { file, header, range, count: count.expect("a table that isn't refused has a count"), strtab })
+        Ok(Symtab { file, header, range, count: count.expect("a table that is not refused has a count"), strtab })
     }
 
     /// Returns the string table.
@@ -102,25 +101,27 @@ impl<'a> Symtab<'a> {
         self.strtab
     }
 
-    /// Returns the name of a symbol, or `None` where it lies past the string table.
+    /// Returns the name of a symbol, or `None` if its offset is past the end of the string table.
     ///
     /// # Errors
-    /// Where the string table doesn't lie in the file, and where the name is no text.
+    /// If the string table is not inside the file, or the name is not UTF-8.
     #[inline]
     pub fn name(&self, symbol: &Sym) -> Result<Option<&'a str>> {
         self.strtab.get(symbol.st_name)
     }
 
-    /// Returns the bytes of a symbol's name, text or not, or `None` where it lies past the string table.
+    /// Returns the bytes of a symbol's name, which need not be UTF-8, or `None` if its offset is past the end of the string table.
     ///
     /// # Errors
-    /// Where the string table doesn't lie in the file.
+    /// If the string table is not inside the file.
     #[inline]
     pub fn name_bytes(&self, symbol: &Sym) -> Result<Option<&'a [u8]>> {
         self.strtab.get_bytes(symbol.st_name)
     }
 
-    /// Returns the index of the symbol that an address lies in: the highest one at it or below it, as `goblin.h` says.
+    /// Returns the index of the symbol for an address: the one with the highest `st_value` that is not above the address. It may end
+    /// before the address: compare `st_value + st_size` with it, if `st_size` is not 0. `goblin_symbol_by_address` in `goblin.h` has
+    /// the whole rule.
     pub fn at(&self, address: u64) -> Option<usize> {
         let index = sys::goblin_symbol_by_address(&self.file, &self.header, &self.range, address);
         made(index).map(|index| index as usize)
@@ -129,7 +130,7 @@ impl<'a> Symtab<'a> {
     /// Returns the index of the first symbol with a name.
     ///
     /// # Errors
-    /// Where the string table doesn't lie in the file.
+    /// If the string table is not inside the file.
     pub fn find(&self, name: &str) -> Result<Option<usize>> {
         let names = &self.strtab.range;
         let index = sys::goblin_symbol_by_name(&self.file, &self.header, &self.range, names, name.as_bytes())?;
@@ -144,7 +145,7 @@ impl List for Symtab<'_> {
     type Batch = [Sym; 64];
     type Item = Sym;
 
-    fn room() -> Self::Batch {
+    fn batch() -> Self::Batch {
         [Default::default(); 64]
     }
 
@@ -157,22 +158,22 @@ impl List for Symtab<'_> {
         sys::goblin_symbol(&self.file, &self.header, &self.range, index)
     }
 
-    fn fill(&self, first: u64, into: &mut [Sym]) -> Result<Option<u64>> {
-        sys::goblin_symbols(&self.file, &self.header, &self.range, first, into)
+    fn fill(&self, first: u64, items: &mut [Sym]) -> Result<Option<u64>> {
+        sys::goblin_symbols(&self.file, &self.header, &self.range, first, items)
     }
 }
 
-/// Returns the name of a binding, as GLOBAL, or UNKNOWN_STB.
+/// Returns the name of a binding, such as `GLOBAL`, or `UNKNOWN_STB`.
 pub fn bind_to_str(binding: u8) -> Name {
-    Name::from_room(|room| sys::goblin_bind_to_str(binding, room))
+    Name::written_by(|text| sys::goblin_bind_to_str(binding, text))
 }
 
-/// Returns the name of a symbol's type, as FUNC, or UNKNOWN_STT.
+/// Returns the name of a symbol's type, such as `FUNC`, or `UNKNOWN_STT`.
 pub fn type_to_str(type_: u8) -> Name {
-    Name::from_room(|room| sys::goblin_type_to_str(type_, room))
+    Name::written_by(|text| sys::goblin_type_to_str(type_, text))
 }
 
-/// Returns the name of a visibility, as HIDDEN, or UNKNOWN_STV.
+/// Returns the name of a visibility, such as `HIDDEN`, or `UNKNOWN_STV`.
 pub fn visibility_to_str(visibility: u8) -> Name {
-    Name::from_room(|room| sys::goblin_visibility_to_str(visibility, room))
+    Name::written_by(|text| sys::goblin_visibility_to_str(visibility, text))
 }

@@ -1,15 +1,14 @@
-//! The calls of the library, as `goblin.h` declares them and says what each answers. All unsafe code of this crate is here.
+//! The calls of the library, which `goblin.h` declares and documents. All unsafe code of this crate is here.
 //!
-//! No call has a condition but what its types say: it reads the bytes of its slices and what its references are of, and
-//! writes to the places that it is handed, no further than their length. So each is a safe function. Nothing compares
-//! these declarations with the library's but the tests.
+//! Each call is a safe function, since its types say all that it needs: it reads only its slices and references, and writes only its
+//! mutable ones, within their lengths. Only the tests compare these declarations with the library's.
 use crate::error::{Error, Result};
 use crate::file::File;
 use crate::raw::{Header, Note, ProgramHeader, Range, Refusal, Reloc, SectionHeader, Sym};
 use std::str;
 
-// A call on a file's bytes and what else is given; `by` a name; `into` some items, of which it tells how many were filled.
-// It answers an item, `None` past the last one or where nothing has that name, or why the file is refused.
+// A call takes the file's bytes and further arguments: after `by` a name, after `into` an array to fill. It returns an item (the number
+// of items that were filled, for an array), `None` for GOBLIN_END, or the error for a refusal.
 macro_rules! calls {
     ($(fn $name:ident($($given:ident: $type:ty),*) $(by $by:ident)? $(into [$each:ty])? -> $item:ty;)*) => {$(
         #[inline]
@@ -19,13 +18,13 @@ macro_rules! calls {
                     $(, items: *mut $each, _: usize)?, item: *mut $item, why: *mut Refusal) -> u32;
             }
             let (mut item, mut why) = <($item, Refusal)>::default();
-            // SAFETY: each pointer is handed over with its own slice's length, and the references, the slices and the two
-            // places, which are this call's own, outlive the call. All that is written are numbers.
-            let answer = unsafe {
+            // SAFETY: each pointer of a slice is passed with the slice's length. `item` and `why` are this function's own, and all
+            // references and slices outlive the call. It writes only numbers.
+            let status = unsafe {
                 $name(bytes.as_ptr(), bytes.len() $(, $given)* $(, $by.as_ptr(), $by.len())?
                     $(, items.as_mut_ptr() as *mut $each, items.len())?, &mut item, &mut why)
             };
-            match answer {
+            match status {
                 0 => Ok(Some(item)),
                 1 => Ok(None),
                 _ => Err(Error::new(why)),
@@ -61,21 +60,21 @@ calls! {
     fn goblin_string(strings: &Range, offset: u64) -> Range;
 }
 
-/// The string whose place `goblin_string` tells. It is not tested once more for being text.
+/// Returns the string whose range `goblin_string` returns. It is not checked once more for being UTF-8.
 #[inline]
 pub fn string<'a>(bytes: &'a [u8], strings: &Range, offset: u64) -> Result<Option<&'a str>> {
-    let string = goblin_string(bytes, strings, offset)?.map(|place| File(bytes).slice(place));
+    let string = goblin_string(bytes, strings, offset)?.map(|range| File(bytes).slice(range));
     debug_assert!(string.map_or(true, |string| str::from_utf8(string).is_ok()));
-    // SAFETY: where the library tells a string, it is UTF-8, which is proved of it.
+    // SAFETY: a string that the library returns is UTF-8, which is proved.
     Ok(string.map(|string| unsafe { str::from_utf8_unchecked(string) }))
 }
 
-// A text that a call writes into the room that it is handed, as much of it as there is room for. It answers the whole text's size.
+// A call writes a text into a buffer, or as much of it as fits, and returns the length of the whole text.
 macro_rules! texts {
     ($(fn $name:ident($given:ident: $type:ty $(, by $by:ident)?);)*) => {$(
         pub fn $name($($by: &[u8], )? $given: $type, text: &mut [u8]) -> usize {
-            extern "C" { fn $name($($by: *const u8, _: usize, )? $given: $type, text: *mut u8, room: usize) -> u64; }
-            // SAFETY: as above: each pointer has the length of its slice.
+            extern "C" { fn $name($($by: *const u8, _: usize, )? $given: $type, text: *mut u8, capacity: usize) -> u64; }
+            // SAFETY: each pointer is passed with the length of its slice, and all outlive the call.
             unsafe { $name($($by.as_ptr(), $by.len(), )? $given, text.as_mut_ptr(), text.len()) as usize }
         }
     )*};
@@ -99,6 +98,6 @@ texts! {
 pub fn version_and_layout() -> (u32, crate::raw::tests::Layout) {
     extern "C" { fn goblin_version() -> u32; fn goblin_layout(layout: *mut crate::raw::tests::Layout); }
     let mut layout = Default::default();
-    // SAFETY: the first call takes nothing, and the second writes numbers to a place of its own.
+    // SAFETY: the first call takes no argument, and the second writes only numbers to `layout`.
     unsafe { goblin_layout(&mut layout); (goblin_version(), layout) }
 }
