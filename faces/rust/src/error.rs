@@ -221,11 +221,11 @@ impl From<Error> for io::Error {
 }
 
 #[cfg(test)]
-mod tests {
+pub(crate) mod tests {
     use super::*;
 
     // Returns the text of `goblin.h`, from the repository or from where it is installed with this crate.
-    fn goblin_h() -> String {
+    pub(crate) fn goblin_h() -> String {
         let here = std::path::Path::new(env!("CARGO_MANIFEST_DIR"));
         let paths = ["../c/goblin.h", "../../../include/goblin.h"].map(|path| here.join(path));
         let found = paths.iter().find_map(|path| std::fs::read_to_string(path).ok());

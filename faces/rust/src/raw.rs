@@ -203,7 +203,9 @@ pub mod tests {
     #[test]
     fn fields_have_the_offsets_of_the_library() {
         let (version, layout) = sys::version_and_layout();
-        assert_eq!(version, 3);
+        let goblin_h = crate::error::tests::goblin_h();
+        let interface = goblin_h.split("#define GOBLIN_VERSION ").nth(1).and_then(|line| line.lines().next());
+        assert_eq!(interface, Some(version.to_string().as_str()));
         assert_filled(&layout.refusal, layout.size_of_refusal, 6);
         assert_filled(&layout.range, layout.size_of_range, 2);
         assert_filled(&layout.header, layout.size_of_header, 18);
