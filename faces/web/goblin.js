@@ -1,16 +1,16 @@
 /**
  * ELF files in JavaScript, read by `goblin_c.wasm`: the library of a verified port of goblin's ELF layer, as one WebAssembly
- * module with a memory of 64 bits, which needs nothing from outside.
+ * module with a 64-bit memory and no imports.
  *
- * `Elf.parse` copies a file's bytes into a memory of its own and reads its header; all else is read when it is asked for. What
- * the library returns is proved; this file passes it on. Names are goblin's where goblin has the thing.
+ * `Elf.parse` copies a file's bytes into a memory of its own and reads its header. Everything else is read on demand. The library's
+ * results are proved, and this file passes them on. Names are goblin's for everything that goblin has.
  *
- * - A number of 64 bits in `goblin.h` is a BigInt in every file, whatever its value; every other number is a Number. Bytes are
- *   copies of the file's.
+ * - A number that has 64 bits in `goblin.h` is always a BigInt, whatever its value. Every other number is a Number. Bytes are copies
+ *   of the file's.
  * - Items are plain objects. JSON has no BigInts and no bytes, so `JSON.stringify` writes a BigInt as a string of its decimal
- *   digits, which `BigInt` reads back, and bytes as a string of hexadecimal digits. For an object that is made of an item, as
- *   `{ ...section }`, pass it `json`: `JSON.stringify({ ...section }, json)`.
- * - The call that makes a list throws where the list can't be read. A list that was made has each of its items.
+ *   digits, which `BigInt` reads back, and bytes as a string of hexadecimal digits. For an object that is made from an item, such as
+ *   `{ ...section }`, pass `json`, too: `JSON.stringify({ ...section }, json)`.
+ * - The call that makes a list throws if the list can't be read. So a list has all of its items.
  *
  * ```js
  * import init, { Elf } from './goblin.js';
@@ -26,10 +26,13 @@ import {
 
 export * from './constants.js';
 
-/** The version of `goblin.h` whose calls and structs this file knows. */
+/** The number of the interface that this file is written for: `GOBLIN_VERSION` of `goblin.h`. */
 export const VERSION = 3;
 
-/** The numbers of refusals, as in `goblin.h`, and one of this file: a section is asked for what its type doesn't hold. */
+/**
+ * The kinds of refusals, as in `goblin.h`. `SECTION_TYPE` is this file's own: a section was read as symbols or relocations, and has
+ * another type.
+ */
 export const Kind = Object.freeze({
     BAD_MAGIC: 2, TOO_BIG: 3, BAD_OFFSET: 4, BAD_INPUT: 5, BUFFER_TOO_SHORT: 6, OUT_OF_MEMORY: 7, INVALID_CLASS: 10,
     INVALID_ENDIANNESS: 11, TOO_SMALL: 12, ELF_CLASS: 13, DATA_TYPE: 14, DATA: 15, NOTE_ALIGN: 16, SYMTAB_OFFSET: 17,
@@ -38,63 +41,63 @@ export const Kind = Object.freeze({
 });
 
 /**
- * A file's header. `goblin.h` says what each field is.
+ * A file's header. `goblin.h` has more on each field.
  * @typedef {object} Header
  * @property {bigint} e_entry the address at which the program starts, or 0
- * @property {bigint} e_phoff where the program headers start, or 0
- * @property {bigint} e_shoff where the section headers start, or 0 for none
+ * @property {bigint} e_phoff the offset of the program headers, or 0
+ * @property {bigint} e_shoff the offset of the section headers, or 0 if there are none
  * @property {number} e_version the version of the format
  * @property {number} e_flags flags of the machine
- * @property {number} e_type what the file is, an ET_ number: see `et_to_str`
+ * @property {number} e_type what kind of file it is, an ET_ number: see `et_to_str`
  * @property {number} e_machine the machine, an EM_ number: see `machine_to_str`
- * @property {number} e_ehsize the header's size in bytes, as it says
- * @property {number} e_phentsize the size of a program header in bytes, as it says
- * @property {number} e_phnum how many program headers there are
- * @property {number} e_shentsize the size of a section header in bytes, as it says
- * @property {number} e_shnum how many section headers there are; where it is 0, the first one's `sh_size` tells
- * @property {number} e_shstrndx the index of the section that holds the sections' names
+ * @property {number} e_ehsize the size of this header that the file states
+ * @property {number} e_phentsize the size of a program header that the file states
+ * @property {number} e_phnum the number of program headers
+ * @property {number} e_shentsize the size of a section header that the file states
+ * @property {number} e_shnum the number of section headers; if it is 0, the first section's `sh_size` has the number
+ * @property {number} e_shstrndx the index of the section that holds the section names
  * @property {number} ei_class 2 for 64 bits, 1 for 32
- * @property {number} ei_data 2 where the highest byte comes first, 1 for the other order
+ * @property {number} ei_data 2 for big endian, 1 for little endian
  * @property {number} ei_version the version of the format once more
- * @property {number} ei_osabi the operating system
- * @property {number} ei_abiversion its version
+ * @property {number} ei_osabi the operating system or ABI, an ELFOSABI_ number
+ * @property {number} ei_abiversion the version of that ABI
  */
 
 /**
  * A section header.
  * @typedef {object} SectionHeader
- * @property {bigint} sh_offset where the section starts, in bytes from the file's start
- * @property {bigint} sh_size how many bytes it has
- * @property {bigint} sh_name where its name lies in the section names
+ * @property {bigint} sh_offset the offset of its bytes in the file
+ * @property {bigint} sh_size its size in bytes
+ * @property {bigint} sh_name the offset of its name in the section names
  * @property {bigint} sh_flags SHF_ flags: see `shf_to_str`
  * @property {bigint} sh_addr its address in memory, or 0
- * @property {bigint} sh_addralign what the address is aligned to, in bytes
- * @property {bigint} sh_entsize the size of an entry in bytes, where it is a table of them
+ * @property {bigint} sh_addralign the alignment of its address; 0 and 1 for none
+ * @property {bigint} sh_entsize the size of an entry if it is a table
  * @property {number} sh_type what it holds, an SHT_ number: see `sht_to_str`
  * @property {number} sh_link the index of a section that belongs to it
- * @property {number} sh_info more, as its type says
+ * @property {number} sh_info further information that depends on the type
  */
 
 /**
  * A program header.
  * @typedef {object} ProgramHeader
- * @property {bigint} p_offset where the segment starts, in bytes from the file's start
- * @property {bigint} p_filesz how many bytes of the file it takes
+ * @property {bigint} p_offset the offset of its bytes in the file
+ * @property {bigint} p_filesz its size in the file
  * @property {bigint} p_vaddr its address in memory
- * @property {bigint} p_paddr its physical address, where there are such
- * @property {bigint} p_memsz how many bytes it takes in memory
- * @property {bigint} p_align what it is aligned to, in bytes
+ * @property {bigint} p_paddr its physical address, on systems that have such
+ * @property {bigint} p_memsz its size in memory
+ * @property {bigint} p_align its alignment
  * @property {number} p_type what it is, a PT_ number: see `pt_to_str`
- * @property {number} p_flags PF_ flags: 1 executed, 2 written, 4 read
+ * @property {number} p_flags PF_ flags: 1 execute, 2 write, 4 read
  */
 
 /**
  * A symbol.
  * @typedef {object} Sym
- * @property {bigint} st_name where the name lies in the string table; 0 for none
- * @property {bigint} st_value the value, an address for most symbols
- * @property {bigint} st_size how many bytes it stands for
- * @property {bigint} st_shndx the index of its section, or an SHN_ number: 0 for a symbol that is not defined here
+ * @property {bigint} st_name the offset of its name in the string table, or 0 for none
+ * @property {bigint} st_value its value: mostly an address; in a file of type ET_REL an offset in its section
+ * @property {bigint} st_size its size in bytes, or 0 for none or an unknown size
+ * @property {bigint} st_shndx the index of its section, or an SHN_ number: 0 if it is not defined in this file
  * @property {number} st_info the binding in the high four bits, the type in the low four
  * @property {number} st_other the visibility in the low three bits
  */
@@ -102,42 +105,42 @@ export const Kind = Object.freeze({
 /**
  * A relocation.
  * @typedef {object} Reloc
- * @property {bigint} r_offset the place, as the file's type says: an offset in a section, or an address
- * @property {bigint} r_sym the index of the symbol, 0 for none
- * @property {bigint | undefined} r_addend what is added; none where the place itself holds it
- * @property {number} r_type the type, which the machine gives its meaning
+ * @property {bigint} r_offset where it applies: an offset in a section, or an address, which depends on the file's type
+ * @property {bigint} r_sym the index of the symbol, or 0 for none
+ * @property {bigint | undefined} r_addend the addend, or `undefined` if the relocation has none of its own
+ * @property {number} r_type the type, whose meaning depends on the machine
  */
 
 /**
  * A note.
  * @typedef {object} Note
- * @property {number} n_type its type, which the name gives its meaning: see `note_type_to_str`
- * @property {Range} name_range where its name lies, without the zero byte that closes it
- * @property {Range} desc_range where its descriptor lies
- * @property {bigint} next the offset at which the next note starts
- * @property {string} name its name, decoded when it is asked for
- * @property {Uint8Array} desc its descriptor, copied when it is asked for
+ * @property {number} n_type its type, whose meaning depends on the name: see `note_type_to_str`
+ * @property {Range} name_range the range of its name, without the zero byte at its end
+ * @property {Range} desc_range the range of its descriptor
+ * @property {bigint} next the offset to read the next note at
+ * @property {string} name its name, decoded at each access
+ * @property {Uint8Array} desc its descriptor, copied at each access
  */
 
 /**
  * Some bytes of the file.
  * @typedef {object} Range
- * @property {bigint} offset where they start, in bytes from the file's start
- * @property {bigint} size how many bytes they are
+ * @property {bigint} offset where the bytes start in the file
+ * @property {bigint} size how many bytes there are
  */
 
-// ---- what crosses to the library ----
+// ---- the structs of the library ----
 
-// How a number of so many bytes is read and written, the lowest byte first.
+// How a little-endian number is read and written, by its number of bytes.
 const WIDTHS = {
-    1: { get: (view, at) => view.getUint8(at), set: 'setUint8' },
-    2: { get: (view, at) => view.getUint16(at, true), set: 'setUint16' },
-    4: { get: (view, at) => view.getUint32(at, true), set: 'setUint32' },
-    8: { get: (view, at) => view.getBigUint64(at, true), set: 'setBigUint64' },
-    s: { get: (view, at) => view.getBigInt64(at, true), set: 'setBigInt64' },
+    1: { get: (view, offset) => view.getUint8(offset), set: 'setUint8' },
+    2: { get: (view, offset) => view.getUint16(offset, true), set: 'setUint16' },
+    4: { get: (view, offset) => view.getUint32(offset, true), set: 'setUint32' },
+    8: { get: (view, offset) => view.getBigUint64(offset, true), set: 'setBigUint64' },
+    s: { get: (view, offset) => view.getBigInt64(offset, true), set: 'setBigInt64' },
 };
 
-// The fields of the structs of goblin.h in their order, each with the number of its bytes; `s` for a signed one.
+// The structs of goblin.h: their fields in order, each with its number of bytes, or `s` for a signed number of 8 bytes.
 const records = {
     refusal: record('kind 4 item 4 first 8 second 8 third 8 fourth 8'),
     range: record('offset 8 size 8'),
@@ -152,45 +155,45 @@ const records = {
     number: record('value 8'),
 };
 
-// The fields with their places, and the size of the whole, as C lays them out: each at a multiple of its own size.
+// Returns the fields with their offsets, and the size of the struct, as in C: each offset is a multiple of the field's size.
 function record(text) {
     const fields = [];
     let end = 0, widest = 1;
     for (const [, name, width] of text.matchAll(/(\w+) (\w)/g)) {
         const bytes = width === 's' ? 8 : Number(width);
-        const at = Math.ceil(end / bytes) * bytes;
-        fields.push({ name, at, ...WIDTHS[width] });
-        end = at + bytes;
+        const offset = Math.ceil(end / bytes) * bytes;
+        fields.push({ name, offset, ...WIDTHS[width] });
+        end = offset + bytes;
         widest = Math.max(widest, bytes);
     }
     return { fields, size: Math.ceil(end / widest) * widest };
 }
 
-function read(view, at, { fields }) {
-    // (added to an object that has its fields already, toJSON takes longer)
+function read(view, start, { fields }) {
+    // (adding toJSON before the fields is faster)
     const item = plain({});
-    for (const field of fields) item[field.name] = field.get(view, at + field.at);
+    for (const field of fields) item[field.name] = field.get(view, start + field.offset);
     return item;
 }
 
-function write(view, at, { fields }, item) {
-    for (const field of fields) view[field.set](at + field.at, item[field.name], true);
+function write(view, start, { fields }, item) {
+    for (const field of fields) view[field.set](start + field.offset, item[field.name], true);
 }
 
-// A number as the library takes it: an integer of so many bits.
+// Returns an argument as the library takes it: an unsigned integer of a number of bits.
 function unsigned(number, bits) {
-    if (typeof number !== 'number' && typeof number !== 'bigint') throw new TypeError(`${describe(number)} is no number`);
+    if (typeof number !== 'number' && typeof number !== 'bigint') throw new TypeError(`a number is expected, not ${describe(number)}`);
     const big = BigInt(number);
-    if (big < 0n || big >> BigInt(bits) !== 0n) throw new RangeError(`${number} is no unsigned number of ${bits} bits`);
+    if (big < 0n || big >> BigInt(bits) !== 0n) throw new RangeError(`${number} is not an unsigned number of ${bits} bits`);
     return bits === 64 ? big : Number(big);
 }
 
-// What something is that isn't what was expected, for a message.
-const describe = (given) => (given === null || typeof given !== 'object' ? typeof given : given.constructor?.name ?? 'object');
+// Returns what a value is, for a message.
+const describe = (value) => (value === null || typeof value !== 'object' ? typeof value : value.constructor?.name ?? 'object');
 
 // ---- JSON ----
 
-// What JSON has in place of BigInts and bytes: digits.
+// Returns a value as JSON has it: BigInts and bytes are strings of digits.
 function json_value(value) {
     if (typeof value === 'bigint') return `${value}`;
     if (value instanceof Uint8Array) return Array.from(value, (byte) => byte.toString(16).padStart(2, '0')).join('');
@@ -198,14 +201,15 @@ function json_value(value) {
 }
 
 /**
- * Writes BigInts and bytes as digits, as the second argument of `JSON.stringify`: for objects that are made of items.
+ * Writes BigInts and bytes as strings of digits. It is for `JSON.stringify`, as the second argument, for objects that are made from
+ * items.
  * @param {string} key
  * @param {unknown} value
  * @returns {unknown}
  */
 export const json = (key, value) => json_value(value);
 
-// What JSON.stringify writes of an item. The item has it as a property that no loop over its fields sees, and no copy takes on.
+// The toJSON of an item, which JSON.stringify calls. It is not enumerable, so that loops over the fields and copies don't have it.
 const TO_JSON = {
     value() { return Object.fromEntries(Object.entries(this).map(([name, value]) => [name, json_value(value)])); },
 };
@@ -215,17 +219,18 @@ const plain = (item) => Object.defineProperty(item, 'toJSON', TO_JSON);
 
 const PAGE = 0x10000;
 
-// How many items are asked for at once.
+// How many items are read at once.
 const BATCH = 64;
 
-// Where things lie behind the library's own data: the header, why a file is refused, an item, what is handed over beside the
-// header, room for a batch or a text, and the file.
-const HEADER = 0, WHY = 0x80, ITEM = 0x100, GIVEN = 0x180, NAMES = 0x1d0, ROOM = 0x200, ROOM_SIZE = 0x1800, FILE = ROOM + ROOM_SIZE;
+// The offsets of what this file puts after the library's own data: the header, a refusal, a result, an argument, a second argument, a
+// buffer for items or a text, and the file.
+const HEADER = 0, WHY = 0x80, ITEM = 0x100, ARGUMENT = 0x180, NAMES = 0x1d0, BUFFER = 0x200, BUFFER_SIZE = 0x1800;
+const FILE = BUFFER + BUFFER_SIZE;
 
-// A module with a memory of 64 bits and nothing else, and what is said where an engine can't compile it.
+// A module with only a 64-bit memory, and the message if an engine can't compile it.
 const WITH_MEMORY = new Uint8Array([0, 0x61, 0x73, 0x6d, 1, 0, 0, 0, 5, 3, 1, 4, 0]);
-const WITHOUT_MEMORY = 'this engine has no WebAssembly memories of 64 bits (memory64): Chromium 133, Firefox 134, Node.js 24 and later '
-    + 'ones have them, and Node.js from 20 on with the flag --experimental-wasm-memory64';
+const WITHOUT_MEMORY = 'this engine has no 64-bit WebAssembly memories (memory64): use Chromium 133, Firefox 134, Node.js 24 or later, or '
+    + 'Node.js from 20 on with the flag --experimental-wasm-memory64';
 
 const decoder = new TextDecoder('utf-8', { fatal: true, ignoreBOM: true });
 const encoder = new TextEncoder();
@@ -235,16 +240,16 @@ let compiled;
 /** @type {Memory | undefined} */
 let shared;
 
-// What `init` makes.
+// Returns what `init` has made.
 function ready(made) {
     if (!made) throw new Error('goblin.js is not ready: await init() first');
     return made;
 }
 
 /**
- * Makes the library ready, which each call of this file needs. Fails where the engine has no memories of 64 bits, and where the
- * module is of another version.
- * @param {URL | BufferSource | WebAssembly.Module} [source] the module, its bytes, or where it lies: by default beside this file
+ * Loads the library, which all calls of this file need. Rejects if the engine has no 64-bit memories, or if the module has another
+ * interface than this file.
+ * @param {URL | BufferSource | WebAssembly.Module} [source] the module, its bytes or its URL, by default in the folder of this file
  * @returns {Promise<void>}
  */
 export default async function init(source = new URL('goblin_c.wasm', import.meta.url)) {
@@ -253,7 +258,7 @@ export default async function init(source = new URL('goblin_c.wasm', import.meta
     compiled = content instanceof WebAssembly.Module ? content : await WebAssembly.compile(content);
     shared = new Memory(new Uint8Array(0));
     const version = shared.calls.goblin_version();
-    if (version !== VERSION) throw new Error(`goblin.js knows version ${VERSION} of the library, which is of version ${version}`);
+    if (version !== VERSION) throw new Error(`goblin.js is for interface ${VERSION}, but the module has ${version}: take both of one version`);
 }
 
 async function load(url) {
@@ -262,11 +267,11 @@ async function load(url) {
         return readFile(url);
     }
     const response = await fetch(url);
-    if (!response.ok) throw new Error(`${url}: ${response.status}`);
+    if (!response.ok) throw new Error(`the module can't be loaded from ${url}: status ${response.status}`);
     return response.arrayBuffer();
 }
 
-// (engines take the number of pages as a BigInt since memories of 64 bits are in the standard, and before as a Number)
+// (newer engines take the number of pages as a BigInt, as the standard has it, and older ones as a Number)
 function grow(memory, pages) {
     try {
         memory.grow(BigInt(pages));
@@ -276,25 +281,25 @@ function grow(memory, pages) {
     }
 }
 
-// Whether something is an array buffer, shared or not, of this realm or another one, as a frame's, which `instanceof` doesn't say.
+// Reports whether a value is an ArrayBuffer or a SharedArrayBuffer. Unlike `instanceof`, it knows those of other realms, such as frames.
 const BUFFERS = [ArrayBuffer, globalThis.SharedArrayBuffer].filter((type) => type)
     .map(({ prototype }) => Object.getOwnPropertyDescriptor(prototype, 'byteLength').get);
-const is_buffer = (given) => BUFFERS.some((length) => {
+const is_buffer = (value) => BUFFERS.some((length) => {
     try {
-        return length.call(given) >= 0;
+        return length.call(value) >= 0;
     } catch {
         return false;
     }
 });
 
-// The bytes of a buffer, or those that a view is of, whatever its items are.
-function bytes_of(given) {
-    if (ArrayBuffer.isView(given)) return new Uint8Array(given.buffer, given.byteOffset, given.byteLength);
-    if (is_buffer(given)) return new Uint8Array(given);
-    throw new TypeError(`a file's bytes are an ArrayBuffer or a view of one, as a Uint8Array, and no ${describe(given)}`);
+// Returns the bytes of a buffer or a view.
+function bytes_of(value) {
+    if (ArrayBuffer.isView(value)) return new Uint8Array(value.buffer, value.byteOffset, value.byteLength);
+    if (is_buffer(value)) return new Uint8Array(value);
+    throw new TypeError(`a file's bytes must be an ArrayBuffer or a view of one, such as a Uint8Array, not ${describe(value)}`);
 }
 
-// The library with a memory that holds a file's bytes.
+// An instance of the library, whose memory holds a file's bytes.
 class Memory {
     constructor(bytes) {
         this.calls = new WebAssembly.Instance(ready(compiled), {}).exports;
@@ -302,11 +307,11 @@ class Memory {
         this.length = bytes.length;
         this.reserve(FILE + bytes.length);
         this.part(FILE, bytes.length).set(bytes);
-        // What every call is handed first: where the file is, and its length.
+        // The first arguments of every call: the file's address and its length.
         this.file = [this.address(FILE), BigInt(bytes.length)];
     }
 
-    // Grows the memory where it ends before so many bytes of ours.
+    // Grows the memory if this file's part of it has fewer bytes.
     reserve(size) {
         const missing = this.base + size - this.calls.memory.buffer.byteLength;
         if (missing > 0) grow(this.calls.memory, Math.ceil(missing / PAGE));
@@ -314,46 +319,46 @@ class Memory {
 
     get view() {
         const { buffer } = this.calls.memory;
-        if (this.seen?.buffer !== buffer) this.seen = new DataView(buffer);
-        return this.seen;
+        if (this.cached?.buffer !== buffer) this.cached = new DataView(buffer);
+        return this.cached;
     }
 
-    part(at, size) { return new Uint8Array(this.calls.memory.buffer, this.base + at, size); }
+    part(offset, size) { return new Uint8Array(this.calls.memory.buffer, this.base + offset, size); }
 
-    address(at) { return BigInt(this.base + at); }
+    address(offset) { return BigInt(this.base + offset); }
 
-    // Hands over a record, at a place of its own.
-    give(at, kind, item) {
-        write(this.view, this.base + at, records[kind], item);
-        return this.address(at);
+    // Writes a struct at an offset, and returns its address.
+    pass(offset, kind, item) {
+        write(this.view, this.base + offset, records[kind], item);
+        return this.address(offset);
     }
 
-    // Hands over bytes behind the file.
-    give_bytes(bytes) {
+    // Writes bytes after the file, and returns their address and length.
+    pass_bytes(bytes) {
         this.reserve(FILE + this.length + bytes.length);
         this.part(FILE + this.length, bytes.length).set(bytes);
         return [this.address(FILE + this.length), BigInt(bytes.length)];
     }
 
-    // What a call answers: an item of a kind, or nothing past the last one.
-    ask(call, kind, ...given) {
-        const answer = this.calls[call](...this.file, ...given, this.address(ITEM), this.address(WHY)) >>> 0;
-        if (answer > 1) throw GoblinError.of(this);
-        return answer === 0 ? read(this.view, this.base + ITEM, records[kind]) : undefined;
+    // Calls the library, and returns an item of a kind, or `undefined` for GOBLIN_END.
+    call(name, kind, ...args) {
+        const status = this.calls[name](...this.file, ...args, this.address(ITEM), this.address(WHY)) >>> 0;
+        if (status > 1) throw GoblinError.of(this);
+        return status === 0 ? read(this.view, this.base + ITEM, records[kind]) : undefined;
     }
 
-    // The items from an index on that a call fills: at most so many, and at most a batch.
-    ask_many(call, kind, most, first, ...given) {
-        const room = [this.address(ROOM), BigInt(Math.min(most, BATCH))];
-        const { value } = this.ask(call, 'number', ...given, first, ...room) ?? { value: 0n };
+    // Calls the library to fill an array with the items from an index on, at most `most`, and returns them.
+    call_many(name, kind, most, first, ...args) {
+        const array = [this.address(BUFFER), BigInt(Math.min(most, BATCH))];
+        const { value } = this.call(name, 'number', ...args, first, ...array) ?? { value: 0n };
         const { size } = records[kind];
-        return Array.from({ length: Number(value) }, (_, i) => read(this.view, this.base + ROOM + i * size, records[kind]));
+        return Array.from({ length: Number(value) }, (_, i) => read(this.view, this.base + BUFFER + i * size, records[kind]));
     }
 
-    // The text that a call writes.
-    text(call, ...given) {
-        const size = Number(this.calls[call](...given, this.address(ROOM), BigInt(ROOM_SIZE)));
-        return decoder.decode(this.part(ROOM, size));
+    // Returns the text that a call writes.
+    text(name, ...args) {
+        const size = Number(this.calls[name](...args, this.address(BUFFER), BigInt(BUFFER_SIZE)));
+        return decoder.decode(this.part(BUFFER, size));
     }
 
     bytes({ offset, size }) { return this.part(FILE + Number(offset), Number(size)).slice(); }
@@ -361,21 +366,21 @@ class Memory {
     string({ offset, size }) { return decoder.decode(this.part(FILE + Number(offset), Number(size))); }
 }
 
-/** Why a file, or a part of it, is refused. */
+/** Why a file or a part of it is refused. */
 export class GoblinError extends Error {
     constructor(message, { kind, item, first, second, third, fourth }) {
         super(message);
         this.name = 'GoblinError';
-        /** @type {number} which refusal it is, a number of `Kind` */
+        /** @type {number} the kind of the refusal, a number of `Kind` */
         this.kind = kind;
         /** @type {number} 1 for invalid UTF-8, 2 for section headers, 3 for program headers, else 0 */
         this.item = item;
-        /** @type {bigint[]} the four numbers that belong to it, as `goblin.h` says, and behind them 0 */
+        /** @type {bigint[]} the four numbers that belong to it, as in `goblin.h`; those that it does not have are 0 */
         this.numbers = [first, second, third, fourth];
     }
 
     /**
-     * Returns what `JSON.stringify` writes of it.
+     * Returns the object that `JSON.stringify` writes.
      * @returns {{ name: string, message: string, kind: number, item: number, numbers: string[] }}
      */
     toJSON() {
@@ -383,13 +388,13 @@ export class GoblinError extends Error {
         return { name, message, kind, item, numbers: numbers.map(String) };
     }
 
-    // The refusal that a call has just written, with the library's text.
+    // Returns the refusal that a call has just written, with the library's text.
     static of(memory) {
         const why = read(memory.view, memory.base + WHY, records.refusal);
         return new GoblinError(memory.text('goblin_refusal_text', memory.address(WHY)), why);
     }
 
-    // The refusal of a section whose type doesn't hold what is asked for: its first number is the type.
+    // Returns the refusal of a section with another type than expected. Its first number is the type.
     static of_type({ sh_type }, expected) {
         const message = `A section of type 0x${sh_type.toString(16)} (${sht_to_str(sh_type)}) holds no ${expected}`;
         return new GoblinError(message, { kind: Kind.SECTION_TYPE, item: 0, first: BigInt(sh_type), second: 0n, third: 0n, fourth: 0n });
@@ -398,13 +403,13 @@ export class GoblinError extends Error {
 
 // ---- files ----
 
-/** A file, and its header. All else is read when it is asked for; a part that is refused throws a `GoblinError`. */
+/** A file, with its header. Everything else is read on demand. A call throws a `GoblinError` if it reads a damaged part. */
 export class Elf {
     #memory;
 
     /**
-     * Reads the header of a file. Throws a `TypeError` for anything but bytes: a view stands for the bytes that it is of,
-     * whatever its items are.
+     * Reads the header of a file. Of a view it takes the bytes, whatever the type of its items. Throws a `TypeError` for anything but
+     * a buffer or a view.
      * @param {ArrayBufferLike | ArrayBufferView} bytes
      * @returns {Elf}
      */
@@ -412,14 +417,14 @@ export class Elf {
 
     constructor(bytes) {
         this.#memory = new Memory(bytes_of(bytes));
-        const header = this.#memory.ask('goblin_header', 'header');
-        this.#memory.give(HEADER, 'header', header);
+        const header = this.#memory.call('goblin_header', 'header');
+        this.#memory.pass(HEADER, 'header', header);
         /** @type {Readonly<Header>} the header */
         this.header = Object.freeze(header);
     }
 
-    // A call that is handed the header.
-    #ask(call, kind, ...given) { return this.#memory.ask(call, kind, this.#memory.address(HEADER), ...given); }
+    // Calls the library with the header.
+    #call(name, kind, ...args) { return this.#memory.call(name, kind, this.#memory.address(HEADER), ...args); }
 
     /**
      * Reports whether the file is of the 64-bit class.
@@ -428,17 +433,17 @@ export class Elf {
     is_64() { return this.header.ei_class === 2; }
 
     /**
-     * Reports whether the lowest byte of a number comes first.
+     * Reports whether the file is little endian.
      * @returns {boolean}
      */
     little_endian() { return this.header.ei_data !== 2; }
 
     /**
-     * Returns the program header at an index, or nothing past the last one.
+     * Returns the program header at an index, or `undefined` past the end.
      * @param {number | bigint} index
      * @returns {ProgramHeader | undefined}
      */
-    program_header(index) { return this.#ask('goblin_segment', 'segment', unsigned(index, 64)); }
+    program_header(index) { return this.#call('goblin_segment', 'segment', unsigned(index, 64)); }
 
     /**
      * Returns all program headers.
@@ -447,11 +452,11 @@ export class Elf {
     program_headers() { return new List(this.#memory, 'segment', [], { has_many: false }); }
 
     /**
-     * Returns the section header at an index, or nothing past the last one.
+     * Returns the section header at an index, or `undefined` past the end.
      * @param {number | bigint} index
      * @returns {SectionHeader | undefined}
      */
-    section_header(index) { return this.#ask('goblin_section', 'section', unsigned(index, 64)); }
+    section_header(index) { return this.#call('goblin_section', 'section', unsigned(index, 64)); }
 
     /**
      * Returns all section headers.
@@ -472,9 +477,9 @@ export class Elf {
      * @returns {number | undefined}
      */
     section_by_name(name) {
-        const bytes = this.#memory.give_bytes(encoder.encode(name));
-        const names = this.#memory.give(NAMES, 'range', this.shdr_strtab().range);
-        return as_index(this.#ask('goblin_section_by_name', 'number', names, ...bytes));
+        const bytes = this.#memory.pass_bytes(encoder.encode(name));
+        const names = this.#memory.pass(NAMES, 'range', this.shdr_strtab().range);
+        return as_index(this.#call('goblin_section_by_name', 'number', names, ...bytes));
     }
 
     /**
@@ -484,38 +489,38 @@ export class Elf {
      * @returns {number | undefined}
      */
     section_by_type(sh_type, first = 0) {
-        return as_index(this.#ask('goblin_section_by_type', 'number', unsigned(sh_type, 32), unsigned(first, 64)));
+        return as_index(this.#call('goblin_section_by_type', 'number', unsigned(sh_type, 32), unsigned(first, 64)));
     }
 
     #section_at(index) { return index === undefined ? undefined : this.section_header(index); }
 
     /**
-     * Returns the name of a section, or nothing where it lies past the sections' names. Refused where it is no text.
+     * Returns the name of a section, or `undefined` if its offset is past the end of the section names. Throws if it is not UTF-8.
      * @param {SectionHeader} section
      * @returns {string | undefined}
      */
     section_name(section) { return this.shdr_strtab().get(section.sh_name); }
 
     /**
-     * Returns where the bytes of a section lie in the file, or nothing where it has none there.
+     * Returns the range of a section's bytes, or `undefined` if it has none in the file.
      * @param {SectionHeader} section
      * @returns {Range | undefined}
      */
     section_range(section) {
-        return this.#memory.ask('goblin_section_bytes', 'range', this.#memory.give(GIVEN, 'section', section));
+        return this.#memory.call('goblin_section_bytes', 'range', this.#memory.pass(ARGUMENT, 'section', section));
     }
 
     /**
-     * Returns where the bytes of a segment lie in the file, or nothing where it has none there.
+     * Returns the range of a segment's bytes, or `undefined` if it has none in the file.
      * @param {ProgramHeader} segment
      * @returns {Range | undefined}
      */
     segment_range(segment) {
-        return this.#memory.ask('goblin_segment_bytes', 'range', this.#memory.give(GIVEN, 'segment', segment));
+        return this.#memory.call('goblin_segment_bytes', 'range', this.#memory.pass(ARGUMENT, 'segment', segment));
     }
 
     /**
-     * Returns the bytes of a section, or nothing where it has none in the file.
+     * Returns the bytes of a section, or `undefined` if it has none in the file.
      * @param {SectionHeader} section
      * @returns {Uint8Array | undefined}
      */
@@ -525,7 +530,7 @@ export class Elf {
     }
 
     /**
-     * Returns the bytes of a segment, or nothing where it has none in the file.
+     * Returns the bytes of a segment, or `undefined` if it has none in the file.
      * @param {ProgramHeader} segment
      * @returns {Uint8Array | undefined}
      */
@@ -535,58 +540,58 @@ export class Elf {
     }
 
     /**
-     * Returns the sections that lie in a segment, by `segment_holds`. The one at index 0, which stands for no section, is none
-     * of them.
+     * Returns the sections of a segment, in the sense of `segment_holds`. The section header at index 0, which means no section, is
+     * left out.
      * @param {ProgramHeader} segment
      * @returns {SectionHeader[]}
      */
     segment_sections(segment) { return [...this.section_headers().from(1)].filter((section) => segment_holds(segment, section)); }
 
     /**
-     * Returns the number that 1, 2, 4 or 8 bytes at an offset of the file stand for, in the file's order. Throws a `RangeError`
-     * for another width.
+     * Returns the number in `width` bytes at an offset of the file, in the file's byte order. Throws a `RangeError` if the width is not
+     * 1, 2, 4 or 8.
      * @param {number | bigint} offset
      * @param {1 | 2 | 4 | 8} width
      * @returns {bigint}
      */
     number(offset, width) {
-        if (![1, 2, 4, 8].includes(width)) throw new RangeError(`no number has a width of ${String(width)} bytes, but of 1, 2, 4 or 8`);
-        return this.#ask('goblin_number', 'number', unsigned(offset, 64), unsigned(width, 64)).value;
+        if (![1, 2, 4, 8].includes(width)) throw new RangeError(`the width must be 1, 2, 4 or 8 bytes, not ${String(width)}`);
+        return this.#call('goblin_number', 'number', unsigned(offset, 64), unsigned(width, 64)).value;
     }
 
     /**
-     * Returns the sections' names: an empty table where the file has none.
+     * Returns the string table of the section names. It is empty if the file has none.
      * @returns {Strtab}
      */
-    shdr_strtab() { return new Strtab(this.#memory, range_of(this.#ask('goblin_section_names', 'section'))); }
+    shdr_strtab() { return new Strtab(this.#memory, range_of(this.#call('goblin_section_names', 'section'))); }
 
     /**
-     * Returns the strings of a section: an empty table where it has no bytes in the file.
+     * Returns a section as a string table. It is empty if the section has no bytes in the file.
      * @param {SectionHeader} section
      * @returns {Strtab}
      */
     strtab(section) { return new Strtab(this.#memory, range_of(section)); }
 
     /**
-     * Returns the symbols of a section of type SHT_SYMTAB or SHT_DYNSYM, with the names that the section at its `sh_link` holds:
-     * none where there is no such section. A section of another type is refused.
+     * Returns the symbols of a section of type SHT_SYMTAB or SHT_DYNSYM. Their names are in the section at its `sh_link`; if there is no
+     * such section, the string table is empty. Throws if the section has another type.
      * @param {SectionHeader} section
      * @returns {Symtab}
      */
     symtab(section) {
         if (![SHT_SYMTAB, SHT_DYNSYM].includes(section.sh_type)) throw GoblinError.of_type(section, 'symbols');
-        const names = this.#ask('goblin_table', 'section', unsigned(section.sh_link, 64));
+        const names = this.#call('goblin_table', 'section', unsigned(section.sh_link, 64));
         return new Symtab(this.#memory, range_of(section), new Strtab(this.#memory, range_of(names)));
     }
 
     /**
-     * Returns the first table of symbols that has all of them, if there is one.
+     * Returns the first symbol table (SHT_SYMTAB), if there is one.
      * @returns {Symtab | undefined}
      */
     syms() { return this.#first_symtab(SHT_SYMTAB); }
 
     /**
-     * Returns the first table of the symbols that are wanted when the program runs, if there is one.
+     * Returns the first symbol table for dynamic linking (SHT_DYNSYM), if there is one.
      * @returns {Symtab | undefined}
      */
     dynsyms() { return this.#first_symtab(SHT_DYNSYM); }
@@ -597,37 +602,37 @@ export class Elf {
     }
 
     /**
-     * Returns the relocations of a section of type SHT_RELA or SHT_REL. A section of another type is refused.
+     * Returns the relocations of a section of type SHT_RELA or SHT_REL. Throws if the section has another type.
      * @param {SectionHeader} section
      * @returns {List<Reloc>}
      */
     relocs(section) {
         if (!holds_relocs(section)) throw GoblinError.of_type(section, 'relocations');
-        return new List(this.#memory, 'reloc', [Number(section.sh_type === SHT_RELA)], { range: range_of(section), made: reloc });
+        return new List(this.#memory, 'reloc', [Number(section.sh_type === SHT_RELA)], { range: range_of(section), convert: reloc });
     }
 
     /**
-     * Returns all sections of relocations, each with its relocations. Where some are damaged, `relocs` reads the others.
+     * Returns all relocation sections, each with its relocations. If one is damaged, `relocs` reads the others.
      * @returns {[SectionHeader, List<Reloc>][]}
      */
     shdr_relocs() { return this.section_headers().filter(holds_relocs).map((section) => [section, this.relocs(section)]); }
 
     /**
-     * Returns the notes of a section. Where one is damaged, `readable_notes` returns those before it.
+     * Returns the notes of a section. If one is damaged, `readable_notes` returns those before it.
      * @param {SectionHeader} section
      * @returns {Note[]}
      */
     notes(section) { return all_notes(this.readable_notes(section)); }
 
     /**
-     * Returns the notes of a segment. Where one is damaged, `readable_segment_notes` returns those before it.
+     * Returns the notes of a segment. If one is damaged, `readable_segment_notes` returns those before it.
      * @param {ProgramHeader} segment
      * @returns {Note[]}
      */
     segment_notes(segment) { return all_notes(this.readable_segment_notes(segment)); }
 
     /**
-     * Returns the notes of a section up to the first that can't be read, at most so many, and why it can't.
+     * Returns the notes of a section up to the first damaged one, at most `most`, and the error of that one.
      * @param {SectionHeader} section
      * @param {number} [most]
      * @returns {{ notes: Note[], refusal: GoblinError | undefined }}
@@ -635,7 +640,7 @@ export class Elf {
     readable_notes(section, most = Infinity) { return this.#read_notes(range_of(section), section.sh_addralign, most); }
 
     /**
-     * Returns the notes of a segment up to the first that can't be read, at most so many, and why it can't.
+     * Returns the notes of a segment up to the first damaged one, at most `most`, and the error of that one.
      * @param {ProgramHeader} segment
      * @param {number} [most]
      * @returns {{ notes: Note[], refusal: GoblinError | undefined }}
@@ -648,10 +653,10 @@ export class Elf {
         const notes = [];
         try {
             for (let next = range.offset; notes.length < most; next = notes.at(-1).next) {
-                const given = this.#memory.give(GIVEN, 'range', range);
-                const told = this.#ask('goblin_note', 'note', given, unsigned(alignment, 64), next);
-                if (!told) break;
-                notes.push(note(this.#memory, told));
+                const argument = this.#memory.pass(ARGUMENT, 'range', range);
+                const fields = this.#call('goblin_note', 'note', argument, unsigned(alignment, 64), next);
+                if (!fields) break;
+                notes.push(note(this.#memory, fields));
             }
         } catch (error) {
             if (!(error instanceof GoblinError)) throw error;
@@ -677,11 +682,11 @@ export class Elf {
     }
 }
 
-const as_index = (told) => (told ? Number(told.value) : undefined);
+const as_index = (number) => (number ? Number(number.value) : undefined);
 
 const holds_relocs = ({ sh_type }) => sh_type === SHT_RELA || sh_type === SHT_REL;
 
-// The bytes of a section in the file: none of no section, and of one that has none there, whatever its size.
+// Returns a section's range in the file, which is empty for no section and for SHT_NOBITS, whatever its size.
 function range_of(section) {
     if (!section || section.sh_type === SHT_NOBITS) return plain({ offset: 0n, size: 0n });
     return plain({ offset: section.sh_offset, size: section.sh_size });
@@ -706,17 +711,17 @@ function all_notes({ notes, refusal }) {
 }
 
 /**
- * Reports whether a section lies in a segment, as `readelf -l` maps sections to segments.
+ * Reports whether a segment holds a section, as `readelf -l` maps sections to segments.
  *
- * The section's bytes in the file, if it has any there, lie in the segment's, and its addresses, if it is loaded (SHF_ALLOC), lie
- * in the segment's. Not every segment holds every section:
+ * The section's range in the file, if it has one, must be inside the segment's. If it is loaded (SHF_ALLOC), its addresses must be
+ * inside the segment's, too. Some segments hold only some sections:
  * - PT_PHDR holds none.
- * - PT_TLS holds those with SHF_TLS alone. Of these, PT_LOAD and PT_GNU_RELRO hold those that have bytes in the file, and other
- *   segments hold none.
- * - PT_LOAD, PT_GNU_RELRO, PT_DYNAMIC, PT_GNU_EH_FRAME and PT_GNU_STACK hold loaded sections alone.
- * - An empty section isn't held at the segment's end, nor at the start of PT_DYNAMIC or PT_NOTE, unless the segment is empty too.
+ * - PT_TLS holds only sections with SHF_TLS. Of these, PT_LOAD and PT_GNU_RELRO hold those with bytes in the file, and other segments
+ *   hold none.
+ * - PT_LOAD, PT_GNU_RELRO, PT_DYNAMIC, PT_GNU_EH_FRAME and PT_GNU_STACK hold only loaded sections.
+ * - An empty section is not held at the segment's end, nor at the start of PT_DYNAMIC or PT_NOTE, unless the segment is empty, too.
  *
- * The rule is this file's and not the library's: it is compared with `readelf`, but not proved.
+ * This rule is not part of the library. It is compared with `readelf`, but not proved.
  * @param {ProgramHeader} segment
  * @param {SectionHeader} section
  * @returns {boolean}
@@ -732,7 +737,7 @@ export function segment_holds(segment, section) {
 
 const is_alloc = ({ sh_flags }) => (sh_flags & SHF_ALLOC) !== 0n;
 
-// Whether segments of this type hold sections like this one.
+// Reports whether segments of this type hold sections of this kind.
 function may_hold({ p_type }, section) {
     const is_tls = (section.sh_flags & SHF_TLS) !== 0n;
     switch (p_type) {
@@ -745,46 +750,46 @@ function may_hold({ p_type }, section) {
 }
 
 /**
- * A list of a file. The call that makes one has read how many items there are, and throws where it can't be read. Going over it
- * reads some items at a time. What else arrays have, `[...list]` has.
+ * A list in a file. The call that makes it reads the number of items, and throws if the list can't be read. An iteration reads several
+ * items at a time. For other methods of arrays use `[...list]`.
  * @template T
  */
 export class List {
-    #memory; #kind; #given; #range; #made; #has_many; #length;
+    #memory; #kind; #args; #range; #convert; #has_many; #length;
 
-    constructor(memory, kind, given, { range = undefined, made = (item) => item, has_many = true } = {}) {
+    constructor(memory, kind, args, { range = undefined, convert = (item) => item, has_many = true } = {}) {
         this.#memory = memory;
         this.#kind = kind;
-        this.#given = given;
+        this.#args = args;
         this.#range = range;
-        this.#made = made;
+        this.#convert = convert;
         this.#has_many = has_many;
-        this.#length = Number(memory.ask(`goblin_${kind}_count`, 'number', ...this.#hand_over()).value);
+        this.#length = Number(memory.call(`goblin_${kind}_count`, 'number', ...this.#arguments()).value);
     }
 
-    #hand_over() {
-        const range = this.#range ? [this.#memory.give(GIVEN, 'range', this.#range)] : [];
-        return [this.#memory.address(HEADER), ...range, ...this.#given];
+    #arguments() {
+        const range = this.#range ? [this.#memory.pass(ARGUMENT, 'range', this.#range)] : [];
+        return [this.#memory.address(HEADER), ...range, ...this.#args];
     }
 
     /**
-     * How many items there are.
+     * The number of items.
      * @returns {number}
      */
     get length() { return this.#length; }
 
     /**
-     * Returns the item at an index, or nothing past the last one.
+     * Returns the item at an index, or `undefined` past the end.
      * @param {number | bigint} index
      * @returns {T | undefined}
      */
     get(index) {
-        const item = this.#memory.ask(`goblin_${this.#kind}`, this.#kind, ...this.#hand_over(), unsigned(index, 64));
-        return item && this.#made(item);
+        const item = this.#memory.call(`goblin_${this.#kind}`, this.#kind, ...this.#arguments(), unsigned(index, 64));
+        return item && this.#convert(item);
     }
 
     /**
-     * Returns the item at an index, as `at` of an array does: one below 0 counts from the end.
+     * Returns the item at an index, like `at` of an array: a negative index counts from the end.
      * @param {number} index
      * @returns {T | undefined}
      */
@@ -794,7 +799,7 @@ export class List {
     }
 
     /**
-     * Goes over at most so many items from an index on.
+     * Iterates over the items from an index on, at most `most`.
      * @param {number | bigint} [first]
      * @param {number} [most]
      * @returns {Generator<T, void, undefined>}
@@ -802,23 +807,23 @@ export class List {
     *from(first = 0, most = Infinity) {
         for (let next = unsigned(first, 64), left = most; left > 0;) {
             const items = this.#has_many
-                ? this.#memory.ask_many(`goblin_${this.#kind}s`, this.#kind, left, next, ...this.#hand_over())
+                ? this.#memory.call_many(`goblin_${this.#kind}s`, this.#kind, left, next, ...this.#arguments())
                 : [this.get(next)].filter((item) => item);
             if (items.length === 0) return;
-            for (const item of items) yield this.#has_many ? this.#made(item) : item;
+            for (const item of items) yield this.#has_many ? this.#convert(item) : item;
             next += BigInt(items.length);
             left -= items.length;
         }
     }
 
     /**
-     * Goes over the items.
+     * Iterates over the items.
      * @returns {Generator<T, void, undefined>}
      */
     [Symbol.iterator]() { return this.from(); }
 
     /**
-     * Goes over the items, each behind its index.
+     * Iterates over pairs of an index and its item.
      * @returns {Generator<[number, T], void, undefined>}
      */
     *entries() {
@@ -828,45 +833,45 @@ export class List {
 
     /**
      * Calls a function with each item and its index.
-     * @param {(item: T, index: number) => void} call
+     * @param {(item: T, index: number) => void} callback
      * @returns {void}
      */
-    forEach(call) { for (const [index, item] of this.entries()) call(item, index); }
+    forEach(callback) { for (const [index, item] of this.entries()) callback(item, index); }
 
     /**
-     * Returns what a function returns of each item and its index.
+     * Returns the results of a function for each item and its index.
      * @template U
-     * @param {(item: T, index: number) => U} call
+     * @param {(item: T, index: number) => U} callback
      * @returns {U[]}
      */
-    map(call) { return Array.from(this, (item, index) => call(item, index)); }
+    map(callback) { return Array.from(this, (item, index) => callback(item, index)); }
 
     /**
-     * Returns the items of which a function says so, called with each item and its index.
-     * @param {(item: T, index: number) => unknown} call
+     * Returns the items for which a function returns true. It is called with each item and its index.
+     * @param {(item: T, index: number) => unknown} callback
      * @returns {T[]}
      */
-    filter(call) { return Array.from(this).filter((item, index) => call(item, index)); }
+    filter(callback) { return Array.from(this).filter((item, index) => callback(item, index)); }
 
     /**
-     * Returns the first item of which a function says so, called with each item up to there and its index, if there is one.
-     * @param {(item: T, index: number) => unknown} call
+     * Returns the first item for which a function returns true, if there is one. It is called with each item and its index up to there.
+     * @param {(item: T, index: number) => unknown} callback
      * @returns {T | undefined}
      */
-    find(call) {
-        for (const [index, item] of this.entries()) if (call(item, index)) return item;
+    find(callback) {
+        for (const [index, item] of this.entries()) if (callback(item, index)) return item;
         return undefined;
     }
 
     /**
-     * Returns the items, which `JSON.stringify` writes as an array.
+     * Returns the items as an array, for `JSON.stringify`.
      * @returns {T[]}
      */
     toJSON() { return Array.from(this); }
 }
 
 /**
- * A table of symbols, with their names.
+ * A symbol table, with the string table of its names.
  * @extends {List<Sym>}
  */
 export class Symtab extends List {
@@ -876,34 +881,35 @@ export class Symtab extends List {
         super(memory, 'symbol', [], { range });
         this.#memory = memory;
         this.#range = range;
-        /** @type {Strtab} the names of its symbols */
+        /** @type {Strtab} the string table of the names */
         this.strtab = strtab;
     }
 
     /**
-     * Returns the name of a symbol, or nothing where it lies past the string table. Refused where it is no text.
+     * Returns the name of a symbol, or `undefined` if its offset is past the end of the string table. Throws if it is not UTF-8.
      * @param {Sym} symbol
      * @returns {string | undefined}
      */
     name(symbol) { return this.strtab.get(symbol.st_name); }
 
     /**
-     * Returns the bytes of a symbol's name, text or not, or nothing where it lies past the string table.
+     * Returns the bytes of a symbol's name, which need not be UTF-8, or `undefined` if its offset is past the end of the string table.
      * @param {Sym} symbol
      * @returns {Uint8Array | undefined}
      */
     name_bytes(symbol) { return this.strtab.get_bytes(symbol.st_name); }
 
     /**
-     * Returns the index of the symbol that an address lies in, if there is one: the highest one at it or below it, as `goblin.h`
-     * says.
+     * Returns the index of the symbol for an address, if there is one: the one with the highest `st_value` that is not above the
+     * address. It may end before the address: compare `st_value + st_size` with it, if `st_size` is not 0. `goblin_symbol_by_address`
+     * in `goblin.h` has the whole rule.
      * @param {number | bigint} address
      * @returns {number | undefined}
      */
     by_address(address) {
         const memory = this.#memory;
-        const table = memory.give(GIVEN, 'range', this.#range);
-        return as_index(memory.ask('goblin_symbol_by_address', 'number', memory.address(HEADER), table, unsigned(address, 64)));
+        const table = memory.pass(ARGUMENT, 'range', this.#range);
+        return as_index(memory.call('goblin_symbol_by_address', 'number', memory.address(HEADER), table, unsigned(address, 64)));
     }
 
     /**
@@ -913,10 +919,10 @@ export class Symtab extends List {
      */
     by_name(name) {
         const memory = this.#memory;
-        const bytes = memory.give_bytes(encoder.encode(name));
-        const table = memory.give(GIVEN, 'range', this.#range);
-        const names = memory.give(NAMES, 'range', this.strtab.range);
-        return as_index(memory.ask('goblin_symbol_by_name', 'number', memory.address(HEADER), table, names, ...bytes));
+        const bytes = memory.pass_bytes(encoder.encode(name));
+        const table = memory.pass(ARGUMENT, 'range', this.#range);
+        const names = memory.pass(NAMES, 'range', this.strtab.range);
+        return as_index(memory.call('goblin_symbol_by_name', 'number', memory.address(HEADER), table, names, ...bytes));
     }
 }
 
@@ -927,49 +933,49 @@ export class Strtab {
 
     constructor(memory, range) {
         this.#memory = memory;
-        /** @type {Range} where it lies, inside the file or not */
+        /** @type {Range} its range, inside the file or not */
         this.range = range;
     }
 
-    #ask(call, range, offset) {
-        return this.#memory.ask(call, 'range', this.#memory.give(NAMES, 'range', range), unsigned(offset, 64));
+    #read(name, range, offset) {
+        return this.#memory.call(name, 'range', this.#memory.pass(NAMES, 'range', range), unsigned(offset, 64));
     }
 
     /**
-     * Returns the string at an offset from the table's start, or nothing past its end. Refused where it is no UTF-8.
+     * Returns the string at an offset from the table's start, or `undefined` past its end. Throws if it is not UTF-8.
      * @param {number | bigint} offset
      * @returns {string | undefined}
      */
     get(offset) {
-        const place = this.#ask('goblin_string', this.range, offset);
-        return place && this.#memory.string(place);
+        const range = this.#read('goblin_string', this.range, offset);
+        return range && this.#memory.string(range);
     }
 
     /**
-     * Returns the bytes of the string at an offset, text or not, or nothing past the table's end.
+     * Returns the bytes of the string at an offset, which need not be UTF-8, or `undefined` past the end of the table.
      * @param {number | bigint} offset
      * @returns {Uint8Array | undefined}
      */
     get_bytes(offset) {
-        const place = this.#ask('goblin_string_bytes', this.range, offset);
-        return place && this.#memory.bytes(place);
+        const range = this.#read('goblin_string_bytes', this.range, offset);
+        return range && this.#memory.bytes(range);
     }
 
     /**
-     * Returns the first bytes of that string, at most so many: it looks at no more of them. Refused as `get_bytes` is.
+     * Returns the first bytes of that string, at most `most`, and reads no more of them. Throws if `get_bytes` does.
      * @param {number | bigint} offset
      * @param {number} most
      * @returns {Uint8Array | undefined}
      */
     get_start(offset, most) {
         const { offset: start, size } = this.range;
-        if (!this.#is_accepted) this.#ask('goblin_string_bytes', this.range, size);
+        if (!this.#is_accepted) this.#read('goblin_string_bytes', this.range, size);
         this.#is_accepted = true;
-        const at = unsigned(offset, 64);
-        if (at >= size) return undefined;
-        const left = size - at < BigInt(most) ? size - at : BigInt(most);
-        const place = this.#ask('goblin_string_bytes', { offset: start + at, size: left }, 0);
-        return place && this.#memory.bytes(place);
+        const skipped = unsigned(offset, 64);
+        if (skipped >= size) return undefined;
+        const length = size - skipped < BigInt(most) ? size - skipped : BigInt(most);
+        const range = this.#read('goblin_string_bytes', { offset: start + skipped, size: length }, 0);
+        return range && this.#memory.bytes(range);
     }
 }
 
@@ -977,36 +983,42 @@ export class Strtab {
 
 const name_of = (call, number, bits) => ready(shared).text(call, unsigned(number, bits));
 
-/** Returns the name of a class, as ELF64, or UNKNOWN_CLASS. @param {number} ei_class @returns {string} */
+/** Returns the name of a class, such as ELF64, or UNKNOWN_CLASS. @param {number} ei_class @returns {string} */
 export const class_to_str = (ei_class) => name_of('goblin_class_to_str', ei_class, 8);
-/** Returns the name of a file's type, as DYN, or UNKNOWN_ET. @param {number} e_type @returns {string} */
+/** Returns the name of a file's type, such as DYN, or UNKNOWN_ET. @param {number} e_type @returns {string} */
 export const et_to_str = (e_type) => name_of('goblin_et_to_str', e_type, 16);
-/** Returns the name of a machine, as X86_64, or EM_UNKNOWN. @param {number} e_machine @returns {string} */
+/** Returns the name of a machine, such as X86_64, or EM_UNKNOWN. @param {number} e_machine @returns {string} */
 export const machine_to_str = (e_machine) => name_of('goblin_machine_to_str', e_machine, 16);
-/** Returns the name of a segment's type, as PT_LOAD, or UNKNOWN_PT. @param {number} p_type @returns {string} */
+/** Returns the name of a segment's type, such as PT_LOAD, or UNKNOWN_PT. @param {number} p_type @returns {string} */
 export const pt_to_str = (p_type) => name_of('goblin_pt_to_str', p_type, 32);
-/** Returns the name of a section's type, as SHT_PROGBITS, or UNKNOWN_SHT. @param {number} sh_type @returns {string} */
+/**
+ * Returns the name of a section's type, such as SHT_PROGBITS, or UNKNOWN_SHT. As in goblin, 19 is SHT_NUM, which newer tools print as
+ * RELR, and 0x70000001 is SHT_X86_64_UNWIND for every machine.
+ * @param {number} sh_type
+ * @returns {string}
+ */
 export const sht_to_str = (sh_type) => name_of('goblin_sht_to_str', sh_type, 32);
 /**
- * Returns the name of one flag of a section, as SHF_WRITE, or SHF_UNKNOWN. No flag of more than 32 bits has a name.
+ * Returns the name of one flag of a section, such as SHF_WRITE, or SHF_UNKNOWN. No flag above 32 bits has a name.
  * @param {number | bigint} flag
  * @returns {string}
  */
 export const shf_to_str = (flag) => name_of('goblin_shf_to_str', unsigned(flag, 64) >> 32n ? 0 : flag, 32);
-/** Returns the name of a symbol's binding, as GLOBAL, or UNKNOWN_STB. @param {number} binding @returns {string} */
+/** Returns the name of a symbol's binding, such as GLOBAL, or UNKNOWN_STB. @param {number} binding @returns {string} */
 export const bind_to_str = (binding) => name_of('goblin_bind_to_str', binding, 8);
-/** Returns the name of a symbol's type, as FUNC, or UNKNOWN_STT. @param {number} type @returns {string} */
+/** Returns the name of a symbol's type, such as FUNC, or UNKNOWN_STT. @param {number} type @returns {string} */
 export const type_to_str = (type) => name_of('goblin_type_to_str', type, 8);
-/** Returns the name of a symbol's visibility, as HIDDEN, or UNKNOWN_STV. @param {number} visibility @returns {string} */
+/** Returns the name of a symbol's visibility, such as HIDDEN, or UNKNOWN_STV. @param {number} visibility @returns {string} */
 export const visibility_to_str = (visibility) => name_of('goblin_visibility_to_str', visibility, 8);
 /**
- * Returns the name of a note's type, as NT_GNU_BUILD_ID, or NT_UNKNOWN.
+ * Returns the name of a note's type, such as NT_GNU_BUILD_ID, or NT_UNKNOWN. As in goblin, type 3 is NT_GNU_BUILD_ID for every name
+ * but CORE.
  * @param {Pick<Note, 'name' | 'n_type'>} note
  * @returns {string}
  */
 export function note_type_to_str({ name, n_type }) {
     const memory = ready(shared);
-    return memory.text('goblin_note_type_to_str', ...memory.give_bytes(encoder.encode(name)), unsigned(n_type, 32));
+    return memory.text('goblin_note_type_to_str', ...memory.pass_bytes(encoder.encode(name)), unsigned(n_type, 32));
 }
 
 /** Returns the binding in an `st_info`: its high four bits. @param {number} info @returns {number} */
@@ -1017,19 +1029,20 @@ export const st_type = (info) => info & 0xf;
 export const st_visibility = (other) => other & 0x7;
 
 /**
- * Returns what `goblin_layout` fills, read by the records of this file, each beside the library's size of it: for the test.
- * @returns {Record<string, { item: object, size: number, told: bigint }>}
+ * Returns the structs that `goblin_layout` fills, as this file reads them, each with its size in this file and in the library: for the
+ * test.
+ * @returns {Record<string, { item: object, size: number, library_size: bigint }>}
  */
 export function layout() {
     const { calls, base, view } = ready(shared);
-    calls.goblin_layout(shared.address(ROOM));
+    calls.goblin_layout(shared.address(BUFFER));
     const kinds = ['refusal', 'range', 'header', 'section', 'segment', 'symbol', 'reloc', 'note'];
-    const start = base + ROOM;
-    let at = start + 8 * kinds.length;
+    const start = base + BUFFER;
+    let offset = start + 8 * kinds.length;
     return Object.fromEntries(kinds.map((kind, i) => {
         const { size } = records[kind];
-        const item = read(view, at, records[kind]);
-        at += size;
-        return [kind, { item, size, told: view.getBigUint64(start + 8 * i, true) }];
+        const item = read(view, offset, records[kind]);
+        offset += size;
+        return [kind, { item, size, library_size: view.getBigUint64(start + 8 * i, true) }];
     }));
 }

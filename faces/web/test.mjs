@@ -21,8 +21,8 @@ function check_layout() {
     const fields = { refusal: 6, range: 2, header: 18, section: 10, segment: 8, symbol: 6, reloc: 5, note: 6 };
     const layout = goblin.layout();
     assert.deepEqual(Object.keys(layout), Object.keys(fields));
-    for (const [kind, { item, size, told }] of Object.entries(layout)) {
-        assert.equal(BigInt(size), told, kind);
+    for (const [kind, { item, size, library_size }] of Object.entries(layout)) {
+        assert.equal(BigInt(size), library_size, kind);
         const values = Object.values(item);
         assert.equal(values.length, fields[kind], kind);
         values.forEach((value, i) => assert.match(value.toString(16), new RegExp(`^(0?${(i + 1).toString(16)})+$`), kind));
