@@ -8,7 +8,8 @@
 The names, values, types and comments are those of crates/goblin_headers and crates/goblin_records. So a constant is written by
 hand only there.
 
-Flags of sections and indices of sections get the type of the field that holds them: `sh_flags` and `st_shndx`.
+Flags of sections and indices of sections get the type of the field that holds them: `sh_flags` and `st_shndx`. JavaScript also gets the
+number of the interface, from goblin.h.
 """
 import os
 import re
@@ -168,10 +169,18 @@ def js_object(record, bits, constants):
     return f'\n/** What the {bits}-bit class has of its own. */\nexport const {record}{bits} = Object.freeze({{\n{fields}}});\n'
 
 
+def interface():
+    """Returns the number of the interface."""
+    return re.search(r'^#define GOBLIN_VERSION (\d+)$', read('faces/c/goblin.h'), re.M)[1]
+
+
 def js_file():
     text = f"""// The constants of goblin's ELF layer; goblin.js exports them all. The flags and the indices of sections are BigInts, as the fields
 // that hold them are: `sh_flags` and `st_shndx`.
 // {MADE}
+
+/** The number of the interface: `GOBLIN_VERSION` of `goblin.h`. */
+export const VERSION = {interface()};
 """
     for record, crate, title, _ in RECORDS:
         text += f'\n// ---- {title} ----\n' + listed(constants_of(record, crate), js_constant, '// {}')

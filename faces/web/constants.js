@@ -2,6 +2,9 @@
 // that hold them are: `sh_flags` and `st_shndx`.
 // Made by faces/constants.py of the library's constants: do not edit.
 
+/** The number of the interface: `GOBLIN_VERSION` of `goblin.h`. */
+export const VERSION = 3;
+
 // ---- file headers ----
 
 /** No file type. */

@@ -21,13 +21,10 @@
  */
 import {
     PT_DYNAMIC, PT_GNU_EH_FRAME, PT_GNU_RELRO, PT_GNU_STACK, PT_LOAD, PT_NOTE, PT_PHDR, PT_TLS, SHF_ALLOC, SHF_TLS, SHT_DYNSYM,
-    SHT_NOBITS, SHT_NOTE, SHT_REL, SHT_RELA, SHT_SYMTAB,
+    SHT_NOBITS, SHT_NOTE, SHT_REL, SHT_RELA, SHT_SYMTAB, VERSION,
 } from './constants.js';
 
 export * from './constants.js';
-
-/** The number of the interface that this file is written for: `GOBLIN_VERSION` of `goblin.h`. */
-export const VERSION = 3;
 
 /**
  * The kinds of refusals, as in `goblin.h`. `SECTION_TYPE` is this file's own: a section was read as symbols or relocations, and has
