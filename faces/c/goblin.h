@@ -1,7 +1,11 @@
 /* goblin for C and C++: reads the ELF records of a file that lies in memory. Each call is proved.
 
-   The calls allocate nothing, keep nothing from call to call, and return on every input. Link with libgoblin_c.a, which needs
-   only memcpy of the C library.
+   The calls allocate nothing, keep nothing from call to call, and return on every input.
+
+   Linking
+     Link with libgoblin_c.a, which needs only memcpy of the C library, or with the shared library. The linker's option --gc-sections
+     (`-Wl,--gc-sections`) leaves out the calls that a program does not use: of the examples, about two thirds of the library.
+     Inside a shared library of your own, `-Wl,--exclude-libs,libgoblin_c.a` hides the calls.
 
    Results
      Each call that can fail returns a uint32_t:
