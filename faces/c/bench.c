@@ -1,5 +1,6 @@
-/* Times the library beside libelf and plain C, in one process, over the longest symbol table of each of some files of the 64-bit
-   class in little order: bench FILE.. Each time is the least of nine, taken by turns. */
+/* Times the library beside libelf and plain C, in one process: bench FILE..
+   It uses the longest symbol table of each file, which must be 64-bit and little endian. Each time is the best of nine runs; the runs
+   of all rows alternate. */
 #define _POSIX_C_SOURCE 199309L
 #include "goblin.h"
 #include <gelf.h>
@@ -8,19 +9,19 @@
 #include <string.h>
 #include <time.h>
 
-enum { RUNS = 9, ROOM = 4096 };
+enum { RUNS = 9, MOST = 4096 };
 
 static const uint8_t none[] = "_ZNSt8no_suchD0Ev"; /* a name that no symbol has */
 static uint8_t *bytes;
-static uint64_t len, count, *places; /* of the symbols; where the name of each lies in the strings */
+static uint64_t len, count, *offsets; /* the number of symbols, and the offset of each symbol's name in the strings */
 static goblin_header_t header;
-static goblin_section_t table, strings, sections[ROOM];
-static goblin_symbol_t symbols[ROOM];
+static goblin_section_t table, strings, sections[MOST];
+static goblin_symbol_t symbols[MOST];
 static goblin_refusal_t why;
 static Elf *elf;
 static Elf_Data *data;
 
-/* What is timed: what one does to all symbols, or to all section headers. */
+/* What is timed: an action on all symbols or on all section headers. */
 enum { ONE, ARRAY_64, ARRAY_4096, GELF, NAME, STRLEN, STRPTR, SEARCH, STRCMP, HEADERS, ELF_HEADERS };
 static const struct { const char *what, *than; int ours, theirs; } rows[] = {
     {"a symbol by one call", "gelf_getsym", ONE, GELF},
@@ -33,10 +34,10 @@ static const struct { const char *what, *than; int ours, theirs; } rows[] = {
 };
 enum { ROWS = sizeof rows / sizeof rows[0] };
 
-/* Does it, and adds up what it finds: two that are compared come to the same. */
+/* Does an action, and returns the sum of what it reads. Two actions that are compared have the same sum. */
 static uint64_t run(int what) {
     const char *text = (char *)bytes + strings.file.offset;
-    uint64_t sum = 0, n = 0, at_once = what == ARRAY_64 ? 64 : ROOM;
+    uint64_t sum = 0, n = 0, at_once = what == ARRAY_64 ? 64 : MOST;
     goblin_range_t name = {0, 0};
     Elf *file = what == ELF_HEADERS ? elf_memory((char *)bytes, len) : NULL;
     GElf_Sym sym;
@@ -51,11 +52,11 @@ static uint64_t run(int what) {
         for (int i = 0; gelf_getsym(data, i, &sym); i++) sum += sym.st_value + sym.st_name;
     if (what == NAME)
         for (uint64_t i = 0; i < count; i++)
-            sum += goblin_string(bytes, len, &strings.file, places[i], &name, &why) ? 0 : name.size;
+            sum += goblin_string(bytes, len, &strings.file, offsets[i], &name, &why) ? 0 : name.size;
     if (what == STRLEN)
-        for (uint64_t i = 0; i < count; i++) sum += strlen(text + places[i]);
+        for (uint64_t i = 0; i < count; i++) sum += strlen(text + offsets[i]);
     if (what == STRPTR)
-        for (uint64_t i = 0; i < count; i++) sum += strlen(elf_strptr(elf, table.sh_link, places[i]));
+        for (uint64_t i = 0; i < count; i++) sum += strlen(elf_strptr(elf, table.sh_link, offsets[i]));
     if (what == SEARCH)
         sum = goblin_symbol_by_name(bytes, len, &header, &table.file, &strings.file, none, sizeof none - 1, &n, &why);
     if (what == STRCMP) {
@@ -64,7 +65,7 @@ static uint64_t run(int what) {
         sum = n == count ? GOBLIN_END : GOBLIN_OK;
     }
     if (what == HEADERS && !goblin_header(bytes, len, &header, &why)
-        && !goblin_sections(bytes, len, &header, 1, sections, ROOM, &n, &why))
+        && !goblin_sections(bytes, len, &header, 1, sections, MOST, &n, &why))
         while (n > 0) sum += sections[--n].file.size;
     for (Elf_Scn *s = NULL; file && (s = elf_nextscn(file, s));) sum += gelf_getshdr(s, &section)->sh_size;
     elf_end(file);
@@ -89,9 +90,9 @@ static int bench(const char *path) {
             table = section, index = i;
     if (goblin_table(bytes, len, &header, table.sh_link, &strings, &why)) return 1;
     if (goblin_symbol_count(bytes, len, &header, &table.file, &count, &why)) return 1;
-    if (!(places = malloc((count + 1) * sizeof *places))) return 1;
+    if (!(offsets = malloc((count + 1) * sizeof *offsets))) return 1;
     for (uint64_t i = 0; i < count && !goblin_symbol(bytes, len, &header, &table.file, i, symbols, &why); i++)
-        places[i] = symbols->st_name;
+        offsets[i] = symbols->st_name;
     elf = elf_memory((char *)bytes, len);
     data = elf_getdata(elf_getscn(elf, index), NULL);
     printf("%s, %llu symbols, nanoseconds each:\n", path, (unsigned long long)count);

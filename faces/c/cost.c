@@ -1,6 +1,6 @@
-/* Whether calls over many items take a time in proportion to them: cost, which makes a file of zero bytes, in which each range is
-   sections, symbols, relocations, segments, notes or empty strings as it is asked for. Of a library that was made to walk to each
-   symbol from the first one the list of symbols took more than ten times the limit. */
+/* Tests that calls over many items take a time in proportion to the number of items: cost
+   It makes a file of zero bytes, in which each range can be read as sections, symbols, relocations, segments, notes or empty strings.
+   A library that was changed to walk from the first symbol to each other one took more than ten times the limit. */
 #include "goblin.h"
 #include <elf.h>
 #include <inttypes.h>
@@ -9,24 +9,24 @@
 #include <string.h>
 #include <time.h>
 
-/* How many items there are, and how many microseconds a list of them may take. */
+/* The numbers of items, and the limit for a list of them in microseconds. */
 enum { ITEMS = 100000, SEGMENTS = 65535, LIMIT = 500000 };
 
 static uint8_t *bytes;
 static size_t len;
 static goblin_header_t header;
 static goblin_refusal_t why;
-/* The room that lists of items are put into. */
-static void *room;
+/* The array for lists of items. */
+static void *array;
 
-/* A range behind the headers of the file and of the first section, for so many items of a size. */
+/* Returns a range for a number of items of a size. It starts after the header of the file and that of the first section. */
 static goblin_range_t range_of(uint64_t items, uint64_t size) {
     goblin_range_t range = {128, 0};
     range.size = items * size;
     return range;
 }
 
-/* Each of the following answers how many items it came to. */
+/* Each of the following functions reads a list and returns the number of its items. */
 
 static uint64_t each_section(void) {
     goblin_section_t section;
@@ -37,7 +37,7 @@ static uint64_t each_section(void) {
 
 static uint64_t all_sections(void) {
     uint64_t filled = 0;
-    goblin_sections(bytes, len, &header, 0, (goblin_section_t *)room, ITEMS, &filled, &why);
+    goblin_sections(bytes, len, &header, 0, (goblin_section_t *)array, ITEMS, &filled, &why);
     return filled;
 }
 
@@ -64,7 +64,7 @@ static uint64_t each_symbol(void) {
 static uint64_t all_symbols(void) {
     goblin_range_t table = range_of(ITEMS, sizeof(Elf64_Sym));
     uint64_t filled = 0;
-    goblin_symbols(bytes, len, &header, &table, 0, (goblin_symbol_t *)room, ITEMS, &filled, &why);
+    goblin_symbols(bytes, len, &header, &table, 0, (goblin_symbol_t *)array, ITEMS, &filled, &why);
     return filled;
 }
 
@@ -85,7 +85,7 @@ static uint64_t each_reloc(void) {
 static uint64_t all_relocs(void) {
     goblin_range_t relocs = range_of(ITEMS, sizeof(Elf64_Rela));
     uint64_t filled = 0;
-    goblin_relocs(bytes, len, &header, &relocs, true, 0, (goblin_reloc_t *)room, ITEMS, &filled, &why);
+    goblin_relocs(bytes, len, &header, &relocs, true, 0, (goblin_reloc_t *)array, ITEMS, &filled, &why);
     return filled;
 }
 
@@ -111,13 +111,13 @@ static uint64_t bytes_of_each_string(void) {
     return i;
 }
 
-/* Whether a list comes to so many items within the limit. */
+/* Returns whether a list has the expected number of items and is read within the limit. */
 static int takes_little(const char *what, uint64_t (*list)(void), uint64_t items) {
     clock_t start = clock();
-    uint64_t came = list();
+    uint64_t found = list();
     double took = 1e6 * (double)(clock() - start) / CLOCKS_PER_SEC;
-    printf("%s: %" PRIu64 " of %" PRIu64 " items in %.0f microseconds\n", what, came, items, took);
-    return came == items && took < LIMIT;
+    printf("%s: %" PRIu64 " of %" PRIu64 " items in %.0f microseconds\n", what, found, items, took);
+    return found == items && took < LIMIT;
 }
 
 int main(void) {
@@ -127,8 +127,8 @@ int main(void) {
     first.sh_size = ITEMS;
     len = 64 + ITEMS * sizeof first;
     bytes = (uint8_t *)calloc(1, len);
-    room = malloc(ITEMS * sizeof(goblin_section_t));
-    if (!bytes || !room) return 2;
+    array = malloc(ITEMS * sizeof(goblin_section_t));
+    if (!bytes || !array) return 2;
     memcpy(bytes + 64, &first, sizeof first);
     header.ei_class = 2, header.ei_data = 1, header.e_shoff = 64, header.e_phoff = 128, header.e_phnum = SEGMENTS;
     right &= takes_little("each section", each_section, ITEMS);
@@ -143,7 +143,7 @@ int main(void) {
     right &= takes_little("each note", each_note, ITEMS);
     right &= takes_little("each string", each_string, ITEMS);
     right &= takes_little("the bytes of each string", bytes_of_each_string, ITEMS);
-    free(room);
+    free(array);
     free(bytes);
     return right ? 0 : 1;
 }

@@ -1,9 +1,9 @@
-/* Calls the whole library over damaged copies of files: damaged COUNT FILE.. makes so many copies of each, with bytes
-   changed or the end cut off. Each copy lies between pages that can't be read, at the end of its own pages or at their
-   start, so that a call that reads behind it or before it ends the program. What a call tells must be as goblin.h says:
-   untouched where it answers nothing, and inside the file where it is a range of it. What it prints sums up nearly all that was
-   told: of a single record all but its last eight bytes, which may be no field's, and no names of numbers. The sum is the same on
-   each machine whose lowest byte comes first. */
+/* Calls the whole library over damaged copies of files: damaged COUNT FILE..
+   It makes COUNT copies of each file, with bytes changed or the end cut off. Each copy is between pages that can't be read, at the
+   start or at the end of its own pages, so a call that reads outside the copy ends the program. Each result must be as goblin.h says:
+   unchanged if the call returns none, and inside the file if it is a range. It prints a sum of nearly all results: without names of
+   numbers, and without the last eight bytes of a single struct, which may be padding. The sum is the same on all little-endian
+   machines. */
 #define _DEFAULT_SOURCE
 #include "goblin.h"
 #include <stdio.h>
@@ -19,19 +19,19 @@ static unsigned long answers[3], broken;
 static uint64_t sum = 0xcbf29ce484222325;
 static goblin_refusal_t why;
 
-/* The next number of a sequence that is the same in each run. */
+/* Returns the next number, below a limit, of a sequence that is the same in each run. */
 static uint64_t any(uint64_t below) {
     static uint64_t state = 88172645463325252;
     state ^= state << 13, state ^= state >> 7, state ^= state << 17;
     return state % below;
 }
 
-/* Takes what was told into the sum. */
+/* Adds a result to the sum. */
 static void add(const void *item, size_t size) {
     for (size_t i = 0; i < size; i++) sum = (sum ^ ((const uint8_t *)item)[i]) * 0x100000001b3;
 }
 
-/* A number near an end, or any. */
+/* Returns a number that is near a limit, or another one. */
 static uint64_t odd(void) {
     static const uint64_t ends[] = {0, 1, 2, 4, 8, 0x7fffffff, 0xffffffff, 0x7fffffffffffffff, UINT64_MAX};
     switch (any(4)) {
@@ -42,15 +42,15 @@ static uint64_t odd(void) {
     }
 }
 
-/* A place inside the file or at its end; made files have something at each 256 bytes. */
-static uint64_t place(uint64_t end) {
-    uint64_t at = any(end + 1);
-    return any(2) ? at : at / 0x100 * 0x100;
+/* Returns an offset inside the file or at its end. The files that made.c makes have something at each multiple of 256. */
+static uint64_t any_offset(uint64_t end) {
+    uint64_t offset = any(end + 1);
+    return any(2) ? offset : offset / 0x100 * 0x100;
 }
 
-/* A range that ends near the file's end, or any. */
+/* Returns a range that ends near the end of the file, or another one. */
 static goblin_range_t odd_range(void) {
-    goblin_range_t range = {any(4) ? place(len) : odd(), 0};
+    goblin_range_t range = {any(4) ? any_offset(len) : odd(), 0};
     uint64_t times = any(3), more = times * any(5);
     range.size = any(4) ? len - range.offset + more : odd();
     return range;
@@ -60,7 +60,7 @@ static void wrong(const char *what, uint32_t answer) {
     if (broken++ < 10) printf("%s, answer %u\n", what, (unsigned)answer);
 }
 
-/* Whether bytes are as blank() left them. */
+/* Returns whether blank() has written all these bytes. */
 static bool is_blank(const void *item, size_t size) {
     for (size_t i = 0; i < size; i++)
         if (((const uint8_t *)item)[i] != 0x5a) return false;
@@ -72,7 +72,7 @@ static void *blank(void *item, size_t size) {
     return memset(item, 0x5a, size);
 }
 
-/* The text of a refusal: no byte behind those that there is room for. */
+/* Reads the text of a refusal, and checks that no byte after the buffer is changed. */
 static void text_of_refusal(uint32_t answer) {
     uint8_t text[64];
     size_t room = (size_t)any(60);
@@ -82,18 +82,18 @@ static void text_of_refusal(uint32_t answer) {
     add(&why, sizeof why), add(text, room);
 }
 
-static bool told(const char *what, uint32_t answer, const void *item, size_t size) {
+static bool check(const char *what, uint32_t answer, const void *item, size_t size) {
     answers[answer > GOBLIN_END ? 2 : answer]++;
     if (answer != GOBLIN_OK && !is_blank(item, size)) wrong(what, answer);
     if (answer <= GOBLIN_END ? !is_blank(&why, sizeof why) : why.kind != answer) wrong("goblin_refusal_t", answer);
     if (answer > GOBLIN_END) text_of_refusal(answer);
     add(&answer, sizeof answer);
-    /* (the last word of a record may have bytes that are no field's) */
+    /* (the last word of a struct may have padding) */
     if (answer == GOBLIN_OK) add(item, size > sizeof(goblin_range_t) ? size - 8 : size);
     return answer == GOBLIN_OK;
 }
 
-/* Names of numbers: no byte behind those that there is room for. */
+/* Reads names of numbers, and checks that no byte after the buffer is changed. */
 static void names_of_numbers(void) {
     uint8_t text[64], number = (uint8_t)any(256);
     size_t room = (size_t)any(30);
@@ -107,26 +107,26 @@ static void names_of_numbers(void) {
     if (!is_blank(text + room, sizeof text - room)) wrong("a name", number);
 }
 
-/* Whether a call tells an item; each call's last arguments are the item and `why`. */
-#define TELLS(call, item, ...) \
-    (blank(&(item), sizeof(item)), told(#call, call(bytes, len, __VA_ARGS__, &(item), &why), &(item), sizeof(item)))
+/* Makes a call, whose last arguments are the result and `why`, and returns whether it has a result. */
+#define READS(call, item, ...) \
+    (blank(&(item), sizeof(item)), check(#call, call(bytes, len, __VA_ARGS__, &(item), &why), &(item), sizeof(item)))
 
 static void inside(const char *what, goblin_range_t range) {
     if (range.offset > len || range.size > len - range.offset) wrong(what, GOBLIN_OK);
 }
 
-/* The notes of a range, of any alignment. */
+/* Reads the notes of a range, with any alignment. */
 static void notes(const goblin_header_t *h, goblin_range_t range) {
     goblin_note_t note;
     uint64_t offset = any(8) ? range.offset : odd(), alignment = any(8) ? 4 + any(2) * 4 : odd();
-    for (int i = 0; i < 8 && TELLS(goblin_note, note, h, &range, alignment, offset); i++) {
+    for (int i = 0; i < 8 && READS(goblin_note, note, h, &range, alignment, offset); i++) {
         inside("name", note.name), inside("desc", note.desc);
         if (note.next <= offset) wrong("next", GOBLIN_OK);
         offset = note.next;
     }
 }
 
-/* Some items of a list at once: those that the single call tells, and nothing behind them. */
+/* Reads some items of a list at once. They must be those of the call for one item, and no item after them is changed. */
 #define SEVERAL(one, all, type, last, ...) \
     do { \
         type items[BATCH], single; \
@@ -135,15 +135,15 @@ static void notes(const goblin_header_t *h, goblin_range_t range) {
         blank(items, sizeof items); \
         uint32_t answer = all(bytes, len, __VA_ARGS__, first, items, room, &filled, &why); \
         if (filled > room || (answer != GOBLIN_OK && filled != 0)) wrong(#all, answer), filled = 0; \
-        told(#all, answer, items, answer == GOBLIN_OK ? 0 : sizeof items); \
-        if (!is_blank(items + filled, sizeof *items * (BATCH - filled))) wrong(#all " behind", answer); \
+        check(#all, answer, items, answer == GOBLIN_OK ? 0 : sizeof items); \
+        if (!is_blank(items + filled, sizeof *items * (BATCH - filled))) wrong(#all ": after the items", answer); \
         for (uint64_t i = 0; i < filled; i++) add(items + i, size); \
         for (uint64_t i = 0; i < filled; i++) \
-            if (!TELLS(one, single, __VA_ARGS__, first + i) || memcmp(&single, items + i, size)) wrong(#all " item", answer); \
-        if (answer == GOBLIN_OK && filled < room && TELLS(one, single, __VA_ARGS__, first + filled)) wrong(#all, answer); \
+            if (!READS(one, single, __VA_ARGS__, first + i) || memcmp(&single, items + i, size)) wrong(#all " item", answer); \
+        if (answer == GOBLIN_OK && filled < room && READS(one, single, __VA_ARGS__, first + filled)) wrong(#all, answer); \
     } while (0)
 
-/* A range taken for a table of symbols, of relocations, and for notes; its names are looked up again. */
+/* Reads a range as symbols, as relocations and as notes, and searches for the names. */
 static void table(const goblin_header_t *h, goblin_range_t range, goblin_range_t names) {
     if (any(4) == 0) range = odd_range();
     if (any(4) == 0) names = odd_range();
@@ -151,46 +151,46 @@ static void table(const goblin_header_t *h, goblin_range_t range, goblin_range_t
         goblin_symbol_t symbol, found;
         goblin_reloc_t reloc;
         goblin_range_t name;
-        /* One of the first, any, or near the last of those that take 8, 12, 16 or 24 bytes. */
+        /* An index: one of the first, any, or near the last of items of 8, 12, 16 or 24 bytes. */
         static const uint64_t sizes[] = {8, 12, 16, 24};
         uint64_t at = i < 3 ? any(30) : i == 3 ? odd() : range.size / sizes[i - 4] - any(3), index;
-        TELLS(goblin_reloc, reloc, h, &range, any(2), at);
+        READS(goblin_reloc, reloc, h, &range, any(2), at);
         uint64_t near = names.size - any(9);
         goblin_range_t same_bytes;
-        bool is_string = TELLS(goblin_string_bytes, same_bytes, &names, near);
+        bool is_string = READS(goblin_string_bytes, same_bytes, &names, near);
         if (is_string) inside("bytes of a string", same_bytes);
-        if (TELLS(goblin_string, name, &names, near)) {
+        if (READS(goblin_string, name, &names, near)) {
             inside("string", name);
             if (!is_string || name.offset != same_bytes.offset || name.size != same_bytes.size)
                 wrong("goblin_string_bytes", GOBLIN_OK);
         }
-        if (!TELLS(goblin_symbol, symbol, h, &range, at)) continue;
-        if (!TELLS(goblin_string, name, &names, symbol.st_name)) continue;
+        if (!READS(goblin_symbol, symbol, h, &range, at)) continue;
+        if (!READS(goblin_string, name, &names, symbol.st_name)) continue;
         inside("string", name);
-        if (!TELLS(goblin_symbol_by_name, index, h, &range, &names, bytes + name.offset, (size_t)name.size) || index > at
-            || !TELLS(goblin_symbol, found, h, &range, index))
+        if (!READS(goblin_symbol_by_name, index, h, &range, &names, bytes + name.offset, (size_t)name.size) || index > at
+            || !READS(goblin_symbol, found, h, &range, index))
             wrong("goblin_symbol_by_name", GOBLIN_END);
     }
     bool is_rela = any(2);
     uint64_t number;
-    if (TELLS(goblin_symbol_count, number, h, &range) && number > 0) {
+    if (READS(goblin_symbol_count, number, h, &range) && number > 0) {
         goblin_symbol_t last;
-        if (!TELLS(goblin_symbol, last, h, &range, number - 1) || TELLS(goblin_symbol, last, h, &range, number))
+        if (!READS(goblin_symbol, last, h, &range, number - 1) || READS(goblin_symbol, last, h, &range, number))
             wrong("goblin_symbol_count", GOBLIN_OK);
     }
     uint64_t address = any(2) ? any(0x100) : odd();
-    if (TELLS(goblin_symbol_by_address, number, h, &range, address)) {
+    if (READS(goblin_symbol_by_address, number, h, &range, address)) {
         goblin_symbol_t below;
-        if (!TELLS(goblin_symbol, below, h, &range, number) || below.st_value > address)
+        if (!READS(goblin_symbol, below, h, &range, number) || below.st_value > address)
             wrong("goblin_symbol_by_address", GOBLIN_OK);
     }
-    if (TELLS(goblin_reloc_count, number, h, &range, is_rela) && number > 0) {
+    if (READS(goblin_reloc_count, number, h, &range, is_rela) && number > 0) {
         goblin_reloc_t last;
-        if (!TELLS(goblin_reloc, last, h, &range, is_rela, number - 1) || TELLS(goblin_reloc, last, h, &range, is_rela, number))
+        if (!READS(goblin_reloc, last, h, &range, is_rela, number - 1) || READS(goblin_reloc, last, h, &range, is_rela, number))
             wrong("goblin_reloc_count", GOBLIN_OK);
     }
-    uint64_t offset = any(2) ? place(len) : odd(), width = any(10);
-    TELLS(goblin_number, number, h, offset, width);
+    uint64_t offset = any(2) ? any_offset(len) : odd(), width = any(10);
+    READS(goblin_number, number, h, offset, width);
     SEVERAL(goblin_symbol, goblin_symbols, goblin_symbol_t, st_other, h, &range);
     SEVERAL(goblin_reloc, goblin_relocs, goblin_reloc_t, has_addend, h, &range, is_rela);
     notes(h, range);
@@ -199,44 +199,44 @@ static void table(const goblin_header_t *h, goblin_range_t range, goblin_range_t
 static void file(void) {
     goblin_header_t h;
     blank(&h, sizeof h);
-    if (!told("goblin_header", goblin_header(bytes, len, &h, &why), &h, sizeof h)) memset(&h, (int)any(256), sizeof h);
+    if (!check("goblin_header", goblin_header(bytes, len, &h, &why), &h, sizeof h)) memset(&h, (int)any(256), sizeof h);
     if (any(4) == 0) h.e_shoff = odd(), h.e_phoff = odd(), h.e_phnum = (uint16_t)odd(), h.e_shnum = (uint16_t)odd();
-    if (any(4) == 0) { /* headers that end near the file's end */
+    if (any(4) == 0) { /* headers that end near the end of the file */
         h.e_phnum = (uint16_t)any(5), h.e_phoff = len + any(4) - h.e_phnum * (h.ei_class == 2 ? 56U : 32U);
         h.e_shnum = (uint16_t)any(5), h.e_shoff = len + any(4) - h.e_shnum * (h.ei_class == 2 ? 64U : 40U);
     }
     uint64_t count = 0;
     goblin_section_t section, names, found;
-    bool is_counted = TELLS(goblin_section_count, count, &h);
-    if (!TELLS(goblin_section_names, names, &h)) names.file = odd_range();
+    bool is_counted = READS(goblin_section_count, count, &h);
+    if (!READS(goblin_section_names, names, &h)) names.file = odd_range();
     for (uint64_t i = 0; i < 12; i++) {
         uint64_t at = i < 9 ? i : odd(), index;
-        bool is_there = TELLS(goblin_section, section, &h, at);
+        bool is_there = READS(goblin_section, section, &h, at);
         if (is_there != (is_counted && at < count)) wrong("goblin_section_count", GOBLIN_OK);
         bool is_table = is_there && at > 0 && section.sh_type != 8;
-        if (TELLS(goblin_table, found, &h, at) != is_table) wrong("goblin_table", GOBLIN_OK);
+        if (READS(goblin_table, found, &h, at) != is_table) wrong("goblin_table", GOBLIN_OK);
         goblin_range_t name;
         table(&h, is_there ? section.file : odd_range(), names.file);
-        if (is_there && TELLS(goblin_string, name, &names.file, section.sh_name)
-            && (!TELLS(goblin_section_by_name, index, &h, &names.file, bytes + name.offset, (size_t)name.size)
-                || index > at || !TELLS(goblin_section, found, &h, index)))
+        if (is_there && READS(goblin_string, name, &names.file, section.sh_name)
+            && (!READS(goblin_section_by_name, index, &h, &names.file, bytes + name.offset, (size_t)name.size)
+                || index > at || !READS(goblin_section, found, &h, index)))
             wrong("goblin_section_by_name", GOBLIN_END);
         goblin_segment_t segment;
         goblin_range_t within;
-        if (TELLS(goblin_segment, segment, &h, at)) {
+        if (READS(goblin_segment, segment, &h, at)) {
             notes(&h, segment.file);
-            if (TELLS(goblin_segment_bytes, within, &segment)) inside("segment", within);
+            if (READS(goblin_segment_bytes, within, &segment)) inside("segment", within);
         }
-        if (is_there && TELLS(goblin_section_bytes, within, &section)) inside("section", within);
-        if (is_there && (!TELLS(goblin_section_by_type, index, &h, section.sh_type, at) || index != at))
+        if (is_there && READS(goblin_section_bytes, within, &section)) inside("section", within);
+        if (is_there && (!READS(goblin_section_by_type, index, &h, section.sh_type, at) || index != at))
             wrong("goblin_section_by_type", GOBLIN_END);
     }
-    TELLS(goblin_segment_count, count, &h);
+    READS(goblin_segment_count, count, &h);
     SEVERAL(goblin_section, goblin_sections, goblin_section_t, sh_info, &h);
     names_of_numbers();
 }
 
-/* Changes some bytes, most of them among those that tell where things lie. */
+/* Changes some bytes, most of them among those that hold offsets and sizes. */
 static void damage(uint8_t *copy) {
     static const uint8_t ends[] = {0, 1, 0x7f, 0x80, 0xff};
     for (uint64_t changes = any(9); changes > 0 && len > 0; changes--) {
@@ -256,7 +256,7 @@ int main(int argc, char **argv) {
         size_t size = fread(whole, 1, ROOM, from);
         fclose(from);
         for (unsigned long n = 0; n < wanted; n++, copies++) {
-            uint64_t end = any(2) ? place(size) : 0;
+            uint64_t end = any(2) ? any_offset(size) : 0;
             end += any(80);
             len = any(4) == 0 && end < size ? (size_t)end : size;
             uint8_t *own = malloc(len ? len : 1);

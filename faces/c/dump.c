@@ -1,12 +1,12 @@
-/* Tells all that the library tells of files, for faces/web/test.mjs: dump FILE.. prints a line for each answer, with each field
-   of its struct as goblin.h declares it (fields.h is made of that by checks/fields.awk). */
+/* Prints all that the library reads of files, for faces/web/test.mjs: dump FILE..
+   Each line is a result, with all fields of its struct. checks/fields.awk makes fields.h from goblin.h. */
 #include "goblin.h"
 #include <elf.h>
 #include <inttypes.h>
 #include <stdio.h>
 #include <stdlib.h>
 
-/* How many items are told of sections that don't hold them. */
+/* How many items are read of sections of another type. */
 enum { FEW = 3 };
 
 static uint8_t bytes[0x1000000];
@@ -14,7 +14,7 @@ static size_t len;
 static goblin_header_t h;
 static goblin_refusal_t why;
 
-/* put_NAME(item) for each struct: prints its fields. */
+/* Defines put_NAME(item) for each struct, which prints its fields. */
 #define STRUCT(name) } static void put_##name(const goblin_##name##_t *item) {
 #define FIELD(name, field, number) printf(" " #field "=%" PRIx64, (uint64_t)item->field);
 static void put_nothing(void) {
@@ -24,7 +24,7 @@ static void put_nothing(void) {
 #undef STRUCT
 static void put_number(const uint64_t *number) { printf(" %" PRIx64, *number); }
 
-/* The text of a call, behind what it is told of. */
+/* Prints the text of a call. */
 #define TEXT(call, ...) \
     do { \
         uint8_t text[256]; \
@@ -37,8 +37,8 @@ static void put_bytes(goblin_range_t range) {
     for (uint64_t i = 0; i < range.size; i++) printf("%02x", bytes[range.offset + i]);
 }
 
-/* The name of what is asked, and unless it is GOBLIN_OK the answer, with the refusal. */
-static bool told(const char *what, uint32_t answer) {
+/* Prints the name of a call, and GOBLIN_END or the refusal if it returned one. Returns whether it has a result. */
+static bool put_status(const char *what, uint32_t answer) {
     printf("%s", what);
     if (answer == GOBLIN_END) puts(" none");
     if (answer > GOBLIN_END) {
@@ -49,7 +49,7 @@ static bool told(const char *what, uint32_t answer) {
     return answer == GOBLIN_OK;
 }
 
-#define ASK(call, item, ...) told(#call, call(bytes, len, __VA_ARGS__, &(item), &why))
+#define ASK(call, item, ...) put_status(#call, call(bytes, len, __VA_ARGS__, &(item), &why))
 #define PUT(kind, item) (put_##kind(&(item)), putchar('\n'))
 #define SHOW(call, kind, item, ...) (ASK(call, item, __VA_ARGS__) && (PUT(kind, item), true))
 
@@ -58,9 +58,9 @@ static goblin_range_t range_of(const goblin_section_t *section) {
     return section->sh_type == SHT_NOBITS ? none : section->file;
 }
 
-/* Where the strings of a section that a call told lie: nowhere where there is none. */
-static bool strings_told(const char *what, uint32_t answer, const goblin_section_t *section, goblin_range_t *strings) {
-    if (answer > GOBLIN_END) return told(what, answer);
+/* Finds and prints the range of the strings in a section that a call returned. It is empty if there is no section. */
+static bool put_strings(const char *what, uint32_t answer, const goblin_section_t *section, goblin_range_t *strings) {
+    if (answer > GOBLIN_END) return put_status(what, answer);
     goblin_range_t none = {0, 0};
     *strings = answer == GOBLIN_OK ? range_of(section) : none;
     printf("%s", what);
@@ -68,7 +68,7 @@ static bool strings_told(const char *what, uint32_t answer, const goblin_section
     return true;
 }
 
-/* The string at an offset, as text and as bytes. */
+/* Prints the string at an offset, as UTF-8 and as bytes. */
 static void string(goblin_range_t strings, uint64_t offset) {
     goblin_range_t found;
     if (ASK(goblin_string, found, &strings, offset)) put_bytes(found), putchar('\n');
@@ -96,7 +96,7 @@ static void symbols(const goblin_section_t *section) {
     goblin_range_t table = range_of(section), names;
     uint64_t count;
     uint32_t answer = goblin_table(bytes, len, &h, section->sh_link, &strings, &why);
-    if (!strings_told("goblin_table", answer, &strings, &names)) return;
+    if (!put_strings("goblin_table", answer, &strings, &names)) return;
     if (!SHOW(goblin_symbol_count, number, count, &h, &table)) return;
     bool is_table = section->sh_type == SHT_SYMTAB || section->sh_type == SHT_DYNSYM;
     for (uint64_t i = 0; i < count && (is_table || i < FEW); i++) one_symbol(table, names, i);
@@ -149,7 +149,7 @@ static void sections(void) {
     goblin_range_t strings, range, name;
     if (!SHOW(goblin_section_count, number, count, &h)) return;
     uint32_t answer = goblin_section_names(bytes, len, &h, &names, &why);
-    if (!strings_told("goblin_section_names", answer, &names, &strings)) return;
+    if (!put_strings("goblin_section_names", answer, &names, &strings)) return;
     for (uint64_t i = 0; i <= count; i++) {
         if (!ASK(goblin_section, section, &h, i)) return;
         put_section(&section);
@@ -185,7 +185,7 @@ int main(int argc, char **argv) {
     for (int i = 1; i < argc; i++) {
         if (!load(argv[i])) return EXIT_FAILURE;
         printf("file %d\n", i);
-        if (!told("goblin_header", goblin_header(bytes, len, &h, &why))) continue;
+        if (!put_status("goblin_header", goblin_header(bytes, len, &h, &why))) continue;
         put_header(&h);
         TEXT(goblin_class_to_str, h.ei_class);
         TEXT(goblin_et_to_str, h.e_type);

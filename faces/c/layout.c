@@ -1,8 +1,9 @@
-/* Whether goblin.h says what the library does: each field of each struct lies where the library puts it, by goblin_layout;
-   and each, read from files whose fields all differ, is the number that was put there, in both classes and orders; and
-   each refusal has the number of its name. With the word `assertions` it prints the first of these as static assertions.
-   fields.h lists STRUCT(name) of each struct and FIELD(struct, field, number) of each of its fields. The check makes it
-   from goblin.h itself, so that none is left out. */
+/* Tests goblin.h against the library: layout [assertions]
+   Each field of each struct has the library's offset, by goblin_layout. Each field that is read from files of both classes and byte
+   orders, whose fields all differ, is the number that was written there. Each refusal has the number of its name. With the argument
+   `assertions` it prints the offsets as static assertions.
+   checks/fields.awk makes fields.h from goblin.h, so no field is left out. It has STRUCT(name) for each struct and FIELD(struct, field,
+   number) for each of its fields. */
 #include "goblin.h"
 #include <stdio.h>
 #include <stdlib.h>
@@ -20,14 +21,14 @@ static void same(const char *what, uint64_t is, uint64_t should) {
     wrong++;
 }
 
-/* Puts a number of so many bytes behind those that were put. */
+/* Writes a number of `width` bytes after the bytes that were written last. */
 static uint64_t put(size_t width, uint64_t value) {
     for (size_t i = 0; i < width; i++) file[end + (is_big ? width - 1 - i : i)] = (uint8_t)(value >> (8 * i));
     end += width;
     return value;
 }
 
-/* The same with a number whose bytes differ from those around it. */
+/* Writes a number whose bytes differ from those around it, and returns it. */
 static uint64_t any(size_t width) {
     static uint8_t last;
     uint64_t value = 0;
@@ -49,7 +50,7 @@ static void header(goblin_header_t *h) {
     h->e_shstrndx = (uint16_t)put(2, 1);
 }
 
-/* At e_phoff an empty program header, and this one. */
+/* Writes this program header after an empty one at e_phoff. */
 static void segment(goblin_segment_t *p) {
     end = 0x123 + (wide == 8 ? 56 : 32);
     p->p_type = (uint32_t)any(4);
@@ -60,7 +61,7 @@ static void segment(goblin_segment_t *p) {
     p->p_align = any(wide);
 }
 
-/* At e_shoff a section header, this one, and another. */
+/* Writes this section header after another one at e_shoff, and one more after it. */
 static void section(goblin_section_t *s) {
     end = 0x456 + (wide == 8 ? 64 : 40);
     s->sh_name = any(4), s->sh_type = (uint32_t)any(4), s->sh_flags = any(wide), s->sh_addr = any(wide);
@@ -68,7 +69,7 @@ static void section(goblin_section_t *s) {
     s->sh_addralign = any(wide), s->sh_entsize = any(wide);
 }
 
-/* At 0x700 room for a symbol, and this one. */
+/* Writes this symbol as the second of the table at 0x700. */
 static void symbol(goblin_symbol_t *s) {
     end = 0x700 + (wide == 8 ? 24 : 16);
     s->st_name = any(4);
@@ -77,7 +78,7 @@ static void symbol(goblin_symbol_t *s) {
     if (wide == 8) s->st_value = any(8), s->st_size = any(8);
 }
 
-/* At 0x800 room for a relocation with addend, and this one. */
+/* Writes this relocation as the second of the table at 0x800. */
 static void reloc(goblin_reloc_t *r) {
     end = 0x800 + 3 * wide;
     r->r_offset = any(wide);
@@ -86,7 +87,7 @@ static void reloc(goblin_reloc_t *r) {
     r->r_addend = wide == 8 ? (int64_t)addend : (int32_t)addend, r->has_addend = 1;
 }
 
-/* At 0x900 a note: its name of seven bytes is closed by an eighth, its descriptor of five is filled up to eight. */
+/* Writes this note at 0x900. Its name has seven bytes and a zero byte, its descriptor five and three of padding. */
 static void note(goblin_note_t *n) {
     end = 0x900;
     put(4, 8), n->desc.size = put(4, 5), n->n_type = (uint32_t)any(4);
@@ -94,7 +95,7 @@ static void note(goblin_note_t *n) {
     n->name.offset = end, n->name.size = 7, n->desc.offset = end + 8, n->next = end + 16;
 }
 
-/* The numbers of items, and the sections of a type. */
+/* Tests the calls for numbers of items and for sections of a type. */
 static void count_all(const goblin_header_t *h, const goblin_range_t *symbols, const goblin_range_t *relocs,
                       goblin_refusal_t *why) {
     goblin_section_t second;
@@ -118,10 +119,10 @@ static void count_all(const goblin_header_t *h, const goblin_range_t *symbols, c
     same("goblin_number outside", goblin_number(file, sizeof file, h, sizeof file - 1, 2, &number, why), GOBLIN_TOO_BIG);
 }
 
-/* The bytes of sections, segments and strings. */
-static void range_all(const goblin_layout_t *told, goblin_refusal_t *why) {
-    goblin_section_t s = told->section;
-    goblin_segment_t p = told->segment;
+/* Tests the calls for bytes of sections, segments and strings. */
+static void range_all(const goblin_layout_t *items, goblin_refusal_t *why) {
+    goblin_section_t s = items->section;
+    goblin_segment_t p = items->segment;
     goblin_range_t found = {0, 0}, names = {0xc00, 4};
     s.sh_type = 1, s.file.offset = p.file.offset = 0xa00, s.file.size = p.file.size = 0x33, p.p_type = 1;
     same("goblin_section_bytes", goblin_section_bytes(file, sizeof file, &s, &found, why), GOBLIN_OK);
@@ -139,7 +140,7 @@ static void range_all(const goblin_layout_t *told, goblin_refusal_t *why) {
     same("no bytes", goblin_segment_bytes(file, sizeof file, &p, &found, why), GOBLIN_END);
 }
 
-/* Reads each item of a file, and compares it with what was put there. */
+/* Reads each item of a file, and compares it with what was written. */
 static void read_all(void) {
     goblin_layout_t wanted, got;
     memset(&wanted, 0, sizeof wanted), memset(&got, 0, sizeof got);
@@ -162,7 +163,7 @@ static void read_all(void) {
     same("goblin_reloc", goblin_reloc(file, sizeof file, h, &relocs, true, 2, &got.reloc, why), GOBLIN_END);
     same("goblin_note", goblin_note(file, sizeof file, h, &notes, 4, 0x900, &got.note, why), GOBLIN_OK);
     same("goblin_note", goblin_note(file, sizeof file, h, &notes, 4, got.note.next, &got.note, why), GOBLIN_END);
-    /* Such a file for MIPS, of 64 bits and little order, has the type's bytes in the other order. */
+    /* In a little-endian MIPS64 file the bytes of the type are in the other order. */
     goblin_header_t mips = *h;
     mips.e_machine = 8;
     goblin_reloc_t pair;
@@ -172,10 +173,10 @@ static void read_all(void) {
         same("r_sym for MIPS", pair.r_sym, wanted.reloc.r_type);
         same("r_type for MIPS", pair.r_type, type << 24 | (type & 0xff00) << 8 | (type >> 8 & 0xff00) | type >> 24);
     }
-    /* A refusal whose numbers are its size, its offset, the file's length and 1: all differ. */
+    /* A refusal with four different numbers: its size, its offset, the file's length and 1. */
     goblin_range_t past = {0x321, UINT64_MAX};
-    goblin_refusal_t told = {GOBLIN_STRTAB_RANGE, 0, past.size, past.offset, sizeof file, 1};
-    wanted.refusal = told;
+    goblin_refusal_t refusal = {GOBLIN_STRTAB_RANGE, 0, past.size, past.offset, sizeof file, 1};
+    wanted.refusal = refusal;
     same("goblin_string", goblin_string(file, sizeof file, &past, 0, &got.range, why), GOBLIN_STRTAB_RANGE);
     goblin_range_t names = {wanted.note.name.offset - 1, 9};
     wanted.range.offset = names.offset + 3, wanted.range.size = 5;
@@ -187,7 +188,7 @@ static void read_all(void) {
 #undef STRUCT
 }
 
-/* Each refusal that these calls answer, by its name. */
+/* Tests each refusal that these calls return, by its name. */
 static void refuse_all(void) {
     goblin_header_t h, given;
     goblin_section_t s;
@@ -224,7 +225,7 @@ static void refuse_all(void) {
     same("magic number", goblin_header(file, sizeof file, &h, &why), GOBLIN_BAD_MAGIC);
 }
 
-/* Each call with nulls for no bytes, no name and no room: of an empty file, and of this one. */
+/* Tests each call with null pointers for empty files, names and arrays. */
 static void call_with_nulls(void) {
     goblin_header_t h;
     goblin_section_t s;
@@ -287,26 +288,26 @@ static void call_with_nulls(void) {
     same("no symbols, filled", number, 0);
     same("no relocs", goblin_relocs(file, sizeof file, &h, &relocs, true, 1, NULL, 0, &number, &why), GOBLIN_OK);
     same("no relocs, filled", number, 0);
-    /* The first symbol's name is at 0xeeeeeeee, which is past these names. */
+    /* The offset of the first symbol's name is 0xeeeeeeee, which is past these names. */
     same("no name", goblin_symbol_by_name(file, sizeof file, &h, &symbols, &empty, NULL, 0, &number, &why), GOBLIN_END);
 }
 
-/* Each byte of a field, as goblin_layout fills it. */
+/* Tests each byte of a field that goblin_layout has filled. */
 static void filled(const char *what, const void *field, size_t size, uint8_t number) {
     for (size_t i = 0; i < size; i++) same(what, ((const uint8_t *)field)[i], number);
 }
 
-/* A field's place and width as the library tells them, as a static assertion. */
+/* Prints a static assertion of a field's offset and size in the library. */
 static void asserted(const char *name, const char *field, const void *item, uint64_t size, uint8_t number) {
     const uint8_t *bytes = (const uint8_t *)item;
-    uint64_t place = 0, width = 0;
-    while (place < size && bytes[place] != number) place++;
-    while (place + width < size && bytes[place + width] == number) width++;
-    printf("static_assert(offsetof(goblin_%s_t, %s) == %d, \"%s.%s\");\n", name, field, (int)place, name, field);
+    uint64_t offset = 0, width = 0;
+    while (offset < size && bytes[offset] != number) offset++;
+    while (offset + width < size && bytes[offset + width] == number) width++;
+    printf("static_assert(offsetof(goblin_%s_t, %s) == %d, \"%s.%s\");\n", name, field, (int)offset, name, field);
     printf("static_assert(sizeof ((goblin_%s_t *)0)->%s == %d, \"%s.%s\");\n", name, field, (int)width, name, field);
 }
 
-/* Prints what the library tells of its structs as static assertions over goblin.h, for C11 and C++. */
+/* Prints static assertions of the library's structs over goblin.h, for C11 and C++. */
 static void assert_all(const goblin_layout_t *layout) {
     printf("#include \"goblin.h\"\n#include <assert.h>\n");
 #define STRUCT(name) \

@@ -1,5 +1,5 @@
-/* Writes an object file with symbols of each kind in each class and order: little64, big64, little32 and big32 in a folder.
-   checks/faces.sh says what nm.c must list of them. */
+/* Writes object files with symbols of each kind into a folder, one of each class and byte order: made FOLDER
+   They are little64, big64, little32 and big32. checks/faces/c.sh has what nm.c must list of them. */
 #include <elf.h>
 #include <stdbool.h>
 #include <stdint.h>
@@ -9,7 +9,7 @@
 
 enum { STRINGS = 0x1000, HEADERS = 0x1800, SIZE = 0x2000 };
 
-/* Each section has 0x100 bytes of the file for itself, the strings have the rest up to the section headers. */
+/* Each section has 0x100 bytes of the file. The strings have the rest, up to the section headers. */
 static const struct {
     const char *name;
     uint32_t type, flags, link, info;
@@ -66,7 +66,7 @@ static void put(size_t width, uint64_t value) {
     end += width;
 }
 
-/* Where a name lies behind the names before it. */
+/* Writes a name after those before it, and returns its offset. */
 static uint64_t named(const char *name) {
     if (*name == 0) return 0;
     size_t at = strings;
@@ -75,7 +75,7 @@ static uint64_t named(const char *name) {
     return at;
 }
 
-/* What the sections hold; the bytes of code and data are zeros. */
+/* Writes what the sections hold. The bytes of code and data are zeros. */
 static void fill(void) {
     end = 0x700;
     for (size_t i = 0; i < SYMBOLS; i++) {

@@ -1,8 +1,8 @@
-/* Lists what an ELF file asks of the dynamic linker: its interpreter, and from its dynamic section the libraries that it
-   needs, its own name and its paths: needed FILE.
+/* Lists what an ELF file needs of the dynamic linker: needed FILE
+   These are its interpreter and, from its dynamic section, the libraries that it needs, its soname and its search paths.
 
-   The library has no calls for the dynamic section. It is read here by its own layout, as pairs of numbers, of which some
-   are offsets of strings. The calls for numbers and strings are proved; what this program makes of them is only tested. */
+   The library does not read the dynamic section, which is a table of pairs of numbers, a tag and a value. Some values are offsets of
+   strings. The calls for numbers and strings are proved; what this program does with them is only tested. */
 #include "goblin.h"
 #include <stdio.h>
 #include <stdlib.h>
@@ -12,7 +12,7 @@ enum { DT_NULL = 0, DT_NEEDED = 1, DT_SONAME = 14, DT_RPATH = 15, DT_RUNPATH = 2
 
 static goblin_refusal_t why;
 
-/* Prints a string with its name, text or not. */
+/* Prints a string, which need not be UTF-8, after its name. */
 static uint32_t print(const uint8_t *bytes, size_t len, const char *name, const goblin_range_t *strings, uint64_t offset) {
     goblin_range_t string = {0, 0};
     if (goblin_string_bytes(bytes, len, strings, offset, &string, &why) > GOBLIN_END) return why.kind;
@@ -36,9 +36,9 @@ static uint32_t list_dynamic(const uint8_t *bytes, size_t len, const goblin_head
     if (answer == GOBLIN_OK) answer = goblin_section(bytes, len, header, index, &dynamic, &why);
     if (answer != GOBLIN_OK) return answer;
     if (goblin_table(bytes, len, header, dynamic.sh_link, &strings, &why) > GOBLIN_END) return why.kind;
-    for (uint64_t at = 0; answer == GOBLIN_OK && dynamic.file.size - at >= 2 * width; at += 2 * width) {
-        if ((answer = goblin_number(bytes, len, header, dynamic.file.offset + at, width, &tag, &why)) != GOBLIN_OK) break;
-        if ((answer = goblin_number(bytes, len, header, dynamic.file.offset + at + width, width, &value, &why)) != GOBLIN_OK) break;
+    for (uint64_t entry = 0; answer == GOBLIN_OK && dynamic.file.size - entry >= 2 * width; entry += 2 * width) {
+        if ((answer = goblin_number(bytes, len, header, dynamic.file.offset + entry, width, &tag, &why)) != GOBLIN_OK) break;
+        if ((answer = goblin_number(bytes, len, header, dynamic.file.offset + entry + width, width, &value, &why)) != GOBLIN_OK) break;
         if (tag == DT_NULL) break;
         if (tag < sizeof names / sizeof *names && names[tag]) answer = print(bytes, len, names[tag], &strings.file, value);
     }

@@ -1,6 +1,7 @@
-/* Lists the symbols of an ELF file, those of its dynamic table with -D, as `nm -a -p` does: value (of a common symbol the
-   size), letter, section index and name of each; and the value of symbols that are not defined too. A section index that has no
-   room in its symbol, in a file of 65,280 sections and more, it reads from the section of type SHT_SYMTAB_SHNDX. */
+/* Lists the symbols of an ELF file, as `nm -a -p` does: nm [-D] FILE
+   With -D it lists the dynamic symbol table. A line has the value of a symbol (the size of a common symbol), its letter, the index of its
+   section and its name. Unlike nm it also lists the values of undefined symbols. In a file of 65,280 or more sections an index may not
+   fit in its symbol; then it is read from the section of type SHT_SYMTAB_SHNDX. */
 #include "goblin.h"
 #include <ctype.h>
 #include <inttypes.h>
@@ -21,7 +22,7 @@ static int refused(const char *what) {
     return 1;
 }
 
-/* The string at an offset; an empty one where there is none, or where it is no text. */
+/* Returns the string at an offset, or an empty one if there is none or it is not UTF-8. */
 static goblin_range_t string(const goblin_section_t *strings, uint64_t offset) {
     goblin_range_t found = {0, 0};
     goblin_string(bytes, len, &strings->file, offset, &found, &why);
@@ -43,7 +44,7 @@ static int section_letter(const goblin_section_t *section) {
     return section->sh_flags & GOBLIN_SHF_WRITE ? '?' : 'n';
 }
 
-/* The letter of a symbol and its section, which is null for a symbol of none. */
+/* Returns the letter of a symbol in a section, or in none if that is null. */
 static int letter(const goblin_symbol_t *symbol, const goblin_section_t *section) {
     unsigned bind = symbol->st_info >> 4, type = symbol->st_info & 15;
     if (symbol->st_shndx == GOBLIN_SHN_COMMON) return 'C';
@@ -56,16 +57,16 @@ static int letter(const goblin_symbol_t *symbol, const goblin_section_t *section
     return bind == GOBLIN_STB_LOCAL ? of_section : toupper(of_section);
 }
 
-/* The section of type SHT_SYMTAB_SHNDX that belongs to the symbol table at an index, if there is one. */
+/* Finds the section of type SHT_SYMTAB_SHNDX that belongs to the symbol table with this index, if there is one. */
 static bool find_indices(uint64_t table, goblin_section_t *indices) {
     for (uint64_t i = 0; goblin_section_by_type(bytes, len, &header, GOBLIN_SHT_SYMTAB_SHNDX, i, &i, &why) == GOBLIN_OK; i++)
         if (goblin_section(bytes, len, &header, i, indices, &why) == GOBLIN_OK && indices->sh_link == table) return true;
     return false;
 }
 
-static int list(uint64_t at, const goblin_section_t *table) {
+static int list(uint64_t index_of_table, const goblin_section_t *table) {
     goblin_section_t indices;
-    bool has_indices = find_indices(at, &indices);
+    bool has_indices = find_indices(index_of_table, &indices);
     goblin_section_t names = {.sh_type = GOBLIN_SHT_NULL};
     if (goblin_table(bytes, len, &header, table->sh_link, &names, &why) > GOBLIN_END) return refused("string table");
     goblin_symbol_t symbol;

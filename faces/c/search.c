@@ -1,5 +1,6 @@
-/* Whether a search by a name costs what it compares, and no more: search, which makes files whose names all lie in one long
-   string; search FILE times a search over the longest symbol table of a file of the 64-bit class in little order, beside strcmp. */
+/* Tests that a search by a name takes no longer than its comparisons: search
+   It makes files whose names are all in one long string. `search FILE` times a search over the longest symbol table of a 64-bit
+   little-endian file, beside strcmp. */
 #include "goblin.h"
 #include <elf.h>
 #include <inttypes.h>
@@ -12,10 +13,11 @@ enum { SECTIONS = 30000, SYMBOLS = 20000, STRINGS = 4 << 20 };
 
 static goblin_refusal_t why;
 
-/* The microseconds of this processor since a time. */
+/* Returns the processor time since a time, in microseconds. */
 static double since(clock_t start) { return 1e6 * (double)(clock() - start) / CLOCKS_PER_SEC; }
 
-/* Searches sections and symbols, whose names are the places of one string of `STRINGS` times the letter a, for a name that none has. */
+/* Searches for a name that no section and no symbol has. Their names start at different offsets of a string of the letter a, whose
+   length is STRINGS. */
 static int search(uint8_t *bytes, size_t len, const char *what, const uint8_t *name, size_t name_len) {
     goblin_header_t header;
     goblin_range_t symbols = {64 + SECTIONS * sizeof(Elf64_Shdr), SYMBOLS * sizeof(Elf64_Sym)};
@@ -46,14 +48,14 @@ static int search_made(void) {
     memset(long_name, 'b', STRINGS);
     wrong |= search(bytes, len, "a name as long", long_name, STRINGS);
     long_name[STRINGS - 1] = 0xff;
-    wrong |= search(bytes, len, "one that is no text", long_name, STRINGS);
+    wrong |= search(bytes, len, "one that is not UTF-8", long_name, STRINGS);
     long_name[STRINGS - 1] = 0;
     wrong |= search(bytes, len, "one with a zero byte", long_name, STRINGS);
     free(bytes);
     return wrong;
 }
 
-/* Times a search for a name that no symbol has, by the library and by strcmp, each the least of nine. */
+/* Times a search for a name that no symbol has, by the library and by strcmp, each the best of nine runs. */
 static int time_search(const uint8_t *bytes, size_t len) {
     static const char name[] = "_ZNSt8no_suchD0Ev";
     goblin_header_t header;

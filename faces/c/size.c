@@ -1,5 +1,5 @@
-/* Adds up the sizes of the sections of ELF files that take memory, as `size` does: those that are executed or not written
-   as text, other bytes of the file as data, and the rest as bss. */
+/* Adds up the sizes of the loaded sections of ELF files, as `size` does: size FILE..
+   Sections that are executable or not writable count as text, others with bytes in the file as data, and the rest as bss. */
 #include "goblin.h"
 #include <inttypes.h>
 #include <stdio.h>
@@ -28,7 +28,7 @@ static int refused(const char *path, const goblin_refusal_t *why) {
     return 1;
 }
 
-/* Prints the line of a file, or why it is refused. */
+/* Prints the line of a file, or its refusal. */
 static int add_up(const char *path, const uint8_t *bytes, size_t len) {
     goblin_header_t header;
     goblin_refusal_t why;

@@ -1,5 +1,5 @@
-/* Tells of each address the function of an ELF file that it lies in, as `addr2line -fs` does where there are no lines:
-   symbolize FILE ADDRESS.., a line with the symbol's name, or ?? where none is there, and a line ??:0. */
+/* Prints the function at each address, as `addr2line -fs` does for a file without line numbers: symbolize FILE ADDRESS..
+   For each address there is a line with the symbol's name, or ?? if there is none, and a line ??:0. */
 #include "goblin.h"
 #include <stdio.h>
 #include <stdlib.h>
@@ -25,7 +25,7 @@ static uint8_t *load(const char *path) {
     return all && fread(all, 1, len, file) == len ? all : NULL;
 }
 
-/* Finds the symbol table, or where there is none the dynamic one, and its strings. */
+/* Finds the symbol table, or the dynamic one if there is none, and its strings. */
 static uint32_t find_table(goblin_section_t *table, goblin_section_t *names) {
     uint64_t index;
     uint32_t answer = goblin_section_by_type(bytes, len, &header, GOBLIN_SHT_SYMTAB, 0, &index, &why);

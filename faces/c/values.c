@@ -1,4 +1,4 @@
-/* Lists the symbols of an ELF file, each with its value and its name: values FILE. */
+/* Lists the value and the name of each symbol of an ELF file: values FILE */
 #include "goblin.h"
 #include <inttypes.h>
 #include <stdio.h>
