@@ -1,8 +1,8 @@
-//! Links libgoblin_c.a: from the folder that GOBLIN_C_LIB names, or else from where it was installed with this crate, from
-//! where `rt lib` puts it in its repository, or from where pkg-config finds it. One for another processor is passed over.
+//! Links libgoblin_c.a. It looks in the folder that GOBLIN_C_LIB names. Without GOBLIN_C_LIB it looks where the library is installed with
+//! this crate, where `rt lib` puts it in the repository, and where pkg-config finds it. It skips a library for another processor.
 //!
-//! Where there is none, warnings say where it was looked for and how to get it. Only what links needs it: `cargo check`,
-//! `cargo clippy` and `cargo doc` succeed, and rustc reports that it can't find the native static library.
+//! If it finds none, it warns, and says where it looked and how to get the library. Only linking needs the library: without it `cargo
+//! check`, `cargo clippy` and `cargo doc` succeed, and a build ends with rustc's error that the native static library is missing.
 use std::env;
 use std::fs;
 use std::path::{Path, PathBuf};
@@ -10,7 +10,7 @@ use std::process::Command;
 
 const LIBRARY: &str = "libgoblin_c.a";
 
-/// Returns what is wrong with the library in a folder for these processors, by `e_machine` of its first object file.
+/// Returns why the library in a folder can't be linked for a processor, if it can't. It reads `e_machine` of its first object file.
 fn fault(folder: &Path, processors: &str) -> Option<&'static str> {
     let bytes = match fs::read(folder.join(LIBRARY)) {
         Ok(bytes) => bytes,
@@ -22,14 +22,14 @@ fn fault(folder: &Path, processors: &str) -> Option<&'static str> {
         _ => return Some("it isn't made for this processor"),
     };
     let header = bytes.windows(4).position(|magic| magic == b"\x7fELF");
-    let serves = header.map_or(false, |at| bytes[at..].get(18..20) == Some(&machine.to_le_bytes()));
-    if serves { None } else { Some("it is for another processor") }
+    let is_for_this = header.map_or(false, |start| bytes[start..].get(18..20) == Some(&machine.to_le_bytes()));
+    if is_for_this { None } else { Some("it is for another processor") }
 }
 
 fn from_pkg_config() -> Option<PathBuf> {
-    let answer = Command::new("pkg-config").args(["--variable=libdir", "goblin_c"]).output().ok()?;
-    let folder = String::from_utf8(answer.stdout).ok()?;
-    Some(PathBuf::from(folder.trim_end())).filter(|_| answer.status.success())
+    let output = Command::new("pkg-config").args(["--variable=libdir", "goblin_c"]).output().ok()?;
+    let folder = String::from_utf8(output.stdout).ok()?;
+    Some(PathBuf::from(folder.trim_end())).filter(|_| output.status.success())
 }
 
 /// Returns the folders to look in.
@@ -39,15 +39,15 @@ fn folders() -> Vec<PathBuf> {
     }
     let above = |levels| Path::new(env!("CARGO_MANIFEST_DIR")).ancestors().nth(levels);
     let installed = above(3).map(|folder| folder.join("lib"));
-    let made = above(2).map(|folder| folder.join("crates/goblin_c/out"));
-    installed.into_iter().chain(made).chain(from_pkg_config()).collect()
+    let built = above(2).map(|folder| folder.join("crates/goblin_c/out"));
+    installed.into_iter().chain(built).chain(from_pkg_config()).collect()
 }
 
-/// Warns that there is no library, with where it was looked for, and how to get it.
+/// Warns that the library is missing, and says where it was looked for and how to get it.
 fn warn(folders: &[PathBuf], processors: &str) {
     let target = format!("{}-unknown-linux-gnu", processors);
     let is_named = env::var_os("GOBLIN_C_LIB").is_some();
-    println!("cargo:warning={} is missing for {}: what links this crate will fail", LIBRARY, processors);
+    println!("cargo:warning={} is missing for {}: linking this crate will fail", LIBRARY, processors);
     for folder in folders {
         let by = if is_named { "GOBLIN_C_LIB=" } else { "" };
         let fault = fault(folder, processors).unwrap_or_default();

@@ -1,8 +1,8 @@
-//! Lists what an ELF file asks of the dynamic linker: its interpreter, and from its dynamic section the libraries that it
-//! needs, its own name and its paths.
+//! Lists what an ELF file needs of the dynamic linker: its interpreter and, from its dynamic section, the libraries that it needs, its
+//! soname and its search paths.
 //!
-//! The library has no calls for the dynamic section. It is read here by its own layout, as pairs of numbers, of which some
-//! are offsets of strings. The calls for numbers and strings are proved; what this program makes of them is only tested.
+//! The library does not read the dynamic section, which is a table of pairs of numbers, a tag and a value. Some values are offsets of
+//! strings. The calls for numbers and strings are proved; what this program does with them is only tested.
 use goblin_rs::error::Result;
 use goblin_rs::program_header::PT_INTERP;
 use goblin_rs::section_header::SHT_DYNAMIC;
@@ -13,19 +13,19 @@ use std::{env, error, ffi, fs};
 
 const DT_NULL: u64 = 0;
 
-/// The name under which a string of the dynamic section is listed, by its tag.
+/// Returns the name that is printed for a tag of the dynamic section, if its value is listed.
 fn name_of(tag: u64) -> Option<&'static str> {
     [(1, "needed"), (14, "soname"), (15, "rpath"), (29, "runpath")].iter().find(|(known, _)| *known == tag).map(|(_, name)| *name)
 }
 
-/// The path of the interpreter, up to the zero byte that closes it.
+/// Returns the path of the interpreter, without the zero byte at its end.
 fn interpreter<'a>(elf: &Elf<'a>) -> Result<Option<&'a [u8]>> {
     let segment = elf.program_headers()?.iter().find(|segment| segment.p_type == PT_INTERP);
     let bytes = segment.map_or(Ok(None), |segment| elf.segment_data(&segment))?;
     Ok(bytes.and_then(|bytes| bytes.split(|byte| *byte == 0).next()))
 }
 
-/// The strings of the dynamic section, text or not, each with its name, in their order.
+/// Returns the strings of the dynamic section, which need not be UTF-8, each with its name.
 fn strings<'a>(elf: &Elf<'a>) -> Result<Vec<(&'static str, &'a [u8])>> {
     let mut all = Vec::new();
     let width = if elf.is_64() { 8 } else { 4 };

@@ -1,5 +1,5 @@
-//! Lists the relocations of an ELF file: of each section its name, and then of each relocation the place, the numbers of its
-//! type and of its symbol, the symbol's name, and what is added.
+//! Lists the relocations of an ELF file: the name of each relocation section, and then a line for each relocation, with its offset, the
+//! number of its type, the index and the name of its symbol, and its addend.
 use goblin_rs::error::Result;
 use goblin_rs::reloc::Reloc;
 use goblin_rs::section_header::SectionHeader;
@@ -9,7 +9,7 @@ use std::io::{self, Write};
 use std::process::ExitCode;
 use std::{env, error, ffi, fs};
 
-/// The name of a relocation's symbol: of the symbol of a section that section's.
+/// Returns the name of a relocation's symbol. The symbol of a section has the section's name.
 fn name_of<'a>(elf: &Elf<'a>, symbols: &Symtab<'a>, reloc: &Reloc) -> Result<&'a str> {
     let symbol = match symbols.get(reloc.r_sym) {
         Some(symbol) if reloc.r_sym != 0 => symbol,
@@ -25,7 +25,7 @@ fn name_of<'a>(elf: &Elf<'a>, symbols: &Symtab<'a>, reloc: &Reloc) -> Result<&'a
     Ok(name)
 }
 
-/// The symbols that the relocations of a section speak of.
+/// Returns the symbol table of a relocation section.
 fn symbols_of<'a>(elf: &Elf<'a>, relocs: &SectionHeader) -> Result<Option<Symtab<'a>>> {
     match elf.section_header(relocs.sh_link as usize)? {
         Some(symbols) if relocs.sh_link != 0 => Ok(Some(elf.symtab(&symbols)?)),

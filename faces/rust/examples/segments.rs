@@ -1,4 +1,4 @@
-//! Lists the segments of an ELF file, each with the names of the sections that lie in it.
+//! Lists the segments of an ELF file, each with the names of its sections.
 use goblin_rs::program_header::pt_to_str;
 use goblin_rs::Elf;
 use std::process::ExitCode;

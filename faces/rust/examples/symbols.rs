@@ -1,4 +1,4 @@
-//! Lists the symbols of an ELF file, each with its value and its name.
+//! Lists the value and the name of each symbol of an ELF file.
 use goblin_rs::Elf;
 use std::process::ExitCode;
 use std::{env, error, ffi, fs};

@@ -1,4 +1,4 @@
-//! Adaptors of iterators over lists, whole and refused: none loses a refusal or an item.
+//! Tests iterator adaptors over lists, of whole and damaged files: none drops an error or an item.
 use goblin_rs::error::Kind;
 use goblin_rs::section_header::{SectionHeader, SHT_DYNSYM, SHT_NOTE, SHT_REL, SHT_RELA, SHT_SYMTAB};
 use goblin_rs::{Elf, Error};
@@ -7,13 +7,13 @@ use std::fmt::Debug;
 mod made;
 use made::{made, FORMS};
 
-/// What each adaptor gives of some items, and what each call that consumes them.
+/// Returns what each adaptor and each consuming method of an iterator returns for some items, as text.
 fn forwards<I>(items: impl Fn() -> I) -> Vec<(&'static str, String)>
 where
     I: ExactSizeIterator + Clone,
     I::Item: Debug + PartialEq,
 {
-    fn told<T: Debug>(items: impl Iterator<Item = T>) -> String {
+    fn text<T: Debug>(items: impl Iterator<Item = T>) -> String {
         format!("{:?}", items.collect::<Vec<_>>())
     }
     let mut half = items();
@@ -21,46 +21,46 @@ where
     let mut peeked = items().peekable();
     let peek = format!("{:?}", peeked.peek());
     vec![
-        ("by_ref", first + &told(half)),
-        ("chain", told(items().chain(items().skip(1)))),
+        ("by_ref", first + &text(half)),
+        ("chain", text(items().chain(items().skip(1)))),
         ("collect", format!("{:?}", items().map(Ok).collect::<Result<Vec<_>, Error>>())),
         ("count", items().count().to_string()),
-        ("cycle", told(items().cycle().take(9))),
-        ("enumerate", told(items().enumerate().skip(1))),
+        ("cycle", text(items().cycle().take(9))),
+        ("enumerate", text(items().enumerate().skip(1))),
         ("eq", items().eq(items().take(1)).to_string()),
-        ("filter", told(items().enumerate().filter(|(i, _)| i % 2 == 1))),
-        ("filter_map", told(items().enumerate().filter_map(|(i, item)| (i != 1).then_some(item)))),
+        ("filter", text(items().enumerate().filter(|(i, _)| i % 2 == 1))),
+        ("filter_map", text(items().enumerate().filter_map(|(i, item)| (i != 1).then_some(item)))),
         ("find", format!("{:?}", items().enumerate().find(|(i, _)| *i == 2))),
-        ("flat_map", told(items().flat_map(|item| [Some(item), None]))),
+        ("flat_map", text(items().flat_map(|item| [Some(item), None]))),
         ("fold", items().fold(String::new(), |text, item| text + &format!("{item:?}"))),
-        ("fuse", told(items().fuse())),
-        ("inspect", told(items().inspect(|_| ()))),
+        ("fuse", text(items().fuse())),
+        ("inspect", text(items().inspect(|_| ()))),
         ("last", format!("{:?}", items().last())),
         ("len", items().len().to_string()),
-        ("map_while", told(items().enumerate().map_while(|(i, item)| (i < 2).then_some(item)))),
+        ("map_while", text(items().enumerate().map_while(|(i, item)| (i < 2).then_some(item)))),
         ("nth", format!("{:?}", items().nth(1))),
         ("nth past the end", format!("{:?}", items().nth(usize::MAX))),
         ("partition", format!("{:?}", items().enumerate().partition::<Vec<_>, _>(|(i, _)| i % 3 == 0))),
-        ("peekable", peek + &told(peeked)),
+        ("peekable", peek + &text(peeked)),
         ("position", format!("{:?}", items().position(|item| Some(item) == items().last()))),
         ("reduce", format!("{:?}", items().reduce(|_, last| last))),
-        ("scan", told(items().scan(0, |sum, item| { *sum += 1; Some((*sum, item)) }))),
+        ("scan", text(items().scan(0, |sum, item| { *sum += 1; Some((*sum, item)) }))),
         ("size_hint", format!("{:?}", items().size_hint())),
-        ("skip", told(items().skip(1))),
+        ("skip", text(items().skip(1))),
         ("skip, collected as results", format!("{:?}", items().skip(1).map(Ok).collect::<Result<Vec<_>, Error>>())),
         ("skip, counted", items().skip(1).count().to_string()),
         ("skip, folded", items().skip(1).fold(0, |sum, _| sum + 1).to_string()),
-        ("skip_while", told(items().enumerate().skip_while(|(i, _)| *i < 2))),
-        ("step_by", told(items().step_by(2))),
-        ("take", told(items().take(2))),
-        ("take_while", told(items().enumerate().take_while(|(i, _)| *i < 2))),
+        ("skip_while", text(items().enumerate().skip_while(|(i, _)| *i < 2))),
+        ("step_by", text(items().step_by(2))),
+        ("take", text(items().take(2))),
+        ("take_while", text(items().enumerate().take_while(|(i, _)| *i < 2))),
         ("try_fold", format!("{:?}", items().try_fold(0, |sum, _| if sum < 3 { Ok(sum + 1) } else { Err(sum) }))),
         ("unzip", format!("{:?}", items().map(|item| (1, item)).unzip::<i32, _, Vec<_>, Vec<_>>())),
-        ("zip", told(items().zip(items().skip(1)))),
+        ("zip", text(items().zip(items().skip(1)))),
     ]
 }
 
-/// The same of those that go from the end.
+/// Returns the same of the adaptors and methods that start at the end.
 fn backwards<I>(items: impl Fn() -> I) -> Vec<(&'static str, String)>
 where
     I: ExactSizeIterator + DoubleEndedIterator + Clone,
@@ -79,7 +79,7 @@ where
     ]
 }
 
-/// Whether each adaptor gives of a list what it gives of its items that were read one by one.
+/// Asserts that each adaptor returns the same for a list as for its items, which were read one by one.
 fn has_each<L>(list: L, items: Vec<L::Item>)
 where
     L: IntoIterator + Copy,
@@ -90,7 +90,7 @@ where
     assert_eq!(backwards(|| list.into_iter()), backwards(|| items.clone().into_iter()));
 }
 
-/// The items that a call reads by their indices.
+/// Returns the items that a function reads by their indices.
 fn each<T>(by_index: impl Fn(usize) -> Option<T>) -> Vec<T> {
     (0..).map_while(by_index).collect()
 }
@@ -116,14 +116,14 @@ fn headers_are_refused_or_all_there() {
             whole += usize::from(elf.section_headers().is_ok()) + usize::from(elf.program_headers().is_ok());
             refused += usize::from(elf.section_headers().is_err()) + usize::from(elf.program_headers().is_err());
         }
-        // (the program headers lie last, behind the section headers)
+        // (the program headers are at the end, after the section headers)
         let of_program = 2 * if form.is_64 { 56 } else { 32 };
         assert_eq!(whole, of_program + 2);
         assert!(refused > file.len());
     }
 }
 
-/// Ranges of which some pass the file's end.
+/// Returns ranges, some of which end past the end of the file.
 fn ranges(len: u64) -> Vec<(u64, u64)> {
     let offsets = [0, 1, len - 100, len - 1, len, len + 1, u64::MAX];
     let sizes = [0, 1, 24, 60, 99, 100, 101, len, u64::MAX];
@@ -178,11 +178,11 @@ fn relocations_are_refused_or_all_there() {
     }
 }
 
-/// A made file with another byte at a place of a section: counted from its start in the file.
-fn with_byte(file: &[u8], section: usize, place: usize, byte: u8) -> Vec<u8> {
+/// Returns a file with another byte at an offset of a section.
+fn with_byte(file: &[u8], section: usize, offset: usize, byte: u8) -> Vec<u8> {
     let mut file = file.to_vec();
     let start = Elf::parse(&file).unwrap().section_header(section).unwrap().unwrap().sh_offset as usize;
-    file[start + place] = byte;
+    file[start + offset] = byte;
     file
 }
 
@@ -199,9 +199,9 @@ fn notes_are_refused_or_all_there() {
         assert_eq!(forwards(|| elf.segment_notes(&segment).unwrap().into_iter()), wanted);
         assert_eq!(forwards(|| elf.iter_note_sections().unwrap()), wanted);
         assert_eq!(forwards(|| elf.iter_note_headers().unwrap()), wanted);
-        // the first byte of each name is no text
-        for (place, readable) in [(12, 0), (32, 1)] {
-            let damaged = with_byte(&file, 1, place, 0xff);
+        // the first byte of each name is not UTF-8
+        for (offset, readable) in [(12, 0), (32, 1)] {
+            let damaged = with_byte(&file, 1, offset, 0xff);
             let elf = Elf::parse(&damaged).unwrap();
             let refused = elf.notes(&section).unwrap_err();
             assert!(matches!(refused.kind(), Kind::BadInput { msg: "invalid utf8", .. }));
@@ -229,10 +229,10 @@ fn sections_of_relocations_are_refused_or_all_there() {
         let wanted: Vec<_> = [4, 5].iter().map(|index| sections.get(*index).unwrap()).map(|h| (h, elf.relocs(&h).unwrap())).collect();
         has_each(elf.shdr_relocs().unwrap(), wanted);
         for (index, len) in [(4, 6 * form.wide()), (5, 2 * form.wide())] {
-            // `sh_offset` of this section is the file's last byte
+            // `sh_offset` of this section is that of the file's last byte
             let mut damaged = file.clone();
-            let place = elf.header.e_shoff as usize + if form.is_64 { 64 * index + 24 } else { 40 * index + 16 };
-            damaged[place..place + form.wide()].copy_from_slice(&form.numbers(&[(form.wide(), file.len() as u64 - 1)]));
+            let offset = elf.header.e_shoff as usize + if form.is_64 { 64 * index + 24 } else { 40 * index + 16 };
+            damaged[offset..offset + form.wide()].copy_from_slice(&form.numbers(&[(form.wide(), file.len() as u64 - 1)]));
             let elf = Elf::parse(&damaged).unwrap();
             assert_eq!(elf.shdr_relocs().unwrap_err().kind(), Kind::TooBig { size: len as u64, len: 1 });
             let read: Vec<_> = [4, 5].iter().map(|index| elf.relocs(&elf.section_header(*index).unwrap().unwrap()).is_ok()).collect();

@@ -1,4 +1,4 @@
-//! What is read of small files that are made here, in both classes and orders, whole and damaged.
+//! Tests what is read of small files that are made here, of both classes and byte orders, whole and damaged.
 use goblin_rs::error::Kind;
 use goblin_rs::program_header::{
     ProgramHeader, PT_DYNAMIC, PT_GNU_EH_FRAME, PT_GNU_RELRO, PT_GNU_STACK, PT_INTERP, PT_LOAD, PT_NOTE, PT_PHDR, PT_TLS,
@@ -13,11 +13,12 @@ use goblin_rs::{header, program_header, section_header, sym, Elf, Result};
 mod made;
 use made::{made, Form, FORMS, STRINGS};
 
-/// A made file with another number in the header of a section: four bytes at a place of the 32-bit class, or of the other.
-fn with_section(form: Form, index: usize, places: (usize, usize), number: u64) -> Vec<u8> {
+/// Returns a file with another number in the header of a section: four bytes at an offset in the 32-bit class, and at another one in the
+/// 64-bit class.
+fn with_section(form: Form, index: usize, offsets: (usize, usize), number: u64) -> Vec<u8> {
     let mut file = made(form, 0);
     let at = Elf::parse(&file).unwrap().header.e_shoff as usize;
-    let at = at + if form.is_64 { 64 * index + places.1 } else { 40 * index + places.0 };
+    let at = at + if form.is_64 { 64 * index + offsets.1 } else { 40 * index + offsets.0 };
     file[at..at + 4].copy_from_slice(&form.numbers(&[(4, number)]));
     file
 }
@@ -25,7 +26,7 @@ fn with_section(form: Form, index: usize, places: (usize, usize), number: u64) -
 const SH_TYPE: (usize, usize) = (4, 4);
 const SH_LINK: (usize, usize) = (24, 40);
 
-/// A made file whose header has this index of the sections' names.
+/// Returns a file whose header has this index of the section names.
 fn with_names_at(form: Form, index: u64) -> Vec<u8> {
     let mut file = made(form, 0);
     let at = if form.is_64 { 62 } else { 50 };
@@ -99,7 +100,7 @@ fn segments() {
 
 #[test]
 fn sections_in_segments() {
-    // the segment has 0x50 bytes of the file from 0x100 on, and 0x80 addresses from 0x1100 on
+    // the segment has 0x50 bytes at offset 0x100, and 0x80 addresses from 0x1100 on
     let holds = |p_type, sh_flags, sh_type, (before, size): (u64, u64)| {
         let segment = ProgramHeader { p_type, p_offset: 0x100, p_filesz: 0x50, p_vaddr: 0x1100, p_memsz: 0x80, ..Default::default() };
         let (sh_offset, sh_addr) = (0x100u64.wrapping_add(before), 0x1100u64.wrapping_add(before));
@@ -109,20 +110,20 @@ fn sections_in_segments() {
     assert!(loaded(PT_LOAD, (0, 0x50)) && loaded(PT_LOAD, (0x4f, 1)));
     assert!(!loaded(PT_LOAD, (0, 0x51)) && !loaded(PT_LOAD, (u64::MAX, 1)) && !loaded(PT_LOAD, (0x50, 1)) && !loaded(PT_LOAD, (1, u64::MAX)));
     assert!(loaded(PT_LOAD, (0, 0)) && !loaded(PT_LOAD, (0x50, 0)));
-    // without bytes in the file the addresses tell
+    // without bytes in the file only the addresses count
     let zeros = |range| holds(PT_LOAD, SHF_ALLOC, SHT_NOBITS, range);
     assert!(zeros((0x50, 0x30)) && !zeros((0x50, 0x31)) && !zeros((0x80, 0)));
-    // some segments hold loaded sections alone
+    // some segments hold only loaded sections
     let found = [PT_LOAD, PT_DYNAMIC, PT_GNU_EH_FRAME, PT_GNU_RELRO, PT_GNU_STACK].map(|p_type| holds(p_type, 0, SHT_PROGBITS, (1, 1)));
     assert_eq!(found, [false; 5]);
     assert!(holds(PT_INTERP, 0, SHT_PROGBITS, (1, 1)) && holds(PT_NOTE, 0, SHT_NOTE, (1, 1)));
     assert!(!loaded(PT_PHDR, (1, 1)) && loaded(PT_DYNAMIC, (1, 1)));
-    // each thread's own
+    // thread-local storage
     let of_thread = |p_type, sh_type| holds(p_type, SHF_ALLOC | SHF_TLS, sh_type, (1, 1));
     assert_eq!([PT_TLS, PT_LOAD, PT_GNU_RELRO, PT_NOTE, PT_GNU_STACK].map(|p| of_thread(p, SHT_PROGBITS)), [true, true, true, false, false]);
     assert_eq!([PT_TLS, PT_LOAD, PT_GNU_RELRO].map(|p| of_thread(p, SHT_NOBITS)), [true, false, false]);
     assert!(!loaded(PT_TLS, (1, 1)));
-    // an empty section at the start of notes is none of them
+    // an empty section at the start of a segment of notes is not held
     assert_eq!([PT_NOTE, PT_DYNAMIC, PT_LOAD].map(|p_type| loaded(p_type, (0, 0))), [false, false, true]);
     assert_eq!([PT_NOTE, PT_DYNAMIC, PT_LOAD].map(|p_type| loaded(p_type, (1, 0))), [true; 3]);
     let empty = ProgramHeader { p_type: PT_NOTE, p_offset: 0x100, ..Default::default() };
@@ -140,13 +141,13 @@ fn sections_of_the_segments_of_a_file() {
             sections.map(|section| elf.section_name(&section).unwrap().unwrap()).collect::<Vec<_>>()
         };
         let (notes, load) = (elf.program_header(0).unwrap().unwrap(), elf.program_header(1).unwrap().unwrap());
-        // (the addresses of the sections lie past those of the segments)
+        // (the addresses of the sections are past those of the segments)
         assert_eq!((names(&notes), names(&load)), (vec![], vec![]));
         let everywhere = |segment| ProgramHeader { p_vaddr: 0, p_memsz: u64::MAX, ..segment };
         assert_eq!(names(&everywhere(notes)), [".note"]);
         let all = [".note", ".symtab", ".strtab", ".rela", ".rel", ".names"];
         assert_eq!(names(&everywhere(load)), all);
-        // (it would hold the section at 0, which is empty and lies at its start)
+        // (the section at index 0 is empty and at its start, so it would be held)
         assert_eq!(names(&everywhere(ProgramHeader { p_type: PT_INTERP, ..load })), all);
         let cut = Elf::parse(&file[..200]).unwrap();
         assert_eq!(cut.segment_sections(&load).err().map(|e| e.kind()), Some(Kind::BadOffset(elf.header.e_shoff)));
@@ -170,7 +171,7 @@ fn sections_and_their_names() {
         assert_eq!(elf.section(".no"), Ok(None));
         let names = elf.section(".names").unwrap().unwrap();
         let named = |sh_name| elf.section_name(&SectionHeader { sh_name, ..names }).map_err(|e| e.kind());
-        assert_eq!((named(names.sh_size as usize), named(names.sh_size as usize - 2)), (Ok(None), Err(NO_TEXT)));
+        assert_eq!((named(names.sh_size as usize), named(names.sh_size as usize - 2)), (Ok(None), Err(NOT_UTF_8)));
         let cut = Elf::parse(&file[..200]).unwrap();
         let refused = Kind::BadOffset(elf.header.e_shoff);
         assert_eq!(cut.section(".names").map_err(|e| e.kind()), Err(refused));
@@ -178,8 +179,8 @@ fn sections_and_their_names() {
     }
 }
 
-/// The refusal of the name that is no text: it and the zero byte that closes it are left of the strings.
-const NO_TEXT: Kind = Kind::BadInput { size: 2, msg: "invalid utf8" };
+/// The refusal of the name that is not UTF-8. From its offset to the end of the strings there are two bytes: it and a zero byte.
+const NOT_UTF_8: Kind = Kind::BadInput { size: 2, msg: "invalid utf8" };
 
 #[test]
 fn symbols() {
@@ -193,7 +194,7 @@ fn symbols() {
         let first = symbols.get(1).unwrap();
         assert_eq!((first.st_visibility(), first.st_value, first.st_size, first.st_shndx), (2, 0x1020, 0x30, 3));
         let names: Vec<_> = symbols.iter().map(|symbol| symbols.name(&symbol).map_err(|e| e.kind())).collect();
-        assert_eq!(names, [Ok(Some("")), Ok(Some("first")), Ok(Some("second")), Ok(Some("été")), Err(NO_TEXT)]);
+        assert_eq!(names, [Ok(Some("")), Ok(Some("first")), Ok(Some("second")), Ok(Some("été")), Err(NOT_UTF_8)]);
         assert_eq!(symbols.find("été"), Ok(Some(3)));
         assert_eq!(symbols.find("t"), Ok(None));
         assert_eq!(symbols.get(5), None);
@@ -202,7 +203,7 @@ fn symbols() {
     }
 }
 
-/// A name, and the index of the first item that has it.
+/// A name, and the index of the first item with it.
 type Named = (Result<Option<String>>, Result<Option<usize>>);
 
 fn first_section(file: &[u8]) -> Named {
@@ -324,8 +325,8 @@ fn notes() {
         let of_segment: Vec<_> = elf.iter_note_headers().unwrap().collect();
         assert_eq!(of_section, of_segment);
         assert_eq!(of_section, elf.notes(&section(&elf, SHT_NOTE)).unwrap().iter().collect::<Vec<_>>());
-        let told: Vec<_> = of_section.iter().map(|note| (note.n_type, note.name, note.desc)).collect();
-        assert_eq!(told, [(3, "GNU", &b"abcd"[..]), (0x1234, "goblin", &b"hello"[..])]);
+        let found: Vec<_> = of_section.iter().map(|note| (note.n_type, note.name, note.desc)).collect();
+        assert_eq!(found, [(3, "GNU", &b"abcd"[..]), (0x1234, "goblin", &b"hello"[..])]);
         assert_eq!(of_section[0].type_to_str(), "NT_GNU_BUILD_ID");
         assert_eq!(of_section[1].type_to_str(), "NT_UNKNOWN");
     }
@@ -348,7 +349,7 @@ fn refusals() {
     for ((kind, text), wanted_kind, wanted_text) in wanted {
         assert_eq!((kind, &text[..]), (wanted_kind, wanted_text));
     }
-    // a `main` that answers a refusal tells it by `Debug`
+    // a `main` that returns an error prints it by `Debug`
     assert_eq!(format!("{:?}", Elf::parse(&file[..63]).err().unwrap()), "type is too big (64) for 63");
     let class = refused(&|f| f[4] = 3);
     assert_eq!(class.0, Kind::ElfClass(3));
@@ -374,7 +375,7 @@ fn names_of_numbers() {
     }
 }
 
-/// Reads everything. How many items there are, and how many refusals.
+/// Reads everything, and returns the numbers of items and of refusals.
 fn read_all(file: &[u8]) -> Result<(usize, usize)> {
     let elf = Elf::parse(file)?;
     let (mut items, mut refusals) = (0, 0);
@@ -405,7 +406,7 @@ fn damaged() {
     for form in FORMS {
         let file = made(form, 0);
         let whole = read_all(&file).unwrap();
-        assert_eq!(whole.1, 1, "the one name that is no text");
+        assert_eq!(whole.1, 1, "the one name that is not UTF-8");
         let (mut fewer, mut refused, mut same) = (0, 0, 0);
         let mut count = |file: &[u8]| match read_all(file) {
             Ok(found) if found == whole => same += 1,

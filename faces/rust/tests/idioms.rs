@@ -1,4 +1,4 @@
-//! What Rust's own forms give over the tables of small files that are made here.
+//! Tests Rust's idioms over the tables of small files that are made here.
 use goblin_rs::error::Kind;
 use goblin_rs::header::{header32, header64, *};
 use goblin_rs::items::{Items, List};
@@ -14,22 +14,22 @@ use std::fmt::Debug;
 mod made;
 use made::{made, FORMS, STRINGS};
 
-/// Whether an iterator gives what `of` tells of its items: from both ends, by turns, by jumps, cloned and counted.
-fn gives<L: List, T: Clone + Debug + PartialEq>(items: Items<L>, of: impl Fn(L::Item) -> T, list: &[T]) {
+/// Asserts that an iterator returns the items of a list, converted by `of`: from both ends, alternating, skipping, cloned and counted.
+fn has_items<L: List, T: Clone + Debug + PartialEq>(items: Items<L>, of: impl Fn(L::Item) -> T, list: &[T]) {
     assert_eq!((items.len(), items.size_hint()), (list.len(), (list.len(), Some(list.len()))));
     assert_eq!(items.clone().map(&of).collect::<Vec<_>>(), list);
     let backwards: Vec<_> = list.iter().rev().cloned().collect();
     assert_eq!(items.clone().rev().map(&of).collect::<Vec<_>>(), backwards);
     assert_eq!((items.clone().count(), items.clone().last().map(&of).as_ref()), (list.len(), list.last()));
     for n in [0, 1, 2, 63, 64, 65, 130, usize::MAX] {
-        let mut jumped = items.clone();
-        assert_eq!(jumped.next().map(&of).as_ref(), list.first());
-        assert_eq!(jumped.nth(n).map(&of).as_ref(), list.get(n.saturating_add(1)), "{n}");
-        let mut jumped = items.clone();
-        assert_eq!(jumped.nth(n).map(&of).as_ref(), list.get(n), "{n}");
+        let mut skipped = items.clone();
+        assert_eq!(skipped.next().map(&of).as_ref(), list.first());
+        assert_eq!(skipped.nth(n).map(&of).as_ref(), list.get(n.saturating_add(1)), "{n}");
+        let mut skipped = items.clone();
+        assert_eq!(skipped.nth(n).map(&of).as_ref(), list.get(n), "{n}");
         let rest = list.get(n..).map_or(&[][..], |rest| rest.get(1..).unwrap_or(&[]));
-        assert_eq!((jumped.len(), jumped.clone().count()), (rest.len(), rest.len()), "{n}");
-        assert_eq!(jumped.map(&of).collect::<Vec<_>>(), rest);
+        assert_eq!((skipped.len(), skipped.clone().count()), (rest.len(), rest.len()), "{n}");
+        assert_eq!(skipped.map(&of).collect::<Vec<_>>(), rest);
     }
     let (mut turns, mut left) = (items, list);
     while let [first, middle @ ..] = left {
@@ -55,7 +55,7 @@ fn symbols_from_both_ends() {
         }
         let made: Vec<u64> = [0, 0x1020, 0x2030, 0x3040, 0x4050].into_iter().chain(0..more as u64).collect();
         assert_eq!(values, made);
-        gives(symbols.iter(), |symbol| symbol.st_value, &made);
+        has_items(symbols.iter(), |symbol| symbol.st_value, &made);
     }
 }
 
@@ -65,16 +65,16 @@ fn tables_from_both_ends() {
         let file = made(form, 0);
         let elf = Elf::parse(&file).unwrap();
         let (sections, segments) = (elf.section_headers().unwrap(), elf.program_headers().unwrap());
-        gives(sections.iter(), |section| section.sh_type, &[0, 7, 2, 3, 4, 9, 3]);
-        gives(segments.iter(), |segment| segment.p_type, &[4, 1]);
+        has_items(sections.iter(), |section| section.sh_type, &[0, 7, 2, 3, 4, 9, 3]);
+        has_items(segments.iter(), |segment| segment.p_type, &[4, 1]);
         let relocs = elf.shdr_relocs().unwrap();
         assert_eq!(relocs.iter().map(|(section, _)| section.sh_type).collect::<Vec<_>>(), [SHT_RELA, SHT_REL]);
         let mut from_behind = relocs.iter();
         let (_, last) = from_behind.next_back().unwrap();
         assert_eq!((from_behind.len(), from_behind.size_hint(), relocs.len()), (1, (1, Some(1)), 2));
-        gives(last.iter(), |reloc| reloc.r_type, &[11]);
+        has_items(last.iter(), |reloc| reloc.r_type, &[11]);
         let (_, first) = relocs.into_iter().rev().nth(1).unwrap();
-        gives((&first).into_iter(), |reloc| reloc.r_offset, &[0x8, 0x18]);
+        has_items((&first).into_iter(), |reloc| reloc.r_offset, &[0x8, 0x18]);
         assert_eq!((sections.len(), segments.len(), segments.is_empty()), (7, 2, false));
         assert_eq!((sections.get(4).map(|section| section.sh_type), sections.get(7)), (Some(SHT_RELA), None));
         assert_eq!((segments.get(1).map(|segment| segment.p_type), segments.get(2)), (Some(PT_LOAD), None));
@@ -87,7 +87,7 @@ fn tables_from_both_ends() {
 }
 
 #[test]
-fn lists_are_equal_where_their_items_are() {
+fn lists_are_equal_if_their_items_are() {
     let (file, longer) = (made(FORMS[0], 0), made(FORMS[0], 1));
     let (one, other) = (Elf::parse(&file).unwrap(), Elf::parse(&longer).unwrap());
     assert_eq!(one.section_headers(), Elf::parse(&file.clone()).unwrap().section_headers());
@@ -109,7 +109,7 @@ fn what_symbols_and_headers_are() {
         let symbols = elf.syms().unwrap().unwrap();
         let first = symbols.get(1).unwrap();
         assert!(first.is_function() && !first.is_import());
-        // global and weak symbols of value 0 are imported, local ones are not
+        // global and weak symbols with the value 0 are imported, and local ones are not
         for (st_info, is_import, is_global_import, is_function) in
             [(0x10, true, true, false), (0x22, true, false, true), (0x02, false, false, true), (0x1a, true, true, false)]
         {

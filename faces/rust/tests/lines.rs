@@ -1,4 +1,4 @@
-//! Lines as a tool's author writes them, each a statement of its own, over a small file that is made here.
+//! Tests lines that authors of tools write, each a statement of its own, over a small file that is made here.
 use goblin_rs::elf::Elf;
 use goblin_rs::error::{Error, Kind};
 use goblin_rs::header::{self, header64, Header, EM_386, EM_X86_64, ET_DYN, ET_EXEC};

@@ -1,16 +1,16 @@
-//! What this crate has from elsewhere in its repository, and what holds of its own source. Only in the repository there is
-//! something to compare it with, so this file isn't installed.
+//! Tests this crate's source, and what it has in common with the rest of the repository. This file is not installed, since it needs the
+//! repository.
 use std::path::Path;
 use std::{fs, mem};
 
-/// The sources in a folder of the repository, but for those in folders below it: the name and the text of each.
+/// Returns the name and the text of each source in a folder of the repository, without its subfolders.
 fn sources(folder: &str) -> Vec<(String, String)> {
     let folder = Path::new(env!("CARGO_MANIFEST_DIR")).join("../..").join(folder);
     let files = fs::read_dir(folder).unwrap().map(|file| file.unwrap()).filter(|file| file.path().is_file());
     files.map(|file| (file.file_name().into_string().unwrap(), fs::read_to_string(file.path()).unwrap())).collect()
 }
 
-/// The constants of the sources in a folder, each with its comment.
+/// Returns the constants of the sources in a folder, each with its comment.
 fn constants(folder: &str) -> Vec<String> {
     sources(folder).iter().flat_map(|(_, source)| constants_of(source)).collect()
 }
@@ -35,7 +35,7 @@ fn constants_of(source: &str) -> Vec<String> {
     all
 }
 
-/// A constant of the library with the type of the field that holds it: `sh_flags` or `st_shndx`.
+/// Returns a constant of the library with the type of the field that holds it: `sh_flags` or `st_shndx`.
 fn with_type_of_field(constant: &str) -> String {
     let (of_flags, of_indices) = (constant.contains("pub const SHF_"), constant.contains("pub const SHN_"));
     let wide = if of_flags { "u64" } else { "usize" };
@@ -57,13 +57,13 @@ fn constants_are_the_library_s() {
     assert_eq!(ours.len(), theirs.len());
 }
 
-/// The lines of a source that declare what is public: types, and the records that `raw.rs` declares by a macro.
+/// Returns the lines of a source that declare public types. `raw.rs` declares them by a macro.
 fn declarations<'a>(name: &str, source: &'a str) -> Vec<(usize, &'a str)> {
     let words = ["pub struct ", "pub enum ", "pub trait "];
     let records = ["    Header {", "    SectionHeader {", "    ProgramHeader {", "    Sym {"];
     let declares = |line: &str| match name {
         "raw.rs" => records.contains(&line),
-        // (its type crosses no border of the crate)
+        // (its type is private to the crate)
         "file.rs" => false,
         _ => words.iter().any(|word| line.starts_with(word)),
     };

@@ -1,6 +1,6 @@
-//! Small files that are made here, in both classes and orders.
+//! Makes small files of both classes and byte orders.
 
-/// A class and an order.
+/// A class and a byte order.
 #[derive(Clone, Copy, Debug)]
 pub struct Form {
     pub is_64: bool,
@@ -19,7 +19,7 @@ impl Form {
         if self.is_64 { 8 } else { 4 }
     }
 
-    /// The bytes of numbers, each with its width, where `W` is an address's.
+    /// Returns the bytes of numbers, each with its width. `W` is the width of an address.
     pub fn numbers(self, numbers: &[(usize, u64)]) -> Vec<u8> {
         let mut bytes = Vec::new();
         for &(width, number) in numbers {
@@ -58,7 +58,7 @@ const W: usize = 0;
 const SECTION_NAMES: &[u8] = b"\0.note\0.symtab\0.strtab\0.rela\0.rel\0.names\0\xff\0";
 pub const STRINGS: &[u8] = b"\0first\0second\0\xc3\xa9t\xc3\xa9\0\xff\0";
 
-/// A file of seven sections and two segments, with so many nameless symbols behind its four named ones.
+/// Returns a file with seven sections, two segments and four named symbols, and with a number of unnamed symbols after these.
 pub fn made(form: Form, more: usize) -> Vec<u8> {
     let mut file = vec![0; if form.is_64 { 64 } else { 52 }];
     let mut sections = vec![0; if form.is_64 { 64 } else { 40 }];
