@@ -1,8 +1,8 @@
 #!/bin/sh
-# Whether an archive of faces/install.sh for wasm64-unknown-unknown serves: JavaScript tells of files, whole and damaged, what C
-# does, its calls do what their comments say, and the page shows files in browsers. Run from the repository's root:
-# web.sh ARCHIVE DUMP FILE.., where DUMP is made of faces/c/dump.c and the FILEs are all that faces/c/made.c makes in a folder. What
-# the machine hasn't is said in a line, and passes.
+# Tests an archive of faces/install.sh for wasm64-unknown-unknown: web.sh ARCHIVE DUMP FILE..
+# JavaScript reads from whole and damaged files what C reads, its calls do what their comments say, and the page shows files in browsers.
+# DUMP is the program of faces/c/dump.c, and the FILEs are all that faces/c/made.c makes. If the machine lacks node or a browser, a line
+# says what is skipped. Run it from the repository's root.
 set -eu
 archive=$1
 dump=$2
@@ -19,26 +19,26 @@ if flag=$(sh checks/node_flag.sh); then
     call faces/web/calls.mjs "$web" "$@" "$dump"
     head -c 15 "$dump" > "$folder/short"
     for example in needed segments; do
-        said=$(call "$web/examples/$example.mjs" "$folder/short" 2>&1) && { echo "$example.mjs: a short file"; exit 1; }
-        [ "$said" = "$example: $folder/short: Malformed entity: Too small" ] || { echo "$example.mjs: $said"; exit 1; }
+        said=$(call "$web/examples/$example.mjs" "$folder/short" 2>&1) && { echo "$example.mjs does not refuse a short file"; exit 1; }
+        [ "$said" = "$example: $folder/short: Malformed entity: Too small" ] || { echo "$example.mjs prints this of a short file: $said"; exit 1; }
     done
-    # A program that has the package among its own finds it by its name.
+    # A program with the package in its node_modules imports it by name.
     mkdir -p "$folder/app/node_modules"
     ln -s "$web" "$folder/app/node_modules/goblin_c"
     printf '%s\n' "import init, { Elf } from 'goblin_c';" "import { readFileSync } from 'node:fs';" 'await init();' \
         'console.log(Elf.parse(readFileSync(process.argv[2])).section_headers().length);' > "$folder/app/app.mjs"
     wanted=$(readelf -hW "$dump" 2> "$folder/output" | awk '/Number of section headers/ { print $5 }')
     counted=$(call "$folder/app/app.mjs" "$dump")
-    [ "$counted" = "${wanted:-$counted}" ] || { echo "by the package's name there are $counted sections"; exit 1; }
+    [ "$counted" = "${wanted:-$counted}" ] || { echo "imported by the package's name, goblin.js reads $counted sections, not $wanted"; exit 1; }
 else
-    echo "node has no memories of 64 bits here: the module for WebAssembly is not called from it"
+    echo "node has no 64-bit memories here: the module for WebAssembly is not called"
 fi
 
-# The page, which headless browsers open from its folder.
+# The page, which headless browsers open as a file.
 size=$(wc -c < "$web/index.html")
-if [ "$size" -gt 300000 ]; then echo "the page has $size bytes"; exit 1; fi
+if [ "$size" -gt 300000 ]; then echo "the page is too large: it has $size bytes, and may have at most 300,000"; exit 1; fi
 
-# Opens the page in a browser, the first that there is of some commands: open_page NAME COMMAND..
+# Opens the page in a browser, by the first of some commands that the machine has: open_page NAME COMMAND ..
 open_page() {
     name=$1
     shift

@@ -1,9 +1,10 @@
 #!/bin/sh
-# Whether C can call the library as goblin.h says: sh checks/faces/c.sh FOLDER
-# goblin.h against the library and <elf.h>, and its examples; the programs of faces/c over files that they make themselves, whole and damaged.
+# Tests the library's calls from C: sh checks/faces/c.sh FOLDER, after library.sh
+# It compares goblin.h with the library and with <elf.h>, compiles its examples, and runs the programs of faces/c over whole and damaged
+# files that made.c makes.
 . checks/faces/shared.sh
 
-# The value, letter, section index and name of each symbol of a made file.
+# The value, letter, section index and name of each symbol in the files that made.c makes.
 symbols_made='0 a 65521 made.c
 0 t 1 .text
 0 N 5 .debug_info
@@ -30,7 +31,7 @@ fail() {
     exit 1
 }
 
-# Compiles goblin.h by each standard, and holds its structs to the library's layout.
+# Compiles goblin.h by each standard, and compares its structs with the library's layout.
 check_header() {
     version=$(awk -F '"' '/^version = / { print $2; exit }' faces/rust/Cargo.toml)
     grep -qxF "#define GOBLIN_VERSION_STRING \"$version\"" faces/c/goblin.h \
@@ -47,7 +48,7 @@ check_header() {
             -x none -L"$folder" -lgoblin_c
         quietly strictly c++ -x c++ -std=c++11 -Ifaces/c -c -o "$folder/assertions.o" "$folder/assertions.c"
     else
-        echo "no c++ here: goblin.h is compiled as C alone"
+        echo "no c++ here: goblin.h is only compiled as C"
     fi
     "$folder/layout"
 }
@@ -61,7 +62,7 @@ check_examples() {
         /^(uint(32|64)_t|void) goblin_/ { calls++ }
         sub(/^ *Example: /, "") { examples++; sub(/ \*\/$/, ""); print "    { " $0 " }" }
         END { print "    return range.size + string.size + value + note.n_type + count > 0;\n}"; exit calls == 0 || calls != examples }' \
-        faces/c/goblin.h > "$folder/examples.c" || fail "goblin.h: not each call has one example"
+        faces/c/goblin.h > "$folder/examples.c" || fail "each call in goblin.h must have one example"
     for compiler in cc clang; do
         has $compiler || continue
         for standard in c89 c99 c11; do quietly strictly $compiler -std=$standard -Ifaces/c -c -o "$folder/examples.o" "$folder/examples.c"; done
@@ -69,8 +70,8 @@ check_examples() {
     echo "the $(grep -c '^    { ' "$folder/examples.c") examples of goblin.h can be compiled"
 }
 
-# Compares the constants of goblin.h with those of <elf.h>, where this machine has it. Where both have a name, both have one number,
-# but for counts of types and machines, which differ from version to version.
+# Compares the constants of goblin.h with those of <elf.h>, if this machine has it. If both have a name, both have the same number. Counts
+# of types and machines are left out, since they differ from version to version.
 check_constants() {
     if ! echo '#include <elf.h>' | cc -E - > "$folder/output" 2>&1; then
         echo "no elf.h here: the constants of goblin.h are not compared"
@@ -82,20 +83,20 @@ check_constants() {
             print "#if defined " name " && GOBLIN_" name " != " name "\n#error " name " is another number in elf.h\n#endif" }
         END { print "extern int compared;" }' faces/c/goblin.h > "$folder/constants.c"
     quietly strictly cc -std=c99 -Ifaces/c -c -o "$folder/constants.o" "$folder/constants.c"
-    echo "where goblin.h and elf.h have the same name, they have the same number"
+    echo "constants with the same name have the same number in goblin.h and elf.h"
 }
 
 check_bench() {
     if echo '#include <gelf.h>' | cc -E - > "$folder/output" 2>&1; then
         quietly strictly cc -std=c99 -Ifaces/c -o "$folder/bench" faces/c/bench.c -L"$folder" -lgoblin_c -lelf
         quietly "$folder/bench" "$folder/nm"
-        echo "bench.c finds what libelf does"
+        echo "bench.c reads what libelf reads"
     else
         echo "no header of libelf here: bench.c is not compiled"
     fi
 }
 
-# The programs over each made file, and over its first bytes.
+# Runs the programs over each file that made.c makes, and over its first bytes.
 check_programs() {
     mkdir "$files"
     "$folder/made" "$files"
@@ -105,28 +106,28 @@ check_programs() {
         "$folder/nm" "$file" > "$folder/listed"
         quietly diff "$folder/wanted" "$folder/listed"
         "$folder/values" "$file" > "$folder/listed"
-        [ "$(grep -c -x -e '12 function' -e '18 été' "$folder/listed")" -eq 2 ] || fail "values.c: $file"
+        [ "$(grep -c -x -e '12 function' -e '18 été' "$folder/listed")" -eq 2 ] || fail "values.c does not list the symbols of $file"
     done
     short=$folder/short
     head -c 15 "$file" > "$short"
-    [ "$("$folder/nm" "$short" 2>&1)" = 'nm: header: Malformed entity: Too small' ] || fail "nm.c: a short file"
-    [ "$("$folder/values" "$short" 2>&1)" = 'values: Malformed entity: Too small' ] || fail "values.c: a short file"
-    [ "$("$folder/needed" "$short" 2>&1)" = 'needed: Malformed entity: Too small' ] || fail "needed.c: a short file"
-    [ "$("$folder/size" "$short" 2>&1 > "$folder/output")" = "size: $short: Malformed entity: Too small" ] || fail "size.c: a short file"
-    echo "nm.c lists $(echo "$symbols_made" | wc -l) symbols in each class and order"
+    [ "$("$folder/nm" "$short" 2>&1)" = 'nm: header: Malformed entity: Too small' ] || fail "nm.c does not refuse a short file as it should"
+    [ "$("$folder/values" "$short" 2>&1)" = 'values: Malformed entity: Too small' ] || fail "values.c does not refuse a short file as it should"
+    [ "$("$folder/needed" "$short" 2>&1)" = 'needed: Malformed entity: Too small' ] || fail "needed.c does not refuse a short file as it should"
+    [ "$("$folder/size" "$short" 2>&1 > "$folder/output")" = "size: $short: Malformed entity: Too small" ] || fail "size.c does not refuse a short file as it should"
+    echo "nm.c lists $(echo "$symbols_made" | wc -l) symbols in each class and byte order"
 }
 
-# Damaged files, by the sanitizers, where the compiler has them.
+# Reads damaged files, with sanitizers if the compiler has them.
 check_damaged() {
     echo 'int main(void) { return 0; }' > "$folder/empty.c"
     set -- -fsanitize=address,undefined -fno-sanitize-recover=all
     if ! { cc "$@" -o "$folder/empty" "$folder/empty.c" && "$folder/empty"; } > "$folder/output" 2>&1; then
-        echo "cc has no sanitizers here: damaged files are read without"
+        echo "cc has no sanitizers here: damaged files are read without them"
         set --
     fi
     build damaged -std=c99 "$@"
-    "$folder/damaged" 1000 "$files"/* > "$folder/told" || { echo "failed: damaged.c"; cat "$folder/told"; exit 1; }
-    cat "$folder/told"
+    "$folder/damaged" 1000 "$files"/* > "$folder/summed" || { echo "failed: damaged.c"; cat "$folder/summed"; exit 1; }
+    cat "$folder/summed"
 }
 
 check_header

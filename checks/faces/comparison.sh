@@ -1,12 +1,12 @@
 #!/bin/sh
-# Whether the programs of C, Rust and JavaScript list of this machine's files what binutils' nm, readelf, size and addr2line do:
-# sh checks/faces/comparison.sh FOLDER [FILE ..], after c.sh, rust.sh and webassembly.sh. Files named by words are taken in place of
-# others. What the machine has no such program for is said in a line, and passes.
+# Compares what the programs in C, Rust and JavaScript list of files with nm, readelf, size and addr2line of binutils:
+# sh checks/faces/comparison.sh FOLDER [FILE ..], after c.sh, rust.sh and webassembly.sh
+# Without FILEs it takes files of this machine. If the machine lacks a program of binutils, a line says what is skipped.
 . checks/faces/shared.sh
 shift
 root=$PWD
 
-# The first so many ELF files among those that `find` finds with these words, spread over them.
+# Prints a number of ELF files, spread over those that find finds: pick NUMBER ARGUMENT ..
 pick() {
     count=$1
     shift
@@ -19,14 +19,14 @@ pick() {
     done
 }
 
-# An object file of 66,000 sections, each with a symbol: the indices of the last have no room in their symbols.
+# Makes an object file of 66,000 sections, each with a symbol. The indices of the last sections do not fit in their symbols.
 make_many() {
     awk 'BEGIN { for (i = 0; i < 66000; i++) printf ".section .text.%d, \"ax\"\n.globl f%d\nf%d: .byte 0\n", i, i, i }' \
         > "$folder/many.s"
     if cc -c -o "$folder/many.o" "$folder/many.s" > "$folder/output" 2>&1; then echo "$folder/many.o"; fi
 }
 
-# Runs a command over the files listed, for what it lists of them.
+# Runs a command over the files in the list.
 over_files() { tr '\n' '\0' < "$folder/list" | xargs -0 "$@"; }
 
 compare_symbols() {
@@ -36,7 +36,7 @@ compare_symbols() {
             "$folder/nm" $option "$file" 2>&3 || echo "$file is refused" >&3
         done
     done < "$folder/list" > "$folder/ours" 3> "$folder/refused"
-    # (a plugin would list in place of symbols what a compiler left there for itself)
+    # (with a plugin, nm would list the compiler's own symbols of a file with link-time code)
     over_files nm --plugin /dev/null -a -p > "$folder/nm.static" 2> "$folder/said" || true
     over_files nm --plugin /dev/null -a -p -D > "$folder/nm.-D" 2> "$folder/output" || true
     over_files readelf -sW > "$folder/readelf" 2> "$folder/output" || true
@@ -46,7 +46,7 @@ compare_symbols() {
 compare_sizes() {
     over_files "$folder/size" > "$folder/ours" 2> "$folder/refused" || true
     over_files size > "$folder/size.text" 2> "$folder/said" || true
-    # (what size doesn't know it leaves out)
+    # (size leaves out files that it does not know)
     # shellcheck disable=SC2016
     quietly awk -v least="$1" 'NR == FNR { theirs[$6] = $0; next } ($6 in theirs) && theirs[$6] != $0 { print theirs[$6] "\n" $0; wrong++ }
         ($6 in theirs) && FNR > 1 { same++ } END { print same; exit wrong > 0 || same < least * 0.9 }' \
@@ -54,7 +54,7 @@ compare_sizes() {
     echo "size.c adds up $(tail -n 1 "$folder/output") files as size does"
 }
 
-# The functions of some files by their addresses, at the start and behind it, as binutils' nm lists them with their sizes.
+# Compares the names of functions at some addresses: at the start of each function that nm lists with a size, and after its start.
 compare_addresses() {
     { head -n 40 "$folder/list"; echo "$folder/symbolize"; } > "$folder/some"
     while read -r file; do
@@ -80,7 +80,7 @@ compare_relocations() {
     (cd "$folder" && awk -v least="$1" -f "$root/checks/relocations.awk" ours readelf)
 }
 
-# Shared objects whose dynamic sections have what few others have: a name of their own and a path, of either kind.
+# Makes shared objects with what few others have in their dynamic sections: a soname and a search path, of both kinds.
 make_shared() {
     echo 'int made;' > "$folder/shared.c"
     for tags in enable disable; do
@@ -89,26 +89,26 @@ make_shared() {
     done
 }
 
-# What readelf lists of a file as needed.c, needed.rs and needed.mjs do.
+# Lists by readelf what needed.c, needed.rs and needed.mjs list.
 list_needed() {
     readelf -lW "$1" | sed -n 's/^ *\[Requesting program interpreter: \(.*\)\]$/interpreter \1/p'
     readelf -dW "$1" | sed -n -e 's/^.*(NEEDED) .*\[\(.*\)\]$/needed \1/p' -e 's/^.*(SONAME) .*\[\(.*\)\]$/soname \1/p' \
         -e 's/^.*(RPATH) .*\[\(.*\)\]$/rpath \1/p' -e 's/^.*(RUNPATH) .*\[\(.*\)\]$/runpath \1/p'
 }
 
-# What readelf lists of a file's segments as segments.rs and segments.mjs do, but for their types.
+# Lists by readelf what segments.rs and segments.mjs list, without the types.
 list_segments() {
     readelf -lW "$1" > "$folder/segments"
     if grep -q '^ Section to Segment mapping:$' "$folder/segments"; then
         sed -n '/^ Section to Segment mapping:$/,$s/^ *\([0-9][0-9]\) */\1 /p' "$folder/segments" | sed 's/ *$//'
     else
-        # (it maps no sections where there are none, as in a core)
+        # (it prints no map if there are no sections, as in a core file)
         readelf -hW "$1" | awk '/^ *Number of program headers:/ { for (i = 0; i < $5; i++) printf "%02d\n", i }'
     fi
 }
 without_types() { sed 's/^\([0-9][0-9]*\) [^ ]*/\1/'; }
 
-# Runs a command for each of some files, for what it lists of them.
+# Runs a command for each of some files.
 for_each() {
     while read -r file; do
         echo "file: $file"
@@ -116,7 +116,7 @@ for_each() {
     done < "$folder/some"
 }
 
-# Unpacks the examples in JavaScript, and finds the flag that node needs for them, unless the machine has no such node.
+# Unpacks the examples in JavaScript, and finds the flag that node needs for them. Fails if this machine can't run them.
 find_web() {
     if [ ! -e "$folder/goblin_web.tar.gz" ] || ! flag=$(sh checks/node_flag.sh); then return 1; fi
     mkdir "$folder/web"
@@ -124,13 +124,13 @@ find_web() {
     in_js=$(echo "$folder"/web/goblin_c-*/share/goblin_c/web/examples)
 }
 
-# What an example in JavaScript lists of some files: one run for all, since node takes long to start.
+# Runs an example in JavaScript once for some files, since node takes long to start.
 list_by_js() { tr '\n' '\0' < "$folder/some" | xargs -0 node ${flag:+"$flag"} "$in_js/$1.mjs"; }
 
-# Compares with readelf what a program has listed of some files that the dynamic linker needs.
+# Compares what a program has listed of the dynamic linker's needs with readelf.
 compare_needed_by() {
     quietly diff "$folder/theirs" "$folder/ours"
-    echo "$1 lists the $(grep -vc '^file: ' "$folder/theirs") interpreters, libraries, names and paths of readelf"
+    echo "$1 lists the $(grep -vc '^file: ' "$folder/theirs") interpreters, libraries, sonames and paths that readelf lists"
 }
 
 compare_needed() {
@@ -186,6 +186,6 @@ if has size; then compare_sizes "$count"; else echo "no size here: no sizes are 
 if has addr2line; then compare_addresses; else echo "no addr2line here: no addresses are compared"; fi
 if [ -x "$examples/relocations" ]; then compare_relocations "$count"; fi
 in_js=
-find_web || echo "no node with memories of 64 bits here: no examples in JavaScript are compared"
+find_web || echo "no node with 64-bit memories here: no examples in JavaScript are compared"
 compare_needed
 compare_segments

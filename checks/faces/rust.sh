@@ -1,24 +1,24 @@
 #!/bin/sh
-# Whether Rust can call the library by the crate of faces/rust: sh checks/faces/rust.sh FOLDER, after c.sh
-# Its tests, its examples over the files that made.c made, its package; and what clippy says of it, where it is there.
+# Tests the crate of faces/rust: sh checks/faces/rust.sh FOLDER, after c.sh
+# It runs the crate's tests, its examples over the files that made.c makes, cargo package, and clippy if the machine has it.
 . checks/faces/shared.sh
 export GOBLIN_C_LIB="$folder" CARGO_TARGET_DIR="$folder/target"
 crate=faces/rust/Cargo.toml
 
 if ! cargo --version > "$folder/output" 2>&1 || ! rustc --version > "$folder/output" 2>&1; then
-    echo "no cargo and rustc here: no Rust is compiled"
+    echo "no cargo and rustc here: the Rust crate is not tested"
     exit 0
 fi
 quietly cargo test --offline --manifest-path $crate
 awk '/^test result: ok\. / { tests += $4 } END { print "the Rust crate passes " tests + 0 " tests"; exit tests < 60 }' "$folder/output"
-# (cargo has built the examples beside the tests)
+# (cargo has built the examples with the tests)
 for file in "$files"/*; do
     "$examples/symbols" "$file" > "$folder/listed"
-    [ "$(grep -c -x -e '12 function' -e '18 été' "$folder/listed")" -eq 2 ] || { echo "symbols.rs: $file"; exit 1; }
+    [ "$(grep -c -x -e '12 function' -e '18 été' "$folder/listed")" -eq 2 ] || { echo "symbols.rs does not list the symbols of $file"; exit 1; }
 done
 for example in symbols relocations needed segments; do
-    said=$("$examples/$example" "$folder/short" 2>&1) && { echo "$example.rs: a short file"; exit 1; }
-    [ "$said" = "$example: $folder/short: Malformed entity: Too small" ] || { echo "$example.rs: $said"; exit 1; }
+    said=$("$examples/$example" "$folder/short" 2>&1) && { echo "$example.rs does not refuse a short file"; exit 1; }
+    [ "$said" = "$example: $folder/short: Malformed entity: Too small" ] || { echo "$example.rs prints this of a short file: $said"; exit 1; }
 done
 quietly cargo package --offline --allow-dirty --manifest-path $crate
 if cargo clippy --version > "$folder/output" 2>&1; then

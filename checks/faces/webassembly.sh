@@ -1,10 +1,9 @@
 #!/bin/sh
-# The module for WebAssembly, called from JavaScript, beside C over the same files; and the page, in a browser:
-# sh checks/faces/webassembly.sh FOLDER, after c.sh
+# Tests the module for WebAssembly, called from JavaScript, and the page: sh checks/faces/webassembly.sh FOLDER, after c.sh
 . checks/faces/shared.sh
 
 if ! has node; then
-    echo "no node here: the module for WebAssembly is not tried"
+    echo "no node here: the module for WebAssembly is not tested"
     exit 0
 fi
 quietly env LIBRARY= CPU= TARGET=wasm64-unknown-unknown sh faces/install.sh --archive "$folder/goblin_web.tar.gz"
