@@ -1,5 +1,6 @@
 -- Runs of ASCII in a string, from the lanes of a load to the piece.
-use Rattle.std.proofs.Common.{◌≡◌, ℕ, ◌+◌, ◌-◌, ◌%◌, ◌^◌, ◌<◌, ◌≤◌, ◌==◌, eqb, leb, cond, Bool, true, false, not, ◌||◌, bit_or, List, map, take, drop, length, get_or, refl, ap, ◌∙◌, ⊎_elim, arith, Ok}
+use Rattle.std.proofs.Common.{◌≡◌, ℕ, ◌+◌, ◌-◌, ◌%◌, ◌^◌, ◌<◌, ◌≤◌, ◌==◌, eqb, leb, cond, Bool, true, false, not, ◌||◌}
+use Rattle.std.proofs.Common.{bit_or, List, map, take, drop, length, get_or, refl, ap, ◌∙◌, ⊎_elim, arith, Ok}
 use Rattle.std.proofs.lemmas.Bool.{cases_lt, cond-true, cond-false, eq-eqb, ne_eqb, leb-false, or_parts}
 use Rattle.std.proofs.lemmas.List.{length-map, length-take, get_or-take, get_or_past, take_rest}
 use Rattle.std.proofs.lemmas.List.Folds.{prefix_len-append}
@@ -26,28 +27,45 @@ either false true = refl
 either false false = refl
 
 -- the mask of the lanes has the lowest bit at the first byte that ends the run
-mask_is : (d : ℕ) (v z : List ℕ) → length v ≡ 16 → z ≡ map (lane d) v → mask_l (map (top 7) z) % 2 ^ 64 ≡ mask_l (map (ends_run d) v)
+mask_is : (d : ℕ) (v z : List ℕ)
+    → length v ≡ 16 → z ≡ map (lane d) v → mask_l (map (top 7) z) % 2 ^ 64 ≡ mask_l (map (ends_run d) v)
 mask_is d v z long lanes =
-    let tops : map (top 7) z ≡ map (ends_run d) v = ap (map (top 7)) lanes ∙ map-map (top 7) (lane d) v ∙ ap (λ f. map f v) (λ i b. either (eqb b d) (leb 128 b) i) in
-    ap (λ l. mask_l l % 2 ^ 64) tops ∙ mask_l-mod (map (ends_run d) v) 64 (omega (arith, length-map v (ends_run d), long))
+    let tops : map (top 7) z ≡ map (ends_run d) v =
+    ap (map (top 7)) lanes ∙ map-map (top 7) (lane d) v ∙ ap (λ f. map f v) (λ i b. either (eqb b d) (leb 128 b) i) in
+    ap (λ l. mask_l l % 2 ^ 64) tops
+    ∙ mask_l-mod (map (ends_run d) v) 64 (omega (arith, length-map v (ends_run d), long))
 
-pub run_is : (d : ℕ) (v z : List ℕ) (r : ℕ) → length v ≡ 16 → z ≡ map (lane d) v → r ≡ lowest_set (mask_l (map (top 7) z) % 2 ^ 64) 16 → r ≡ position_or_len (ends_run d) v
-run_is d v z r long lanes found = found ∙ ap (λ m. lowest_set m 16) (mask_is d v z long lanes) ∙ first_set_mask_l (ends_run d) v 16 long (omega arith)
+pub run_is : (d : ℕ) (v z : List ℕ) (r : ℕ)
+    → length v ≡ 16 → z ≡ map (lane d) v → r ≡ lowest_set (mask_l (map (top 7) z) % 2 ^ 64) 16
+    → r ≡ position_or_len (ends_run d) v
+run_is d v z r long lanes found =
+    found ∙ ap (λ m. lowest_set m 16) (mask_is d v z long lanes) ∙ first_set_mask_l (ends_run d) v 16 long (omega arith)
 
 -- a run from a place on: of the next bytes alone where it ends in them, or on behind them
-pub ends_here : (d : ℕ) (bytes : List ℕ) (at : ℕ) → at + 16 ≤ length bytes → position_or_len (ends_run d) (take 16 (drop at bytes)) < 16 → position_or_len (ends_run d) (drop at bytes) ≡ position_or_len (ends_run d) (take 16 (drop at bytes))
+pub ends_here : (d : ℕ) (bytes : List ℕ) (at : ℕ)
+    → at + 16 ≤ length bytes → position_or_len (ends_run d) (take 16 (drop at bytes)) < 16
+    → position_or_len (ends_run d) (drop at bytes) ≡ position_or_len (ends_run d) (take 16 (drop at bytes))
 ends_here d bytes at room short =
     let p : ℕ → Bool = λ b. not (ends_run d b) in
     let long = length-chunk at 16 bytes room in
-    let apart : ¬ (prefix_len p (chunk at 16 bytes) ≡ length (chunk at 16 bytes)) = λ e. absurd (omega (arith, e, long, short)) in
-    ap (prefix_len p) (chunk-drop at 16 bytes) ∙ prefix_len-append p (chunk at 16 bytes) (drop (at + 16) bytes) ∙ cond-false _ _ _ (ne_eqb _ _ apart)
+    let apart : ¬ (prefix_len p (chunk at 16 bytes) ≡ length (chunk at 16 bytes)) =
+    λ e. absurd (omega (arith, e, long, short)) in
+    ap (prefix_len p) (chunk-drop at 16 bytes)
+    ∙ prefix_len-append p (chunk at 16 bytes) (drop (at + 16) bytes)
+    ∙ cond-false _ _ _ (ne_eqb _ _ apart)
 
-pub goes_on : (d : ℕ) (bytes : List ℕ) (at : ℕ) → at + 16 ≤ length bytes → 16 ≤ position_or_len (ends_run d) (take 16 (drop at bytes)) → position_or_len (ends_run d) (drop at bytes) ≡ 16 + position_or_len (ends_run d) (drop (at + 16) bytes)
+pub goes_on : (d : ℕ) (bytes : List ℕ) (at : ℕ)
+    → at + 16 ≤ length bytes → 16 ≤ position_or_len (ends_run d) (take 16 (drop at bytes))
+    → position_or_len (ends_run d) (drop at bytes) ≡ 16 + position_or_len (ends_run d) (drop (at + 16) bytes)
 goes_on d bytes at room all =
     let p : ℕ → Bool = λ b. not (ends_run d b) in
     let long = length-chunk at 16 bytes room in
-    let same : prefix_len p (chunk at 16 bytes) ≡ length (chunk at 16 bytes) = omega (arith, long, all, prefix_len-le-length p (chunk at 16 bytes)) in
-    ap (prefix_len p) (chunk-drop at 16 bytes) ∙ prefix_len-append p (chunk at 16 bytes) (drop (at + 16) bytes) ∙ cond-true _ _ _ (eq-eqb _ _ same) ∙ ap (λ n. n + prefix_len p (drop (at + 16) bytes)) long
+    let same : prefix_len p (chunk at 16 bytes) ≡ length (chunk at 16 bytes) =
+    omega (arith, long, all, prefix_len-le-length p (chunk at 16 bytes)) in
+    ap (prefix_len p) (chunk-drop at 16 bytes)
+    ∙ prefix_len-append p (chunk at 16 bytes) (drop (at + 16) bytes)
+    ∙ cond-true _ _ _ (eq-eqb _ _ same)
+    ∙ ap (λ n. n + prefix_len p (drop (at + 16) bytes)) long
 
 pub ruleset runs = (ends_here, goes_on, first_or_length, take_rest)
 
@@ -59,8 +77,12 @@ module _ (d n : ℕ) (bytes : List ℕ) (is : n ≡ position_or_len (ends_run d)
   -- each byte of it is ASCII
   run_is_ascii : IsAscii (take n bytes)
   run_is_ascii i = ⊎_elim
-      (λ (l : i < n). let at = get_or-take n bytes i 0 l in let low = leb-false 128 (get_or bytes i 0) (or_parts (eqb (get_or bytes i 0) d) (leb 128 (get_or bytes i 0)) (in_run i l)).1 in omega (arith, at, low))
-      (λ (l : n ≤ i). let none = get_or_past (take n bytes) i 0 (omega (arith, length-take n bytes)) in omega (arith, none))
+      (λ (l : i < n). let at = get_or-take n bytes i 0 l in
+      let low = leb-false 128 (get_or bytes i 0)
+      (or_parts (eqb (get_or bytes i 0) d) (leb 128 (get_or bytes i 0)) (in_run i l)).1 in
+      omega (arith, at, low))
+      (λ (l : n ≤ i). let none = get_or_past (take n bytes) i 0 (omega (arith, length-take n bytes)) in
+      omega (arith, none))
       (cases_lt i n)
 
   pub run_is_text : IsUtf8 (take n bytes)
@@ -71,6 +93,8 @@ module _ (d n : ℕ) (bytes : List ℕ) (is : n ≡ position_or_len (ends_run d)
   unfolding piece
   run_is_plain ended =
       let ends : ℕ → Bool = λ b. b == d in
-      let first : position_or_len ends bytes ≡ n = position_or_len_is ends bytes n 0 (omega (arith, is, prefix_len-le-length (λ b. not (ends_run d b)) bytes)) (λ k l. (or_parts (eqb (get_or bytes k 0) d) (leb 128 (get_or bytes k 0)) (in_run k l)).0) ended in
+      let first : position_or_len ends bytes ≡ n =
+      position_or_len_is ends bytes n 0 (omega (arith, is, prefix_len-le-length (λ b. not (ends_run d b)) bytes))
+      (λ k l. (or_parts (eqb (get_or bytes k 0) d) (leb 128 (get_or bytes k 0)) (in_run k l)).0) ended in
       let same : piece bytes d 0 ≡ take n bytes = ap (λ k. take k bytes) first in
       ap (λ p. text_or_fault p (length bytes - 0)) same ∙ cond-true _ _ _ (is_utf8-from_IsUtf8 _ run_is_text)

@@ -1,5 +1,6 @@
 -- One step of the reading of UTF-8.
-use Rattle.std.proofs.Common.{◌≡◌, ℕ, zero, suc, ◌-◌, ◌<◌, ◌≤◌, Bool, true, false, cond, ◌&&◌, ltb, leb, List, ◌∷◌, refl, sym, subst, inl, inr, arith, lt-ltb, le-leb, ne_eqb, Option, Some, None}
+use Rattle.std.proofs.Common.{◌≡◌, ℕ, zero, suc, ◌-◌, ◌<◌, ◌≤◌, Bool, true, false, cond, ◌&&◌, ltb, leb, List, ◌∷◌}
+use Rattle.std.proofs.Common.{refl, sym, subst, inl, inr, arith, lt-ltb, le-leb, ne_eqb, Option, Some, None}
 use Rattle.std.proofs.lemmas.Bool.{and_parts, and_from, both_ways, cond-true, ltb-true, ltb-false, leb-true}
 use Rattle.std.specs.Str.{continuation_len}
 use Rattle.std.specs.Str.Lossy.{second_byte_min, second_byte_max}
@@ -30,13 +31,20 @@ of_first b = record { more = continuation_len b; least = second_byte_min b; most
 ascii_steps : (lo hi b : ℕ) → b < 128 → Steps (record { more = 0; least = lo; most = hi }) b awaits_first
 ascii_steps lo hi b h =
     let e : continuation_len b ≡ 0 = cond-true _ _ _ (lt-ltb b 128 h) in record {
-      forth = λ bs v. any_bounds _ _ 0x80 0xbf bs (subst (λ k. Completes k (second_byte_min b) (second_byte_max b) bs) e v.1);
-      back = λ bs v. (inl h, subst (λ k. Completes k (second_byte_min b) (second_byte_max b) bs) (sym e) (any_bounds _ _ (second_byte_min b) (second_byte_max b) bs v));
-      excludes = λ bs v. any_bounds _ _ 0x80 0xbf bs (subst (λ k. Completes k (second_byte_min b) (second_byte_max b) bs) e v.1);
+      forth = λ bs v.
+          any_bounds _ _ 0x80 0xbf bs (subst (λ k. Completes k (second_byte_min b) (second_byte_max b) bs) e v.1);
+      back = λ bs v. (
+        inl h,
+        subst (λ k. Completes k (second_byte_min b) (second_byte_max b) bs) (sym e)
+            (any_bounds _ _ (second_byte_min b) (second_byte_max b) bs v),
+      );
+      excludes = λ bs v.
+          any_bounds _ _ 0x80 0xbf bs (subst (λ k. Completes k (second_byte_min b) (second_byte_max b) bs) e v.1);
       inner = record { least = omega arith; most = omega arith };
     }
 
-first_steps : (lo hi b : ℕ) → (0xc2 ≤ b) × (b ≤ 0xf4) → Steps (record { more = 0; least = lo; most = hi }) b (of_first b)
+first_steps : (lo hi b : ℕ)
+    → (0xc2 ≤ b) × (b ≤ 0xf4) → Steps (record { more = 0; least = lo; most = hi }) b (of_first b)
 first_steps lo hi b h = record {
   forth = λ bs v. v.1;
   back = λ bs v. (inr h, v);
@@ -44,7 +52,9 @@ first_steps lo hi b h = record {
   inner = record { least = omega (arith, least_is b); most = omega (arith, most_is b) };
 }
 
-later_steps : (n lo hi b : ℕ) → 0x80 ≤ lo → hi ≤ 0xbf → (lo ≤ b) × (b ≤ hi) → Steps (record { more = suc n; least = lo; most = hi }) b (record { more = n; least = 0x80; most = 0xbf })
+later_steps : (n lo hi b : ℕ)
+    → 0x80 ≤ lo → hi ≤ 0xbf → (lo ≤ b) × (b ≤ hi)
+    → Steps (record { more = suc n; least = lo; most = hi }) b (record { more = n; least = 0x80; most = 0xbf })
 later_steps n lo hi b l m h = record {
   forth = λ bs v. v.1;
   back = λ bs v. (h, v);
@@ -67,15 +77,26 @@ out_of_range lo hi b e h = both_ways _ e (and_from _ _ (le-leb lo b h.0) (le-leb
 pub steps : (s : Awaited) (b : ℕ) → IsInner s → StepsTo s b (after_byte s b)
 steps s b inner = by s.more s.least s.most inner
   where
-    first : (lo hi : ℕ) (x y : Bool) → ltb b 128 ≡ x → (leb 0xc2 b && leb b 0xf4) ≡ y → StepsTo (record { more = 0; least = lo; most = hi }) b (cond x (Some awaits_first) (cond y (Some (of_first b)) None))
+    first : (lo hi : ℕ) (x y : Bool)
+        → ltb b 128 ≡ x → (leb 0xc2 b && leb b 0xf4) ≡ y
+        → StepsTo (record { more = 0; least = lo; most = hi }) b
+        (cond x (Some awaits_first) (cond y (Some (of_first b)) None))
     first lo hi true y e f = ascii_steps lo hi b (ltb-true b 128 e)
     first lo hi false true e f = first_steps lo hi b (in_range _ _ b f)
-    first lo hi false false e f = λ bs v. out_of_range _ _ b f (let is : IsFirst b = v.0 in omega (arith, ltb-false b 128 e))
+    first lo hi false false e f =
+        λ bs v. out_of_range _ _ b f (let is : IsFirst b = v.0 in omega (arith, ltb-false b 128 e))
 
-    later : (n lo hi : ℕ) (x : Bool) → IsInner (record { more = suc n; least = lo; most = hi }) → (leb lo b && leb b hi) ≡ x → StepsTo (record { more = suc n; least = lo; most = hi }) b (cond x (Some (record { more = n; least = 0x80; most = 0xbf })) None)
+    later : (n lo hi : ℕ) (x : Bool)
+        → IsInner (record { more = suc n; least = lo; most = hi }) → (leb lo b && leb b hi) ≡ x
+        → StepsTo (record { more = suc n; least = lo; most = hi }) b
+        (cond x (Some (record { more = n; least = 0x80; most = 0xbf })) None)
     later n lo hi true inner e = later_steps n lo hi b inner.least inner.most (in_range lo hi b e)
     later n lo hi false inner e = λ bs v. out_of_range lo hi b e v.0
 
-    by : (n lo hi : ℕ) → IsInner (record { more = n; least = lo; most = hi }) → StepsTo (record { more = n; least = lo; most = hi }) b (after_byte (record { more = n; least = lo; most = hi }) b)
+    by : (n lo hi : ℕ)
+        → IsInner (record { more = n; least = lo; most = hi })
+        → StepsTo (record { more = n; least = lo; most = hi }) b
+        (after_byte (record { more = n; least = lo; most = hi }) b)
     by zero lo hi inner = first lo hi _ _ refl refl
-    by (suc n) lo hi inner = let one : suc n - 1 ≡ n = omega arith in rw (ne_eqb (suc n) 0 (λ (z : suc n ≡ 0). omega arith), one) (later n lo hi _ inner refl)
+    by (suc n) lo hi inner = let one : suc n - 1 ≡ n = omega arith in
+        rw (ne_eqb (suc n) 0 (λ (z : suc n ≡ 0). omega arith), one) (later n lo hi _ inner refl)

@@ -53,7 +53,8 @@ pow_positive (suc n) = omega (arith, pow-suc 2 n, pow_positive n)
 -- k has at most n binary digits exactly if it is below 2 ^ n
 pub digits_count : (k n : ℕ) → (digits k ≤ n) ↔ (k < 2 ^ n)
 digits_count zero n = (λ h. pow_positive n, λ h. omega (arith, digits-zero))
-digits_count (suc k) zero = (λ h. absurd (omega (arith, digits_half (suc k) (omega arith))), λ h. absurd (omega (arith, h)))
+digits_count (suc k) zero =
+    (λ h. absurd (omega (arith, digits_half (suc k) (omega arith))), λ h. absurd (omega (arith, h)))
 digits_count (suc k) (suc n) =
     let half = digits_half (suc k) (omega arith) in
     let deeper = digits_count (suc k / 2) n in

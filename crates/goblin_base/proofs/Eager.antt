@@ -1,5 +1,6 @@
 -- Laws of lists of records that are read at once.
-use Rattle.std.proofs.Common.{◌≡◌, ◌<◌, ◌≤◌, ◌+◌, ◌*◌, ◌/◌, ◌-◌, ℕ, zero, suc, List, [], ◌∷◌, ◌++◌, length, take, drop, false, nat_lt, Result, Ok, Err, refl, sym, ap, ◌∙◌, arith}
+use Rattle.std.proofs.Common.{◌≡◌, ◌<◌, ◌≤◌, ◌+◌, ◌*◌, ◌/◌, ◌-◌, ℕ, zero, suc, List, [], ◌∷◌, ◌++◌, length, take, drop}
+use Rattle.std.proofs.Common.{false, nat_lt, Result, Ok, Err, refl, sym, ap, ◌∙◌, arith}
 use Rattle.std.proofs.Math.Nat.{le-div_iff_mul-le, div-lt_iff_lt-mul, div-mul-le_self}
 use Rattle.std.proofs.lemmas.Bool.Decides.{nat_tests}
 use Rattle.std.proofs.lemmas.List.{drop-drop, take_rest}
@@ -16,7 +17,9 @@ use Rattle.goblin_base.specs.TableLaws.{no_records, records-take}
 use Rattle.goblin_base.proofs.Records.{read_field, last_record}
 
 -- one record less is left
-one_less : (len place size count i : ℕ) (u : Unit {0}) → i < count → room_of len place size ≡ Ok u → room_of_each len place size (count - i) ≡ room_of_each len (place + size) size (count - (i + 1))
+one_less : (len place size count i : ℕ) (u : Unit {0})
+    → i < count → room_of len place size ≡ Ok u
+    → room_of_each len place size (count - i) ≡ room_of_each len (place + size) size (count - (i + 1))
 one_less len place size count i u h room =
     let e : count - i ≡ suc (count - (i + 1)) = omega arith in
     rw (e, room) refl
@@ -41,12 +44,19 @@ module _ {R : Type 0} (size : ℕ) (read : List ℕ → R) (bytes : List ℕ) (o
   }
 
   -- one more was read
-  one_more : (i place : ℕ) → place ≡ offset + i * size → records size read (i + 1) (drop offset bytes) ≡ records size read i (drop offset bytes) ++ read (take size (drop place bytes)) ∷ []
+  one_more : (i place : ℕ)
+      → place ≡ offset + i * size
+      → records size read (i + 1) (drop offset bytes)
+      ≡ records size read i (drop offset bytes) ++ read (take size (drop place bytes)) ∷ []
   one_more i place at =
-      let there : drop (i * size) (drop offset bytes) ≡ drop place bytes = drop-drop (i * size) offset bytes ∙ ap (λ (k : ℕ). drop k bytes) (sym at) in
-      last_record size read i (drop offset bytes) ∙ ap (λ (part : List ℕ). records size read i (drop offset bytes) ++ read (take size part) ∷ []) there
+      let there : drop (i * size) (drop offset bytes) ≡ drop place bytes =
+      drop-drop (i * size) offset bytes ∙ ap (λ (k : ℕ). drop k bytes) (sym at) in
+      last_record size read i (drop offset bytes)
+      ∙ ap (λ (part : List ℕ). records size read i (drop offset bytes) ++ read (take size part) ∷ []) there
 
-  pub next_read : (s i place : ℕ) (found : List R) (x : R) → ReadSoFar i place found → s ≡ size → i < count → Ok x ≡ read_there place → ReadSoFar (i + 1) (place + s) (found ++ x ∷ [])
+  pub next_read : (s i place : ℕ) (found : List R) (x : R)
+      → ReadSoFar i place found → s ≡ size → i < count → Ok x ≡ read_there place
+      → ReadSoFar (i + 1) (place + s) (found ++ x ∷ [])
   next_read s i place found x before same h e =
       let is = unless_fault-is (room_of (length bytes) place size) x (read (take size (drop place bytes))) e in
       record {
@@ -56,16 +66,22 @@ module _ {R : Type 0} (size : ℕ) (read : List ℕ → R) (bytes : List ℕ) (o
       }
 
   -- all were read
-  pub all_read : (s i place : ℕ) (items : List ℕ) (found : List R) → ReadSoFar i place found → s ≡ size → i ≡ count → count ≤ length bytes / s → records_from size read bytes offset count items ≡ Ok found
+  pub all_read : (s i place : ℕ) (items : List ℕ) (found : List R)
+      → ReadSoFar i place found → s ≡ size → i ≡ count → count ≤ length bytes / s
+      → records_from size read bytes offset count items ≡ Ok found
   unfolding records_from
   all_read s i place items found before same all enough =
       let none : count - i ≡ 0 = omega arith in
-      let each : room_of_each (length bytes) offset size count ≡ Ok tt = sym before.left ∙ ap (room_of_each (length bytes) place size) none in
+      let each : room_of_each (length bytes) offset size count ≡ Ok tt =
+      sym before.left ∙ ap (room_of_each (length bytes) place size) none in
       let few : nat_lt (length bytes / size) count ≡ false = rw (← same) (grind (arith, nat_tests)) in
       rw (few, each, before.gave, all) refl
 
   -- the next one has no room
-  refused : (s i place : ℕ) (items : List ℕ) (found : List R) (d : Misplaced) → ReadSoFar i place found → s ≡ size → i < count → count ≤ length bytes / s → room_of (length bytes) place size ≡ Err d → records_from size read bytes offset count items ≡ Err (misplaced d)
+  refused : (s i place : ℕ) (items : List ℕ) (found : List R) (d : Misplaced)
+      → ReadSoFar i place found → s ≡ size → i < count → count ≤ length bytes / s
+      → room_of (length bytes) place size ≡ Err d
+      → records_from size read bytes offset count items ≡ Err (misplaced d)
   unfolding records_from
   refused s i place items found d before same h enough fault =
       let some : count - i ≡ suc (count - (i + 1)) = omega arith in
@@ -73,7 +89,9 @@ module _ {R : Type 0} (size : ℕ) (read : List ℕ → R) (bytes : List ℕ) (o
       let few : nat_lt (length bytes / size) count ≡ false = rw (← same) (grind (arith, nat_tests)) in
       rw (few, each) refl
 
-  pub no_room : (s i place : ℕ) (items : List ℕ) (found : List R) (e : Error) → ReadSoFar i place found → s ≡ size → i < count → count ≤ length bytes / s → Err e ≡ read_there place → records_from size read bytes offset count items ≡ Err (refusal_of e)
+  pub no_room : (s i place : ℕ) (items : List ℕ) (found : List R) (e : Error)
+      → ReadSoFar i place found → s ≡ size → i < count → count ≤ length bytes / s → Err e ≡ read_there place
+      → records_from size read bytes offset count items ≡ Err (refusal_of e)
   no_room s i place items found e before same h enough is =
       let fault = unless_fault-err (room_of (length bytes) place size) e (read (take size (drop place bytes))) is in
       refused s i place items found fault.0 before same h enough fault.1 ∙ ap (λ f. Err (refusal_of f)) (sym fault.2)
@@ -83,7 +101,9 @@ size_more : (k size : ℕ) → suc k * size ≡ size + k * size
 size_more k size = omega arith
 
 -- records that have room are passed over
-fitting : (len offset size count k : ℕ) → k ≤ count → offset + k * size ≤ len → room_of_each len offset size count ≡ room_of_each len (offset + k * size) size (count - k)
+fitting : (len offset size count k : ℕ)
+    → k ≤ count → offset + k * size ≤ len
+    → room_of_each len offset size count ≡ room_of_each len (offset + k * size) size (count - k)
 fitting len offset size count zero h fits =
     let there : offset + 0 * size ≡ offset = omega arith in
     let left : count - 0 ≡ count = omega arith in
@@ -93,10 +113,12 @@ fitting len offset size (suc count) (suc k) h fits =
     let more = size_more k size in
     let there : offset + suc k * size ≡ offset + size + k * size = omega arith in
     let left : suc count - suc k ≡ count - k = omega arith in
-    rw (room_of_fits len offset size (omega arith), there, left) (fitting len (offset + size) size count k (omega arith) (omega arith))
+    rw (room_of_fits len offset size (omega arith), there, left)
+    (fitting len (offset + size) size count k (omega arith) (omega arith))
 
 -- so many records fit as the size goes into the room
-pub all_fit : (len offset size count : ℕ) → 0 < size → offset ≤ len → count ≤ (len - offset) / size → room_of_each len offset size count ≡ Ok tt
+pub all_fit : (len offset size count : ℕ)
+    → 0 < size → offset ≤ len → count ≤ (len - offset) / size → room_of_each len offset size count ≡ Ok tt
 all_fit len offset size count some before h =
     let both = le-div_iff_mul-le {k = size} {x = count} {y = len - offset} some in
     let room = both.0 h in
@@ -104,35 +126,45 @@ all_fit len offset size count some before h =
     fitting len offset size count count (omega arith) (omega arith) ∙ rw none refl
 
 -- the first refusal is the answer
-refused_first : (room : Result (Unit {0}) Misplaced) (rest : Result (Unit {0}) Misplaced) → (room ≡ Ok tt → ⊥) → (room >>= (λ _. rest)) ≡ room
+refused_first : (room : Result (Unit {0}) Misplaced) (rest : Result (Unit {0}) Misplaced)
+    → (room ≡ Ok tt → ⊥) → (room >>= (λ _. rest)) ≡ room
 refused_first (Ok u) rest fails = absurd (fails refl)
 refused_first (Err e) rest fails = refl
 
 -- where fewer fit, the record behind those that fit is the first without room
-pub first_without : (len offset size count : ℕ) → 0 < size → offset ≤ len → (len - offset) / size < count → room_of_each len offset size count ≡ room_of len (offset + (len - offset) / size * size) size
+pub first_without : (len offset size count : ℕ)
+    → 0 < size → offset ≤ len → (len - offset) / size < count
+    → room_of_each len offset size count ≡ room_of len (offset + (len - offset) / size * size) size
 first_without len offset size count some before h =
     let k = (len - offset) / size in
     let place = offset + k * size in
     let here : k * size ≤ len - offset = div-mul-le_self (len - offset) size in
     let behind = (div-lt_iff_lt-mul {k = size} {x = len - offset} {y = k + 1} some).0 (omega arith) in
     let left : count - k ≡ suc (count - (k + 1)) = omega arith in
-    let fails : room_of len place size ≡ Ok tt → ⊥ = λ e. (let fits = fits-room_of len place size tt e in omega arith) in
-    fitting len offset size count k (omega arith) (omega arith) ∙ rw left (refused_first (room_of len place size) (room_of_each len (place + size) size (count - (k + 1))) fails)
+    let fails : room_of len place size ≡ Ok tt → ⊥ =
+    λ e. (let fits = fits-room_of len place size tt e in omega arith) in
+    fitting len offset size count k (omega arith) (omega arith)
+    ∙ rw left (refused_first (room_of len place size) (room_of_each len (place + size) size (count - (k + 1))) fails)
 
 -- more records than the bytes could hold anywhere
-pub too_many : {R : Type 0} (size s : ℕ) (read : List ℕ → R) (bytes : List ℕ) (offset count : ℕ) (items : List ℕ) → s ≡ size → length bytes / s < count → records_from size read bytes offset count items ≡ Err (buffer_too_short count items)
+pub too_many : {R : Type 0} (size s : ℕ) (read : List ℕ → R) (bytes : List ℕ) (offset count : ℕ) (items : List ℕ)
+    → s ≡ size → length bytes / s < count
+    → records_from size read bytes offset count items ≡ Err (buffer_too_short count items)
 unfolding records_from
 too_many size s read bytes offset count items same h = rw (← same) (grind (arith, nat_tests))
 
 -- where there are not too many, the two ways to read records are one
-pub not_too_many : {R : Type 0} (size s : ℕ) (read : List ℕ → R) (bytes : List ℕ) (offset count : ℕ) (items : List ℕ) → s ≡ size → count ≤ length bytes / s → records_in size read bytes offset count ≡ records_from size read bytes offset count items
+pub not_too_many : {R : Type 0} (size s : ℕ) (read : List ℕ → R) (bytes : List ℕ) (offset count : ℕ) (items : List ℕ)
+    → s ≡ size → count ≤ length bytes / s
+    → records_in size read bytes offset count ≡ records_from size read bytes offset count items
 unfolding records_in records_from
 not_too_many size s read bytes offset count items same enough =
     let few : nat_lt (length bytes / size) count ≡ false = rw (← same) (grind (arith, nat_tests)) in
     rw few refl
 
 -- the records of a range depend on that range alone
-pub take_same : {R : Type 0} (size : ℕ) (read : List ℕ → R) (n : ℕ) (bytes : List ℕ) → records size read n bytes ≡ records size read n (take (n * size) bytes)
+pub take_same : {R : Type 0} (size : ℕ) (read : List ℕ → R) (n : ℕ) (bytes : List ℕ)
+    → records size read n bytes ≡ records size read n (take (n * size) bytes)
 take_same size read n bytes = sym (records-take size read n bytes)
 
 -- for the goals of the functions that read lists, and of the law that a range is all they depend on

@@ -1,13 +1,16 @@
 -- Joining the strings of a table gives its bytes.
-use Rattle.std.proofs.Common.{◌≡◌, ℕ, zero, suc, ◌+◌, ◌-◌, ◌<◌, ◌≤◌, ⊎_elim, true, false, cond, eqb, List, [], ◌∷◌, ◌++◌, map, length, get_or, take, drop, refl, sym, ap, ◌∙◌, arith, append_assoc}
-use Rattle.std.proofs.lemmas.Bool.{cases_lt, cases_Bool, cond-true, cond-false, lt-ltb, le-ltb, eqb-true, and_from, and_left, and_right, both_ways}
+use Rattle.std.proofs.Common.{◌≡◌, ℕ, zero, suc, ◌+◌, ◌-◌, ◌<◌, ◌≤◌, ⊎_elim, true, false, cond, eqb, List, [], ◌∷◌}
+use Rattle.std.proofs.Common.{◌++◌, map, length, get_or, take, drop, refl, sym, ap, ◌∙◌, arith, append_assoc}
+use Rattle.std.proofs.lemmas.Bool.{cases_lt, cases_Bool, cond-true, cond-false, lt-ltb, le-ltb, eqb-true, and_from}
+use Rattle.std.proofs.lemmas.Bool.{and_left, and_right, both_ways}
 use Rattle.std.proofs.lemmas.List.{drop_more, drop_all, take-append-drop, drop-drop, append_assoc}
 use Rattle.std.proofs.lemmas.List.FromFn.{get_or-range_with_len}
 use Rattle.std.proofs.lemmas.List.Sums.{fails_before_first}
 use Rattle.std.specs.List.{join_with_byte, range_with_len}
 use Rattle.goblin_base.specs.Entries.{text_of}
 use Rattle.goblin_base.specs.StrtabLaws.{ends_in, joined}
-use Rattle.goblin_base.specs.Pieces.{piece_end, piece, piece_start, is_readable, entries_from, entries, is_bad_start, first_bad}
+use Rattle.goblin_base.specs.Pieces.{piece_end, piece, piece_start, is_readable, entries_from, entries, is_bad_start}
+use Rattle.goblin_base.specs.Pieces.{first_bad}
 use Rattle.goblin_base.proofs.PiecesLemmas.{end_from, at_end, inside_piece, piece_is_range, start_next}
 use Rattle.goblin_base.proofs.WalkLemmas.{entries_more_readable, entries_past, bad_start_from}
 
@@ -35,13 +38,19 @@ module _ (bytes : List ℕ) (d : ℕ) (good : first_bad bytes d ≡ length bytes
   split_at_end i h =
       let e = piece_end bytes d i in
       let s : i + (e - i) ≡ e = omega (arith, end_from bytes d i) in
-      sym (take-append-drop (e - i) (drop i bytes)) ∙ ap (λ x. take (e - i) (drop i bytes) ++ x) (drop-drop (e - i) i bytes ∙ ap (λ k. drop k bytes) s)
+      sym (take-append-drop (e - i) (drop i bytes))
+      ∙ ap (λ x. take (e - i) (drop i bytes) ++ x) (drop-drop (e - i) i bytes ∙ ap (λ k. drop k bytes) s)
       ∙ ap (λ x. x ++ drop e bytes) (sym (piece_is_range bytes d i))
 
-  delim_at_end : (i : ℕ) → i ≤ length bytes → piece_end bytes d i < length bytes → drop (piece_end bytes d i) bytes ≡ d ∷ drop (piece_end bytes d i + 1) bytes
-  delim_at_end i h l = drop_more bytes (piece_end bytes d i) 0 l ∙ ap (λ x. x ∷ drop (piece_end bytes d i + 1) bytes) (eqb-true _ _ (at_end bytes d i h l))
+  delim_at_end : (i : ℕ)
+      → i ≤ length bytes → piece_end bytes d i < length bytes
+      → drop (piece_end bytes d i) bytes ≡ d ∷ drop (piece_end bytes d i + 1) bytes
+  delim_at_end i h l =
+      drop_more bytes (piece_end bytes d i) 0 l
+      ∙ ap (λ x. x ∷ drop (piece_end bytes d i + 1) bytes) (eqb-true _ _ (at_end bytes d i h l))
 
-  joined_from : (k i : ℕ) → length bytes - i ≤ k → i < length bytes → piece_start bytes d i ≡ i → join_from i ≡ drop i bytes
+  joined_from : (k i : ℕ)
+      → length bytes - i ≤ k → i < length bytes → piece_start bytes d i ≡ i → join_from i ≡ drop i bytes
   joined_from zero i l m s = absurd (omega arith)
   joined_from (suc k) i l m s =
       let e = piece_end bytes d i in
@@ -52,21 +61,32 @@ module _ (bytes : List ℕ) (d : ℕ) (good : first_bad bytes d ≡ length bytes
       (λ (x : e + 1 < length bytes).
       let r' = readable_start (e + 1) x (start_next bytes d i (omega arith) (omega arith)) in
       let again = entries_more_readable bytes d (e + 1) x r' in
-      let rest = joined_from k (e + 1) (omega (arith, end_from bytes d i)) x (start_next bytes d i (omega arith) (omega arith)) in
+      let rest = joined_from k (e + 1) (omega (arith, end_from bytes d i)) x
+      (start_next bytes d i (omega arith) (omega arith)) in
       ap (λ es. join_with_byte d (map text_of es) ++ tail) (step ∙ ap (λ es. (i, piece bytes d i) ∷ es) again)
-      ∙ append_assoc (piece bytes d i) (d ∷ join_with_byte d (map text_of ((e + 1, piece bytes d (e + 1)) ∷ entries_from bytes d (piece_end bytes d (e + 1) + 1)))) tail
+      ∙ append_assoc (piece bytes d i)
+      (d ∷ join_with_byte d
+      (map text_of ((e + 1, piece bytes d (e + 1)) ∷ entries_from bytes d (piece_end bytes d (e + 1) + 1)))) tail
       ∙ ap (λ es. piece bytes d i ++ (d ∷ (join_with_byte d (map text_of es) ++ tail))) (sym again)
-      ∙ ap (λ x. piece bytes d i ++ (d ∷ x)) rest ∙ ap (λ x. piece bytes d i ++ x) (sym (delim_at_end i (omega arith) (omega arith))) ∙ sym split)
+      ∙ ap (λ x. piece bytes d i ++ (d ∷ x)) rest
+      ∙ ap (λ x. piece bytes d i ++ x) (sym (delim_at_end i (omega arith) (omega arith)))
+      ∙ sym split)
       (λ (x : length bytes ≤ e + 1).
       let none = entries_past bytes d (e + 1) x in
-      let one : join_from i ≡ piece bytes d i ++ tail = ap (λ es. join_with_byte d (map text_of es) ++ tail) (step ∙ ap (λ es. (i, piece bytes d i) ∷ es) none) in
+      let one : join_from i ≡ piece bytes d i ++ tail =
+      ap (λ es. join_with_byte d (map text_of es) ++ tail) (step ∙ ap (λ es. (i, piece bytes d i) ∷ es) none) in
       ⊎_elim
       (λ (y : e < length bytes).
       let last : length bytes - 1 ≡ e = omega arith in
-      let is : ends_in d bytes ≡ true = and_from _ _ (lt-ltb 0 (length bytes) (omega arith)) (ap (λ j. eqb (get_or bytes j 0) d) last ∙ at_end bytes d i (omega arith) y) in
-      one ∙ ap (λ t. piece bytes d i ++ t) (cond-true _ _ _ is ∙ ap (λ t. d ∷ t) (sym (drop_all (e + 1) bytes x)) ∙ sym (delim_at_end i (omega arith) y)) ∙ sym split)
+      let is : ends_in d bytes ≡ true =
+      and_from _ _ (lt-ltb 0 (length bytes) (omega arith))
+      (ap (λ j. eqb (get_or bytes j 0) d) last ∙ at_end bytes d i (omega arith) y) in
+      one ∙ ap (λ t. piece bytes d i ++ t)
+      (cond-true _ _ _ is ∙ ap (λ t. d ∷ t) (sym (drop_all (e + 1) bytes x)) ∙ sym (delim_at_end i (omega arith) y))
+      ∙ sym split)
       (λ (y : length bytes ≤ e).
-      let is : ends_in d bytes ≡ false = and_right _ _ (inside_piece bytes d i (length bytes - 1) (omega arith) (omega arith)) in
+      let is : ends_in d bytes ≡ false =
+      and_right _ _ (inside_piece bytes d i (length bytes - 1) (omega arith) (omega arith)) in
       one ∙ ap (λ t. piece bytes d i ++ t) (cond-false _ _ _ is ∙ sym (drop_all e bytes y)) ∙ sym split)
       (cases_lt e (length bytes)))
       (cases_lt (e + 1) (length bytes))
@@ -80,5 +100,7 @@ module _ (bytes : List ℕ) (d : ℕ) (good : first_bad bytes d ≡ length bytes
       (λ (l : 0 < length bytes). joined_from (length bytes) 0 (omega arith) l start_zero)
       (λ (l : length bytes ≤ 0).
       let is : ends_in d bytes ≡ false = and_left _ _ (le-ltb 0 (length bytes) l) in
-      ap (λ es. join_with_byte d (map text_of es) ++ tail) (entries_past bytes d 0 l) ∙ cond-false _ _ _ is ∙ sym (drop_all 0 bytes l))
+      ap (λ es. join_with_byte d (map text_of es) ++ tail) (entries_past bytes d 0 l)
+      ∙ cond-false _ _ _ is
+      ∙ sym (drop_all 0 bytes l))
       (cases_lt 0 (length bytes))

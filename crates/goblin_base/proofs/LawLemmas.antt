@@ -1,5 +1,6 @@
 -- The laws of string tables.
-use Rattle.std.proofs.Common.{◌≡◌, ℕ, ◌+◌, ◌-◌, ◌^◌, ◌<◌, ◌≤◌, ⊎_elim, Bool, true, false, cond, not, ltb, leb, List, [], length, take, drop, map, refl, sym, ap, ◌∙◌, arith, Some, Result, Ok, Err}
+use Rattle.std.proofs.Common.{◌≡◌, ℕ, ◌+◌, ◌-◌, ◌^◌, ◌<◌, ◌≤◌, ⊎_elim, Bool, true, false, cond, not, ltb, leb, List, []}
+use Rattle.std.proofs.Common.{length, take, drop, map, refl, sym, ap, ◌∙◌, arith, Some, Result, Ok, Err}
 use Rattle.std.proofs.lemmas.Bool.{cases_lt, cases_Bool, cond-true, cond-false, lt-ltb, le-ltb, both_ways}
 use Rattle.std.proofs.lemmas.List.{length-drop, take_all}
 use Rattle.std.proofs.lemmas.List.FromFn.{length-range_with_len}
@@ -17,7 +18,8 @@ use Rattle.goblin_base.specs.Pieces.{piece, piece_start, is_readable, is_bad_sta
 use Rattle.goblin_base.specs.Refusal.{Refusal, malformed}
 use Rattle.goblin_base.specs.Steps.{◌>>=◌, refuse_as}
 use Rattle.goblin_base.specs.Strtab.{StringTable, or_cut, range_in, strtab_of, table_of, walked, plain, look_up}
-use Rattle.goblin_base.specs.StrtabLaws.{TextIsUtf8, ClosedForm, JoinsAgain, PermissiveAccepts, StrictIsPermissive, LookUpHasPlain, StrictLookUpIsPlain, DependsOnRange, joined}
+use Rattle.goblin_base.specs.StrtabLaws.{TextIsUtf8, ClosedForm, JoinsAgain, PermissiveAccepts, StrictIsPermissive}
+use Rattle.goblin_base.specs.StrtabLaws.{LookUpHasPlain, StrictLookUpIsPlain, DependsOnRange, joined}
 use Rattle.goblin_base.specs.Utf8.{invalid_utf8}
 use Rattle.goblin_base.proofs.PiecesLemmas.{start_to, start_of_start}
 use Rattle.goblin_base.proofs.WalkLemmas.{entries_closed, no_entry_place}
@@ -32,7 +34,8 @@ pub closed_form : ClosedForm
 closed_form bytes d = entries_closed bytes d
 
 -- what a strict walk accepts has no bad piece
-all_good : (b : Bool) (l n : ℕ) (e : Refusal) (es fs : List (ℕ × List ℕ)) → b ≡ ltb l n → l ≤ n → ◌≡◌ {A = Result (List (ℕ × List ℕ)) Refusal} (cond b (Err e) (Ok es)) (Ok fs) → l ≡ n
+all_good : (b : Bool) (l n : ℕ) (e : Refusal) (es fs : List (ℕ × List ℕ))
+    → b ≡ ltb l n → l ≤ n → ◌≡◌ {A = Result (List (ℕ × List ℕ)) Refusal} (cond b (Err e) (Ok es)) (Ok fs) → l ≡ n
 all_good true l n e es fs is le h = cc
 all_good false l n e es fs is le h = ⊎_elim
     (λ (m : l < n). absurd (both_ways _ (sym is) (lt-ltb l n m)))
@@ -41,14 +44,22 @@ all_good false l n e es fs is le h = ⊎_elim
 
 first_bad_within : (bytes : List ℕ) (d : ℕ) → first_bad bytes d ≤ length bytes
 unfolding first_bad
-first_bad_within bytes d = omega (arith, prefix_len-le-length (λ o. not (is_bad_start bytes d o)) (range_with_len 0 (length bytes)), length-range_with_len 0 (length bytes))
+first_bad_within bytes d =
+    omega (
+      arith,
+      prefix_len-le-length (λ o. not (is_bad_start bytes d o)) (range_with_len 0 (length bytes)),
+      length-range_with_len 0 (length bytes),
+    )
 
-good_if_walked : (bytes : List ℕ) (d : ℕ) (es : List (ℕ × List ℕ)) → walked Strict bytes d ≡ Ok es → first_bad bytes d ≡ length bytes
+good_if_walked : (bytes : List ℕ) (d : ℕ) (es : List (ℕ × List ℕ))
+    → walked Strict bytes d ≡ Ok es → first_bad bytes d ≡ length bytes
 unfolding walked
 good_if_walked bytes d es h = all_good _ (first_bad bytes d) (length bytes) _ _ es refl (first_bad_within bytes d) h
 
 pub joins_again : JoinsAgain
-joins_again bytes d es h = ap (λ x. joined bytes d (map text_of x)) (walked_entries Strict bytes d es h) ∙ joined_again bytes d (good_if_walked bytes d es h)
+joins_again bytes d es h =
+    ap (λ x. joined bytes d (map text_of x)) (walked_entries Strict bytes d es h)
+    ∙ joined_again bytes d (good_if_walked bytes d es h)
 
 -- ---- tables of ranges
 abbrev whole : List ℕ → ℕ → StringTable
@@ -59,45 +70,63 @@ unfolding walked
 permissive_table bytes d = refl
 
 -- the table that a strict walk gives, and what it says of the bytes
-strict_table : (bytes : List ℕ) (d : ℕ) (t : StringTable) → table_of Strict bytes d ≡ Ok t → (whole bytes d ≡ t) × (first_bad bytes d ≡ length bytes)
+strict_table : (bytes : List ℕ) (d : ℕ) (t : StringTable)
+    → table_of Strict bytes d ≡ Ok t → (whole bytes d ≡ t) × (first_bad bytes d ≡ length bytes)
 strict_table bytes d t h = by (walked Strict bytes d) refl h
   where
-    by : (x : Result (List (ℕ × List ℕ)) Refusal) → walked Strict bytes d ≡ x → (x >>= (λ _. Ok (whole bytes d))) ≡ Ok t → (whole bytes d ≡ t) × (first_bad bytes d ≡ length bytes)
-    by (Ok es) e h = ((let x : ◌≡◌ {A = Result StringTable Refusal} (Ok (whole bytes d)) (Ok t) = h in cc), good_if_walked bytes d es e)
+    by : (x : Result (List (ℕ × List ℕ)) Refusal)
+        → walked Strict bytes d ≡ x → (x >>= (λ _. Ok (whole bytes d))) ≡ Ok t
+        → (whole bytes d ≡ t) × (first_bad bytes d ≡ length bytes)
+    by (Ok es) e h = (
+      (let x : ◌≡◌ {A = Result StringTable Refusal} (Ok (whole bytes d)) (Ok t) = h in cc),
+      good_if_walked bytes d es e,
+    )
     by (Err f) e h = absurd (let x : ◌≡◌ {A = Result StringTable Refusal} (Err f) (Ok t) = h in cc)
 
 -- the range of a strict table
-strict_range : (file : List ℕ) (o n d : ℕ) (t : StringTable) → strtab_of Strict file o n d ≡ Ok t → (r : List ℕ) × (range_in Strict file o n ≡ Ok r) × (table_of Strict r d ≡ Ok t)
+strict_range : (file : List ℕ) (o n d : ℕ) (t : StringTable)
+    → strtab_of Strict file o n d ≡ Ok t
+    → (r : List ℕ) × (range_in Strict file o n ≡ Ok r) × (table_of Strict r d ≡ Ok t)
 unfolding strtab_of
 strict_range file o n d t h = by (range_in Strict file o n) refl h
   where
-    by : (x : Result (List ℕ) Fault) → range_in Strict file o n ≡ x → (refuse_as malformed x >>= (λ r. table_of Strict r d)) ≡ Ok t → (r : List ℕ) × (range_in Strict file o n ≡ Ok r) × (table_of Strict r d ≡ Ok t)
+    by : (x : Result (List ℕ) Fault)
+        → range_in Strict file o n ≡ x → (refuse_as malformed x >>= (λ r. table_of Strict r d)) ≡ Ok t
+        → (r : List ℕ) × (range_in Strict file o n ≡ Ok r) × (table_of Strict r d ≡ Ok t)
     by (Ok r) e h = (r, e, h)
     by (Err f) e h = absurd (let x : ◌≡◌ {A = Result StringTable Refusal} (Err (malformed f)) (Ok t) = h in cc)
 
 -- a range that strict mode accepts is not shortened
-uncut : (b c : Bool) (f g : Fault) (x y z r : List ℕ) → ◌≡◌ {A = Result (List ℕ) Fault} (cond b (Err f) (cond c (Err g) (Ok z))) (Ok r) → ◌≡◌ {A = Result (List ℕ) Fault} (cond b (Ok x) (cond c (Ok y) (Ok z))) (Ok r)
+uncut : (b c : Bool) (f g : Fault) (x y z r : List ℕ)
+    → ◌≡◌ {A = Result (List ℕ) Fault} (cond b (Err f) (cond c (Err g) (Ok z))) (Ok r)
+    → ◌≡◌ {A = Result (List ℕ) Fault} (cond b (Ok x) (cond c (Ok y) (Ok z))) (Ok r)
 uncut true c f g x y z r h = cc
 uncut false true f g x y z r h = cc
 uncut false false f g x y z r h = h
 
-range_alike : (file : List ℕ) (o n : ℕ) (r : List ℕ) → range_in Strict file o n ≡ Ok r → range_in Permissive file o n ≡ Ok r
+range_alike : (file : List ℕ) (o n : ℕ) (r : List ℕ)
+    → range_in Strict file o n ≡ Ok r → range_in Permissive file o n ≡ Ok r
 unfolding range_in
-range_alike file o n r h = uncut (ltb (length file) o) (ltb (length file) (o + n)) _ _ [] (drop o file) (take n (drop o file)) r h
+range_alike file o n r h =
+    uncut (ltb (length file) o) (ltb (length file) (o + n)) _ _ [] (drop o file) (take n (drop o file)) r h
 
 pub strict_is_permissive : StrictIsPermissive
 strict_is_permissive file o n d t h =
     let range = strict_range file o n d t h in
-    strtab_in_range Permissive file o n d range.0 (range_alike file o n range.0 range.1) ∙ permissive_table range.0 d ∙ ap Ok (strict_table range.0 d t range.2).0
+    strtab_in_range Permissive file o n d range.0 (range_alike file o n range.0 range.1)
+    ∙ permissive_table range.0 d
+    ∙ ap Ok (strict_table range.0 d t range.2).0
 
-some_range : (b c : Bool) (x y z : List ℕ) → (r : List ℕ) × (◌≡◌ {A = Result (List ℕ) Fault} (cond b (Ok x) (cond c (Ok y) (Ok z))) (Ok r))
+some_range : (b c : Bool) (x y z : List ℕ)
+    → (r : List ℕ) × (◌≡◌ {A = Result (List ℕ) Fault} (cond b (Ok x) (cond c (Ok y) (Ok z))) (Ok r))
 some_range true c x y z = (x, refl)
 some_range false true x y z = (y, refl)
 some_range false false x y z = (z, refl)
 
 permissive_range : (file : List ℕ) (o n : ℕ) → (r : List ℕ) × (range_in Permissive file o n ≡ Ok r)
 unfolding range_in
-permissive_range file o n = some_range (ltb (length file) o) (ltb (length file) (o + n)) [] (drop o file) (take n (drop o file))
+permissive_range file o n =
+    some_range (ltb (length file) o) (ltb (length file) (o + n)) [] (drop o file) (take n (drop o file))
 
 pub permissive_accepts : PermissiveAccepts
 permissive_accepts file o n d =
@@ -105,11 +134,16 @@ permissive_accepts file o n d =
     ap is_ok (strtab_in_range Permissive file o n d range.0 range.1 ∙ permissive_table range.0 d)
 
 -- ---- the look-up
-readable_if_plain : (bytes : List ℕ) (d o : ℕ) (text : List ℕ) → plain bytes d o ≡ Ok text → (is_readable bytes d o ≡ true) × (piece bytes d o ≡ text)
+readable_if_plain : (bytes : List ℕ) (d o : ℕ) (text : List ℕ)
+    → plain bytes d o ≡ Ok text → (is_readable bytes d o ≡ true) × (piece bytes d o ≡ text)
 unfolding is_readable
 readable_if_plain bytes d o text h = by (is_utf8 (piece bytes d o)) refl h
   where
-    by : (b : Bool) → is_utf8 (piece bytes d o) ≡ b → ◌≡◌ {A = Result (List ℕ) Refusal} (cond b (Ok (piece bytes d o)) (Err (invalid_utf8 (length bytes - o)))) (Ok text) → (is_utf8 (piece bytes d o) ≡ true) × (piece bytes d o ≡ text)
+    by : (b : Bool)
+        → is_utf8 (piece bytes d o) ≡ b
+        → ◌≡◌ {A = Result (List ℕ) Refusal} (cond b (Ok (piece bytes d o)) (Err (invalid_utf8 (length bytes - o))))
+        (Ok text)
+        → (is_utf8 (piece bytes d o) ≡ true) × (piece bytes d o ≡ text)
     by true e h = (e, cc)
     by false e h = cc
 
@@ -118,16 +152,22 @@ look_up_has_plain t o text parsed l h =
     let read = readable_if_plain t.bytes t.delim o text h in
     cond-true t.is_parsed _ _ parsed ∙ text_at_readable t.bytes t.delim o l read.0 ∙ ap Some read.1
 
-look_up_is_plain : (bytes : List ℕ) (d o : ℕ) → first_bad bytes d ≡ length bytes → o < length bytes → text_at bytes d o ≡ result_ok (plain bytes d o)
+look_up_is_plain : (bytes : List ℕ) (d o : ℕ)
+    → first_bad bytes d ≡ length bytes → o < length bytes → text_at bytes d o ≡ result_ok (plain bytes d o)
 unfolding is_readable
 look_up_is_plain bytes d o good l = ⊎_elim
-    (λ (r : is_readable bytes d o ≡ true). text_at_readable bytes d o l r ∙ sym (ap result_ok (cond-true _ (Ok (piece bytes d o)) (Err (invalid_utf8 (length bytes - o))) r)))
+    (λ (r : is_readable bytes d o ≡ true). text_at_readable bytes d o l r
+    ∙ sym (ap result_ok (cond-true _ (Ok (piece bytes d o)) (Err (invalid_utf8 (length bytes - o))) r)))
     (λ (r : is_readable bytes d o ≡ false).
     let s = piece_start bytes d o in
     let below = start_to bytes d o in
     let text = readable_start bytes d good s (omega arith) (start_of_start bytes d o) in
-    let before : s < o = ⊎_elim (λ (x : s < o). x) (λ (x : o ≤ s). let e : o ≡ s = omega arith in absurd (both_ways _ (ap (is_readable bytes d) (sym e) ∙ r) text)) (cases_lt s o) in
-    text_at_inside bytes d o l r (no_entry_place bytes d o s (omega arith) before text) ∙ sym (ap result_ok (cond-false _ (Ok (piece bytes d o)) (Err (invalid_utf8 (length bytes - o))) r)))
+    let before : s < o =
+    ⊎_elim (λ (x : s < o). x)
+    (λ (x : o ≤ s). let e : o ≡ s = omega arith in absurd (both_ways _ (ap (is_readable bytes d) (sym e) ∙ r) text))
+    (cases_lt s o) in
+    text_at_inside bytes d o l r (no_entry_place bytes d o s (omega arith) before text)
+    ∙ sym (ap result_ok (cond-false _ (Ok (piece bytes d o)) (Err (invalid_utf8 (length bytes - o))) r)))
     (cases_Bool (is_readable bytes d o))
 
 pub strict_look_up_is_plain : StrictLookUpIsPlain
@@ -135,10 +175,13 @@ strict_look_up_is_plain file o n d t at h l =
     let range = strict_range file o n d t h in
     let table = strict_table range.0 d t range.2 in
     let bytes = ap (λ x. x.bytes) table.0 in
-    ap (λ x. look_up x at) (sym table.0) ∙ look_up_is_plain range.0 d at table.1 (omega (arith, l, ap length bytes)) ∙ ap (λ x. result_ok (plain x.bytes x.delim at)) table.0
+    ap (λ x. look_up x at) (sym table.0)
+    ∙ look_up_is_plain range.0 d at table.1 (omega (arith, l, ap length bytes))
+    ∙ ap (λ x. result_ok (plain x.bytes x.delim at)) table.0
 
 -- ---- what a table depends on
-range_depends : (mode : ParseMode) (a b : List ℕ) (o n : ℕ) → length a ≡ length b → take n (drop o a) ≡ take n (drop o b) → range_in mode a o n ≡ range_in mode b o n
+range_depends : (mode : ParseMode) (a b : List ℕ) (o n : ℕ)
+    → length a ≡ length b → take n (drop o a) ≡ take n (drop o b) → range_in mode a o n ≡ range_in mode b o n
 unfolding range_in
 range_depends mode a b o n len same =
     let past : ℕ → Result (List ℕ) Fault = λ k. or_cut mode (StrtabOffset o k) [] in
@@ -146,14 +189,21 @@ range_depends mode a b o n len same =
     ap (λ k. cond (ltb k o) (past k) (cond (ltb k (o + n)) (over k (drop o a)) (Ok (take n (drop o a))))) len
     ∙ ⊎_elim
     (λ (l : length b < o + n).
-    let rest : drop o a ≡ drop o b = sym (take_all n (drop o a) (omega (arith, length-drop o a))) ∙ same ∙ take_all n (drop o b) (omega (arith, length-drop o b)) in
-    ap (λ r. cond (ltb (length b) o) (past (length b)) (cond (ltb (length b) (o + n)) (over (length b) r) (Ok (take n (drop o a))))) rest
-    ∙ ap (λ r. cond (ltb (length b) o) (past (length b)) (cond (ltb (length b) (o + n)) (over (length b) (drop o b)) (Ok r))) same)
+    let rest : drop o a ≡ drop o b =
+    sym (take_all n (drop o a) (omega (arith, length-drop o a)))
+    ∙ same
+    ∙ take_all n (drop o b) (omega (arith, length-drop o b)) in
+    ap (λ r. cond (ltb (length b) o) (past (length b))
+    (cond (ltb (length b) (o + n)) (over (length b) r) (Ok (take n (drop o a))))) rest
+    ∙ ap (λ r. cond (ltb (length b) o) (past (length b))
+    (cond (ltb (length b) (o + n)) (over (length b) (drop o b)) (Ok r))) same)
     (λ (l : o + n ≤ length b).
     let no = le-ltb (length b) (o + n) l in
-    ap (cond (ltb (length b) o) (past (length b))) (cond-false _ _ _ no ∙ ap Ok same ∙ sym (cond-false _ (over (length b) (drop o b)) _ no)))
+    ap (cond (ltb (length b) o) (past (length b)))
+    (cond-false _ _ _ no ∙ ap Ok same ∙ sym (cond-false _ (over (length b) (drop o b)) _ no)))
     (cases_lt (length b) (o + n))
 
 pub depends_on_range : DependsOnRange
 unfolding strtab_of
-depends_on_range mode a b o n d len same = ap (λ r. refuse_as malformed r >>= (λ x. table_of mode x d)) (range_depends mode a b o n len same)
+depends_on_range mode a b o n d len same =
+    ap (λ r. refuse_as malformed r >>= (λ x. table_of mode x d)) (range_depends mode a b o n len same)

@@ -1,17 +1,21 @@
 -- How the crate `byteorder` names the numbers that bytes stand for, and the bytes of a number.
-use Rattle.std.proofs.Common.{◌≡◌, ◌<◌, ◌≤◌, ◌+◌, ◌*◌, ◌/◌, ◌%◌, ◌^◌, ◌-◌, ℕ, zero, suc, List, [], ◌∷◌, ◌++◌, length, reverse, take, drop, slice_index, set, refl, sym, ap, ◌∙◌, arith}
+use Rattle.std.proofs.Common.{◌≡◌, ◌<◌, ◌≤◌, ◌+◌, ◌*◌, ◌/◌, ◌%◌, ◌^◌, ◌-◌, ℕ, zero, suc, List, [], ◌∷◌, ◌++◌, length}
+use Rattle.std.proofs.Common.{reverse, take, drop, slice_index, set, refl, sym, ap, ◌∙◌, arith}
 use Rattle.std.proofs.Math.Nat.{pow-suc, div-div-eq-div-mul, div-one}
-use Rattle.std.proofs.lemmas.List.{reverse-append, length-reverse, length-drop, length-take-le, append_assoc, append-nil, drop-drop, drop_all, drop_more, set_split}
+use Rattle.std.proofs.lemmas.List.{reverse-append, length-reverse, length-drop, length-take-le, append_assoc}
+use Rattle.std.proofs.lemmas.List.{append-nil, drop-drop, drop_all, drop_more, set_split}
 use Rattle.std.specs.Int.{byte_at, bytes_high_first, bytes_low_first}
 use Rattle.byteorder.specs.Endian.{big_from, little_from}
 use Rattle.byteorder.specs.Numbers.{big_from-cons, little_from-cons}
 use Rattle.goblin_base.specs.declared.container.Endian.{Endian}
 use Rattle.goblin_base.specs.declared.container.Endian.TheVariants.{Little, Big}
 use Rattle.goblin_base.specs.Number.{weighted_sum, number, digits, spelled, number_at}
-use Rattle.goblin_base.specs.NumberLaws.{weighted_sum-cons, weighted_sum-last, number-one, spelled-one, length-spelled, number-spelled, spelled-number}
+use Rattle.goblin_base.specs.NumberLaws.{weighted_sum-cons, weighted_sum-last, number-one, spelled-one, length-spelled}
+use Rattle.goblin_base.specs.NumberLaws.{number-spelled, spelled-number}
 use Rattle.goblin_base.specs.FieldLaws.{number_at-with_number}
 use Rattle.goblin_base.specs.Place.{with_number}
-use Rattle.goblin_base.specs.SignedLaws.{signed_number-spelled, spelled-signed_number, signed_number_at-is, signed_number_at-with_number}
+use Rattle.goblin_base.specs.SignedLaws.{signed_number-spelled, spelled-signed_number, signed_number_at-is}
+use Rattle.goblin_base.specs.SignedLaws.{signed_number_at-with_number}
 use borrow.Rule.Slice.PartMut.{put_mid}
 use mathlib.Core.List.{reverse-cons}
 
@@ -54,7 +58,8 @@ digits-last (suc k) x =
 bytes_high_first-is : (k x : ℕ) → bytes_high_first k x ≡ reverse (digits k x)
 bytes_high_first-is zero x = refl
 bytes_high_first-is (suc k) x =
-    rw (byte_at-pow k x, bytes_high_first-is k x, digits-last k x, reverse-append (digits k x) (x / 256 ^ k % 256 ∷ [])) refl
+    let turned = reverse-append (digits k x) (x / 256 ^ k % 256 ∷ []) in
+    rw (byte_at-pow k x, bytes_high_first-is k x, digits-last k x, turned) refl
 
 -- the n bytes at a place, as a slice has them
 part : (bytes : List ℕ) (place n : ℕ) → take (place + n - place) (drop place bytes) ≡ take n (drop place bytes)
@@ -64,51 +69,86 @@ length-part : (bytes : List ℕ) (place n : ℕ) → place + n ≤ length bytes 
 length-part bytes place n h = length-take-le n (drop place bytes) (omega (arith, length-drop place bytes))
 
 -- what `LittleEndian` reads at a place
-pub read_little : (order : Endian) (bytes : List ℕ) (place n : ℕ) → order ≡ Little → place + n ≤ length bytes → little_from 0 n (take (place + n - place) (drop place bytes)) ≡ number_at order bytes place n
+pub read_little : (order : Endian) (bytes : List ℕ) (place n : ℕ)
+    → order ≡ Little → place + n ≤ length bytes
+    → little_from 0 n (take (place + n - place) (drop place bytes)) ≡ number_at order bytes place n
 unfolding number
 read_little order bytes place n is h =
     let e = length-part bytes place n h in
-    rw (is, part bytes place n) (ap (λ k. little_from 0 k (take n (drop place bytes))) (sym e) ∙ little_from-is (take n (drop place bytes)))
+    rw (is, part bytes place n)
+    (ap (λ k. little_from 0 k (take n (drop place bytes))) (sym e) ∙ little_from-is (take n (drop place bytes)))
 
 -- what `BigEndian` reads at a place
-pub read_big : (order : Endian) (bytes : List ℕ) (place n : ℕ) → order ≡ Big → place + n ≤ length bytes → big_from 0 n (take (place + n - place) (drop place bytes)) ≡ number_at order bytes place n
+pub read_big : (order : Endian) (bytes : List ℕ) (place n : ℕ)
+    → order ≡ Big → place + n ≤ length bytes
+    → big_from 0 n (take (place + n - place) (drop place bytes)) ≡ number_at order bytes place n
 unfolding number
 read_big order bytes place n is h =
     let e = length-part bytes place n h in
-    rw (is, part bytes place n) (ap (λ k. big_from 0 k (take n (drop place bytes))) (sym e) ∙ big_from-is (take n (drop place bytes)))
+    rw (is, part bytes place n)
+    (ap (λ k. big_from 0 k (take n (drop place bytes))) (sym e) ∙ big_from-is (take n (drop place bytes)))
 
 -- the n bytes at a place, after they were written over
-written : (bytes text new : List ℕ) (place n : ℕ) → place + n ≤ length bytes → new ≡ text ++ drop n (take (place + n - place) (drop place bytes)) → put_mid place (place + n - place) bytes new ≡ take place bytes ++ text ++ drop (place + n) bytes
+written : (bytes text new : List ℕ) (place n : ℕ)
+    → place + n ≤ length bytes → new ≡ text ++ drop n (take (place + n - place) (drop place bytes))
+    → put_mid place (place + n - place) bytes new ≡ take place bytes ++ text ++ drop (place + n) bytes
 written bytes text new place n h e =
-    let none : drop n (take (place + n - place) (drop place bytes)) ≡ [] = rw (part bytes place n) (drop_all n (take n (drop place bytes)) (omega (arith, length-part bytes place n h))) in
+    let none : drop n (take (place + n - place) (drop place bytes)) ≡ [] =
+    rw (part bytes place n) (drop_all n (take n (drop place bytes)) (omega (arith, length-part bytes place n h))) in
     let whole : new ≡ text = e ∙ ap (λ r. text ++ r) none ∙ append-nil text in
     let width : place + n - place ≡ n = omega arith in
-    rw (whole, width, ← drop-drop n place bytes) (sym (append_assoc (take place bytes) text (drop n (drop place bytes))))
+    rw (whole, width, ← drop-drop n place bytes)
+    (sym (append_assoc (take place bytes) text (drop n (drop place bytes))))
 
 -- what `LittleEndian` writes at a place
-pub write_little : (order : Endian) (bytes new : List ℕ) (place n x : ℕ) → order ≡ Little → place + n ≤ length bytes → new ≡ bytes_low_first 0 n x ++ drop n (take (place + n - place) (drop place bytes)) → put_mid place (place + n - place) bytes new ≡ with_number order bytes place n x
+pub write_little : (order : Endian) (bytes new : List ℕ) (place n x : ℕ)
+    → order ≡ Little → place + n ≤ length bytes
+    → new ≡ bytes_low_first 0 n x ++ drop n (take (place + n - place) (drop place bytes))
+    → put_mid place (place + n - place) bytes new ≡ with_number order bytes place n x
 unfolding spelled with_number
 write_little order bytes new place n x is h e =
     let same : bytes_low_first 0 n x ≡ digits n x = bytes_low_first-is n 0 x ∙ ap (digits n) (div-one x) in
     rw is (written bytes (digits n x) new place n h (rw same at e))
 
 -- what `BigEndian` writes at a place
-pub write_big : (order : Endian) (bytes new : List ℕ) (place n x : ℕ) → order ≡ Big → place + n ≤ length bytes → new ≡ bytes_high_first n x ++ drop n (take (place + n - place) (drop place bytes)) → put_mid place (place + n - place) bytes new ≡ with_number order bytes place n x
+pub write_big : (order : Endian) (bytes new : List ℕ) (place n x : ℕ)
+    → order ≡ Big → place + n ≤ length bytes
+    → new ≡ bytes_high_first n x ++ drop n (take (place + n - place) (drop place bytes))
+    → put_mid place (place + n - place) bytes new ≡ with_number order bytes place n x
 unfolding spelled with_number
 write_big order bytes new place n x is h e =
     rw is (written bytes (reverse (digits n x)) new place n h (rw (bytes_high_first-is n x) at e))
 
 -- the byte at a place
-pub read_one : (order : Endian) (bytes : List ℕ) (place : ℕ) → place + 1 ≤ length bytes → slice_index bytes place ≡ number_at order bytes place 1
+pub read_one : (order : Endian) (bytes : List ℕ) (place : ℕ)
+    → place + 1 ≤ length bytes → slice_index bytes place ≡ number_at order bytes place 1
 read_one order bytes place h =
-    sym (ap (λ (part : List ℕ). number order (take 1 part)) (drop_more bytes place 0 (omega arith)) ∙ number-one order (slice_index bytes place))
+    sym (ap (λ (part : List ℕ). number order (take 1 part)) (drop_more bytes place 0 (omega arith))
+    ∙ number-one order (slice_index bytes place))
 
 -- a byte that is put at a place
-pub write_one : (order : Endian) (bytes : List ℕ) (place x : ℕ) → place + 1 ≤ length bytes → x < 256 → set bytes place x ≡ with_number order bytes place 1 x
+pub write_one : (order : Endian) (bytes : List ℕ) (place x : ℕ)
+    → place + 1 ≤ length bytes → x < 256 → set bytes place x ≡ with_number order bytes place 1 x
 unfolding with_number
 write_one order bytes place x h fits =
     let next : place + 1 ≡ suc place = omega arith in
-    set_split bytes place x (omega arith) ∙ rw (spelled-one order x fits, next) (sym (append_assoc (take place bytes) (x ∷ []) (drop (suc place) bytes)))
+    set_split bytes place x (omega arith)
+    ∙ rw (spelled-one order x fits, next) (sym (append_assoc (take place bytes) (x ∷ []) (drop (suc place) bytes)))
 
 -- what reading and writing answer, and the laws of numbers, for the goals of the functions that do it
-pub ruleset numbers = (read_one, read_little, read_big, write_one, write_little, write_big, length-spelled, number-spelled, spelled-number, number_at-with_number, signed_number-spelled, spelled-signed_number, signed_number_at-is, signed_number_at-with_number)
+pub ruleset numbers = (
+  read_one,
+  read_little,
+  read_big,
+  write_one,
+  write_little,
+  write_big,
+  length-spelled,
+  number-spelled,
+  spelled-number,
+  number_at-with_number,
+  signed_number-spelled,
+  spelled-signed_number,
+  signed_number_at-is,
+  signed_number_at-with_number,
+)

@@ -1,5 +1,6 @@
 -- Where pieces begin and end.
-use Rattle.std.proofs.Common.{◌≡◌, ℕ, zero, suc, ◌+◌, ◌-◌, ◌<◌, ◌≤◌, ⊎_elim, Bool, true, false, cond, not, eqb, List, [], ◌∷◌, length, get_or, take, drop, refl, sym, ap, ◌∙◌, arith}
+use Rattle.std.proofs.Common.{◌≡◌, ℕ, zero, suc, ◌+◌, ◌-◌, ◌<◌, ◌≤◌, ⊎_elim, Bool, true, false, cond, not, eqb, List}
+use Rattle.std.proofs.Common.{[], ◌∷◌, length, get_or, take, drop, refl, sym, ap, ◌∙◌, arith}
 use Rattle.std.proofs.lemmas.Bool.{cases_Bool, cases_lt, both_ways, cond-true, cond-false}
 use Rattle.std.proofs.lemmas.List.{get_or-drop, get_or-take, length-drop, length-take-le, drop_more}
 use Rattle.std.proofs.lemmas.List.Sums.{prefix_len-le-length, fails_before_first, passes_at_first, position_or_len_is}
@@ -27,20 +28,27 @@ module _ (bytes : List ℕ) (d : ℕ) where
       ∙ fails_before_first (is_delim d) (drop o bytes) (k - o) 0 (omega arith)
 
   -- a piece ends at a delimiter, or with the bytes
-  pub at_end : (o : ℕ) → o ≤ length bytes → piece_end bytes d o < length bytes → eqb (get_or bytes (piece_end bytes d o) 0) d ≡ true
+  pub at_end : (o : ℕ)
+      → o ≤ length bytes → piece_end bytes d o < length bytes → eqb (get_or bytes (piece_end bytes d o) 0) d ≡ true
   unfolding piece_end
   at_end o h l =
       ap (λ x. eqb x d) (sym (get_or-drop o bytes (position_or_len (is_delim d) (drop o bytes)) 0))
       ∙ passes_at_first (is_delim d) (drop o bytes) 0 (omega (arith, length-drop o bytes))
 
   -- and that fixes the end
-  pub end_is : (o e : ℕ) → o ≤ e → e ≤ length bytes → ((k : ℕ) → o ≤ k → k < e → eqb (get_or bytes k 0) d ≡ false) → (e < length bytes → eqb (get_or bytes e 0) d ≡ true) → piece_end bytes d o ≡ e
+  pub end_is : (o e : ℕ)
+      → o ≤ e → e ≤ length bytes → ((k : ℕ) → o ≤ k → k < e → eqb (get_or bytes k 0) d ≡ false)
+      → (e < length bytes → eqb (get_or bytes e 0) d ≡ true)
+      → piece_end bytes d o ≡ e
   unfolding piece_end
   end_is o e from within none there =
       let same : o + (e - o) ≡ e = omega arith in
       ap (λ x. o + x) (position_or_len_is (is_delim d) (drop o bytes) (e - o) 0 (omega (arith, length-drop o bytes))
       (λ k h. ap (λ x. eqb x d) (get_or-drop o bytes k 0) ∙ none (o + k) (omega arith) (omega arith))
-      (λ h. ap (λ x. eqb x d) (get_or-drop o bytes (e - o) 0) ∙ ap (λ x. eqb (get_or bytes x 0) d) same ∙ there (omega (arith, length-drop o bytes)))) ∙ same
+      (λ h. ap (λ x. eqb x d) (get_or-drop o bytes (e - o) 0)
+      ∙ ap (λ x. eqb (get_or bytes x 0) d) same
+      ∙ there (omega (arith, length-drop o bytes))))
+      ∙ same
 
   pub piece_is_range : (o : ℕ) → piece bytes d o ≡ slice_range bytes o (piece_end bytes d o)
   unfolding piece piece_end
@@ -51,11 +59,16 @@ module _ (bytes : List ℕ) (d : ℕ) where
 
   pub length-piece : (o : ℕ) → o + length (piece bytes d o) ≡ piece_end bytes d o
   unfolding piece piece_end
-  length-piece o = ap (λ x. o + x) (length-take-le (position_or_len (is_delim d) (drop o bytes)) (drop o bytes) (prefix_len-le-length (λ b. not (is_delim d b)) (drop o bytes)))
+  length-piece o =
+      ap (λ x. o + x)
+      (length-take-le (position_or_len (is_delim d) (drop o bytes)) (drop o bytes)
+      (prefix_len-le-length (λ b. not (is_delim d b)) (drop o bytes)))
 
   -- of the places of a piece, each has the rest of it
-  pub end_same : (o k : ℕ) → o ≤ length bytes → o ≤ k → k ≤ piece_end bytes d o → piece_end bytes d k ≡ piece_end bytes d o
-  end_same o k h l m = end_is k (piece_end bytes d o) m (end_within o h) (λ j p q. inside_piece o j (omega arith) q) (λ q. at_end o h q)
+  pub end_same : (o k : ℕ)
+      → o ≤ length bytes → o ≤ k → k ≤ piece_end bytes d o → piece_end bytes d k ≡ piece_end bytes d o
+  end_same o k h l m =
+      end_is k (piece_end bytes d o) m (end_within o h) (λ j p q. inside_piece o j (omega arith) q) (λ q. at_end o h q)
 
   pub piece_at_end : (o : ℕ) → piece_end bytes d o ≡ o → piece bytes d o ≡ []
   piece_at_end o e = nil_of (piece bytes d o) (omega (arith, length-piece o))
@@ -64,18 +77,26 @@ module _ (bytes : List ℕ) (d : ℕ) where
       nil_of [] z = refl
       nil_of (x ∷ xs) z = absurd (omega arith)
 
-  pub piece_more : (o : ℕ) → o < piece_end bytes d o → o < length bytes → piece bytes d o ≡ get_or bytes o 0 ∷ piece bytes d (o + 1)
+  pub piece_more : (o : ℕ)
+      → o < piece_end bytes d o → o < length bytes → piece bytes d o ≡ get_or bytes o 0 ∷ piece bytes d (o + 1)
   piece_more o h l =
       let same = end_same o (o + 1) (omega arith) (omega arith) (omega arith) in
       let e : piece_end bytes d o - o ≡ suc (piece_end bytes d o - (o + 1)) = omega arith in
-      piece_is_range o ∙ ap (λ n. take n (drop o bytes)) e ∙ ap (take (suc (piece_end bytes d o - (o + 1)))) (drop_more bytes o 0 l)
-      ∙ ap (λ n. get_or bytes o 0 ∷ take (n - (o + 1)) (drop (o + 1) bytes)) (sym same) ∙ ap (λ xs. get_or bytes o 0 ∷ xs) (sym (piece_is_range (o + 1)))
+      piece_is_range o
+      ∙ ap (λ n. take n (drop o bytes)) e
+      ∙ ap (take (suc (piece_end bytes d o - (o + 1)))) (drop_more bytes o 0 l)
+      ∙ ap (λ n. get_or bytes o 0 ∷ take (n - (o + 1)) (drop (o + 1) bytes)) (sym same)
+      ∙ ap (λ xs. get_or bytes o 0 ∷ xs) (sym (piece_is_range (o + 1)))
 
   -- ---- where a whole piece begins
   pub start_to : (o : ℕ) → piece_start bytes d o ≤ o
   unfolding piece_start
   start_to zero = omega arith
-  start_to (suc o) = elim (eqb (get_or bytes o 0) d) as (λ b. cond b (suc o) (piece_start bytes d o) ≤ suc o) [ true ↦ omega arith | false ↦ omega (arith, start_to o) ]
+  start_to (suc o) =
+      elim (eqb (get_or bytes o 0) d) as (λ b. cond b (suc o) (piece_start bytes d o) ≤ suc o) [
+        | true ↦ omega arith
+        | false ↦ omega (arith, start_to o)
+      ]
 
   pub start_after_delim : (o : ℕ) → eqb (get_or bytes o 0) d ≡ true → piece_start bytes d (suc o) ≡ suc o
   unfolding piece_start
@@ -89,12 +110,17 @@ module _ (bytes : List ℕ) (d : ℕ) where
   start_plus o zero h = let e : o + 0 ≡ o = omega arith in ap (piece_start bytes d) e
   start_plus o (suc n) h =
       let e : o + suc n ≡ suc (o + n) = omega arith in
-      ap (piece_start bytes d) e ∙ start_more (o + n) (inside_piece o (o + n) (omega arith) (omega arith)) ∙ start_plus o n (omega arith)
+      ap (piece_start bytes d) e
+      ∙ start_more (o + n) (inside_piece o (o + n) (omega arith) (omega arith))
+      ∙ start_plus o n (omega arith)
 
   pub start_same : (o k : ℕ) → o ≤ k → k ≤ piece_end bytes d o → piece_start bytes d k ≡ piece_start bytes d o
-  start_same o k h l = let e : o + (k - o) ≡ k = omega arith in ap (piece_start bytes d) (sym e) ∙ start_plus o (k - o) (omega arith)
+  start_same o k h l = let e : o + (k - o) ≡ k = omega arith in
+      ap (piece_start bytes d) (sym e) ∙ start_plus o (k - o) (omega arith)
 
-  pub start_next : (o : ℕ) → o ≤ length bytes → piece_end bytes d o < length bytes → piece_start bytes d (piece_end bytes d o + 1) ≡ piece_end bytes d o + 1
+  pub start_next : (o : ℕ)
+      → o ≤ length bytes → piece_end bytes d o < length bytes
+      → piece_start bytes d (piece_end bytes d o + 1) ≡ piece_end bytes d o + 1
   start_next o h l =
       let e : piece_end bytes d o + 1 ≡ suc (piece_end bytes d o) = omega arith in
       ap (piece_start bytes d) e ∙ start_after_delim (piece_end bytes d o) (at_end o h l) ∙ sym e
@@ -105,7 +131,8 @@ module _ (bytes : List ℕ) (d : ℕ) where
   start_of_start zero = refl
   start_of_start (suc o) = ⊎_elim
       (λ (r : eqb (get_or bytes o 0) d ≡ true). let e = start_after_delim o r in ap (piece_start bytes d) e)
-      (λ (r : eqb (get_or bytes o 0) d ≡ false). let e = start_more o r in ap (piece_start bytes d) e ∙ start_of_start o ∙ sym e)
+      (λ (r : eqb (get_or bytes o 0) d ≡ false). let e = start_more o r in
+      ap (piece_start bytes d) e ∙ start_of_start o ∙ sym e)
       (cases_Bool (eqb (get_or bytes o 0) d))
 
   -- before a place where one begins a delimiter stands
@@ -122,7 +149,8 @@ module _ (bytes : List ℕ) (d : ℕ) where
       (λ (e : eqb (get_or bytes o 0) d ≡ true). omega (arith, start_after_delim o e))
       (λ (e : eqb (get_or bytes o 0) d ≡ false). ⊎_elim
       (λ (m : q < o). omega (arith, start_more o e, start_behind q o m z))
-      (λ (m : o ≤ q). let same : o ≡ q = omega arith in absurd (both_ways _ (ap (λ k. eqb (get_or bytes k 0) d) (sym same) ∙ e) z))
+      (λ (m : o ≤ q). let same : o ≡ q = omega arith in
+      absurd (both_ways _ (ap (λ k. eqb (get_or bytes k 0) d) (sym same) ∙ e) z))
       (cases_lt q o))
       (cases_Bool (eqb (get_or bytes o 0) d))
 

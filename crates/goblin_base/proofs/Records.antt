@@ -1,5 +1,6 @@
 -- What a table answers, by the laws of its records.
-use Rattle.std.proofs.Common.{◌≡◌, ◌<◌, ◌≤◌, ◌+◌, ◌*◌, ◌-◌, ℕ, zero, suc, List, [], ◌∷◌, ◌++◌, map, length, take, drop, Option, Some, None, Result, Ok, refl, sym, ap, ◌∙◌, arith}
+use Rattle.std.proofs.Common.{◌≡◌, ◌<◌, ◌≤◌, ◌+◌, ◌*◌, ◌-◌, ℕ, zero, suc, List, [], ◌∷◌, ◌++◌, map, length, take, drop}
+use Rattle.std.proofs.Common.{Option, Some, None, Result, Ok, refl, sym, ap, ◌∙◌, arith}
 use Rattle.std.specs.List.{slice_get, slice_range, range_with_len}
 use Rattle.std.proofs.lemmas.List.FromFn.{length-map-range_with_len, map-range_with_len_more}
 use Rattle.std.specs.Result.{result_ok}
@@ -13,9 +14,11 @@ use Rattle.goblin_base.specs.RecordLaws.{room_of_fits, read_within-ok}
 use Rattle.goblin_base.specs.Table.{records}
 use Rattle.goblin_base.specs.TableLaws.{slice, slice-is, no_records, first_record}
 
-pub length_records : {R : Type 0} (size : ℕ) (read : List ℕ → R) (n : ℕ) (bytes : List ℕ) → length (records size read n bytes) ≡ n
+pub length_records : {R : Type 0} (size : ℕ) (read : List ℕ → R) (n : ℕ) (bytes : List ℕ)
+    → length (records size read n bytes) ≡ n
 unfolding records
-length_records size read n bytes = length-map-range_with_len (λ i. read (slice_range bytes (i * size) ((i + 1) * size))) 0 n
+length_records size read n bytes =
+    length-map-range_with_len (λ i. read (slice_range bytes (i * size) ((i + 1) * size))) 0 n
 
 get_mapped : {R : Type 0} (f : ℕ → R) (a n i : ℕ) → i < n → slice_get (map f (range_with_len a n)) i ≡ Some (f (a + i))
 get_mapped f a zero i h = absurd (omega arith)
@@ -23,39 +26,61 @@ get_mapped f a (suc n) zero h = ap (λ (k : ℕ). Some (f k)) (omega arith)
 get_mapped f a (suc n) (suc i) h = get_mapped f (a + 1) n i (omega arith) ∙ ap (λ (k : ℕ). Some (f k)) (omega arith)
 
 -- the records of a table, by index
-pub get_records : {R : Type 0} (size : ℕ) (read : List ℕ → R) (n : ℕ) (bytes : List ℕ) (i : ℕ) → i < n → slice_get (records size read n bytes) i ≡ Some (read (take size (drop (i * size) bytes)))
+pub get_records : {R : Type 0} (size : ℕ) (read : List ℕ → R) (n : ℕ) (bytes : List ℕ) (i : ℕ)
+    → i < n → slice_get (records size read n bytes) i ≡ Some (read (take size (drop (i * size) bytes)))
 unfolding records slice
 get_records size read n bytes i h =
-    get_mapped (λ i. read (slice size bytes i)) 0 n i h ∙ ap (λ (k : ℕ). Some (read (slice size bytes k))) (omega arith) ∙ ap (λ part. Some (read part)) (slice-is size bytes i)
+    get_mapped (λ i. read (slice size bytes i)) 0 n i h
+    ∙ ap (λ (k : ℕ). Some (read (slice size bytes k))) (omega arith)
+    ∙ ap (λ part. Some (read part)) (slice-is size bytes i)
 
-pub read_within_fits : {R : Type 0} (size : ℕ) (read : List ℕ → R) (bytes : List ℕ) → size ≤ length bytes → read_within size read bytes ≡ Ok (read bytes)
+pub read_within_fits : {R : Type 0} (size : ℕ) (read : List ℕ → R) (bytes : List ℕ)
+    → size ≤ length bytes → read_within size read bytes ≡ Ok (read bytes)
 read_within_fits size read bytes h =
-    sym (read_within-ok size size read bytes tt (read bytes) refl (sym (room_of_fits (length bytes) 0 size (omega arith))) refl)
+    sym (read_within-ok size size read bytes tt (read bytes) refl
+    (sym (room_of_fits (length bytes) 0 size (omega arith))) refl)
 
 -- a record that is read from just its own bytes
-pub read_field : {R : Type 0} (size : ℕ) (read : List ℕ → R) (bytes : List ℕ) (start : ℕ) → start + size ≤ length bytes → read_within size read (take (start + size - start) (drop start bytes)) ≡ Ok (read (take size (drop start bytes)))
+pub read_field : {R : Type 0} (size : ℕ) (read : List ℕ → R) (bytes : List ℕ) (start : ℕ)
+    → start + size ≤ length bytes
+    → read_within size read (take (start + size - start) (drop start bytes)) ≡ Ok (read (take size (drop start bytes)))
 read_field size read bytes start h =
     let width : start + size - start ≡ size = omega arith in
-    let whole : length (take size (drop start bytes)) ≡ size = length-take-le size (drop start bytes) (omega (arith, length-drop start bytes)) in
+    let whole : length (take size (drop start bytes)) ≡ size =
+    length-take-le size (drop start bytes) (omega (arith, length-drop start bytes)) in
     rw width (read_within_fits size read (take size (drop start bytes)) (omega arith))
 
-pub read_first : {R : Type 0} (size : ℕ) (read : List ℕ → R) (bytes : List ℕ) → size ≤ length bytes → read_within size read (take size bytes) ≡ Ok (read (take size bytes))
+pub read_first : {R : Type 0} (size : ℕ) (read : List ℕ → R) (bytes : List ℕ)
+    → size ≤ length bytes → read_within size read (take size bytes) ≡ Ok (read (take size bytes))
 read_first size read bytes h = read_within_fits size read (take size bytes) (omega (arith, length-take-le size bytes h))
 
-pub past_records : {R : Type 0} (size : ℕ) (read : List ℕ → R) (n : ℕ) (bytes : List ℕ) (i : ℕ) → n ≤ i → slice_get (records size read n bytes) i ≡ None
-past_records size read n bytes i h = slice_get_past (records size read n bytes) i (omega (arith, length_records size read n bytes))
+pub past_records : {R : Type 0} (size : ℕ) (read : List ℕ → R) (n : ℕ) (bytes : List ℕ) (i : ℕ)
+    → n ≤ i → slice_get (records size read n bytes) i ≡ None
+past_records size read n bytes i h =
+    slice_get_past (records size read n bytes) i (omega (arith, length_records size read n bytes))
 
-pub last_record : {R : Type 0} (size : ℕ) (read : List ℕ → R) (n : ℕ) (bytes : List ℕ) → records size read (n + 1) bytes ≡ records size read n bytes ++ read (take size (drop (n * size) bytes)) ∷ []
+pub last_record : {R : Type 0} (size : ℕ) (read : List ℕ → R) (n : ℕ) (bytes : List ℕ)
+    → records size read (n + 1) bytes ≡ records size read n bytes ++ read (take size (drop (n * size) bytes)) ∷ []
 unfolding records slice
 last_record size read n bytes =
-    map-range_with_len_more (λ i. read (slice size bytes i)) 0 n n (omega arith) ∙ ap (λ part. map (λ i. read (slice size bytes i)) (range_with_len 0 n) ++ read part ∷ []) (slice-is size bytes n)
+    map-range_with_len_more (λ i. read (slice size bytes i)) 0 n n (omega arith)
+    ∙ ap (λ part. map (λ i. read (slice size bytes i)) (range_with_len 0 n) ++ read part ∷ []) (slice-is size bytes n)
 
 -- what an iterator answers where records are left
-pub next_is : {R : Type 0} (size : ℕ) (read : List ℕ → R) (n : ℕ) (bytes : List ℕ) (s : ℕ) (items : List R) (found : Result R Error) (answer : Option R) → s ≡ size → records size read n bytes ≡ items → n * size ≤ length bytes → 0 < n → found ≡ read_within size read (take s bytes) → answer ≡ result_ok found → (answer ≡ Some (read (take size bytes))) × (items ≡ read (take size bytes) ∷ records size read (n - 1) (take (length bytes - s) (drop s bytes)))
+pub next_is : {R : Type 0} (size : ℕ) (read : List ℕ → R) (n : ℕ) (bytes : List ℕ) (s : ℕ) (items : List R)
+    (found : Result R Error) (answer : Option R)
+    → s ≡ size → records size read n bytes ≡ items → n * size ≤ length bytes → 0 < n
+    → found ≡ read_within size read (take s bytes) → answer ≡ result_ok found
+    → (answer ≡ Some (read (take size bytes)))
+    × (items ≡ read (take size bytes) ∷ records size read (n - 1) (take (length bytes - s) (drop s bytes)))
 next_is size read n bytes s items found answer same is fits below read_is ok_is =
     let room : size ≤ length bytes = grind (arith, common_steps, rows) in (
       rw same at (ok_is ∙ ap result_ok read_is) ∙ ap result_ok (read_first size read bytes room),
-      sym is ∙ first_record size read n bytes below ∙ ap (λ (left : List ℕ). read (take size bytes) ∷ records size read (n - 1) left) (sym (rw same (take_rest bytes size))),
+      sym is
+          ∙ first_record size read n bytes below
+          ∙ ap (λ (left : List ℕ). read (take size bytes) ∷ records size read (n - 1) left)
+          (sym (rw same (take_rest bytes size))),
     )
 
-pub ruleset record_steps = (length_records, get_records, past_records, read_field, read_first, no_records, first_record, rows)
+pub ruleset record_steps =
+    (length_records, get_records, past_records, read_field, read_first, no_records, first_record, rows)

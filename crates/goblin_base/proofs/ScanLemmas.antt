@@ -1,5 +1,6 @@
 -- An attempt to read a piece as text: what is known at each byte.
-use Rattle.std.proofs.Common.{◌≡◌, ℕ, zero, suc, ◌+◌, ◌<◌, ◌≤◌, true, false, eqb, List, [], ◌∷◌, length, get_or, max, refl, sym, ap, ◌∙◌, subst, ⊎_elim, arith, Some, None, eq-eqb, ne_eqb}
+use Rattle.std.proofs.Common.{◌≡◌, ℕ, zero, suc, ◌+◌, ◌<◌, ◌≤◌, true, false, eqb, List, [], ◌∷◌, length, get_or, max}
+use Rattle.std.proofs.Common.{refl, sym, ap, ◌∙◌, subst, ⊎_elim, arith, Some, None, eq-eqb, ne_eqb}
 use Rattle.std.proofs.lemmas.Bool.{cases_lt, cases_eq, both_ways, false_from_ne_true, cond-true, cond-false}
 use Rattle.std.proofs.lemmas.Str.{IsUtf8-from_is_utf8, is_utf8-from_IsUtf8}
 use Rattle.goblin_base.specs.declared.utf8.Awaited.{Awaited}
@@ -43,15 +44,19 @@ module _ (bytes : List ℕ) (d : ℕ) where
     forth = λ q l m. absurd (omega arith);
   }
 
-  piece_at_byte : (p : ℕ) → p < length bytes → eqb (get_or bytes p 0) d ≡ false → piece bytes d p ≡ get_or bytes p 0 ∷ piece bytes d (p + 1)
+  piece_at_byte : (p : ℕ)
+      → p < length bytes → eqb (get_or bytes p 0) d ≡ false → piece bytes d p ≡ get_or bytes p 0 ∷ piece bytes d (p + 1)
   piece_at_byte p l n = ⊎_elim
       (λ (m : p < piece_end bytes d p). piece_more bytes d p m l)
       (λ (m : piece_end bytes d p ≤ p).
       let e : piece_end bytes d p ≡ p = omega (arith, end_from bytes d p) in
-      absurd (both_ways _ n (ap (λ x. eqb (get_or bytes x 0) d) (sym e) ∙ at_end bytes d p (omega arith) (omega arith))))
+      absurd (both_ways _ n
+      (ap (λ x. eqb (get_or bytes x 0) d) (sym e) ∙ at_end bytes d p (omega arith) (omega arith))))
       (cases_lt p (piece_end bytes d p))
 
-  pub scan_steps : (o p : ℕ) (s t : Awaited) → p < length bytes → eqb (get_or bytes p 0) d ≡ false → after_byte s (get_or bytes p 0) ≡ Some t → IsScanned o p s → IsScanned o (p + 1) t
+  pub scan_steps : (o p : ℕ) (s t : Awaited)
+      → p < length bytes → eqb (get_or bytes p 0) d ≡ false → after_byte s (get_or bytes p 0) ≡ Some t → IsScanned o p s
+      → IsScanned o (p + 1) t
   scan_steps o p s t l n e h =
       let b = get_or bytes p 0 in
       let split = piece_at_byte p l n in
@@ -60,40 +65,51 @@ module _ (bytes : List ℕ) (d : ℕ) where
       record {
         from = omega arith;
         within = omega arith;
-        none = λ k x y. ⊎_elim (λ (z : k < p). h.none k x z) (λ (z : p ≤ k). let same : k ≡ p = omega arith in ap (λ j. eqb (get_or bytes j 0) d) same ∙ n) (cases_lt k p);
+        none = λ k x y.
+            ⊎_elim (λ (z : k < p). h.none k x z)
+            (λ (z : p ≤ k). let same : k ≡ p = omega arith in ap (λ j. eqb (get_or bytes j 0) d) same ∙ n)
+            (cases_lt k p);
         inner = step.inner;
         begun = λ z. absurd (omega arith);
         back = λ v. h.back (subst (CompletesFrom s) (sym split) (step.back _ v));
         forth = λ q x y r. ⊎_elim
             (λ (z : q < p). step.forth _ (subst (CompletesFrom s) split (h.forth q x z r)))
             (λ (z : p ≤ q). let same : q ≡ p = omega arith in
-            step.excludes _ (subst (Completes 0 0x80 0xbf) split (completes_if_readable p (ap (is_readable bytes d) (sym same) ∙ r))))
+            step.excludes _
+            (subst (Completes 0 0x80 0xbf) split (completes_if_readable p (ap (is_readable bytes d) (sym same) ∙ r))))
             (cases_lt q p);
       }
 
   -- no place before p, nor the one where the attempt began, has text where the byte at p may not come
-  pub scan_faults : (o p : ℕ) (s : Awaited) → p < length bytes → eqb (get_or bytes p 0) d ≡ false → after_byte s (get_or bytes p 0) ≡ None → IsScanned o p s → IsScan bytes d o (Fault (max p (o + 1)))
+  pub scan_faults : (o p : ℕ) (s : Awaited)
+      → p < length bytes → eqb (get_or bytes p 0) d ≡ false → after_byte s (get_or bytes p 0) ≡ None → IsScanned o p s
+      → IsScan bytes d o (Fault (max p (o + 1)))
   scan_faults o p s l n e h =
       let b = get_or bytes p 0 in
       let split = piece_at_byte p l n in
       let from = h.from in
-      let no : CompletesFrom s (piece bytes d p) → ⊥ = λ v. subst (StepsTo s b) e (steps s b h.inner) _ (subst (CompletesFrom s) split v) in (
+      let no : CompletesFrom s (piece bytes d p) → ⊥ =
+      λ v. subst (StepsTo s b) e (steps s b h.inner) _ (subst (CompletesFrom s) split v) in (
         λ q x y. false_from_ne_true _ (λ (r : is_readable bytes d q ≡ true). ⊎_elim
             (λ (z : q < p). no (h.forth q x z r))
             (λ (z : p ≤ q). let same : q ≡ p = omega arith in let start : p ≡ o = omega arith in
-            no (subst (λ k. Completes k s.least s.most (piece bytes d p)) (sym (h.begun start)) (any_bounds 0x80 0xbf s.least s.most _ (completes_if_readable p (ap (is_readable bytes d) (sym same) ∙ r)))))
+            no (subst (λ k. Completes k s.least s.most (piece bytes d p)) (sym (h.begun start))
+            (any_bounds 0x80 0xbf s.least s.most _
+            (completes_if_readable p (ap (is_readable bytes d) (sym same) ∙ r)))))
             (cases_lt q p)),
         omega arith,
         omega arith,
       )
 
   -- where the piece ends, it is text if no byte is missing, and else no place of it has text
-  pub scan_ends : (o p : ℕ) (s : Awaited) → (p < length bytes → eqb (get_or bytes p 0) d ≡ true) → IsScanned o p s → IsScan bytes d o (scan_end s p)
+  pub scan_ends : (o p : ℕ) (s : Awaited)
+      → (p < length bytes → eqb (get_or bytes p 0) d ≡ true) → IsScanned o p s → IsScan bytes d o (scan_end s p)
   scan_ends o p s there h =
       let from = h.from in
       let within = h.within in
       let same = end_is bytes d o p h.from h.within h.none there in
-      let last : piece_end bytes d p ≡ p = end_is bytes d p p (omega arith) within (λ k x y. absurd (omega arith)) there in
+      let last : piece_end bytes d p ≡ p =
+      end_is bytes d p p (omega arith) within (λ k x y. absurd (omega arith)) there in
       let empty = piece_at_end bytes d p last in
       ⊎_elim
       (λ (e : s.more ≡ 0). subst (IsScan bytes d o) (sym (cond-true _ (Whole p) (Fault p) (eq-eqb _ _ e))) (
@@ -103,7 +119,8 @@ module _ (bytes : List ℕ) (d : ℕ) where
         within,
       ))
       (λ (e : s.more ≡ 0 → ⊥). subst (IsScan bytes d o) (sym (cond-false _ (Whole p) (Fault p) (ne_eqb _ _ e))) (
-        λ q x y. false_from_ne_true _ (λ (r : is_readable bytes d q ≡ true). missing s e (subst (CompletesFrom s) empty (h.forth q x y r))),
+        λ q x y. false_from_ne_true _
+            (λ (r : is_readable bytes d q ≡ true). missing s e (subst (CompletesFrom s) empty (h.forth q x y r))),
         ⊎_elim (λ (z : o < p). z) (λ (z : p ≤ o). absurd (e (h.begun (omega arith)))) (cases_lt o p),
         within,
       ))
@@ -117,9 +134,14 @@ module _ (bytes : List ℕ) (d : ℕ) where
       missing s e v = e (none_missing s.more s.least s.most v)
 
 -- what an attempt inside a piece that fails says, of bytes that it left as they were
-pub attempt_fault : (bytes seen : List ℕ) (d end i next : ℕ) → seen ≡ bytes → piece_end bytes d i ≡ end → i ≤ end → end ≤ length bytes → IsScan seen d i (Fault next)
+pub attempt_fault : (bytes seen : List ℕ) (d end i next : ℕ)
+    → seen ≡ bytes → piece_end bytes d i ≡ end → i ≤ end → end ≤ length bytes → IsScan seen d i (Fault next)
     → NoneReadable bytes d i next × (i < next) × (next ≤ end) × (piece_end bytes d next ≡ end)
 attempt_fault bytes seen d end i next same ends l m h =
     let found : IsScan bytes d i (Fault next) = subst (λ bs. IsScan bs d i (Fault next)) same h in
-    let until = bad_within bytes d i next found.2 found.0 (omega arith) in
-    (found.0, found.1, omega (arith, until, ends), end_same bytes d i next (omega arith) (omega (arith, found.1)) until ∙ ends)
+    let until = bad_within bytes d i next found.2 found.0 (omega arith) in (
+      found.0,
+      found.1,
+      omega (arith, until, ends),
+      end_same bytes d i next (omega arith) (omega (arith, found.1)) until ∙ ends,
+    )

@@ -1,6 +1,8 @@
 -- Names among the strings of a table, found by comparing.
-use Rattle.std.proofs.Common.{◌≡◌, ℕ, ◌<◌, ◌≤◌, Bool, true, false, if◌then◌else◌, not, ◌&&◌, eqb, leb, ltb, List, length, get_or, take, drop, refl, sym, ap, subst, ◌∙◌, ⊎_elim, arith, Ok, Err}
-use Rattle.std.proofs.lemmas.Bool.{cases_lt, le-leb, leb-true, and_parts, and_from, or_cases, or_left, or_right, not-true, not_from_false, false_from_ne_true, both_ways, false≢true}
+use Rattle.std.proofs.Common.{◌≡◌, ℕ, ◌<◌, ◌≤◌, Bool, true, false, if◌then◌else◌, not, ◌&&◌, eqb, leb, ltb, List}
+use Rattle.std.proofs.Common.{length, get_or, take, drop, refl, sym, ap, subst, ◌∙◌, ⊎_elim, arith, Ok, Err}
+use Rattle.std.proofs.lemmas.Bool.{cases_lt, le-leb, leb-true, and_parts, and_from, or_cases, or_left, or_right}
+use Rattle.std.proofs.lemmas.Bool.{not-true, not_from_false, false_from_ne_true, both_ways, false≢true}
 use Rattle.std.proofs.lemmas.Bool.Decides.{same_from_decides}
 use Rattle.std.proofs.lemmas.List.{get_or-take, length-take-le, length-take}
 use Rattle.std.proofs.lemmas.List.Folds.{list_any_at, list_any_none}
@@ -30,8 +32,10 @@ module _ (bytes : List ℕ) (d o : ℕ) where
       let same : take n rest ≡ name = (bytes_eq-Decides (take n rest) name).0 parts.0 in
       let within : n ≤ length rest = omega (arith, ap length same, length-take n rest) in
       let at : position_or_len ends rest ≡ n = position_or_len_is ends rest n 0 within
-      (λ k l. ap ends (sym (get_or-take n rest k 0 l) ∙ ap (λ xs. get_or xs k 0) same) ∙ false_from_ne_true _ (λ t. both_ways _ none (list_any_at ends name k 0 l t)))
-      (λ l. ⊎_elim (λ (t : leb (length rest) n ≡ true). absurd (omega (arith, leb-true _ _ t))) (λ t. t) (or_cases _ _ parts.1)) in
+      (λ k l. ap ends (sym (get_or-take n rest k 0 l) ∙ ap (λ xs. get_or xs k 0) same)
+      ∙ false_from_ne_true _ (λ t. both_ways _ none (list_any_at ends name k 0 l t)))
+      (λ l. ⊎_elim (λ (t : leb (length rest) n ≡ true). absurd (omega (arith, leb-true _ _ t)))
+      (λ t. t) (or_cases _ _ parts.1)) in
       ap (λ k. take k rest) at ∙ same
 
   -- the piece at a place stands there
@@ -53,10 +57,14 @@ module _ (bytes : List ℕ) (d o : ℕ) where
   piece-apart =
       let n = position_or_len ends rest in
       let size : length (take n rest) ≡ n = length-take-le n rest (prefix_len-le-length (λ b. not (ends b)) rest) in
-      list_any_none ends (take n rest) (λ k e l. ap ends (get_or-take n rest k e (omega (arith, size))) ∙ fails_before_first ends rest k e (omega (arith, size)))
+      list_any_none ends (take n rest)
+      (λ k e l. ap ends (get_or-take n rest k e (omega (arith, size)))
+      ∙ fails_before_first ends rest k e (omega (arith, size)))
 
   -- a name that can be a string and stands at a place is text, and the piece there, and the other way round
-  stands_Decides : (name : List ℕ) → Decides (stands_at bytes d o name && can_be_string d name) ((is_utf8 (piece bytes d o) ≡ true) × (piece bytes d o ≡ name))
+  stands_Decides : (name : List ℕ)
+      → Decides (stands_at bytes d o name && can_be_string d name)
+      ((is_utf8 (piece bytes d o) ≡ true) × (piece bytes d o ≡ name))
   unfolding can_be_string
   stands_Decides name = (
     (λ t.
@@ -69,12 +77,16 @@ module _ (bytes : List ℕ) (d o : ℕ) where
   )
 
 -- and so is what the plain reading gives
-reading_Decides : (u : Bool) (p name : List ℕ) (fault : Refusal) → Decides (is_text_of name (if u then Ok p else Err fault)) ((u ≡ true) × (p ≡ name))
-reading_Decides true p name fault = ((λ t. (refl, (bytes_eq-Decides p name).0 t)), (λ h. (bytes_eq-Decides p name).1 h.1))
+reading_Decides : (u : Bool) (p name : List ℕ) (fault : Refusal)
+    → Decides (is_text_of name (if u then Ok p else Err fault)) ((u ≡ true) × (p ≡ name))
+reading_Decides true p name fault =
+    ((λ t. (refl, (bytes_eq-Decides p name).0 t)), (λ h. (bytes_eq-Decides p name).1 h.1))
 reading_Decides false p name fault = ((λ t. absurd (false≢true t)), (λ h. absurd (false≢true h.0)))
 
-pub name_is_standing : (t : StringTable) (o : ℕ) (name : List ℕ) → has_name t o name ≡ (ltb o (length t.bytes) && (stands_at t.bytes t.delim o name && can_be_string t.delim name))
+pub name_is_standing : (t : StringTable) (o : ℕ) (name : List ℕ)
+    → has_name t o name ≡ (ltb o (length t.bytes) && (stands_at t.bytes t.delim o name && can_be_string t.delim name))
 unfolding has_name
 name_is_standing t o name =
     ap (λ b. ltb o (length t.bytes) && b)
-    (same_from_decides _ _ (reading_Decides (is_utf8 (piece t.bytes t.delim o)) (piece t.bytes t.delim o) name _) (stands_Decides t.bytes t.delim o name))
+    (same_from_decides _ _ (reading_Decides (is_utf8 (piece t.bytes t.delim o)) (piece t.bytes t.delim o) name _)
+    (stands_Decides t.bytes t.delim o name))

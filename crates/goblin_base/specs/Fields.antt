@@ -35,7 +35,8 @@ values_at order bytes place (w ∷ widths) = number_at order bytes place w ∷ v
 -- those numbers, as fields
 abbrev pub fields_at : Endian → List ℕ → ℕ → List ℕ → List Field
 fields_at order bytes place [] = []
-fields_at order bytes place (w ∷ widths) = field w (number_at order bytes place w) ∷ fields_at order bytes (place + w) widths
+fields_at order bytes place (w ∷ widths) =
+    field w (number_at order bytes place w) ∷ fields_at order bytes (place + w) widths
 
 -- the widths added up
 abbrev pub total : List ℕ → ℕ

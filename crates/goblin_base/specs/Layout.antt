@@ -12,7 +12,8 @@ use Rattle.goblin_base.specs.Table.{records}
 -- the fields of a record, numbers of these widths that lie one after another, are what it is read from and written as:
 -- `read` is the record that bytes stand for, `fields` lists the fields of a record, `low` keeps the low bits of each,
 -- and a record whose fields are in range is one that `Fits`
-pub record IsLayout {R : Type 0} (widths : List ℕ) (read : Endian → List ℕ → R) (fields : R → List Field) (low : R → R) (Fits : R → Type 0) : Type 0 where
+pub record IsLayout {R : Type 0} (widths : List ℕ) (read : Endian → List ℕ → R) (fields : R → List Field) (low : R → R)
+    (Fits : R → Type 0) : Type 0 where
   -- the record whose fields are these numbers, in the order in which they lie
   pub of_values : List ℕ → R
   -- each field is read at its place
@@ -24,10 +25,12 @@ pub record IsLayout {R : Type 0} (widths : List ℕ) (read : Endian → List ℕ
   -- the fields of a record that fits are in range, and are those of no other record
   pub fitting : (x : R) → Fits x → FieldsFit (fields x) × (of_values (values_of (fields x)) ≡ x)
   -- the fields of a record that was read are the numbers that stood there
-  pub fields_read : (order : Endian) (bytes : List ℕ) → IsBytes bytes → total widths ≤ length bytes → fields (read order bytes) ≡ fields_at order bytes 0 widths
+  pub fields_read : (order : Endian) (bytes : List ℕ)
+      → IsBytes bytes → total widths ≤ length bytes → fields (read order bytes) ≡ fields_at order bytes 0 widths
 
 -- records of a size that are read from bytes and written as their image, and what holds of the two
-pub record IsRecord {R : Type 0} (size : ℕ) (read : List ℕ → R) (image : R → List ℕ) (low : R → R) (Fits : R → Type 0) : Type 0 where
+pub record IsRecord {R : Type 0} (size : ℕ) (read : List ℕ → R) (image : R → List ℕ) (low : R → R)
+    (Fits : R → Type 0) : Type 0 where
   -- a record takes some bytes
   pub size_positive : 0 < size
   -- the image has the size of a record
@@ -43,12 +46,15 @@ pub record IsRecord {R : Type 0} (size : ℕ) (read : List ℕ → R) (image : R
   -- bytes that were read are written back
   pub writes_back : (bytes : List ℕ) → IsBytes bytes → size ≤ length bytes → image (read bytes) ≡ take size bytes
 
--- what every type of records obeys: the laws of records, of which some bits are the low ones, and of what writing answers
-pub record Obeys {R : Type 0} (size : ℕ) (read : List ℕ → R) (image : R → List ℕ) (Fits : R → Type 0) (writes : R → List ℕ → Result ℕ Error → List ℕ → Type 0) : Type 0 where
+-- what every type of records obeys: the laws of records, of which some bits are the low ones, and of what writing
+-- answers
+pub record Obeys {R : Type 0} (size : ℕ) (read : List ℕ → R) (image : R → List ℕ) (Fits : R → Type 0)
+    (writes : R → List ℕ → Result ℕ Error → List ℕ → Type 0) : Type 0 where
   pub low : R → R
   pub is_record : IsRecord size read image low Fits
   -- writing leaves the image in front and the other bytes as they were, or it refuses and changes nothing
-  pub writes_image : (x : R) (old new : List ℕ) (answer : Result ℕ Error) → writes x old answer new → Writes size (image x) old answer new
+  pub writes_image : (x : R) (old new : List ℕ) (answer : Result ℕ Error)
+      → writes x old answer new → Writes size (image x) old answer new
 
 -- the image of a record is the one list of bytes of its size that reads as the low bits of its fields
 abbrev pub IsOneImage : {R : Type 0} → ℕ → (List ℕ → R) → (R → List ℕ) → (R → R) → Type 0
@@ -57,7 +63,9 @@ IsOneImage {R = R} size read image low =
 
 -- records that fit both classes, written one after another in either class and order, are read in that class and order
 -- as the same records
-abbrev pub IsSameInEachClass : {R : Type 0} → (Container → ℕ) → (Container → Endian → List ℕ → R) → (Container → Endian → R → List ℕ) → (Container → R → Type 0) → Type 0
+abbrev pub IsSameInEachClass : {R : Type 0}
+    → (Container → ℕ) → (Container → Endian → List ℕ → R) → (Container → Endian → R → List ℕ) → (Container → R → Type 0)
+    → Type 0
 IsSameInEachClass {R = R} size read image Fits =
     (class : Container) (order : Endian) (all : List R)
     → All (Fits Little) all → All (Fits Big) all

@@ -5,7 +5,8 @@ use Rattle.goblin_base.specs.declared.container.Container.{Container}
 use Rattle.goblin_base.specs.declared.container.Container.TheVariants.{Little, Big}
 use Rattle.goblin_base.specs.declared.container.Endian.{Endian}
 use Rattle.goblin_base.specs.Fields.{Field, values_at, total, widths_of, size_of_fields, image_of_fields}
-use Rattle.goblin_base.specs.FieldLaws.{values_at-append, values_at-image_low, lows_of-fits, image-fields_at, length-image_of_fields, IsBytes-image_of_fields}
+use Rattle.goblin_base.specs.FieldLaws.{values_at-append, values_at-image_low, lows_of-fits, image-fields_at}
+use Rattle.goblin_base.specs.FieldLaws.{length-image_of_fields, IsBytes-image_of_fields}
 use Rattle.goblin_base.specs.Layout.{IsLayout, IsRecord, Obeys, IsOneImage, IsSameInEachClass}
 use Rattle.goblin_base.specs.Number.{IsBytes}
 use Rattle.goblin_base.specs.Record.{Writes}
@@ -16,13 +17,16 @@ size_of_fields-is : (fields : List Field) → size_of_fields fields ≡ total (w
 size_of_fields-is [] = refl
 size_of_fields-is (f ∷ fields) = ap (λ (n : ℕ). f.width + n) (size_of_fields-is fields)
 
-module _ {R : Type 0} {widths : List ℕ} {read : Endian → List ℕ → R} {fields : R → List Field} {low : R → R} {Fits : R → Type 0} (l : IsLayout widths read fields low Fits) (order : Endian) where
+module _ {R : Type 0} {widths : List ℕ} {read : Endian → List ℕ → R} {fields : R → List Field} {low : R → R}
+    {Fits : R → Type 0} (l : IsLayout widths read fields low Fits) (order : Endian) where
   length-image : (x : R) → length (image_of_fields order (fields x)) ≡ total widths
   length-image x = length-image_of_fields order (fields x) ∙ size_of_fields-is (fields x) ∙ ap total (l.has_widths x)
 
   read-append : (bytes more : List ℕ) → total widths ≤ length bytes → read order (bytes ++ more) ≡ read order bytes
   read-append bytes more room =
-      l.reads order (bytes ++ more) ∙ ap l.of_values (values_at-append order bytes more 0 widths (omega arith)) ∙ sym (l.reads order bytes)
+      l.reads order (bytes ++ more)
+      ∙ ap l.of_values (values_at-append order bytes more 0 widths (omega arith))
+      ∙ sym (l.reads order bytes)
 
   read-image_low : (x : R) → read order (image_of_fields order (fields x)) ≡ low x
   read-image_low x =
@@ -37,12 +41,16 @@ module _ {R : Type 0} {widths : List ℕ} {read : Endian → List ℕ → R} {fi
       let is = l.fitting x fits in
       read-image_low x ∙ sym (l.lows x) ∙ ap l.of_values (lows_of-fits (fields x) is.0) ∙ is.1
 
-  image-read : (bytes : List ℕ) → IsBytes bytes → total widths ≤ length bytes → image_of_fields order (fields (read order bytes)) ≡ take (total widths) bytes
+  image-read : (bytes : List ℕ)
+      → IsBytes bytes → total widths ≤ length bytes
+      → image_of_fields order (fields (read order bytes)) ≡ take (total widths) bytes
   image-read bytes are room =
-      ap (image_of_fields order) (l.fields_read order bytes are room) ∙ image-fields_at order bytes 0 widths are (omega arith)
+      ap (image_of_fields order) (l.fields_read order bytes are room)
+      ∙ image-fields_at order bytes 0 widths are (omega arith)
 
   -- a layout of some bytes makes records
-  pub layout_laws : 0 < total widths → IsRecord (total widths) (read order) (λ x. image_of_fields order (fields x)) low Fits
+  pub layout_laws : 0 < total widths
+      → IsRecord (total widths) (read order) (λ x. image_of_fields order (fields x)) low Fits
   layout_laws some = record {
     size_positive = some;
     length_image = length-image;
@@ -54,7 +62,12 @@ module _ {R : Type 0} {widths : List ℕ} {read : Endian → List ℕ → R} {fi
   }
 
 -- records that are read and written as other ones: `widen` makes what was read, `narrow` what is written
-pub converted_laws : {A B : Type 0} {size : ℕ} {read : List ℕ → A} {image : A → List ℕ} {low : A → A} {Fits : A → Type 0} (widen : A → B) (narrow : B → A) (BothFit : B → Type 0) → IsRecord size read image low Fits → ((x : B) → BothFit x → Fits (narrow x) × (widen (narrow x) ≡ x)) → ((bytes : List ℕ) → IsBytes bytes → size ≤ length bytes → narrow (widen (read bytes)) ≡ read bytes) → IsRecord size (λ bytes. widen (read bytes)) (λ x. image (narrow x)) (λ x. widen (low (narrow x))) BothFit
+pub converted_laws : {A B : Type 0} {size : ℕ} {read : List ℕ → A} {image : A → List ℕ} {low : A → A}
+    {Fits : A → Type 0}
+    (widen : A → B) (narrow : B → A) (BothFit : B → Type 0)
+    → IsRecord size read image low Fits → ((x : B) → BothFit x → Fits (narrow x) × (widen (narrow x) ≡ x))
+    → ((bytes : List ℕ) → IsBytes bytes → size ≤ length bytes → narrow (widen (read bytes)) ≡ read bytes)
+    → IsRecord size (λ bytes. widen (read bytes)) (λ x. image (narrow x)) (λ x. widen (low (narrow x))) BothFit
 converted_laws {size = size} {image = image} widen narrow BothFit laws there back = record {
   size_positive = laws.size_positive;
   length_image = λ x. laws.length_image (narrow x);
@@ -65,7 +78,8 @@ converted_laws {size = size} {image = image} widen narrow BothFit laws there bac
   writes_back = λ bytes are room. ap image (back bytes are room) ∙ laws.writes_back bytes are room;
 }
 
-module _ {R : Type 0} {size : ℕ} {read : List ℕ → R} {image : R → List ℕ} {low : R → R} {Fits : R → Type 0} (laws : IsRecord size read image low Fits) where
+module _ {R : Type 0} {size : ℕ} {read : List ℕ → R} {image : R → List ℕ} {low : R → R} {Fits : R → Type 0}
+    (laws : IsRecord size read image low Fits) where
   -- records whose writing leaves their image obey all laws
   pub obeys : Obeys size read image Fits (λ x. Writes size (image x))
   obeys = record { low = low; is_record = laws; writes_image = λ x old new answer so. so }
@@ -88,10 +102,15 @@ module _ {R : Type 0} {size : ℕ} {read : List ℕ → R} {image : R → List �
   )
 
 -- what fits both classes is the same in each
-pub same_in_each_class : {R : Type 0} {size : Container → ℕ} {read : Container → Endian → List ℕ → R} {image : Container → Endian → R → List ℕ} {low : Container → R → R} {Fits : Container → R → Type 0} → ((class : Container) (order : Endian) → IsRecord (size class) (read class order) (image class order) (low class) (Fits class)) → IsSameInEachClass size read image Fits
+pub same_in_each_class : {R : Type 0} {size : Container → ℕ} {read : Container → Endian → List ℕ → R}
+    {image : Container → Endian → R → List ℕ} {low : Container → R → R} {Fits : Container → R → Type 0}
+    → ((class : Container) (order : Endian)
+    → IsRecord (size class) (read class order) (image class order) (low class) (Fits class))
+    → IsSameInEachClass size read image Fits
 same_in_each_class {size = size} {read = read} {image = image} {Fits = Fits} laws Little order all fits32 fits64 =
     let is = laws Little order in
-    records-flat_map (size Little) (read Little order) (image Little order) (Fits Little) is.length_image is.reads_back all fits32
+    records-flat_map (size Little) (read Little order) (image Little order)
+    (Fits Little) is.length_image is.reads_back all fits32
 same_in_each_class {size = size} {read = read} {image = image} {Fits = Fits} laws Big order all fits32 fits64 =
     let is = laws Big order in
     records-flat_map (size Big) (read Big order) (image Big order) (Fits Big) is.length_image is.reads_back all fits64

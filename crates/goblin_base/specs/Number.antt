@@ -1,5 +1,6 @@
 -- The numbers that bytes stand for (System V gABI, "Data Encoding"). A byte is a number below 256.
-use Rattle.std.specs.Prelude.{◌≡◌, ◌<◌, ◌+◌, ◌*◌, ◌/◌, ◌%◌, ◌^◌, ℕ, zero, suc, List, [], ◌∷◌, length, reverse, slice_index, take, drop}
+use Rattle.std.specs.Prelude.{◌≡◌, ◌<◌, ◌+◌, ◌*◌, ◌/◌, ◌%◌, ◌^◌, ℕ, zero, suc, List, [], ◌∷◌, length, reverse}
+use Rattle.std.specs.Prelude.{slice_index, take, drop}
 use Rattle.goblin_base.specs.declared.container.Endian.{Endian}
 use Rattle.goblin_base.specs.declared.container.Endian.TheVariants.{Little, Big}
 
@@ -37,7 +38,8 @@ ReadsSpelling = (order : Endian) (width x : ℕ) → x < 256 ^ width → number 
 
 -- bytes are the only ones of their width that stand for their number
 abbrev pub SpellsBack : Type 0
-SpellsBack = (order : Endian) (bytes : List ℕ) → IsBytes bytes → spelled order (length bytes) (number order bytes) ≡ bytes
+SpellsBack =
+    (order : Endian) (bytes : List ℕ) → IsBytes bytes → spelled order (length bytes) (number order bytes) ≡ bytes
 
 -- any number is spelled by so many bytes
 abbrev pub SpellsWidth : Type 0

@@ -1,5 +1,6 @@
 -- Laws of the numbers that bytes stand for: each number of a width has one spelling.
-use Rattle.std.proofs.Common.{◌≡◌, ◌<◌, ◌≤◌, ◌+◌, ◌-◌, ◌*◌, ◌/◌, ◌%◌, ◌^◌, ℕ, zero, suc, List, [], ◌∷◌, ◌++◌, length, reverse, inl, inr, refl, sym, ap, ◌∙◌, add-one, arith}
+use Rattle.std.proofs.Common.{◌≡◌, ◌<◌, ◌≤◌, ◌+◌, ◌-◌, ◌*◌, ◌/◌, ◌%◌, ◌^◌, ℕ, zero, suc, List, [], ◌∷◌, ◌++◌, length}
+use Rattle.std.proofs.Common.{reverse, inl, inr, refl, sym, ap, ◌∙◌, add-one, arith}
 use Rattle.std.proofs.Math.Nat.{mod-lt, pow-suc, one-le-pow}
 use Rattle.std.proofs.lemmas.Bool.{cases_lt}
 use Rattle.std.proofs.lemmas.List.{length-reverse, reverse-reverse, get_or-reverse, get_or_past}
@@ -21,7 +22,8 @@ pub weighted_sum-cons : (byte : ℕ) (bytes : List ℕ) → weighted_sum 0 (byte
 weighted_sum-cons byte bytes = let rest = weighted_sum-next 0 bytes in omega (arith, rest)
 
 -- the sum with one byte more at the end
-pub weighted_sum-last : (bytes : List ℕ) (byte : ℕ) → weighted_sum 0 (bytes ++ byte ∷ []) ≡ weighted_sum 0 bytes + byte * 256 ^ length bytes
+pub weighted_sum-last : (bytes : List ℕ) (byte : ℕ)
+    → weighted_sum 0 (bytes ++ byte ∷ []) ≡ weighted_sum 0 bytes + byte * 256 ^ length bytes
 weighted_sum-last [] byte = omega arith
 weighted_sum-last (first ∷ bytes) byte =
     let rest = weighted_sum-last bytes byte in
@@ -65,7 +67,8 @@ IsBytes-reverse : (bytes : List ℕ) → IsBytes bytes → IsBytes (reverse byte
 IsBytes-reverse bytes h i =
     elim (cases_lt i (length bytes)) [
       | inl p ↦ rw (get_or-reverse bytes i 0) (h (length bytes - 1 - i))
-      | inr p ↦ let q : length (reverse bytes) ≤ i = omega (arith, length-reverse bytes) in rw (get_or_past (reverse bytes) i 0) (omega arith)
+      | inr p ↦ let q : length (reverse bytes) ≤ i = omega (arith, length-reverse bytes) in
+          rw (get_or_past (reverse bytes) i 0) (omega arith)
     ]
 
 -- the digits of a number are bytes
@@ -105,7 +108,8 @@ number-spelled Little n x h = weighted_sum-digits n x h
 number-spelled Big n x h = ap (weighted_sum 0) (reverse-reverse (digits n x)) ∙ weighted_sum-digits n x h
 
 -- what is read is spelled by the bytes that were read
-pub spelled-number : (order : Endian) (bytes : List ℕ) → IsBytes bytes → spelled order (length bytes) (number order bytes) ≡ bytes
+pub spelled-number : (order : Endian) (bytes : List ℕ)
+    → IsBytes bytes → spelled order (length bytes) (number order bytes) ≡ bytes
 unfolding number spelled
 spelled-number Little bytes h = digits-weighted_sum bytes h
 spelled-number Big bytes h =
@@ -118,7 +122,8 @@ digits-mod zero x = refl
 digits-mod (suc n) x =
     let positive : 0 < 256 ^ n = omega (arith, one-le-pow n 256 (omega arith)) in
     let power : 256 ^ suc n ≡ 256 ^ n * 256 = omega (arith, pow-suc 256 n) in
-    let split : x % 256 ^ suc n ≡ (x / 256 % 256 ^ n) * 256 + x % 256 = ap (λ (m : ℕ). x % m) power ∙ mod-mul x positive (omega arith) in
+    let split : x % 256 ^ suc n ≡ (x / 256 % 256 ^ n) * 256 + x % 256 =
+    ap (λ (m : ℕ). x % m) power ∙ mod-mul x positive (omega arith) in
     let low : x % 256 ^ suc n % 256 ≡ x % 256 = omega (arith, split) in
     let high : x % 256 ^ suc n / 256 ≡ x / 256 % 256 ^ n = omega (arith, split) in
     rw (low, high, digits-mod n (x / 256)) refl

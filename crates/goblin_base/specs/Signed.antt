@@ -1,6 +1,7 @@
 -- The signed numbers that bytes stand for: two's complement (System V gABI, "Data Representation": Elf32_Sword and
 -- Elf64_Sxword).
-use Rattle.std.specs.Prelude.{◌≡◌, ◌<◌, ◌≤◌, ◌+◌, ◌*◌, ◌-◌, ◌%◌, ◌^◌, ◌-ℤ◌, ℕ, ℤ, pos, negsuc, nat_lt, if◌then◌else◌, List, length, take, drop}
+use Rattle.std.specs.Prelude.{◌≡◌, ◌<◌, ◌≤◌, ◌+◌, ◌*◌, ◌-◌, ◌%◌, ◌^◌, ◌-ℤ◌, ℕ, ℤ, pos, negsuc, nat_lt, if◌then◌else◌}
+use Rattle.std.specs.Prelude.{List, length, take, drop}
 use Rattle.goblin_base.specs.declared.container.Endian.{Endian}
 use Rattle.goblin_base.specs.Number.{IsBytes, number, number_at, spelled}
 use Rattle.goblin_base.specs.Place.{with_number}
@@ -35,11 +36,15 @@ FitsSigned width (negsuc x) = 2 * (x + 1) ≤ 256 ^ width
 
 -- a signed number that fits a width is what its bytes stand for
 abbrev pub ReadsSigned : Type 0
-ReadsSigned = (order : Endian) (width : ℕ) (z : ℤ) → FitsSigned width z → signed_number order (spelled order width (complement width z)) ≡ z
+ReadsSigned =
+    (order : Endian) (width : ℕ) (z : ℤ)
+    → FitsSigned width z → signed_number order (spelled order width (complement width z)) ≡ z
 
 -- bytes are the only ones of their width that stand for their signed number
 abbrev pub SpellsSigned : Type 0
-SpellsSigned = (order : Endian) (bytes : List ℕ) → IsBytes bytes → spelled order (length bytes) (complement (length bytes) (signed_number order bytes)) ≡ bytes
+SpellsSigned =
+    (order : Endian) (bytes : List ℕ)
+    → IsBytes bytes → spelled order (length bytes) (complement (length bytes) (signed_number order bytes)) ≡ bytes
 
 -- the signed number at a place is the one that the slice there stands for
 abbrev pub IsSignedSlice : Type 0

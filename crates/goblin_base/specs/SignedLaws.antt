@@ -1,5 +1,6 @@
 -- Laws of signed numbers: each that fits a width has one spelling in two's complement.
-use Rattle.std.proofs.Common.{◌≡◌, ◌<◌, ◌≤◌, ◌+◌, ◌*◌, ◌-◌, ◌%◌, ◌^◌, ℕ, List, length, take, drop, inl, inr, sym, ap, ◌∙◌, arith}
+use Rattle.std.proofs.Common.{◌≡◌, ◌<◌, ◌≤◌, ◌+◌, ◌*◌, ◌-◌, ◌%◌, ◌^◌, ℕ, List, length, take, drop, inl, inr, sym, ap}
+use Rattle.std.proofs.Common.{◌∙◌, arith}
 use Rattle.std.specs.Prelude.{ℤ, pos, negsuc}
 use Rattle.std.proofs.Math.Nat.{one-le-pow, mod-lt, mod-eq_of_lt}
 use Rattle.std.proofs.lemmas.Bool.{cases_lt}
@@ -10,7 +11,8 @@ use Rattle.goblin_base.specs.declared.container.Endian.{Endian}
 use Rattle.goblin_base.specs.Number.{IsBytes, number, number_at, spelled}
 use Rattle.goblin_base.specs.FieldLaws.{number_at-with_number, number_at-lt}
 use Rattle.goblin_base.specs.NumberLaws.{length-spelled, number-spelled, spelled-number, number-lt}
-use Rattle.goblin_base.specs.Signed.{signed_of, signed_number_at, complement, FitsSigned, ReadsSigned, SpellsSigned, IsSignedSlice, ReadsSignedThere}
+use Rattle.goblin_base.specs.Signed.{signed_of, signed_number_at, complement, FitsSigned, ReadsSigned, SpellsSigned}
+use Rattle.goblin_base.specs.Signed.{IsSignedSlice, ReadsSignedThere}
 
 -- two's complement there and back
 pub signed_of-complement : (width : ℕ) (z : ℤ) → FitsSigned width z → signed_of width (complement width z) ≡ z
@@ -34,7 +36,8 @@ complement-mod width z = mod-eq_of_lt (complement-lt width z)
 pub complement-signed_of : (width x : ℕ) → x < 256 ^ width → complement width (signed_of width x) ≡ x
 complement-signed_of width x h =
     elim (cases_lt (2 * x) (256 ^ width)) [
-      | inl p ↦ let low : signed_of width x ≡ pos x = grind (arith, nat_tests) in ap (complement width) low ∙ mod-eq_of_lt h
+      | inl p ↦ let low : signed_of width x ≡ pos x = grind (arith, nat_tests) in
+          ap (complement width) low ∙ mod-eq_of_lt h
       | inr p ↦
           let high : signed_of width x ≡ negsuc (256 ^ width - 1 - x) = grind (arith, nat_tests, ints) in
           let rest : (256 ^ width - 1 - x) % 256 ^ width ≡ 256 ^ width - 1 - x = mod-eq_of_lt (omega arith) in
@@ -52,18 +55,22 @@ signed_number-spelled order width z fits =
 -- what is read is spelled by the bytes that were read
 pub spelled-signed_number : SpellsSigned
 spelled-signed_number order bytes are =
-    ap (spelled order (length bytes)) (complement-signed_of (length bytes) (number order bytes) (number-lt order bytes are))
+    ap (spelled order (length bytes))
+    (complement-signed_of (length bytes) (number order bytes) (number-lt order bytes are))
     ∙ spelled-number order bytes are
 
 -- the number of the signed number that stands at a place is the one that stands there
-pub complement-signed_number_at : (order : Endian) (bytes : List ℕ) (place width : ℕ) → IsBytes bytes → place + width ≤ length bytes → complement width (signed_number_at order bytes place width) ≡ number_at order bytes place width
+pub complement-signed_number_at : (order : Endian) (bytes : List ℕ) (place width : ℕ)
+    → IsBytes bytes → place + width ≤ length bytes
+    → complement width (signed_number_at order bytes place width) ≡ number_at order bytes place width
 complement-signed_number_at order bytes place width are room =
     complement-signed_of width (number_at order bytes place width) (number_at-lt order bytes place width are room)
 
 -- a slice that is there has its length
 pub signed_number_at-is : IsSignedSlice
 signed_number_at-is order bytes place width room =
-    ap (λ (w : ℕ). signed_of w (number order (take width (drop place bytes)))) (sym (length-take-le width (drop place bytes) (omega (arith, length-drop place bytes))))
+    ap (λ (w : ℕ). signed_of w (number order (take width (drop place bytes))))
+    (sym (length-take-le width (drop place bytes) (omega (arith, length-drop place bytes))))
 
 -- what was put in range is read back
 pub signed_number_at-with_number : ReadsSignedThere

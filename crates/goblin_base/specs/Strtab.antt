@@ -1,5 +1,6 @@
 -- A string table: which bytes it has, and what its calls answer (System V gABI, "String Table").
-use Rattle.std.specs.Prelude.{◌≡◌, ℕ, ◌+◌, ◌-◌, ◌^◌, ◌&&◌, Bool, true, false, List, [], map, length, take, drop, nat_lt, nat_le, if◌then◌else◌, Option, None, Result, Ok, Err}
+use Rattle.std.specs.Prelude.{◌≡◌, ℕ, ◌+◌, ◌-◌, ◌^◌, ◌&&◌, Bool, true, false, List, [], map, length, take, drop, nat_lt}
+use Rattle.std.specs.Prelude.{nat_le, if◌then◌else◌, Option, None, Result, Ok, Err}
 use Rattle.std.specs.Str.{bytes_eq}
 use Rattle.goblin_base.specs.declared.error.Error.{Error}
 use Rattle.goblin_base.specs.declared.error.Fault.{Fault}
@@ -27,7 +28,8 @@ abbrev pub or_cut : ParseMode → Fault → List ℕ → Result (List ℕ) Fault
 or_cut Strict fault bytes = Err fault
 or_cut Permissive fault bytes = Ok bytes
 
--- the bytes of a table whose `size` bytes are asked for at an offset of the file; permissive mode shortens them to the file
+-- the bytes of a table whose `size` bytes are asked for at an offset of the file; permissive mode shortens them to the
+-- file
 unfoldable pub range_in : ParseMode → List ℕ → ℕ → ℕ → Result (List ℕ) Fault
 range_in mode file offset size =
     if nat_lt (length file) offset then or_cut mode (StrtabOffset offset (length file)) []
@@ -84,4 +86,5 @@ texts_of (Err e) = Err e
 
 -- the strings of a table: of its entries, or where it was not parsed of a strict walk
 abbrev pub strings_of : StringTable → Result (List (List ℕ)) Refusal
-strings_of table = texts_of (if table.is_parsed then Ok (entries table.bytes table.delim) else walked Strict table.bytes table.delim)
+strings_of table =
+    texts_of (if table.is_parsed then Ok (entries table.bytes table.delim) else walked Strict table.bytes table.delim)

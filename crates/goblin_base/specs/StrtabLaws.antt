@@ -1,5 +1,6 @@
 -- Laws of string tables, over their definitions alone.
-use Rattle.std.specs.Prelude.{◌≡◌, ◌↔◌, ℕ, ◌-◌, ◌^◌, ◌<◌, ◌≤◌, ◌==◌, ◌&&◌, Bool, true, List, [], ◌∷◌, ◌++◌, map, length, take, drop, nat_lt, slice_index, if◌then◌else◌, IsTrue, IsOk, Some, Ok, unwrap_or}
+use Rattle.std.specs.Prelude.{◌≡◌, ◌↔◌, ℕ, ◌-◌, ◌^◌, ◌<◌, ◌≤◌, ◌==◌, ◌&&◌, Bool, true, List, [], ◌∷◌, ◌++◌, map, length}
+use Rattle.std.specs.Prelude.{take, drop, nat_lt, slice_index, if◌then◌else◌, IsTrue, IsOk, Some, Ok, unwrap_or}
 use Rattle.std.specs.List.{join_with_byte}
 use Rattle.std.specs.Result.{result_ok}
 use Rattle.std.specs.Str.{IsUtf8, is_utf8}
@@ -64,8 +65,8 @@ TextIsTaken = (mode : ParseMode) (file : List ℕ) (offset size delim : ℕ) (ra
     → delim < 128 → range_in mode file offset size ≡ Ok range → IsUtf8 range
     → strtab_of mode file offset size delim ≡ Ok (record { bytes = range; delim = delim; is_parsed = true })
 
--- in a parsed table the text at an offset, or an empty one where there is none, is that of the plain reading, whether the
--- bytes are text or not
+-- in a parsed table the text at an offset, or an empty one where there is none, is that of the plain reading, whether
+-- the bytes are text or not
 abbrev pub NamesArePlain : Type 0
 NamesArePlain = (table : StringTable) (offset : ℕ) → table.is_parsed ≡ true → offset < length table.bytes
     → unwrap_or (look_up table offset) [] ≡ unwrap_or (result_ok (plain table.bytes table.delim offset)) []

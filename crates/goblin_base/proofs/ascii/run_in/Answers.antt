@@ -9,4 +9,5 @@ returns c =
     let v = chunk c.args.at 16 c.args.bytes.now in
     let long = length-chunk c.args.at 16 c.args.bytes.now c.requires in
     run_is c.args.delim v _ c.lowest_set.result long
-    (zip2_of_maps _ _ _ v (zip2_splat _ v 16 c.args.delim long) (zip2_splat_left (λ (a b : ℕ). cond (leb a b) 255 0) 128 16 v long)) c.lowest_set.ensures
+    (zip2_of_maps _ _ _ v (zip2_splat _ v 16 c.args.delim long)
+    (zip2_splat_left (λ (a b : ℕ). cond (leb a b) 255 0) 128 16 v long)) c.lowest_set.ensures

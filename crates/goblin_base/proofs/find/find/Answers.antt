@@ -5,11 +5,15 @@ use Rattle.goblin_base.proofs.DigitsLemmas.{digits_step, digits_step_back}
 use Rattle.goblin_base.proofs.find.find.Goals as goal
 
 -- what is known of the place in the middle holds of all places on that side
-to_the_left : (ps : List ℕ) (m o : ℕ) → IsRising ps → m < length ps → slice_index ps m ≤ o → (k : ℕ) → k < m + 1 → slice_index ps k ≤ o
-to_the_left ps m o rising within here k h = ⊎_elim (λ (l : k < m). omega (arith, rising k m l within)) (λ (l : m ≤ k). grind arith) (cases_lt k m)
+to_the_left : (ps : List ℕ) (m o : ℕ)
+    → IsRising ps → m < length ps → slice_index ps m ≤ o → (k : ℕ) → k < m + 1 → slice_index ps k ≤ o
+to_the_left ps m o rising within here k h =
+    ⊎_elim (λ (l : k < m). omega (arith, rising k m l within)) (λ (l : m ≤ k). grind arith) (cases_lt k m)
 
-to_the_right : (ps : List ℕ) (m o : ℕ) → IsRising ps → o < slice_index ps m → (k : ℕ) → m ≤ k → k < length ps → o < slice_index ps k
-to_the_right ps m o rising here k h within = ⊎_elim (λ (l : m < k). omega (arith, rising m k l within)) (λ (l : k ≤ m). grind arith) (cases_lt m k)
+to_the_right : (ps : List ℕ) (m o : ℕ)
+    → IsRising ps → o < slice_index ps m → (k : ℕ) → m ≤ k → k < length ps → o < slice_index ps k
+to_the_right ps m o rising here k h within =
+    ⊎_elim (λ (l : m < k). omega (arith, rising m k l within)) (λ (l : k ≤ m). grind arith) (cases_lt m k)
 
 pub loop-size-preserved-then-at-offset : goal.loop-size-preserved-then-at-offset
 loop-size-preserved-then-at-offset c =
@@ -18,7 +22,8 @@ loop-size-preserved-then-at-offset c =
     let m = s.low + s.size / 2 in
     let left = s.size - (s.size / 2 + 1) in
     let n = ap (λ v. v.count) c.at.ensures.counted in
-    let here : slice_index ps m ≤ c.args.offset = omega (arith, c.at.ensures.value, ap (λ l. slice_index l m) s.invariant.same, c.if-at-offset.true) in
+    let here : slice_index ps m ≤ c.args.offset =
+    omega (arith, c.at.ensures.value, ap (λ l. slice_index l m) s.invariant.same, c.if-at-offset.true) in
     record {
       same = c.at.ensures.unchanged ∙ s.invariant.same;
       within = omega arith;
@@ -35,7 +40,8 @@ loop-size-preserved c =
     let ps = c.args.view.now.places in
     let m = s.low + s.size / 2 in
     let n = ap (λ v. v.count) c.at.ensures.counted in
-    let here : c.args.offset < slice_index ps m = omega (arith, c.at.ensures.value, ap (λ l. slice_index l m) s.invariant.same, c.if-at-offset.false) in
+    let here : c.args.offset < slice_index ps m =
+    omega (arith, c.at.ensures.value, ap (λ l. slice_index l m) s.invariant.same, c.if-at-offset.false) in
     record {
       same = c.at.ensures.unchanged ∙ s.invariant.same;
       within = omega arith;

@@ -10,7 +10,8 @@ invariant-loop-size l = record {
   after : (k : ℕ) → l.low + l.size ≤ k → k < length l.fn.view.places → l.offset < slice_index l.fn.view.places k;
   rising : l.fn.view.count ≤ l.view.count;
   most : l.view.count + digits l.size ≤ l.fn.view.count + digits (length l.fn.view.places);
-  least : min (l.fn.view.count + digits (length l.fn.view.places + 1)) (2 ^ 64 - 1) ≤ l.view.count + digits (l.size + 1);
+  least : min (l.fn.view.count + digits (length l.fn.view.places + 1)) (2 ^ 64 - 1)
+      ≤ l.view.count + digits (l.size + 1);
 }
 
 abbrev pub decreases-loop-size : goal.decreases-loop-size

@@ -4,4 +4,5 @@ use Rattle.goblin_base.proofs.names.name_of.Given as goal
 
 -- the name is the one that the rows not yet seen have
 abbrev pub invariant-loop-value : goal.invariant-loop-value
-invariant-loop-value l = name_in (rows (drop l.value-index l.table)) l.other l.number ≡ name_in (rows l.table) l.other l.number
+invariant-loop-value l =
+    name_in (rows (drop l.value-index l.table)) l.other l.number ≡ name_in (rows l.table) l.other l.number

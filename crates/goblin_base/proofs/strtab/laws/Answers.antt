@@ -1,5 +1,7 @@
 use Rattle.goblin_base.proofs.DigitsLemmas.{digits_count}
-use Rattle.goblin_base.proofs.LawLemmas.{text_is_utf8, closed_form, joins_again, permissive_accepts, strict_is_permissive, look_up_has_plain, strict_look_up_is_plain, depends_on_range}
+use Rattle.goblin_base.proofs.LawLemmas.{text_is_utf8, closed_form, joins_again, permissive_accepts}
+use Rattle.goblin_base.proofs.LawLemmas.{strict_is_permissive, look_up_has_plain, strict_look_up_is_plain}
+use Rattle.goblin_base.proofs.LawLemmas.{depends_on_range}
 use Rattle.goblin_base.specs.TextLaws.{text_is_taken, names_are_plain}
 use Rattle.goblin_base.proofs.strtab.laws.Goals as goal
 

@@ -6,10 +6,13 @@ use Rattle.goblin_base.proofs.walk.end_of_piece.Goals as goal
 pub returns-then-at-delim-clause-value : goal.returns-then-at-delim-clause-value
 returns-then-at-delim-clause-value c =
     let i = c.loop-end.invariant in
-    let byte : c.at.result ≡ get_or c.args.view.now.bytes c.loop-end.end 0 = c.at.ensures.value ∙ ap (λ bs. slice_index bs c.loop-end.end) i.same in
-    sym (end_is c.args.view.now.bytes c.args.delim c.args.from c.loop-end.end i.ordered i.within i.none (λ _. eq-eqb _ _ (sym byte ∙ c.if-at-delim.true)))
+    let byte : c.at.result ≡ get_or c.args.view.now.bytes c.loop-end.end 0 =
+    c.at.ensures.value ∙ ap (λ bs. slice_index bs c.loop-end.end) i.same in
+    sym (end_is c.args.view.now.bytes c.args.delim c.args.from c.loop-end.end i.ordered i.within i.none
+    (λ _. eq-eqb _ _ (sym byte ∙ c.if-at-delim.true)))
 
 pub returns-clause-value : goal.returns-clause-value
 returns-clause-value c =
     let i = c.loop-end.invariant in
-    sym (end_is c.args.view.now.bytes c.args.delim c.args.from c.loop-end.end i.ordered i.within i.none (λ h. absurd (omega (arith, ap length i.same))))
+    sym (end_is c.args.view.now.bytes c.args.delim c.args.from c.loop-end.end i.ordered i.within i.none
+    (λ h. absurd (omega (arith, ap length i.same))))

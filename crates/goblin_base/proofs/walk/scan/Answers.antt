@@ -18,31 +18,44 @@ loop-at-init c = record {
 pub returns-then-byte-delim-clause-found : goal.returns-then-byte-delim-clause-found
 returns-then-byte-delim-clause-found c =
     let i = c.loop-at.invariant in
-    let byte : c.at-byte.result ≡ get_or c.args.view.now.bytes c.loop-at.at 0 = c.at-byte.ensures.value ∙ ap (λ bs. slice_index bs c.loop-at.at) i.same in
-    rw c.ended.ensures (scan_ends c.args.view.now.bytes c.args.delim c.args.from c.loop-at.at c.loop-at.awaited (λ _. eq-eqb _ _ (sym byte ∙ c.if-byte-delim.true)) i.scanned)
+    let byte : c.at-byte.result ≡ get_or c.args.view.now.bytes c.loop-at.at 0 =
+    c.at-byte.ensures.value ∙ ap (λ bs. slice_index bs c.loop-at.at) i.same in
+    rw c.ended.ensures
+    (scan_ends c.args.view.now.bytes c.args.delim c.args.from c.loop-at.at c.loop-at.awaited
+    (λ _. eq-eqb _ _ (sym byte ∙ c.if-byte-delim.true)) i.scanned)
 
 pub returns-in-None-clause-found : goal.returns-in-None-clause-found
 returns-in-None-clause-found c =
     let i = c.loop-at.invariant in
-    let byte : c.at-byte.result ≡ get_or c.args.view.now.bytes c.loop-at.at 0 = c.at-byte.ensures.value ∙ ap (λ bs. slice_index bs c.loop-at.at) i.same in
-    let test : eqb (get_or c.args.view.now.bytes c.loop-at.at 0) c.args.delim ≡ false = ne_eqb _ _ (λ (e : get_or c.args.view.now.bytes c.loop-at.at 0 ≡ c.args.delim). c.if-byte-delim.false (byte ∙ e)) in
+    let byte : c.at-byte.result ≡ get_or c.args.view.now.bytes c.loop-at.at 0 =
+    c.at-byte.ensures.value ∙ ap (λ bs. slice_index bs c.loop-at.at) i.same in
+    let test : eqb (get_or c.args.view.now.bytes c.loop-at.at 0) c.args.delim ≡ false =
+    ne_eqb _ _ (λ (e : get_or c.args.view.now.bytes c.loop-at.at 0 ≡ c.args.delim). c.if-byte-delim.false (byte ∙ e)) in
     subst (λ k. IsScan c.args.view.now.bytes c.args.delim c.args.from (Fault k)) (sym c.max.ensures)
-    (scan_faults c.args.view.now.bytes c.args.delim c.args.from c.loop-at.at c.loop-at.awaited (omega (arith, ap length i.same)) test (ap (after_byte c.loop-at.awaited) (sym byte) ∙ sym c.in-None.ensures) i.scanned)
+    (scan_faults c.args.view.now.bytes c.args.delim c.args.from c.loop-at.at c.loop-at.awaited
+    (omega (arith, ap length i.same)) test
+    (ap (after_byte c.loop-at.awaited) (sym byte) ∙ sym c.in-None.ensures) i.scanned)
 
 pub loop-at-preserved : goal.loop-at-preserved
 loop-at-preserved c =
     let i = c.loop-at.invariant in
-    let byte : c.at-byte.result ≡ get_or c.args.view.now.bytes c.loop-at.at 0 = c.at-byte.ensures.value ∙ ap (λ bs. slice_index bs c.loop-at.at) i.same in
-    let test : eqb (get_or c.args.view.now.bytes c.loop-at.at 0) c.args.delim ≡ false = ne_eqb _ _ (λ (e : get_or c.args.view.now.bytes c.loop-at.at 0 ≡ c.args.delim). c.if-byte-delim.false (byte ∙ e)) in
+    let byte : c.at-byte.result ≡ get_or c.args.view.now.bytes c.loop-at.at 0 =
+    c.at-byte.ensures.value ∙ ap (λ bs. slice_index bs c.loop-at.at) i.same in
+    let test : eqb (get_or c.args.view.now.bytes c.loop-at.at 0) c.args.delim ≡ false =
+    ne_eqb _ _ (λ (e : get_or c.args.view.now.bytes c.loop-at.at 0 ≡ c.args.delim). c.if-byte-delim.false (byte ∙ e)) in
     record {
       same = ap (λ v. v.bytes) c.at-byte.ensures.counted ∙ i.same;
       looks = omega (arith, ap (λ v. v.count) c.at-byte.ensures.counted, i.scanned.from);
       rising = omega (arith, c.at-byte.ensures.rising, i.rising);
       least = omega (arith, ap (λ v. v.count) c.at-byte.ensures.counted, i.scanned.from, i.least);
-      scanned = scan_steps c.args.view.now.bytes c.args.delim c.args.from c.loop-at.at c.loop-at.awaited c.in-Some.next (omega (arith, ap length i.same)) test (ap (after_byte c.loop-at.awaited) (sym byte) ∙ sym c.in-Some.ensures) i.scanned;
+      scanned = scan_steps c.args.view.now.bytes c.args.delim c.args.from c.loop-at.at c.loop-at.awaited c.in-Some.next
+          (omega (arith, ap length i.same)) test
+          (ap (after_byte c.loop-at.awaited) (sym byte) ∙ sym c.in-Some.ensures) i.scanned;
     }
 
 pub returns-clause-found : goal.returns-clause-found
 returns-clause-found c =
     let i = c.loop-at.invariant in
-    rw c.ended-2.ensures (scan_ends c.args.view.now.bytes c.args.delim c.args.from c.loop-at.at c.loop-at.awaited (λ h. absurd (omega (arith, ap length i.same, h))) i.scanned)
+    rw c.ended-2.ensures
+    (scan_ends c.args.view.now.bytes c.args.delim c.args.from c.loop-at.at c.loop-at.awaited
+    (λ h. absurd (omega (arith, ap length i.same, h))) i.scanned)

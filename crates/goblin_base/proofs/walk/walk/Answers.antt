@@ -1,4 +1,5 @@
-use Rattle.std.proofs.Common.{rules, ◌≡◌, ◌+◌, ◌-◌, ◌<◌, ◌≤◌, ℕ, List, true, length, refl, sym, ap, subst, ◌∙◌, Ok, Err, arith}
+use Rattle.std.proofs.Common.{rules, ◌≡◌, ◌+◌, ◌-◌, ◌<◌, ◌≤◌, ℕ, List, true, length, refl, sym, ap, subst, ◌∙◌, Ok, Err}
+use Rattle.std.proofs.Common.{arith}
 use Rattle.std.proofs.lemmas.Bool.{both_ways, false≢true}
 use Rattle.std.specs.Str.{IsUtf8}
 use Rattle.std.specs.List.{slice_range}
@@ -7,11 +8,15 @@ use Rattle.goblin_base.specs.Pieces.{piece_end, is_readable}
 use Rattle.goblin_base.specs.Strtab.{walked}
 use Rattle.goblin_base.specs.Utf8.{invalid_utf8}
 use Rattle.goblin_base.proofs.EntriesLemmas.{walked_none, walked_text}
-use Rattle.goblin_base.proofs.SoFarLemmas.{IsTextSoFar, readable_from_text, bad_from_fault, bad_here, text_so_far_none, text_so_far_more, nothing_passed, walked_fault, walked_all, strict_if_not_permissive, found_all}
+use Rattle.goblin_base.proofs.SoFarLemmas.{IsTextSoFar, readable_from_text, bad_from_fault, bad_here, text_so_far_none}
+use Rattle.goblin_base.proofs.SoFarLemmas.{text_so_far_more, nothing_passed, walked_fault, walked_all}
+use Rattle.goblin_base.proofs.SoFarLemmas.{strict_if_not_permissive, found_all}
 use Rattle.goblin_base.proofs.walk.walk.Goals as goal
 
 -- what a test of the piece at i says, of bytes that were left as they were
-readable_here : (bytes seen then : List ℕ) (d i e : ℕ) → seen ≡ bytes → then ≡ seen → e ≡ piece_end seen d i → IsUtf8 (slice_range then i e) → (e ≡ piece_end bytes d i) × (is_readable bytes d i ≡ true)
+readable_here : (bytes seen then : List ℕ) (d i e : ℕ)
+    → seen ≡ bytes → then ≡ seen → e ≡ piece_end seen d i → IsUtf8 (slice_range then i e)
+    → (e ≡ piece_end bytes d i) × (is_readable bytes d i ≡ true)
 readable_here bytes seen then d i e same unchanged is u =
     let end : e ≡ piece_end bytes d i = is ∙ ap (λ bs. piece_end bs d i) same in
     (end, readable_from_text bytes d i e end (subst (λ bs. IsUtf8 (slice_range bs i e)) (unchanged ∙ same) u))
@@ -31,7 +36,8 @@ pub returns-in_err-push-clause-first : goal.returns-in_err-push-clause-first
 returns-in_err-push-clause-first c = λ m r.
     let s = c.loop-i.invariant in
     let e = c.end_of_piece-end.ensures in
-    let here = readable_here c.args.view.now.bytes _ _ c.args.delim c.loop-i.i _ s.same e.unchanged e.value (c.if-text.ensures.value.0 refl) in
+    let here = readable_here c.args.view.now.bytes _ _ c.args.delim c.loop-i.i _ s.same e.unchanged e.value
+    (c.if-text.ensures.value.0 refl) in
     let none = nothing_passed c.args.view.now.bytes c.args.delim c.loop-i.i r (s.strict m) in
     absurd (both_ways _ r (ap (is_readable c.args.view.now.bytes c.args.delim) (sym none.0) ∙ here.1))
 
@@ -47,11 +53,23 @@ loop-i-preserved-then-text c =
     record {
       same = ap (λ v. v.bytes) c.text.ensures.counted ∙ e.unchanged ∙ s.same;
       within = omega (arith, e.within, ap length s.same);
-      walked = walked_text bytes d _ _ i c.end_of_piece-end.result in_range e.ordered (omega (arith, e.within, ap length s.same)) here.0 here.1 c.in_ok-push.ensures.items s.walked;
-      strict = λ m. subst (λ k. IsTextSoFar bytes d (k + 1)) (sym here.0) (text_so_far_more bytes d i in_range here.1 (s.strict m));
-      looks = omega (arith, ap (λ v. v.count) c.text.ensures.counted, e.looks, e.within, e.ordered, s.looks, ap length s.same);
+      walked = walked_text bytes d _ _ i c.end_of_piece-end.result in_range e.ordered
+          (omega (arith, e.within, ap length s.same)) here.0 here.1 c.in_ok-push.ensures.items s.walked;
+      strict = λ m.
+          subst (λ k. IsTextSoFar bytes d (k + 1)) (sym here.0)
+          (text_so_far_more bytes d i in_range here.1 (s.strict m));
+      looks = omega
+          (arith, ap (λ v. v.count) c.text.ensures.counted, e.looks, e.within, e.ordered, s.looks, ap length s.same);
       rising = omega (arith, c.text.ensures.rising, e.rising, s.rising);
-      least = omega (arith, ap (λ v. v.count) c.text.ensures.counted, e.looks_least, e.within, e.ordered, s.least, ap length s.same);
+      least = omega (
+        arith,
+        ap (λ v. v.count) c.text.ensures.counted,
+        e.looks_least,
+        e.within,
+        e.ordered,
+        s.least,
+        ap length s.same,
+      );
     }
 
 pub returns-else-is_permissive : goal.returns-else-is_permissive
@@ -63,20 +81,35 @@ returns-else-is_permissive c =
     let e = c.end_of_piece-end.ensures in
     let end : c.end_of_piece-end.result ≡ piece_end bytes d i = e.value ∙ ap (λ bs. piece_end bs d i) s.same in
     let text = ap (λ bs. slice_range bs i c.end_of_piece-end.result) (e.unchanged ∙ s.same) in
-    let bad = bad_from_fault bytes d i _ end (λ u. false≢true (c.if-text.ensures.value.1 (subst IsUtf8 (sym text) u))) in
+    let bad = bad_from_fault bytes d i _ end
+    (λ u. false≢true (c.if-text.ensures.value.1 (subst IsUtf8 (sym text) u))) in
     let in_range : i < length bytes = omega (arith, ap length s.same, c.len.ensures.value, c.loop-i-test.true) in
-    let left : c.len-else-is_permissive.result ≡ length bytes = c.len-else-is_permissive.ensures.value ∙ ap length (ap (λ v. v.bytes) c.text.ensures.counted ∙ e.unchanged ∙ s.same) in
+    let left : c.len-else-is_permissive.result ≡ length bytes =
+    c.len-else-is_permissive.ensures.value
+    ∙ ap length (ap (λ v. v.bytes) c.text.ensures.counted ∙ e.unchanged ∙ s.same) in
     let strict = strict_if_not_permissive c.args.mode c.if-is_permissive.ensures.1 in
     let so_far = s.strict strict in
     record {
-      given = λ _. ap (λ m. walked m bytes d) strict ∙ walked_fault bytes d i in_range bad so_far ∙ ap (λ k. Err (invalid_utf8 (k - i))) (sym left) ∙ ap Err (sym c.invalid_utf8.ensures);
+      given = λ _. ap (λ m. walked m bytes d) strict
+          ∙ walked_fault bytes d i in_range bad so_far
+          ∙ ap (λ k. Err (invalid_utf8 (k - i))) (sym left)
+          ∙ ap Err (sym c.invalid_utf8.ensures);
       unchanged = search rules;
       looks = search rules;
       rising = search rules;
       looks_least = search rules;
       looks_least_refused = λ _.
           let here = ap (piece_end bytes d) (bad_here bytes d i in_range bad so_far) ∙ sym end in
-          omega (arith, here, ap (λ v. v.count) c.text.ensures.counted, e.looks_least, e.within, e.ordered, s.least, ap length s.same);
+          omega (
+            arith,
+            here,
+            ap (λ v. v.count) c.text.ensures.counted,
+            e.looks_least,
+            e.within,
+            e.ordered,
+            s.least,
+            ap length s.same,
+          );
       first = λ m r.
           let none = nothing_passed bytes d i r so_far in
           c.invalid_utf8.ensures ∙ ap invalid_utf8 (omega (arith, left, none.0));
@@ -86,12 +119,18 @@ returns-else-is_permissive c =
 pub returns-clause-given : goal.returns-clause-given
 returns-clause-given c =
     let i = c.loop-i.invariant in
-    let past : length c.args.view.now.bytes ≤ c.loop-i.i = omega (arith, ap length i.same, c.len.ensures.value, c.loop-i-test.false) in
-    walked_all c.args.view.now.bytes c.args.delim c.args.mode c.loop-i.i past i.strict ∙ ap Ok (sym (c.entries.ensures ∙ ap (λ bs. entries_between bs c.loop-i.places.items c.loop-i.i) i.same ∙ found_all c.args.view.now.bytes c.args.delim _ c.loop-i.i past i.walked.found))
+    let past : length c.args.view.now.bytes ≤ c.loop-i.i =
+    omega (arith, ap length i.same, c.len.ensures.value, c.loop-i-test.false) in
+    walked_all c.args.view.now.bytes c.args.delim c.args.mode c.loop-i.i past i.strict
+    ∙ ap Ok (sym
+    (c.entries.ensures
+    ∙ ap (λ bs. entries_between bs c.loop-i.places.items c.loop-i.i) i.same
+    ∙ found_all c.args.view.now.bytes c.args.delim _ c.loop-i.i past i.walked.found))
 
 pub returns-clause-first : goal.returns-clause-first
 returns-clause-first c = λ m r.
     let i = c.loop-i.invariant in
-    let past : length c.args.view.now.bytes ≤ c.loop-i.i = omega (arith, ap length i.same, c.len.ensures.value, c.loop-i-test.false) in
+    let past : length c.args.view.now.bytes ≤ c.loop-i.i =
+    omega (arith, ap length i.same, c.len.ensures.value, c.loop-i-test.false) in
     let none = nothing_passed c.args.view.now.bytes c.args.delim c.loop-i.i r (i.strict m) in
     absurd (omega (arith, none.0, none.1))

@@ -9,9 +9,12 @@ pub returns-in-Whole-clause-walked : goal.returns-in-Whole-clause-walked
 returns-in-Whole-clause-walked c =
     let s = c.loop-i.invariant in
     let found = c.in-Whole.ensures.found in
-    let end : c.in-Whole.end ≡ piece_end c.args.view.now.bytes c.args.delim c.loop-i.i = found.1 ∙ ap (λ bs. piece_end bs c.args.delim c.loop-i.i) s.same in
+    let end : c.in-Whole.end ≡ piece_end c.args.view.now.bytes c.args.delim c.loop-i.i =
+    found.1 ∙ ap (λ bs. piece_end bs c.args.delim c.loop-i.i) s.same in
     let text = ap (λ bs. is_readable bs c.args.delim c.loop-i.i) (sym s.same) ∙ found.0 in
-    walked_text c.args.view.now.bytes c.args.delim _ _ c.loop-i.i c.in-Whole.end (omega (arith, c.requires.within)) found.2 (omega (arith, end, s.ends, c.requires.within)) end text c.in_ok-push-in-Whole.ensures.items s.walked
+    walked_text c.args.view.now.bytes c.args.delim _ _ c.loop-i.i c.in-Whole.end
+    (omega (arith, c.requires.within)) found.2
+    (omega (arith, end, s.ends, c.requires.within)) end text c.in_ok-push-in-Whole.ensures.items s.walked
 
 pub returns-in_err-push-in-Fault-clause-looks : goal.returns-in_err-push-in-Fault-clause-looks
 returns-in_err-push-in-Fault-clause-looks c =
@@ -23,7 +26,8 @@ pub loop-place-preserved : goal.loop-place-preserved
 loop-place-preserved c =
     let s = c.loop-i.invariant in
     let found = attempt_fault _ _ _ _ _ _ s.same s.ends s.within c.requires.within c.in-Fault.ensures.found in
-    walked_empty c.args.view.now.bytes c.args.delim _ _ c.loop-place.place (omega (arith, found.2, c.requires.within)) (found.0 c.loop-place.place (omega arith) (omega arith)) c.in_ok-push-in-Fault.ensures.items c.loop-place.invariant
+    walked_empty c.args.view.now.bytes c.args.delim _ _ c.loop-place.place (omega (arith, found.2, c.requires.within))
+    (found.0 c.loop-place.place (omega arith) (omega arith)) c.in_ok-push-in-Fault.ensures.items c.loop-place.invariant
 
 pub loop-i-preserved : goal.loop-i-preserved
 loop-i-preserved c =

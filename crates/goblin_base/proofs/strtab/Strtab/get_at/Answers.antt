@@ -7,12 +7,17 @@ pub returns-in_err-k : goal.returns-in_err-k
 returns-in_err-k c =
     let s = c.self.inside in
     let found = c.in_ok-entries.ensures in
-    let walked : c.in_ok-entries.entries.now ≡ entries s.bytes.now s.delim = subst (λ o. IfSome o (λ es. es ≡ entries s.bytes.now s.delim)) (sym found.value) c.self.invariant in
-    absurd (look_up_some s.bytes.now s.delim _ c.args.self.now _ c.args.offset c.self.view_is (sym found.variant) walked (omega arith) c.in_err-k.ensures)
+    let walked : c.in_ok-entries.entries.now ≡ entries s.bytes.now s.delim =
+    subst (λ o. IfSome o (λ es. es ≡ entries s.bytes.now s.delim)) (sym found.value) c.self.invariant in
+    absurd (look_up_some s.bytes.now s.delim _ c.args.self.now _ c.args.offset c.self.view_is (sym found.variant) walked
+    (omega arith) c.in_err-k.ensures)
 
 pub returns : goal.returns
 returns c =
     let s = c.self.inside in
     let found = c.in_ok-entries.ensures in
-    let walked : c.in_ok-entries.entries.now ≡ entries s.bytes.now s.delim = subst (λ o. IfSome o (λ es. es ≡ entries s.bytes.now s.delim)) (sym found.value) c.self.invariant in
-    look_up_among s.bytes.now s.delim _ c.args.self.now _ c.args.offset c.self.view_is (sym found.variant) walked (omega arith) c.in_ok-k.k c.in_ok-k.place c.text.result.now c.rest_of.result c.in_ok-k.ensures c.text.ensures c.rest_of.ensures
+    let walked : c.in_ok-entries.entries.now ≡ entries s.bytes.now s.delim =
+    subst (λ o. IfSome o (λ es. es ≡ entries s.bytes.now s.delim)) (sym found.value) c.self.invariant in
+    look_up_among s.bytes.now s.delim _ c.args.self.now _ c.args.offset c.self.view_is (sym found.variant) walked
+    (omega arith) c.in_ok-k.k c.in_ok-k.place c.text.result.now c.rest_of.result c.in_ok-k.ensures c.text.ensures
+    c.rest_of.ensures
