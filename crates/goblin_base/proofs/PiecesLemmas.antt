@@ -6,6 +6,7 @@ use Rattle.std.proofs.lemmas.List.{get_or-drop, get_or-take, length-drop, length
 use Rattle.std.proofs.lemmas.List.Sums.{prefix_len-le-length, fails_before_first, passes_at_first, position_or_len_is}
 use Rattle.std.specs.List.{slice_range, position_or_len}
 use Rattle.goblin_base.specs.Pieces.{piece_end, piece, piece_start}
+pub use Rattle.goblin_base.specs.TextLaws.{start_to}
 
 abbrev is_delim : ℕ → ℕ → Bool
 is_delim d b = eqb b d
@@ -89,15 +90,6 @@ module _ (bytes : List ℕ) (d : ℕ) where
       ∙ ap (λ xs. get_or bytes o 0 ∷ xs) (sym (piece_is_range (o + 1)))
 
   -- ---- where a whole piece begins
-  pub start_to : (o : ℕ) → piece_start bytes d o ≤ o
-  unfolding piece_start
-  start_to zero = omega arith
-  start_to (suc o) =
-      elim (eqb (get_or bytes o 0) d) as (λ b. cond b (suc o) (piece_start bytes d o) ≤ suc o) [
-        | true ↦ omega arith
-        | false ↦ omega (arith, start_to o)
-      ]
-
   pub start_after_delim : (o : ℕ) → eqb (get_or bytes o 0) d ≡ true → piece_start bytes d (suc o) ≡ suc o
   unfolding piece_start
   start_after_delim o h = cond-true _ _ _ h
@@ -139,7 +131,7 @@ module _ (bytes : List ℕ) (d : ℕ) where
   pub delim_before : (o : ℕ) → piece_start bytes d (suc o) ≡ suc o → eqb (get_or bytes o 0) d ≡ true
   delim_before o h = ⊎_elim
       (λ (e : eqb (get_or bytes o 0) d ≡ true). e)
-      (λ (e : eqb (get_or bytes o 0) d ≡ false). absurd (omega (arith, start_more o e, h, start_to o)))
+      (λ (e : eqb (get_or bytes o 0) d ≡ false). absurd (omega (arith, start_more o e, h, start_to bytes d o)))
       (cases_Bool (eqb (get_or bytes o 0) d))
 
   -- and behind a delimiter one begins

@@ -39,6 +39,16 @@ texts-join bytes i j k l m a b =
     ∙ ap (λ r. take (j - i) (drop i bytes) ++ take (k - j) r) there in
     subst IsUtf8 (sym is) (IsUtf8-append _ _ a b)
 
+-- a whole piece begins no later than any byte of it
+pub start_to : (bytes : List ℕ) (d o : ℕ) → piece_start bytes d o ≤ o
+unfolding piece_start
+start_to bytes d zero = omega arith
+start_to bytes d (suc o) =
+    elim (eqb (get_or bytes o 0) d) as (λ b. cond b (suc o) (piece_start bytes d o) ≤ suc o) [
+      | true ↦ omega arith
+      | false ↦ omega (arith, start_to bytes d o)
+    ]
+
 -- ---- pieces of a text, which an ASCII delimiter cuts
 module _ (bytes : List ℕ) (d : ℕ) (ascii : d < 128) where
   -- at a boundary of characters the piece of a text is text
@@ -57,15 +67,6 @@ module _ (bytes : List ℕ) (d : ℕ) (ascii : d < 128) where
       subst (IsCharBoundary rest) e (IsCharBoundary-end rest))
       (cases_lt n (length rest))))
 
-  start_within : (o : ℕ) → piece_start bytes d o ≤ o
-  unfolding piece_start
-  start_within zero = omega arith
-  start_within (suc o) =
-      elim (eqb (get_or bytes o 0) d) as (λ b. cond b (suc o) (piece_start bytes d o) ≤ suc o) [
-        | true ↦ omega arith
-        | false ↦ omega (arith, start_within o)
-      ]
-
   -- a whole piece begins at a boundary of characters
   boundary-at_start : (o : ℕ) → IsUtf8 bytes → o < length bytes → piece_start bytes d o ≡ o → IsCharBoundary bytes o
   unfolding piece_start
@@ -75,7 +76,7 @@ module _ (bytes : List ℕ) (d : ℕ) (ascii : d < 128) where
       let next : o + 1 ≡ suc o = omega arith in
       subst (IsCharBoundary bytes) next (IsCharBoundary-after_ascii bytes o u (omega arith) (omega arith)))
       (λ (e : eqb (get_or bytes o 0) d ≡ false).
-      absurd (omega (arith, cond-false _ (suc o) (piece_start bytes d o) e, h, start_within o)))
+      absurd (omega (arith, cond-false _ (suc o) (piece_start bytes d o) e, h, start_to bytes d o)))
       (cases_Bool (eqb (get_or bytes o 0) d))
 
   no_bad_start : (o : ℕ) → IsUtf8 bytes → o < length bytes → is_bad_start bytes d o ≡ false
