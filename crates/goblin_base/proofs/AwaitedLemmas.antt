@@ -75,28 +75,28 @@ out_of_range : (lo hi b : ℕ) → (leb lo b && leb b hi) ≡ false → (lo ≤ 
 out_of_range lo hi b e h = both_ways _ e (and_from _ _ (le-leb lo b h.0) (le-leb b hi h.1))
 
 pub steps : (s : Awaited) (b : ℕ) → IsInner s → StepsTo s b (after_byte s b)
-steps s b inner = by s.more s.least s.most inner
+steps s b inner = by_more s.more s.least s.most inner
   where
-    first : (lo hi : ℕ) (x y : Bool)
+    first_byte : (lo hi : ℕ) (x y : Bool)
         → ltb b 128 ≡ x → (leb 0xc2 b && leb b 0xf4) ≡ y
         → StepsTo (record { more = 0; least = lo; most = hi }) b
         (cond x (Some awaits_first) (cond y (Some (of_first b)) None))
-    first lo hi true y e f = ascii_steps lo hi b (ltb-true b 128 e)
-    first lo hi false true e f = first_steps lo hi b (in_range _ _ b f)
-    first lo hi false false e f =
+    first_byte lo hi true y e f = ascii_steps lo hi b (ltb-true b 128 e)
+    first_byte lo hi false true e f = first_steps lo hi b (in_range _ _ b f)
+    first_byte lo hi false false e f =
         λ bs v. out_of_range _ _ b f (let is : IsFirst b = v.0 in omega (arith, ltb-false b 128 e))
 
-    later : (n lo hi : ℕ) (x : Bool)
+    later_byte : (n lo hi : ℕ) (x : Bool)
         → IsInner (record { more = suc n; least = lo; most = hi }) → (leb lo b && leb b hi) ≡ x
         → StepsTo (record { more = suc n; least = lo; most = hi }) b
         (cond x (Some (record { more = n; least = 0x80; most = 0xbf })) None)
-    later n lo hi true inner e = later_steps n lo hi b inner.least inner.most (in_range lo hi b e)
-    later n lo hi false inner e = λ bs v. out_of_range lo hi b e v.0
+    later_byte n lo hi true inner e = later_steps n lo hi b inner.least inner.most (in_range lo hi b e)
+    later_byte n lo hi false inner e = λ bs v. out_of_range lo hi b e v.0
 
-    by : (n lo hi : ℕ)
+    by_more : (n lo hi : ℕ)
         → IsInner (record { more = n; least = lo; most = hi })
         → StepsTo (record { more = n; least = lo; most = hi }) b
         (after_byte (record { more = n; least = lo; most = hi }) b)
-    by zero lo hi inner = first lo hi _ _ refl refl
-    by (suc n) lo hi inner = let one : suc n - 1 ≡ n = omega arith in
-        rw (ne_eqb (suc n) 0 (λ (z : suc n ≡ 0). omega arith), one) (later n lo hi _ inner refl)
+    by_more zero lo hi inner = first_byte lo hi _ _ refl refl
+    by_more (suc n) lo hi inner = let one : suc n - 1 ≡ n = omega arith in
+        rw (ne_eqb (suc n) 0 (λ (z : suc n ≡ 0). omega arith), one) (later_byte n lo hi _ inner refl)

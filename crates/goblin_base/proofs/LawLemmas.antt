@@ -72,29 +72,29 @@ permissive_table bytes d = refl
 -- the table that a strict walk gives, and what it says of the bytes
 strict_table : (bytes : List ℕ) (d : ℕ) (t : StringTable)
     → table_of Strict bytes d ≡ Ok t → (whole bytes d ≡ t) × (first_bad bytes d ≡ length bytes)
-strict_table bytes d t h = by (walked Strict bytes d) refl h
+strict_table bytes d t h = by_walked (walked Strict bytes d) refl h
   where
-    by : (x : Result (List (ℕ × List ℕ)) Refusal)
+    by_walked : (x : Result (List (ℕ × List ℕ)) Refusal)
         → walked Strict bytes d ≡ x → (x >>= (λ _. Ok (whole bytes d))) ≡ Ok t
         → (whole bytes d ≡ t) × (first_bad bytes d ≡ length bytes)
-    by (Ok es) e h = (
+    by_walked (Ok es) e h = (
       (let x : ◌≡◌ {A = Result StringTable Refusal} (Ok (whole bytes d)) (Ok t) = h in cc),
       good_if_walked bytes d es e,
     )
-    by (Err f) e h = absurd (let x : ◌≡◌ {A = Result StringTable Refusal} (Err f) (Ok t) = h in cc)
+    by_walked (Err f) e h = absurd (let x : ◌≡◌ {A = Result StringTable Refusal} (Err f) (Ok t) = h in cc)
 
 -- the range of a strict table
 strict_range : (file : List ℕ) (o n d : ℕ) (t : StringTable)
     → strtab_of Strict file o n d ≡ Ok t
     → (r : List ℕ) × (range_in Strict file o n ≡ Ok r) × (table_of Strict r d ≡ Ok t)
 unfolding strtab_of
-strict_range file o n d t h = by (range_in Strict file o n) refl h
+strict_range file o n d t h = by_range (range_in Strict file o n) refl h
   where
-    by : (x : Result (List ℕ) Fault)
+    by_range : (x : Result (List ℕ) Fault)
         → range_in Strict file o n ≡ x → (refuse_as malformed x >>= (λ r. table_of Strict r d)) ≡ Ok t
         → (r : List ℕ) × (range_in Strict file o n ≡ Ok r) × (table_of Strict r d ≡ Ok t)
-    by (Ok r) e h = (r, e, h)
-    by (Err f) e h = absurd (let x : ◌≡◌ {A = Result StringTable Refusal} (Err (malformed f)) (Ok t) = h in cc)
+    by_range (Ok r) e h = (r, e, h)
+    by_range (Err f) e h = absurd (let x : ◌≡◌ {A = Result StringTable Refusal} (Err (malformed f)) (Ok t) = h in cc)
 
 -- a range that strict mode accepts is not shortened
 uncut : (b c : Bool) (f g : Fault) (x y z r : List ℕ)
@@ -137,15 +137,15 @@ permissive_accepts file o n d =
 readable_if_plain : (bytes : List ℕ) (d o : ℕ) (text : List ℕ)
     → plain bytes d o ≡ Ok text → (is_readable bytes d o ≡ true) × (piece bytes d o ≡ text)
 unfolding is_readable
-readable_if_plain bytes d o text h = by (is_utf8 (piece bytes d o)) refl h
+readable_if_plain bytes d o text h = by_test (is_utf8 (piece bytes d o)) refl h
   where
-    by : (b : Bool)
+    by_test : (b : Bool)
         → is_utf8 (piece bytes d o) ≡ b
         → ◌≡◌ {A = Result (List ℕ) Refusal} (cond b (Ok (piece bytes d o)) (Err (invalid_utf8 (length bytes - o))))
         (Ok text)
         → (is_utf8 (piece bytes d o) ≡ true) × (piece bytes d o ≡ text)
-    by true e h = (e, cc)
-    by false e h = cc
+    by_test true e h = (e, cc)
+    by_test false e h = cc
 
 pub look_up_has_plain : LookUpHasPlain
 look_up_has_plain t o text parsed l h =

@@ -84,21 +84,22 @@ module _ {R : Type 0} {size : ℕ} {read : List ℕ → R} {image : R → List �
   pub obeys : Obeys size read image Fits (λ x. Writes size (image x))
   obeys = record { low = low; is_record = laws; writes_image = λ x old new answer so. so }
 
-  whole : (bytes : List ℕ) → length bytes ≡ size → take size bytes ≡ bytes
-  whole bytes long = take_all size bytes (omega arith)
+  take_is_whole : (bytes : List ℕ) → length bytes ≡ size → take size bytes ≡ bytes
+  take_is_whole bytes long = take_all size bytes (omega arith)
 
-  again : (bytes : List ℕ) → IsBytes bytes → length bytes ≡ size → bytes ≡ image (read bytes)
-  again bytes are long = sym (whole bytes long) ∙ sym (laws.writes_back bytes are (omega arith))
+  image-of_read : (bytes : List ℕ) → IsBytes bytes → length bytes ≡ size → bytes ≡ image (read bytes)
+  image-of_read bytes are long = sym (take_is_whole bytes long) ∙ sym (laws.writes_back bytes are (omega arith))
 
   -- only the low bits are written
   pub image-low : (x : R) → image (low x) ≡ image x
-  image-low x = ap image (sym (laws.reads_low x)) ∙ sym (again (image x) (laws.image_bytes x) (laws.length_image x))
+  image-low x =
+      ap image (sym (laws.reads_low x)) ∙ sym (image-of_read (image x) (laws.image_bytes x) (laws.length_image x))
 
   -- whatever reads so is the image, and no other bytes
   pub one_image : IsOneImage size read image low
   one_image x bytes = (
     λ is. rw is (laws.image_bytes x, laws.length_image x, laws.reads_low x),
-    λ h. again bytes h.0 h.1 ∙ ap image h.2 ∙ image-low x,
+    λ h. image-of_read bytes h.0 h.1 ∙ ap image h.2 ∙ image-low x,
   )
 
 -- what fits both classes is the same in each
