@@ -24,77 +24,82 @@ one_less len place size count i u h room =
     let e : count - i ≡ suc (count - (i + 1)) = omega arith in
     rw (e, room) refl
 
--- so many records of one size from an offset on, which are read one after another
-module _ {R : Type 0} (size : ℕ) (read : List ℕ → R) (bytes : List ℕ) (offset count : ℕ) where
-  -- how far reading has come: i records were read, and the others stand from a place on
-  pub record ReadSoFar (i place : ℕ) (found : List R) : Type 0 where
-    pub there : place ≡ offset + i * size
-    pub left : room_of_each (length bytes) place size (count - i) ≡ room_of_each (length bytes) offset size count
-    pub gave : found ≡ records size read i (drop offset bytes)
+-- Reading `count` records one after another from `offset` on, when `i` of them are read:
+--
+--     offset                 place            offset + count * size
+--     | record 0 | .. | i-1 | record i | .. |
+--     '---- found ----------' '--- left ----'
+pub record ReadSoFar {R : Type 0} (size : ℕ) (read : List ℕ → R) (bytes : List ℕ) (offset count i place : ℕ)
+    (found : List R) : Type 0 where
+  pub there : place ≡ offset + i * size
+  pub left : room_of_each (length bytes) place size (count - i) ≡ room_of_each (length bytes) offset size count
+  pub gave : found ≡ records size read i (drop offset bytes)
 
-  -- what reading the record at a place answers
-  abbrev read_there : ℕ → Result R Error
-  read_there place = unless_fault (room_of (length bytes) place size) (read (take size (drop place bytes)))
+-- the record at an offset, or the fault of an offset without room
+abbrev read_there : {R : Type 0} → ℕ → (List ℕ → R) → List ℕ → ℕ → Result R Error
+read_there size read bytes place = unless_fault (room_of (length bytes) place size) (read (take size (drop place bytes)))
 
-  pub none_read : ReadSoFar 0 offset []
+-- i + 1 records are the first i and the one at `place`
+one_more : {R : Type 0} (size : ℕ) (read : List ℕ → R) (bytes : List ℕ) (offset i place : ℕ)
+    → place ≡ offset + i * size
+    → records size read (i + 1) (drop offset bytes)
+    ≡ records size read i (drop offset bytes) ++ read (take size (drop place bytes)) ∷ []
+one_more size read bytes offset i place at =
+    let there : drop (i * size) (drop offset bytes) ≡ drop place bytes =
+    drop-drop (i * size) offset bytes ∙ ap (λ (k : ℕ). drop k bytes) (sym at) in
+    last_record size read i (drop offset bytes)
+    ∙ ap (λ (part : List ℕ). records size read i (drop offset bytes) ++ read (take size part) ∷ []) there
+
+module _ {R : Type 0} {size : ℕ} {read : List ℕ → R} {bytes : List ℕ} {offset count : ℕ} where
+  pub none_read : ReadSoFar size read bytes offset count 0 offset []
   none_read = record {
     there = omega arith;
     left = ap (room_of_each (length bytes) offset size) (omega arith);
     gave = sym (no_records size read 0 (drop offset bytes) refl);
   }
 
-  -- one more was read
-  one_more : (i place : ℕ)
-      → place ≡ offset + i * size
-      → records size read (i + 1) (drop offset bytes)
-      ≡ records size read i (drop offset bytes) ++ read (take size (drop place bytes)) ∷ []
-  one_more i place at =
-      let there : drop (i * size) (drop offset bytes) ≡ drop place bytes =
-      drop-drop (i * size) offset bytes ∙ ap (λ (k : ℕ). drop k bytes) (sym at) in
-      last_record size read i (drop offset bytes)
-      ∙ ap (λ (part : List ℕ). records size read i (drop offset bytes) ++ read (take size part) ∷ []) there
-
-  pub next_read : (s i place : ℕ) (found : List R) (x : R)
-      → ReadSoFar i place found → s ≡ size → i < count → Ok x ≡ read_there place
-      → ReadSoFar (i + 1) (place + s) (found ++ x ∷ [])
-  next_read s i place found x before same h e =
+  pub next_read : {s i place : ℕ} {found : List R} {x : R}
+      → ReadSoFar size read bytes offset count i place found → s ≡ size → i < count
+      → Ok x ≡ read_there size read bytes place
+      → ReadSoFar size read bytes offset count (i + 1) (place + s) (found ++ x ∷ [])
+  next_read {i = i} {place = place} {x = x} before same h e =
       let is = unless_fault-is (room_of (length bytes) place size) x (read (take size (drop place bytes))) e in
       record {
         there = let at = before.there in omega arith;
         left = rw same (sym (one_less (length bytes) place size count i tt h is.0) ∙ before.left);
-        gave = rw (before.gave, is.1) (sym (one_more i place before.there));
+        gave = rw (before.gave, is.1) (sym (one_more size read bytes offset i place before.there));
       }
 
-  -- all were read
-  pub all_read : (s i place : ℕ) (items : List ℕ) (found : List R)
-      → ReadSoFar i place found → s ≡ size → i ≡ count → count ≤ length bytes / s
+  pub all_read : {s i place : ℕ} {found : List R} (items : List ℕ)
+      → ReadSoFar size read bytes offset count i place found → s ≡ size → i ≡ count → count ≤ length bytes / s
       → records_from size read bytes offset count items ≡ Ok found
   unfolding records_from
-  all_read s i place items found before same all enough =
+  all_read {i = i} {place = place} items before same all enough =
       let none : count - i ≡ 0 = omega arith in
       let each : room_of_each (length bytes) offset size count ≡ Ok tt =
       sym before.left ∙ ap (room_of_each (length bytes) place size) none in
       let few : nat_lt (length bytes / size) count ≡ false = rw (← same) (grind (arith, nat_tests)) in
       rw (few, each, before.gave, all) refl
 
-  -- the next one has no room
-  refused : (s i place : ℕ) (items : List ℕ) (found : List R) (d : Misplaced)
-      → ReadSoFar i place found → s ≡ size → i < count → count ≤ length bytes / s
+  -- the record at `place` has no room
+  refused : {s i place : ℕ} {found : List R} {d : Misplaced} (items : List ℕ)
+      → ReadSoFar size read bytes offset count i place found → s ≡ size → i < count → count ≤ length bytes / s
       → room_of (length bytes) place size ≡ Err d
       → records_from size read bytes offset count items ≡ Err (misplaced d)
   unfolding records_from
-  refused s i place items found d before same h enough fault =
+  refused {i = i} {d = d} items before same h enough fault =
       let some : count - i ≡ suc (count - (i + 1)) = omega arith in
       let each : room_of_each (length bytes) offset size count ≡ Err d = sym before.left ∙ rw (some, fault) refl in
       let few : nat_lt (length bytes / size) count ≡ false = rw (← same) (grind (arith, nat_tests)) in
       rw (few, each) refl
 
-  pub no_room : (s i place : ℕ) (items : List ℕ) (found : List R) (e : Error)
-      → ReadSoFar i place found → s ≡ size → i < count → count ≤ length bytes / s → Err e ≡ read_there place
+  pub no_room : {s i place : ℕ} {found : List R} {e : Error} (items : List ℕ)
+      → ReadSoFar size read bytes offset count i place found → s ≡ size → i < count → count ≤ length bytes / s
+      → Err e ≡ read_there size read bytes place
       → records_from size read bytes offset count items ≡ Err (refusal_of e)
-  no_room s i place items found e before same h enough is =
+  no_room {place = place} {e = e} items before same h enough is =
       let fault = unless_fault-err (room_of (length bytes) place size) e (read (take size (drop place bytes))) is in
-      refused s i place items found fault.0 before same h enough fault.1 ∙ ap (λ f. Err (refusal_of f)) (sym fault.2)
+      refused items before same h enough fault.1 ∙ ap (λ f. Err (refusal_of f)) (sym fault.2)
 
 -- one record more is one size more
 size_more : (k size : ℕ) → suc k * size ≡ size + k * size

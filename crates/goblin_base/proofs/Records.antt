@@ -67,13 +67,13 @@ last_record size read n bytes =
     ∙ ap (λ part. map (λ i. read (slice size bytes i)) (range_with_len 0 n) ++ read part ∷ []) (slice-is size bytes n)
 
 -- what an iterator answers where records are left
-pub next_is : {R : Type 0} (size : ℕ) (read : List ℕ → R) (n : ℕ) (bytes : List ℕ) (s : ℕ) (items : List R)
-    (found : Result R Error) (answer : Option R)
+pub next_is : {R : Type 0} {size s n : ℕ} {items : List R} {found : Result R Error} {answer : Option R}
+    (read : List ℕ → R) (bytes : List ℕ)
     → s ≡ size → records size read n bytes ≡ items → n * size ≤ length bytes → 0 < n
     → found ≡ read_within size read (take s bytes) → answer ≡ result_ok found
     → (answer ≡ Some (read (take size bytes)))
     × (items ≡ read (take size bytes) ∷ records size read (n - 1) (take (length bytes - s) (drop s bytes)))
-next_is size read n bytes s items found answer same is fits below read_is ok_is =
+next_is {size = size} {n = n} read bytes same is fits below read_is ok_is =
     let room : size ≤ length bytes = grind (arith, common_steps, rows) in (
       rw same at (ok_is ∙ ap result_ok read_is) ∙ ap result_ok (read_first size read bytes room),
       sym is
