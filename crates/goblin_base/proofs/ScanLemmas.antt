@@ -54,12 +54,14 @@ module _ (bytes : List ℕ) (d : ℕ) where
       (ap (λ x. eqb (get_or bytes x 0) d) (sym e) ∙ at_end bytes d p (omega arith) (omega arith))))
       (cases_lt p (piece_end bytes d p))
 
-  pub scan_steps : (o p : ℕ) (s t : Awaited)
-      → p < length bytes → eqb (get_or bytes p 0) d ≡ false → after_byte s (get_or bytes p 0) ≡ Some t → IsScanned o p s
-      → IsScanned o (p + 1) t
-  scan_steps o p s t l n e h =
+module _ {bytes : List ℕ} {d o p : ℕ} {s : Awaited} where
+  pub scan_steps : {t : Awaited}
+      → p < length bytes → eqb (get_or bytes p 0) d ≡ false → after_byte s (get_or bytes p 0) ≡ Some t
+      → IsScanned bytes d o p s
+      → IsScanned bytes d o (p + 1) t
+  scan_steps {t = t} l n e h =
       let b = get_or bytes p 0 in
-      let split = piece_at_byte p l n in
+      let split = piece_at_byte bytes d p l n in
       let step : Steps s b t = subst (StepsTo s b) e (steps s b h.inner) in
       let from = h.from in
       record {
@@ -76,17 +78,17 @@ module _ (bytes : List ℕ) (d : ℕ) where
             (λ (z : q < p). step.forth _ (subst (CompletesFrom s) split (h.forth q x z r)))
             (λ (z : p ≤ q). let same : q ≡ p = omega arith in
             step.excludes _
-            (subst (Completes 0 0x80 0xbf) split (completes_if_readable p (ap (is_readable bytes d) (sym same) ∙ r))))
+            (subst (Completes 0 0x80 0xbf) split (completes_if_readable bytes d p (ap (is_readable bytes d) (sym same) ∙ r))))
             (cases_lt q p);
       }
 
   -- no place before p, nor the one where the attempt began, has text where the byte at p may not come
-  pub scan_faults : (o p : ℕ) (s : Awaited)
-      → p < length bytes → eqb (get_or bytes p 0) d ≡ false → after_byte s (get_or bytes p 0) ≡ None → IsScanned o p s
+  pub scan_faults : p < length bytes → eqb (get_or bytes p 0) d ≡ false → after_byte s (get_or bytes p 0) ≡ None
+      → IsScanned bytes d o p s
       → IsScan bytes d o (Fault (max p (o + 1)))
-  scan_faults o p s l n e h =
+  scan_faults l n e h =
       let b = get_or bytes p 0 in
-      let split = piece_at_byte p l n in
+      let split = piece_at_byte bytes d p l n in
       let from = h.from in
       let no : CompletesFrom s (piece bytes d p) → ⊥ =
       λ v. subst (StepsTo s b) e (steps s b h.inner) _ (subst (CompletesFrom s) split v) in (
@@ -95,16 +97,16 @@ module _ (bytes : List ℕ) (d : ℕ) where
             (λ (z : p ≤ q). let same : q ≡ p = omega arith in let start : p ≡ o = omega arith in
             no (subst (λ k. Completes k s.least s.most (piece bytes d p)) (sym (h.begun start))
             (any_bounds 0x80 0xbf s.least s.most _
-            (completes_if_readable p (ap (is_readable bytes d) (sym same) ∙ r)))))
+            (completes_if_readable bytes d p (ap (is_readable bytes d) (sym same) ∙ r)))))
             (cases_lt q p)),
         omega arith,
         omega arith,
       )
 
   -- where the piece ends, it is text if no byte is missing, and else no place of it has text
-  pub scan_ends : (o p : ℕ) (s : Awaited)
-      → (p < length bytes → eqb (get_or bytes p 0) d ≡ true) → IsScanned o p s → IsScan bytes d o (scan_end s p)
-  scan_ends o p s there h =
+  pub scan_ends : (p < length bytes → eqb (get_or bytes p 0) d ≡ true) → IsScanned bytes d o p s
+      → IsScan bytes d o (scan_end s p)
+  scan_ends there h =
       let from = h.from in
       let within = h.within in
       let same = end_is bytes d o p h.from h.within h.none there in
@@ -120,7 +122,7 @@ module _ (bytes : List ℕ) (d : ℕ) where
       ))
       (λ (e : s.more ≡ 0 → ⊥). subst (IsScan bytes d o) (sym (cond-false _ (Whole p) (Fault p) (ne_eqb _ _ e))) (
         λ q x y. false_from_ne_true _
-            (λ (r : is_readable bytes d q ≡ true). missing s e (subst (CompletesFrom s) empty (h.forth q x y r))),
+            (λ (r : is_readable bytes d q ≡ true). missing e (subst (CompletesFrom s) empty (h.forth q x y r))),
         ⊎_elim (λ (z : o < p). z) (λ (z : p ≤ o). absurd (e (h.begun (omega arith)))) (cases_lt o p),
         within,
       ))
@@ -130,14 +132,14 @@ module _ (bytes : List ℕ) (d : ℕ) where
       none_missing zero lo hi v = refl
       none_missing (suc n) lo hi v = absurd v
 
-      missing : (s : Awaited) → (s.more ≡ 0 → ⊥) → CompletesFrom s [] → ⊥
-      missing s e v = e (none_missing s.more s.least s.most v)
+      missing : (s.more ≡ 0 → ⊥) → CompletesFrom s [] → ⊥
+      missing e v = e (none_missing s.more s.least s.most v)
 
 -- what an attempt inside a piece that fails says, of bytes that it left as they were
-pub attempt_fault : (bytes seen : List ℕ) (d end i next : ℕ)
+pub attempt_fault : {bytes seen : List ℕ} {end i next : ℕ} (d : ℕ)
     → seen ≡ bytes → piece_end bytes d i ≡ end → i ≤ end → end ≤ length bytes → IsScan seen d i (Fault next)
     → NoneReadable bytes d i next × (i < next) × (next ≤ end) × (piece_end bytes d next ≡ end)
-attempt_fault bytes seen d end i next same ends l m h =
+attempt_fault {bytes = bytes} {i = i} {next = next} d same ends l m h =
     let found : IsScan bytes d i (Fault next) = subst (λ bs. IsScan bs d i (Fault next)) same h in
     let until = bad_within bytes d i next found.2 found.0 (omega arith) in (
       found.0,

@@ -21,8 +21,7 @@ returns-then-byte-delim-clause-found c =
     let byte : c.at-byte.result ≡ get_or c.args.view.now.bytes c.loop-at.at 0 =
     c.at-byte.ensures.value ∙ ap (λ bs. slice_index bs c.loop-at.at) i.same in
     rw c.ended.ensures
-    (scan_ends c.args.view.now.bytes c.args.delim c.args.from c.loop-at.at c.loop-at.awaited
-    (λ _. eq-eqb _ _ (sym byte ∙ c.if-byte-delim.true)) i.scanned)
+    (scan_ends (λ _. eq-eqb _ _ (sym byte ∙ c.if-byte-delim.true)) i.scanned)
 
 pub returns-in-None-clause-found : goal.returns-in-None-clause-found
 returns-in-None-clause-found c =
@@ -32,8 +31,7 @@ returns-in-None-clause-found c =
     let test : eqb (get_or c.args.view.now.bytes c.loop-at.at 0) c.args.delim ≡ false =
     ne_eqb _ _ (λ (e : get_or c.args.view.now.bytes c.loop-at.at 0 ≡ c.args.delim). c.if-byte-delim.false (byte ∙ e)) in
     subst (λ k. IsScan c.args.view.now.bytes c.args.delim c.args.from (Fault k)) (sym c.max.ensures)
-    (scan_faults c.args.view.now.bytes c.args.delim c.args.from c.loop-at.at c.loop-at.awaited
-    (omega (arith, ap length i.same)) test
+    (scan_faults (omega (arith, ap length i.same)) test
     (ap (after_byte c.loop-at.awaited) (sym byte) ∙ sym c.in-None.ensures) i.scanned)
 
 pub loop-at-preserved : goal.loop-at-preserved
@@ -48,8 +46,7 @@ loop-at-preserved c =
       looks = omega (arith, ap (λ v. v.count) c.at-byte.ensures.counted, i.scanned.from);
       rising = omega (arith, c.at-byte.ensures.rising, i.rising);
       least = omega (arith, ap (λ v. v.count) c.at-byte.ensures.counted, i.scanned.from, i.least);
-      scanned = scan_steps c.args.view.now.bytes c.args.delim c.args.from c.loop-at.at c.loop-at.awaited c.in-Some.next
-          (omega (arith, ap length i.same)) test
+      scanned = scan_steps (omega (arith, ap length i.same)) test
           (ap (after_byte c.loop-at.awaited) (sym byte) ∙ sym c.in-Some.ensures) i.scanned;
     }
 
@@ -57,5 +54,4 @@ pub returns-clause-found : goal.returns-clause-found
 returns-clause-found c =
     let i = c.loop-at.invariant in
     rw c.ended-2.ensures
-    (scan_ends c.args.view.now.bytes c.args.delim c.args.from c.loop-at.at c.loop-at.awaited
-    (λ h. absurd (omega (arith, ap length i.same, h))) i.scanned)
+    (scan_ends (λ h. absurd (omega (arith, ap length i.same, h))) i.scanned)
