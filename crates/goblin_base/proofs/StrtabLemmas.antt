@@ -2,9 +2,9 @@
 use Rattle.std.proofs.Common.{◌≡◌, ℕ, ◌+◌, ◌-◌, ◌≤◌, Bool, true, false, cond, ltb, drop, List, [], length, get_or, refl}
 use Rattle.std.proofs.Common.{sym, ap, subst, ◌∙◌, ◌<◌, ⊎_elim, not, arith, Option, None, Result, Ok, Err}
 use Rattle.std.proofs.lemmas.Bool.{cases_lt, cond-true, cond-false, lt-ltb, le-ltb}
-use Rattle.std.proofs.lemmas.List.{take_all, take_rest}
+use Rattle.std.proofs.lemmas.List.{length-take-le, take_all, take_rest}
 use Rattle.std.proofs.lemmas.List.Sums.{prefix_len-le-length}
-use Rattle.std.specs.List.{EachIndex, position_or_len, position}
+use Rattle.std.specs.List.{EachIndex, before_first, position_or_len, position}
 use Rattle.std.specs.Borrow.{Bor}
 use Rattle.std.specs.Option.{unwrap_or, option_map, MatchOption}
 use Rattle.std.specs.Str.{IsCharBoundary}
@@ -88,7 +88,11 @@ first_or_length t xs = ⊎_elim
     ∙ (let e : length xs ≡ position_or_len t xs = omega (arith, prefix_len-le-length (λ b. not (t b)) xs) in e))
     (cases_lt (position_or_len t xs) (length xs))
 
-pub ruleset rests = (first_or_length, take_rest)
+-- a piece is as long as the delimiter is far, or as the rest
+pub length-before_first : (t : ℕ → Bool) (xs : List ℕ) → length (before_first t xs) ≡ position_or_len t xs
+length-before_first t xs = length-take-le (position_or_len t xs) xs (prefix_len-le-length (λ b. not (t b)) xs)
+
+pub ruleset rests = (first_or_length, length-before_first, take_rest)
 
 -- a look-up in a table that was parsed
 module _ (bytes : List ℕ) (d : ℕ) (is_parsed : Bool) (t : StringTable) (es : List (ℕ × List ℕ)) (o : ℕ)

@@ -55,11 +55,22 @@ fn get_str(offset: usize, bytes: &[u8], delim: u8) -> Result<&str>
     if let Some(text) = ascii_piece(rest, delim) {
         return Ok(text);
     }
-    let len = position(rest, delim).unwrap_or(rest.len());
+    let len = piece_len(bytes, offset, delim);
     read_text(&rest[..len], rest.len())
 }
 
-// Where the delimiter stands first.
+/// Returns the length of the piece at an offset: how many bytes stand before the next delimiter, or
+/// before the end where there is none.
+#[tactic(auto, using(crate::proofs::StrtabLemmas::rests), unfolding(crate::specs::Pieces::piece))]
+pub fn piece_len(bytes: &[u8], offset: usize, delim: u8) -> usize
+    requires { offset ≤ length bytes.now }
+    ensures { result ≡ length (piece bytes.now delim offset) }
+{
+    let rest = &bytes[offset..];
+    position(rest, delim).unwrap_or(rest.len())
+}
+
+// Returns the offset of the first delimiter.
 fn position(bytes: &[u8], delim: u8) -> Option<usize>
     ensures { result ≡ position (λ b. b == delim) bytes.now }
 {
