@@ -1,4 +1,4 @@
-//! Runs of ASCII at the front of a string, read sixteen bytes at a time.
+//! The ASCII bytes at the start of a string, read sixteen at a time.
 ghost use Rattle.std.specs.Prelude.{◌≡◌, ◌≤◌, ◌+◌, Ok, IfSome, length, take, drop};
 ghost use Rattle.std.specs.List.{position, position_or_len};
 ghost use Rattle.goblin_base.specs.Ascii.{ends_run, lowest_set};
@@ -8,7 +8,7 @@ use std::simd::prelude::*;
 
 const LANES: usize = 16;
 
-/// The piece at the front, where each of its bytes is ASCII.
+/// Returns the piece at the start of the bytes if all of it is ASCII.
 pub(crate) fn ascii_piece(bytes: &[u8], delim: u8) -> Option<&str>
     ensures { IfSome result (λ text. plain bytes.now delim 0 ≡ Ok text.now) }
 {
@@ -19,7 +19,8 @@ pub(crate) fn ascii_piece(bytes: &[u8], delim: u8) -> Option<&str>
     Some(unsafe { std::str::from_utf8_unchecked(&bytes[..len]) })
 }
 
-// How many bytes stand before the first that ends the run.
+// Returns how many bytes come before the first one that ends the run: the delimiter, or a byte of 128 or
+// more.
 #[tactic(auto, using(crate::proofs::AsciiLemmas::runs))]
 fn run_len(bytes: &[u8], delim: u8) -> usize
     ensures { result ≡ position_or_len (ends_run delim) bytes.now }
@@ -36,7 +37,7 @@ fn run_len(bytes: &[u8], delim: u8) -> usize
     at + run_end(rest, delim).unwrap_or(rest.len())
 }
 
-// The same of the next sixteen bytes.
+// Does the same for the sixteen bytes at an offset. Returns 16 if none of them ends the run.
 #[inline(always)]
 fn run_in(bytes: &[u8], at: usize, delim: u8) -> usize
     requires { at + LANES ≤ length bytes.now }
@@ -47,7 +48,7 @@ fn run_in(bytes: &[u8], at: usize, delim: u8) -> usize
     lowest_set(ends.to_bitmask(), LANES)
 }
 
-// The place of the lowest bit that is set, or where none is this other place.
+// Returns the index of the lowest bit that is set, or `other` if none is.
 #[inline(always)]
 fn lowest_set(mask: u64, other: usize) -> usize
     ensures { result ≡ lowest_set mask other }
@@ -59,7 +60,7 @@ fn lowest_set(mask: u64, other: usize) -> usize
     }
 }
 
-// Where the first byte stands that ends the run.
+// Returns the index of the first byte that ends the run.
 fn run_end(bytes: &[u8], delim: u8) -> Option<usize>
     ensures { result ≡ position (ends_run delim) bytes.now }
 {

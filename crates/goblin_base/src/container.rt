@@ -3,23 +3,23 @@
 ghost use Rattle.std.specs.Prelude.{◌≡◌, ◌↔◌, IsTrue};
 ghost use Rattle.goblin_base.specs.Container.{word_size};
 
-/// The order of the bytes of a number.
+/// The byte order of numbers.
 #[derive(Clone, Copy, Debug, Default, PartialEq)]
 pub enum Endian {
-    /// The lowest byte first (`ELFDATA2LSB`).
+    /// Little endian (`ELFDATA2LSB`).
     #[default]
     Little,
-    /// The highest byte first (`ELFDATA2MSB`).
+    /// Big endian (`ELFDATA2MSB`).
     Big,
 }
 
-/// Little byte order.
+/// Little endian.
 pub const LE: Endian = Endian::Little;
-/// Big byte order.
+/// Big endian.
 pub const BE: Endian = Endian::Big;
 
 impl Endian {
-    /// Whether the lowest byte comes first.
+    /// Reports whether the order is little endian.
     pub fn is_little(&self) -> bool
         ensures { IsTrue result ↔ (self.now ≡ Endian.Little) }
     {
@@ -27,7 +27,7 @@ impl Endian {
     }
 }
 
-/// The class of a file, which decides how wide its addresses and offsets are.
+/// The class of a file. It decides how wide addresses and offsets are.
 #[derive(Clone, Copy, Debug, Default, PartialEq)]
 pub enum Container {
     /// The 32-bit class (`ELFCLASS32`).
@@ -38,7 +38,7 @@ pub enum Container {
 }
 
 impl Container {
-    /// Whether it is the 64-bit class.
+    /// Reports whether this is the 64-bit class.
     pub fn is_big(self) -> bool
         ensures { IsTrue result ↔ (self ≡ Container.Big) }
     {
@@ -46,10 +46,10 @@ impl Container {
     }
 }
 
-/// The class where none is given: the 64-bit one, whatever the machine.
+/// The default class: 64-bit, on every machine.
 pub const CONTAINER: Container = Container::Big;
 
-/// How the records of a file are laid out: their class, and the byte order of their numbers.
+/// How the records of a file are laid out: their class and their byte order.
 #[derive(Clone, Copy, Debug, Default, PartialEq)]
 pub struct Ctx {
     /// The class.
@@ -59,28 +59,28 @@ pub struct Ctx {
 }
 
 impl Ctx {
-    /// Whether it is the 64-bit class.
+    /// Reports whether the class is the 64-bit one.
     pub fn is_big(self) -> bool
         ensures { IsTrue result ↔ (self.container ≡ Container.Big) }
     {
         self.container.is_big()
     }
 
-    /// Whether the lowest byte comes first.
+    /// Reports whether the byte order is little endian.
     pub fn is_little_endian(self) -> bool
         ensures { IsTrue result ↔ (self.le ≡ Endian.Little) }
     {
         self.le.is_little()
     }
 
-    /// The context of this class and byte order.
+    /// Returns the context with this class and byte order.
     pub fn new(container: Container, le: Endian) -> Self
         ensures { result ≡ record { container = container; le = le } }
     {
         Ctx { container, le }
     }
 
-    /// How many bytes an address takes: 4 or 8.
+    /// Returns the size of an address in bytes: 4 or 8.
     pub fn size(self) -> usize
         ensures { result ≡ word_size self.container }
     {
@@ -91,7 +91,7 @@ impl Ctx {
     }
 }
 
-/// The context of this class, in little byte order.
+/// Makes a little-endian context of a class.
 impl From<Container> for Ctx {
     ghost use Rattle.goblin_base.specs.declared.container.Endian.TheVariants as endian;
 
@@ -106,7 +106,7 @@ impl From<Container> for Ctx {
     }
 }
 
-/// The context of this byte order, in the 64-bit class.
+/// Makes a 64-bit context of a byte order.
 impl From<Endian> for Ctx {
     ghost use Rattle.goblin_base.specs.declared.container.Container.TheVariants as class;
 
@@ -121,7 +121,7 @@ impl From<Endian> for Ctx {
     }
 }
 
-/// A law: what the constants of this module stand for.
+/// A law: the values of the constants of this module.
 pub fn constants()
     ensures orders { (LE ≡ Endian.Little) × (BE ≡ Endian.Big) }
     ensures class { CONTAINER ≡ Container.Big }

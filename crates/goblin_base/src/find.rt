@@ -1,10 +1,10 @@
-//! A place among sorted places, by halves.
+//! Binary search among sorted offsets.
 ghost use Rattle.std.specs.Prelude.{◌≡◌, ◌+◌, ◌≤◌, min, length};
 ghost use Rattle.goblin_base.specs.Search.{FindsLast, digits};
 
 use crate::entries::Probes;
 
-/// The index of the last place at or before the offset, or `None` where there is none.
+/// Returns the index of the last place at or before the offset, or `None` if there is none.
 ///
 /// It reads as many places as their number has binary digits, or one fewer: at most 64.
 ///
@@ -24,6 +24,10 @@ pub fn find(view: &mut Probes<'_>, offset: usize) -> Option<usize>
     ensures few { digits (length view.old.places + 1) ≤ 64 }
     ensures rising { view.old.count ≤ view.new.count }
 {
+    // The places before `low` are at or before the offset. Those from `low + size` on are after it.
+    //
+    //     0               low           low + size           len
+    //     | at or before  |  not known  |  after the offset  |
     let mut low = 0;
     let mut size = view.len();
     while size > 0 {

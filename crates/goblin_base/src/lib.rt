@@ -1,5 +1,5 @@
-//! What the layers of the ELF port share: the context of a file, its errors, options, whether a place
-//! has room, the numbers that bytes stand for, and records and tables of them.
+//! What the crates of the ELF port share: the context of a file, errors and options, the test whether bytes
+//! lie in a slice, numbers in bytes, records and tables of records, and string tables.
 #![tactic(auto)]
 
 mod ascii;

@@ -1,4 +1,4 @@
-//! The numbers that bytes at a place stand for: System V gABI, "Data Representation" and "Data Encoding".
+//! Numbers in bytes, in either byte order: System V gABI, "Data Representation" and "Data Encoding".
 #![tactic(auto, using(crate::proofs::Orders::numbers))]
 
 ghost use Rattle.std.specs.Prelude.{◌≡◌, ◌≤◌, ◌+◌, length};
@@ -11,7 +11,7 @@ use crate::container::Endian;
 pub use crate::room::room;
 use byteorder::{BigEndian, ByteOrder, LittleEndian};
 
-/// The number that the byte at a place stands for, which is the same in both orders.
+/// Returns the number in the byte at `place`. It is the same in both byte orders.
 pub fn get_u8(bytes: &[u8], place: usize) -> u8
     requires { place + 1 ≤ length bytes.now }
     ensures { (order : Endian) → result ≡ number_at order bytes.now place 1 }
@@ -19,7 +19,7 @@ pub fn get_u8(bytes: &[u8], place: usize) -> u8
     bytes[place]
 }
 
-/// The number that the two bytes at a place stand for.
+/// Returns the number in the two bytes at `place`.
 pub fn get_u16(bytes: &[u8], place: usize, order: Endian) -> u16
     requires { place + 2 ≤ length bytes.now }
     ensures { result ≡ number_at order bytes.now place 2 }
@@ -31,7 +31,7 @@ pub fn get_u16(bytes: &[u8], place: usize, order: Endian) -> u16
     }
 }
 
-/// The number that the four bytes at a place stand for.
+/// Returns the number in the four bytes at `place`.
 pub fn get_u32(bytes: &[u8], place: usize, order: Endian) -> u32
     requires { place + 4 ≤ length bytes.now }
     ensures { result ≡ number_at order bytes.now place 4 }
@@ -43,7 +43,7 @@ pub fn get_u32(bytes: &[u8], place: usize, order: Endian) -> u32
     }
 }
 
-/// The number that the eight bytes at a place stand for.
+/// Returns the number in the eight bytes at `place`.
 pub fn get_u64(bytes: &[u8], place: usize, order: Endian) -> u64
     requires { place + 8 ≤ length bytes.now }
     ensures { result ≡ number_at order bytes.now place 8 }
@@ -55,7 +55,7 @@ pub fn get_u64(bytes: &[u8], place: usize, order: Endian) -> u64
     }
 }
 
-/// The signed number that the four bytes at a place stand for, in two's complement.
+/// Returns the signed number in the four bytes at `place`, in two's complement.
 pub fn get_i32(bytes: &[u8], place: usize, order: Endian) -> i32
     requires { place + 4 ≤ length bytes.now }
     ensures { result ≡ signed_number_at order bytes.now place 4 }
@@ -63,7 +63,7 @@ pub fn get_i32(bytes: &[u8], place: usize, order: Endian) -> i32
     get_u32(bytes, place, order).cast_signed()
 }
 
-/// The signed number that the eight bytes at a place stand for, in two's complement.
+/// Returns the signed number in the eight bytes at `place`, in two's complement.
 pub fn get_i64(bytes: &[u8], place: usize, order: Endian) -> i64
     requires { place + 8 ≤ length bytes.now }
     ensures { result ≡ signed_number_at order bytes.now place 8 }
@@ -71,7 +71,7 @@ pub fn get_i64(bytes: &[u8], place: usize, order: Endian) -> i64
     get_u64(bytes, place, order).cast_signed()
 }
 
-/// Puts a number into the byte at a place, the same in both orders. All other bytes stay.
+/// Writes a number to the byte at `place`, which is the same in both byte orders. No other byte changes.
 pub fn put_u8(bytes: &mut [u8], place: usize, value: u8)
     requires { place + 1 ≤ length bytes.old }
     ensures { (order : Endian) → bytes.new ≡ with_number order bytes.old place 1 value }
@@ -79,7 +79,7 @@ pub fn put_u8(bytes: &mut [u8], place: usize, value: u8)
     bytes[place] = value;
 }
 
-/// Puts a number into the two bytes at a place. All other bytes stay.
+/// Writes a number to the two bytes at `place`. No other byte changes.
 pub fn put_u16(bytes: &mut [u8], place: usize, value: u16, order: Endian)
     requires { place + 2 ≤ length bytes.old }
     ensures { bytes.new ≡ with_number order bytes.old place 2 value }
@@ -91,7 +91,7 @@ pub fn put_u16(bytes: &mut [u8], place: usize, value: u16, order: Endian)
     }
 }
 
-/// Puts a number into the four bytes at a place. All other bytes stay.
+/// Writes a number to the four bytes at `place`. No other byte changes.
 pub fn put_u32(bytes: &mut [u8], place: usize, value: u32, order: Endian)
     requires { place + 4 ≤ length bytes.old }
     ensures { bytes.new ≡ with_number order bytes.old place 4 value }
@@ -103,7 +103,7 @@ pub fn put_u32(bytes: &mut [u8], place: usize, value: u32, order: Endian)
     }
 }
 
-/// Puts a number into the eight bytes at a place. All other bytes stay.
+/// Writes a number to the eight bytes at `place`. No other byte changes.
 pub fn put_u64(bytes: &mut [u8], place: usize, value: u64, order: Endian)
     requires { place + 8 ≤ length bytes.old }
     ensures { bytes.new ≡ with_number order bytes.old place 8 value }
@@ -115,7 +115,7 @@ pub fn put_u64(bytes: &mut [u8], place: usize, value: u64, order: Endian)
     }
 }
 
-/// Puts a signed number into the four bytes at a place, in two's complement. All other bytes stay.
+/// Writes a signed number to the four bytes at `place`, in two's complement. No other byte changes.
 pub fn put_i32(bytes: &mut [u8], place: usize, value: i32, order: Endian)
     requires { place + 4 ≤ length bytes.old }
     ensures { bytes.new ≡ with_number order bytes.old place 4 (complement 4 value) }
@@ -123,7 +123,7 @@ pub fn put_i32(bytes: &mut [u8], place: usize, value: i32, order: Endian)
     put_u32(bytes, place, value.cast_unsigned(), order);
 }
 
-/// Puts a signed number into the eight bytes at a place, in two's complement. All other bytes stay.
+/// Writes a signed number to the eight bytes at `place`, in two's complement. No other byte changes.
 pub fn put_i64(bytes: &mut [u8], place: usize, value: i64, order: Endian)
     requires { place + 8 ≤ length bytes.old }
     ensures { bytes.new ≡ with_number order bytes.old place 8 (complement 8 value) }
@@ -131,7 +131,7 @@ pub fn put_i64(bytes: &mut [u8], place: usize, value: i64, order: Endian)
     put_u64(bytes, place, value.cast_unsigned(), order);
 }
 
-/// Laws: a number of one width has one spelling, and is read where it was put.
+/// Laws: a number of one width is written as one list of bytes, and is read back where it was written.
 pub fn spellings()
     ensures width { SpellsWidth }
     ensures reads_back { ReadsSpelling }
@@ -139,7 +139,8 @@ pub fn spellings()
     ensures there { ReadsWhatWasPut }
 {}
 
-/// Laws: a signed number of one width has one spelling, and is read where it was put.
+/// Laws: a signed number of one width is written as one list of bytes, and is read back where it was
+/// written.
 pub fn signed_spellings()
     ensures reads_back { ReadsSigned }
     ensures spells_back { SpellsSigned }

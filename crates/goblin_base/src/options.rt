@@ -1,4 +1,4 @@
-//! How a file is read: whether damaged parts of it are refused or passed over.
+//! Options of reading a file: whether damaged parts of it are refused or tolerated.
 ghost use Rattle.std.specs.Prelude.{◌≡◌, ◌↔◌, IsTrue};
 
 /// What reading does with damaged parts of a file.
@@ -7,12 +7,12 @@ pub enum ParseMode {
     /// They are refused.
     #[default]
     Strict,
-    /// They are passed over where that can be done.
+    /// They are tolerated where possible.
     Permissive,
 }
 
 impl ParseMode {
-    /// Whether damaged parts are passed over.
+    /// Reports whether damaged parts are tolerated.
     pub fn is_permissive(&self) -> bool
         ensures { IsTrue result ↔ (self.now ≡ ParseMode.Permissive) }
     {
@@ -23,19 +23,19 @@ impl ParseMode {
 /// The options of reading a file.
 #[derive(Clone, Copy, Debug, Default, PartialEq, Eq)]
 pub struct ParseOptions {
-    /// What is done with damaged parts.
+    /// What is done with damaged parts of the file.
     pub parse_mode: ParseMode,
 }
 
 impl ParseOptions {
-    /// The default options, which are strict.
+    /// Returns the default options, which are strict.
     pub fn new() -> Self
         ensures { result ≡ record { parse_mode = ParseMode.Strict } }
     {
         ParseOptions::default()
     }
 
-    /// The options that pass over damaged parts.
+    /// Returns the options that tolerate damaged parts.
     pub fn permissive() -> Self
         ensures { result ≡ record { parse_mode = ParseMode.Permissive } }
     {
@@ -44,7 +44,7 @@ impl ParseOptions {
         }
     }
 
-    /// The options that refuse damaged parts.
+    /// Returns the options that refuse damaged parts.
     pub fn strict() -> Self
         ensures { result ≡ record { parse_mode = ParseMode.Strict } }
     {
@@ -53,7 +53,7 @@ impl ParseOptions {
         }
     }
 
-    /// These options, with this mode.
+    /// Returns these options with another mode.
     pub fn with_parse_mode(mut self, parse_mode: ParseMode) -> Self
         ensures { result ≡ record { parse_mode = parse_mode } }
     {

@@ -1,13 +1,15 @@
-//! Whether a place in a slice has room for some bytes.
+//! The test whether some bytes lie in a slice.
 ghost use Rattle.std.specs.Prelude.{◌≡◌, ◌≤◌, ◌+◌, ◌↔◌, IsOk};
 ghost use Rattle.goblin_base.specs.Room.{room_of};
 
 use crate::scroll;
 
-/// Whether a slice of `len` bytes has room for `size` bytes at `offset`.
+/// Tests whether `size` bytes at `offset` lie in a slice of `len` bytes.
 ///
-/// A place past the end is a `BadOffset`, and so is the end itself where `size` is above 0. Else
-/// more bytes than there are from the place on are `TooBig`.
+/// # Errors
+///
+/// Fails with `BadOffset` if the offset is past the end, or at the end when `size` is above 0. Otherwise
+/// fails with `TooBig` if fewer than `size` bytes are left from the offset on.
 #[tactic(auto, unfolding(crate::specs::Room::room_of))]
 pub fn room(len: usize, offset: usize, size: usize) -> Result<(), scroll::Error>
     ensures exact { result ≡ room_of len offset size }

@@ -21,9 +21,9 @@ use crate::walk::walk;
 use std::alloc::Global;
 use std::marker::Model;
 
-/// Bytes that a delimiter cuts into strings, which are asked for by their offsets.
+/// A string table: bytes that a delimiter cuts into strings. A string is found by its byte offset.
 ///
-/// A table that is parsed keeps the places of its entries; one that is not has none.
+/// A parsed table also stores the offsets of its entries.
 #[derive(Debug, Drop)]
 pub struct Strtab<'a> {
     delim: u8,
@@ -31,7 +31,8 @@ pub struct Strtab<'a> {
     entries: Option<Entries<'a>>,
 }
 
-// A string table is seen as its bytes, its delimiter and whether it was parsed. Its entries follow.
+// In contracts a string table is its bytes, its delimiter and whether it was parsed. Its entries follow from
+// these.
 impl<'a> Model for Strtab<'a> {
     ghost use Rattle.std.specs.Prelude.{◌≡◌, IfSome};
     ghost use Rattle.std.specs.Option.{is_some};
@@ -45,7 +46,7 @@ impl<'a> Model for Strtab<'a> {
     ghost invariant = { λ t. IfSome t.entries (λ es. es ≡ entries_of t.bytes.now t.delim) };
 }
 
-// The piece at an offset, or the fault of bytes that are no text.
+// Returns the piece at an offset, or `BadInput` if it isn't UTF-8.
 #[tactic(auto, using(crate::proofs::StrtabLemmas::rests), unfolding(crate::specs::Pieces::piece))]
 fn get_str(offset: usize, bytes: &[u8], delim: u8) -> Result<&str>
     requires { offset ≤ length bytes.now }
@@ -78,14 +79,14 @@ fn position(bytes: &[u8], delim: u8) -> Option<usize>
 }
 
 impl<'a> Strtab<'a> {
-    /// The table of all the bytes, which is not parsed.
+    /// Makes the table of all the bytes, without parsing it.
     pub fn new(bytes: &'a [u8], delim: u8) -> Self
         ensures { result ≡ record { bytes = bytes.now; delim = delim; is_parsed = false } }
     {
         Self::from_slice_unparsed(bytes, 0, bytes.len(), delim)
     }
 
-    /// How many bytes there are.
+    /// Returns the number of bytes.
     pub fn len(&self) -> usize
         ensures value { result ≡ length self.now.bytes }
         ensures bound { result < usize.MAX }
@@ -93,7 +94,7 @@ impl<'a> Strtab<'a> {
         self.bytes.len()
     }
 
-    /// The table of `len` bytes from an offset on, which is not parsed.
+    /// Makes the table of `len` bytes from an offset on, without parsing it.
     pub fn from_slice_unparsed(bytes: &'a [u8], offset: usize, len: usize, delim: u8) -> Self
         requires { offset + len ≤ length bytes.now }
         ensures { result ≡ record {
@@ -109,9 +110,9 @@ impl<'a> Strtab<'a> {
         }
     }
 
-    /// The piece at an offset, or `None` from `len()` on.
+    /// Returns the piece at an offset, or `None` from `len()` on.
     ///
-    /// The piece goes on to the first delimiter, or to the end. It must be text, which `get` tests.
+    /// The piece ends before the next delimiter, or at the end of the table. It must be UTF-8, which `get` tests.
     pub fn get_unsafe(&self, offset: usize) -> Option<&'a str>
         requires { offset < length self.now.bytes
             → IsOk (plain self.now.bytes self.now.delim offset) }
@@ -127,8 +128,8 @@ impl<'a> Strtab<'a> {
         }
     }
 
-    /// The table of `len` bytes of a file from an offset on, each piece of which must be text: that of
-    /// `parse_with_opts` in strict mode. Over a section's own bytes, by `new_preparsed`:
+    /// Parses the table of `len` bytes of a file from an offset on, as [`Strtab::parse_with_opts`] does in strict
+    /// mode. The bytes of a section are parsed by [`Strtab::new_preparsed`]:
     ///
     /// <!-- quoted: crates/goblin_uses/src/functions.rt -->
     /// ```
@@ -136,6 +137,10 @@ impl<'a> Strtab<'a> {
     ///
     /// let name = names.get_at(function.st_name).unwrap_or("?");
     /// ```
+    ///
+    /// # Errors
+    ///
+    /// Those of [`Strtab::parse_with_opts`] in strict mode.
     pub fn parse(
         alloc: Global,
         bytes: &'a [u8],
@@ -154,16 +159,23 @@ impl<'a> Strtab<'a> {
         Self::parse_with_opts(alloc, bytes, offset, len, delim, &ParseOptions::strict())
     }
 
-    /// The table of `len` bytes of a file from an offset on.
+    /// Parses the table of `len` bytes of a file from an offset on.
     ///
-    /// In strict mode an offset past the file's end is a `StrtabOffset`; else an end past the file's end, or
-    /// past `usize`, is a `StrtabRange`; else the first piece that is no text is a `BadInput`, whose size is
-    /// the number of bytes from there to the table's end. In permissive mode nothing but want of memory is
-    /// refused: the range is shortened to the file, and where a piece is no text the bytes are entries with no
-    /// text, up to where a text begins.
+    /// Permissive mode cuts the range at the end of the file. If a piece isn't UTF-8, its bytes become entries
+    /// with an empty text, up to the first one from which the rest of the piece is UTF-8.
     ///
-    /// The range and the first piece are tested before memory is taken, and a table of no bytes takes none.
-    /// Want of memory for an entry comes before a later piece's fault.
+    /// The range and the first piece are tested before anything is allocated. A table of no bytes allocates
+    /// nothing.
+    ///
+    /// # Errors
+    ///
+    /// Strict mode fails, in this order:
+    /// - with `StrtabOffset` if the offset is past the end of the file;
+    /// - with `StrtabRange` if the range ends past the end of the file, or past `usize::MAX`;
+    /// - with `BadInput` for the first piece that isn't UTF-8. Its size is the number of bytes from that piece
+    ///   to the end of the table.
+    ///
+    /// Either mode fails with out of memory. Out of memory for an entry comes before the error of a later piece.
     #[tactic(auto, unfolding(crate::specs::Strtab::strtab_of))]
     pub fn parse_with_opts(
         alloc: Global,
@@ -185,7 +197,7 @@ impl<'a> Strtab<'a> {
         Self::of_bytes(alloc, range, delim, opts.parse_mode)
     }
 
-    // The parsed table of all the bytes.
+    // Parses the table of all the bytes.
     fn of_bytes(alloc: Global, bytes: &'a [u8], delim: u8, mode: ParseMode) -> Result<Self>
         ensures given { Gives (λ table. table) result (table_of mode bytes.now delim) }
         ensures first { RefusesFirst mode bytes.now delim result }
@@ -199,7 +211,12 @@ impl<'a> Strtab<'a> {
         })
     }
 
-    /// The table of all the bytes, each piece of which must be text: that of `parse`.
+    /// Parses the table of all the bytes in strict mode.
+    ///
+    /// # Errors
+    ///
+    /// Fails with `BadInput` for the first piece that isn't UTF-8, or with out of memory, as [`Strtab::parse`]
+    /// does.
     #[tactic(auto, using(crate::proofs::StrtabLemmas::wholes))]
     pub fn new_preparsed(alloc: Global, bytes: &'a [u8], delim: u8) -> Result<Self>
         ensures given { let right = table_of ParseMode.Strict bytes.now delim in
@@ -210,8 +227,13 @@ impl<'a> Strtab<'a> {
         Self::parse(alloc, bytes, 0, bytes.len(), delim)
     }
 
-    /// The strings of the table: the texts of its entries, or where it was not parsed those of a strict
-    /// walk, whose fault is a `BadInput`.
+    /// Returns the strings of the table: the texts of its entries. A table that wasn't parsed is parsed in strict
+    /// mode for it.
+    ///
+    /// # Errors
+    ///
+    /// Fails with out of memory. A table that wasn't parsed also fails with `BadInput` for the first piece that
+    /// isn't UTF-8.
     #[tactic(auto, using(crate::proofs::StrtabLemmas::empties))]
     pub fn to_vec(&self, alloc: Global) -> Result<Vec<&'a str>>
         ensures given { Gives (λ v. map (λ text. text.now) v.items) result (strings_of self.now) }
@@ -229,9 +251,9 @@ impl<'a> Strtab<'a> {
         }
     }
 
-    /// The rest of the string round an offset: of the last entry at or before it, from the offset on.
+    /// Returns the rest of the last entry at or before an offset, from the offset on.
     ///
-    /// It is `None` from `len()` on, inside a character, and for every offset of a table that was not parsed.
+    /// Returns `None` from `len()` on, inside a character, and at every offset of a table that wasn't parsed.
     #[tactic(auto, using(crate::proofs::StrtabLemmas::look_up_past))]
     pub fn get_at(&self, offset: usize) -> Option<&'a str>
         ensures { option_map (λ text. text.now) result ≡ look_up self.now offset }
@@ -244,8 +266,11 @@ impl<'a> Strtab<'a> {
         rest_of(entries.text(k), offset - place)
     }
 
-    /// The piece at an offset, or `None` from `len()` on. A piece that is no text is a `BadInput`, whose size
-    /// is the number of bytes from the offset on.
+    /// Returns the piece at an offset, or `None` from `len()` on.
+    ///
+    /// # Errors
+    ///
+    /// A piece that isn't UTF-8 is a `BadInput`. Its size is the number of bytes from the offset on.
     pub fn get(&self, offset: usize) -> Option<Result<&'a str>>
         ensures past { IsNone result ↔ (length self.now.bytes ≤ offset) }
         ensures read { IfSome result (λ piece. let right = plain self.now.bytes self.now.delim offset in
@@ -254,11 +279,11 @@ impl<'a> Strtab<'a> {
         string_at(self.bytes, self.delim, offset)
     }
 
-    /// Whether the piece at an offset is this name, given as its bytes. From `len()` on there is none, and
-    /// a piece that is no text is no name.
+    /// Reports whether the piece at an offset is this name, given as bytes. A piece that isn't UTF-8 is no name,
+    /// and from `len()` on there is no piece.
     ///
-    /// It reads no more of the table than as many bytes as the name has, and one. For many offsets,
-    /// [`Strtab::wanted`] looks at the name itself once.
+    /// It reads at most one byte more of the table than the name has. To test many offsets, [`Strtab::wanted`]
+    /// tests the name itself only once.
     #[tactic(auto, using(crate::proofs::WantedLemmas::name_is_standing))]
     pub fn has_name(&self, offset: usize, name: &[u8]) -> bool
         ensures { result ≡ has_name self.now offset name.now }
@@ -268,7 +293,7 @@ impl<'a> Strtab<'a> {
             && can_be_string(self.delim, name)
     }
 
-    /// A search of this table for a name, given as its bytes.
+    /// Returns a search of this table for a name, given as bytes.
     pub fn wanted<'n>(&'n self, name: &'n [u8]) -> Wanted<'n>
         ensures { result ≡ record { table = self.now; name = name.now } }
     {
@@ -278,7 +303,8 @@ impl<'a> Strtab<'a> {
         }
     }
 
-    /// The piece at an offset, which must be below `len()` and have a piece that is text. `get` tests both.
+    /// Returns the piece at an offset. The offset must be below `len()`, and the piece must be UTF-8. `get` tests
+    /// both.
     pub fn index(&self, offset: usize) -> &'a str
         requires within { offset < length self.now.bytes }
         requires text { IsOk (plain self.now.bytes self.now.delim offset) }
@@ -288,8 +314,8 @@ impl<'a> Strtab<'a> {
     }
 }
 
-/// A name that is searched for, given as its bytes, and tested once: as no text, or with the delimiter in
-/// it, no string can have it.
+/// A name to search for, given as bytes. It is tested once: no string is equal to a name that isn't UTF-8 or
+/// that contains the delimiter.
 ///
 /// <!-- quoted: crates/goblin/src/elf/sym.rt -->
 /// ```
@@ -302,7 +328,7 @@ pub struct WantedName<'n> {
     is_possible: bool,
 }
 
-// It is seen as the name and the delimiter.
+// In contracts it is the name and the delimiter.
 impl<'n> Model for WantedName<'n> {
     ghost use Rattle.std.specs.Prelude.{◌≡◌};
     ghost use Rattle.goblin_base.specs.Wanted.{Name, can_be_string};
@@ -315,7 +341,7 @@ impl<'n> Model for WantedName<'n> {
 }
 
 impl<'n> WantedName<'n> {
-    /// A name that is searched for among strings that a delimiter cuts.
+    /// Makes a search for a name among strings that a delimiter cuts.
     pub fn new(name: &'n [u8], delim: u8) -> Self
         ensures { result ≡ record { bytes = name.now; delim = delim } }
     {
@@ -326,8 +352,8 @@ impl<'n> WantedName<'n> {
         }
     }
 
-    /// Whether the piece at an offset of these strings is the name: what [`Strtab::has_name`] answers of
-    /// their table. It looks at the name no more than the strings ask for.
+    /// Reports whether the piece at an offset of these strings is the name, as [`Strtab::has_name`] does for
+    /// their table. The name is read only to compare it.
     #[tactic(auto, using(crate::proofs::WantedLemmas::name_is_standing))]
     pub fn is_at(&self, strings: &[u8], offset: usize) -> bool
         ensures { let table = unparsed strings.now self.now.delim in
@@ -351,7 +377,7 @@ pub struct Wanted<'n> {
     name: WantedName<'n>,
 }
 
-// It is seen as the table and the name.
+// In contracts it is the table and the name.
 impl<'n> Model for Wanted<'n> {
     ghost use Rattle.std.specs.Prelude.{◌≡◌};
     ghost use Rattle.goblin_base.specs.Wanted.{Search};
@@ -364,8 +390,8 @@ impl<'n> Model for Wanted<'n> {
 }
 
 impl Wanted<'_> {
-    /// Whether the piece at an offset is the name: [`Strtab::has_name`], which looks at the name no more
-    /// than the table's bytes ask for.
+    /// Reports whether the piece at an offset is the name, as [`Strtab::has_name`] does. The name is read only to
+    /// compare it.
     #[tactic(auto, unfolding(crate::specs::Strtab::has_name))]
     pub fn is_at(&self, offset: usize) -> bool
         ensures { result ≡ has_name self.now.table offset self.now.name }
@@ -375,7 +401,7 @@ impl Wanted<'_> {
     }
 }
 
-// Whether a string can have these bytes.
+// Reports whether a string can have these bytes.
 #[tactic(auto, using(crate::proofs::TextTests::utf8_tests), unfolding(crate::specs::Wanted::can_be_string))]
 fn can_be_string(delim: u8, name: &[u8]) -> bool
     ensures { result ≡ can_be_string delim name.now }
@@ -383,7 +409,7 @@ fn can_be_string(delim: u8, name: &[u8]) -> bool
     std::str::from_utf8(name).is_ok() && !name.contains(&delim)
 }
 
-// Whether the bytes at an offset begin with these, and end there or go on with the delimiter.
+// Reports whether the bytes at an offset begin with the name, and the delimiter or the end comes after it.
 #[tactic(auto, unfolding(crate::specs::Wanted::stands_at))]
 fn stands_at(bytes: &[u8], delim: u8, offset: usize, name: &[u8]) -> bool
     requires { offset ≤ length bytes.now }
@@ -396,7 +422,7 @@ fn stands_at(bytes: &[u8], delim: u8, offset: usize, name: &[u8]) -> bool
     }
 }
 
-/// The table of no bytes, with the delimiter 0, which is not parsed.
+/// Returns the table of no bytes, with the delimiter 0, which isn't parsed.
 impl Default for Strtab<'_> {
     ghost use Rattle.std.specs.Prelude.{◌≡◌, [], false};
 
@@ -407,10 +433,14 @@ impl Default for Strtab<'_> {
     }
 }
 
-/// The bytes of a table whose `len` bytes are asked for at an offset of a file.
+/// Returns the `len` bytes of a string table at an offset of a file.
 ///
-/// In strict mode an offset past the file's end is a `StrtabOffset`; else an end past the file's end, or
-/// past `usize`, is a `StrtabRange`. Permissive mode shortens the range to the file, and refuses nothing.
+/// Permissive mode cuts the range at the end of the file, and never fails.
+///
+/// # Errors
+///
+/// Strict mode fails with `StrtabOffset` if the offset is past the end of the file. Otherwise it fails with
+/// `StrtabRange` if the range ends past the end of the file, or past `usize::MAX`.
 #[tactic(auto, unfolding(crate::specs::Strtab::range_in))]
 pub fn bytes_in_range(bytes: &[u8], offset: usize, len: usize, mode: ParseMode) -> Result<&[u8]>
     ensures exact { let right = refuse_as malformed (range_in mode bytes.now offset len) in
@@ -442,8 +472,11 @@ pub fn bytes_in_range(bytes: &[u8], offset: usize, len: usize, mode: ParseMode) 
     Ok(&bytes[offset..end])
 }
 
-/// The piece at an offset of bytes that a delimiter cuts into strings, or `None` from their length on. A
-/// piece that is no text is a `BadInput`, whose size is the number of bytes from the offset on.
+/// Returns the piece at an offset of bytes that a delimiter cuts into strings, or `None` from their length on.
+///
+/// # Errors
+///
+/// A piece that isn't UTF-8 is a `BadInput`. Its size is the number of bytes from the offset on.
 pub fn string_at(bytes: &[u8], delim: u8, offset: usize) -> Option<Result<&str>>
     ensures past { IsNone result ↔ (length bytes.now ≤ offset) }
     ensures read { IfSome result (λ piece. let right = plain bytes.now delim offset in
@@ -456,7 +489,7 @@ pub fn string_at(bytes: &[u8], delim: u8, offset: usize) -> Option<Result<&str>>
     }
 }
 
-// The texts of entries.
+// Returns the texts of the entries.
 fn texts<'a>(alloc: Global, entries: &Entries<'a>) -> Result<Vec<&'a str>>
     ensures ok { IfOk result (λ v. map (λ text. text.now) v.items ≡ map text_of entries.now) }
     ensures err { IfErr result (λ e. e ≡ Error.Memory alloc_error) }
@@ -469,7 +502,7 @@ fn texts<'a>(alloc: Global, entries: &Entries<'a>) -> Result<Vec<&'a str>>
     Ok(texts)
 }
 
-// Which entry is the last at or before an offset, and its place.
+// Returns the index and the offset of the last entry at or before an offset.
 fn last_entry(entries: &Entries<'_>, offset: usize) -> Option<(usize, usize)>
     ensures { let places = places_of entries.now in
         MatchOption result
@@ -482,7 +515,7 @@ fn last_entry(entries: &Entries<'_>, offset: usize) -> Option<(usize, usize)>
     Some((k, place))
 }
 
-// The rest of a text, unless it would begin inside a character.
+// Returns the rest of a text, or `None` if it would begin inside a character.
 fn rest_of(text: &str, from: usize) -> Option<&str>
     ensures { MatchOption result
         (¬ (IsCharBoundary text.now from))
@@ -495,7 +528,7 @@ fn rest_of(text: &str, from: usize) -> Option<&str>
     }
 }
 
-/// Laws of string tables, over their definitions alone.
+/// Laws of string tables. They speak of the definitions only.
 pub fn laws()
     ensures text_is_utf8 { TextIsUtf8 }
     ensures closed_form { ClosedForm }

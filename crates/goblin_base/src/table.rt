@@ -1,4 +1,4 @@
-//! Tables of records that are read from borrowed bytes as they are asked for.
+//! Tables of records in borrowed bytes. A record is read when it is asked for.
 ghost use Rattle.std.specs.Prelude.{◌≡◌, ◌≤◌, ◌*◌, ◌↔◌, IsTrue, IfOk, IfSome, IfErr, alloc_error, ◌+◌, ◌/◌, ◌<◌, OnOk, take, drop, [], List, length, slice_get, ◌^◌, ℕ, All, flat_map, IsOk};
 ghost use Rattle.std.specs.Iterator.{UpTo, YieldsFirst, item_count};
 ghost use Rattle.std.specs.Iterator.SizeHint.{IsWithinCount};
@@ -17,9 +17,9 @@ use std::alloc::Global;
 use std::marker::{Model, PhantomData};
 use std::result;
 
-/// Records that lie one after another from the start of borrowed bytes.
+/// A table of records that lie one after another from the start of borrowed bytes.
 ///
-/// It takes no memory, and what it gives outlives it. Reading a record of it can't fail.
+/// It allocates nothing, and what it returns outlives it. Reading one of its records can't fail.
 #[derive(Debug, Drop)]
 pub struct Table<'a, R: Record<C>, C: Copy> {
     bytes: &'a [u8],
@@ -28,7 +28,7 @@ pub struct Table<'a, R: Record<C>, C: Copy> {
     of: PhantomData<R>,
 }
 
-// A table is seen as the list of its records.
+// In contracts a table is the list of its records.
 impl<'a, R: Record<C>, C: Copy> Model for Table<'a, R, C> {
     ghost use Rattle.std.specs.Prelude.{◌≤◌, ◌*◌, List, length};
     ghost use Rattle.goblin_base.specs.Table.{records};
@@ -41,7 +41,7 @@ impl<'a, R: Record<C>, C: Copy> Model for Table<'a, R, C> {
 }
 
 impl<'a, R: Record<C>, C: Copy> Table<'a, R, C> {
-    /// The table of the first `count` records of the bytes, which must hold so many.
+    /// Makes the table of the first `count` records of the bytes, which must be long enough.
     pub fn of(bytes: &'a [u8], count: usize, ctx: C) -> Self
         requires { count * R.size_of ctx ≤ length bytes.now }
         ensures { result ≡ records (R.size_of ctx) (R.read ctx) count bytes.now }
@@ -54,10 +54,13 @@ impl<'a, R: Record<C>, C: Copy> Table<'a, R, C> {
         }
     }
 
-    /// The table of the `count` records that lie one after another from an offset on.
+    /// Makes the table of `count` records that lie one after another from an offset on.
     ///
-    /// The first record without room gives its fault. Where `count` is 0 the table is empty, whatever
-    /// the offset.
+    /// If `count` is 0 the table is empty, whatever the offset.
+    ///
+    /// # Errors
+    ///
+    /// Fails as [`room`] does for the first record that doesn't lie in the bytes.
     #[tactic(auto, using(crate::proofs::Eager::lists), unfolding(crate::specs::Eager::records_in, crate::specs::Eager::records_from))]
     pub fn in_range(bytes: &'a [u8], offset: usize, count: usize, ctx: C) -> Result<Self>
         ensures exact { let right =
@@ -73,10 +76,13 @@ impl<'a, R: Record<C>, C: Copy> Table<'a, R, C> {
         Ok(Table::of(&bytes[offset..], count, ctx))
     }
 
-    /// The table of [`Table::in_range`], where the bytes could hold so many records.
+    /// Makes the same table as [`Table::in_range`], but first tests whether all the bytes could hold so many
+    /// records.
     ///
-    /// More records than they could hold anywhere are a `BufferTooShort` of these items, whatever the
-    /// offset.
+    /// # Errors
+    ///
+    /// Fails with `BufferTooShort`, which names `items`, if they couldn't, whatever the offset. Otherwise
+    /// fails as [`Table::in_range`] does.
     #[tactic(auto, using(crate::proofs::Eager::lists), unfolding(crate::specs::Eager::records_in, crate::specs::Eager::records_from))]
     pub fn counted(
         bytes: &'a [u8],
@@ -97,7 +103,7 @@ impl<'a, R: Record<C>, C: Copy> Table<'a, R, C> {
         }
     }
 
-    /// How many records there are.
+    /// Returns the number of records.
     #[tactic(auto, using(crate::proofs::Records::record_steps))]
     pub fn len(&self) -> usize
         ensures value { result ≡ length self.now }
@@ -106,7 +112,7 @@ impl<'a, R: Record<C>, C: Copy> Table<'a, R, C> {
         self.count
     }
 
-    /// Whether there are none.
+    /// Reports whether the table has no records.
     #[tactic(auto, using(crate::proofs::Records::record_steps))]
     pub fn is_empty(&self) -> bool
         ensures { IsTrue result ↔ (self.now ≡ []) }
@@ -114,7 +120,7 @@ impl<'a, R: Record<C>, C: Copy> Table<'a, R, C> {
         self.count == 0
     }
 
-    /// The record at an index, or `None` from `len()` on.
+    /// Returns the record at an index, or `None` from `len()` on.
     #[tactic(auto, using(crate::proofs::Records::record_steps))]
     pub fn get(&self, index: usize) -> Option<R>
         ensures { result ≡ slice_get self.now index }
@@ -127,7 +133,7 @@ impl<'a, R: Record<C>, C: Copy> Table<'a, R, C> {
         R::read_record(&self.bytes[start..start + size], self.ctx).ok()
     }
 
-    // Takes the first record off the table, or answers `None` where there is none.
+    // Removes the first record and returns it, or returns `None` if none is left.
     #[tactic(auto, using(crate::proofs::Records::record_steps))]
     fn take_first(&mut self) -> Option<R>
         ensures { YieldsFirst (λ left. left) self.old result self.new }
@@ -142,7 +148,7 @@ impl<'a, R: Record<C>, C: Copy> Table<'a, R, C> {
         R::read_record(&bytes[..size], self.ctx).ok()
     }
 
-    /// An iterator over the records, from the first one on.
+    /// Returns an iterator over the records, from the first to the last.
     #[tactic(auto, using(crate::proofs::Records::record_steps))]
     pub fn iter(&self) -> TableIter<'a, R, C>
         ensures exact { result ≡ self.now }
@@ -153,7 +159,11 @@ impl<'a, R: Record<C>, C: Copy> Table<'a, R, C> {
         }
     }
 
-    /// The records as a vector. Only want of memory is an error, and none is taken for no records.
+    /// Returns the records as a vector. An empty table allocates nothing.
+    ///
+    /// # Errors
+    ///
+    /// Fails with out of memory only.
     pub fn to_vec(&self, alloc: Global) -> Result<Vec<R>>
         ensures ok { IfOk result (λ v. v.items ≡ self.now) }
         ensures err { IfErr result (λ e. e ≡ Error.Memory alloc_error) }
@@ -172,7 +182,7 @@ pub struct TableIter<'a, R: Record<C>, C: Copy> {
     left: Table<'a, R, C>,
 }
 
-// An iterator is seen as the list of the records that are left.
+// In contracts an iterator is the list of the records that are left.
 impl<'a, R: Record<C>, C: Copy> Model for TableIter<'a, R, C> {
     ghost use Rattle.std.specs.Prelude.{List};
 
@@ -195,7 +205,7 @@ impl<'a, R: Record<C>, C: Copy> Iterator for TableIter<'a, R, C> {
     fn size_hint(&self) -> (usize, Option<usize>)
         ensures lower { IsWithinCount result.0 (item_count (λ left. left) self.now) }
         ensures upper { IfSome result.1 (UpTo (item_count (λ left. left) self.now)) }
-        // Both bounds are the number of records that are left.
+        // Both bounds are the number of records left.
         ensures exact { result ≡ (length self.now, Some (length self.now)) }
     {
         let len = self.len();
@@ -209,7 +219,11 @@ impl<'a, R: Record<C>, C: Copy> ExactSizeIterator for TableIter<'a, R, C> {
     }
 }
 
-/// The record that the piece at a place stands for, or the fault of room there.
+/// Reads the record at an offset.
+///
+/// # Errors
+///
+/// Fails as [`room`] does if the record doesn't lie in the bytes.
 #[tactic(auto, using(crate::proofs::Eager::lists))]
 pub fn read_at<R: Record<C>, C: Copy>(bytes: &[u8], place: usize, ctx: C) -> Result<R>
     ensures exact { let size = R.size_of ctx in
@@ -222,12 +236,16 @@ pub fn read_at<R: Record<C>, C: Copy>(bytes: &[u8], place: usize, ctx: C) -> Res
     R::read_record(&bytes[place..place + size], ctx)
 }
 
-/// The `count` records that lie one after another from an offset on, as a vector.
+/// Reads `count` records that lie one after another from an offset on, into a vector.
 ///
-/// More records than the bytes could hold anywhere are a `BufferTooShort` of these items. Else memory
-/// is taken for all of them at once, and the first record without room gives its fault. Where `count`
-/// is 0 the list is empty, whatever the offset, and takes no memory. So want of memory can stand in
-/// place of a record's fault, but never of a `BufferTooShort`.
+/// If `count` is 0 the vector is empty, whatever the offset, and nothing is allocated. Otherwise the whole
+/// vector is allocated before the first record is read.
+///
+/// # Errors
+///
+/// Fails with `BufferTooShort`, which names `items`, if all the bytes couldn't hold so many records. Otherwise
+/// fails as [`room`] does for the first record that doesn't lie in the bytes, or with out of memory. Out of
+/// memory can mask a record's error, but never `BufferTooShort`.
 #[tactic(auto, using(crate::proofs::Eager::lists), unfolding(crate::specs::Eager::records_in, crate::specs::Eager::records_from))]
 pub fn read_all<R: Record<C>, C: Copy>(
     alloc: Global,
@@ -261,8 +279,8 @@ pub fn read_all<R: Record<C>, C: Copy>(
     Ok(all)
 }
 
-// Whether there is room for each of `count` records of a size from an offset on, or the fault of the
-// first without: that of the place behind those that fit.
+// Tests whether `count` records of a size lie in `len` bytes from an offset on. Otherwise fails as `room` does
+// for the first one that doesn't: the one after those that fit.
 #[tactic(auto, using(crate::proofs::Eager::rooms))]
 fn room_for_each(
     len: usize,
@@ -287,11 +305,14 @@ fn room_for_each(
     room(len, offset + fitting * size, size)
 }
 
-/// The records of [`Table::in_range`] as a vector.
+/// Reads the records of [`Table::in_range`] into a vector.
 ///
-/// The first record without room gives its fault, before any memory is taken, so that want of memory
-/// stands in place of no fault. Where `count` is 0 the list is empty, whatever the offset, and takes
-/// no memory.
+/// If `count` is 0 the vector is empty, whatever the offset, and nothing is allocated.
+///
+/// # Errors
+///
+/// Fails as [`room`] does for the first record that doesn't lie in the bytes. That is tested before anything
+/// is allocated, so out of memory never masks it. Otherwise fails with out of memory only.
 #[tactic(auto, using(crate::proofs::Eager::lists), unfolding(crate::specs::Eager::records_in, crate::specs::Eager::records_from))]
 pub fn read_in_range<R: Record<C>, C: Copy>(
     alloc: Global,
@@ -310,15 +331,15 @@ pub fn read_in_range<R: Record<C>, C: Copy>(
     Table::in_range(bytes, offset, count, ctx)?.to_vec(alloc)
 }
 
-/// A law: a list of records that fit, written one after another, is read as the same list.
+/// A law: records that fit, written one after another, are read back as the same list.
 pub fn read_back<R: Record<C>, C: Copy>()
     ensures { (ctx : C) (all : List R)
         → All (R.fits ctx) all
         → records (R.size_of ctx) (R.read ctx) (length all) (flat_map (R.image ctx) all) ≡ all }
 {}
 
-/// A law: the records of a range depend on that range alone, so that byte lists that agree on it
-/// hold the same records there.
+/// A law: the records of a range depend on that range only. Two byte lists that agree there hold the same
+/// records there.
 #[tactic(auto, using(crate::proofs::Eager::same))]
 pub fn same_range<R: Record<C>, C: Copy>()
     ensures { (ctx : C) (count : ℕ) (bytes others : List ℕ)

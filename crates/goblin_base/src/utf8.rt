@@ -1,4 +1,4 @@
-//! Text: well-formed UTF-8, as Unicode's definition D92 and table 3-7 give it.
+//! Well-formed UTF-8: the Unicode Standard, definition D92 and table 3-7.
 ghost use Rattle.std.specs.Prelude.{◌≡◌, ◌↔◌, IsTrue};
 ghost use Rattle.std.specs.Str.{continuation_len};
 ghost use Rattle.std.specs.Str.Lossy.{second_byte_min, second_byte_max};
@@ -8,7 +8,11 @@ ghost use Rattle.goblin_base.specs.Utf8.{after_byte, after_first_byte, awaits_fi
 use crate::error::{Error, Result};
 use crate::scroll;
 
-/// The bytes as a text. Where they are none, it is a `BadInput` of this size.
+/// Returns the bytes as a string.
+///
+/// # Errors
+///
+/// Fails with `BadInput`, which has this size, if they aren't UTF-8.
 #[tactic(auto, using(crate::proofs::TextTests::utf8_tests))]
 pub fn read_text(bytes: &[u8], size: usize) -> Result<&str>
     ensures { Answers (λ text. text.now) result (text_or_fault bytes.now size) }
@@ -19,7 +23,7 @@ pub fn read_text(bytes: &[u8], size: usize) -> Result<&str>
     }
 }
 
-/// The fault of bytes that are no text, with how many bytes there are from their start on.
+/// Returns the error for bytes that aren't UTF-8. The size is the number of bytes from their start on.
 pub fn invalid_utf8(size: usize) -> Error
     ensures { refusal_of result ≡ invalid_utf8 size }
 {
@@ -29,7 +33,8 @@ pub fn invalid_utf8(size: usize) -> Error
     })
 }
 
-/// How many bytes of a character are still to come, and from which to which byte the next one may be.
+/// The state between two bytes of UTF-8: how many bytes of a character are missing, and the least and the
+/// greatest value of the next one.
 #[derive(Clone, Copy)]
 pub(crate) struct Awaited {
     more: u8,
@@ -38,7 +43,7 @@ pub(crate) struct Awaited {
 }
 
 impl Awaited {
-    /// A character may begin.
+    /// Returns the state in which a character may begin.
     pub(crate) fn first() -> Awaited
         ensures { result ≡ awaits_first }
     {
@@ -49,14 +54,14 @@ impl Awaited {
         }
     }
 
-    /// No byte is missing.
+    /// Reports whether no byte is missing.
     pub(crate) fn is_whole(self) -> bool
         ensures { IsTrue result ↔ (self.more ≡ 0) }
     {
         self.more == 0
     }
 
-    /// What may follow a byte, if it may come here.
+    /// Returns the state after a byte, or `None` if the byte may not come here.
     pub(crate) fn after(self, byte: u8) -> Option<Awaited>
         ensures { result ≡ after_byte self byte }
     {
@@ -74,7 +79,17 @@ impl Awaited {
     }
 }
 
-// What may follow a character's first byte, if it is one.
+// Returns the state after the first byte of a character, or `None` if no character begins with it.
+//
+//     first byte               missing   second byte
+//     00..7F                   0
+//     C2..DF                   1         80..BF
+//     E0                       2         A0..BF
+//     E1..EC, EE, EF           2         80..BF
+//     ED                       2         80..9F
+//     F0                       3         90..BF
+//     F1..F3                   3         80..BF
+//     F4                       3         80..8F
 fn after_first_byte(byte: u8) -> Option<Awaited>
     ensures { result ≡ after_first_byte byte }
 {
@@ -91,7 +106,7 @@ fn after_first_byte(byte: u8) -> Option<Awaited>
     }
 }
 
-// How many bytes follow a character's first byte.
+// Returns how many bytes follow a first byte.
 fn following(first: u8) -> u8
     ensures { result ≡ continuation_len first }
 {
@@ -106,7 +121,7 @@ fn following(first: u8) -> u8
     }
 }
 
-// The least byte that may follow a first byte.
+// Returns the least second byte.
 fn least_second(first: u8) -> u8
     ensures { result ≡ second_byte_min first }
 {
@@ -119,7 +134,7 @@ fn least_second(first: u8) -> u8
     }
 }
 
-// The greatest byte that may follow a first byte.
+// Returns the greatest second byte.
 fn most_second(first: u8) -> u8
     ensures { result ≡ second_byte_max first }
 {

@@ -1,4 +1,4 @@
-//! The walk that makes the entries of a string table, within five looks a byte.
+//! The walk that makes the entries of a string table. It looks at most five times at each byte, on average.
 ghost use Rattle.std.specs.Prelude.{◌≡◌, ◌+◌, ◌-◌, ◌*◌, ◌<◌, ◌≤◌, ◌≢◌, [], false, min, length, IfErr, IfOk, IsOk};
 ghost use Rattle.goblin_base.specs.Entries.{CountsAtLeast};
 ghost use Rattle.goblin_base.specs.Pieces.{first_bad, piece_end};
@@ -14,13 +14,24 @@ use crate::utf8::{Awaited, invalid_utf8};
 use std::alloc::{AllocError, Global};
 use std::result;
 
-/// The entries of the view's bytes, which the delimiter cuts into pieces.
+/// Makes the entries of the view's bytes, which the delimiter cuts into pieces.
 ///
-/// From place 0 on, while a place is below the length: a piece that is text is the entry there, and the walk
-/// goes on behind the piece and its delimiter. A piece that is no text is refused in strict mode by a
-/// `BadInput`, whose size is the number of bytes from the place on; in permissive mode it is an entry with no
-/// text, and the walk goes on one byte further. Faults come in the order of places: want of memory for an
-/// earlier place comes before a later piece's fault. No bytes take no memory.
+/// The walk starts at offset 0. If the piece from its offset on is UTF-8, that is an entry, and the walk goes on
+/// after the piece and its delimiter. Otherwise strict mode refuses the piece; in permissive mode it becomes an
+/// entry with an empty text, and the walk goes on one byte further:
+///
+/// ```text
+/// bytes      a   b   0   FF  c   0   d      (the delimiter is 0)
+/// entries    "ab"        ""  "c"     "d"    (each below the byte at its offset)
+/// ```
+///
+/// An empty view allocates nothing.
+///
+/// # Errors
+///
+/// In strict mode fails with `BadInput` for the first piece that isn't UTF-8. Its size is the number of bytes
+/// from that piece on. In either mode fails with out of memory. Errors come in the order of offsets: out of
+/// memory for an entry comes before the error of a later piece.
 ///
 /// <!-- quoted: crates/goblin_uses/src/names.rt -->
 /// ```
@@ -41,13 +52,13 @@ pub fn walk<'a>(
     ensures looks_least { let least = length view.old.bytes in
         IfOk result (λ _. CountsAtLeast view.old.count least view.new.count) }
 
-    // So many were looked at, at least, for a piece to be refused: those before it, and its own.
+    // Before a piece is refused, at least as many looks are taken as bytes come before its end.
     ensures looks_least_refused { let bad = first_bad view.old.bytes delim in
         let least = piece_end view.old.bytes delim bad in
         IfErr result (λ e. refusal_of e ≢ out_of_memory
         → CountsAtLeast view.old.count least view.new.count) }
 
-    // Where memory has not been taken yet it is not wanted.
+    // The first piece is tested before anything is allocated.
     ensures first { RefusesFirst mode view.old.bytes delim result }
     ensures none { (view.old.bytes ≡ []) → IsOk result }
 {
@@ -67,7 +78,7 @@ pub fn walk<'a>(
     Ok(view.entries(places, i))
 }
 
-// Where the piece at a place ends.
+// Returns the offset at which the piece at an offset ends.
 fn end_of_piece(view: &mut Looked<'_>, delim: u8, from: usize) -> usize
     requires { from ≤ length view.old.bytes }
     ensures value { result ≡ piece_end view.old.bytes delim from }
@@ -89,8 +100,16 @@ fn end_of_piece(view: &mut Looked<'_>, delim: u8, from: usize) -> usize
     end
 }
 
-// The entries of a piece, one attempt to read it as text after another. The answer is where the walk goes
-// on: at the piece's end, or behind its delimiter.
+// Adds the entries of a piece that isn't UTF-8 from its start on. Returns where the walk goes on: at the piece's
+// end, or after its delimiter.
+//
+// `scan` reads from `i` on and stops at a byte that may not come there. Then no rest of the piece that begins
+// before `next` is UTF-8: these are entries with an empty text, and the next attempt begins at `next`.
+//
+//     from             i                next              end
+//     | empty entries  | empty entries  | not yet read .. | delimiter
+//
+// So each byte is looked at by at most two attempts.
 fn walk_damaged(
     view: &mut Looked<'_>,
     delim: u8,
@@ -129,15 +148,15 @@ fn walk_damaged(
     Ok(i)
 }
 
-/// What an attempt to read a piece as text found.
+/// The result of reading a piece as UTF-8 from an offset on.
 enum Found {
-    /// The piece is text, and ends there.
+    /// The piece is UTF-8. It ends at this offset.
     Whole(usize),
-    /// The piece is no text, and none is that begins before there.
+    /// The piece isn't UTF-8, and neither is any rest of it that begins before this offset.
     Fault(usize),
 }
 
-// Reads forward from a place, up to the end of its piece or a byte that may not come there.
+// Reads from an offset on, up to the end of its piece or to a byte that may not come there.
 fn scan(view: &mut Looked<'_>, delim: u8, from: usize) -> Found
     requires { from < length view.old.bytes }
     ensures found { IsScan view.old.bytes delim from result }
@@ -162,7 +181,7 @@ fn scan(view: &mut Looked<'_>, delim: u8, from: usize) -> Found
     ended(awaited, at)
 }
 
-// What an attempt found that comes to the end of its piece.
+// Returns the result of an attempt that reaches the end of its piece.
 fn ended(awaited: Awaited, at: usize) -> Found
     ensures { result ≡ scan_end awaited at }
 {
