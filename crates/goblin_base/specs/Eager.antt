@@ -1,4 +1,4 @@
--- Lists of records that are read at once.
+-- Lists of records that are read at once, one after another from an offset on.
 use Rattle.std.specs.Prelude.{◌+◌, ◌/◌, ℕ, zero, suc, nat_lt, List, length, drop, Result, Ok}
 use Rattle.goblin_base.specs.declared.scroll.Error.{Error as Misplaced}
 use Rattle.goblin_base.specs.Refusal.{Refusal, buffer_too_short, misplaced}
@@ -6,23 +6,21 @@ use Rattle.goblin_base.specs.Room.{room_of}
 use Rattle.goblin_base.specs.Steps.{◌>>=◌, refuse_if, refuse_as}
 use Rattle.goblin_base.specs.Table.{records}
 
--- whether there is room for so many records of a size, one after another from an offset on; the first without
--- room gives its fault
+-- `count` records lie in `len` bytes from an offset on, or else the error of the first one that doesn't
 abbrev pub room_of_each : ℕ → ℕ → ℕ → ℕ → Result (Unit {0}) Misplaced
 room_of_each len offset size zero = Ok tt
 room_of_each len offset size (suc count) = do
   _ ← room_of len offset size
   room_of_each len (offset + size) size count
 
--- so many records from an offset on: more than the bytes could hold anywhere are refused as too many of these
--- items, and else the first without room is refused
+-- the records, after a test that the bytes could hold so many at all: if they couldn't, the error names `items`
 unfoldable pub records_from : {R : Type 0} → ℕ → (List ℕ → R) → List ℕ → ℕ → ℕ → List ℕ → Result (List R) Refusal
 records_from size read bytes offset count items = do
   _ ← refuse_if (nat_lt (length bytes / size) count) (buffer_too_short count items)
   _ ← refuse_as misplaced (room_of_each (length bytes) offset size count)
   Ok (records size read count (drop offset bytes))
 
--- so many records from an offset on, of which the first without room is refused
+-- the records, or the error of the first one that doesn't lie in the bytes
 unfoldable pub records_in : {R : Type 0} → ℕ → (List ℕ → R) → List ℕ → ℕ → ℕ → Result (List R) Refusal
 records_in size read bytes offset count = do
   _ ← refuse_as misplaced (room_of_each (length bytes) offset size count)

@@ -1,13 +1,13 @@
--- A number that is put into a slice.
+-- Writing a number into a slice.
 use Rattle.std.specs.Prelude.{◌≡◌, ◌≤◌, ◌+◌, ◌%◌, ◌^◌, ℕ, List, ◌++◌, length, take, drop}
 use Rattle.goblin_base.specs.declared.container.Endian.{Endian}
 use Rattle.goblin_base.specs.Number.{number_at, spelled}
 
--- the bytes with a number spelled at a place, in so many bytes, and the others as they were
+-- the bytes after a number was written to `width` bytes at an offset
 unfoldable pub with_number : Endian → List ℕ → ℕ → ℕ → ℕ → List ℕ
 with_number order bytes place width x = take place bytes ++ spelled order width x ++ drop (place + width) bytes
 
--- what was put at a place is read there, as far as its width holds it
+-- a number that was written is read back, cut to its width
 abbrev pub ReadsWhatWasPut : Type 0
 ReadsWhatWasPut =
     (order : Endian) (bytes : List ℕ) (place width x : ℕ) → place + width ≤ length bytes

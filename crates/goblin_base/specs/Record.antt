@@ -5,21 +5,21 @@ use Rattle.goblin_base.specs.declared.error.Error.TheVariants.{Scroll}
 use Rattle.goblin_base.specs.declared.scroll.Error.{Error as Misplaced}
 use Rattle.goblin_base.specs.Room.{room_of}
 
--- a value where there is room, and else the fault
+-- a value, or the error if a test of room failed
 abbrev pub unless_fault : {X : Type 0} → Result (Unit {0}) Misplaced → X → Result X Error
 unless_fault (Ok _) x = Ok x
 unless_fault (Err e) x = Err (Scroll e)
 
--- what reading a record of a size at the start of some bytes answers
+-- the record in the first `size` bytes, or the error of room if there are fewer
 unfoldable pub read_within : {X : Type 0} → ℕ → (List ℕ → X) → List ℕ → Result X Error
 read_within size read bytes = unless_fault (room_of (length bytes) 0 size) (read bytes)
 
--- where there is room, the image stands in front, the other bytes are as they were, and the answer is the size;
--- else nothing has changed, and the answer is the fault
+-- after the test of room: the image is written to the start, no other byte changes, and the size is returned;
+-- or nothing changes, and the error is returned
 abbrev pub WritesUnless : Result (Unit {0}) Misplaced → ℕ → List ℕ → List ℕ → Result ℕ Error → List ℕ → Type 0
 WritesUnless (Ok _) size image old answer new = (answer ≡ Ok size) × (new ≡ image ++ drop size old)
 WritesUnless (Err e) size image old answer new = (answer ≡ Err (Scroll e)) × (new ≡ old)
 
--- what writing the image of a record of a size over old bytes answers, and which bytes it leaves
+-- what writing the image of a record over old bytes returns, and the new bytes
 unfoldable pub Writes : ℕ → List ℕ → List ℕ → Result ℕ Error → List ℕ → Type 0
 Writes size image old answer new = WritesUnless (room_of (length old) 0 size) size image old answer new

@@ -1,10 +1,10 @@
--- Whether a slice has room for some bytes.
+-- The test whether some bytes lie in a slice.
 use Rattle.std.specs.Prelude.{◌-◌, ◌&&◌, ◌||◌, ◌==◌, ℕ, nat_lt, if◌then◌else◌, Result, Ok, Err}
 use Rattle.goblin_base.specs.declared.scroll.Error.{Error as Misplaced}
 use Rattle.goblin_base.specs.declared.scroll.Error.TheVariants.{TooBig, BadOffset}
 
--- whether there is room for `size` bytes at `offset` of a slice of `len` bytes, and else which fault it is:
--- nothing fits past the end, only no bytes fit at the end, and elsewhere no more than are left
+-- `size` bytes at `offset` lie in a slice of `len` bytes, or else the error: the offset is past the end, or at the end
+-- when bytes are needed; or too few bytes are left
 unfoldable pub room_of : ℕ → ℕ → ℕ → Result (Unit {0}) Misplaced
 room_of len offset size =
     if nat_lt len offset || ((offset == len) && nat_lt 0 size) then Err (BadOffset offset)

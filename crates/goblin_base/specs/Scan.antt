@@ -1,4 +1,4 @@
--- What the walk over a string table's bytes has found so far.
+-- What the walk over a string table's bytes finds.
 use Rattle.std.specs.Prelude.{◌≡◌, ℕ, ◌+◌, ◌-◌, ◌*◌, ◌<◌, ◌≤◌, ◌==◌, false, true, List, ◌++◌, length, if◌then◌else◌}
 use Rattle.goblin_base.specs.declared.utf8.Awaited.{Awaited}
 use Rattle.goblin_base.specs.declared.walk.Found.{Found}
@@ -6,31 +6,32 @@ use Rattle.goblin_base.specs.declared.walk.Found.TheVariants.{Whole, Fault}
 use Rattle.goblin_base.specs.Entries.{AreKept, entries_between}
 use Rattle.goblin_base.specs.Pieces.{piece_end, is_readable, entries_from, entries}
 
--- from o up to p no place has a piece that is text
+-- no offset from o up to p has a piece that is UTF-8
 abbrev pub NoneReadable : List ℕ → ℕ → ℕ → ℕ → Type 0
 NoneReadable bytes delim o p = (q : ℕ) → o ≤ q → q < p → is_readable bytes delim q ≡ false
 
--- what an attempt at o found is so: where its piece ends, or up to where no place has a piece that is text
+-- the result of an attempt at o is right: the piece is UTF-8 and ends there, or no offset before `next` has such a
+-- piece
 abbrev pub IsScan : List ℕ → ℕ → ℕ → Found → Type 0
 IsScan bytes delim o (Whole end) =
     (is_readable bytes delim o ≡ true) × (end ≡ piece_end bytes delim o) × (o ≤ end) × (end ≤ length bytes)
 IsScan bytes delim o (Fault next) = NoneReadable bytes delim o next × (o < next) × (next ≤ length bytes)
 
--- how many looks an attempt may take: one more than the bytes of the piece, or twice as many as places are passed
+-- the looks that an attempt may take: the bytes of the piece and one more, or two for each byte that is passed
 abbrev pub looks_of : ℕ → Found → ℕ
 looks_of o (Whole end) = end + 1 - o
 looks_of o (Fault next) = 2 * (next - o)
 
--- where what an attempt found ends
+-- the end of the piece, or where the next attempt begins
 abbrev pub found_end : Found → ℕ
 found_end (Whole end) = end
 found_end (Fault next) = next
 
--- what an attempt found that came to the end of its piece
+-- the result of an attempt that reaches the end of its piece
 abbrev pub scan_end : Awaited → ℕ → Found
 scan_end awaited at = if awaited.more == 0 then Whole at else Fault at
 
--- the entries at these places, closed at i, and those from i on are all entries
+-- the walk has come to i: the entries at these places and those from i on are all entries
 pub record IsWalkedTo (bytes : List ℕ) (delim : ℕ) (places : List ℕ) (i : ℕ) : Type 0 where
   pub kept : AreKept bytes places i
   pub found : entries_between bytes places i ++ entries_from bytes delim i ≡ entries bytes delim

@@ -1,24 +1,24 @@
--- A name that is looked for among the strings of a table.
+-- A name that is searched for among the strings of a table.
 use Rattle.std.specs.Prelude.{ℕ, Bool, not, ◌&&◌, ◌||◌, ◌==◌, List, length, take, drop, slice_index, nat_le}
 use Rattle.std.specs.List.{list_any}
 use Rattle.std.specs.Str.{bytes_eq, is_utf8}
 use Rattle.goblin_base.specs.Strtab.{StringTable}
 
--- a name's bytes, and the delimiter of the strings that it is searched for among
+-- the bytes of a name, and the delimiter of the strings that are searched
 pub record Name : Type 0 where
   pub bytes : List ℕ
   pub delim : ℕ
 
--- the table, and the name's bytes
+-- the table, and the bytes of the name
 pub record Search : Type 0 where
   pub table : StringTable
   pub name : List ℕ
 
--- a string can have these bytes: they are text, and hold no delimiter
+-- a string can have these bytes: they are UTF-8, and don't contain the delimiter
 unfoldable pub can_be_string : ℕ → List ℕ → Bool
 can_be_string delim name = is_utf8 name && not (list_any (λ b. b == delim) name)
 
--- the bytes at o begin with these, and behind them the delimiter stands, or the bytes end
+-- the bytes at o begin with the name, and the delimiter or the end comes after it
 unfoldable pub stands_at : List ℕ → ℕ → ℕ → List ℕ → Bool
 stands_at bytes delim o name =
     bytes_eq (take (length name) (drop o bytes)) name
