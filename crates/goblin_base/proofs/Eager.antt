@@ -37,7 +37,8 @@ pub record ReadSoFar {R : Type 0} (size : ℕ) (read : List ℕ → R) (bytes : 
 
 -- the record at an offset, or the fault of an offset without room
 abbrev read_there : {R : Type 0} → ℕ → (List ℕ → R) → List ℕ → ℕ → Result R Error
-read_there size read bytes place = unless_fault (room_of (length bytes) place size) (read (take size (drop place bytes)))
+read_there size read bytes place =
+    unless_fault (room_of (length bytes) place size) (read (take size (drop place bytes)))
 
 -- i + 1 records are the first i and the one at `place`
 one_more : {R : Type 0} (size : ℕ) (read : List ℕ → R) (bytes : List ℕ) (offset i place : ℕ)

@@ -78,7 +78,8 @@ module _ {bytes : List ℕ} {d o p : ℕ} {s : Awaited} where
             (λ (z : q < p). step.forth _ (subst (CompletesFrom s) split (h.forth q x z r)))
             (λ (z : p ≤ q). let same : q ≡ p = omega arith in
             step.excludes _
-            (subst (Completes 0 0x80 0xbf) split (completes_if_readable bytes d p (ap (is_readable bytes d) (sym same) ∙ r))))
+            (subst (Completes 0 0x80 0xbf) split
+            (completes_if_readable bytes d p (ap (is_readable bytes d) (sym same) ∙ r))))
             (cases_lt q p);
       }
 
