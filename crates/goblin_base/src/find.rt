@@ -16,12 +16,12 @@ use crate::entries::Probes;
 /// ```
 #[tactic(auto, using(crate::proofs::DigitsLemmas::probes))]
 pub fn find(view: &mut Probes<'_>, offset: usize) -> Option<usize>
-    ensures found { FindsLast view.old.places offset result }
+    ensures value { FindsLast view.old.places offset result }
     ensures unchanged { view.new.places ≡ view.old.places }
     ensures probes { view.new.count ≤ view.old.count + digits (length view.old.places) }
     ensures probes_least { let least = view.old.count + digits (length view.old.places + 1) in
         min least u64.MAX ≤ view.new.count + 1 }
-    ensures few { digits (length view.old.places + 1) ≤ 64 }
+    ensures bound { digits (length view.old.places + 1) ≤ 64 }
     ensures rising { view.old.count ≤ view.new.count }
 {
     // The places before `low` are at or before the offset. Those from `low + size` on are after it.

@@ -273,7 +273,7 @@ impl<'a> Strtab<'a> {
     /// A piece that isn't UTF-8 is a `BadInput`. Its size is the number of bytes from the offset on.
     pub fn get(&self, offset: usize) -> Option<Result<&'a str>>
         ensures past { IsNone result ↔ (length self.now.bytes ≤ offset) }
-        ensures read { IfSome result (λ piece. let right = plain self.now.bytes self.now.delim offset in
+        ensures given { IfSome result (λ piece. let right = plain self.now.bytes self.now.delim offset in
             Answers (λ text. text.now) piece right) }
     {
         string_at(self.bytes, self.delim, offset)
@@ -443,7 +443,7 @@ impl Default for Strtab<'_> {
 /// `StrtabRange` if the range ends past the end of the file, or past `usize::MAX`.
 #[tactic(auto, unfolding(crate::specs::Strtab::range_in))]
 pub fn bytes_in_range(bytes: &[u8], offset: usize, len: usize, mode: ParseMode) -> Result<&[u8]>
-    ensures exact { let right = refuse_as malformed (range_in mode bytes.now offset len) in
+    ensures given { let right = refuse_as malformed (range_in mode bytes.now offset len) in
         Answers (λ range. range.now) result right }
     ensures range { IfErr (range_in mode bytes.now offset len)
         (λ fault. result ≡ Err (Error.Malformed fault)) }
@@ -479,7 +479,7 @@ pub fn bytes_in_range(bytes: &[u8], offset: usize, len: usize, mode: ParseMode) 
 /// A piece that isn't UTF-8 is a `BadInput`. Its size is the number of bytes from the offset on.
 pub fn string_at(bytes: &[u8], delim: u8, offset: usize) -> Option<Result<&str>>
     ensures past { IsNone result ↔ (length bytes.now ≤ offset) }
-    ensures read { IfSome result (λ piece. let right = plain bytes.now delim offset in
+    ensures given { IfSome result (λ piece. let right = plain bytes.now delim offset in
         Answers (λ text. text.now) piece right) }
 {
     if offset >= bytes.len() {

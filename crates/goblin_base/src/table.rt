@@ -63,7 +63,7 @@ impl<'a, R: Record<C>, C: Copy> Table<'a, R, C> {
     /// Fails as [`room`] does for the first record that doesn't lie in the bytes.
     #[tactic(auto, using(crate::proofs::Eager::lists), unfolding(crate::specs::Eager::records_in, crate::specs::Eager::records_from))]
     pub fn in_range(bytes: &'a [u8], offset: usize, count: usize, ctx: C) -> Result<Self>
-        ensures exact { let right =
+        ensures given { let right =
             records_in (R.size_of ctx) (R.read ctx) bytes.now offset count in
             Answers (λ table. table) result right }
         ensures range { IfErr (room_of_each (length bytes.now) offset (R.size_of ctx) count)

@@ -123,8 +123,8 @@ fn walk_damaged(
     requires bound { end < usize.MAX }
     requires before { IsWalkedTo view.old.bytes delim places.old.items from }
     ensures walked { IfOk result (IsWalkedTo view.old.bytes delim places.new.items) }
-    ensures reached { IfOk result (λ next. end ≤ next) }
-    ensures past { IfOk result (λ next. next ≤ end + 1) }
+    ensures ordered { IfOk result (λ next. end ≤ next) }
+    ensures within { IfOk result (λ next. next ≤ end + 1) }
     ensures unchanged { view.new.bytes ≡ view.old.bytes }
     ensures looks { view.new.count ≤ view.old.count + 2 * (end - from) }
     ensures rising { view.old.count ≤ view.new.count }
@@ -159,7 +159,7 @@ enum Found {
 // Reads from an offset on, up to the end of its piece or to a byte that may not come there.
 fn scan(view: &mut Looked<'_>, delim: u8, from: usize) -> Found
     requires { from < length view.old.bytes }
-    ensures found { IsScan view.old.bytes delim from result }
+    ensures value { IsScan view.old.bytes delim from result }
     ensures unchanged { view.new.bytes ≡ view.old.bytes }
     ensures looks { view.new.count ≤ view.old.count + looks_of from result }
     ensures rising { view.old.count ≤ view.new.count }

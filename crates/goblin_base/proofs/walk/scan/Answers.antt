@@ -15,16 +15,16 @@ loop-at-init c = record {
   scanned = rw c.first-awaited.ensures (scan_starts c.args.view.now.bytes c.args.delim c.args.from (omega arith));
 }
 
-pub returns-then-byte-delim-clause-found : goal.returns-then-byte-delim-clause-found
-returns-then-byte-delim-clause-found c =
+pub returns-then-byte-delim-clause-value : goal.returns-then-byte-delim-clause-value
+returns-then-byte-delim-clause-value c =
     let i = c.loop-at.invariant in
     let byte : c.at-byte.result ≡ get_or c.args.view.now.bytes c.loop-at.at 0 =
     c.at-byte.ensures.value ∙ ap (λ bs. slice_index bs c.loop-at.at) i.same in
     rw c.ended.ensures
     (scan_ends (λ _. eq-eqb _ _ (sym byte ∙ c.if-byte-delim.true)) i.scanned)
 
-pub returns-in-None-clause-found : goal.returns-in-None-clause-found
-returns-in-None-clause-found c =
+pub returns-in-None-clause-value : goal.returns-in-None-clause-value
+returns-in-None-clause-value c =
     let i = c.loop-at.invariant in
     let byte : c.at-byte.result ≡ get_or c.args.view.now.bytes c.loop-at.at 0 =
     c.at-byte.ensures.value ∙ ap (λ bs. slice_index bs c.loop-at.at) i.same in
@@ -50,8 +50,8 @@ loop-at-preserved c =
           (ap (after_byte c.loop-at.awaited) (sym byte) ∙ sym c.in-Some.ensures) i.scanned;
     }
 
-pub returns-clause-found : goal.returns-clause-found
-returns-clause-found c =
+pub returns-clause-value : goal.returns-clause-value
+returns-clause-value c =
     let i = c.loop-at.invariant in
     rw c.ended-2.ensures
     (scan_ends (λ h. absurd (omega (arith, ap length i.same, h))) i.scanned)

@@ -8,7 +8,7 @@ use Rattle.goblin_base.proofs.walk.walk_damaged.Goals as goal
 pub returns-in-Whole-clause-walked : goal.returns-in-Whole-clause-walked
 returns-in-Whole-clause-walked c =
     let s = c.loop-i.invariant in
-    let found = c.in-Whole.ensures.found in
+    let found = c.in-Whole.ensures.value in
     let end : c.in-Whole.end ≡ piece_end c.args.view.now.bytes c.args.delim c.loop-i.i =
     found.1 ∙ ap (λ bs. piece_end bs c.args.delim c.loop-i.i) s.same in
     let text = ap (λ bs. is_readable bs c.args.delim c.loop-i.i) (sym s.same) ∙ found.0 in
@@ -19,20 +19,20 @@ returns-in-Whole-clause-walked c =
 pub returns-in_err-push-in-Fault-clause-looks : goal.returns-in_err-push-in-Fault-clause-looks
 returns-in_err-push-in-Fault-clause-looks c =
     let s = c.loop-i.invariant in
-    let found = attempt_fault c.args.delim s.same s.ends s.within c.requires.within c.in-Fault.ensures.found in
+    let found = attempt_fault c.args.delim s.same s.ends s.within c.requires.within c.in-Fault.ensures.value in
     omega (arith, found.1, found.2, c.in-Fault.ensures.looks, s.looks)
 
 pub loop-place-preserved : goal.loop-place-preserved
 loop-place-preserved c =
     let s = c.loop-i.invariant in
-    let found = attempt_fault c.args.delim s.same s.ends s.within c.requires.within c.in-Fault.ensures.found in
+    let found = attempt_fault c.args.delim s.same s.ends s.within c.requires.within c.in-Fault.ensures.value in
     walked_empty c.args.view.now.bytes c.args.delim _ _ c.loop-place.place (omega (arith, found.2, c.requires.within))
     (found.0 c.loop-place.place (omega arith) (omega arith)) c.in_ok-push-in-Fault.ensures.items c.loop-place.invariant
 
 pub loop-i-preserved : goal.loop-i-preserved
 loop-i-preserved c =
     let s = c.loop-i.invariant in
-    let found = attempt_fault c.args.delim s.same s.ends s.within c.requires.within c.in-Fault.ensures.found in
+    let found = attempt_fault c.args.delim s.same s.ends s.within c.requires.within c.in-Fault.ensures.value in
     let e : c.loop-place.place ≡ c.in-Fault.next = omega (arith, found.1) in
     record {
       same = c.in-Fault.ensures.unchanged ∙ s.same;
