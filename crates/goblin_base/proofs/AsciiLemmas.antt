@@ -1,4 +1,4 @@
--- Runs of ASCII in a string, from the lanes of a load to the piece.
+-- The ASCII bytes at the start of a string: from the lanes of one load to the piece.
 use Rattle.std.proofs.Common.{◌≡◌, ℕ, ◌+◌, ◌-◌, ◌%◌, ◌^◌, ◌<◌, ◌≤◌, ◌==◌, eqb, leb, cond, Bool, true, false, not, ◌||◌}
 use Rattle.std.proofs.Common.{bit_or, List, map, take, drop, length, get_or, refl, ap, ◌∙◌, ⊎_elim, arith, Ok}
 use Rattle.std.proofs.lemmas.Bool.{cases_lt, cond-true, cond-false, eq-eqb, ne_eqb, leb-false, or_parts}
@@ -16,7 +16,7 @@ use Rattle.goblin_base.specs.Pieces.{piece}
 use Rattle.goblin_base.specs.Strtab.{plain}
 use Rattle.goblin_base.specs.Utf8.{text_or_fault}
 
--- what the lanes are of one byte
+-- the lane of one byte
 abbrev pub lane : ℕ → ℕ → ℕ
 lane d b = bit_or (cond (eqb b d) 255 0) (cond (leb 128 b) 255 0)
 
@@ -26,7 +26,7 @@ either true false = refl
 either false true = refl
 either false false = refl
 
--- the mask of the lanes has the lowest bit at the first byte that ends the run
+-- the lowest bit of the mask is at the first byte that ends the run
 mask_is : (d : ℕ) (v z : List ℕ)
     → length v ≡ 16 → z ≡ map (lane d) v → mask_l (map (top 7) z) % 2 ^ 64 ≡ mask_l (map (ends_run d) v)
 mask_is d v z long lanes =
@@ -41,7 +41,7 @@ pub run_is : (d : ℕ) (v z : List ℕ) (r : ℕ)
 run_is d v z r long lanes found =
     found ∙ ap (λ m. lowest_set m 16) (mask_is d v z long lanes) ∙ first_set_mask_l (ends_run d) v 16 long (omega arith)
 
--- a run from a place on: of the next bytes alone where it ends in them, or on behind them
+-- a run from an offset on: it ends in the next 16 bytes, or goes on after them
 pub ends_here : (d : ℕ) (bytes : List ℕ) (at : ℕ)
     → at + 16 ≤ length bytes → position_or_len (ends_run d) (take 16 (drop at bytes)) < 16
     → position_or_len (ends_run d) (drop at bytes) ≡ position_or_len (ends_run d) (take 16 (drop at bytes))
@@ -69,7 +69,7 @@ goes_on d bytes at room all =
 
 pub ruleset runs = (ends_here, goes_on, first_or_length, take_rest)
 
--- what a run says of each byte in it, and of the one that ends it
+-- the bytes of a run, and the one that ends it
 module _ (d n : ℕ) (bytes : List ℕ) (is : n ≡ position_or_len (ends_run d) bytes) where
   in_run : (k : ℕ) → k < n → ends_run d (get_or bytes k 0) ≡ false
   in_run k l = fails_before_first (ends_run d) bytes k 0 (omega (arith, is))
@@ -88,7 +88,7 @@ module _ (d n : ℕ) (bytes : List ℕ) (is : n ≡ position_or_len (ends_run d)
   pub run_is_text : IsUtf8 (take n bytes)
   run_is_text = IsUtf8-from_ascii (take n bytes) run_is_ascii
 
-  -- where the delimiter ends it, or the bytes do, it is the piece
+  -- if the delimiter ends it, or the end of the bytes, it is the piece
   pub run_is_plain : (n < length bytes → eqb (get_or bytes n 0) d ≡ true) → plain bytes d 0 ≡ Ok (take n bytes)
   unfolding piece
   run_is_plain ended =

@@ -1,4 +1,4 @@
--- One step of the reading of UTF-8.
+-- Reading one byte of UTF-8.
 use Rattle.std.proofs.Common.{◌≡◌, ℕ, zero, suc, ◌-◌, ◌<◌, ◌≤◌, Bool, true, false, cond, ◌&&◌, ltb, leb, List, ◌∷◌}
 use Rattle.std.proofs.Common.{refl, sym, subst, inl, inr, arith, lt-ltb, le-leb, ne_eqb, Option, Some, None}
 use Rattle.std.proofs.lemmas.Bool.{and_parts, and_from, both_ways, cond-true, ltb-true, ltb-false, leb-true}
@@ -11,16 +11,16 @@ use Rattle.goblin_base.proofs.Utf8Lemmas.{IsFirst, Completes, any_bounds, least_
 abbrev pub CompletesFrom : Awaited → List ℕ → Type 0
 CompletesFrom s bs = Completes s.more s.least s.most bs
 
--- what is awaited is no byte that begins a character, unless a character may begin
+-- if a byte is missing, the next one can't begin a character
 pub record IsInner (s : Awaited) : Type 0 where
   pub least : 0x80 ≤ s.least
   pub most : s.most ≤ 0xbf
 
--- s reads b and then awaits what t awaits
+-- after the state s and the byte b comes the state t
 pub record Steps (s : Awaited) (b : ℕ) (t : Awaited) : Type 0 where
   pub forth : (bs : List ℕ) → CompletesFrom s (b ∷ bs) → CompletesFrom t bs
   pub back : (bs : List ℕ) → CompletesFrom t bs → CompletesFrom s (b ∷ bs)
-  -- what begins with b as a text does too
+  -- UTF-8 that begins with b does so too
   pub excludes : (bs : List ℕ) → Completes 0 0x80 0xbf (b ∷ bs) → CompletesFrom t bs
   pub inner : IsInner t
 
@@ -62,8 +62,8 @@ later_steps n lo hi b l m h = record {
   inner = record { least = omega arith; most = omega arith };
 }
 
--- ---- what a step of the code says
--- and whether there is one: what begins with a byte that may not come completes nothing
+-- ---- the steps of the code
+-- without a next state no bytes that begin with b complete s
 abbrev pub StepsTo : Awaited → ℕ → Option Awaited → Type 0
 StepsTo s b (Some t) = Steps s b t
 StepsTo s b None = (bs : List ℕ) → CompletesFrom s (b ∷ bs) → ⊥

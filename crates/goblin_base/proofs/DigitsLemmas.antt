@@ -7,7 +7,7 @@ within_zero : (n : ℕ) → digits_within n 0 ≡ 0
 within_zero zero = refl
 within_zero (suc n) = refl
 
--- more room changes nothing
+-- a larger bound on the steps changes nothing
 within_more : (n m k : ℕ) → k ≤ n → k ≤ m → digits_within n k ≡ digits_within m k
 within_more zero m k p q = let e : k ≡ 0 = omega arith in rw e (sym (within_zero m))
 within_more (suc n) zero k p q = let e : k ≡ 0 = omega arith in rw e refl
@@ -37,11 +37,11 @@ pub digits_mono : (a b : ℕ) → a ≤ b → digits a ≤ digits b
 unfolding digits
 digits_mono a b h = omega (arith, within_more a b a (omega arith) h, within_mono b a b h)
 
--- what is left after one probe, on either side, has a digit less
+-- what is left after one probe, on either side, has one digit less
 pub digits_step : (s t : ℕ) → 0 < s → t ≤ s / 2 → digits t + 1 ≤ digits s
 digits_step s t h l = omega (arith, digits_half s h, digits_mono t (s / 2) l)
 
--- and at most one less, where a half of it is left
+-- and no more than one less
 pub digits_step_back : (s t : ℕ) → s / 2 ≤ t → digits s ≤ digits t + 1
 digits_step_back zero t l = omega (arith, digits-zero)
 digits_step_back (suc s) t l = omega (arith, digits_half (suc s) (omega arith), digits_mono (suc s / 2) t l)
@@ -63,9 +63,9 @@ digits_count (suc k) (suc n) =
       λ h. let l = deeper.1 (omega (arith, two, h)) in omega (arith, half, l),
     )
 
--- a number of places, and one more, has at most 64
+-- a length plus 1 has at most 64 digits
 pub digits_few : (k : ℕ) → k + 1 < 2 ^ 64 → digits (k + 1) ≤ 64
 digits_few k h = (digits_count (k + 1) 64).1 h
 
--- how many probes there are where nothing is left, and at most, for the goals of a search
+-- for the binary search: the probes of the last step, and the most
 pub ruleset probes = (digits_one, digits_few)

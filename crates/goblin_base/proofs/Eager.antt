@@ -1,4 +1,4 @@
--- Laws of lists of records that are read at once.
+-- Lists of records that are read one after another.
 use Rattle.std.proofs.Common.{◌≡◌, ◌<◌, ◌≤◌, ◌+◌, ◌*◌, ◌/◌, ◌-◌, ℕ, zero, suc, List, [], ◌∷◌, ◌++◌, length, take, drop}
 use Rattle.std.proofs.Common.{false, nat_lt, Result, Ok, Err, refl, sym, ap, ◌∙◌, arith}
 use Rattle.std.proofs.Math.Nat.{le-div_iff_mul-le, div-lt_iff_lt-mul, div-mul-le_self}
@@ -16,7 +16,7 @@ use Rattle.goblin_base.specs.Table.{records}
 use Rattle.goblin_base.specs.TableLaws.{no_records, records-take}
 use Rattle.goblin_base.proofs.Records.{read_field, last_record}
 
--- one record less is left
+-- after a record was read one less is left
 one_less : (len place size count i : ℕ) (u : Unit {0})
     → i < count → room_of len place size ≡ Ok u
     → room_of_each len place size (count - i) ≡ room_of_each len (place + size) size (count - (i + 1))
@@ -35,7 +35,7 @@ pub record ReadSoFar {R : Type 0} (size : ℕ) (read : List ℕ → R) (bytes : 
   pub left : room_of_each (length bytes) place size (count - i) ≡ room_of_each (length bytes) offset size count
   pub gave : found ≡ records size read i (drop offset bytes)
 
--- the record at an offset, or the fault of an offset without room
+-- the record at an offset, or the error of room
 abbrev read_there : {R : Type 0} → ℕ → (List ℕ → R) → List ℕ → ℕ → Result R Error
 read_there size read bytes place =
     unless_fault (room_of (length bytes) place size) (read (take size (drop place bytes)))
@@ -82,7 +82,7 @@ module _ {R : Type 0} {size : ℕ} {read : List ℕ → R} {bytes : List ℕ} {o
       let few : nat_lt (length bytes / size) count ≡ false = rw (← same) (grind (arith, nat_tests)) in
       rw (few, each, before.gave, all) refl
 
-  -- the record at `place` has no room
+  -- the record at `place` doesn't lie in the bytes
   refused : {s i place : ℕ} {found : List R} {d : Misplaced} (items : List ℕ)
       → ReadSoFar size read bytes offset count i place found → s ≡ size → i < count → count ≤ length bytes / s
       → room_of (length bytes) place size ≡ Err d
@@ -102,11 +102,11 @@ module _ {R : Type 0} {size : ℕ} {read : List ℕ → R} {bytes : List ℕ} {o
       let fault = unless_fault-err (room_of (length bytes) place size) e (read (take size (drop place bytes))) is in
       refused items before same h enough fault.1 ∙ ap (λ f. Err (refusal_of f)) (sym fault.2)
 
--- one record more is one size more
+-- one record more takes one size more
 size_more : (k size : ℕ) → suc k * size ≡ size + k * size
 size_more k size = omega arith
 
--- records that have room are passed over
+-- after k records that lie in the bytes the others are tested from there on
 fitting : (len offset size count k : ℕ)
     → k ≤ count → offset + k * size ≤ len
     → room_of_each len offset size count ≡ room_of_each len (offset + k * size) size (count - k)
@@ -122,7 +122,7 @@ fitting len offset size (suc count) (suc k) h fits =
     rw (room_of_fits len offset size (omega arith), there, left)
     (fitting len (offset + size) size count k (omega arith) (omega arith))
 
--- so many records fit as the size goes into the room
+-- the records all lie in the bytes if their number is at most the bytes left, divided by the size
 pub all_fit : (len offset size count : ℕ)
     → 0 < size → offset ≤ len → count ≤ (len - offset) / size → room_of_each len offset size count ≡ Ok tt
 all_fit len offset size count some before h =
@@ -131,13 +131,13 @@ all_fit len offset size count some before h =
     let none : count - count ≡ 0 = omega arith in
     fitting len offset size count count (omega arith) (omega arith) ∙ rw none refl
 
--- the first refusal is the answer
+-- the first error is the result
 refused_first : (room : Result (Unit {0}) Misplaced) (rest : Result (Unit {0}) Misplaced)
     → (room ≡ Ok tt → ⊥) → (room >>= (λ _. rest)) ≡ room
 refused_first (Ok u) rest fails = absurd (fails refl)
 refused_first (Err e) rest fails = refl
 
--- where fewer fit, the record behind those that fit is the first without room
+-- otherwise the first record that doesn't is the one after those that do
 pub first_without : (len offset size count : ℕ)
     → 0 < size → offset ≤ len → (len - offset) / size < count
     → room_of_each len offset size count ≡ room_of len (offset + (len - offset) / size * size) size
@@ -152,14 +152,14 @@ first_without len offset size count some before h =
     fitting len offset size count k (omega arith) (omega arith)
     ∙ rw left (refused_first (room_of len place size) (room_of_each len (place + size) size (count - (k + 1))) fails)
 
--- more records than the bytes could hold anywhere
+-- more records than all the bytes could hold are refused as such
 pub too_many : {R : Type 0} (size s : ℕ) (read : List ℕ → R) (bytes : List ℕ) (offset count : ℕ) (items : List ℕ)
     → s ≡ size → length bytes / s < count
     → records_from size read bytes offset count items ≡ Err (buffer_too_short count items)
 unfolding records_from
 too_many size s read bytes offset count items same h = rw (← same) (grind (arith, nat_tests))
 
--- where there are not too many, the two ways to read records are one
+-- otherwise both definitions of a list say the same
 pub not_too_many : {R : Type 0} (size s : ℕ) (read : List ℕ → R) (bytes : List ℕ) (offset count : ℕ) (items : List ℕ)
     → s ≡ size → count ≤ length bytes / s
     → records_in size read bytes offset count ≡ records_from size read bytes offset count items
@@ -168,12 +168,12 @@ not_too_many size s read bytes offset count items same enough =
     let few : nat_lt (length bytes / size) count ≡ false = rw (← same) (grind (arith, nat_tests)) in
     rw few refl
 
--- the records of a range depend on that range alone
+-- the records of a range depend on that range only
 pub take_same : {R : Type 0} (size : ℕ) (read : List ℕ → R) (n : ℕ) (bytes : List ℕ)
     → records size read n bytes ≡ records size read n (take (n * size) bytes)
 take_same size read n bytes = sym (records-take size read n bytes)
 
--- for the goals of the functions that read lists, and of the law that a range is all they depend on
+-- for the functions that read lists, and for the law of a range
 pub ruleset lists = (no_records, take_rest, read_field, fits-room_of)
 
 pub ruleset rooms = (all_fit, first_without)

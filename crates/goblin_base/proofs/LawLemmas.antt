@@ -33,7 +33,7 @@ text_is_utf8 bytes = (IsUtf8-from_is_utf8 bytes, is_utf8-from_IsUtf8 bytes)
 pub closed_form : ClosedForm
 closed_form bytes d = entries_closed bytes d
 
--- what a strict walk accepts has no bad piece
+-- if a strict walk succeeds, each piece is UTF-8
 all_good : (b : Bool) (l n : ℕ) (e : Refusal) (es fs : List (ℕ × List ℕ))
     → b ≡ ltb l n → l ≤ n → ◌≡◌ {A = Result (List (ℕ × List ℕ)) Refusal} (cond b (Err e) (Ok es)) (Ok fs) → l ≡ n
 all_good true l n e es fs is le h = cc
@@ -69,7 +69,7 @@ permissive_table : (bytes : List ℕ) (d : ℕ) → table_of Permissive bytes d 
 unfolding walked
 permissive_table bytes d = refl
 
--- the table that a strict walk gives, and what it says of the bytes
+-- the table of a strict walk; each piece of its bytes is UTF-8
 strict_table : (bytes : List ℕ) (d : ℕ) (t : StringTable)
     → table_of Strict bytes d ≡ Ok t → (whole bytes d ≡ t) × (first_bad bytes d ≡ length bytes)
 strict_table bytes d t h = by_walked (walked Strict bytes d) refl h
@@ -96,7 +96,7 @@ strict_range file o n d t h = by_range (range_in Strict file o n) refl h
     by_range (Ok r) e h = (r, e, h)
     by_range (Err f) e h = absurd (let x : ◌≡◌ {A = Result StringTable Refusal} (Err (malformed f)) (Ok t) = h in cc)
 
--- a range that strict mode accepts is not shortened
+-- a range that strict mode accepts is not cut
 uncut : (b c : Bool) (f g : Fault) (x y z r : List ℕ)
     → ◌≡◌ {A = Result (List ℕ) Fault} (cond b (Err f) (cond c (Err g) (Ok z))) (Ok r)
     → ◌≡◌ {A = Result (List ℕ) Fault} (cond b (Ok x) (cond c (Ok y) (Ok z))) (Ok r)

@@ -18,7 +18,7 @@ use Rattle.goblin_base.proofs.WalkLemmas.{next_place, entries_more, entries_past
 use Rattle.goblin_base.proofs.WalkLemmas.{no_entry_place, text_if_readable, text_if_not, next_if_readable, next_if_not}
 
 module _ (bytes : List ℕ) (d : ℕ) where
-  -- of an entry at k among es: its place, its text, and where the next one is
+  -- the entry with index k of es: its offset, its text, and the offset of the next one
   pub record IsEntry (es : List (ℕ × List ℕ)) (k : ℕ) : Type 0 where
     pub within : get_or (places_of es) k 0 < length bytes
     pub place : is_entry_place bytes d (get_or (places_of es) k 0) ≡ true
@@ -79,7 +79,7 @@ module _ (bytes : List ℕ) (d : ℕ) where
   pub entry_at : (k : ℕ) → k < length (entries bytes d) → IsEntry (entries bytes d) k
   entry_at k l = entry_from k 0 (λ _. entry_place_from bytes d 0 (λ q p r. absurd (omega arith))) l
 
-  -- the rest of a piece from a place in it is the piece there
+  -- the rest of a piece from an offset in it is the piece there
   pub piece_rest : (p o : ℕ)
       → p ≤ length bytes → p ≤ o → o ≤ piece_end bytes d p → drop (o - p) (piece bytes d p) ≡ piece bytes d o
   piece_rest p o w l m =
@@ -118,7 +118,7 @@ module _ (bytes : List ℕ) (d : ℕ) where
   unfolding is_readable
   readable_tells o r = IsUtf8-from_is_utf8 _ r
 
-  -- what a look-up at o says, where p is the last entry place up to o
+  -- the look-up at o, if p is the offset of the last entry at or before o
   pub record IsLookUp (p o : ℕ) : Type 0 where
     pub at_boundary : IsCharBoundary (entry_text bytes d p) (o - p)
         → text_at bytes d o ≡ Some (drop (o - p) (entry_text bytes d p))
@@ -162,7 +162,7 @@ module _ (bytes : List ℕ) (d : ℕ) where
       })
       (cases_Bool (is_readable bytes d p))
 
-  -- the search among the places finds the entry that a look-up needs
+  -- the binary search finds the entry that a look-up needs
   pub found_look_up : (o k : ℕ)
       → o < length bytes → IsLastUpTo (places_of (entries bytes d)) o k
       → IsLookUp (get_or (places_of (entries bytes d)) k 0) o
@@ -175,14 +175,14 @@ module _ (bytes : List ℕ) (d : ℕ) where
       (λ (m : length (entries bytes d) ≤ k + 1). omega (arith, entry.last (omega (arith, found.within, same))))
       (cases_lt (k + 1) (length (entries bytes d)))) l
 
-  -- some place is at or before each offset
+  -- at least one entry is at or before each offset
   pub not_all_after : (o : ℕ)
       → 0 < length bytes
       → ¬ (EachIndex (places_of (entries bytes d)) (λ k. o < get_or (places_of (entries bytes d)) k 0))
   not_all_after o l h =
       omega (arith, h 0 (omega (arith, some_entry 0 l, length-map (entries bytes d) place_of)), first_place 0 l)
 
-  -- the answer of a look-up, from the text t of the entry at p
+  -- the result of a look-up, from the text t of the entry at p
   pub answered : (r : Option (Bor (List ℕ))) (p o : ℕ) (t : List ℕ)
       → IsLookUp p o → t ≡ entry_text bytes d p
       → MatchOption r (¬ (IsCharBoundary t (o - p))) (λ x. IsCharBoundary t (o - p) × (x.now ≡ drop (o - p) t))

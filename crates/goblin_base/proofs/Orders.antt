@@ -1,4 +1,4 @@
--- How the crate `byteorder` names the numbers that bytes stand for, and the bytes of a number.
+-- The definitions of `byteorder` say the same as those here.
 use Rattle.std.proofs.Common.{◌≡◌, ◌<◌, ◌≤◌, ◌+◌, ◌*◌, ◌/◌, ◌%◌, ◌^◌, ◌-◌, ℕ, zero, suc, List, [], ◌∷◌, ◌++◌, length}
 use Rattle.std.proofs.Common.{reverse, take, drop, slice_index, set, refl, sym, ap, ◌∙◌, arith}
 use Rattle.std.proofs.Math.Nat.{pow-suc, div-div-eq-div-mul, div-one}
@@ -32,7 +32,7 @@ big_from-is (b ∷ bytes) =
     let last = weighted_sum-last (reverse bytes) b in
     rw (moved, big_from-is bytes, reverse-cons b bytes, last, length-reverse bytes) (omega arith)
 
--- the byte of a number with a rank
+-- the byte of a number at a rank
 byte_at-pow : (k x : ℕ) → byte_at k x ≡ x / 256 ^ k % 256
 byte_at-pow zero x = ap (λ (y : ℕ). y % 256) (sym (div-one x))
 byte_at-pow (suc k) x = refl
@@ -61,14 +61,14 @@ bytes_high_first-is (suc k) x =
     let turned = reverse-append (digits k x) (x / 256 ^ k % 256 ∷ []) in
     rw (byte_at-pow k x, bytes_high_first-is k x, digits-last k x, turned) refl
 
--- the n bytes at a place, as a slice has them
+-- the slice of the n bytes at an offset
 part : (bytes : List ℕ) (place n : ℕ) → take (place + n - place) (drop place bytes) ≡ take n (drop place bytes)
 part bytes place n = let e : place + n - place ≡ n = omega arith in rw e refl
 
 length-part : (bytes : List ℕ) (place n : ℕ) → place + n ≤ length bytes → length (take n (drop place bytes)) ≡ n
 length-part bytes place n h = length-take-le n (drop place bytes) (omega (arith, length-drop place bytes))
 
--- what `LittleEndian` reads at a place
+-- what `LittleEndian` reads at an offset
 pub read_little : (order : Endian) (bytes : List ℕ) (place n : ℕ)
     → order ≡ Little → place + n ≤ length bytes
     → little_from 0 n (take (place + n - place) (drop place bytes)) ≡ number_at order bytes place n
@@ -78,7 +78,7 @@ read_little order bytes place n is h =
     rw (is, part bytes place n)
     (ap (λ k. little_from 0 k (take n (drop place bytes))) (sym e) ∙ little_from-is (take n (drop place bytes)))
 
--- what `BigEndian` reads at a place
+-- what `BigEndian` reads at an offset
 pub read_big : (order : Endian) (bytes : List ℕ) (place n : ℕ)
     → order ≡ Big → place + n ≤ length bytes
     → big_from 0 n (take (place + n - place) (drop place bytes)) ≡ number_at order bytes place n
@@ -88,7 +88,7 @@ read_big order bytes place n is h =
     rw (is, part bytes place n)
     (ap (λ k. big_from 0 k (take n (drop place bytes))) (sym e) ∙ big_from-is (take n (drop place bytes)))
 
--- the n bytes at a place, after they were written over
+-- the bytes after n bytes at an offset were written
 written : (bytes text new : List ℕ) (place n : ℕ)
     → place + n ≤ length bytes → new ≡ text ++ drop n (take (place + n - place) (drop place bytes))
     → put_mid place (place + n - place) bytes new ≡ take place bytes ++ text ++ drop (place + n) bytes
@@ -100,7 +100,7 @@ written bytes text new place n h e =
     rw (whole, width, ← drop-drop n place bytes)
     (sym (append_assoc (take place bytes) text (drop n (drop place bytes))))
 
--- what `LittleEndian` writes at a place
+-- what `LittleEndian` writes at an offset
 pub write_little : (order : Endian) (bytes new : List ℕ) (place n x : ℕ)
     → order ≡ Little → place + n ≤ length bytes
     → new ≡ bytes_low_first 0 n x ++ drop n (take (place + n - place) (drop place bytes))
@@ -110,7 +110,7 @@ write_little order bytes new place n x is h e =
     let same : bytes_low_first 0 n x ≡ digits n x = bytes_low_first-is n 0 x ∙ ap (digits n) (div-one x) in
     rw is (written bytes (digits n x) new place n h (rw same at e))
 
--- what `BigEndian` writes at a place
+-- what `BigEndian` writes at an offset
 pub write_big : (order : Endian) (bytes new : List ℕ) (place n x : ℕ)
     → order ≡ Big → place + n ≤ length bytes
     → new ≡ bytes_high_first n x ++ drop n (take (place + n - place) (drop place bytes))
@@ -119,14 +119,14 @@ unfolding spelled with_number
 write_big order bytes new place n x is h e =
     rw is (written bytes (reverse (digits n x)) new place n h (rw (bytes_high_first-is n x) at e))
 
--- the byte at a place
+-- the byte at an offset
 pub read_one : (order : Endian) (bytes : List ℕ) (place : ℕ)
     → place + 1 ≤ length bytes → slice_index bytes place ≡ number_at order bytes place 1
 read_one order bytes place h =
     sym (ap (λ (part : List ℕ). number order (take 1 part)) (drop_more bytes place 0 (omega arith))
     ∙ number-one order (slice_index bytes place))
 
--- a byte that is put at a place
+-- writing the byte at an offset
 pub write_one : (order : Endian) (bytes : List ℕ) (place x : ℕ)
     → place + 1 ≤ length bytes → x < 256 → set bytes place x ≡ with_number order bytes place 1 x
 unfolding with_number
@@ -135,7 +135,7 @@ write_one order bytes place x h fits =
     set_split bytes place x (omega arith)
     ∙ rw (spelled-one order x fits, next) (sym (append_assoc (take place bytes) (x ∷ []) (drop (suc place) bytes)))
 
--- what reading and writing answer, and the laws of numbers, for the goals of the functions that do it
+-- for the functions that read and write numbers, and for their laws
 pub ruleset numbers = (
   read_one,
   read_little,

@@ -1,5 +1,5 @@
 -- Where pieces begin and end.
-use Rattle.std.proofs.Common.{◌≡◌, ℕ, zero, suc, ◌+◌, ◌-◌, ◌<◌, ◌≤◌, ⊎_elim, Bool, true, false, cond, not, eqb, List}
+use Rattle.std.proofs.Common.{◌≡◌, ℕ, zero, suc, ◌+◌, ◌-◌, ◌<◌, ◌≤◌, ⊎_elim, Bool, true, false, not, eqb, List}
 use Rattle.std.proofs.Common.{[], ◌∷◌, length, get_or, take, drop, refl, sym, ap, ◌∙◌, arith}
 use Rattle.std.proofs.lemmas.Bool.{cases_Bool, cases_lt, both_ways, cond-true, cond-false}
 use Rattle.std.proofs.lemmas.List.{get_or-drop, get_or-take, length-drop, length-take-le, drop_more}
@@ -36,7 +36,7 @@ module _ (bytes : List ℕ) (d : ℕ) where
       ap (λ x. eqb x d) (sym (get_or-drop o bytes (position_or_len (is_delim d) (drop o bytes)) 0))
       ∙ passes_at_first (is_delim d) (drop o bytes) 0 (omega (arith, length-drop o bytes))
 
-  -- and that fixes the end
+  -- these two fix the end
   pub end_is : (o e : ℕ)
       → o ≤ e → e ≤ length bytes → ((k : ℕ) → o ≤ k → k < e → eqb (get_or bytes k 0) d ≡ false)
       → (e < length bytes → eqb (get_or bytes e 0) d ≡ true)
@@ -65,7 +65,7 @@ module _ (bytes : List ℕ) (d : ℕ) where
       (length-take-le (position_or_len (is_delim d) (drop o bytes)) (drop o bytes)
       (prefix_len-le-length (λ b. not (is_delim d b)) (drop o bytes)))
 
-  -- of the places of a piece, each has the rest of it
+  -- from each offset in a piece on, its rest is the piece
   pub end_same : (o k : ℕ)
       → o ≤ length bytes → o ≤ k → k ≤ piece_end bytes d o → piece_end bytes d k ≡ piece_end bytes d o
   end_same o k h l m =
@@ -117,7 +117,7 @@ module _ (bytes : List ℕ) (d : ℕ) where
       let e : piece_end bytes d o + 1 ≡ suc (piece_end bytes d o) = omega arith in
       ap (piece_start bytes d) e ∙ start_after_delim (piece_end bytes d o) (at_end o h l) ∙ sym e
 
-  -- the whole piece round a whole piece's beginning begins there
+  -- the whole piece around its own start begins there
   pub start_of_start : (o : ℕ) → piece_start bytes d (piece_start bytes d o) ≡ piece_start bytes d o
   unfolding piece_start
   start_of_start zero = refl
@@ -127,14 +127,14 @@ module _ (bytes : List ℕ) (d : ℕ) where
       ap (piece_start bytes d) e ∙ start_of_start o ∙ sym e)
       (cases_Bool (eqb (get_or bytes o 0) d))
 
-  -- before a place where one begins a delimiter stands
+  -- a delimiter stands before the start of a whole piece
   pub delim_before : (o : ℕ) → piece_start bytes d (suc o) ≡ suc o → eqb (get_or bytes o 0) d ≡ true
   delim_before o h = ⊎_elim
       (λ (e : eqb (get_or bytes o 0) d ≡ true). e)
       (λ (e : eqb (get_or bytes o 0) d ≡ false). absurd (omega (arith, start_more o e, h, start_to bytes d o)))
       (cases_Bool (eqb (get_or bytes o 0) d))
 
-  -- and behind a delimiter one begins
+  -- a whole piece begins after a delimiter
   pub start_behind : (q p : ℕ) → q < p → eqb (get_or bytes q 0) d ≡ true → q < piece_start bytes d p
   start_behind q zero l z = absurd (omega arith)
   start_behind q (suc o) l z = ⊎_elim
@@ -146,7 +146,7 @@ module _ (bytes : List ℕ) (d : ℕ) where
       (cases_lt q o))
       (cases_Bool (eqb (get_or bytes o 0) d))
 
-  -- it depends on the bytes before the place
+  -- it depends on the bytes before the offset only
   pub start_of_front : (o p : ℕ) → o ≤ p → piece_start (take p bytes) d o ≡ piece_start bytes d o
   unfolding piece_start
   start_of_front zero p l = refl

@@ -1,4 +1,4 @@
--- What a table answers, by the laws of its records.
+-- The records of a table.
 use Rattle.std.proofs.Common.{◌≡◌, ◌<◌, ◌≤◌, ◌+◌, ◌*◌, ◌-◌, ℕ, zero, suc, List, [], ◌∷◌, ◌++◌, map, length, take, drop}
 use Rattle.std.proofs.Common.{Option, Some, None, Result, Ok, refl, sym, ap, ◌∙◌, arith}
 use Rattle.std.specs.List.{slice_get, slice_range, range_with_len}
@@ -25,7 +25,7 @@ get_mapped f a zero i h = absurd (omega arith)
 get_mapped f a (suc n) zero h = ap (λ (k : ℕ). Some (f k)) (omega arith)
 get_mapped f a (suc n) (suc i) h = get_mapped f (a + 1) n i (omega arith) ∙ ap (λ (k : ℕ). Some (f k)) (omega arith)
 
--- the records of a table, by index
+-- the record with an index
 pub get_records : {R : Type 0} (size : ℕ) (read : List ℕ → R) (n : ℕ) (bytes : List ℕ) (i : ℕ)
     → i < n → slice_get (records size read n bytes) i ≡ Some (read (take size (drop (i * size) bytes)))
 unfolding records slice
@@ -40,7 +40,7 @@ read_within_fits size read bytes h =
     sym (read_within-ok size size read bytes tt (read bytes) refl
     (sym (room_of_fits (length bytes) 0 size (omega arith))) refl)
 
--- a record that is read from just its own bytes
+-- reading a record from its own bytes only
 pub read_field : {R : Type 0} (size : ℕ) (read : List ℕ → R) (bytes : List ℕ) (start : ℕ)
     → start + size ≤ length bytes
     → read_within size read (take (start + size - start) (drop start bytes)) ≡ Ok (read (take size (drop start bytes)))
@@ -66,7 +66,7 @@ last_record size read n bytes =
     map-range_with_len_more (λ i. read (slice size bytes i)) 0 n n (omega arith)
     ∙ ap (λ part. map (λ i. read (slice size bytes i)) (range_with_len 0 n) ++ read part ∷ []) (slice-is size bytes n)
 
--- what an iterator answers where records are left
+-- the next record of an iterator, and those left after it
 pub next_is : {R : Type 0} {size s n : ℕ} {items : List R} {found : Result R Error} {answer : Option R}
     (read : List ℕ → R) (bytes : List ℕ)
     → s ≡ size → records size read n bytes ≡ items → n * size ≤ length bytes → 0 < n

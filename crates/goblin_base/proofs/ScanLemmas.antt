@@ -1,4 +1,4 @@
--- An attempt to read a piece as text: what is known at each byte.
+-- An attempt to read a piece as UTF-8: what is known at each byte.
 use Rattle.std.proofs.Common.{◌≡◌, ℕ, zero, suc, ◌+◌, ◌<◌, ◌≤◌, true, false, eqb, List, [], ◌∷◌, length, get_or, max}
 use Rattle.std.proofs.Common.{refl, sym, ap, ◌∙◌, subst, ⊎_elim, arith, Some, None, eq-eqb, ne_eqb}
 use Rattle.std.proofs.lemmas.Bool.{cases_lt, cases_eq, both_ways, false_from_ne_true, cond-true, cond-false}
@@ -22,14 +22,18 @@ module _ (bytes : List ℕ) (d : ℕ) where
   unfolding is_readable
   readable_if_completes q lo hi v = is_utf8-from_IsUtf8 _ (IsUtf8-from_Completes lo hi _ v)
 
-  -- what the bytes from o up to p say of the pieces there, where s is awaited
+  -- an attempt from o has come to p, in the state s:
+  --
+  --     o                      p               delimiter
+  --     | read, and all may    | s says what   |
+  --     | come there           | must follow   |
   pub record IsScanned (o p : ℕ) (s : Awaited) : Type 0 where
     pub from : o ≤ p
     pub within : p ≤ length bytes
     pub none : (k : ℕ) → o ≤ k → k < p → eqb (get_or bytes k 0) d ≡ false
     pub inner : IsInner s
     pub begun : p ≡ o → s.more ≡ 0
-    -- the piece at o is text if the rest of it completes s, and only then any place before p has text
+    -- the piece at o is UTF-8 if its rest completes s; only then is the piece at any offset before p
     pub back : CompletesFrom s (piece bytes d p) → is_readable bytes d o ≡ true
     pub forth : (q : ℕ) → o ≤ q → q < p → is_readable bytes d q ≡ true → CompletesFrom s (piece bytes d p)
 
@@ -83,7 +87,7 @@ module _ {bytes : List ℕ} {d o p : ℕ} {s : Awaited} where
             (cases_lt q p);
       }
 
-  -- no place before p, nor the one where the attempt began, has text where the byte at p may not come
+  -- if the byte at p may not come there, neither the piece at o nor any that begins before p is UTF-8
   pub scan_faults : p < length bytes → eqb (get_or bytes p 0) d ≡ false → after_byte s (get_or bytes p 0) ≡ None
       → IsScanned bytes d o p s
       → IsScan bytes d o (Fault (max p (o + 1)))
@@ -104,7 +108,7 @@ module _ {bytes : List ℕ} {d o p : ℕ} {s : Awaited} where
         omega arith,
       )
 
-  -- where the piece ends, it is text if no byte is missing, and else no place of it has text
+  -- at its end the piece is UTF-8 if no byte is missing; otherwise no rest of it is
   pub scan_ends : (p < length bytes → eqb (get_or bytes p 0) d ≡ true) → IsScanned bytes d o p s
       → IsScan bytes d o (scan_end s p)
   scan_ends there h =
@@ -136,7 +140,7 @@ module _ {bytes : List ℕ} {d o p : ℕ} {s : Awaited} where
       missing : (s.more ≡ 0 → ⊥) → CompletesFrom s [] → ⊥
       missing e v = e (none_missing s.more s.least s.most v)
 
--- what an attempt inside a piece that fails says, of bytes that it left as they were
+-- what an attempt that fails says of the bytes, which it didn't change
 pub attempt_fault : {bytes seen : List ℕ} {end i next : ℕ} (d : ℕ)
     → seen ≡ bytes → piece_end bytes d i ≡ end → i ≤ end → end ≤ length bytes → IsScan seen d i (Fault next)
     → NoneReadable bytes d i next × (i < next) × (next ≤ end) × (piece_end bytes d next ≡ end)

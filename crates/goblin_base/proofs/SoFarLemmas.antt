@@ -1,4 +1,4 @@
--- What a walk has found so far.
+-- What the walk has found when it comes to an offset i.
 use Rattle.std.proofs.Common.{◌≡◌, ℕ, ◌+◌, ◌-◌, ◌<◌, ◌≤◌, ⊎_elim, true, false, cond, ltb, List, [], ◌∷◌, ◌++◌, length}
 use Rattle.std.proofs.Common.{refl, sym, ap, ◌∙◌, arith, Ok, Err, append_assoc, append-nil}
 use Rattle.std.proofs.lemmas.Bool.{cases_lt, both_ways, cond-true, cond-false, lt-ltb, le-ltb, false≢true}
@@ -34,7 +34,7 @@ module _ (bytes : List ℕ) (d : ℕ) where
   unfolding is_readable
   text_from_readable i e same r = ap is_utf8 (ap (slice_range bytes i) same ∙ sym (piece_is_range bytes d i)) ∙ r
 
-  -- the entry of a piece that is text, and what follows it
+  -- the entry of a piece that is UTF-8, and those after it
   pub entry_of_text : (i e : ℕ) (t : List ℕ)
       → i < length bytes → e ≡ piece_end bytes d i → t ≡ slice_range bytes i e → is_readable bytes d i ≡ true
       → entries_from bytes d i ≡ (i, t) ∷ entries_from bytes d (e + 1)
@@ -44,7 +44,7 @@ module _ (bytes : List ℕ) (d : ℕ) where
       (piece_is_range bytes d i ∙ ap (slice_range bytes i) (sym same) ∙ sym is)
       ∙ ap (λ k. (i, t) ∷ entries_from bytes d (k + 1)) (sym same)
 
-  -- the entries so far and those to come are all
+  -- the entries so far and those from i on are all entries
   abbrev pub IsFoundSoFar : List (ℕ × List ℕ) → ℕ → Type 0
   IsFoundSoFar es i = es ++ entries_from bytes d i ≡ entries bytes d
 
@@ -59,7 +59,7 @@ module _ (bytes : List ℕ) (d : ℕ) where
   pub found_all : (es : List (ℕ × List ℕ)) (i : ℕ) → length bytes ≤ i → IsFoundSoFar es i → es ≡ entries bytes d
   found_all es i l h = sym (append-nil es) ∙ ap (λ x. es ++ x) (sym (entries_past bytes d i l)) ∙ h
 
-  -- before i each whole piece is text, and a whole piece begins at i
+  -- each whole piece before i is UTF-8, and a whole piece begins at i
   pub record IsTextSoFar (i : ℕ) : Type 0 where
     pub no_bad_start : (k : ℕ) → k < i → k < length bytes → is_bad_start bytes d k ≡ false
     pub starts : i < length bytes → piece_start bytes d i ≡ i
@@ -81,7 +81,7 @@ module _ (bytes : List ℕ) (d : ℕ) where
     starts = λ m. start_next bytes d i (omega arith) (omega arith);
   }
 
-  -- where the first piece is no text nothing was passed
+  -- if the first piece isn't UTF-8, the walk is still at its start
   pub nothing_passed : (i : ℕ) → is_readable bytes d 0 ≡ false → IsTextSoFar i → (i ≡ 0) × (0 < length bytes)
   unfolding piece_start
   nothing_passed i r h =

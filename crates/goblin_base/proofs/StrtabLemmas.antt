@@ -27,7 +27,7 @@ look_up_past t o h =
       | false ↦ refl
     ]
 
--- what a walk answers is all entries
+-- a walk returns all entries
 ok_only : (b : Bool) (e : Refusal) (es fs : List (ℕ × List ℕ))
     → ◌≡◌ {A = Result (List (ℕ × List ℕ)) Refusal} (cond b (Err e) (Ok es)) (Ok fs) → fs ≡ es
 ok_only true e es fs h = cc
@@ -51,14 +51,14 @@ none_walked Strict bytes d e =
 
 pub ruleset empties = (no_entries, none_walked)
 
--- a table of a range by what is answered of the range
+-- the table of a range, from the result of cutting the range
 pub strtab_by : (mode : ParseMode) (file : List ℕ) (o n d : ℕ) (range : Result (List ℕ) Refusal)
     → refuse_as malformed (range_in mode file o n) ≡ range
     → strtab_of mode file o n d ≡ (range >>= (λ b. table_of mode b d))
 unfolding strtab_of
 strtab_by mode file o n d range e = ap (λ r. r >>= (λ b. table_of mode b d)) e
 
--- it is that of the range's bytes
+-- it is the table of the range's bytes
 pub strtab_in_range : (mode : ParseMode) (file : List ℕ) (o n d : ℕ) (range : List ℕ)
     → range_in mode file o n ≡ Ok range → strtab_of mode file o n d ≡ table_of mode range d
 strtab_in_range mode file o n d range e = strtab_by mode file o n d (Ok range) (ap (refuse_as malformed) e)
@@ -78,7 +78,7 @@ whole_table mode file d = strtab_in_range mode file 0 (length file) d file (whol
 
 pub ruleset wholes = (whole_range, whole_table)
 
--- where the delimiter stands first, or the length
+-- the index of the first delimiter, or the length
 pub first_or_length : (t : ℕ → Bool) (xs : List ℕ) → unwrap_or (position t xs) (length xs) ≡ position_or_len t xs
 first_or_length t xs = ⊎_elim
     (λ (l : position_or_len t xs < length xs).
@@ -88,7 +88,7 @@ first_or_length t xs = ⊎_elim
     ∙ (let e : length xs ≡ position_or_len t xs = omega (arith, prefix_len-le-length (λ b. not (t b)) xs) in e))
     (cases_lt (position_or_len t xs) (length xs))
 
--- a piece is as long as the delimiter is far, or as the rest
+-- the length of a piece is the index of the first delimiter, or the length of the rest
 pub length-before_first : (t : ℕ → Bool) (xs : List ℕ) → length (before_first t xs) ≡ position_or_len t xs
 length-before_first t xs = length-take-le (position_or_len t xs) xs (prefix_len-le-length (λ b. not (t b)) xs)
 
@@ -101,13 +101,13 @@ module _ (bytes : List ℕ) (d : ℕ) (is_parsed : Bool) (t : StringTable) (es :
   look_up_is : text_at bytes d o ≡ look_up t o
   look_up_is = sym (cond-true is_parsed (text_at bytes d o) None parsed) ∙ ap (λ x. look_up x o) is
 
-  -- some entry is at or before the offset
+  -- at least one entry is at or before the offset
   pub look_up_some : EachIndex (places_of es) (λ k. o < get_or (places_of es) k 0) → ⊥
   look_up_some h =
       not_all_after bytes d o (omega arith)
       (subst (λ x. EachIndex (places_of x) (λ k. o < get_or (places_of x) k 0)) walked_is h)
 
-  -- and the rest of the last one's text is the answer
+  -- the result is the rest of the last one's text
   pub look_up_among : (k place : ℕ) (text : List ℕ) (r : Option (Bor (List ℕ)))
       → IsLastUpTo (places_of es) o k × (place ≡ get_or (places_of es) k 0) → text ≡ text_of (get_or es k (0, []))
       → MatchOption r (¬ (IsCharBoundary text (o - place)))

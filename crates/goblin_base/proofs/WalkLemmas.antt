@@ -1,4 +1,4 @@
--- The plain walk, entry by entry, and place by place.
+-- The naive walk, entry by entry and offset by offset.
 use Rattle.std.proofs.Common.{◌≡◌, ℕ, zero, suc, ◌+◌, ◌-◌, ◌<◌, ◌≤◌, ⊎_elim, true, false, cond, ltb, List, [], ◌∷◌, map}
 use Rattle.std.proofs.Common.{length, refl, sym, ap, subst, ◌∙◌, arith}
 use Rattle.std.proofs.lemmas.Bool.{cases_lt, cases_Bool, cond-true, cond-false, lt-ltb, le-ltb, eq-eqb, ne_eqb}
@@ -15,11 +15,11 @@ use Rattle.goblin_base.proofs.PiecesLemmas.{end_from, end_same, length-piece, pi
 use Rattle.goblin_base.proofs.PiecesLemmas.{start_next}
 
 module _ (bytes : List ℕ) (d : ℕ) where
-  -- the place behind an entry
+  -- the offset after an entry
   abbrev pub next_place : ℕ → ℕ
   next_place i = i + length (entry_text bytes d i) + 1
 
-  -- room for more entries changes nothing
+  -- a larger bound on the number of entries changes nothing
   within_more : (n m i : ℕ)
       → length bytes - i ≤ n → length bytes - i ≤ m → walk_within n bytes d i ≡ walk_within m bytes d i
   within_more zero zero i p q = refl
@@ -76,12 +76,12 @@ module _ (bytes : List ℕ) (d : ℕ) where
       ∙ ap (λ t. (i, t) ∷ entries_from bytes d (next_place i)) (text_if_not i r)
       ∙ ap (λ k. (i, []) ∷ entries_from bytes d k) (next_if_not i r)
 
-  -- nothing is text
+  -- the empty piece is UTF-8
   pub readable_at_end : (i : ℕ) → piece_end bytes d i ≡ i → is_readable bytes d i ≡ true
   unfolding is_readable
   readable_at_end i e = ap is_utf8 (piece_at_end bytes d i e) ∙ is_utf8-from_IsUtf8 [] IsUtf8-nil
 
-  -- places that are not readable lie before the end of their piece
+  -- offsets that aren't readable come before the end of their piece
   pub bad_within : (o p : ℕ)
       → p ≤ length bytes → ((q : ℕ) → o ≤ q → q < p → is_readable bytes d q ≡ false) → o ≤ length bytes
       → p ≤ piece_end bytes d o
@@ -91,7 +91,7 @@ module _ (bytes : List ℕ) (d : ℕ) where
       (λ (x : p ≤ piece_end bytes d o). x)
       (cases_lt (piece_end bytes d o) p)
 
-  -- ---- none of some places is readable
+  -- ---- none of some offsets is readable
   pub none_from : (o k : ℕ)
       → ((q : ℕ) → o ≤ q → q < o + k → is_readable bytes d q ≡ false) → none_readable bytes d o k ≡ true
   unfolding none_readable
@@ -109,7 +109,7 @@ module _ (bytes : List ℕ) (d : ℕ) where
       (λ (l : q ≤ o). let e : q ≡ o = omega arith in ap (is_readable bytes d) e ∙ not-true _ parts.0)
       (cases_lt o q)
 
-  -- ---- entry places
+  -- ---- offsets of entries
   pub entry_place_from : (p : ℕ)
       → ((q : ℕ) → piece_start bytes d p ≤ q → q < p → is_readable bytes d q ≡ false) → is_entry_place bytes d p ≡ true
   unfolding is_entry_place
@@ -124,7 +124,7 @@ module _ (bytes : List ℕ) (d : ℕ) where
       → piece_start bytes d p ≤ q → q < p → is_readable bytes d q ≡ true → is_entry_place bytes d p ≡ false
   no_entry_place p q l r h = false_from_ne_true _ (λ e. both_ways _ (entry_place_at p e q l r) h)
 
-  -- no place inside an entry's text is one, nor the delimiter after it
+  -- no offset inside an entry's text is one, nor that of the delimiter after it
   pub inside_entry : (i q : ℕ) → i < q → q < next_place i → is_entry_place bytes d q ≡ false
   inside_entry i q l h = ⊎_elim
       (λ (r : is_readable bytes d i ≡ true).
@@ -133,7 +133,7 @@ module _ (bytes : List ℕ) (d : ℕ) where
       (λ (r : is_readable bytes d i ≡ false). absurd (omega (arith, next_if_not i r)))
       (cases_Bool (is_readable bytes d i))
 
-  -- and the place behind an entry is one
+  -- the offset after an entry is one
   pub entry_place_next : (i : ℕ)
       → is_entry_place bytes d i ≡ true → next_place i < length bytes → is_entry_place bytes d (next_place i) ≡ true
   entry_place_next i h l = ⊎_elim
@@ -153,14 +153,14 @@ module _ (bytes : List ℕ) (d : ℕ) where
       (cases_lt q i))))
       (cases_Bool (is_readable bytes d i))
 
-  -- ---- the entries, place by place
+  -- ---- the entries, offset by offset
   abbrev pub entry_at : ℕ → ℕ × List ℕ
   entry_at p = (p, entry_text bytes d p)
 
   abbrev from_places : ℕ → ℕ → List (ℕ × List ℕ)
   from_places i k = map entry_at (filter (is_entry_place bytes d) (range_with_len i k))
 
-  -- places that are no entry places are passed over
+  -- offsets without an entry are skipped
   skipped : (i n k : ℕ)
       → ((q : ℕ) → i ≤ q → q < i + n → is_entry_place bytes d q ≡ false) → n ≤ k
       → from_places i k ≡ from_places (i + n) (k - n)
@@ -202,7 +202,7 @@ module _ (bytes : List ℕ) (d : ℕ) where
       cond-false _ _ _ (le-ltb i (length bytes) m) ∙ ap (from_places i) e)
       (cases_lt i (length bytes))
 
-  -- The closed form: the entries stand at the entry places, each with its text.
+  -- the closed form: the walk's entries are those of the offsets that pass the test
   pub entries_closed : entries bytes d ≡ entries_by_place bytes d
   unfolding entries_from entries_by_place
   entries_closed =
@@ -210,7 +210,7 @@ module _ (bytes : List ℕ) (d : ℕ) where
       walk_by_place (length bytes - 0) 0 (omega arith) (λ _. entry_place_from 0 (λ q p r. absurd (omega arith)))
       ∙ ap (from_places 0) e
 
-  -- ---- where a strict reading fails
+  -- ---- where strict mode fails
   pub bad_start_from : (i : ℕ)
       → piece_start bytes d i ≡ i → is_readable bytes d i ≡ false → is_bad_start bytes d i ≡ true
   unfolding is_bad_start

@@ -1,4 +1,4 @@
--- Names among the strings of a table, found by comparing.
+-- Names among the strings of a table.
 use Rattle.std.proofs.Common.{◌≡◌, ℕ, ◌<◌, ◌≤◌, Bool, true, false, if◌then◌else◌, not, ◌&&◌, eqb, leb, ltb, List}
 use Rattle.std.proofs.Common.{length, get_or, take, drop, refl, sym, ap, subst, ◌∙◌, ⊎_elim, arith, Ok, Err}
 use Rattle.std.proofs.lemmas.Bool.{cases_lt, le-leb, leb-true, and_parts, and_from, or_cases, or_left, or_right}
@@ -23,7 +23,7 @@ module _ (bytes : List ℕ) (d o : ℕ) where
   abbrev rest : List ℕ
   rest = drop o bytes
 
-  -- a name without the delimiter that stands at a place is the piece there
+  -- a name without the delimiter that stands at an offset is the piece there
   piece-name : (name : List ℕ) → stands_at bytes d o name ≡ true → list_any ends name ≡ false → piece bytes d o ≡ name
   unfolding piece stands_at
   piece-name name stands none =
@@ -38,7 +38,7 @@ module _ (bytes : List ℕ) (d o : ℕ) where
       (λ t. t) (or_cases _ _ parts.1)) in
       ap (λ k. take k rest) at ∙ same
 
-  -- the piece at a place stands there
+  -- the piece at an offset stands there
   piece-stands : stands_at bytes d o (piece bytes d o) ≡ true
   unfolding piece stands_at
   piece-stands =
@@ -51,7 +51,7 @@ module _ (bytes : List ℕ) (d o : ℕ) where
       (λ (l : length rest ≤ n). or_left _ _ (le-leb (length rest) (length (take n rest)) (omega (arith, size))))
       (cases_lt n (length rest)))
 
-  -- and holds no delimiter
+  -- and doesn't contain the delimiter
   piece-apart : list_any ends (piece bytes d o) ≡ false
   unfolding piece
   piece-apart =
@@ -61,7 +61,7 @@ module _ (bytes : List ℕ) (d o : ℕ) where
       (λ k e l. ap ends (get_or-take n rest k e (omega (arith, size)))
       ∙ fails_before_first ends rest k e (omega (arith, size)))
 
-  -- a name that can be a string and stands at a place is text, and the piece there, and the other way round
+  -- a name stands at an offset and can be a string exactly if the piece there is UTF-8 and the name
   stands_Decides : (name : List ℕ)
       → Decides (stands_at bytes d o name && can_be_string d name)
       ((is_utf8 (piece bytes d o) ≡ true) × (piece bytes d o ≡ name))
@@ -76,7 +76,7 @@ module _ (bytes : List ℕ) (d o : ℕ) where
         (and_from _ _ piece-stands (and_from _ _ h.0 (not_from_false _ piece-apart)))),
   )
 
--- and so is what the plain reading gives
+-- so the naive reading returns it
 reading_Decides : (u : Bool) (p name : List ℕ) (fault : Refusal)
     → Decides (is_text_of name (if u then Ok p else Err fault)) ((u ≡ true) × (p ≡ name))
 reading_Decides true p name fault =

@@ -15,7 +15,7 @@ use Rattle.goblin_base.specs.Fields.{Field, field, size_of_fields, FieldsFit, im
 use Rattle.goblin_base.specs.Fields.{total, widths_of, values_of, lows_of}
 use Rattle.goblin_base.specs.Place.{with_number}
 
--- the bytes after each of the fields in turn was put
+-- the bytes after each of the fields was written in turn
 abbrev pub with_fields : Endian → List ℕ → ℕ → List Field → List ℕ
 with_fields order bytes place [] = bytes
 with_fields order bytes place (f ∷ fields) =
@@ -35,7 +35,7 @@ length-image_of_fields order (f ∷ fields) =
       length-append (spelled order f.width f.value) (image_of_fields order fields),
     )
 
--- the image of fields is bytes
+-- each number of the image is a byte
 pub IsBytes-image_of_fields : (order : Endian) (fields : List Field) → IsBytes (image_of_fields order fields)
 unfolding image_of_fields
 IsBytes-image_of_fields order [] i = omega arith
@@ -44,7 +44,7 @@ IsBytes-image_of_fields order (f ∷ fields) i =
     (IsBytes-spelled order f.width f.value)
     (IsBytes-image_of_fields order fields) i
 
--- the fields with the low bits of their values, as many as their widths hold
+-- the fields with their values cut to their widths
 abbrev pub low_fields : List Field → List Field
 low_fields [] = []
 low_fields (f ∷ fields) = field f.width (f.value % 256 ^ f.width) ∷ low_fields fields
@@ -56,14 +56,14 @@ unfolding image_of_fields
 image-low_fields order [] = refl
 image-low_fields order (f ∷ fields) = rw (spelled-mod order f.width f.value, image-low_fields order fields) refl
 
--- what follows the bytes of a number makes no difference to it
+-- bytes after those of a number don't change it
 pub number_at-append : (order : Endian) (bytes more : List ℕ) (place w : ℕ)
     → place + w ≤ length bytes → number_at order (bytes ++ more) place w ≡ number_at order bytes place w
 number_at-append order bytes more place w h =
     ap (λ (part : List ℕ). number order (take w part)) (drop-append-le place bytes more (omega arith))
     ∙ ap (number order) (take-append-le w (drop place bytes) more (omega (arith, length-drop place bytes)))
 
--- nor to several
+-- nor several numbers
 pub values_at-append : (order : Endian) (bytes more : List ℕ) (place : ℕ) (widths : List ℕ)
     → place + total widths ≤ length bytes
     → values_at order (bytes ++ more) place widths ≡ values_at order bytes place widths
@@ -73,12 +73,12 @@ values_at-append order bytes more place (w ∷ widths) h =
     let rest = values_at-append order bytes more (place + w) widths (omega arith) in
     rw (first, rest) refl
 
--- what fits is its own low bits
+-- cutting values that fit changes nothing
 pub lows_of-fits : (fields : List Field) → FieldsFit fields → lows_of fields ≡ values_of fields
 lows_of-fits [] fits = refl
 lows_of-fits (f ∷ fields) fits = rw (mod-eq_of_lt fits.0, lows_of-fits fields fits.1) refl
 
--- the low bits of a number that was spelled at a place are read there
+-- the low bits of a number are read back from its bytes inside others
 pub number_at-spelled : (order : Endian) (front rest : List ℕ) (place w x : ℕ)
     → length front ≡ place → number_at order (front ++ (spelled order w x ++ rest)) place w ≡ x % 256 ^ w
 number_at-spelled order front rest place w x at =
@@ -86,7 +86,7 @@ number_at-spelled order front rest place w x at =
     ∙ ap (number order) (take_at (spelled order w x) rest w (length-spelled order w x))
     ∙ number-spelled_low order w x
 
--- what was put at a place is read there, as far as its width holds it
+-- a number that was written is read back, cut to its width
 pub number_at-with_number : (order : Endian) (bytes : List ℕ) (place w x : ℕ)
     → place + w ≤ length bytes → number_at order (with_number order bytes place w x) place w ≡ x % 256 ^ w
 unfolding with_number
@@ -96,7 +96,7 @@ number_at-with_number order bytes place w x h =
     ∙ number_at-spelled order (take place bytes) (drop (place + w) bytes) place w x
     (length-take-le place bytes (omega arith))
 
--- the low bits of fields that were spelled are read back
+-- the low bits of fields are read back from their image inside other bytes
 pub values_at-image : (order : Endian) (fields : List Field) (front rest : List ℕ) (place : ℕ)
     → length front ≡ place
     → values_at order (front ++ (image_of_fields order fields ++ rest)) place (widths_of fields) ≡ lows_of fields
@@ -117,7 +117,7 @@ values_at-image order (f ∷ fields) front rest place at =
     ap (λ (t : List ℕ). values_at order t place (f.width ∷ widths_of fields)) regrouped
     ∙ rw (first, others) refl
 
--- the same with nothing in front and nothing behind
+-- the same without other bytes
 pub values_at-image_low : (order : Endian) (fields : List Field)
     → values_at order (image_of_fields order fields) 0 (widths_of fields) ≡ lows_of fields
 values_at-image_low order fields = rw append-nil at (values_at-image order fields [] [] 0 refl)
@@ -139,7 +139,7 @@ number_at-lt order bytes place w h room =
     let long : length part ≡ w = length-take-le w (drop place bytes) (omega (arith, length-drop place bytes)) in
     rw long at (number-lt order part (IsBytes-part bytes place w h))
 
--- bytes that were read are spelled again
+-- the fields read from some bytes are written as the same bytes
 pub image-fields_at : (order : Endian) (bytes : List ℕ) (place : ℕ) (widths : List ℕ)
     → IsBytes bytes → place + total widths ≤ length bytes
     → image_of_fields order (fields_at order bytes place widths) ≡ take (total widths) (drop place bytes)
@@ -153,7 +153,7 @@ image-fields_at order bytes place (w ∷ widths) h room =
     let rest = image-fields_at order bytes (place + w) widths h (omega arith) in
     rw (first, rest, ← drop-drop w place bytes) (sym (take-add w (total widths) (drop place bytes)))
 
--- the fields that were put one after another are spelled there
+-- writing the fields one after another writes their image
 pub with_fields-image : (order : Endian) (bytes : List ℕ) (place : ℕ) (fields : List Field)
     → place + size_of_fields fields ≤ length bytes
     → with_fields order bytes place fields

@@ -1,4 +1,4 @@
--- Laws of records that follow from where their fields lie, and of records that are read and written as other ones.
+-- The laws of records, from their layout; and of records that are read and written as other ones.
 use Rattle.std.proofs.Common.{◌≡◌, ◌<◌, ◌≤◌, ◌+◌, ℕ, List, [], ◌∷◌, ◌++◌, length, take, refl, sym, ap, ◌∙◌, arith}
 use Rattle.std.proofs.lemmas.List.{take_all}
 use Rattle.goblin_base.specs.declared.container.Container.{Container}
@@ -12,7 +12,7 @@ use Rattle.goblin_base.specs.Number.{IsBytes}
 use Rattle.goblin_base.specs.Record.{Writes}
 use Rattle.goblin_base.specs.TableLaws.{records-flat_map}
 
--- fields take as many bytes as their widths add up to
+-- the size of fields is the sum of their widths
 size_of_fields-is : (fields : List Field) → size_of_fields fields ≡ total (widths_of fields)
 size_of_fields-is [] = refl
 size_of_fields-is (f ∷ fields) = ap (λ (n : ℕ). f.width + n) (size_of_fields-is fields)
@@ -48,7 +48,7 @@ module _ {R : Type 0} {widths : List ℕ} {read : Endian → List ℕ → R} {fi
       ap (image_of_fields order) (l.fields_read order bytes are room)
       ∙ image-fields_at order bytes 0 widths are (omega arith)
 
-  -- a layout of some bytes makes records
+  -- a layout of at least one byte obeys the laws of records
   pub layout_laws : 0 < total widths
       → IsRecord (total widths) (read order) (λ x. image_of_fields order (fields x)) low Fits
   layout_laws some = record {
@@ -61,7 +61,7 @@ module _ {R : Type 0} {widths : List ℕ} {read : Endian → List ℕ → R} {fi
     writes_back = image-read;
   }
 
--- records that are read and written as other ones: `widen` makes what was read, `narrow` what is written
+-- records that are read and written as other ones: `widen` after reading, `narrow` before writing
 pub converted_laws : {A B : Type 0} {size : ℕ} {read : List ℕ → A} {image : A → List ℕ} {low : A → A}
     {Fits : A → Type 0}
     (widen : A → B) (narrow : B → A) (BothFit : B → Type 0)
@@ -80,7 +80,7 @@ converted_laws {size = size} {image = image} widen narrow BothFit laws there bac
 
 module _ {R : Type 0} {size : ℕ} {read : List ℕ → R} {image : R → List ℕ} {low : R → R} {Fits : R → Type 0}
     (laws : IsRecord size read image low Fits) where
-  -- records whose writing leaves their image obey all laws
+  -- records that are written as their image obey all laws
   pub obeys : Obeys size read image Fits (λ x. Writes size (image x))
   obeys = record { low = low; is_record = laws; writes_image = λ x old new answer so. so }
 
@@ -90,19 +90,19 @@ module _ {R : Type 0} {size : ℕ} {read : List ℕ → R} {image : R → List �
   image-of_read : (bytes : List ℕ) → IsBytes bytes → length bytes ≡ size → bytes ≡ image (read bytes)
   image-of_read bytes are long = sym (take_is_whole bytes long) ∙ sym (laws.writes_back bytes are (omega arith))
 
-  -- only the low bits are written
+  -- writing the low bits only writes the same image
   pub image-low : (x : R) → image (low x) ≡ image x
   image-low x =
       ap image (sym (laws.reads_low x)) ∙ sym (image-of_read (image x) (laws.image_bytes x) (laws.length_image x))
 
-  -- whatever reads so is the image, and no other bytes
+  -- no bytes but the image are read as the low bits
   pub one_image : IsOneImage size read image low
   one_image x bytes = (
     λ is. rw is (laws.image_bytes x, laws.length_image x, laws.reads_low x),
     λ h. image-of_read bytes h.0 h.1 ∙ ap image h.2 ∙ image-low x,
   )
 
--- what fits both classes is the same in each
+-- records that fit both classes are read back in each
 pub same_in_each_class : {R : Type 0} {size : Container → ℕ} {read : Container → Endian → List ℕ → R}
     {image : Container → Endian → R → List ℕ} {low : Container → R → R} {Fits : Container → R → Type 0}
     → ((class : Container) (order : Endian)

@@ -1,4 +1,4 @@
--- Laws of the numbers that bytes stand for: each number of a width has one spelling.
+-- Laws of numbers in bytes: each number of one width is written as one list of bytes.
 use Rattle.std.proofs.Common.{◌≡◌, ◌<◌, ◌≤◌, ◌+◌, ◌-◌, ◌*◌, ◌/◌, ◌%◌, ◌^◌, ℕ, zero, suc, List, [], ◌∷◌, ◌++◌, length}
 use Rattle.std.proofs.Common.{reverse, inl, inr, refl, sym, ap, ◌∙◌, add-one, arith}
 use Rattle.std.proofs.Math.Nat.{mod-lt, pow-suc, one-le-pow}
@@ -9,7 +9,7 @@ use Rattle.goblin_base.specs.declared.container.Endian.{Endian}
 use Rattle.goblin_base.specs.declared.container.Endian.TheVariants.{Little, Big}
 use Rattle.goblin_base.specs.Number.{IsBytes, weighted_sum, number, digits, spelled}
 
--- one rank more is 256 times as much
+-- a rank higher is 256 times as much
 pub weighted_sum-next : (rank : ℕ) (bytes : List ℕ) → weighted_sum (rank + 1) bytes ≡ 256 * weighted_sum rank bytes
 weighted_sum-next rank [] = refl
 weighted_sum-next rank (byte ∷ bytes) =
@@ -17,7 +17,7 @@ weighted_sum-next rank (byte ∷ bytes) =
     let rest = weighted_sum-next (rank + 1) bytes in
     rw (power, rest) (omega arith)
 
--- the sum with one byte taken off: what the first byte stands for is the byte itself
+-- the sum without the first byte, which counts as itself
 pub weighted_sum-cons : (byte : ℕ) (bytes : List ℕ) → weighted_sum 0 (byte ∷ bytes) ≡ byte + 256 * weighted_sum 0 bytes
 weighted_sum-cons byte bytes = let rest = weighted_sum-next 0 bytes in omega (arith, rest)
 
@@ -30,12 +30,12 @@ weighted_sum-last (first ∷ bytes) byte =
     let power = pow-suc 256 (length bytes) in
     rw (weighted_sum-cons first (bytes ++ byte ∷ []), weighted_sum-cons first bytes, rest, power) (omega arith)
 
--- as many digits as were asked for
+-- the digits are as many as the width
 pub length-digits : (n x : ℕ) → length (digits n x) ≡ n
 length-digits zero x = refl
 length-digits (suc n) x = let e = length-digits n (x / 256) in omega (arith, e)
 
--- n bytes spell a number below 256 ^ n
+-- the number of n bytes is below 256 ^ n
 pub weighted_sum-lt : (bytes : List ℕ) → IsBytes bytes → weighted_sum 0 bytes < 256 ^ length bytes
 weighted_sum-lt [] h = omega arith
 weighted_sum-lt (b ∷ bytes) h =
@@ -43,7 +43,7 @@ weighted_sum-lt (b ∷ bytes) h =
     let rest = weighted_sum-lt bytes (λ i. h (suc i)) in
     rw (weighted_sum-cons b bytes, pow-suc 256 (length bytes)) (omega arith)
 
--- the digits of a number that fits spell it
+-- a number that fits is the sum of its digits
 pub weighted_sum-digits : (n x : ℕ) → x < 256 ^ n → weighted_sum 0 (digits n x) ≡ x
 weighted_sum-digits zero x h = omega arith
 weighted_sum-digits (suc n) x h =
@@ -52,7 +52,7 @@ weighted_sum-digits (suc n) x h =
     let rest = weighted_sum-digits n (x / 256) small in
     rw weighted_sum-cons (omega (arith, rest))
 
--- bytes are the digits of the number that they spell
+-- bytes are the digits of their number
 pub digits-weighted_sum : (bytes : List ℕ) → IsBytes bytes → digits (length bytes) (weighted_sum 0 bytes) ≡ bytes
 digits-weighted_sum [] h = refl
 digits-weighted_sum (b ∷ bytes) h =
@@ -62,7 +62,7 @@ digits-weighted_sum (b ∷ bytes) h =
     let rest = digits-weighted_sum bytes (λ i. h (suc i)) in
     rw (weighted_sum-cons b bytes, low, high, rest) refl
 
--- bytes in the other order are bytes
+-- reversed bytes are bytes
 IsBytes-reverse : (bytes : List ℕ) → IsBytes bytes → IsBytes (reverse bytes)
 IsBytes-reverse bytes h i =
     elim (cases_lt i (length bytes)) [
@@ -77,7 +77,7 @@ IsBytes-digits zero x i = omega arith
 IsBytes-digits (suc n) x zero = omega arith
 IsBytes-digits (suc n) x (suc i) = IsBytes-digits n (x / 256) i
 
--- what spells a number is bytes
+-- the bytes of a number are bytes
 pub IsBytes-spelled : (order : Endian) (n x : ℕ) → IsBytes (spelled order n x)
 unfolding spelled
 IsBytes-spelled Little n x = IsBytes-digits n x
@@ -89,25 +89,25 @@ IsBytes-append [] back f b i = b i
 IsBytes-append (x ∷ front) back f b zero = f 0
 IsBytes-append (x ∷ front) back f b (suc i) = IsBytes-append front back (λ j. f (suc j)) b i
 
--- any number is spelled by so many bytes
+-- the bytes of a number are as many as the width
 pub length-spelled : (order : Endian) (n x : ℕ) → length (spelled order n x) ≡ n
 unfolding spelled
 length-spelled Little n x = length-digits n x
 length-spelled Big n x = length-reverse (digits n x) ∙ length-digits n x
 
--- n bytes spell a number below 256 ^ n
+-- the number of n bytes is below 256 ^ n
 pub number-lt : (order : Endian) (bytes : List ℕ) → IsBytes bytes → number order bytes < 256 ^ length bytes
 unfolding number
 number-lt Little bytes h = weighted_sum-lt bytes h
 number-lt Big bytes h = rw (← length-reverse bytes) (weighted_sum-lt (reverse bytes) (IsBytes-reverse bytes h))
 
--- what is spelled is read back
+-- a number that fits is read back
 pub number-spelled : (order : Endian) (n x : ℕ) → x < 256 ^ n → number order (spelled order n x) ≡ x
 unfolding number spelled
 number-spelled Little n x h = weighted_sum-digits n x h
 number-spelled Big n x h = ap (weighted_sum 0) (reverse-reverse (digits n x)) ∙ weighted_sum-digits n x h
 
--- what is read is spelled by the bytes that were read
+-- the number of some bytes is written as the same bytes
 pub spelled-number : (order : Endian) (bytes : List ℕ)
     → IsBytes bytes → spelled order (length bytes) (number order bytes) ≡ bytes
 unfolding number spelled
@@ -116,7 +116,7 @@ spelled-number Big bytes h =
     let e = digits-weighted_sum (reverse bytes) (IsBytes-reverse bytes h) in
     rw length-reverse at (ap reverse e) ∙ reverse-reverse bytes
 
--- only the lowest digits count
+-- the digits of a number depend on its low part only
 digits-mod : (n x : ℕ) → digits n (x % 256 ^ n) ≡ digits n x
 digits-mod zero x = refl
 digits-mod (suc n) x =
@@ -128,25 +128,25 @@ digits-mod (suc n) x =
     let high : x % 256 ^ suc n / 256 ≡ x / 256 % 256 ^ n = omega (arith, split) in
     rw (low, high, digits-mod n (x / 256)) refl
 
--- only the lowest digits are spelled
+-- so do its bytes
 pub spelled-mod : (order : Endian) (n x : ℕ) → spelled order n (x % 256 ^ n) ≡ spelled order n x
 unfolding spelled
 spelled-mod Little n x = digits-mod n x
 spelled-mod Big n x = ap reverse (digits-mod n x)
 
--- one byte is its number
+-- the number of one byte is the byte
 pub number-one : (order : Endian) (b : ℕ) → number order (b ∷ []) ≡ b
 unfolding number
 number-one Little b = omega arith
 number-one Big b = omega arith
 
--- a byte spells itself
+-- a byte is written as itself
 pub spelled-one : (order : Endian) (b : ℕ) → b < 256 → spelled order 1 b ≡ b ∷ []
 unfolding spelled
 spelled-one Little b h = let e : b % 256 ≡ b = omega arith in ap (λ (d : ℕ). d ∷ []) e
 spelled-one Big b h = let e : b % 256 ≡ b = omega arith in ap (λ (d : ℕ). d ∷ []) e
 
--- the low digits of any number are read back
+-- of any number the low part is read back
 pub number-spelled_low : (order : Endian) (n x : ℕ) → number order (spelled order n x) ≡ x % 256 ^ n
 number-spelled_low order n x =
     let positive : 0 < 256 ^ n = omega (arith, one-le-pow n 256 (omega arith)) in

@@ -1,4 +1,4 @@
--- Laws of signed numbers: each that fits a width has one spelling in two's complement.
+-- Laws of signed numbers: each that fits a width is written as one list of bytes, in two's complement.
 use Rattle.std.proofs.Common.{◌≡◌, ◌<◌, ◌≤◌, ◌+◌, ◌*◌, ◌-◌, ◌%◌, ◌^◌, ℕ, List, length, take, drop, inl, inr, sym, ap}
 use Rattle.std.proofs.Common.{◌∙◌, arith}
 use Rattle.std.specs.Prelude.{ℤ, pos, negsuc}
@@ -14,7 +14,7 @@ use Rattle.goblin_base.specs.NumberLaws.{length-spelled, number-spelled, spelled
 use Rattle.goblin_base.specs.Signed.{signed_of, signed_number_at, complement, FitsSigned, ReadsSigned, SpellsSigned}
 use Rattle.goblin_base.specs.Signed.{IsSignedSlice, ReadsSignedThere}
 
--- two's complement there and back
+-- a signed number that fits, to its bytes' number and back
 pub signed_of-complement : (width : ℕ) (z : ℤ) → FitsSigned width z → signed_of width (complement width z) ≡ z
 signed_of-complement width (pos x) fits =
     let e : x % 256 ^ width ≡ x = mod-eq_of_lt (omega arith) in
@@ -23,16 +23,16 @@ signed_of-complement width (negsuc x) fits =
     let e : x % 256 ^ width ≡ x = mod-eq_of_lt (omega arith) in
     rw e (grind (arith, nat_tests, ints))
 
--- the number of a signed number has so many bytes
+-- the number of a signed number fits the width
 pub complement-lt : (width : ℕ) (z : ℤ) → complement width z < 256 ^ width
 complement-lt width (pos x) = mod-lt x (omega (arith, one-le-pow width 256 (omega arith)))
 complement-lt width (negsuc x) = omega (arith, one-le-pow width 256 (omega arith))
 
--- so its low bits are all of it
+-- so cutting it to the width changes nothing
 pub complement-mod : (width : ℕ) (z : ℤ) → complement width z % 256 ^ width ≡ complement width z
 complement-mod width z = mod-eq_of_lt (complement-lt width z)
 
--- and from a number back to it
+-- a number, to its signed number and back
 pub complement-signed_of : (width x : ℕ) → x < 256 ^ width → complement width (signed_of width x) ≡ x
 complement-signed_of width x h =
     elim (cases_lt (2 * x) (256 ^ width)) [
@@ -44,7 +44,7 @@ complement-signed_of width x h =
           ap (complement width) high ∙ rw rest (omega arith)
     ]
 
--- what is spelled is read back
+-- a signed number that fits is read back
 pub signed_number-spelled : ReadsSigned
 signed_number-spelled order width z fits =
     let x = complement width z in
@@ -52,27 +52,27 @@ signed_number-spelled order width z fits =
     ∙ ap (signed_of width) (number-spelled order width x (complement-lt width z))
     ∙ signed_of-complement width z fits
 
--- what is read is spelled by the bytes that were read
+-- the signed number of some bytes is written as the same bytes
 pub spelled-signed_number : SpellsSigned
 spelled-signed_number order bytes are =
     ap (spelled order (length bytes))
     (complement-signed_of (length bytes) (number order bytes) (number-lt order bytes are))
     ∙ spelled-number order bytes are
 
--- the number of the signed number that stands at a place is the one that stands there
+-- the signed number at an offset has the number at that offset
 pub complement-signed_number_at : (order : Endian) (bytes : List ℕ) (place width : ℕ)
     → IsBytes bytes → place + width ≤ length bytes
     → complement width (signed_number_at order bytes place width) ≡ number_at order bytes place width
 complement-signed_number_at order bytes place width are room =
     complement-signed_of width (number_at order bytes place width) (number_at-lt order bytes place width are room)
 
--- a slice that is there has its length
+-- the signed number at an offset is that of the slice there
 pub signed_number_at-is : IsSignedSlice
 signed_number_at-is order bytes place width room =
     ap (λ (w : ℕ). signed_of w (number order (take width (drop place bytes))))
     (sym (length-take-le width (drop place bytes) (omega (arith, length-drop place bytes))))
 
--- what was put in range is read back
+-- a signed number that was written and fits its width is read back
 pub signed_number_at-with_number : ReadsSignedThere
 signed_number_at-with_number order bytes place width z room fits =
     let x = complement width z in

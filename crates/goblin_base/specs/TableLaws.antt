@@ -5,16 +5,16 @@ use Rattle.std.specs.List.{All, slice_range, range_with_len, flat_map}
 use Rattle.std.proofs.lemmas.List.{take_at, drop_at, drop-drop, drop-take, take-take}
 use Rattle.goblin_base.specs.Table.{records}
 
--- the slice of the bytes with an index
+-- the slice of the record with an index
 unfoldable pub slice : ℕ → List ℕ → ℕ → List ℕ
 slice size bytes i = slice_range bytes (i * size) ((i + 1) * size)
 
--- it is as many bytes as a record takes, from its start on
+-- it is `size` bytes from the record's start on
 pub slice-is : (size : ℕ) (bytes : List ℕ) (i : ℕ) → slice size bytes i ≡ take size (drop (i * size) bytes)
 unfolding slice
 slice-is size bytes i = let e : (i + 1) * size - i * size ≡ size = omega arith in rw e refl
 
--- the slices after the first one are those of the bytes behind it
+-- the slices after the first are those of the bytes after it
 slice-next : (size : ℕ) (bytes : List ℕ) (i : ℕ) → slice size bytes (i + 1) ≡ slice size (drop size bytes) i
 slice-next size bytes i =
     let e : size + i * size ≡ (i + 1) * size = omega arith in
@@ -29,13 +29,13 @@ slices-next : {R : Type 0} (size : ℕ) (read : List ℕ → R) (bytes : List �
 slices-next size read bytes i zero = refl
 slices-next size read bytes i (suc n) = rw (slice-next size bytes i, slices-next size read bytes (i + 1) n) refl
 
--- a table of none is empty
+-- a table of 0 records is empty
 pub no_records : {R : Type 0} (size : ℕ) (read : List ℕ → R) (n : ℕ) (bytes : List ℕ)
     → n ≡ 0 → records size read n bytes ≡ []
 unfolding records
 no_records size read n bytes e = rw e refl
 
--- the first record, and those behind it
+-- the first record, and those after it
 pub first_record : {R : Type 0} (size : ℕ) (read : List ℕ → R) (n : ℕ) (bytes : List ℕ)
     → 0 < n → records size read n bytes ≡ read (take size bytes) ∷ records size read (n - 1) (drop size bytes)
 unfolding records slice
@@ -47,7 +47,7 @@ first_record size read (suc n) bytes h =
     slice-is size bytes 0 ∙ ap (λ (k : ℕ). take size (drop k bytes)) none in
     rw (e, front) (ap (λ rest. read (take size bytes) ∷ rest) (slices-next size read bytes 0 n))
 
--- records that are written one after another are read back as the same list
+-- records that are written one after another are read back
 pub records-flat_map : {R : Type 0} (size : ℕ) (read : List ℕ → R) (image : R → List ℕ) (Right : R → Type 0)
     → ((x : R) → length (image x) ≡ size) → ((x : R) → Right x → read (image x) ≡ x) → (all : List R) → All Right all
     → records size read (length all) (flat_map image all) ≡ all
@@ -66,7 +66,7 @@ records-flat_map size read image Right long back (x ∷ all) right =
       rest,
     ) refl
 
--- the records of a range depend on that range alone
+-- the records of a range depend on that range only
 pub records-take : {R : Type 0} (size : ℕ) (read : List ℕ → R) (n : ℕ) (bytes : List ℕ)
     → records size read n (take (n * size) bytes) ≡ records size read n bytes
 unfolding records
@@ -82,7 +82,7 @@ records-take size read (suc n) bytes =
     ∙ rw (less, front, behind, records-take size read n (drop size bytes))
     (sym (rw less at (first_record size read (suc n) bytes (omega arith))))
 
--- so bytes that agree on the range give the same records
+-- so bytes that agree on the range hold the same records
 pub records-agree : {R : Type 0} (size : ℕ) (read : List ℕ → R) (n : ℕ) (bytes others : List ℕ)
     → take (n * size) bytes ≡ take (n * size) others → records size read n bytes ≡ records size read n others
 records-agree size read n bytes others same =

@@ -1,4 +1,4 @@
--- Laws of bytes that are text, and of the string tables that they are.
+-- Laws of bytes that are UTF-8, and of string tables of such bytes.
 use Rattle.std.proofs.Common.{◌≡◌, ℕ, zero, suc, ◌+◌, ◌-◌, ◌<◌, ◌≤◌, ◌==◌, if◌then◌else◌, Bool, true, false, cond, not}
 use Rattle.std.proofs.Common.{eqb, List, [], ◌++◌, length, get_or, take, drop, refl, sym, ap, subst, ◌∙◌, ⊎_elim, arith}
 use Rattle.std.proofs.Common.{Some, None, Ok, Err, slice_range}
@@ -24,9 +24,9 @@ use Rattle.goblin_base.specs.Strtab.{strtab_of, table_of, walked, plain}
 use Rattle.goblin_base.specs.StrtabLaws.{TextIsTaken, NamesArePlain}
 use Rattle.goblin_base.specs.Utf8.{invalid_utf8}
 
--- ---- ranges that are text
+-- ---- ranges that are UTF-8
 
--- two ranges that are text, one right behind the other, are one that is
+-- two ranges that are UTF-8, one right after the other, are one that is
 pub texts-join : (bytes : List ℕ) (i j k : ℕ)
     → i ≤ j → j ≤ k → IsUtf8 (slice_range bytes i j) → IsUtf8 (slice_range bytes j k) → IsUtf8 (slice_range bytes i k)
 texts-join bytes i j k l m a b =
@@ -49,9 +49,9 @@ start_to bytes d (suc o) =
       | false ↦ omega (arith, start_to bytes d o)
     ]
 
--- ---- pieces of a text, which an ASCII delimiter cuts
+-- ---- pieces of UTF-8, which an ASCII delimiter cuts
 module _ (bytes : List ℕ) (d : ℕ) (ascii : d < 128) where
-  -- at a boundary of characters the piece of a text is text
+  -- the piece at a character boundary is UTF-8
   readable-at_boundary : (o : ℕ) → IsUtf8 bytes → IsCharBoundary bytes o → is_readable bytes d o ≡ true
   unfolding is_readable piece
   readable-at_boundary o u at =
@@ -67,7 +67,7 @@ module _ (bytes : List ℕ) (d : ℕ) (ascii : d < 128) where
       subst (IsCharBoundary rest) e (IsCharBoundary-end rest))
       (cases_lt n (length rest))))
 
-  -- a whole piece begins at a boundary of characters
+  -- a whole piece begins at a character boundary
   boundary-at_start : (o : ℕ) → IsUtf8 bytes → o < length bytes → piece_start bytes d o ≡ o → IsCharBoundary bytes o
   unfolding piece_start
   boundary-at_start zero u l h = IsCharBoundary-start bytes u
@@ -87,7 +87,7 @@ module _ (bytes : List ℕ) (d : ℕ) (ascii : d < 128) where
       rw (false_from_ne_true (eqb (piece_start bytes d o) o) (λ t. n (grind arith))) refl)
       (cases_eq (piece_start bytes d o) o)
 
-  -- so a strict walk finds no bad piece of a text
+  -- so each piece is UTF-8
   first_bad-text : IsUtf8 bytes → first_bad bytes d ≡ length bytes
   unfolding first_bad
   first_bad-text u =
@@ -131,7 +131,7 @@ pub name-past : (bytes : List ℕ) (d o : ℕ) → length bytes ≤ o → unwrap
 unfolding text_at
 name-past bytes d o l = rw (le-ltb o (length bytes) l) refl
 
--- a piece that begins with a byte that goes on with a character is no text
+-- a piece that begins with a continuation byte isn't UTF-8
 unreadable-later : (bytes : List ℕ) (d o : ℕ)
     → d < 128 → o < length bytes → 128 ≤ get_or bytes o 0 → get_or bytes o 0 < 192 → is_utf8 (piece bytes d o) ≡ false
 unfolding piece

@@ -4,7 +4,7 @@ use Rattle.goblin_base.specs.Search.{IsRising}
 use Rattle.goblin_base.proofs.DigitsLemmas.{digits_step, digits_step_back}
 use Rattle.goblin_base.proofs.find.find.Goals as goal
 
--- what is known of the place in the middle holds of all places on that side
+-- what is known of the middle place holds for all places on that side of it
 to_the_left : (ps : List ℕ) (m o : ℕ)
     → IsRising ps → m < length ps → slice_index ps m ≤ o → (k : ℕ) → k < m + 1 → slice_index ps k ≤ o
 to_the_left ps m o rising within here k h =

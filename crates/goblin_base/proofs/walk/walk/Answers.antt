@@ -13,7 +13,7 @@ use Rattle.goblin_base.proofs.SoFarLemmas.{text_so_far_more, nothing_passed, wal
 use Rattle.goblin_base.proofs.SoFarLemmas.{strict_if_not_permissive, found_all}
 use Rattle.goblin_base.proofs.walk.walk.Goals as goal
 
--- what a test of the piece at i says, of bytes that were left as they were
+-- what the test of the piece at i says of the bytes, which it didn't change
 readable_here : (bytes seen then : List ℕ) (d i e : ℕ)
     → seen ≡ bytes → then ≡ seen → e ≡ piece_end seen d i → IsUtf8 (slice_range then i e)
     → (e ≡ piece_end bytes d i) × (is_readable bytes d i ≡ true)

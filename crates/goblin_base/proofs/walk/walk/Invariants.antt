@@ -11,10 +11,10 @@ invariant-loop-i l = record {
   within : l.i ≤ length l.fn.view.bytes + 1;
   walked : IsWalkedTo l.fn.view.bytes l.delim l.places.items l.i;
   strict : l.mode ≡ Strict → IsTextSoFar l.fn.view.bytes l.delim l.i;
-  -- five looks for each byte before i
+  -- at most five looks for each byte before i
   looks : l.view.count ≤ l.fn.view.count + 5 * min l.i (length l.fn.view.bytes);
   rising : l.fn.view.count ≤ l.view.count;
-  -- and as many at least as bytes were passed
+  -- and at least one for each
   least : CountsAtLeast l.fn.view.count (min l.i (length l.fn.view.bytes)) l.view.count;
 }
 
