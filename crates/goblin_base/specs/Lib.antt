@@ -1,5 +1,6 @@
 pub mod Ascii
 pub mod Container
+pub mod Digited
 pub mod Eager
 pub mod Entries
 pub mod FieldLaws

@@ -4,6 +4,7 @@
 
 mod ascii;
 pub mod container;
+pub mod digits;
 pub mod entries;
 pub mod error;
 pub mod find;

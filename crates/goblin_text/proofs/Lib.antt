@@ -1,6 +1,5 @@
 mod Blocks
 mod Faults
-mod Glyphs
 mod Looks
 mod Modes
 mod Plain

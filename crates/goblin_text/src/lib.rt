@@ -5,7 +5,6 @@
 mod accept;
 pub mod command;
 pub mod counted;
-mod digits;
 pub mod file_bytes;
 pub mod input;
 mod lines;

@@ -5,7 +5,6 @@ ghost use Rattle.goblin.specs.Texts.{◌&◌};
 ghost use Rattle.goblin_text.specs.Lines.{addend_text, header_line, is_control, newline, printable, printed, reloc_line, section_line, symbol_line};
 ghost use Rattle.goblin_text.specs.Put.{Puts};
 
-use crate::digits::Digits;
 use crate::targets::Target;
 use goblin::elf::header::{
     EI_CLASS, EI_DATA, ELFDATA2LSB, Header, class_to_str, et_to_str, machine_to_str,
@@ -13,6 +12,7 @@ use goblin::elf::header::{
 use goblin::elf::reloc::Reloc;
 use goblin::elf::section_header::{SectionHeader, sht_to_str};
 use goblin::elf::sym::{Sym, bind_to_str, type_to_str, visibility_to_str};
+use goblin_base::digits::Digits;
 
 // Puts texts one after another.
 fn put_all<T: Target>(target: &mut T, texts: &[&str]) -> Result<(), T::Error>

@@ -1,10 +1,10 @@
-//! Numbers as texts, without taking memory.
+//! Numbers as text. Nothing is allocated.
 ghost use Rattle.std.specs.Prelude.{◌≡◌, ◌^◌, ◌<◌, ◌≤◌, IsAscii, decimal, false};
 ghost use Rattle.std.specs.Fmt.{digit_glyph, digits};
-ghost use Rattle.goblin.specs.Texts.{hexadecimal};
-ghost use Rattle.goblin_text.specs.Digited.{digits_text};
+ghost use Rattle.goblin_base.specs.Texts.{hexadecimal};
+ghost use Rattle.goblin_base.specs.Digited.{digits_text};
 
-// How many digits the greatest number has in decimal.
+// The most digits that a number has in decimal.
 const DIGITS: usize = 20;
 
 /// The digits of a number.
@@ -15,7 +15,7 @@ pub struct Digits {
 }
 
 impl Digits {
-    /// A number in decimal.
+    /// Returns the digits of a number in decimal.
     pub fn decimal(number: u64) -> Self
         ensures text { digits_text result ≡ decimal number }
         ensures ascii { IsAscii (digits_text result) }
@@ -24,7 +24,7 @@ impl Digits {
         Self::by_base(10, number)
     }
 
-    /// A number in lower-case hexadecimal.
+    /// Returns the digits of a number in lower-case hexadecimal.
     pub fn hexadecimal(number: u64) -> Self
         ensures text { digits_text result ≡ hexadecimal number }
         ensures ascii { IsAscii (digits_text result) }
@@ -33,7 +33,7 @@ impl Digits {
         Self::by_base(16, number)
     }
 
-    // A number by a base. It is inlined, so that the base is a constant where it divides.
+    // Returns the digits of a number in some base. It is inlined so that the base is a constant in its divisions.
     #[inline(always)]
     fn by_base(base: u64, number: u64) -> Self
         requires short { 2 ^ 64 ≤ base ^ 20 }
@@ -55,18 +55,18 @@ impl Digits {
         Digits { bytes, start }
     }
 
-    /// The digits as a text.
+    /// Returns the digits as a string.
     pub fn as_str(&self) -> &str
         requires ascii { IsAscii (digits_text self.now) }
         requires start { self.now.start < 20 }
         ensures { result.now ≡ digits_text self.now }
     {
-        // Digits are text, as is required.
+        // The digits are ASCII, as is required.
         unsafe { std::str::from_utf8_unchecked(&self.bytes[self.start..]) }
     }
 }
 
-// The digit of a number below 16.
+// Returns the digit of a number below 16.
 fn digit(number: u8) -> u8
     requires { number < 16 }
     ensures { result ≡ digit_glyph false number }

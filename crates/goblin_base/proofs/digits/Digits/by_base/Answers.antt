@@ -1,11 +1,12 @@
-use Rattle.std.proofs.Common.{◌≡◌, ◌∙◌, ◌+◌, ◌-◌, ◌*◌, ◌/◌, ◌%◌, ◌<◌, ◌^◌, ◌∷◌, ℕ, drop, false, length, lit<, refl, set, suc, subst, sym, ap, arith, length-set}
+use Rattle.std.proofs.Common.{◌≡◌, ◌∙◌, ◌+◌, ◌-◌, ◌*◌, ◌/◌, ◌%◌, ◌<◌, ◌^◌, ◌∷◌, ℕ, drop, false, length, lit<, refl, set}
+use Rattle.std.proofs.Common.{suc, subst, sym, ap, arith, length-set}
 use Rattle.std.proofs.Math.Nat.{one-mul, pow-suc, pow-zero}
 use Rattle.std.proofs.lemmas.List.{drop-set}
 use Rattle.std.specs.Fmt.{digit_glyph, digits, digits_onto}
 use Rattle.std.specs.Str.{IsAscii}
-use Rattle.goblin_text.proofs.Glyphs.{digits-ascii, digits-last, digits-more, shorter}
-use Rattle.goblin_text.proofs.digits.Digits.by_base.Goals.{then-loop-left-test+else-start-gt0, else-loop-left-test}
-use Rattle.goblin_text.proofs.digits.Digits.by_base.Goals as goal
+use Rattle.goblin_base.proofs.GlyphLemmas.{digits-ascii, digits-last, digits-more, shorter}
+use Rattle.goblin_base.proofs.digits.Digits.by_base.Goals.{then-loop-left-test+else-start-gt0, else-loop-left-test}
+use Rattle.goblin_base.proofs.digits.Digits.by_base.Goals as goal
 
 pub loop-left-init : goal.loop-left-init
 unfolding digits
@@ -19,16 +20,22 @@ loop-left-preserved c =
     let place : l.start - 1 + 1 ≡ l.start = omega arith in
     let fuel : suc (l.start - 1 + 44) ≡ l.start + 44 = omega arith in
     let power : suc (l.start - 1) ≡ l.start = omega arith in
-    let behind : drop (l.start - 1 + 1) (set l.bytes l.start c.digit.result) ≡ digit_glyph false (l.left % base) ∷ drop (l.start + 1) l.bytes =
-    ap (λ p. drop p (set l.bytes l.start c.digit.result)) place ∙ drop-set l.bytes l.start c.digit.result here ∙ ap (λ d. d ∷ drop (l.start + 1) l.bytes) c.digit.ensures in
+    let behind : drop (l.start - 1 + 1) (set l.bytes l.start c.digit.result)
+    ≡ digit_glyph false (l.left % base) ∷ drop (l.start + 1) l.bytes =
+    ap (λ p. drop p (set l.bytes l.start c.digit.result)) place
+    ∙ drop-set l.bytes l.start c.digit.result here
+    ∙ ap (λ d. d ∷ drop (l.start + 1) l.bytes) c.digit.ensures in
     let low : l.left / base < base ^ l.start = shorter base l.left l.start c.requires.some l.invariant.short in
     record {
       size = omega (arith, l.invariant.size, length-set {A = ℕ});
       room = omega (arith, l.invariant.room);
       short = subst (λ k. l.left / base < base ^ k) (sym power) low;
-      digits = ap (λ k. digits_onto k base false (l.left / base) (drop (l.start - 1 + 1) (set l.bytes l.start c.digit.result))) fuel
+      digits = ap (λ k.
+          digits_onto k base false (l.left / base) (drop (l.start - 1 + 1) (set l.bytes l.start c.digit.result))) fuel
           ∙ ap (digits_onto (l.start + 44) base false (l.left / base)) behind
-          ∙ sym (digits-more base (l.start + 44) l.left (drop (l.start + 1) l.bytes) c.requires.some c.loop-left-test.true) ∙ l.invariant.digits;
+          ∙ sym (digits-more base (l.start + 44) l.left
+          (drop (l.start + 1) l.bytes) c.requires.some c.loop-left-test.true)
+          ∙ l.invariant.digits;
     }
 
 text : goal.returns-clause-text
@@ -38,13 +45,16 @@ text c =
     let here : l.start < length l.bytes = omega (arith, l.invariant.size, l.invariant.room) in
     let one : base ^ 1 ≡ base = pow-suc base 0 ∙ ap (λ x. x * base) (pow-zero base) ∙ one-mul base in
     let last : l.left < base = elim c.loop-left-test.branch [
-      | then-loop-left-test+else-start-gt0 w ↦ (let none : l.start ≡ 0 = omega (arith, w.if-start-gt0.false) in omega (arith, ap (λ s. base ^ (suc s)) none, one, l.invariant.short))
+      | then-loop-left-test+else-start-gt0 w ↦ (let none : l.start ≡ 0 = omega (arith, w.if-start-gt0.false) in
+          omega (arith, ap (λ s. base ^ (suc s)) none, one, l.invariant.short))
       | else-loop-left-test w ↦ omega (arith, w.loop-left-test.false)
     ] in
-    rw (drop-set l.bytes l.start c.digit-2.result here, c.digit-2.ensures) (sym (digits-last base (l.start + 44) l.left (drop (l.start + 1) l.bytes) last) ∙ l.invariant.digits)
+    rw (drop-set l.bytes l.start c.digit-2.result here, c.digit-2.ensures)
+    (sym (digits-last base (l.start + 44) l.left (drop (l.start + 1) l.bytes) last) ∙ l.invariant.digits)
 
 pub returns-clause-text : goal.returns-clause-text
 returns-clause-text c = text c
 
 pub returns-clause-ascii : goal.returns-clause-ascii
-returns-clause-ascii c = subst IsAscii (sym (text c)) (digits-ascii c.args.base c.args.number c.requires.some c.requires.most)
+returns-clause-ascii c =
+    subst IsAscii (sym (text c)) (digits-ascii c.args.base c.args.number c.requires.some c.requires.most)

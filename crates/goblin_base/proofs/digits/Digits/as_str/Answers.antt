@@ -2,10 +2,11 @@ use Rattle.std.proofs.Common.{◌-◌, arith, drop, subst, sym}
 use Rattle.std.proofs.lemmas.List.{length-drop, take_all}
 use Rattle.std.proofs.lemmas.Str.{IsUtf8-from_ascii}
 use Rattle.std.specs.Str.{IsUtf8}
-use Rattle.goblin_text.proofs.digits.Digits.as_str.Goals as goal
+use Rattle.goblin_base.proofs.digits.Digits.as_str.Goals as goal
 
 pub from_utf8_unchecked-requires : goal.from_utf8_unchecked-requires
 from_utf8_unchecked-requires c =
     let start = c.args.self.now.start in
     let digits = drop start c.args.self.now.bytes in
-    subst IsUtf8 (sym (take_all (20 - start) digits (omega (arith, length-drop start c.args.self.now.bytes)))) (IsUtf8-from_ascii digits c.requires.ascii)
+    subst IsUtf8 (sym (take_all (20 - start) digits (omega (arith, length-drop start c.args.self.now.bytes))))
+    (IsUtf8-from_ascii digits c.requires.ascii)
