@@ -1,5 +1,6 @@
 //! Tables of records in borrowed bytes. A record is read when it is asked for.
-ghost use Rattle.std.specs.Prelude.{◌≡◌, ◌≤◌, ◌*◌, ◌↔◌, IsTrue, IfOk, IfSome, IfErr, alloc_error, ◌+◌, ◌/◌, ◌<◌, OnOk, take, drop, [], List, length, slice_get, ◌^◌, ℕ, All, flat_map, IsOk};
+ghost use Rattle.std.specs.Prelude.{◌≡◌, ◌≤◌, ◌*◌, ◌↔◌, IsTrue, IfOk, IfSome, IfErr, alloc_error, ◌+◌, ◌/◌, ◌<◌, OnOk};
+ghost use Rattle.std.specs.Prelude.{take, drop, [], List, length, slice_get, ◌^◌, ℕ, All, flat_map, IsOk};
 ghost use Rattle.std.specs.Iterator.{UpTo, YieldsFirst, item_count};
 ghost use Rattle.std.specs.Iterator.SizeHint.{IsWithinCount};
 ghost use Rattle.goblin_base.specs.Eager.{records_from, records_in, room_of_each};
