@@ -7,6 +7,7 @@ pub mod FieldLaws
 pub mod Fields
 pub mod Layout
 pub mod LayoutLaws
+pub mod Lines
 pub mod Names
 pub mod Number
 pub mod NumberLaws
