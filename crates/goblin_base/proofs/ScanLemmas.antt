@@ -7,7 +7,7 @@ use Rattle.goblin_base.specs.declared.utf8.Awaited.{Awaited}
 use Rattle.goblin_base.specs.declared.walk.Found.TheVariants.{Whole, Fault}
 use Rattle.goblin_base.specs.Utf8.{awaits_first, after_byte}
 use Rattle.goblin_base.specs.Pieces.{piece_end, piece, is_readable}
-use Rattle.goblin_base.specs.Scan.{IsScan, NoneReadable, scan_end}
+use Rattle.goblin_base.specs.Scan.{IsDamaged, IsScan, scan_end}
 use Rattle.goblin_base.proofs.Utf8Lemmas.{Completes, any_bounds, IsUtf8-from_Completes, Completes-from_IsUtf8}
 use Rattle.goblin_base.proofs.AwaitedLemmas.{CompletesFrom, IsInner, Steps, StepsTo, steps}
 use Rattle.goblin_base.proofs.WalkLemmas.{bad_within}
@@ -96,17 +96,18 @@ module _ {bytes : List ℕ} {d o p : ℕ} {s : Awaited} where
       let split = piece_at_byte bytes d p l n in
       let from = h.from in
       let no : CompletesFrom s (piece bytes d p) → ⊥ =
-      λ v. subst (StepsTo s b) e (steps s b h.inner) _ (subst (CompletesFrom s) split v) in (
-        λ q x y. false_from_ne_true _ (λ (r : is_readable bytes d q ≡ true). ⊎_elim
+      λ v. subst (StepsTo s b) e (steps s b h.inner) _ (subst (CompletesFrom s) split v) in
+      record {
+        none = λ q x y. false_from_ne_true _ (λ (r : is_readable bytes d q ≡ true). ⊎_elim
             (λ (z : q < p). no (h.forth q x z r))
             (λ (z : p ≤ q). let same : q ≡ p = omega arith in let start : p ≡ o = omega arith in
             no (subst (λ k. Completes k s.least s.most (piece bytes d p)) (sym (h.begun start))
             (any_bounds 0x80 0xbf s.least s.most _
             (completes_if_readable bytes d p (ap (is_readable bytes d) (sym same) ∙ r)))))
-            (cases_lt q p)),
-        omega arith,
-        omega arith,
-      )
+            (cases_lt q p));
+        further = omega arith;
+        within = omega arith;
+      }
 
   -- at its end the piece is UTF-8 if no byte is missing; otherwise no rest of it is
   pub scan_ends : (p < length bytes → eqb (get_or bytes p 0) d ≡ true) → IsScanned bytes d o p s
@@ -119,18 +120,21 @@ module _ {bytes : List ℕ} {d o p : ℕ} {s : Awaited} where
       end_is bytes d p p (omega arith) within (λ k x y. absurd (omega arith)) there in
       let empty = piece_at_end bytes d p last in
       ⊎_elim
-      (λ (e : s.more ≡ 0). subst (IsScan bytes d o) (sym (cond-true _ (Whole p) (Fault p) (eq-eqb _ _ e))) (
-        h.back (subst (CompletesFrom s) (sym empty) (subst (λ k. Completes k s.least s.most []) (sym e) tt)),
-        sym same,
-        from,
-        within,
-      ))
-      (λ (e : s.more ≡ 0 → ⊥). subst (IsScan bytes d o) (sym (cond-false _ (Whole p) (Fault p) (ne_eqb _ _ e))) (
-        λ q x y. false_from_ne_true _
-            (λ (r : is_readable bytes d q ≡ true). missing e (subst (CompletesFrom s) empty (h.forth q x y r))),
-        ⊎_elim (λ (z : o < p). z) (λ (z : p ≤ o). absurd (e (h.begun (omega arith)))) (cases_lt o p),
-        within,
-      ))
+      (λ (e : s.more ≡ 0). subst (IsScan bytes d o) (sym (cond-true _ (Whole p) (Fault p) (eq-eqb _ _ e)))
+      (record {
+        readable = h.back
+            (subst (CompletesFrom s) (sym empty) (subst (λ k. Completes k s.least s.most []) (sym e) tt));
+        ends = sym same;
+        ordered = from;
+        within = within;
+      }))
+      (λ (e : s.more ≡ 0 → ⊥). subst (IsScan bytes d o) (sym (cond-false _ (Whole p) (Fault p) (ne_eqb _ _ e)))
+      (record {
+        none = λ q x y. false_from_ne_true _
+            (λ (r : is_readable bytes d q ≡ true). missing e (subst (CompletesFrom s) empty (h.forth q x y r)));
+        further = ⊎_elim (λ (z : o < p). z) (λ (z : p ≤ o). absurd (e (h.begun (omega arith)))) (cases_lt o p);
+        within = within;
+      }))
       (cases_eq s.more 0)
     where
       none_missing : (n lo hi : ℕ) → Completes n lo hi [] → n ≡ 0
@@ -142,13 +146,12 @@ module _ {bytes : List ℕ} {d o p : ℕ} {s : Awaited} where
 
 -- what an attempt that fails says of the bytes, which it didn't change
 pub attempt_fault : {bytes seen : List ℕ} {end i next : ℕ} (d : ℕ)
-    → seen ≡ bytes → piece_end bytes d i ≡ end → i ≤ end → end ≤ length bytes → IsScan seen d i (Fault next)
-    → NoneReadable bytes d i next × (i < next) × (next ≤ end) × (piece_end bytes d next ≡ end)
+    → seen ≡ bytes → piece_end bytes d i ≡ end → i ≤ end → end ≤ length bytes → IsDamaged seen d i next
+    → IsDamaged bytes d i next × (next ≤ end) × (piece_end bytes d next ≡ end)
 attempt_fault {bytes = bytes} {i = i} {next = next} d same ends l m h =
-    let found : IsScan bytes d i (Fault next) = subst (λ bs. IsScan bs d i (Fault next)) same h in
-    let until = bad_within bytes d i next found.2 found.0 (omega arith) in (
-      found.0,
-      found.1,
+    let found : IsDamaged bytes d i next = subst (λ bs. IsDamaged bs d i next) same h in
+    let until = bad_within bytes d i next found.within found.none (omega arith) in (
+      found,
       omega (arith, until, ends),
-      end_same bytes d i next (omega arith) (omega (arith, found.1)) until ∙ ends,
+      end_same bytes d i next (omega arith) (omega (arith, found.further)) until ∙ ends,
     )

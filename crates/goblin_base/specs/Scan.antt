@@ -6,16 +6,23 @@ use Rattle.goblin_base.specs.declared.walk.Found.TheVariants.{Whole, Fault}
 use Rattle.goblin_base.specs.Entries.{AreKept, entries_between}
 use Rattle.goblin_base.specs.Pieces.{piece_end, is_readable, entries_from, entries}
 
--- no offset from o up to p has a piece that is UTF-8
-abbrev pub NoneReadable : List ℕ → ℕ → ℕ → ℕ → Type 0
-NoneReadable bytes delim o p = (q : ℕ) → o ≤ q → q < p → is_readable bytes delim q ≡ false
+-- the piece at o is UTF-8, and ends there
+pub record IsWhole (bytes : List ℕ) (delim o end : ℕ) : Type 0 where
+  pub readable : is_readable bytes delim o ≡ true
+  pub ends : end ≡ piece_end bytes delim o
+  pub ordered : o ≤ end
+  pub within : end ≤ length bytes
 
--- the result of an attempt at o is right: the piece is UTF-8 and ends there, or no offset before `next` has such a
--- piece
+-- no offset from o up to `next` has a piece that is UTF-8
+pub record IsDamaged (bytes : List ℕ) (delim o next : ℕ) : Type 0 where
+  pub none : (q : ℕ) → o ≤ q → q < next → is_readable bytes delim q ≡ false
+  pub further : o < next
+  pub within : next ≤ length bytes
+
+-- the result of an attempt at o is right
 abbrev pub IsScan : List ℕ → ℕ → ℕ → Found → Type 0
-IsScan bytes delim o (Whole end) =
-    (is_readable bytes delim o ≡ true) × (end ≡ piece_end bytes delim o) × (o ≤ end) × (end ≤ length bytes)
-IsScan bytes delim o (Fault next) = NoneReadable bytes delim o next × (o < next) × (next ≤ length bytes)
+IsScan bytes delim o (Whole end) = IsWhole bytes delim o end
+IsScan bytes delim o (Fault next) = IsDamaged bytes delim o next
 
 -- the looks that an attempt may take: the bytes of the piece and one more, or two for each byte that is passed
 abbrev pub looks_of : ℕ → Found → ℕ
