@@ -145,7 +145,7 @@ first_without len offset size count some before h =
     let k = (len - offset) / size in
     let place = offset + k * size in
     let here : k * size ≤ len - offset = div-mul-le_self (len - offset) size in
-    let behind = (div-lt_iff_lt-mul {k = size} {x = len - offset} {y = k + 1} some).0 (omega arith) in
+    let too_far = (div-lt_iff_lt-mul {k = size} {x = len - offset} {y = k + 1} some).0 (omega arith) in
     let left : count - k ≡ suc (count - (k + 1)) = omega arith in
     let fails : room_of len place size ≡ Ok tt → ⊥ =
     λ e. (let fits = fits-room_of len place size tt e in omega arith) in

@@ -50,8 +50,8 @@ module _ (bytes : List ℕ) (d : ℕ) where
         (cases_lt (next_place bytes d i) (length bytes));
   }
 
-  entry_behind : (e : ℕ × List ℕ) (es : List (ℕ × List ℕ)) (k : ℕ) → IsEntry es k → IsEntry (e ∷ es) (suc k)
-  entry_behind e es k h =
+  entry_after : (e : ℕ × List ℕ) (es : List (ℕ × List ℕ)) (k : ℕ) → IsEntry es k → IsEntry (e ∷ es) (suc k)
+  entry_after e es k h =
       let s : suc k + 1 ≡ suc (k + 1) = omega arith in
       record {
         within = h.within;
@@ -70,7 +70,7 @@ module _ (bytes : List ℕ) (d : ℕ) where
       (cases_lt i (length bytes))
   entry_from (suc k) i h l = ⊎_elim
       (λ (m : i < length bytes). subst (λ es. IsEntry es (suc k)) (sym (entries_more bytes d i m))
-      (entry_behind _ _ k
+      (entry_after _ _ k
       (entry_from k (next_place bytes d i) (entry_place_next bytes d i (h m))
       (omega (arith, ap length (entries_more bytes d i m))))))
       (λ (m : length bytes ≤ i). absurd (omega (arith, ap length (entries_past bytes d i m))))
@@ -142,12 +142,12 @@ module _ (bytes : List ℕ) (d : ℕ) where
             b (subst (λ t. IsCharBoundary t (o - p)) (sym e)
             (IsCharBoundary-from_drop (piece bytes d p) (o - p) (omega (arith, length-piece bytes d p))
             (subst IsUtf8 (sym rest) (readable_tells o s))))) in
-            let behind : p < o =
+            let earlier : p < o =
             ⊎_elim (λ (x : p < o). x)
             (λ (x : o ≤ p). let same : o ≡ p = omega arith in
             absurd (both_ways _ (ap (is_readable bytes d) (sym same) ∙ bad) r)) (cases_lt p o) in
             text_at_inside o n bad
-            (no_entry_place bytes d o p (omega (arith, start_same bytes d p o l until, start_to bytes d p)) behind r);
+            (no_entry_place bytes d o p (omega (arith, start_same bytes d p o l until, start_to bytes d p)) earlier r);
       })
       (λ (r : is_readable bytes d p ≡ false).
       let e = text_if_not bytes d p r in

@@ -178,12 +178,12 @@ with_fields-image order bytes place (f ∷ fields) room =
     let others = with_fields-image order new after fields (omega arith) in
     let kept : take after new ≡ take place bytes ++ text =
     take_at (take place bytes ++ text) (drop after bytes) after front in
-    let behind : drop (after + size) new ≡ drop (place + (f.width + size)) bytes =
+    let rest_after : drop (after + size) new ≡ drop (place + (f.width + size)) bytes =
     sym (drop-drop size after new)
     ∙ ap (drop size) (drop_at (take place bytes ++ text) (drop after bytes) after front)
     ∙ drop-drop size after bytes
     ∙ ap (λ (k : ℕ). drop k bytes) (omega arith) in
-    others ∙ rw (kept, behind)
+    others ∙ rw (kept, rest_after)
     (append_assoc (take place bytes) text (image_of_fields order fields ++ drop (place + (f.width + size)) bytes)
     ∙ ap (λ (t : List ℕ). take place bytes ++ t)
     (sym (append_assoc text (image_of_fields order fields) (drop (place + (f.width + size)) bytes))))

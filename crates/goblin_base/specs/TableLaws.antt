@@ -76,10 +76,10 @@ records-take size read (suc n) bytes =
     let whole : suc n * size ≡ size + n * size = omega arith in
     let front : take size (take (suc n * size) bytes) ≡ take size bytes =
     take-take size (suc n * size) bytes (omega arith) in
-    let behind : drop size (take (suc n * size) bytes) ≡ take (n * size) (drop size bytes) =
+    let rest_after : drop size (take (suc n * size) bytes) ≡ take (n * size) (drop size bytes) =
     ap (λ (k : ℕ). drop size (take k bytes)) whole ∙ drop-take size (n * size) bytes in
     first_record size read (suc n) (take (suc n * size) bytes) (omega arith)
-    ∙ rw (less, front, behind, records-take size read n (drop size bytes))
+    ∙ rw (less, front, rest_after, records-take size read n (drop size bytes))
     (sym (rw less at (first_record size read (suc n) bytes (omega arith))))
 
 -- so bytes that agree on the range hold the same records

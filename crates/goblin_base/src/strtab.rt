@@ -153,8 +153,8 @@ impl<'a> Strtab<'a> {
         len: usize,
         delim: u8,
     ) -> Result<Self>
-        ensures given { let right = strtab_of ParseMode.Strict bytes.now offset len delim in
-            Gives (λ table. table) result right }
+        ensures given { let expected = strtab_of ParseMode.Strict bytes.now offset len delim in
+            Gives (λ table. table) result expected }
         ensures range { IfErr (range_in ParseMode.Strict bytes.now offset len)
             (λ fault. result ≡ Err (Error.Malformed fault)) }
         ensures first { IfOk (range_in ParseMode.Strict bytes.now offset len)
@@ -190,8 +190,8 @@ impl<'a> Strtab<'a> {
         delim: u8,
         opts: &ParseOptions,
     ) -> Result<Self>
-        ensures given { let right = strtab_of opts.now.parse_mode bytes.now offset len delim in
-            Gives (λ table. table) result right }
+        ensures given { let expected = strtab_of opts.now.parse_mode bytes.now offset len delim in
+            Gives (λ table. table) result expected }
         ensures range { IfErr (range_in opts.now.parse_mode bytes.now offset len)
             (λ fault. result ≡ Err (Error.Malformed fault)) }
         ensures first { IfOk (range_in opts.now.parse_mode bytes.now offset len)
@@ -224,8 +224,8 @@ impl<'a> Strtab<'a> {
     /// does.
     #[tactic(auto, using(crate::proofs::StrtabLemmas::wholes))]
     pub fn new_preparsed(alloc: Global, bytes: &'a [u8], delim: u8) -> Result<Self>
-        ensures given { let right = table_of ParseMode.Strict bytes.now delim in
-            Gives (λ table. table) result right }
+        ensures given { let expected = table_of ParseMode.Strict bytes.now delim in
+            Gives (λ table. table) result expected }
         ensures first { RefusesFirst ParseMode.Strict bytes.now delim result }
         ensures none { (bytes.now ≡ []) → IsOk result }
     {
@@ -278,8 +278,8 @@ impl<'a> Strtab<'a> {
     /// A piece that isn't UTF-8 is a `BadInput`. Its size is the number of bytes from the offset on.
     pub fn get(&self, offset: usize) -> Option<Result<&'a str>>
         ensures past { IsNone result ↔ (length self.now.bytes ≤ offset) }
-        ensures given { IfSome result (λ piece. let right = plain self.now.bytes self.now.delim offset in
-            Answers (λ text. text.now) piece right) }
+        ensures given { IfSome result (λ piece. let expected = plain self.now.bytes self.now.delim offset in
+            Answers (λ text. text.now) piece expected) }
     {
         string_at(self.bytes, self.delim, offset)
     }
@@ -448,8 +448,8 @@ impl Default for Strtab<'_> {
 /// `StrtabRange` if the range ends past the end of the file, or past `usize::MAX`.
 #[tactic(auto, unfolding(crate::specs::Strtab::range_in))]
 pub fn bytes_in_range(bytes: &[u8], offset: usize, len: usize, mode: ParseMode) -> Result<&[u8]>
-    ensures given { let right = refuse_as malformed (range_in mode bytes.now offset len) in
-        Answers (λ range. range.now) result right }
+    ensures given { let expected = refuse_as malformed (range_in mode bytes.now offset len) in
+        Answers (λ range. range.now) result expected }
     ensures range { IfErr (range_in mode bytes.now offset len)
         (λ fault. result ≡ Err (Error.Malformed fault)) }
 {
@@ -484,8 +484,8 @@ pub fn bytes_in_range(bytes: &[u8], offset: usize, len: usize, mode: ParseMode) 
 /// A piece that isn't UTF-8 is a `BadInput`. Its size is the number of bytes from the offset on.
 pub fn string_at(bytes: &[u8], delim: u8, offset: usize) -> Option<Result<&str>>
     ensures past { IsNone result ↔ (length bytes.now ≤ offset) }
-    ensures given { IfSome result (λ piece. let right = plain bytes.now delim offset in
-        Answers (λ text. text.now) piece right) }
+    ensures given { IfSome result (λ piece. let expected = plain bytes.now delim offset in
+        Answers (λ text. text.now) piece expected) }
 {
     if offset >= bytes.len() {
         None

@@ -64,9 +64,9 @@ impl<'a, R: Record<C>, C: Copy> Table<'a, R, C> {
     /// Fails as [`room`] does for the first record that doesn't lie in the bytes.
     #[tactic(auto, using(crate::proofs::Eager::lists), unfolding(crate::specs::Eager::records_in, crate::specs::Eager::records_from))]
     pub fn in_range(bytes: &'a [u8], offset: usize, count: usize, ctx: C) -> Result<Self>
-        ensures given { let right =
+        ensures given { let expected =
             records_in (R.size_of ctx) (R.read ctx) bytes.now offset count in
-            Answers (λ table. table) result right }
+            Answers (λ table. table) result expected }
         ensures range { IfErr (room_of_each (length bytes.now) offset (R.size_of ctx) count)
             (λ e. result ≡ Err (Error.Scroll e)) }
     {
@@ -92,9 +92,9 @@ impl<'a, R: Record<C>, C: Copy> Table<'a, R, C> {
         ctx: C,
         items: &'static str,
     ) -> Result<Self>
-        ensures { let right =
+        ensures { let expected =
             records_from (R.size_of ctx) (R.read ctx) bytes.now offset count items.now in
-            Answers (λ table. table) result right }
+            Answers (λ table. table) result expected }
     {
         let most = bytes.len() / R::size_with(&ctx);
         if count <= most {
@@ -256,9 +256,9 @@ pub fn read_all<R: Record<C>, C: Copy>(
     ctx: C,
     items: &'static str,
 ) -> Result<Vec<R>>
-    ensures given { let right =
+    ensures given { let expected =
         records_from (R.size_of ctx) (R.read ctx) bytes.now offset count items.now in
-        Gives (λ v. v.items) result right }
+        Gives (λ v. v.items) result expected }
     ensures too_many { length bytes.now / R.size_of ctx < count →
         Refuses result (buffer_too_short count items.now) }
     ensures none { (count ≡ 0) → IsOk result }
@@ -322,9 +322,9 @@ pub fn read_in_range<R: Record<C>, C: Copy>(
     count: usize,
     ctx: C,
 ) -> Result<Vec<R>>
-    ensures given { let right =
+    ensures given { let expected =
         records_in (R.size_of ctx) (R.read ctx) bytes.now offset count in
-        Gives (λ v. v.items) result right }
+        Gives (λ v. v.items) result expected }
     ensures range { IfErr (room_of_each (length bytes.now) offset (R.size_of ctx) count)
         (λ e. result ≡ Err (Error.Scroll e)) }
     ensures none { (count ≡ 0) → IsOk result }

@@ -20,7 +20,7 @@ loop-left-preserved c =
     let place : l.start - 1 + 1 ≡ l.start = omega arith in
     let fuel : suc (l.start - 1 + 44) ≡ l.start + 44 = omega arith in
     let power : suc (l.start - 1) ≡ l.start = omega arith in
-    let behind : drop (l.start - 1 + 1) (set l.bytes l.start c.digit.result)
+    let written : drop (l.start - 1 + 1) (set l.bytes l.start c.digit.result)
     ≡ digit_glyph false (l.left % base) ∷ drop (l.start + 1) l.bytes =
     ap (λ p. drop p (set l.bytes l.start c.digit.result)) place
     ∙ drop-set l.bytes l.start c.digit.result here
@@ -32,7 +32,7 @@ loop-left-preserved c =
       short = subst (λ k. l.left / base < base ^ k) (sym power) low;
       digits = ap (λ k.
           digits_onto k base false (l.left / base) (drop (l.start - 1 + 1) (set l.bytes l.start c.digit.result))) fuel
-          ∙ ap (digits_onto (l.start + 44) base false (l.left / base)) behind
+          ∙ ap (digits_onto (l.start + 44) base false (l.left / base)) written
           ∙ sym (digits-more base (l.start + 44) l.left
           (drop (l.start + 1) l.bytes) c.requires.some c.loop-left-test.true)
           ∙ l.invariant.digits;
