@@ -1,5 +1,5 @@
 -- Headers of each class and of both: an identification as it is, and behind it numbers of given widths.
-use Rattle.std.proofs.Common.{◌≡◌, ◌≤◌, ◌+◌, ℕ, List, [], ◌∷◌, ◌++◌, length, take, slice_index, refl, sym, ap, ◌∙◌, arith}
+use Rattle.std.proofs.Common.{◌≡◌, ◌≤◌, ◌+◌, ℕ, List, [], ◌++◌, length, take, refl, sym, ap, ◌∙◌, arith}
 use Rattle.std.proofs.Math.Seq.{take-add}
 use Rattle.std.proofs.lemmas.List.{append_assoc, append-nil, length-append, take_all, take_at}
 use Rattle.goblin_base.specs.declared.container.Container.{Container}
@@ -10,8 +10,8 @@ use Rattle.goblin_base.specs.FieldLaws.{values_at-image, lows_of-fits, image-fie
 use Rattle.goblin_base.specs.Number.{IsBytes}
 use Rattle.goblin_base.specs.NumberLaws.{IsBytes-append}
 use Rattle.goblin_headers.specs.Header.{header_size, header_of, header_image, header_low, HeaderFits, as32, as64, widened32, widened64}
-use Rattle.goblin_headers.specs.Header32.{header32_size, header32_of, header32_fields, header32_image, header32_low, Header32Fits}
-use Rattle.goblin_headers.specs.Header64.{header64_size, header64_of, header64_fields, header64_image, header64_low, Header64Fits}
+use Rattle.goblin_headers.specs.Header32.{header32_size, header32_of, header32_of_values, header32_widths, header32_fields, header32_image, header32_low, Header32Fits}
+use Rattle.goblin_headers.specs.Header64.{header64_size, header64_of, header64_of_values, header64_widths, header64_fields, header64_image, header64_low, Header64Fits}
 use Rattle.goblin_headers.specs.HeaderTrips.{IsOneHeaderImage}
 
 -- headers of a size, with an identification in front, and what holds of reading and writing them
@@ -90,8 +90,8 @@ module _ {R : Type 0} {widths : List ℕ} {ident : R → List ℕ} {read : Endia
 
 -- the fields of the headers of each class
 pub header32_laws : IsHeader header32_size (λ h. h.e_ident) header32_of header32_image header32_low Header32Fits
-header32_laws = layout_laws {widths = 2 ∷ 2 ∷ 4 ∷ 4 ∷ 4 ∷ 4 ∷ 4 ∷ 2 ∷ 2 ∷ 2 ∷ 2 ∷ 2 ∷ 2 ∷ []} {fields = header32_fields} (record {
-  of_values = λ i vs. record { e_ident = i; e_type = slice_index vs 0; e_machine = slice_index vs 1; e_version = slice_index vs 2; e_entry = slice_index vs 3; e_phoff = slice_index vs 4; e_shoff = slice_index vs 5; e_flags = slice_index vs 6; e_ehsize = slice_index vs 7; e_phentsize = slice_index vs 8; e_phnum = slice_index vs 9; e_shentsize = slice_index vs 10; e_shnum = slice_index vs 11; e_shstrndx = slice_index vs 12 };
+header32_laws = layout_laws {widths = header32_widths} {fields = header32_fields} (record {
+  of_values = header32_of_values;
   reads = λ order bytes. refl;
   has_ident = λ i vs. refl;
   has_widths = λ h. refl;
@@ -102,8 +102,8 @@ header32_laws = layout_laws {widths = 2 ∷ 2 ∷ 4 ∷ 4 ∷ 4 ∷ 4 ∷ 4 ∷ 
 })
 
 pub header64_laws : IsHeader header64_size (λ h. h.e_ident) header64_of header64_image header64_low Header64Fits
-header64_laws = layout_laws {widths = 2 ∷ 2 ∷ 4 ∷ 8 ∷ 8 ∷ 8 ∷ 4 ∷ 2 ∷ 2 ∷ 2 ∷ 2 ∷ 2 ∷ 2 ∷ []} {fields = header64_fields} (record {
-  of_values = λ i vs. record { e_ident = i; e_type = slice_index vs 0; e_machine = slice_index vs 1; e_version = slice_index vs 2; e_entry = slice_index vs 3; e_phoff = slice_index vs 4; e_shoff = slice_index vs 5; e_flags = slice_index vs 6; e_ehsize = slice_index vs 7; e_phentsize = slice_index vs 8; e_phnum = slice_index vs 9; e_shentsize = slice_index vs 10; e_shnum = slice_index vs 11; e_shstrndx = slice_index vs 12 };
+header64_laws = layout_laws {widths = header64_widths} {fields = header64_fields} (record {
+  of_values = header64_of_values;
   reads = λ order bytes. refl;
   has_ident = λ i vs. refl;
   has_widths = λ h. refl;

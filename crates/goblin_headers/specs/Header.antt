@@ -8,12 +8,13 @@ use Rattle.goblin_base.specs.declared.container.Ctx.{Ctx}
 use Rattle.goblin_base.specs.declared.error.Error.{Error}
 use Rattle.goblin_base.specs.declared.error.Error.TheVariants.{Malformed}
 use Rattle.goblin_base.specs.declared.error.Fault.{Fault}
+use Rattle.goblin_base.specs.Fields.{values_of}
 use Rattle.goblin_base.specs.Steps.{or_refuse}
 use Rattle.goblin_headers.specs.declared.header.Header.{Header}
 use Rattle.goblin_headers.specs.declared.header32.Header.{Header as Raw32}
 use Rattle.goblin_headers.specs.declared.header64.Header.{Header as Raw64}
-use Rattle.goblin_headers.specs.Header32.{header32_size, header32_of, header32_image, header32_low, Header32Fits}
-use Rattle.goblin_headers.specs.Header64.{header64_size, header64_of, header64_image, header64_low, Header64Fits}
+use Rattle.goblin_headers.specs.Header32.{header32_size, header32_fields, header32_of_values, header32_of, header32_image, header32_low, Header32Fits}
+use Rattle.goblin_headers.specs.Header64.{header64_size, header64_fields, header64_of_values, header64_of, header64_image, header64_low, Header64Fits}
 use Rattle.goblin_headers.specs.ProgramHeader.{program_header_size}
 use Rattle.goblin_headers.specs.SectionHeader.{section_header_size}
 
@@ -60,81 +61,44 @@ abbrev pub Identifies : Container → Endian → List ℕ → Type 0
 Identifies class order ident =
     (take 4 ident ≡ magic) × (class_named (slice_index ident 4) ≡ Some class) × NamesOrder order ident
 
--- the header with the fields of a 32-bit one
+-- the values of the fields of a header after its identification, in file order, which is the same in both classes
+abbrev pub header_values : Header → List ℕ
+header_values h =
+    h.e_type ∷ h.e_machine ∷ h.e_version ∷ h.e_entry ∷ h.e_phoff ∷ h.e_shoff ∷ h.e_flags ∷ h.e_ehsize ∷ h.e_phentsize
+    ∷ h.e_phnum ∷ h.e_shentsize ∷ h.e_shnum ∷ h.e_shstrndx ∷ []
+
+-- the header with this identification and these values of its other fields
+abbrev pub header_of_values : List ℕ → List ℕ → Header
+header_of_values ident values = record {
+  e_ident = ident;
+  e_type = slice_index values 0;
+  e_machine = slice_index values 1;
+  e_version = slice_index values 2;
+  e_entry = slice_index values 3;
+  e_phoff = slice_index values 4;
+  e_shoff = slice_index values 5;
+  e_flags = slice_index values 6;
+  e_ehsize = slice_index values 7;
+  e_phentsize = slice_index values 8;
+  e_phnum = slice_index values 9;
+  e_shentsize = slice_index values 10;
+  e_shnum = slice_index values 11;
+  e_shstrndx = slice_index values 12;
+}
+
+-- the header with the fields of a raw one
 abbrev pub widened32 : Raw32 → Header
-widened32 h = record {
-  e_ident = h.e_ident;
-  e_type = h.e_type;
-  e_machine = h.e_machine;
-  e_version = h.e_version;
-  e_entry = h.e_entry;
-  e_phoff = h.e_phoff;
-  e_shoff = h.e_shoff;
-  e_flags = h.e_flags;
-  e_ehsize = h.e_ehsize;
-  e_phentsize = h.e_phentsize;
-  e_phnum = h.e_phnum;
-  e_shentsize = h.e_shentsize;
-  e_shnum = h.e_shnum;
-  e_shstrndx = h.e_shstrndx;
-}
+widened32 h = header_of_values h.e_ident (values_of (header32_fields h))
 
--- the header with the fields of a 64-bit one
 abbrev pub widened64 : Raw64 → Header
-widened64 h = record {
-  e_ident = h.e_ident;
-  e_type = h.e_type;
-  e_machine = h.e_machine;
-  e_version = h.e_version;
-  e_entry = h.e_entry;
-  e_phoff = h.e_phoff;
-  e_shoff = h.e_shoff;
-  e_flags = h.e_flags;
-  e_ehsize = h.e_ehsize;
-  e_phentsize = h.e_phentsize;
-  e_phnum = h.e_phnum;
-  e_shentsize = h.e_shentsize;
-  e_shnum = h.e_shnum;
-  e_shstrndx = h.e_shstrndx;
-}
+widened64 h = header_of_values h.e_ident (values_of (header64_fields h))
 
--- the 32-bit header with the same fields, whether they fit it or not
+-- the raw header with the same fields, whether they fit or not
 abbrev pub as32 : Header → Raw32
-as32 h = record {
-  e_ident = h.e_ident;
-  e_type = h.e_type;
-  e_machine = h.e_machine;
-  e_version = h.e_version;
-  e_entry = h.e_entry;
-  e_phoff = h.e_phoff;
-  e_shoff = h.e_shoff;
-  e_flags = h.e_flags;
-  e_ehsize = h.e_ehsize;
-  e_phentsize = h.e_phentsize;
-  e_phnum = h.e_phnum;
-  e_shentsize = h.e_shentsize;
-  e_shnum = h.e_shnum;
-  e_shstrndx = h.e_shstrndx;
-}
+as32 h = header32_of_values h.e_ident (header_values h)
 
--- the 64-bit header with the same fields, whether they fit it or not
 abbrev pub as64 : Header → Raw64
-as64 h = record {
-  e_ident = h.e_ident;
-  e_type = h.e_type;
-  e_machine = h.e_machine;
-  e_version = h.e_version;
-  e_entry = h.e_entry;
-  e_phoff = h.e_phoff;
-  e_shoff = h.e_shoff;
-  e_flags = h.e_flags;
-  e_ehsize = h.e_ehsize;
-  e_phentsize = h.e_phentsize;
-  e_phnum = h.e_phnum;
-  e_shentsize = h.e_shentsize;
-  e_shnum = h.e_shnum;
-  e_shstrndx = h.e_shstrndx;
-}
+as64 h = header64_of_values h.e_ident (header_values h)
 
 -- the header that bytes stand for in a class and a byte order
 abbrev pub header_of : Container → Endian → List ℕ → Header

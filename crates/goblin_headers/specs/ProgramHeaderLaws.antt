@@ -1,18 +1,18 @@
 -- Program headers of either class are read back from what was written, and written back as they were read.
-use Rattle.std.proofs.Common.{[], ◌∷◌, slice_index, refl, lit<}
+use Rattle.std.proofs.Common.{refl, lit<}
 use Rattle.goblin_base.specs.declared.container.Endian.{Endian}
 use Rattle.goblin_base.specs.declared.container.Container.{Container}
 use Rattle.goblin_base.specs.declared.container.Container.TheVariants.{Little, Big}
 use Rattle.goblin_base.specs.Layout.{IsRecord}
 use Rattle.goblin_base.specs.LayoutLaws.{layout_laws, converted_laws}
-use Rattle.goblin_headers.specs.ProgramHeader32.{program_header32_size, program_header32_of, program_header32_fields, program_header32_image, program_header32_low, ProgramHeader32Fits}
-use Rattle.goblin_headers.specs.ProgramHeader64.{program_header64_size, program_header64_of, program_header64_fields, program_header64_image, program_header64_low, ProgramHeader64Fits}
+use Rattle.goblin_headers.specs.ProgramHeader32.{program_header32_size, program_header32_of, program_header32_of_values, program_header32_widths, program_header32_fields, program_header32_image, program_header32_low, ProgramHeader32Fits}
+use Rattle.goblin_headers.specs.ProgramHeader64.{program_header64_size, program_header64_of, program_header64_of_values, program_header64_widths, program_header64_fields, program_header64_image, program_header64_low, ProgramHeader64Fits}
 use Rattle.goblin_headers.specs.ProgramHeader.{program_header_size, program_header_of, program_header_image, program_header_low, ProgramHeaderFits, as32, as64, widened32, widened64}
 
 -- how the fields of a program header lie
 pub program_header32_laws : (order : Endian) → IsRecord program_header32_size (program_header32_of order) (program_header32_image order) program_header32_low ProgramHeader32Fits
-program_header32_laws order = layout_laws {widths = 4 ∷ 4 ∷ 4 ∷ 4 ∷ 4 ∷ 4 ∷ 4 ∷ 4 ∷ []} {fields = program_header32_fields} (record {
-  of_values = λ vs. record { p_type = slice_index vs 0; p_offset = slice_index vs 1; p_vaddr = slice_index vs 2; p_paddr = slice_index vs 3; p_filesz = slice_index vs 4; p_memsz = slice_index vs 5; p_flags = slice_index vs 6; p_align = slice_index vs 7 };
+program_header32_laws order = layout_laws {widths = program_header32_widths} {fields = program_header32_fields} (record {
+  of_values = program_header32_of_values;
   reads = λ order bytes. refl;
   has_widths = λ h. refl;
   lows = λ h. refl;
@@ -22,8 +22,8 @@ program_header32_laws order = layout_laws {widths = 4 ∷ 4 ∷ 4 ∷ 4 ∷ 4 �
 
 -- how the fields of a program header lie
 pub program_header64_laws : (order : Endian) → IsRecord program_header64_size (program_header64_of order) (program_header64_image order) program_header64_low ProgramHeader64Fits
-program_header64_laws order = layout_laws {widths = 4 ∷ 4 ∷ 8 ∷ 8 ∷ 8 ∷ 8 ∷ 8 ∷ 8 ∷ []} {fields = program_header64_fields} (record {
-  of_values = λ vs. record { p_type = slice_index vs 0; p_flags = slice_index vs 1; p_offset = slice_index vs 2; p_vaddr = slice_index vs 3; p_paddr = slice_index vs 4; p_filesz = slice_index vs 5; p_memsz = slice_index vs 6; p_align = slice_index vs 7 };
+program_header64_laws order = layout_laws {widths = program_header64_widths} {fields = program_header64_fields} (record {
+  of_values = program_header64_of_values;
   reads = λ order bytes. refl;
   has_widths = λ h. refl;
   lows = λ h. refl;

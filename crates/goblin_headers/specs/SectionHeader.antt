@@ -1,78 +1,54 @@
 -- Section headers of either class (System V gABI, "Section Header").
-use Rattle.std.specs.Prelude.{ℕ, List}
+use Rattle.std.specs.Prelude.{ℕ, List, [], ◌∷◌, slice_index}
 use Rattle.goblin_base.specs.declared.container.Container.{Container}
 use Rattle.goblin_base.specs.declared.container.Container.TheVariants.{Little, Big}
 use Rattle.goblin_base.specs.declared.container.Endian.{Endian}
+use Rattle.goblin_base.specs.Fields.{values_of}
 use Rattle.goblin_headers.specs.declared.section_header.SectionHeader.{SectionHeader}
 use Rattle.goblin_headers.specs.declared.section_header32.SectionHeader.{SectionHeader as Raw32}
 use Rattle.goblin_headers.specs.declared.section_header64.SectionHeader.{SectionHeader as Raw64}
-use Rattle.goblin_headers.specs.SectionHeader32.{section_header32_size, section_header32_of, section_header32_image, section_header32_low, SectionHeader32Fits}
-use Rattle.goblin_headers.specs.SectionHeader64.{section_header64_size, section_header64_of, section_header64_image, section_header64_low, SectionHeader64Fits}
+use Rattle.goblin_headers.specs.SectionHeader32.{section_header32_size, section_header32_fields, section_header32_of_values, section_header32_of, section_header32_image, section_header32_low, SectionHeader32Fits}
+use Rattle.goblin_headers.specs.SectionHeader64.{section_header64_size, section_header64_fields, section_header64_of_values, section_header64_of, section_header64_image, section_header64_low, SectionHeader64Fits}
 
 -- how many bytes a section header of a class has
 abbrev pub section_header_size : Container → ℕ
 section_header_size Little = section_header32_size
 section_header_size Big = section_header64_size
 
--- the section header with the fields of one of the 32-bit class
+-- the values of the fields of a section header in file order, which is the same in both classes
+abbrev pub section_header_values : SectionHeader → List ℕ
+section_header_values h =
+    h.sh_name ∷ h.sh_type ∷ h.sh_flags ∷ h.sh_addr ∷ h.sh_offset ∷ h.sh_size ∷ h.sh_link ∷ h.sh_info ∷ h.sh_addralign
+    ∷ h.sh_entsize ∷ []
+
+-- the section header with these field values
+abbrev pub section_header_of_values : List ℕ → SectionHeader
+section_header_of_values values = record {
+  sh_name = slice_index values 0;
+  sh_type = slice_index values 1;
+  sh_flags = slice_index values 2;
+  sh_addr = slice_index values 3;
+  sh_offset = slice_index values 4;
+  sh_size = slice_index values 5;
+  sh_link = slice_index values 6;
+  sh_info = slice_index values 7;
+  sh_addralign = slice_index values 8;
+  sh_entsize = slice_index values 9;
+}
+
+-- the section header with the fields of a raw one
 abbrev pub widened32 : Raw32 → SectionHeader
-widened32 h = record {
-  sh_name = h.sh_name;
-  sh_type = h.sh_type;
-  sh_flags = h.sh_flags;
-  sh_addr = h.sh_addr;
-  sh_offset = h.sh_offset;
-  sh_size = h.sh_size;
-  sh_link = h.sh_link;
-  sh_info = h.sh_info;
-  sh_addralign = h.sh_addralign;
-  sh_entsize = h.sh_entsize;
-}
+widened32 h = section_header_of_values (values_of (section_header32_fields h))
 
--- the section header with the fields of one of the 64-bit class
 abbrev pub widened64 : Raw64 → SectionHeader
-widened64 h = record {
-  sh_name = h.sh_name;
-  sh_type = h.sh_type;
-  sh_flags = h.sh_flags;
-  sh_addr = h.sh_addr;
-  sh_offset = h.sh_offset;
-  sh_size = h.sh_size;
-  sh_link = h.sh_link;
-  sh_info = h.sh_info;
-  sh_addralign = h.sh_addralign;
-  sh_entsize = h.sh_entsize;
-}
+widened64 h = section_header_of_values (values_of (section_header64_fields h))
 
--- the section header of the 32-bit class with the same fields, whether they fit it or not
+-- the raw section header with the same fields, whether they fit or not
 abbrev pub as32 : SectionHeader → Raw32
-as32 h = record {
-  sh_name = h.sh_name;
-  sh_type = h.sh_type;
-  sh_flags = h.sh_flags;
-  sh_addr = h.sh_addr;
-  sh_offset = h.sh_offset;
-  sh_size = h.sh_size;
-  sh_link = h.sh_link;
-  sh_info = h.sh_info;
-  sh_addralign = h.sh_addralign;
-  sh_entsize = h.sh_entsize;
-}
+as32 h = section_header32_of_values (section_header_values h)
 
--- the section header of the 64-bit class with the same fields, whether they fit it or not
 abbrev pub as64 : SectionHeader → Raw64
-as64 h = record {
-  sh_name = h.sh_name;
-  sh_type = h.sh_type;
-  sh_flags = h.sh_flags;
-  sh_addr = h.sh_addr;
-  sh_offset = h.sh_offset;
-  sh_size = h.sh_size;
-  sh_link = h.sh_link;
-  sh_info = h.sh_info;
-  sh_addralign = h.sh_addralign;
-  sh_entsize = h.sh_entsize;
-}
+as64 h = section_header64_of_values (section_header_values h)
 
 -- the section header that bytes stand for in a class
 abbrev pub section_header_of : Container → Endian → List ℕ → SectionHeader

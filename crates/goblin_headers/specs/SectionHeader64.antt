@@ -1,34 +1,41 @@
 -- Section headers of the 64-bit class (System V gABI, "Section Header", Elf64_Shdr).
-use Rattle.std.specs.Prelude.{◌%◌, ◌^◌, ℕ, List, [], ◌∷◌}
+use Rattle.std.specs.Prelude.{ℕ, List, [], ◌∷◌, slice_index}
 use Rattle.goblin_base.specs.declared.container.Endian.{Endian}
-use Rattle.goblin_base.specs.Fields.{Field, field, FieldsFit, image_of_fields}
-use Rattle.goblin_base.specs.Number.{number_at}
+use Rattle.goblin_base.specs.Fields.{Field, field, FieldsFit, image_of_fields, values_at, widths_of, lows_of}
 use Rattle.goblin_headers.specs.declared.section_header64.SectionHeader.{SectionHeader}
 
--- how many bytes a section header has
+-- the size of a section header in bytes
 abbrev pub section_header64_size : ℕ
 section_header64_size = 64
 
--- the section header that bytes stand for: each field is the number at its place, of so many bytes
-abbrev pub section_header64_of : Endian → List ℕ → SectionHeader
-section_header64_of order bytes = record {
-  sh_name = number_at order bytes 0 4;
-  sh_type = number_at order bytes 4 4;
-  sh_flags = number_at order bytes 8 8;
-  sh_addr = number_at order bytes 16 8;
-  sh_offset = number_at order bytes 24 8;
-  sh_size = number_at order bytes 32 8;
-  sh_link = number_at order bytes 40 4;
-  sh_info = number_at order bytes 44 4;
-  sh_addralign = number_at order bytes 48 8;
-  sh_entsize = number_at order bytes 56 8;
-}
-
--- the fields of a section header in the order in which they lie, each with its width
+-- the fields of a section header in file order, each with its width in bytes
 abbrev pub section_header64_fields : SectionHeader → List Field
 section_header64_fields h =
     field 4 h.sh_name ∷ field 4 h.sh_type ∷ field 8 h.sh_flags ∷ field 8 h.sh_addr ∷ field 8 h.sh_offset
     ∷ field 8 h.sh_size ∷ field 4 h.sh_link ∷ field 4 h.sh_info ∷ field 8 h.sh_addralign ∷ field 8 h.sh_entsize ∷ []
+
+-- the section header with these field values, in file order; a missing value is 0
+abbrev pub section_header64_of_values : List ℕ → SectionHeader
+section_header64_of_values values = record {
+  sh_name = slice_index values 0;
+  sh_type = slice_index values 1;
+  sh_flags = slice_index values 2;
+  sh_addr = slice_index values 3;
+  sh_offset = slice_index values 4;
+  sh_size = slice_index values 5;
+  sh_link = slice_index values 6;
+  sh_info = slice_index values 7;
+  sh_addralign = slice_index values 8;
+  sh_entsize = slice_index values 9;
+}
+
+-- the widths of these fields, in the same order
+abbrev pub section_header64_widths : List ℕ
+section_header64_widths = widths_of (section_header64_fields (section_header64_of_values []))
+
+-- the section header read from bytes: each field is the number at its offset
+abbrev pub section_header64_of : Endian → List ℕ → SectionHeader
+section_header64_of order bytes = section_header64_of_values (values_at order bytes 0 section_header64_widths)
 
 -- each field of a section header is in the range of its width
 abbrev pub SectionHeader64Fits : SectionHeader → Type 0
@@ -40,15 +47,4 @@ section_header64_image order h = image_of_fields order (section_header64_fields 
 
 -- the section header with the low bits of each field, as many as its width holds
 abbrev pub section_header64_low : SectionHeader → SectionHeader
-section_header64_low h = record {
-  sh_name = h.sh_name % 256 ^ 4;
-  sh_type = h.sh_type % 256 ^ 4;
-  sh_flags = h.sh_flags % 256 ^ 8;
-  sh_addr = h.sh_addr % 256 ^ 8;
-  sh_offset = h.sh_offset % 256 ^ 8;
-  sh_size = h.sh_size % 256 ^ 8;
-  sh_link = h.sh_link % 256 ^ 4;
-  sh_info = h.sh_info % 256 ^ 4;
-  sh_addralign = h.sh_addralign % 256 ^ 8;
-  sh_entsize = h.sh_entsize % 256 ^ 8;
-}
+section_header64_low h = section_header64_of_values (lows_of (section_header64_fields h))

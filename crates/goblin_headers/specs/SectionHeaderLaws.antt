@@ -1,18 +1,18 @@
 -- Section headers of either class are read back from what was written, and written back as they were read.
-use Rattle.std.proofs.Common.{[], ◌∷◌, slice_index, refl, lit<}
+use Rattle.std.proofs.Common.{refl, lit<}
 use Rattle.goblin_base.specs.declared.container.Endian.{Endian}
 use Rattle.goblin_base.specs.declared.container.Container.{Container}
 use Rattle.goblin_base.specs.declared.container.Container.TheVariants.{Little, Big}
 use Rattle.goblin_base.specs.Layout.{IsRecord}
 use Rattle.goblin_base.specs.LayoutLaws.{layout_laws, converted_laws}
-use Rattle.goblin_headers.specs.SectionHeader32.{section_header32_size, section_header32_of, section_header32_fields, section_header32_image, section_header32_low, SectionHeader32Fits}
-use Rattle.goblin_headers.specs.SectionHeader64.{section_header64_size, section_header64_of, section_header64_fields, section_header64_image, section_header64_low, SectionHeader64Fits}
+use Rattle.goblin_headers.specs.SectionHeader32.{section_header32_size, section_header32_of, section_header32_of_values, section_header32_widths, section_header32_fields, section_header32_image, section_header32_low, SectionHeader32Fits}
+use Rattle.goblin_headers.specs.SectionHeader64.{section_header64_size, section_header64_of, section_header64_of_values, section_header64_widths, section_header64_fields, section_header64_image, section_header64_low, SectionHeader64Fits}
 use Rattle.goblin_headers.specs.SectionHeader.{section_header_size, section_header_of, section_header_image, section_header_low, SectionHeaderFits, as32, as64, widened32, widened64}
 
 -- how the fields of a section header lie
 pub section_header32_laws : (order : Endian) → IsRecord section_header32_size (section_header32_of order) (section_header32_image order) section_header32_low SectionHeader32Fits
-section_header32_laws order = layout_laws {widths = 4 ∷ 4 ∷ 4 ∷ 4 ∷ 4 ∷ 4 ∷ 4 ∷ 4 ∷ 4 ∷ 4 ∷ []} {fields = section_header32_fields} (record {
-  of_values = λ vs. record { sh_name = slice_index vs 0; sh_type = slice_index vs 1; sh_flags = slice_index vs 2; sh_addr = slice_index vs 3; sh_offset = slice_index vs 4; sh_size = slice_index vs 5; sh_link = slice_index vs 6; sh_info = slice_index vs 7; sh_addralign = slice_index vs 8; sh_entsize = slice_index vs 9 };
+section_header32_laws order = layout_laws {widths = section_header32_widths} {fields = section_header32_fields} (record {
+  of_values = section_header32_of_values;
   reads = λ order bytes. refl;
   has_widths = λ h. refl;
   lows = λ h. refl;
@@ -22,8 +22,8 @@ section_header32_laws order = layout_laws {widths = 4 ∷ 4 ∷ 4 ∷ 4 ∷ 4 �
 
 -- how the fields of a section header lie
 pub section_header64_laws : (order : Endian) → IsRecord section_header64_size (section_header64_of order) (section_header64_image order) section_header64_low SectionHeader64Fits
-section_header64_laws order = layout_laws {widths = 4 ∷ 4 ∷ 8 ∷ 8 ∷ 8 ∷ 8 ∷ 4 ∷ 4 ∷ 8 ∷ 8 ∷ []} {fields = section_header64_fields} (record {
-  of_values = λ vs. record { sh_name = slice_index vs 0; sh_type = slice_index vs 1; sh_flags = slice_index vs 2; sh_addr = slice_index vs 3; sh_offset = slice_index vs 4; sh_size = slice_index vs 5; sh_link = slice_index vs 6; sh_info = slice_index vs 7; sh_addralign = slice_index vs 8; sh_entsize = slice_index vs 9 };
+section_header64_laws order = layout_laws {widths = section_header64_widths} {fields = section_header64_fields} (record {
+  of_values = section_header64_of_values;
   reads = λ order bytes. refl;
   has_widths = λ h. refl;
   lows = λ h. refl;
