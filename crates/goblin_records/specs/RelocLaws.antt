@@ -1,6 +1,6 @@
 -- Relocations of either class, with an addend or without, are read back from what was written, and written back as they
 -- were read; through the pair of MIPS64 too.
-use Rattle.std.proofs.Common.{[], ◌∷◌, slice_index, refl, lit<, ◌≡◌, ◌<◌, ◌≤◌, ◌*◌, ◌^◌, ℕ, List, Bool, true, false, Option, Some, None, length, ◌∙◌, arith}
+use Rattle.std.proofs.Common.{refl, lit<, ◌≡◌, ◌<◌, ◌≤◌, ◌*◌, ◌^◌, ℕ, List, Bool, true, false, Option, Some, None, length, ◌∙◌, arith}
 use Rattle.std.specs.Prelude.{ℤ, pos, unwrap_or, IsSomeAnd}
 use Rattle.std.proofs.Math.Nat.{mod-eq_of_lt}
 use Rattle.goblin_base.specs.declared.container.Endian.{Endian}
@@ -8,22 +8,22 @@ use Rattle.goblin_base.specs.declared.container.Container.{Container}
 use Rattle.goblin_base.specs.declared.container.Container.TheVariants.{Little, Big}
 use Rattle.goblin_base.specs.Layout.{IsRecord}
 use Rattle.goblin_base.specs.LayoutLaws.{layout_laws, converted_laws, one_image, same_in_each_class}
-use Rattle.goblin_base.specs.Signed.{signed_of, FitsSigned}
+use Rattle.goblin_base.specs.Signed.{FitsSigned}
 use Rattle.goblin_base.specs.SignedLaws.{signed_of-complement, complement-lt, complement-mod, complement-signed_number_at}
 use Rattle.goblin_base.specs.FieldLaws.{number_at-lt}
 use Rattle.goblin_base.specs.Number.{IsBytes, number_at}
 use Rattle.goblin_records.specs.declared.reloc.Reloc.{Reloc}
 use Rattle.goblin_records.specs.declared.reloc.RelocCtx.{RelocCtx}
-use Rattle.goblin_records.specs.Reloc32.{rel32_size, rel32_of, rel32_fields, rel32_image, rel32_low, Rel32Fits, rela32_size, rela32_of, rela32_fields, rela32_image, rela32_low, Rela32Fits}
-use Rattle.goblin_records.specs.Reloc64.{rel64_size, rel64_of, rel64_fields, rel64_image, rel64_low, Rel64Fits, rela64_size, rela64_of, rela64_fields, rela64_image, rela64_low, Rela64Fits}
+use Rattle.goblin_records.specs.Reloc32.{rel32_size, rel32_of, rel32_of_values, rel32_widths, rel32_fields, rel32_image, rel32_low, Rel32Fits, rela32_size, rela32_of, rela32_of_values, rela32_widths, rela32_fields, rela32_image, rela32_low, Rela32Fits}
+use Rattle.goblin_records.specs.Reloc64.{rel64_size, rel64_of, rel64_of_values, rel64_widths, rel64_fields, rel64_image, rel64_low, Rel64Fits, rela64_size, rela64_of, rela64_of_values, rela64_widths, rela64_fields, rela64_image, rela64_low, Rela64Fits}
 use Rattle.goblin_records.specs.RelocInfo.{symbols, types, symbol_in, type_in, info_of}
 use Rattle.goblin_records.specs.RelocInfoLaws.{info_of-parts, joins_its_parts, reversed-reversed}
 use Rattle.goblin_records.specs.Reloc.{reloc_size, reloc_of, reloc_image, reloc_low, RelocFits, rel_widened32, rela_widened32, rel_widened64, rela_widened64, rel_as32, rela_as32, rel_as64, rela_as64, as_meant, as_stored, StoredFits, reloc_in, reloc_image_in, reloc_low_in, RelocFitsIn, context, OneImage, SameInEachClass}
 
 -- how the fields of a relocation without an addend lie
 pub rel32_laws : (order : Endian) → IsRecord rel32_size (rel32_of order) (rel32_image order) rel32_low Rel32Fits
-rel32_laws order = layout_laws {widths = 4 ∷ 4 ∷ []} {fields = rel32_fields} (record {
-  of_values = λ vs. record { r_offset = slice_index vs 0; r_info = slice_index vs 1 };
+rel32_laws order = layout_laws {widths = rel32_widths} {fields = rel32_fields} (record {
+  of_values = rel32_of_values;
   reads = λ order bytes. refl;
   has_widths = λ r. refl;
   lows = λ r. refl;
@@ -33,8 +33,8 @@ rel32_laws order = layout_laws {widths = 4 ∷ 4 ∷ []} {fields = rel32_fields}
 
 -- how those of one with an addend lie
 pub rela32_laws : (order : Endian) → IsRecord rela32_size (rela32_of order) (rela32_image order) rela32_low Rela32Fits
-rela32_laws order = layout_laws {widths = 4 ∷ 4 ∷ 4 ∷ []} {fields = rela32_fields} (record {
-  of_values = λ vs. record { r_offset = slice_index vs 0; r_info = slice_index vs 1; r_addend = signed_of 4 (slice_index vs 2) };
+rela32_laws order = layout_laws {widths = rela32_widths} {fields = rela32_fields} (record {
+  of_values = rela32_of_values;
   reads = λ order bytes. refl;
   has_widths = λ r. refl;
   lows = λ r. rw (complement-mod 4 r.r_addend) refl;
@@ -44,8 +44,8 @@ rela32_laws order = layout_laws {widths = 4 ∷ 4 ∷ 4 ∷ []} {fields = rela32
 
 -- how the fields of a relocation without an addend lie
 pub rel64_laws : (order : Endian) → IsRecord rel64_size (rel64_of order) (rel64_image order) rel64_low Rel64Fits
-rel64_laws order = layout_laws {widths = 8 ∷ 8 ∷ []} {fields = rel64_fields} (record {
-  of_values = λ vs. record { r_offset = slice_index vs 0; r_info = slice_index vs 1 };
+rel64_laws order = layout_laws {widths = rel64_widths} {fields = rel64_fields} (record {
+  of_values = rel64_of_values;
   reads = λ order bytes. refl;
   has_widths = λ r. refl;
   lows = λ r. refl;
@@ -55,8 +55,8 @@ rel64_laws order = layout_laws {widths = 8 ∷ 8 ∷ []} {fields = rel64_fields}
 
 -- how those of one with an addend lie
 pub rela64_laws : (order : Endian) → IsRecord rela64_size (rela64_of order) (rela64_image order) rela64_low Rela64Fits
-rela64_laws order = layout_laws {widths = 8 ∷ 8 ∷ 8 ∷ []} {fields = rela64_fields} (record {
-  of_values = λ vs. record { r_offset = slice_index vs 0; r_info = slice_index vs 1; r_addend = signed_of 8 (slice_index vs 2) };
+rela64_laws order = layout_laws {widths = rela64_widths} {fields = rela64_fields} (record {
+  of_values = rela64_of_values;
   reads = λ order bytes. refl;
   has_widths = λ r. refl;
   lows = λ r. rw (complement-mod 8 r.r_addend) refl;

@@ -1,30 +1,41 @@
 -- Symbols of the 32-bit class (System V gABI, "Symbol Table", Elf32_Sym).
-use Rattle.std.specs.Prelude.{◌%◌, ◌^◌, ℕ, List, [], ◌∷◌}
+use Rattle.std.specs.Prelude.{ℕ, List, [], ◌∷◌, slice_index}
 use Rattle.goblin_base.specs.declared.container.Endian.{Endian}
-use Rattle.goblin_base.specs.Fields.{Field, field, FieldsFit, image_of_fields}
-use Rattle.goblin_base.specs.Number.{number_at}
+use Rattle.goblin_base.specs.Fields.{Field, field, FieldsFit, image_of_fields, values_at, widths_of, lows_of}
 use Rattle.goblin_records.specs.declared.sym32.Sym.{Sym}
 
--- how many bytes a symbol takes
+-- the size of a symbol in bytes
 abbrev pub sym32_size : ℕ
 sym32_size = 16
 
--- the symbol that bytes stand for: each field is the number at its place, of so many bytes
-abbrev pub sym32_of : Endian → List ℕ → Sym
-sym32_of order bytes = record {
-  st_name = number_at order bytes 0 4;
-  st_value = number_at order bytes 4 4;
-  st_size = number_at order bytes 8 4;
-  st_info = number_at order bytes 12 1;
-  st_other = number_at order bytes 13 1;
-  st_shndx = number_at order bytes 14 2;
-}
-
--- the fields of a symbol in the order in which they lie, each with its width
+-- the fields of a symbol in file order, each with its width in bytes
 abbrev pub sym32_fields : Sym → List Field
 sym32_fields s =
-    field 4 s.st_name ∷ field 4 s.st_value ∷ field 4 s.st_size ∷ field 1 s.st_info
-    ∷ field 1 s.st_other ∷ field 2 s.st_shndx ∷ []
+    field 4 s.st_name ∷ field 4 s.st_value ∷ field 4 s.st_size ∷ field 1 s.st_info ∷ field 1 s.st_other
+    ∷ field 2 s.st_shndx ∷ []
+
+-- the symbol with these field values, in file order; a missing value is 0
+abbrev pub sym32_of_values : List ℕ → Sym
+sym32_of_values values = record {
+  st_name = slice_index values 0;
+  st_value = slice_index values 1;
+  st_size = slice_index values 2;
+  st_info = slice_index values 3;
+  st_other = slice_index values 4;
+  st_shndx = slice_index values 5;
+}
+
+-- the symbol whose fields are all 0
+abbrev pub sym32_zero : Sym
+sym32_zero = sym32_of_values []
+
+-- the widths of these fields, in the same order
+abbrev pub sym32_widths : List ℕ
+sym32_widths = widths_of (sym32_fields sym32_zero)
+
+-- the symbol read from bytes: each field is the number at its offset
+abbrev pub sym32_of : Endian → List ℕ → Sym
+sym32_of order bytes = sym32_of_values (values_at order bytes 0 sym32_widths)
 
 -- each field of a symbol is in the range of its width
 abbrev pub Sym32Fits : Sym → Type 0
@@ -36,15 +47,4 @@ sym32_image order s = image_of_fields order (sym32_fields s)
 
 -- the symbol with the low bits of each field, as many as its width holds
 abbrev pub sym32_low : Sym → Sym
-sym32_low s = record {
-  st_name = s.st_name % 256 ^ 4;
-  st_value = s.st_value % 256 ^ 4;
-  st_size = s.st_size % 256 ^ 4;
-  st_info = s.st_info % 256 ^ 1;
-  st_other = s.st_other % 256 ^ 1;
-  st_shndx = s.st_shndx % 256 ^ 2;
-}
-
--- the symbol whose fields are all 0
-abbrev pub sym32_zero : Sym
-sym32_zero = record { st_name = 0; st_value = 0; st_size = 0; st_info = 0; st_other = 0; st_shndx = 0 }
+sym32_low s = sym32_of_values (lows_of (sym32_fields s))

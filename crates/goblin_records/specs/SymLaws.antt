@@ -1,18 +1,18 @@
 -- Symbols of either class are read back from what was written, and written back as they were read.
-use Rattle.std.proofs.Common.{[], ◌∷◌, slice_index, refl, lit<}
+use Rattle.std.proofs.Common.{refl, lit<}
 use Rattle.goblin_base.specs.declared.container.Endian.{Endian}
 use Rattle.goblin_base.specs.declared.container.Container.{Container}
 use Rattle.goblin_base.specs.declared.container.Container.TheVariants.{Little, Big}
 use Rattle.goblin_base.specs.Layout.{IsRecord}
 use Rattle.goblin_base.specs.LayoutLaws.{layout_laws, converted_laws}
-use Rattle.goblin_records.specs.Sym32.{sym32_size, sym32_of, sym32_fields, sym32_image, sym32_low, Sym32Fits}
-use Rattle.goblin_records.specs.Sym64.{sym64_size, sym64_of, sym64_fields, sym64_image, sym64_low, Sym64Fits}
+use Rattle.goblin_records.specs.Sym32.{sym32_size, sym32_of, sym32_of_values, sym32_widths, sym32_fields, sym32_image, sym32_low, Sym32Fits}
+use Rattle.goblin_records.specs.Sym64.{sym64_size, sym64_of, sym64_of_values, sym64_widths, sym64_fields, sym64_image, sym64_low, Sym64Fits}
 use Rattle.goblin_records.specs.Sym.{sym_size, sym_of, sym_image, sym_low, SymFits, as32, as64, widened32, widened64}
 
 -- how the fields of a symbol lie
 pub sym32_laws : (order : Endian) → IsRecord sym32_size (sym32_of order) (sym32_image order) sym32_low Sym32Fits
-sym32_laws order = layout_laws {widths = 4 ∷ 4 ∷ 4 ∷ 1 ∷ 1 ∷ 2 ∷ []} {fields = sym32_fields} (record {
-  of_values = λ vs. record { st_name = slice_index vs 0; st_value = slice_index vs 1; st_size = slice_index vs 2; st_info = slice_index vs 3; st_other = slice_index vs 4; st_shndx = slice_index vs 5 };
+sym32_laws order = layout_laws {widths = sym32_widths} {fields = sym32_fields} (record {
+  of_values = sym32_of_values;
   reads = λ order bytes. refl;
   has_widths = λ s. refl;
   lows = λ s. refl;
@@ -22,8 +22,8 @@ sym32_laws order = layout_laws {widths = 4 ∷ 4 ∷ 4 ∷ 1 ∷ 1 ∷ 2 ∷ []}
 
 -- how the fields of a symbol lie
 pub sym64_laws : (order : Endian) → IsRecord sym64_size (sym64_of order) (sym64_image order) sym64_low Sym64Fits
-sym64_laws order = layout_laws {widths = 4 ∷ 1 ∷ 1 ∷ 2 ∷ 8 ∷ 8 ∷ []} {fields = sym64_fields} (record {
-  of_values = λ vs. record { st_name = slice_index vs 0; st_info = slice_index vs 1; st_other = slice_index vs 2; st_shndx = slice_index vs 3; st_value = slice_index vs 4; st_size = slice_index vs 5 };
+sym64_laws order = layout_laws {widths = sym64_widths} {fields = sym64_fields} (record {
+  of_values = sym64_of_values;
   reads = λ order bytes. refl;
   has_widths = λ s. refl;
   lows = λ s. refl;
