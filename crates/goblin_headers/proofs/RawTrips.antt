@@ -1,28 +1,31 @@
 -- Headers of one class are read back from what was written, and written back as they were read.
-use Rattle.std.proofs.Common.{◌≡◌, ◌<◌, ◌≤◌, ℕ, List, ◌++◌, length, take, drop, slice_index, Option, Some, None, Result, Ok, Err, refl, ap, ◌∙◌, arith}
+use Rattle.std.proofs.Common.{◌≡◌, ◌<◌, ◌≤◌, ℕ, List, ◌++◌, length, take, drop, slice_index, Some, Result, Ok, refl, ap, ◌∙◌, arith}
 use Rattle.std.proofs.lemmas.List.{append_assoc, get_or_append_left, get_or-take, length-append, take-append-drop}
 use Rattle.goblin_base.specs.declared.container.Endian.{Endian}
 use Rattle.goblin_base.specs.declared.error.Error.{Error}
-use Rattle.goblin_base.specs.declared.error.Error.TheVariants.{Malformed}
 use Rattle.goblin_base.specs.declared.error.Fault.{Fault}
-use Rattle.goblin_base.specs.declared.scroll.Error.{Error as Misplaced}
 use Rattle.goblin_base.specs.Record.{Writes}
-use Rattle.goblin_base.specs.RecordLaws.{room_of_fits, fits-room_of}
-use Rattle.goblin_base.specs.Room.{room_of}
-use Rattle.goblin_base.specs.Steps.{◌>>=◌, or_refuse, refuse_as}
-use Rattle.goblin_headers.specs.Header.{order_named}
+use Rattle.goblin_base.specs.RecordLaws.{room_of_fits}
+use Rattle.goblin_headers.specs.Header.{order_named, order_of}
 use Rattle.goblin_headers.specs.HeaderTrips.{IsReadBack, IsWrittenAndReadBack, IsWrittenBack}
 use Rattle.goblin_headers.specs.ReadHeader.{needs, read_in_order}
 use Rattle.goblin_headers.specs.WriteHeader.{WritesInOrder}
 use Rattle.goblin_headers.proofs.HeaderLemmas.{IsHeader, reads_fitting}
+use Rattle.goblin_headers.proofs.StepLemmas.{step, found, had_room}
 
--- where there is room, the image is written
-writes_there : (size : ℕ) (image old new : List ℕ) (answer : Result ℕ Error) → size ≤ length old → Writes size image old answer new → (answer ≡ Ok size) × (new ≡ image ++ drop size old)
+-- what writing answered and left, where there was room
+pub record Wrote (size : ℕ) (image old new : List ℕ) (answer : Result ℕ Error) : Type 0 where
+  pub answers : answer ≡ Ok size
+  pub leaves : new ≡ image ++ drop size old
+
+writes_there : (size : ℕ) (image old new : List ℕ) (answer : Result ℕ Error) → size ≤ length old → Writes size image old answer new → Wrote size image old new answer
 unfolding Writes
-writes_there size image old new answer room so = rw (room_of_fits (length old) 0 size (omega arith)) at so
+writes_there size image old new answer enough so =
+    let wrote = rw (room_of_fits (length old) 0 size (omega arith)) at so in
+    record { answers = wrote.0; leaves = wrote.1 }
 
 -- where there is room and a byte order, the image in that order is written
-pub writes_in_order : (ident : List ℕ) (size : ℕ) (image : Endian → List ℕ) (old new : List ℕ) (answer : Result ℕ Error) (order : Endian) → order_named (slice_index ident 5) ≡ Some order → size ≤ length old → WritesInOrder ident size image old answer new → (answer ≡ Ok size) × (new ≡ image order ++ drop size old)
+pub writes_in_order : (ident : List ℕ) (size : ℕ) (image : Endian → List ℕ) (old new : List ℕ) (answer : Result ℕ Error) (order : Endian) → order_named (slice_index ident 5) ≡ Some order → size ≤ length old → WritesInOrder ident size image old answer new → Wrote size (image order) old new answer
 unfolding WritesInOrder
 writes_in_order ident size image old new answer order named room so =
     writes_there size (image order) old new answer room (rw named at so)
@@ -33,28 +36,25 @@ unfolding read_in_order
 reads_in_order size read fault bytes order enough room named =
     rw (room_of_fits (length bytes) 0 16 (omega arith), named, room_of_fits (length bytes) 0 size (omega arith)) refl
 
--- the steps of reading a header
-pub three : {R : Type 0} (first : Result (Unit {0}) Error) (order : Option Endian) (e : Error) (last : Result (Unit {0}) Error) (read : Endian → R) (h : R) → (first >>= λ _. or_refuse order e >>= λ o. last >>= λ _. Ok (read o)) ≡ Ok h → (o : Endian) × (order ≡ Some o) × (last ≡ Ok tt) × (h ≡ read o)
-three (Ok _) (Some o) e (Ok _) read h is = (o, refl, refl, cc)
-three (Ok _) (Some o) e (Err f) read h is = absurd (cc)
-three (Ok _) None e last read h is = absurd (cc)
-three (Err f) order e last read h is = absurd (cc)
+-- what a header of one class was read from
+pub record WasReadInOrder {R : Type 0} (size : ℕ) (read : Endian → List ℕ → R) (bytes : List ℕ) (h : R) : Type 0 where
+  pub order : Endian
+  pub ordered : order_named (slice_index bytes 5) ≡ Some order
+  pub enough : size ≤ length bytes
+  pub header : h ≡ read order bytes
 
--- the room that a step asked for
-room_was : (room : Result (Unit {0}) Misplaced) (within : Misplaced → Error) → refuse_as within room ≡ Ok tt → room ≡ Ok tt
-room_was (Ok _) within is = refl
-room_was (Err e) within is = absurd (cc)
-
-pub had_room : (bytes : List ℕ) (size : ℕ) → needs size bytes ≡ Ok tt → size ≤ length bytes
-had_room bytes size is =
-    let fits = fits-room_of (length bytes) 0 size tt (room_was (room_of (length bytes) 0 size) _ is) in omega arith
-
--- what was read had room and a byte order
-pub read_in_order-is : {R : Type 0} (size : ℕ) (read : Endian → List ℕ → R) (fault : ℕ → Fault) (bytes : List ℕ) (h : R) → read_in_order size read fault bytes ≡ Ok h → (order : Endian) × (order_named (slice_index bytes 5) ≡ Some order) × (size ≤ length bytes) × (h ≡ read order bytes)
+pub was_read_in_order : {R : Type 0} (size : ℕ) (read : Endian → List ℕ → R) (fault : ℕ → Fault) (bytes : List ℕ) (h : R) → read_in_order size read fault bytes ≡ Ok h → WasReadInOrder size read bytes h
 unfolding read_in_order
-read_in_order-is size read fault bytes h is =
-    let found = three (needs 16 bytes) (order_named (slice_index bytes 5)) (Malformed (fault (slice_index bytes 5))) (needs size bytes) (λ order. read order bytes) h is in
-    (found.0, found.1, had_room bytes size found.2, found.3)
+was_read_in_order size read fault bytes h is =
+    let ident = step (needs 16 bytes) _ h is in
+    let order = step (order_of fault bytes) _ h ident.rest in
+    let room = step (needs size bytes) _ h order.rest in
+    record {
+      order = order.value;
+      ordered = found (order_named (slice_index bytes 5)) _ order.value order.is;
+      enough = had_room bytes size room.value room.is;
+      header = cc room.rest;
+    }
 
 -- a byte of what stands in front
 pub front_byte : (image front behind rest : List ℕ) (i : ℕ) → image ≡ front ++ behind → i < length front → slice_index (image ++ rest) i ≡ slice_index front i
@@ -88,14 +88,14 @@ module _ {R : Type 0} {size : ℕ} {ident : R → List ℕ} {read : Endian → L
   pub raw_written_and_read_back : IsWrittenAndReadBack size ident Fits writes (read_in_order size read)
   raw_written_and_read_back fault order h old new answer names fits room so =
       let wrote = writes_in_order (ident h) size (λ o. image o h) old new answer order names.1 room so in
-      (wrote.0, ap (read_in_order size read fault) wrote.1 ∙ raw_reads_back fault order h (drop size old) names fits)
+      let back = raw_reads_back fault order h (drop size old) names fits in
+      (wrote.answers, ap (read_in_order size read fault) wrote.leaves ∙ back)
 
   pub raw_writes_back : IsWrittenBack size (read_in_order size read) writes
   raw_writes_back fault h bytes new answer are is so =
-      let from = read_in_order-is size read fault bytes h is in
-      let order = from.0 in
-      let front = ap ident from.3 ∙ laws.ident_read order bytes in
-      let named = ap order_named (ident_byte (ident h) bytes 5 front (omega arith)) ∙ from.1 in
-      let wrote = writes_in_order (ident h) size (λ o. image o h) bytes new answer order named from.2 so in
-      let same = ap (image order) from.3 ∙ laws.writes_back order bytes are from.2 in
-      (wrote.0, over_itself size (image order h) bytes new wrote.1 same)
+      let from = was_read_in_order size read fault bytes h is in
+      let front = ap ident from.header ∙ laws.ident_read from.order bytes in
+      let ordered = ap order_named (ident_byte (ident h) bytes 5 front (omega arith)) ∙ from.ordered in
+      let wrote = writes_in_order (ident h) size (λ o. image o h) bytes new answer from.order ordered from.enough so in
+      let same = ap (image from.order) from.header ∙ laws.writes_back from.order bytes are from.enough in
+      (wrote.answers, over_itself size (image from.order h) bytes new wrote.leaves same)

@@ -15,8 +15,8 @@ use Rattle.goblin_headers.specs.HeaderTrips.{OneImage, ReadsBack, WrittenAndRead
 use Rattle.goblin_headers.specs.ReadHeader.{read_header}
 use Rattle.goblin_headers.specs.WriteHeader.{WritesHeader}
 use Rattle.goblin_headers.proofs.HeaderLemmas.{header_laws, one_header_image, reads_fitting}
-use Rattle.goblin_headers.proofs.RawTrips.{front_byte, ident_byte, over_itself, writes_in_order}
-use Rattle.goblin_headers.proofs.ReadHeaderLemmas.{Begins, read_header-ok, read_header-is}
+use Rattle.goblin_headers.proofs.RawTrips.{Wrote, front_byte, ident_byte, over_itself, writes_in_order}
+use Rattle.goblin_headers.proofs.ReadHeaderLemmas.{Begins, read_header-ok, was_read}
 
 pub one_image : OneImage
 one_image class = one_header_image (header_laws class)
@@ -46,7 +46,7 @@ reads_back class order h rest names fits =
     ∙ ap (λ (g : Header). Ok (g, header_size class)) (reads_fitting laws order h rest long fits)
 
 -- where the class, the byte order and room are there, the image is written
-writes_there : (class : Container) (order : Endian) (h : Header) (old new : List ℕ) (answer : Result ℕ Error) → class_named (slice_index h.e_ident 4) ≡ Some class → order_named (slice_index h.e_ident 5) ≡ Some order → header_size class ≤ length old → WritesHeader h old answer new → (answer ≡ Ok (header_size class)) × (new ≡ header_image class order h ++ drop (header_size class) old)
+writes_there : (class : Container) (order : Endian) (h : Header) (old new : List ℕ) (answer : Result ℕ Error) → class_named (slice_index h.e_ident 4) ≡ Some class → order_named (slice_index h.e_ident 5) ≡ Some order → header_size class ≤ length old → WritesHeader h old answer new → Wrote (header_size class) (header_image class order h) old new answer
 unfolding WritesHeader
 writes_there class order h old new answer named ordered room so =
     writes_in_order h.e_ident (header_size class) (λ o. header_image class o h) old new answer order ordered room (rw named at so)
@@ -54,7 +54,7 @@ writes_there class order h old new answer named ordered room so =
 pub written_and_read_back : WrittenAndReadBack
 written_and_read_back class order h old new answer names fits room so =
     let wrote = writes_there class order h old new answer names.1 names.2.1 room so in
-    (wrote.0, ap read_header wrote.1 ∙ reads_back class order h (drop (header_size class) old) names fits)
+    (wrote.answers, ap read_header wrote.leaves ∙ reads_back class order h (drop (header_size class) old) names fits)
 
 -- what the identification of a header that was read names
 read_names : (class : Container) (order : Endian) (bytes ident : List ℕ) → 16 ≤ length bytes → ident ≡ take 16 bytes → starts_with nat_eq bytes magic ≡ true → class_named (slice_index bytes 4) ≡ Some class → order_named (slice_index bytes 5) ≡ Some order → Identifies class order ident
@@ -68,34 +68,42 @@ read_names class order bytes ident enough is starts named ordered =
       (ap length is ∙ long, ap order_named (ident_byte ident bytes 5 is (omega arith)) ∙ ordered),
     )
 
--- what was read had room, and its image is the bytes that it was read from
-was_read : (h : Header) (bytes : List ℕ) (size : ℕ) → IsBytes bytes → read_header bytes ≡ Ok (h, size) → (class : Container) × (order : Endian) × Identifies class order h.e_ident × (size ≡ header_size class) × (header_image class order h ≡ take (header_size class) bytes) × (header_size class ≤ length bytes)
-was_read h bytes size are read =
-    let from = read_header-is bytes h size read in
-    let class = from.0 in
-    let order = from.1 in
-    let laws = header_laws class in
+-- what a header that was read names, and its image, which is the bytes that it was read from
+record CameFrom (bytes : List ℕ) (h : Header) (size : ℕ) : Type 0 where
+  class : Container
+  order : Endian
+  names : Identifies class order h.e_ident
+  sized : size ≡ header_size class
+  enough : header_size class ≤ length bytes
+  image : header_image class order h ≡ take (header_size class) bytes
+
+came_from : (h : Header) (bytes : List ℕ) (size : ℕ) → IsBytes bytes → read_header bytes ≡ Ok (h, size) → CameFrom bytes h size
+came_from h bytes size are read =
+    let from = was_read bytes h size read in
+    let laws = header_laws from.class in
     let enough = laws.enough in
-    let ident = ap (λ (g : Header). g.e_ident) from.6 ∙ laws.ident_read order bytes in
-    let names = read_names class order bytes h.e_ident (omega arith) ident from.2 from.3 from.4 in
-    let image = ap (header_image class order) from.6 ∙ laws.writes_back order bytes are from.5 in
-    (class, order, names, from.7, image, from.5)
+    let ident = ap (λ (g : Header). g.e_ident) from.header ∙ laws.ident_read from.order bytes in
+    let long : 16 ≤ length bytes = omega (arith, enough, from.enough) in
+    record {
+      class = from.class;
+      order = from.order;
+      names = read_names from.class from.order bytes h.e_ident long ident from.starts from.named from.ordered;
+      sized = from.sized;
+      enough = from.enough;
+      image = ap (header_image from.class from.order) from.header ∙ laws.writes_back from.order bytes are from.enough;
+    }
 
 pub image_of_read : ImageOfRead
 image_of_read h bytes size are read =
-    let from = was_read h bytes size are read in
-    (from.0, from.1, from.2, from.3, from.4 ∙ ap (λ (n : ℕ). take n bytes) (sym from.3))
+    let from = came_from h bytes size are read in
+    (from.class, from.order, from.names, from.sized, from.image ∙ ap (λ (n : ℕ). take n bytes) (sym from.sized))
 
 pub writes_back : WritesBack
 writes_back h bytes new size answer are read so =
-    let from = was_read h bytes size are read in
-    let class = from.0 in
-    let order = from.1 in
-    let names = from.2 in
-    let wrote = writes_there class order h bytes new answer names.1 names.2.1 from.5 so in (
-      wrote.0 ∙ ap (λ (n : ℕ). Ok n) (sym from.3),
-      over_itself (header_size class) (header_image class order h) bytes new wrote.1 from.4,
-    )
+    let from = came_from h bytes size are read in
+    let wrote = writes_there from.class from.order h bytes new answer from.names.1 from.names.2.1 from.enough so in
+    let same = over_itself (header_size from.class) (header_image from.class from.order h) bytes new wrote.leaves from.image in
+    (wrote.answers ∙ ap (λ (n : ℕ). Ok n) (sym from.sized), same)
 
 -- a new header of each class and byte order
 new_names : (class : Container) (order : Endian) → Identifies class order (new_header (record { container = class; le = order })).e_ident × HeaderFits class (new_header (record { container = class; le = order }))
