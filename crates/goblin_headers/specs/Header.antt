@@ -1,5 +1,5 @@
 -- The header of a file of either class (System V gABI, "ELF Header" and "ELF Identification").
-use Rattle.std.specs.Prelude.{◌≡◌, ℕ, ◌==◌, if◌then◌else◌, List, [], ◌∷◌, ◌++◌, length, replicate, slice_index, take, Option, Some, None, Result}
+use Rattle.std.specs.Prelude.{◌≡◌, ℕ, ◌==◌, if◌then◌else◌, List, [], ◌∷◌, ◌++◌, length, replicate, slice_index, take, Option, Some, None, Result, Ok}
 use Rattle.goblin_base.specs.declared.container.Container.{Container}
 use Rattle.goblin_base.specs.declared.container.Container.TheVariants as class
 use Rattle.goblin_base.specs.declared.container.Endian.{Endian}
@@ -8,8 +8,9 @@ use Rattle.goblin_base.specs.declared.container.Ctx.{Ctx}
 use Rattle.goblin_base.specs.declared.error.Error.{Error}
 use Rattle.goblin_base.specs.declared.error.Error.TheVariants.{Malformed}
 use Rattle.goblin_base.specs.declared.error.Fault.{Fault}
+use Rattle.goblin_base.specs.declared.error.Fault.TheVariants.{InvalidClass, InvalidEndianness}
 use Rattle.goblin_base.specs.Fields.{values_of}
-use Rattle.goblin_base.specs.Steps.{or_refuse}
+use Rattle.goblin_base.specs.Steps.{◌>>=◌, or_refuse}
 use Rattle.goblin_headers.specs.declared.header.Header.{Header}
 use Rattle.goblin_headers.specs.declared.header32.Header.{Header as Raw32}
 use Rattle.goblin_headers.specs.declared.header64.Header.{Header as Raw64}
@@ -51,6 +52,13 @@ class_of fault ident = or_refuse (class_named (slice_index ident 4)) (Malformed 
 -- the byte order that the data byte of an identification names, or this fault of that byte
 abbrev pub order_of : (ℕ → Fault) → List ℕ → Result Endian Error
 order_of fault ident = or_refuse (order_named (slice_index ident 5)) (Malformed (fault (slice_index ident 5)))
+
+-- the class and the byte order that a header names; of two wrong bytes the class byte is the fault
+abbrev pub ctx_of : Header → Result Ctx Error
+ctx_of h = do
+  class ← class_of InvalidClass h.e_ident
+  order ← order_of InvalidEndianness h.e_ident
+  Ok (record { container = class; le = order })
 
 -- an identification of 16 bytes that names this byte order
 abbrev pub NamesOrder : Endian → List ℕ → Type 0

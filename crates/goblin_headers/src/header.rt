@@ -53,7 +53,7 @@ pub struct Header {
 
 impl Header {
     ghost use Rattle.goblin_base.specs.declared.error.Fault.TheVariants as faults;
-    ghost use Rattle.goblin_headers.specs.Header.{class_of, new_header, order_of};
+    ghost use Rattle.goblin_headers.specs.Header.{class_of, ctx_of, new_header, order_of};
 
     /// How many bytes a header has in this context: 52 or 64.
     pub fn size(ctx: Ctx) -> usize
@@ -82,6 +82,18 @@ impl Header {
             ELFDATA2MSB => Ok(BE),
             order => Err(Error::Malformed(Fault::InvalidEndianness(order))),
         }
+    }
+
+    /// Returns the class and the byte order that the header names, as a context.
+    ///
+    /// # Errors
+    ///
+    /// `InvalidClass` if the class byte is neither 1 nor 2, else `InvalidEndianness` if the data byte is
+    /// neither.
+    pub fn ctx(&self) -> Result<Ctx>
+        ensures exact { result ≡ ctx_of self.now }
+    {
+        Ok(Ctx::new(self.container()?, self.endianness()?))
     }
 
     /// A header of a shared object file in this context, with no program headers and no sections.
