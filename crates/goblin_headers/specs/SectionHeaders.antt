@@ -74,6 +74,12 @@ link_of None = 0
 abbrev pub names_index : ℕ → Option SectionHeader → ℕ
 names_index index first = if index == 0xffff then link_of first else index
 
+-- the section that another one names by its index as a table: index 0 is no section, and one of type 8 has no bytes in
+-- the file
+abbrev pub linked : ℕ → Option SectionHeader → Option SectionHeader
+linked index (Some section) = if index == 0 || section.sh_type == 8 then None else Some section
+linked index None = None
+
 -- whether a section with bytes in the file (not of type 8) lies in a file of so many bytes, and its addresses end
 -- below 2 ^ 64
 abbrev pub size_checked : ℕ → SectionHeader → Result (Unit {0}) Error

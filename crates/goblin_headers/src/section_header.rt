@@ -1,6 +1,6 @@
 //! Section headers, which tell what a file holds: System V gABI, "Section Header".
 ghost use Rattle.std.specs.Int.{IsBitSet};
-ghost use Rattle.std.specs.Prelude.{◌≡◌, ◌≤◌, ◌↔◌, ◌++◌, IsTrue, IfErr, IsNone, IsOk, IfSome, length, drop, map, position, replicate};
+ghost use Rattle.std.specs.Prelude.{◌≡◌, ◌≤◌, ◌↔◌, ◌++◌, IsTrue, IfErr, IsNone, IsOk, IfSome, length, drop, map, position, replicate, slice_get};
 ghost use Rattle.std.specs.Option.{option_map};
 ghost use Rattle.goblin_base.specs.Fields.{values_of};
 ghost use Rattle.goblin_base.specs.Layout.{IsOneImage, IsSameInEachClass};
@@ -14,7 +14,7 @@ ghost use Rattle.goblin_base.specs.declared.container.Endian.{Endian};
 ghost use Rattle.goblin_headers.specs.Ranges.{span};
 ghost use Rattle.goblin_headers.specs.SectionHeader.{as64, section_header_size, section_header_of, section_header_image, section_header_low, SectionHeaderFits};
 ghost use Rattle.goblin_headers.specs.SectionHeader64.{section_header64_fields};
-ghost use Rattle.goblin_headers.specs.SectionHeaders.{new_section_header, count_from, count_told, names_index, section_headers_from, section_headers_from_tested, section_headers_of, section_headers_of_tested, size_checked, size_checked_in};
+ghost use Rattle.goblin_headers.specs.SectionHeaders.{new_section_header, count_from, count_told, linked, names_index, section_headers_from, section_headers_from_tested, section_headers_of, section_headers_of_tested, size_checked, size_checked_in};
 ghost use Rattle.goblin_headers.specs.SectionNames.{section_flag_names};
 
 pub use crate::{section_header32, section_header64};
@@ -199,6 +199,30 @@ impl SectionHeader {
         match first {
             Some(section) => section.sh_link as usize,
             None => 0,
+        }
+    }
+
+    /// Returns the section at an index that another section or the file's header names as a table, or
+    /// `None` for index 0, past the end, and for a section without bytes in the file (`SHT_NOBITS`).
+    pub fn linked(sections: &[SectionHeader], index: usize) -> Option<&SectionHeader>
+        ensures exact { option_map (λ section. section.now) result
+            ≡ linked index (slice_get sections.now index) }
+    {
+        sections
+            .get(index)
+            .filter(|section| index != 0 && section.sh_type != SHT_NOBITS)
+    }
+
+    /// Returns the section at an index of a lazy table, as [`SectionHeader::linked`] does.
+    pub fn linked_in(
+        sections: &Table<'_, SectionHeader, Ctx>,
+        index: usize,
+    ) -> Option<SectionHeader>
+        ensures exact { result ≡ linked index (slice_get sections.now index) }
+    {
+        match sections.get(index) {
+            Some(section) if index != 0 && section.sh_type != SHT_NOBITS => Some(section),
+            _ => None,
         }
     }
 
