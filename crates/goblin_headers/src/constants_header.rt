@@ -1,5 +1,5 @@
-//! The constants of a file's header, and their names: System V gABI, "ELF Header" and "ELF
-//! Identification", with the machines' numbers that were given out later.
+//! The constants of a file's header and their names: System V gABI, "ELF Header" and "ELF
+//! Identification", with the machine numbers that were assigned later.
 ghost use Rattle.std.specs.Prelude.{◌≡◌};
 ghost use Rattle.goblin_headers.specs.HeaderNames.{class_name, type_name};
 ghost use Rattle.goblin_headers.specs.Machines.{machine_name};
@@ -16,23 +16,23 @@ pub const ET_EXEC: u16 = 2;
 pub const ET_DYN: u16 = 3;
 /// A core file.
 pub const ET_CORE: u16 = 4;
-/// One more than the greatest type that the standard gives out.
+/// One more than the greatest type that the standard defines.
 pub const ET_NUM: u16 = 5;
-/// The first type that is left to operating systems.
+/// The first OS-specific type.
 pub const ET_LOOS: u16 = 0xfe00;
-/// The last type that is left to operating systems.
+/// The last OS-specific type.
 pub const ET_HIOS: u16 = 0xfeff;
-/// The first type that is left to processors.
+/// The first processor-specific type.
 pub const ET_LOPROC: u16 = 0xff00;
-/// The last type that is left to processors.
+/// The last processor-specific type.
 pub const ET_HIPROC: u16 = 0xffff;
 
 /// The first four bytes of every ELF file.
 pub const ELFMAG: &[u8; 4] = b"\x7FELF";
-/// How many bytes [`ELFMAG`] has.
+/// The size of [`ELFMAG`] in bytes.
 pub const SELFMAG: usize = 4;
 
-/// The place of the class byte in the identification.
+/// The offset of the class byte in the identification.
 pub const EI_CLASS: usize = 4;
 /// No class: not valid in a file.
 pub const ELFCLASSNONE: u8 = 0;
@@ -43,21 +43,21 @@ pub const ELFCLASS64: u8 = 2;
 /// One more than the greatest class.
 pub const ELFCLASSNUM: u8 = 3;
 
-/// The place of the data byte, which tells the byte order, in the identification.
+/// The offset of the data byte, which names the byte order, in the identification.
 pub const EI_DATA: usize = 5;
 /// No byte order: not valid in a file.
 pub const ELFDATANONE: u8 = 0;
-/// Two's complement numbers, the lowest byte first.
+/// Little endian, in two's complement.
 pub const ELFDATA2LSB: u8 = 1;
-/// Two's complement numbers, the highest byte first.
+/// Big endian, in two's complement.
 pub const ELFDATA2MSB: u8 = 2;
 
-/// The place of the version byte in the identification.
+/// The offset of the version byte in the identification.
 pub const EI_VERSION: usize = 6;
-/// The version of the format, the only one there is.
+/// The current version of the format.
 pub const EV_CURRENT: u8 = 1;
 
-/// The place of the byte that names the operating system or ABI in the identification.
+/// The offset of the OS/ABI byte in the identification.
 pub const EI_OSABI: usize = 7;
 /// System V, or none.
 pub const ELFOSABI_NONE: u8 = 0;
@@ -89,13 +89,13 @@ pub const ELFOSABI_OPENBSD: u8 = 12;
 pub const ELFOSABI_ARM_AEABI: u8 = 64;
 /// ARM.
 pub const ELFOSABI_ARM: u8 = 97;
-/// An embedded program, with no system below it.
+/// A standalone (embedded) program.
 pub const ELFOSABI_STANDALONE: u8 = 255;
 
-/// The place of the ABI's version in the identification.
+/// The offset of the ABI version in the identification.
 pub const EI_ABIVERSION: usize = 8;
 
-/// How many bytes the identification has.
+/// The size of the identification in bytes.
 pub const SIZEOF_IDENT: usize = 16;
 
 /// No machine.
@@ -146,7 +146,7 @@ pub const EM_RH32: u16 = 38;
 pub const EM_RCE: u16 = 39;
 /// ARM, 32 bits.
 pub const EM_ARM: u16 = 40;
-/// Digital Alpha, by the number that the registry gives it.
+/// Digital Alpha, by its registered number.
 pub const EM_FAKE_ALPHA: u16 = 41;
 /// Hitachi SuperH.
 pub const EM_SH: u16 = 42;
@@ -456,7 +456,7 @@ pub const EM_AMDGPU: u16 = 224;
 pub const EM_RISCV: u16 = 243;
 /// Linux BPF, a machine inside the kernel.
 pub const EM_BPF: u16 = 247;
-/// One more than the greatest number that was given out when the list was made.
+/// One more than the greatest number that was assigned when the list was made.
 pub const EM_NUM: u16 = 248;
 /// C-SKY.
 pub const EM_CSKY: u16 = 252;
@@ -644,7 +644,8 @@ static MACHINES: &[(u32, &str)] = &[
     (EM_LOONGARCH as u32, "LOONGARCH"),
 ];
 
-/// The name of a machine, without its prefix `EM_`, or `EM_UNKNOWN` for a number without a name.
+/// Returns the name of a machine without its prefix `EM_`, or `EM_UNKNOWN` for a number without a
+/// name.
 ///
 /// Four constants of this module have no name: `EM_NONE`, `EM_INTELGT`, `EM_NUM` and `EM_CSKY`.
 #[tactic(auto, unfolding(crate::specs::Machines::machine_name))]
@@ -654,7 +655,7 @@ pub fn machine_to_str(machine: u16) -> &'static str
     name_of(MACHINES, machine as u32, "EM_UNKNOWN")
 }
 
-/// The name of a class byte: `NONE`, `ELF32`, `ELF64`, or `UNKNOWN_CLASS`.
+/// Returns the name of a class byte: `NONE`, `ELF32`, `ELF64`, or `UNKNOWN_CLASS`.
 #[tactic(auto, unfolding(crate::specs::HeaderNames::class_name))]
 pub fn class_to_str(class: u8) -> &'static str
     ensures { result.now ≡ class_name class }
@@ -667,7 +668,7 @@ pub fn class_to_str(class: u8) -> &'static str
     }
 }
 
-/// The name of a file type, without its prefix `ET_`, or `UNKNOWN_ET` from 6 on.
+/// Returns the name of a file type without its prefix `ET_`, or `UNKNOWN_ET` from 6 on.
 #[tactic(auto, unfolding(crate::specs::HeaderNames::type_name))]
 pub fn et_to_str(et: u16) -> &'static str
     ensures { result.now ≡ type_name et }

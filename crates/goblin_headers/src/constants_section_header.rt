@@ -1,41 +1,41 @@
-//! The constants of section headers, and their names: System V gABI, "Section Header".
+//! The constants of section headers and their names: System V gABI, "Section Header".
 ghost use Rattle.std.specs.Prelude.{◌≡◌};
 ghost use Rattle.goblin_headers.specs.SectionNames.{section_name, section_flag_name};
 
 use goblin_base::names::name_of;
 
-// Indices of sections with a meaning of their own.
+// Special section indices.
 
 /// No section.
 pub const SHN_UNDEF: u32 = 0;
-/// The first index with a meaning of its own.
+/// The first special index.
 pub const SHN_LORESERVE: u32 = 0xff00;
-/// The first index that is left to processors.
+/// The first processor-specific index.
 pub const SHN_LOPROC: u32 = 0xff00;
 /// Before all other sections (Solaris).
 pub const SHN_BEFORE: u32 = 0xff00;
 /// After all other sections (Solaris).
 pub const SHN_AFTER: u32 = 0xff01;
-/// The last index that is left to processors.
+/// The last processor-specific index.
 pub const SHN_HIPROC: u32 = 0xff1f;
-/// The first index that is left to operating systems.
+/// The first OS-specific index.
 pub const SHN_LOOS: u32 = 0xff20;
-/// The last index that is left to operating systems.
+/// The last OS-specific index.
 pub const SHN_HIOS: u32 = 0xff3f;
-/// What has no section: its value is absolute.
+/// The index of symbols with an absolute value.
 pub const SHN_ABS: u32 = 0xfff1;
-/// What is still to be placed in a section.
+/// The index of common symbols, which aren't allocated yet.
 pub const SHN_COMMON: u32 = 0xfff2;
-/// The index stands elsewhere, since it is too great for its field.
+/// An escape: the index is stored elsewhere, since it doesn't fit its field.
 pub const SHN_XINDEX: u32 = 0xffff;
-/// The last index with a meaning of its own.
+/// The last special index.
 pub const SHN_HIRESERVE: u32 = 0xffff;
 
-// What a section holds.
+// Section types.
 
 /// No section.
 pub const SHT_NULL: u32 = 0;
-/// What the program defines.
+/// Data that the program defines.
 pub const SHT_PROGBITS: u32 = 1;
 /// A symbol table.
 pub const SHT_SYMTAB: u32 = 2;
@@ -45,7 +45,7 @@ pub const SHT_STRTAB: u32 = 3;
 pub const SHT_RELA: u32 = 4;
 /// A hash table of symbols.
 pub const SHT_HASH: u32 = 5;
-/// What dynamic linking needs.
+/// Information for dynamic linking.
 pub const SHT_DYNAMIC: u32 = 6;
 /// Notes.
 pub const SHT_NOTE: u32 = 7;
@@ -53,39 +53,39 @@ pub const SHT_NOTE: u32 = 7;
 pub const SHT_NOBITS: u32 = 8;
 /// Relocations without addends.
 pub const SHT_REL: u32 = 9;
-/// Left without a meaning by the standard.
+/// Reserved, with unspecified semantics.
 pub const SHT_SHLIB: u32 = 10;
-/// The symbol table of dynamic linking.
+/// A symbol table for dynamic linking.
 pub const SHT_DYNSYM: u32 = 11;
-/// Addresses of functions that are called at the start.
+/// Pointers to initialization functions.
 pub const SHT_INIT_ARRAY: u32 = 14;
-/// Addresses of functions that are called at the end.
+/// Pointers to termination functions.
 pub const SHT_FINI_ARRAY: u32 = 15;
-/// Addresses of functions that are called before all others.
+/// Pointers to functions that are called before all other initialization functions.
 pub const SHT_PREINIT_ARRAY: u32 = 16;
 /// A group of sections.
 pub const SHT_GROUP: u32 = 17;
-/// Section indices that are too great for a symbol.
+/// Section indices that don't fit a symbol's field.
 pub const SHT_SYMTAB_SHNDX: u32 = 18;
-/// One more than the greatest type that this table knows.
+/// One more than the greatest type before it.
 pub const SHT_NUM: u32 = 19;
-/// The first type that is left to operating systems.
+/// The first OS-specific type.
 pub const SHT_LOOS: u32 = 0x6000_0000;
 /// Attributes of the object (GNU).
 pub const SHT_GNU_ATTRIBUTES: u32 = 0x6fff_fff5;
 /// A hash table of symbols (GNU).
 pub const SHT_GNU_HASH: u32 = 0x6fff_fff6;
-/// Libraries that were linked before (GNU).
+/// The libraries of a prelinked file (GNU).
 pub const SHT_GNU_LIBLIST: u32 = 0x6fff_fff7;
 /// A checksum of the contents.
 pub const SHT_CHECKSUM: u32 = 0x6fff_fff8;
 /// The first type of Sun.
 pub const SHT_LOSUNW: u32 = 0x6fff_fffa;
-/// What is moved at the start (Sun).
+/// Data to move at startup (Sun).
 pub const SHT_SUNW_MOVE: u32 = 0x6fff_fffa;
-/// Contents that are kept once (Sun).
+/// Contents of which one copy is kept (Sun).
 pub const SHT_SUNW_COMDAT: u32 = 0x6fff_fffb;
-/// More about symbols (Sun).
+/// More information on symbols (Sun).
 pub const SHT_SUNW_SYMINFO: u32 = 0x6fff_fffc;
 /// Versions that the file defines (GNU).
 pub const SHT_GNU_VERDEF: u32 = 0x6fff_fffd;
@@ -95,20 +95,20 @@ pub const SHT_GNU_VERNEED: u32 = 0x6fff_fffe;
 pub const SHT_GNU_VERSYM: u32 = 0x6fff_ffff;
 /// The last type of Sun.
 pub const SHT_HISUNW: u32 = 0x6fff_ffff;
-/// The last type that is left to operating systems.
+/// The last OS-specific type.
 pub const SHT_HIOS: u32 = 0x6fff_ffff;
-/// The first type that is left to processors.
+/// The first processor-specific type.
 pub const SHT_LOPROC: u32 = 0x7000_0000;
-/// What unwinding needs (x86-64).
+/// Unwind information (x86-64).
 pub const SHT_X86_64_UNWIND: u32 = 0x7000_0001;
-/// The last type that is left to processors.
+/// The last processor-specific type.
 pub const SHT_HIPROC: u32 = 0x7fff_ffff;
-/// The first type that is left to applications.
+/// The first type for applications.
 pub const SHT_LOUSER: u32 = 0x8000_0000;
-/// The last type that is left to applications.
+/// The last type for applications.
 pub const SHT_HIUSER: u32 = 0x8fff_ffff;
 
-// What may be done with a section.
+// Section attributes.
 
 /// The section may be written.
 pub const SHF_WRITE: u32 = 0x1;
@@ -116,31 +116,31 @@ pub const SHF_WRITE: u32 = 0x1;
 pub const SHF_ALLOC: u32 = 0x2;
 /// The section may be executed.
 pub const SHF_EXECINSTR: u32 = 0x4;
-/// Equal entries may be made one.
+/// Equal entries may be merged.
 pub const SHF_MERGE: u32 = 0x10;
-/// The entries are texts that end with a zero.
+/// The entries are zero-terminated strings.
 pub const SHF_STRINGS: u32 = 0x20;
-/// The index of a section stands in `sh_info`.
+/// `sh_info` is the index of a section.
 pub const SHF_INFO_LINK: u32 = 0x40;
-/// The order of sections is to be kept.
+/// The section needs a special order when sections are combined.
 pub const SHF_LINK_ORDER: u32 = 0x80;
-/// The operating system has to treat the section in its own way.
+/// The section needs OS-specific processing.
 pub const SHF_OS_NONCONFORMING: u32 = 0x100;
 /// The section belongs to a group.
 pub const SHF_GROUP: u32 = 0x200;
-/// The section is storage that each thread has its own copy of.
+/// The section holds thread-local storage.
 pub const SHF_TLS: u32 = 0x400;
 /// The contents are compressed.
 pub const SHF_COMPRESSED: u32 = 0x800;
-/// The flags that are left to operating systems.
+/// The OS-specific flags.
 pub const SHF_MASKOS: u32 = 0x0ff0_0000;
-/// The flags that are left to processors.
+/// The processor-specific flags.
 pub const SHF_MASKPROC: u32 = 0xf000_0000;
-/// The section is to be ordered (Solaris).
+/// The section needs a special order (Solaris).
 pub const SHF_ORDERED: u32 = 1 << 30;
-/// How many flags [`SHF_FLAGS`] has.
+/// The number of flags in [`SHF_FLAGS`].
 pub const SHF_NUM_REGULAR_FLAGS: usize = 12;
-/// The section is left out where nothing refers to it (Solaris).
+/// The section is dropped if nothing refers to it (Solaris).
 pub const SHF_EXCLUDE: u32 = 0x8000_0000;
 
 /// The flags that have a name.
@@ -197,8 +197,8 @@ static TYPES: &[(u32, &str)] = &[
     (SHT_HIUSER, "SHT_HIUSER"),
 ];
 
-/// The name of a section type with its prefix, or `UNKNOWN_SHT`. Where two constants have one number,
-/// the name is `SHT_SUNW_MOVE` or `SHT_GNU_VERSYM`.
+/// Returns the name of a section type with its prefix, or `UNKNOWN_SHT`. Two numbers have two
+/// constants each: their names are `SHT_SUNW_MOVE` and `SHT_GNU_VERSYM`.
 #[tactic(auto, unfolding(crate::specs::SectionNames::section_name))]
 pub fn sht_to_str(sht: u32) -> &'static str
     ensures { result.now ≡ section_name sht }
@@ -222,7 +222,7 @@ static FLAGS: [(u32, &str); SHF_NUM_REGULAR_FLAGS] = [
     (SHF_ORDERED, "SHF_ORDERED"),
 ];
 
-/// The name of one flag with its prefix, or `SHF_UNKNOWN` for all but those of [`SHF_FLAGS`].
+/// Returns the name of one flag of [`SHF_FLAGS`] with its prefix, or `SHF_UNKNOWN`.
 #[tactic(auto, unfolding(crate::specs::SectionNames::section_flag_name))]
 pub fn shf_to_str(shf: u32) -> &'static str
     ensures { result.now ≡ section_flag_name shf }

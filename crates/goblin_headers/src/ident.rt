@@ -1,4 +1,4 @@
-//! What lies at the head of a file: System V gABI, "ELF Identification".
+//! The identification, the first 16 bytes of a file: System V gABI, "ELF Identification".
 ghost use Rattle.std.specs.Prelude.{◌≡◌, ◌≤◌, ◌++◌, length, take, drop};
 ghost use Rattle.goblin_headers.specs.Header.{new_ident, order_named};
 
@@ -8,7 +8,7 @@ use crate::constants_header::{
 };
 use goblin_base::container::{BE, Container, Ctx, Endian, LE};
 
-/// The byte order that a data byte names.
+/// Returns the byte order that a data byte names.
 pub(crate) fn order_of(byte: u8) -> Option<Endian>
     ensures { result ≡ order_named byte }
 {
@@ -19,7 +19,7 @@ pub(crate) fn order_of(byte: u8) -> Option<Endian>
     }
 }
 
-/// The identification at the start of the bytes.
+/// Returns the identification at the start of the bytes.
 pub(crate) fn ident_of(bytes: &[u8]) -> [u8; SIZEOF_IDENT]
     requires { SIZEOF_IDENT ≤ length bytes.now }
     ensures { result ≡ take SIZEOF_IDENT bytes.now }
@@ -29,7 +29,7 @@ pub(crate) fn ident_of(bytes: &[u8]) -> [u8; SIZEOF_IDENT]
     ident
 }
 
-/// Puts an identification at the start of the bytes.
+/// Writes an identification at the start of the bytes.
 pub(crate) fn put_ident(bytes: &mut [u8], ident: &[u8; SIZEOF_IDENT])
     requires { SIZEOF_IDENT ≤ length bytes.old }
     ensures front { bytes.new ≡ ident.now ++ drop SIZEOF_IDENT bytes.old }
@@ -38,7 +38,7 @@ pub(crate) fn put_ident(bytes: &mut [u8], ident: &[u8; SIZEOF_IDENT])
     bytes[..SIZEOF_IDENT].copy_from_slice(ident);
 }
 
-/// The identification of a new file in this context.
+/// Returns the identification of a new file in this context.
 pub(crate) fn new_ident(ctx: Ctx) -> [u8; SIZEOF_IDENT]
     ensures { result ≡ new_ident ctx }
 {

@@ -1,4 +1,4 @@
-//! Program headers, which tell how a file is loaded: System V gABI, "Program Header".
+//! Program headers, which describe how a file is loaded: System V gABI, "Program Header".
 ghost use Rattle.std.specs.Int.{IsBitSet};
 ghost use Rattle.std.specs.Int.Bits.{bit_or};
 ghost use Rattle.std.specs.Prelude.{◌≡◌, ◌≤◌, ◌↔◌, IsTrue, IfErr, IsOk, length, replicate};
@@ -28,33 +28,33 @@ use std::ops::Range;
 /// A program header of either class.
 #[derive(Clone, Debug, Default, Drop, PartialEq)]
 pub struct ProgramHeader {
-    /// What the segment is, one of the `PT_` constants.
+    /// The segment type, one of the `PT_` constants.
     pub p_type: u32,
-    /// What may be done with the segment: the `PF_` flags.
+    /// The segment's permissions: the `PF_` flags.
     pub p_flags: u32,
-    /// Where the segment starts: an offset in bytes from the file's start.
+    /// The file offset of the segment in bytes.
     pub p_offset: u64,
-    /// The address of the segment in memory.
+    /// The virtual address of the segment.
     pub p_vaddr: u64,
-    /// The physical address of the segment, where there is one.
+    /// The physical address of the segment, on systems where that is relevant.
     pub p_paddr: u64,
-    /// How many bytes the segment has in the file.
+    /// The file size of the segment in bytes.
     pub p_filesz: u64,
-    /// How many bytes the segment has in memory.
+    /// The memory size of the segment in bytes.
     pub p_memsz: u64,
-    /// What address and offset are aligned to, in bytes; 0 and 1 for nothing.
+    /// The alignment of address and offset in bytes; 0 and 1 mean none.
     pub p_align: u64,
 }
 
 impl ProgramHeader {
-    /// How many bytes a program header has in this context: 32 or 56.
+    /// Returns the size of a program header in this context: 32 or 56 bytes.
     pub fn size(ctx: Ctx) -> usize
         ensures { result ≡ program_header_size ctx.container }
     {
         ProgramHeader::size_with(&ctx)
     }
 
-    /// A header of a segment that is loaded, aligned to two megabytes, with all else 0.
+    /// Returns a header of a loadable segment, aligned to 2 MiB, with all other fields 0.
     pub fn new() -> Self
         ensures { result ≡ new_program_header }
     {
@@ -70,68 +70,71 @@ impl ProgramHeader {
         }
     }
 
-    /// Where the segment lies in the file, in bytes from the file's start. An end past the greatest
-    /// number is that number.
+    /// Returns the segment's range of file offsets in bytes. An end past `usize::MAX` is
+    /// `usize::MAX`.
     pub fn file_range(&self) -> Range<usize>
         ensures { (result.start, result.end) ≡ span self.now.p_offset self.now.p_filesz }
     {
         self.p_offset as usize..self.p_offset.saturating_add(self.p_filesz) as usize
     }
 
-    /// Where the segment lies in memory. An end past the greatest address is that address.
+    /// Returns the segment's range of virtual addresses. An end past `usize::MAX` is `usize::MAX`.
     pub fn vm_range(&self) -> Range<usize>
         ensures { (result.start, result.end) ≡ span self.now.p_vaddr self.now.p_memsz }
     {
         self.p_vaddr as usize..self.p_vaddr.saturating_add(self.p_memsz) as usize
     }
 
-    /// Lets the segment be executed.
+    /// Sets the permission to execute the segment.
     pub fn executable(&mut self)
         ensures { self.new ≡ record self.old { p_flags = bit_or self.old.p_flags PF_X } }
     {
         self.p_flags |= PF_X;
     }
 
-    /// Lets the segment be written.
+    /// Sets the permission to write the segment.
     pub fn write(&mut self)
         ensures { self.new ≡ record self.old { p_flags = bit_or self.old.p_flags PF_W } }
     {
         self.p_flags |= PF_W;
     }
 
-    /// Lets the segment be read.
+    /// Sets the permission to read the segment.
     pub fn read(&mut self)
         ensures { self.new ≡ record self.old { p_flags = bit_or self.old.p_flags PF_R } }
     {
         self.p_flags |= PF_R;
     }
 
-    /// Whether the segment may be executed: bit 0 of its flags.
+    /// Reports whether the segment may be executed: bit 0 of its flags.
     pub fn is_executable(&self) -> bool
         ensures { IsTrue result ↔ IsBitSet self.now.p_flags 0 }
     {
         self.p_flags & PF_X != 0
     }
 
-    /// Whether the segment may be read: bit 2 of its flags.
+    /// Reports whether the segment may be read: bit 2 of its flags.
     pub fn is_read(&self) -> bool
         ensures { IsTrue result ↔ IsBitSet self.now.p_flags 2 }
     {
         self.p_flags & PF_R != 0
     }
 
-    /// Whether the segment may be written: bit 1 of its flags.
+    /// Reports whether the segment may be written: bit 1 of its flags.
     pub fn is_write(&self) -> bool
         ensures { IsTrue result ↔ IsBitSet self.now.p_flags 1 }
     {
         self.p_flags & PF_W != 0
     }
 
-    /// The `count` program headers that lie one after another from an offset on, as a vector.
+    /// Reads the `count` program headers from an offset on, as a vector. If `count` is 0 the vector
+    /// is empty, whatever the offset, and nothing is allocated.
     ///
-    /// More headers than the bytes could hold anywhere are a `BufferTooShort`, which want of memory
-    /// never hides. Else memory is taken for all of them at once, and the first header without room
-    /// gives its fault. Where `count` is 0 the list is empty, whatever the offset.
+    /// # Errors
+    ///
+    /// `BufferTooShort` if `count` headers don't fit into the bytes at any offset. This is tested
+    /// before the allocation, so out-of-memory never masks it. Then memory for all headers is
+    /// allocated at once. Then the fault of the first header that the bytes don't hold.
     pub fn parse(
         alloc: Global,
         bytes: &[u8],
@@ -148,8 +151,12 @@ impl ProgramHeader {
         read_all(alloc, bytes, offset, count, ctx, "program headers")
     }
 
-    /// The program headers of [`ProgramHeader::parse`], each of which is read as it is asked for, refused
-    /// for the same reasons. No memory is taken.
+    /// Returns the program headers of [`ProgramHeader::parse`] as a lazy table, which reads each
+    /// one when it is asked for. Allocates nothing.
+    ///
+    /// # Errors
+    ///
+    /// Those of [`ProgramHeader::parse`] other than out of memory.
     pub fn table(
         bytes: &[u8],
         offset: usize,
@@ -162,7 +169,7 @@ impl ProgramHeader {
         Table::counted(bytes, offset, count, ctx, "program headers")
     }
 
-    // The program header at the start of the bytes.
+    // Reads the program header at the start of the bytes.
     fn at(bytes: &[u8], ctx: Ctx) -> ProgramHeader
         requires { program_header_size ctx.container ≤ length bytes.now }
         ensures { result ≡ program_header_of ctx.container ctx.le bytes.now }
@@ -185,7 +192,7 @@ impl SizeWith<Ctx> for ProgramHeader {
     }
 }
 
-/// Refused is only what has no room.
+/// Fails with the fault of `room` if the bytes don't hold the record.
 impl<'a> TryFromCtx<'a, Ctx> for ProgramHeader {
     ghost try_from_gives = { λ bytes ctx answer.
         let size = program_header_size ctx.container in
@@ -197,7 +204,7 @@ impl<'a> TryFromCtx<'a, Ctx> for ProgramHeader {
     }
 }
 
-/// Refused is only what has no room, and then no byte is written.
+/// Fails with the fault of `room` if the buffer doesn't hold the record, and then writes no byte.
 impl TryIntoCtx<Ctx> for ProgramHeader {
     ghost try_into_gives = { λ header ctx old answer new.
         let image = program_header_image ctx.container ctx.le header in
@@ -233,32 +240,32 @@ impl Record<Ctx> for ProgramHeader {
     ghost laws = { λ ctx. obeys (program_header_laws ctx.container ctx.le) };
 }
 
-/// Laws: which bytes a program header is written as, and that classes and byte orders keep lists of
-/// program headers the same.
+/// Laws of program headers: the image is the only list of bytes that is read as the header, and a
+/// list of headers that fit both classes is read back the same in each class and byte order.
 pub fn laws()
     ensures image { (class : Container) (order : Endian) →
         IsOneImage (program_header_size class) (program_header_of class order) (program_header_image class order) (program_header_low class) }
     ensures same { IsSameInEachClass program_header_size program_header_of program_header_image ProgramHeaderFits }
 {}
 
-/// A law: the default program header is the one of zeros, which a call answers.
+/// A law: every field of the default program header is 0. A call returns that program header.
 pub fn default_is_zeros() -> ProgramHeader
     ensures { values_of (program_header64_fields (as64 result)) ≡ replicate 8 0 }
 {
     ProgramHeader::default()
 }
 
-// What a segment is.
+// Segment types.
 pub use crate::constants_program_header::{
     PT_ARM_EXIDX, PT_DYNAMIC, PT_GNU_EH_FRAME, PT_GNU_PROPERTY, PT_GNU_RELRO, PT_GNU_STACK,
     PT_HIOS, PT_HIPROC, PT_HISUNW, PT_INTERP, PT_LOAD, PT_LOOS, PT_LOPROC, PT_LOSUNW, PT_NOTE,
     PT_NULL, PT_NUM, PT_PHDR, PT_SHLIB, PT_SUNWBSS, PT_SUNWSTACK, PT_TLS, pt_to_str,
 };
 
-// What may be done with a segment.
+// Segment permissions.
 pub use crate::constants_program_header::{PF_MASKOS, PF_MASKPROC, PF_R, PF_W, PF_X};
 
-// What number each constant is.
+// The number of each constant.
 mod constants_law;
 
 pub use constants_law::constants;

@@ -24,34 +24,37 @@ use std::alloc::Global;
 /// A program header of the 64-bit class.
 #[derive(Clone, Copy, Debug, Default, PartialEq)]
 pub struct ProgramHeader {
-    /// What the segment is, one of the `PT_` constants.
+    /// The segment type, one of the `PT_` constants.
     pub p_type: u32,
-    /// What may be done with the segment: the `PF_` flags.
+    /// The segment's permissions: the `PF_` flags.
     pub p_flags: u32,
-    /// Where the segment starts: an offset in bytes from the file's start.
+    /// The file offset of the segment in bytes.
     pub p_offset: u64,
-    /// The address of the segment in memory.
+    /// The virtual address of the segment.
     pub p_vaddr: u64,
-    /// The physical address of the segment, where there is one.
+    /// The physical address of the segment, on systems where that is relevant.
     pub p_paddr: u64,
-    /// How many bytes the segment has in the file.
+    /// The file size of the segment in bytes.
     pub p_filesz: u64,
-    /// How many bytes the segment has in memory.
+    /// The memory size of the segment in bytes.
     pub p_memsz: u64,
-    /// What address and offset are aligned to, in bytes; 0 and 1 for nothing.
+    /// The alignment of address and offset in bytes; 0 and 1 mean none.
     pub p_align: u64,
 }
 
-/// How many bytes a program header has.
+/// The size of a program header in bytes.
 pub const SIZEOF_PHDR: usize = 56;
 
 impl ProgramHeader {
     ghost use Rattle.goblin_base.specs.declared.container.Endian.TheVariants as endian;
 
-    /// The `count` program headers that lie one after another from an offset on, as a vector.
+    /// Reads the `count` program headers from an offset on, as a vector. If `count` is 0 the vector
+    /// is empty, whatever the offset.
     ///
-    /// Where `count` is 0 the list is empty, whatever the offset. Else the first header without
-    /// room gives its fault, before any memory is taken, so that want of memory hides no fault.
+    /// # Errors
+    ///
+    /// The fault of the first header that the bytes don't hold. This is tested before the
+    /// allocation, so out-of-memory never masks it.
     pub fn parse(
         alloc: Global,
         bytes: &[u8],
@@ -69,8 +72,12 @@ impl ProgramHeader {
         read_in_range(alloc, bytes, offset, count, order)
     }
 
-    /// The first `n` program headers of the bytes, read in little byte order. The bytes must hold so
-    /// many. Only want of memory is an error, and a list of none takes no memory.
+    /// Reads the first `n` program headers of the bytes as little endian. The bytes must hold `n`
+    /// headers. If `n` is 0, nothing is allocated.
+    ///
+    /// # Errors
+    ///
+    /// Out of memory only.
     #[tactic(auto, using(goblin_base::specs::TableLaws::no_records))]
     pub fn from_bytes(alloc: Global, bytes: &[u8], n: usize) -> Result<Vec<ProgramHeader>>
         requires { n * SIZEOF_PHDR ≤ length bytes.now }
@@ -82,7 +89,7 @@ impl ProgramHeader {
         Table::<ProgramHeader, Endian>::of(bytes, n, LE).to_vec(alloc)
     }
 
-    // The program header at the start of the bytes.
+    // Reads the program header at the start of the bytes.
     pub(crate) fn at(bytes: &[u8], order: Endian) -> ProgramHeader
         requires { SIZEOF_PHDR ≤ length bytes.now }
         ensures { result ≡ program_header64_of order bytes.now }
@@ -146,7 +153,7 @@ impl SizeWith<Endian> for ProgramHeader {
     }
 }
 
-/// Refused is only what has no room.
+/// Fails with the fault of `room` if the bytes don't hold the record.
 impl<'a> TryFromCtx<'a, Endian> for ProgramHeader {
     ghost try_from_gives = { λ bytes order answer.
         answer ≡ with_size program_header64_size (read_within program_header64_size (program_header64_of order) bytes) };
@@ -157,7 +164,7 @@ impl<'a> TryFromCtx<'a, Endian> for ProgramHeader {
     }
 }
 
-/// Refused is only what has no room, and then no byte is written.
+/// Fails with the fault of `room` if the buffer doesn't hold the record, and then writes no byte.
 impl TryIntoCtx<Endian> for ProgramHeader {
     ghost try_into_gives = { λ header order old answer new.
         Writes program_header64_size (program_header64_image order header) old answer new };
@@ -196,30 +203,30 @@ impl Record<Endian> for ProgramHeader {
     ghost laws = { λ order. obeys (program_header64_laws order) };
 }
 
-/// A law: which bytes a program header is written as.
+/// A law: the image of a program header is the only list of bytes that is read as that header.
 pub fn laws()
     ensures image { (order : Endian) →
         IsOneImage program_header64_size (program_header64_of order) (program_header64_image order) program_header64_low }
 {}
 
-/// A law: the default program header is the one of zeros, which a call answers.
+/// A law: every field of the default program header is 0. A call returns that program header.
 pub fn default_is_zeros() -> ProgramHeader
     ensures { values_of (program_header64_fields result) ≡ replicate 8 0 }
 {
     ProgramHeader::default()
 }
 
-// What a segment is.
+// Segment types.
 pub use crate::constants_program_header::{
     PT_ARM_EXIDX, PT_DYNAMIC, PT_GNU_EH_FRAME, PT_GNU_PROPERTY, PT_GNU_RELRO, PT_GNU_STACK,
     PT_HIOS, PT_HIPROC, PT_HISUNW, PT_INTERP, PT_LOAD, PT_LOOS, PT_LOPROC, PT_LOSUNW, PT_NOTE,
     PT_NULL, PT_NUM, PT_PHDR, PT_SHLIB, PT_SUNWBSS, PT_SUNWSTACK, PT_TLS, pt_to_str,
 };
 
-// What may be done with a segment.
+// Segment permissions.
 pub use crate::constants_program_header::{PF_MASKOS, PF_MASKPROC, PF_R, PF_W, PF_X};
 
-// What number each constant is.
+// The number of each constant.
 mod constants_law;
 
 pub use constants_law::constants;

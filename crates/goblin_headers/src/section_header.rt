@@ -1,4 +1,4 @@
-//! Section headers, which tell what a file holds: System V gABI, "Section Header".
+//! Section headers, which describe what a file holds: System V gABI, "Section Header".
 ghost use Rattle.std.specs.Int.{IsBitSet};
 ghost use Rattle.std.specs.Prelude.{◌≡◌, ◌≤◌, ◌↔◌, ◌++◌, IsTrue, IfErr, IsNone, IsOk, IfSome, length, drop, map, position, replicate, slice_get};
 ghost use Rattle.std.specs.Option.{option_map};
@@ -31,38 +31,38 @@ use std::ops::Range;
 /// A section header of either class.
 #[derive(Clone, Debug, Default, Drop, PartialEq)]
 pub struct SectionHeader {
-    /// Where the name lies in the table of section names, in bytes.
+    /// The offset of the name in the section name string table, in bytes.
     pub sh_name: usize,
-    /// What the section holds, one of the `SHT_` constants.
+    /// The section type, one of the `SHT_` constants.
     pub sh_type: u32,
-    /// What may be done with the section: the `SHF_` flags.
+    /// The section's attributes: the `SHF_` flags.
     pub sh_flags: u64,
-    /// The address of the section in memory, or 0.
+    /// The virtual address of the section, or 0.
     pub sh_addr: u64,
-    /// Where the section starts: an offset in bytes from the file's start.
+    /// The file offset of the section in bytes.
     pub sh_offset: u64,
-    /// How many bytes the section has.
+    /// The size of the section in bytes.
     pub sh_size: u64,
-    /// The index of a section that belongs to this one.
+    /// The index of a related section, whose meaning depends on the section type.
     pub sh_link: u32,
-    /// More about the section, as its type says.
+    /// Extra information, whose meaning depends on the section type.
     pub sh_info: u32,
-    /// What the address is aligned to, in bytes; 0 and 1 for nothing.
+    /// The alignment of the address in bytes; 0 and 1 mean none.
     pub sh_addralign: u64,
-    /// How many bytes an entry has, where the section is a table of them.
+    /// The size of an entry in bytes, if the section is a table of entries of one size.
     pub sh_entsize: u64,
 }
 
 impl SectionHeader {
-    /// How many bytes a section header has in this context: 40 or 64.
+    /// Returns the size of a section header in this context: 40 or 64 bytes.
     pub fn size(ctx: Ctx) -> usize
         ensures { result ≡ section_header_size ctx.container }
     {
         SectionHeader::size_with(&ctx)
     }
 
-    /// A header of what a program defines, in memory while it runs, aligned to 512 bytes, with all
-    /// else 0.
+    /// Returns a header of type `SHT_PROGBITS` with the flag `SHF_ALLOC`, aligned to 512 bytes,
+    /// with all other fields 0.
     pub fn new() -> Self
         ensures { result ≡ new_section_header }
     {
@@ -80,8 +80,8 @@ impl SectionHeader {
         }
     }
 
-    /// Where the section lies in the file, in bytes from the file's start, or `None` for a section
-    /// without bytes there (`SHT_NOBITS`, type 8). An end past the greatest number is that number.
+    /// Returns the section's range of file offsets in bytes, or `None` for a section without bytes
+    /// in the file (`SHT_NOBITS`, type 8). An end past `usize::MAX` is `usize::MAX`.
     pub fn file_range(&self) -> Option<Range<usize>>
         ensures none { IsNone result ↔ (self.now.sh_type ≡ 8) }
         ensures some { IfSome result (λ range.
@@ -94,7 +94,7 @@ impl SectionHeader {
         Some(start..start.saturating_add(self.sh_size as usize))
     }
 
-    /// Where the section lies in memory. An end past the greatest address is that address.
+    /// Returns the section's range of virtual addresses. An end past `usize::MAX` is `usize::MAX`.
     pub fn vm_range(&self) -> Range<usize>
         ensures { (result.start, result.end) ≡ span self.now.sh_addr self.now.sh_size }
     {
@@ -102,8 +102,8 @@ impl SectionHeader {
         start..start.saturating_add(self.sh_size as usize)
     }
 
-    /// The section headers of a file, from an offset on. At offset 0 there are none; else the answer
-    /// is that of [`SectionHeader::parse_from`].
+    /// Reads the section headers of a file from an offset on. At offset 0 there are none; at any
+    /// other offset this is [`SectionHeader::parse_from`].
     ///
     /// <!-- quoted: crates/goblin_uses/src/main.rt -->
     /// ```
@@ -132,13 +132,18 @@ impl SectionHeader {
         SectionHeader::parse_from(alloc, bytes, offset, count, ctx)
     }
 
-    /// The section headers that lie one after another from an offset on, as a vector.
+    /// Reads the section headers from an offset on, as a vector of at least one header. If `count`
+    /// is 0, the number of headers is the first header's `sh_size`.
     ///
-    /// The first header is read at once, and without room it gives its fault. Where `count` is 0, the
-    /// first header's `sh_size` is taken in its place. More headers than the bytes could hold anywhere
-    /// are a `BufferTooShort`. Neither of these is hidden by want of memory. Then memory is taken for
-    /// all headers at once, and the first of the others without room gives its fault. There is always
-    /// one header at least.
+    /// # Errors
+    ///
+    /// In this order:
+    ///
+    /// - The fault of the first header, if the bytes don't hold it.
+    /// - `BufferTooShort`, if that many headers don't fit into the bytes at any offset.
+    /// - Out of memory. It never masks the two errors above, which are tested before the
+    ///   allocation.
+    /// - The fault of the first of the other headers that the bytes don't hold.
     pub fn parse_from(
         alloc: Global,
         bytes: &[u8],
@@ -155,8 +160,12 @@ impl SectionHeader {
         read_all(alloc, bytes, offset, asked, ctx, "section headers")
     }
 
-    /// The section headers of a file, each of which is read as it is asked for: those that
-    /// [`SectionHeader::parse`] reads at once, refused for the same reasons. No memory is taken.
+    /// Returns the section headers of [`SectionHeader::parse`] as a lazy table, which reads each
+    /// one when it is asked for. Allocates nothing.
+    ///
+    /// # Errors
+    ///
+    /// Those of [`SectionHeader::parse`] other than out of memory.
     #[tactic(auto, unfolding(goblin_base::specs::Table::records))]
     pub fn table(
         bytes: &[u8],
@@ -173,7 +182,7 @@ impl SectionHeader {
         SectionHeader::table_from(bytes, offset, count, ctx)
     }
 
-    // The section headers that lie one after another from an offset on, as a table.
+    // Returns the section headers of `parse_from` as a lazy table.
     fn table_from(
         bytes: &[u8],
         offset: usize,
@@ -187,8 +196,9 @@ impl SectionHeader {
         Table::counted(bytes, offset, most, ctx, "section headers")
     }
 
-    /// The index of the section that holds the sections' names, by the header's `e_shstrndx`: that number,
-    /// or where it is 0xffff (`SHN_XINDEX`) the `sh_link` of the first section, or 0 where there is none.
+    /// Returns the index of the section that holds the section names. This is the header's
+    /// `e_shstrndx`, unless it is 0xffff (`SHN_XINDEX`): then it is the `sh_link` of the first
+    /// section, or 0 if there are no sections.
     pub fn names_index(e_shstrndx: u16, first: Option<&SectionHeader>) -> usize
         ensures { let seen = option_map (λ section. section.now) first.entry in
             result ≡ names_index e_shstrndx seen }
@@ -226,12 +236,11 @@ impl SectionHeader {
         }
     }
 
-    /// The index of the first section with this name, given as its bytes, or `None` where no section has
-    /// it.
+    /// Returns the index of the first section with this name, or `None` if there is none.
     ///
-    /// The names are read plainly from the table of section names, as [`Strtab::get`] does: a section
-    /// whose name lies past it, or is no text, has none. For each section as many bytes as the name has,
-    /// and one, are read at most.
+    /// Names are read from the section name string table as [`Strtab::get`] reads them: a section
+    /// whose name is past the table's end or isn't UTF-8 has no name. At most `name.len() + 1`
+    /// bytes are read for each section.
     pub fn find(sections: &[SectionHeader], names: &Strtab<'_>, name: &[u8]) -> Option<usize>
         ensures { result
             ≡ position (λ section. has_name names.now section.sh_name name.now) sections.now }
@@ -242,8 +251,9 @@ impl SectionHeader {
             .position(|section| wanted.is_at(section.sh_name))
     }
 
-    /// The index in a table of the first section with this name, which is looked for in the bytes of the
-    /// sections' names as [`SectionHeader::find`] looks for it in their table.
+    /// Returns the index of the first section with this name in a lazy table, as
+    /// [`SectionHeader::find`] does. The names are read from the bytes of the section name string
+    /// table, whose strings end with `delim`.
     pub fn find_in(
         sections: &Table<'_, SectionHeader, Ctx>,
         strings: &[u8],
@@ -259,20 +269,24 @@ impl SectionHeader {
             .position(|section| wanted.is_at(strings, section.sh_name))
     }
 
-    /// Whether the section lies inside a file of `size` bytes, and its addresses inside all addresses:
-    /// [`SectionHeader::check_size_with_opts`], strictly.
+    /// Checks the section's size as [`SectionHeader::check_size_with_opts`] does with `permissive`
+    /// false.
     pub fn check_size(&self, size: usize) -> Result<()>
         ensures { result ≡ size_checked size self.now }
     {
         self.check_size_with_opts(size, false)
     }
 
-    /// Whether the section lies inside a file of `size` bytes, and its addresses inside all addresses;
-    /// where `permissive` is true, every section passes.
+    /// Checks that the section lies inside a file of `size` bytes and that its addresses fit `u64`.
+    /// Every section passes if `permissive` is true. So does a section without bytes in the file
+    /// (`SHT_NOBITS`, or of size 0).
     ///
-    /// A section without bytes in the file (`SHT_NOBITS`, or of size 0) is not looked at. Else the
-    /// first of these that applies is the error: `SectionOffset`, where the section ends past the
-    /// file's end; `SectionAddr`, where its last address and one more pass `u64`.
+    /// # Errors
+    ///
+    /// The first of these that applies:
+    ///
+    /// - `SectionOffset`: the section ends past the file's end.
+    /// - `SectionAddr`: `sh_addr + sh_size` doesn't fit `u64`.
     pub fn check_size_with_opts(&self, size: usize, permissive: bool) -> Result<()>
         ensures { result ≡ size_checked_in permissive size self.now }
     {
@@ -300,36 +314,37 @@ impl SectionHeader {
         Ok(())
     }
 
-    /// Whether the section holds relocations with addends (`SHT_RELA`, type 4). Those without
-    /// (`SHT_REL`) are not counted.
+    /// Reports whether the section holds relocations with addends (`SHT_RELA`, type 4). It is false
+    /// for relocations without addends (`SHT_REL`).
     pub fn is_relocation(&self) -> bool
         ensures { IsTrue result ↔ (self.now.sh_type ≡ 4) }
     {
         self.sh_type == SHT_RELA
     }
 
-    /// Whether the section is in memory and may be executed: bits 1 and 2 of its flags.
+    /// Reports whether the section is in memory and may be executed: bits 1 and 2 of its flags.
     pub fn is_executable(&self) -> bool
         ensures { IsTrue result ↔ (IsBitSet self.now.sh_flags 1 × IsBitSet self.now.sh_flags 2) }
     {
         self.is_alloc() && self.sh_flags & u64::from(SHF_EXECINSTR) != 0
     }
 
-    /// Whether the section is in memory and may be written: bits 1 and 0 of its flags.
+    /// Reports whether the section is in memory and may be written: bits 1 and 0 of its flags.
     pub fn is_writable(&self) -> bool
         ensures { IsTrue result ↔ (IsBitSet self.now.sh_flags 1 × IsBitSet self.now.sh_flags 0) }
     {
         self.is_alloc() && self.sh_flags & u64::from(SHF_WRITE) != 0
     }
 
-    /// Whether the section is in memory while the program runs: bit 1 of its flags.
+    /// Reports whether the section is in memory while the program runs: bit 1 of its flags.
     pub fn is_alloc(&self) -> bool
         ensures { IsTrue result ↔ IsBitSet self.now.sh_flags 1 }
     {
         self.sh_flags & u64::from(SHF_ALLOC) != 0
     }
 
-    // How many headers are read from an offset on: as many as are asked for, and one at least.
+    // Returns the number of headers to read from an offset on: as many as are asked for, at least
+    // one.
     fn count_from(bytes: &[u8], offset: usize, count: usize, ctx: Ctx) -> Result<usize>
         ensures { result ≡ count_from bytes.now offset count ctx }
     {
@@ -337,7 +352,7 @@ impl SectionHeader {
         Ok(first.count_asked(count).max(1))
     }
 
-    // How many headers are asked for, where this is the first of them.
+    // Returns the number of headers that are asked for, if this is the first of them.
     fn count_asked(&self, count: usize) -> usize
         ensures { result ≡ count_told self.now count }
     {
@@ -348,7 +363,7 @@ impl SectionHeader {
         }
     }
 
-    // The section header at the start of the bytes.
+    // Reads the section header at the start of the bytes.
     fn at(bytes: &[u8], ctx: Ctx) -> SectionHeader
         requires { section_header_size ctx.container ≤ length bytes.now }
         ensures { result ≡ section_header_of ctx.container ctx.le bytes.now }
@@ -359,7 +374,7 @@ impl SectionHeader {
         }
     }
 
-    // Puts the section header at the start of the bytes.
+    // Writes the section header at the start of the bytes.
     fn put(self, bytes: &mut [u8], ctx: Ctx)
         requires { section_header_size ctx.container ≤ length bytes.old }
         ensures { let image = section_header_image ctx.container ctx.le self in
@@ -383,7 +398,7 @@ impl SizeWith<Ctx> for SectionHeader {
     }
 }
 
-/// Refused is only what has no room.
+/// Fails with the fault of `room` if the bytes don't hold the record.
 impl<'a> TryFromCtx<'a, Ctx> for SectionHeader {
     ghost try_from_gives = { λ bytes ctx answer.
         let size = section_header_size ctx.container in
@@ -395,7 +410,7 @@ impl<'a> TryFromCtx<'a, Ctx> for SectionHeader {
     }
 }
 
-/// Refused is only what has no room, and then no byte is written.
+/// Fails with the fault of `room` if the buffer doesn't hold the record, and then writes no byte.
 impl TryIntoCtx<Ctx> for SectionHeader {
     ghost try_into_gives = { λ header ctx old answer new.
         let image = section_header_image ctx.container ctx.le header in
@@ -410,7 +425,7 @@ impl TryIntoCtx<Ctx> for SectionHeader {
     }
 }
 
-/// The buffer must have room for a section header.
+/// The buffer must hold a section header.
 impl IntoCtx<Ctx> for SectionHeader {
     ghost can_into = { λ _ ctx old. section_header_size ctx.container ≤ length old };
 
@@ -441,28 +456,28 @@ impl Record<Ctx> for SectionHeader {
     ghost laws = { λ ctx. obeys (section_header_laws ctx.container ctx.le) };
 }
 
-/// Laws: which bytes a section header is written as, and that classes and byte orders keep lists of
-/// section headers the same.
+/// Laws of section headers: the image is the only list of bytes that is read as the header, and a
+/// list of headers that fit both classes is read back the same in each class and byte order.
 pub fn laws()
     ensures image { (class : Container) (order : Endian) →
         IsOneImage (section_header_size class) (section_header_of class order) (section_header_image class order) (section_header_low class) }
     ensures same { IsSameInEachClass section_header_size section_header_of section_header_image SectionHeaderFits }
 {}
 
-/// A law: the default section header is the one of zeros, which a call answers.
+/// A law: every field of the default section header is 0. A call returns that section header.
 pub fn default_is_zeros() -> SectionHeader
     ensures { values_of (section_header64_fields (as64 result)) ≡ replicate 10 0 }
 {
     SectionHeader::default()
 }
 
-// Indices of sections with a meaning of their own.
+// Special section indices.
 pub use crate::constants_section_header::{
     SHN_ABS, SHN_AFTER, SHN_BEFORE, SHN_COMMON, SHN_HIOS, SHN_HIPROC, SHN_HIRESERVE, SHN_LOOS,
     SHN_LOPROC, SHN_LORESERVE, SHN_UNDEF, SHN_XINDEX,
 };
 
-// What a section holds.
+// Section types.
 pub use crate::constants_section_header::{
     SHT_CHECKSUM, SHT_DYNAMIC, SHT_DYNSYM, SHT_FINI_ARRAY, SHT_GNU_ATTRIBUTES, SHT_GNU_HASH,
     SHT_GNU_LIBLIST, SHT_GNU_VERDEF, SHT_GNU_VERNEED, SHT_GNU_VERSYM, SHT_GROUP, SHT_HASH,
@@ -472,14 +487,14 @@ pub use crate::constants_section_header::{
     SHT_SYMTAB_SHNDX, SHT_X86_64_UNWIND, sht_to_str,
 };
 
-// What may be done with a section.
+// Section attributes.
 pub use crate::constants_section_header::{
     SHF_ALLOC, SHF_COMPRESSED, SHF_EXCLUDE, SHF_EXECINSTR, SHF_FLAGS, SHF_GROUP, SHF_INFO_LINK,
     SHF_LINK_ORDER, SHF_MASKOS, SHF_MASKPROC, SHF_MERGE, SHF_NUM_REGULAR_FLAGS, SHF_ORDERED,
     SHF_OS_NONCONFORMING, SHF_STRINGS, SHF_TLS, SHF_WRITE, shf_to_str,
 };
 
-// What number each constant is.
+// The number of each constant.
 mod constants_law;
 
 pub use constants_law::constants;

@@ -23,36 +23,40 @@ use std::alloc::Global;
 /// A section header of the 32-bit class.
 #[derive(Clone, Copy, Debug, Default, Eq, PartialEq)]
 pub struct SectionHeader {
-    /// Where the name lies in the table of section names, in bytes.
+    /// The offset of the name in the section name string table, in bytes.
     pub sh_name: u32,
-    /// What the section holds, one of the `SHT_` constants.
+    /// The section type, one of the `SHT_` constants.
     pub sh_type: u32,
-    /// What may be done with the section: the `SHF_` flags.
+    /// The section's attributes: the `SHF_` flags.
     pub sh_flags: u32,
-    /// The address of the section in memory, or 0.
+    /// The virtual address of the section, or 0.
     pub sh_addr: u32,
-    /// Where the section starts: an offset in bytes from the file's start.
+    /// The file offset of the section in bytes.
     pub sh_offset: u32,
-    /// How many bytes the section has.
+    /// The size of the section in bytes.
     pub sh_size: u32,
-    /// The index of a section that belongs to this one.
+    /// The index of a related section, whose meaning depends on the section type.
     pub sh_link: u32,
-    /// More about the section, as its type says.
+    /// Extra information, whose meaning depends on the section type.
     pub sh_info: u32,
-    /// What the address is aligned to, in bytes; 0 and 1 for nothing.
+    /// The alignment of the address in bytes; 0 and 1 mean none.
     pub sh_addralign: u32,
-    /// How many bytes an entry has, where the section is a table of them.
+    /// The size of an entry in bytes, if the section is a table of entries of one size.
     pub sh_entsize: u32,
 }
 
-/// How many bytes a section header has.
+/// The size of a section header in bytes.
 pub const SIZEOF_SHDR: usize = 40;
 
 impl SectionHeader {
     ghost use Rattle.goblin_base.specs.declared.container.Endian.TheVariants as endian;
 
-    /// The first `n` section headers of the bytes, read in little byte order. The bytes must hold so
-    /// many. Only want of memory is an error, and a list of none takes no memory.
+    /// Reads the first `n` section headers of the bytes as little endian. The bytes must hold `n`
+    /// headers. If `n` is 0, nothing is allocated.
+    ///
+    /// # Errors
+    ///
+    /// Out of memory only.
     #[tactic(auto, using(goblin_base::specs::TableLaws::no_records))]
     pub fn from_bytes(alloc: Global, bytes: &[u8], n: usize) -> Result<Vec<SectionHeader>>
         requires { n * SIZEOF_SHDR ≤ length bytes.now }
@@ -64,7 +68,7 @@ impl SectionHeader {
         Table::<SectionHeader, Endian>::of(bytes, n, LE).to_vec(alloc)
     }
 
-    // The section header at the start of the bytes.
+    // Reads the section header at the start of the bytes.
     pub(crate) fn at(bytes: &[u8], order: Endian) -> SectionHeader
         requires { SIZEOF_SHDR ≤ length bytes.now }
         ensures { result ≡ section_header32_of order bytes.now }
@@ -83,7 +87,7 @@ impl SectionHeader {
         }
     }
 
-    // Puts the section header at the start of the bytes.
+    // Writes the section header at the start of the bytes.
     pub(crate) fn put(&self, bytes: &mut [u8], order: Endian)
         requires { SIZEOF_SHDR ≤ length bytes.old }
         ensures { bytes.new ≡ section_header32_image order self.now ++ drop SIZEOF_SHDR bytes.old }
@@ -122,7 +126,7 @@ impl From<SectionHeader> for ElfSectionHeader {
     }
 }
 
-/// Of each field the low bits are kept, as many as it has room for.
+/// Keeps the low bits of each field, as many as its width holds.
 impl From<ElfSectionHeader> for SectionHeader {
     ghost use Rattle.goblin_headers.specs.SectionHeader.{as32};
 
@@ -152,7 +156,7 @@ impl SizeWith<Endian> for SectionHeader {
     }
 }
 
-/// Refused is only what has no room.
+/// Fails with the fault of `room` if the bytes don't hold the record.
 impl<'a> TryFromCtx<'a, Endian> for SectionHeader {
     ghost try_from_gives = { λ bytes order answer.
         answer ≡ with_size section_header32_size (read_within section_header32_size (section_header32_of order) bytes) };
@@ -163,7 +167,7 @@ impl<'a> TryFromCtx<'a, Endian> for SectionHeader {
     }
 }
 
-/// Refused is only what has no room, and then no byte is written.
+/// Fails with the fault of `room` if the buffer doesn't hold the record, and then writes no byte.
 impl TryIntoCtx<Endian> for SectionHeader {
     ghost try_into_gives = { λ header order old answer new.
         Writes section_header32_size (section_header32_image order header) old answer new };
@@ -195,26 +199,26 @@ impl Record<Endian> for SectionHeader {
     ghost laws = { λ order. obeys (section_header32_laws order) };
 }
 
-/// A law: which bytes a section header is written as.
+/// A law: the image of a section header is the only list of bytes that is read as that header.
 pub fn laws()
     ensures image { (order : Endian) →
         IsOneImage section_header32_size (section_header32_of order) (section_header32_image order) section_header32_low }
 {}
 
-/// A law: the default section header is the one of zeros, which a call answers.
+/// A law: every field of the default section header is 0. A call returns that section header.
 pub fn default_is_zeros() -> SectionHeader
     ensures { values_of (section_header32_fields result) ≡ replicate 10 0 }
 {
     SectionHeader::default()
 }
 
-// Indices of sections with a meaning of their own.
+// Special section indices.
 pub use crate::constants_section_header::{
     SHN_ABS, SHN_AFTER, SHN_BEFORE, SHN_COMMON, SHN_HIOS, SHN_HIPROC, SHN_HIRESERVE, SHN_LOOS,
     SHN_LOPROC, SHN_LORESERVE, SHN_UNDEF, SHN_XINDEX,
 };
 
-// What a section holds.
+// Section types.
 pub use crate::constants_section_header::{
     SHT_CHECKSUM, SHT_DYNAMIC, SHT_DYNSYM, SHT_FINI_ARRAY, SHT_GNU_ATTRIBUTES, SHT_GNU_HASH,
     SHT_GNU_LIBLIST, SHT_GNU_VERDEF, SHT_GNU_VERNEED, SHT_GNU_VERSYM, SHT_GROUP, SHT_HASH,
@@ -224,14 +228,14 @@ pub use crate::constants_section_header::{
     SHT_SYMTAB_SHNDX, SHT_X86_64_UNWIND, sht_to_str,
 };
 
-// What may be done with a section.
+// Section attributes.
 pub use crate::constants_section_header::{
     SHF_ALLOC, SHF_COMPRESSED, SHF_EXCLUDE, SHF_EXECINSTR, SHF_FLAGS, SHF_GROUP, SHF_INFO_LINK,
     SHF_LINK_ORDER, SHF_MASKOS, SHF_MASKPROC, SHF_MERGE, SHF_NUM_REGULAR_FLAGS, SHF_ORDERED,
     SHF_OS_NONCONFORMING, SHF_STRINGS, SHF_TLS, SHF_WRITE, shf_to_str,
 };
 
-// What number each constant is.
+// The number of each constant.
 mod constants_law;
 
 pub use constants_law::constants;

@@ -1,4 +1,4 @@
-//! What number each constant of a file's header is, under the name that it has in `header`.
+//! The numbers of the constants of a file's header, under their names in `header`.
 ghost use Rattle.std.specs.Prelude.{◌≡◌, [], ◌∷◌};
 ghost use Rattle.goblin_headers.specs.Constants.{class_numbers, data_numbers, file_type_numbers, ident_place_numbers, ident_size_numbers, system_numbers, unnamed_machine_numbers};
 ghost use Rattle.goblin_headers.specs.Header.{magic};
@@ -6,7 +6,7 @@ ghost use Rattle.goblin_headers.specs.Machines.{machine_numbers};
 
 use super::*;
 
-/// Laws: the numbers of the constants that this module passes on, under the names that they have
+/// Laws: the numbers of the constants that this module re-exports, under the names that they have
 /// here. A call does nothing.
 pub fn constants()
     ensures types { ET_NONE ∷ ET_REL ∷ ET_EXEC ∷ ET_DYN ∷ ET_CORE ∷ ET_NUM ∷ ET_LOOS ∷ ET_HIOS

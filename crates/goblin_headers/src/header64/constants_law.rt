@@ -1,4 +1,4 @@
-//! What number each constant of a file's header is, under the name that it has in `header64`.
+//! The numbers of the constants of a file's header, under their names in `header64`.
 ghost use Rattle.std.specs.Prelude.{◌≡◌, [], ◌∷◌};
 ghost use Rattle.goblin_headers.specs.Constants.{class_numbers, data_numbers, file_type_numbers, ident_place_numbers, ident_size_numbers, system_numbers, unnamed_machine_numbers};
 ghost use Rattle.goblin_headers.specs.Header.{magic};
@@ -7,8 +7,8 @@ ghost use Rattle.goblin_headers.specs.Machines.{machine_numbers};
 
 use super::*;
 
-/// Laws: the numbers of this module's own constants, and those of the constants that it passes on,
-/// under the names that they have here. A call does nothing.
+/// Laws: the numbers of this module's own constants and of those that it re-exports, under the
+/// names that they have here. A call does nothing.
 pub fn constants()
     ensures size { SIZEOF_EHDR ≡ header64_size }
     ensures class { ELFCLASS ≡ 2 }

@@ -1,10 +1,10 @@
-//! What number each constant of program headers is, under the name that it has in `program_header`.
+//! The numbers of the constants of program headers, under their names in `program_header`.
 ghost use Rattle.std.specs.Prelude.{◌≡◌, [], ◌∷◌};
 ghost use Rattle.goblin_headers.specs.Constants.{segment_flag_numbers, segment_type_numbers};
 
 use super::*;
 
-/// Laws: the numbers of the constants that this module passes on, under the names that they have
+/// Laws: the numbers of the constants that this module re-exports, under the names that they have
 /// here. A call does nothing.
 pub fn constants()
     ensures types { PT_NULL ∷ PT_LOAD ∷ PT_DYNAMIC ∷ PT_INTERP ∷ PT_NOTE ∷ PT_SHLIB ∷ PT_PHDR

@@ -1,12 +1,12 @@
-//! What number each constant of program headers is, under the name that it has in `program_header64`.
+//! The numbers of the constants of program headers, under their names in `program_header64`.
 ghost use Rattle.std.specs.Prelude.{◌≡◌, [], ◌∷◌};
 ghost use Rattle.goblin_headers.specs.Constants.{segment_flag_numbers, segment_type_numbers};
 ghost use Rattle.goblin_headers.specs.ProgramHeader64.{program_header64_size};
 
 use super::*;
 
-/// Laws: the numbers of this module's own constants, and those of the constants that it passes on,
-/// under the names that they have here. A call does nothing.
+/// Laws: the numbers of this module's own constants and of those that it re-exports, under the
+/// names that they have here. A call does nothing.
 pub fn constants()
     ensures size { SIZEOF_PHDR ≡ program_header64_size }
     ensures types { PT_NULL ∷ PT_LOAD ∷ PT_DYNAMIC ∷ PT_INTERP ∷ PT_NOTE ∷ PT_SHLIB ∷ PT_PHDR

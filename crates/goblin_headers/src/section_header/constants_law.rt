@@ -1,11 +1,11 @@
-//! What number each constant of section headers is, under the name that it has in `section_header`.
+//! The numbers of the constants of section headers, under their names in `section_header`.
 ghost use Rattle.std.specs.Prelude.{◌≡◌, [], ◌∷◌, map};
 ghost use Rattle.goblin_headers.specs.Constants.{section_flag_numbers, section_index_numbers, section_type_numbers};
 ghost use Rattle.goblin_headers.specs.SectionNames.{section_flag_names};
 
 use super::*;
 
-/// Laws: the numbers of the constants that this module passes on, under the names that they have
+/// Laws: the numbers of the constants that this module re-exports, under the names that they have
 /// here. A call does nothing.
 pub fn constants()
     ensures indices { SHN_UNDEF ∷ SHN_LORESERVE ∷ SHN_LOPROC ∷ SHN_BEFORE ∷ SHN_AFTER ∷ SHN_HIPROC

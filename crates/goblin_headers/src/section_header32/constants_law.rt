@@ -1,4 +1,4 @@
-//! What number each constant of section headers is, under the name that it has in `section_header32`.
+//! The numbers of the constants of section headers, under their names in `section_header32`.
 ghost use Rattle.std.specs.Prelude.{◌≡◌, [], ◌∷◌, map};
 ghost use Rattle.goblin_headers.specs.Constants.{section_flag_numbers, section_index_numbers, section_type_numbers};
 ghost use Rattle.goblin_headers.specs.SectionHeader32.{section_header32_size};
@@ -6,8 +6,8 @@ ghost use Rattle.goblin_headers.specs.SectionNames.{section_flag_names};
 
 use super::*;
 
-/// Laws: the numbers of this module's own constants, and those of the constants that it passes on,
-/// under the names that they have here. A call does nothing.
+/// Laws: the numbers of this module's own constants and of those that it re-exports, under the
+/// names that they have here. A call does nothing.
 pub fn constants()
     ensures size { SIZEOF_SHDR ≡ section_header32_size }
     ensures indices { SHN_UNDEF ∷ SHN_LORESERVE ∷ SHN_LOPROC ∷ SHN_BEFORE ∷ SHN_AFTER ∷ SHN_HIPROC
