@@ -16,15 +16,15 @@ use goblin_base::scroll::{SizeWith, TryFromCtx, TryIntoCtx};
 /// The header of a note, in words of 4 bytes. Notes of both classes are read with it.
 #[derive(Clone, Copy, Debug)]
 pub struct Nhdr32 {
-    /// How many bytes the name takes, with the zero byte that closes it; 0 for no name.
+    /// The size of the name in bytes, including its closing zero byte; 0 if there is no name.
     pub n_namesz: u32,
-    /// How many bytes the descriptor takes.
+    /// The size of the descriptor in bytes.
     pub n_descsz: u32,
     /// The type, whose meaning depends on the name.
     pub n_type: u32,
 }
 
-// How many bytes an `Nhdr32` takes.
+// The size of an `Nhdr32` in bytes.
 const SIZEOF_NHDR32: usize = 4 + 4 + 4;
 
 impl SizeWith<Endian> for Nhdr32 {
@@ -35,7 +35,7 @@ impl SizeWith<Endian> for Nhdr32 {
     }
 }
 
-/// Refused is only what has no room.
+/// Fails with the fault of `room` if the bytes don't hold the record.
 impl<'a> TryFromCtx<'a, Endian> for Nhdr32 {
     ghost try_from_gives = { λ bytes order answer.
         answer ≡ with_size nhdr32_size (read_within nhdr32_size (nhdr32_of order) bytes) };
@@ -46,7 +46,7 @@ impl<'a> TryFromCtx<'a, Endian> for Nhdr32 {
     }
 }
 
-/// Refused is only what has no room, and then no byte is written.
+/// Fails with the fault of `room` if the buffer doesn't hold the record, and then writes no byte.
 impl TryIntoCtx<Endian> for Nhdr32 {
     ghost try_into_gives = { λ header order old answer new.
         Writes nhdr32_size (nhdr32_image order header) old answer new };
@@ -87,15 +87,15 @@ impl Record<Endian> for Nhdr32 {
 /// The header of a note, in words of 8 bytes.
 #[derive(Clone, Copy, Debug)]
 pub struct Nhdr64 {
-    /// How many bytes the name takes, with the zero byte that closes it; 0 for no name.
+    /// The size of the name in bytes, including its closing zero byte; 0 if there is no name.
     pub n_namesz: u64,
-    /// How many bytes the descriptor takes.
+    /// The size of the descriptor in bytes.
     pub n_descsz: u64,
     /// The type, whose meaning depends on the name.
     pub n_type: u64,
 }
 
-// How many bytes an `Nhdr64` takes.
+// The size of an `Nhdr64` in bytes.
 const SIZEOF_NHDR64: usize = 8 + 8 + 8;
 
 impl SizeWith<Endian> for Nhdr64 {
@@ -106,7 +106,7 @@ impl SizeWith<Endian> for Nhdr64 {
     }
 }
 
-/// Refused is only what has no room.
+/// Fails with the fault of `room` if the bytes don't hold the record.
 impl<'a> TryFromCtx<'a, Endian> for Nhdr64 {
     ghost try_from_gives = { λ bytes order answer.
         answer ≡ with_size nhdr64_size (read_within nhdr64_size (nhdr64_of order) bytes) };
@@ -117,7 +117,7 @@ impl<'a> TryFromCtx<'a, Endian> for Nhdr64 {
     }
 }
 
-/// Refused is only what has no room, and then no byte is written.
+/// Fails with the fault of `room` if the buffer doesn't hold the record, and then writes no byte.
 impl TryIntoCtx<Endian> for Nhdr64 {
     ghost try_into_gives = { λ header order old answer new.
         Writes nhdr64_size (nhdr64_image order header) old answer new };
@@ -155,7 +155,8 @@ impl Record<Endian> for Nhdr64 {
     ghost laws = { λ order. obeys (nhdr64_laws order) };
 }
 
-/// Laws: how many bytes a note header takes, and which they are.
+/// Laws of note headers: the size, and that the image is the only list of bytes that is read as the
+/// header.
 pub fn laws()
     ensures size32 { SIZEOF_NHDR32 ≡ nhdr32_size }
     ensures size64 { SIZEOF_NHDR64 ≡ nhdr64_size }
@@ -172,7 +173,7 @@ pub use crate::constants_note::{
     NT_GNU_PROPERTY_TYPE_0, NT_PRPSINFO, NT_PRSTATUS, NT_SIGINFO,
 };
 
-/// Laws: what the constants of this module stand for.
+/// Laws: the numbers of this module's constants.
 pub fn constants()
     ensures gnu { NT_GNU_ABI_TAG ∷ ELF_NOTE_ABI ∷ NT_GNU_HWCAP ∷ NT_GNU_BUILD_ID ∷
         NT_GNU_GOLD_VERSION ∷ NT_GNU_PROPERTY_TYPE_0 ∷ []

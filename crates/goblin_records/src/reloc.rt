@@ -15,31 +15,31 @@ use goblin_base::scroll::{IntoCtx, SizeWith, TryFromCtx, TryIntoCtx};
 /// A relocation of either class, with an addend or without.
 #[derive(Clone, Copy, Debug, Default, PartialEq)]
 pub struct Reloc {
-    /// Where the relocation applies: an offset in bytes from the section's start in a relocatable
-    /// file, and else an address.
+    /// Where the relocation applies: the offset from the section's start in bytes in a relocatable
+    /// file, the address in any other file.
     pub r_offset: u64,
-    /// What is added to the symbol's value; `None` where the place itself holds it.
+    /// The addend; `None` if it is stored at the location to be modified.
     pub r_addend: Option<i64>,
-    /// The index of the symbol in the symbol table that the relocation's section names.
+    /// The index of the symbol in the symbol table that the relocation section links to.
     pub r_sym: usize,
-    /// How the relocation is applied: a number to which each machine gives a meaning of its own.
+    /// The relocation type, which is processor-specific.
     pub r_type: u32,
 }
 
-/// How the relocations of a section are laid out: with addends or without, their class and byte order,
-/// and whether symbol and type go through the pair of MIPS64 files of little order.
+/// The layout of a section's relocations: with or without addends, their class and byte order, and
+/// whether symbol and type are stored as in little-endian MIPS64 files.
 #[derive(Clone, Copy, Debug, Default, PartialEq)]
 pub struct RelocCtx {
-    /// Whether there are addends.
+    /// Whether the relocations have addends.
     pub is_rela: bool,
     /// The class and the byte order.
     pub ctx: Ctx,
-    /// Whether symbol and type go through the pair.
+    /// Whether symbol and type are stored as in little-endian MIPS64 files.
     pub is_mips64el: bool,
 }
 
 impl Reloc {
-    /// How many bytes a relocation takes: 8 or 16 without an addend, 12 or 24 with one.
+    /// Returns the size of a relocation: 8 or 16 bytes without an addend, 12 or 24 with one.
     pub fn size(is_rela: bool, ctx: Ctx) -> usize
         ensures { result ≡ reloc_size is_rela ctx.container }
     {
@@ -51,10 +51,12 @@ impl Reloc {
         }
     }
 
-    /// Writes the relocation, and where `is_mips64el` says so as a MIPS64 file of little order has it:
-    /// its symbol, of which the low 32 bits are kept, and its type go through the inverse of the pair.
+    /// Writes the relocation. If `is_mips64el` is true, the low 32 bits of its symbol and its type
+    /// are written as little-endian MIPS64 files store them.
     ///
-    /// Refused is only what has no room, and then no byte is written.
+    /// # Errors
+    ///
+    /// The fault of `room` if the buffer doesn't hold the relocation. No byte is written then.
     pub fn write_inner(self, bytes: &mut [u8], ctx: (bool, Ctx), is_mips64el: bool) -> Result<usize>
         ensures { let size = reloc_size ctx.0 ctx.1.container in
             let image = reloc_image ctx.0 ctx.1.container ctx.1.le (as_stored is_mips64el self) in
@@ -69,7 +71,7 @@ impl Reloc {
         self.try_into_ctx(bytes, layout)
     }
 
-    // The relocation at the start of the bytes.
+    // Reads the relocation at the start of the bytes.
     fn at(bytes: &[u8], is_rela: bool, ctx: Ctx) -> Reloc
         requires { reloc_size is_rela ctx.container ≤ length bytes.now }
         ensures { result ≡ reloc_of is_rela ctx.container ctx.le bytes.now }
@@ -82,7 +84,7 @@ impl Reloc {
         }
     }
 
-    // Puts the relocation at the start of the bytes.
+    // Writes the relocation at the start of the bytes.
     fn put(self, bytes: &mut [u8], is_rela: bool, ctx: Ctx)
         requires { reloc_size is_rela ctx.container ≤ length bytes.old }
         ensures { let image = reloc_image is_rela ctx.container ctx.le self in
@@ -96,7 +98,8 @@ impl Reloc {
         }
     }
 
-    // What a relocation that was read means.
+    // Returns the relocation that a stored one means: for little-endian MIPS64, with symbol and
+    // type decoded.
     fn meant(self, is_mips64el: bool) -> Reloc
         ensures { result ≡ as_meant is_mips64el self }
     {
@@ -112,7 +115,7 @@ impl Reloc {
         }
     }
 
-    // What is stored for a relocation.
+    // Returns the relocation to store: for little-endian MIPS64, with symbol and type encoded.
     fn stored(self, is_mips64el: bool) -> Reloc
         ensures { result ≡ as_stored is_mips64el self }
     {
@@ -137,7 +140,7 @@ impl SizeWith<(bool, Ctx)> for Reloc {
     }
 }
 
-/// Refused is only what has no room.
+/// Fails with the fault of `room` if the bytes don't hold the record.
 impl<'a> TryFromCtx<'a, (bool, Ctx)> for Reloc {
     ghost try_from_gives = { λ bytes c answer.
         let size = reloc_size c.0 c.1.container in
@@ -149,8 +152,8 @@ impl<'a> TryFromCtx<'a, (bool, Ctx)> for Reloc {
     }
 }
 
-/// Refused is only what has no room, and then no byte is written. A missing addend is written as 0, and
-/// without addends none is written.
+/// Fails with the fault of `room` if the buffer doesn't hold the record, and then writes no byte.
+/// With addends, a missing one is written as 0; without addends, none is written.
 impl TryIntoCtx<(bool, Ctx)> for Reloc {
     ghost try_into_gives = { λ reloc c old answer new.
         let image = reloc_image c.0 c.1.container c.1.le reloc in
@@ -165,7 +168,7 @@ impl TryIntoCtx<(bool, Ctx)> for Reloc {
     }
 }
 
-/// The buffer must have room for a relocation.
+/// The buffer must hold a relocation.
 impl IntoCtx<(bool, Ctx)> for Reloc {
     ghost can_into = { λ _ c old. reloc_size c.0 c.1.container ≤ length old };
 
@@ -205,7 +208,7 @@ impl SizeWith<RelocCtx> for Reloc {
     }
 }
 
-/// Refused is only what has no room, and then no byte is written.
+/// Fails with the fault of `room` if the buffer doesn't hold the record, and then writes no byte.
 impl TryIntoCtx<RelocCtx> for Reloc {
     ghost try_into_gives = { λ reloc c old answer new.
         Writes (reloc_size c.is_rela c.ctx.container) (reloc_image_in c reloc) old answer new };
@@ -216,7 +219,7 @@ impl TryIntoCtx<RelocCtx> for Reloc {
     }
 }
 
-/// Refused is only what has no room.
+/// Fails with the fault of `room` if the bytes don't hold the record.
 impl<'a> TryFromCtx<'a, RelocCtx> for Reloc {
     ghost try_from_gives = { λ bytes c answer.
         let size = reloc_size c.is_rela c.ctx.container in
@@ -228,7 +231,8 @@ impl<'a> TryFromCtx<'a, RelocCtx> for Reloc {
     }
 }
 
-/// Where the context says so, symbol and type are read and written through the pair of MIPS64.
+/// If the context says so, symbol and type are read and written as little-endian MIPS64 files store
+/// them.
 impl Record<RelocCtx> for Reloc {
     ghost use Rattle.goblin_records.specs.Reloc.{RelocFitsIn};
     ghost use Rattle.goblin_records.specs.RelocLaws.{reloc_laws_in};
@@ -249,9 +253,10 @@ impl Record<RelocCtx> for Reloc {
     ghost laws = { λ c. obeys (reloc_laws_in c) };
 }
 
-/// Laws: which bytes a relocation is written as, that classes and byte orders keep lists of
-/// relocations the same, that the default relocation is that of zeros, without an addend, and that
-/// the default context is without addends and without the pair, in the default class and order.
+/// Laws of relocations: the image is the only list of bytes that is read as the relocation, and a
+/// list of relocations that fit both classes is read back the same in each class and byte order.
+/// The default relocation has all fields 0 and no addend. The default context has no addends, isn't
+/// MIPS64, and is of the default class and byte order.
 pub fn laws()
     ensures image { OneImage }
     ensures same { SameInEachClass }

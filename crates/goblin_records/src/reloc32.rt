@@ -20,45 +20,45 @@ use goblin_base::scroll::{SizeWith, TryFromCtx, TryIntoCtx};
 /// A relocation with an addend, of the 32-bit class.
 #[derive(Clone, Copy, Debug, Default, PartialEq)]
 pub struct Rela {
-    /// Where the relocation applies: an offset in bytes from the section's start in a relocatable
-    /// file, and else an address.
+    /// Where the relocation applies: the offset from the section's start in bytes in a relocatable
+    /// file, the address in any other file.
     pub r_offset: u32,
-    /// The symbol in the high 24 bits, and the type in the low 8.
+    /// The symbol in the high 24 bits and the type in the low 8.
     pub r_info: u32,
-    /// What is added to the value that is stored.
+    /// The addend.
     pub r_addend: i32,
 }
 
 /// A relocation without an addend, of the 32-bit class.
 #[derive(Clone, Debug, Default, Drop, PartialEq)]
 pub struct Rel {
-    /// Where the relocation applies: an offset in bytes from the section's start in a relocatable
-    /// file, and else an address.
+    /// Where the relocation applies: the offset from the section's start in bytes in a relocatable
+    /// file, the address in any other file.
     pub r_offset: u32,
-    /// The symbol in the high 24 bits, and the type in the low 8.
+    /// The symbol in the high 24 bits and the type in the low 8.
     pub r_info: u32,
 }
 
-/// How many bytes a relocation with an addend takes.
+/// The size of a relocation with an addend, in bytes.
 pub const SIZEOF_RELA: usize = 4 + 4 + 4;
-/// How many bytes a relocation without an addend takes.
+/// The size of a relocation without an addend, in bytes.
 pub const SIZEOF_REL: usize = 4 + 4;
 
-/// The symbol in an `r_info`: its high 24 bits.
+/// Returns the symbol of an `r_info`: its high 24 bits.
 pub fn r_sym(info: u32) -> u32
     ensures { result ≡ symbol_in class.Little info }
 {
     info >> 8
 }
 
-/// The type in an `r_info`: its low 8 bits.
+/// Returns the type of an `r_info`: its low 8 bits.
 pub fn r_type(info: u32) -> u32
     ensures { result ≡ type_in class.Little info }
 {
     info & 0xff
 }
 
-/// The `r_info` of the low 24 bits of a symbol and the low 8 bits of a type.
+/// Returns the `r_info` of the low 24 bits of a symbol and the low 8 bits of a type.
 pub fn r_info(sym: u32, typ: u32) -> u32
     ensures { result ≡ info_of class.Little sym typ }
 {
@@ -66,7 +66,7 @@ pub fn r_info(sym: u32, typ: u32) -> u32
 }
 
 impl Rela {
-    // The relocation at the start of the bytes.
+    // Reads the relocation at the start of the bytes.
     pub(crate) fn at(bytes: &[u8], order: Endian) -> Rela
         requires { SIZEOF_RELA ≤ length bytes.now }
         ensures { result ≡ rela32_of order bytes.now }
@@ -78,7 +78,7 @@ impl Rela {
         }
     }
 
-    // Puts the relocation at the start of the bytes.
+    // Writes the relocation at the start of the bytes.
     pub(crate) fn put(&self, bytes: &mut [u8], order: Endian)
         requires { SIZEOF_RELA ≤ length bytes.old }
         ensures { bytes.new ≡ rela32_image order self.now ++ drop SIZEOF_RELA bytes.old }
@@ -90,7 +90,7 @@ impl Rela {
 }
 
 impl Rel {
-    // The relocation at the start of the bytes.
+    // Reads the relocation at the start of the bytes.
     pub(crate) fn at(bytes: &[u8], order: Endian) -> Rel
         requires { SIZEOF_REL ≤ length bytes.now }
         ensures { result ≡ rel32_of order bytes.now }
@@ -101,7 +101,7 @@ impl Rel {
         }
     }
 
-    // Puts the relocation at the start of the bytes.
+    // Writes the relocation at the start of the bytes.
     pub(crate) fn put(&self, bytes: &mut [u8], order: Endian)
         requires { SIZEOF_REL ≤ length bytes.old }
         ensures { bytes.new ≡ rel32_image order self.now ++ drop SIZEOF_REL bytes.old }
@@ -126,7 +126,7 @@ impl From<Rela> for Reloc {
     }
 }
 
-/// There is no addend.
+/// The result has no addend.
 impl From<Rel> for Reloc {
     ghost use Rattle.goblin_records.specs.Reloc.{rel_widened32};
 
@@ -142,7 +142,7 @@ impl From<Rel> for Reloc {
     }
 }
 
-/// Of each field the low bits are kept, as many as it has room for. A missing addend is 0.
+/// Keeps the low bits of each field, as many as its width holds. A missing addend becomes 0.
 impl From<Reloc> for Rela {
     ghost use Rattle.goblin_records.specs.Reloc.{rela_as32};
 
@@ -158,7 +158,7 @@ impl From<Reloc> for Rela {
     }
 }
 
-/// Of each field the low bits are kept, as many as it has room for. The addend is dropped.
+/// Keeps the low bits of each field, as many as its width holds. Drops the addend.
 impl From<Reloc> for Rel {
     ghost use Rattle.goblin_records.specs.Reloc.{rel_as32};
 
@@ -180,7 +180,7 @@ impl SizeWith<Endian> for Rela {
     }
 }
 
-/// Refused is only what has no room.
+/// Fails with the fault of `room` if the bytes don't hold the record.
 impl<'a> TryFromCtx<'a, Endian> for Rela {
     ghost try_from_gives = { λ bytes order answer.
         answer ≡ with_size rela32_size (read_within rela32_size (rela32_of order) bytes) };
@@ -191,7 +191,7 @@ impl<'a> TryFromCtx<'a, Endian> for Rela {
     }
 }
 
-/// Refused is only what has no room, and then no byte is written.
+/// Fails with the fault of `room` if the buffer doesn't hold the record, and then writes no byte.
 impl TryIntoCtx<Endian> for Rela {
     ghost try_into_gives = { λ rela order old answer new.
         Writes rela32_size (rela32_image order rela) old answer new };
@@ -231,7 +231,7 @@ impl SizeWith<Endian> for Rel {
     }
 }
 
-/// Refused is only what has no room.
+/// Fails with the fault of `room` if the bytes don't hold the record.
 impl<'a> TryFromCtx<'a, Endian> for Rel {
     ghost try_from_gives = { λ bytes order answer.
         answer ≡ with_size rel32_size (read_within rel32_size (rel32_of order) bytes) };
@@ -242,7 +242,7 @@ impl<'a> TryFromCtx<'a, Endian> for Rel {
     }
 }
 
-/// Refused is only what has no room, and then no byte is written.
+/// Fails with the fault of `room` if the buffer doesn't hold the record, and then writes no byte.
 impl TryIntoCtx<Endian> for Rel {
     ghost try_into_gives = { λ rel order old answer new.
         Writes rel32_size (rel32_image order rel) old answer new };
@@ -274,8 +274,9 @@ impl Record<Endian> for Rel {
     ghost laws = { λ order. obeys (rel32_laws order) };
 }
 
-/// Laws: how many bytes relocations take, and which they are; that the default ones are those of
-/// zeros; that an `r_info` is joined again from its parts.
+/// Laws of relocations: the sizes, and that an image is the only list of bytes that is read as the
+/// relocation; all fields of the default ones are 0; an `r_info` is the one of its symbol and its
+/// type.
 pub fn laws()
     ensures sizes { (SIZEOF_RELA ≡ rela32_size) × (SIZEOF_REL ≡ rel32_size) }
     ensures rela_image { (order : Endian) →

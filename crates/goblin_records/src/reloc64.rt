@@ -20,45 +20,45 @@ use goblin_base::scroll::{SizeWith, TryFromCtx, TryIntoCtx};
 /// A relocation with an addend, of the 64-bit class.
 #[derive(Clone, Copy, Debug, Default, PartialEq)]
 pub struct Rela {
-    /// Where the relocation applies: an offset in bytes from the section's start in a relocatable
-    /// file, and else an address.
+    /// Where the relocation applies: the offset from the section's start in bytes in a relocatable
+    /// file, the address in any other file.
     pub r_offset: u64,
-    /// The symbol in the high 32 bits, and the type in the low 32.
+    /// The symbol in the high 32 bits and the type in the low 32.
     pub r_info: u64,
-    /// What is added to the value that is stored.
+    /// The addend.
     pub r_addend: i64,
 }
 
 /// A relocation without an addend, of the 64-bit class.
 #[derive(Clone, Debug, Default, Drop, PartialEq)]
 pub struct Rel {
-    /// Where the relocation applies: an offset in bytes from the section's start in a relocatable
-    /// file, and else an address.
+    /// Where the relocation applies: the offset from the section's start in bytes in a relocatable
+    /// file, the address in any other file.
     pub r_offset: u64,
-    /// The symbol in the high 32 bits, and the type in the low 32.
+    /// The symbol in the high 32 bits and the type in the low 32.
     pub r_info: u64,
 }
 
-/// How many bytes a relocation with an addend takes.
+/// The size of a relocation with an addend, in bytes.
 pub const SIZEOF_RELA: usize = 8 + 8 + 8;
-/// How many bytes a relocation without an addend takes.
+/// The size of a relocation without an addend, in bytes.
 pub const SIZEOF_REL: usize = 8 + 8;
 
-/// The symbol in an `r_info`: its high 32 bits.
+/// Returns the symbol of an `r_info`: its high 32 bits.
 pub fn r_sym(info: u64) -> u32
     ensures { result ≡ symbol_in class.Big info }
 {
     (info >> 32) as u32
 }
 
-/// The type in an `r_info`: its low 32 bits.
+/// Returns the type of an `r_info`: its low 32 bits.
 pub fn r_type(info: u64) -> u32
     ensures { result ≡ type_in class.Big info }
 {
     (info & 0xffff_ffff) as u32
 }
 
-/// The `r_info` of the low 32 bits of a symbol and of a type, which must be below 2 to the 32nd.
+/// Returns the `r_info` of the low 32 bits of a symbol and of a type. The type must be below 2^32.
 pub fn r_info(sym: u64, typ: u64) -> u64
     requires { typ < 2 ^ 32 }
     ensures { result ≡ info_of class.Big sym typ }
@@ -66,15 +66,15 @@ pub fn r_info(sym: u64, typ: u64) -> u64
     (sym << 32) + typ
 }
 
-/// The standard `r_info` of one that was read from a MIPS64 file of little order: its low word is the
-/// symbol, and its high word has the four bytes of the type in the other order.
+/// Returns the standard `r_info` of one that was read from a little-endian MIPS64 file. The low
+/// word of such an `r_info` is the symbol; its high word is the type with its four bytes reversed.
 pub fn mips64el_r_info(info: u64) -> u64
     ensures { result ≡ mips64el_info info }
 {
     r_info(r_type(info) as u64, r_sym(info).swap_bytes() as u64)
 }
 
-/// The `r_info` that a MIPS64 file of little order has for a standard one.
+/// Returns the `r_info` that a little-endian MIPS64 file stores for a standard one.
 pub fn mips64el_r_info_inverse(info: u64) -> u64
     ensures { result ≡ mips64el_info_inverse info }
 {
@@ -82,7 +82,7 @@ pub fn mips64el_r_info_inverse(info: u64) -> u64
 }
 
 impl Rela {
-    // The relocation at the start of the bytes.
+    // Reads the relocation at the start of the bytes.
     pub(crate) fn at(bytes: &[u8], order: Endian) -> Rela
         requires { SIZEOF_RELA ≤ length bytes.now }
         ensures { result ≡ rela64_of order bytes.now }
@@ -94,7 +94,7 @@ impl Rela {
         }
     }
 
-    // Puts the relocation at the start of the bytes.
+    // Writes the relocation at the start of the bytes.
     pub(crate) fn put(&self, bytes: &mut [u8], order: Endian)
         requires { SIZEOF_RELA ≤ length bytes.old }
         ensures { bytes.new ≡ rela64_image order self.now ++ drop SIZEOF_RELA bytes.old }
@@ -106,7 +106,7 @@ impl Rela {
 }
 
 impl Rel {
-    // The relocation at the start of the bytes.
+    // Reads the relocation at the start of the bytes.
     pub(crate) fn at(bytes: &[u8], order: Endian) -> Rel
         requires { SIZEOF_REL ≤ length bytes.now }
         ensures { result ≡ rel64_of order bytes.now }
@@ -117,7 +117,7 @@ impl Rel {
         }
     }
 
-    // Puts the relocation at the start of the bytes.
+    // Writes the relocation at the start of the bytes.
     pub(crate) fn put(&self, bytes: &mut [u8], order: Endian)
         requires { SIZEOF_REL ≤ length bytes.old }
         ensures { bytes.new ≡ rel64_image order self.now ++ drop SIZEOF_REL bytes.old }
@@ -142,7 +142,7 @@ impl From<Rela> for Reloc {
     }
 }
 
-/// There is no addend.
+/// The result has no addend.
 impl From<Rel> for Reloc {
     ghost use Rattle.goblin_records.specs.Reloc.{rel_widened64};
 
@@ -158,7 +158,7 @@ impl From<Rel> for Reloc {
     }
 }
 
-/// Of each field the low bits are kept, as many as it has room for. A missing addend is 0.
+/// Keeps the low bits of each field, as many as its width holds. A missing addend becomes 0.
 impl From<Reloc> for Rela {
     ghost use Rattle.goblin_records.specs.Reloc.{rela_as64};
 
@@ -173,7 +173,7 @@ impl From<Reloc> for Rela {
     }
 }
 
-/// Of each field the low bits are kept, as many as it has room for. The addend is dropped.
+/// Keeps the low bits of each field, as many as its width holds. Drops the addend.
 impl From<Reloc> for Rel {
     ghost use Rattle.goblin_records.specs.Reloc.{rel_as64};
 
@@ -195,7 +195,7 @@ impl SizeWith<Endian> for Rela {
     }
 }
 
-/// Refused is only what has no room.
+/// Fails with the fault of `room` if the bytes don't hold the record.
 impl<'a> TryFromCtx<'a, Endian> for Rela {
     ghost try_from_gives = { λ bytes order answer.
         answer ≡ with_size rela64_size (read_within rela64_size (rela64_of order) bytes) };
@@ -206,7 +206,7 @@ impl<'a> TryFromCtx<'a, Endian> for Rela {
     }
 }
 
-/// Refused is only what has no room, and then no byte is written.
+/// Fails with the fault of `room` if the buffer doesn't hold the record, and then writes no byte.
 impl TryIntoCtx<Endian> for Rela {
     ghost try_into_gives = { λ rela order old answer new.
         Writes rela64_size (rela64_image order rela) old answer new };
@@ -246,7 +246,7 @@ impl SizeWith<Endian> for Rel {
     }
 }
 
-/// Refused is only what has no room.
+/// Fails with the fault of `room` if the bytes don't hold the record.
 impl<'a> TryFromCtx<'a, Endian> for Rel {
     ghost try_from_gives = { λ bytes order answer.
         answer ≡ with_size rel64_size (read_within rel64_size (rel64_of order) bytes) };
@@ -257,7 +257,7 @@ impl<'a> TryFromCtx<'a, Endian> for Rel {
     }
 }
 
-/// Refused is only what has no room, and then no byte is written.
+/// Fails with the fault of `room` if the buffer doesn't hold the record, and then writes no byte.
 impl TryIntoCtx<Endian> for Rel {
     ghost try_into_gives = { λ rel order old answer new.
         Writes rel64_size (rel64_image order rel) old answer new };
@@ -289,9 +289,9 @@ impl Record<Endian> for Rel {
     ghost laws = { λ order. obeys (rel64_laws order) };
 }
 
-/// Laws: how many bytes relocations take, and which they are; that the default ones are those of
-/// zeros; that an `r_info` is joined again from its parts; that the `r_info` of MIPS64 files can be
-/// had back.
+/// Laws of relocations: the sizes, and that an image is the only list of bytes that is read as the
+/// relocation; all fields of the default ones are 0; an `r_info` is the one of its symbol and its
+/// type; `mips64el_r_info` and `mips64el_r_info_inverse` undo each other.
 pub fn laws()
     ensures sizes { (SIZEOF_RELA ≡ rela64_size) × (SIZEOF_REL ≡ rel64_size) }
     ensures rela_image { (order : Endian) →

@@ -23,22 +23,22 @@ use std::alloc::Global;
 /// A symbol of either class.
 #[derive(Clone, Copy, Debug, Default, PartialEq)]
 pub struct Sym {
-    /// Where the name lies in the string table, in bytes; 0 for none.
+    /// The offset of the name in the string table, in bytes; 0 if there is none.
     pub st_name: usize,
-    /// The binding in the high four bits, and the type in the low four.
+    /// The binding in the high four bits and the type in the low four.
     pub st_info: u8,
     /// The visibility in the low three bits.
     pub st_other: u8,
-    /// The index of the section that the symbol belongs to, or a special index.
+    /// The index of the symbol's section, or a special index.
     pub st_shndx: usize,
-    /// The value, which is an address for most symbols.
+    /// The value, an address for most symbols.
     pub st_value: u64,
-    /// How many bytes the symbol stands for; 0 for none or an unknown number.
+    /// The size of the symbol in bytes; 0 if it has none or an unknown one.
     pub st_size: u64,
 }
 
 impl Sym {
-    /// How many bytes a symbol of a class takes: 16 or 24.
+    /// Returns the size of a symbol of a class: 16 or 24 bytes.
     pub fn size(container: Container) -> usize
         ensures { result ≡ sym_size container }
     {
@@ -48,7 +48,8 @@ impl Sym {
         }
     }
 
-    /// Whether the symbol is imported: its binding is `STB_GLOBAL` or `STB_WEAK`, and its value 0.
+    /// Reports whether the symbol is imported: its binding is `STB_GLOBAL` or `STB_WEAK`, and its
+    /// value is 0.
     pub fn is_import(&self) -> bool
         ensures { IsTrue result ↔ IsImport self.now.st_info self.now.st_value }
     {
@@ -56,39 +57,42 @@ impl Sym {
         (bind == STB_GLOBAL || bind == STB_WEAK) && self.st_value == 0
     }
 
-    /// Whether the symbol is a function: its type is `STT_FUNC`.
+    /// Reports whether the symbol is a function: its type is `STT_FUNC`.
     pub fn is_function(&self) -> bool
         ensures { IsTrue result ↔ (type_of self.now.st_info ≡ STT_FUNC) }
     {
         st_type(self.st_info) == STT_FUNC
     }
 
-    /// The binding: the high four bits of `st_info`.
+    /// Returns the binding: the high four bits of `st_info`.
     pub fn st_bind(&self) -> u8
         ensures { result ≡ bind_of self.now.st_info }
     {
         st_bind(self.st_info)
     }
 
-    /// The type: the low four bits of `st_info`.
+    /// Returns the type: the low four bits of `st_info`.
     pub fn st_type(&self) -> u8
         ensures { result ≡ type_of self.now.st_info }
     {
         st_type(self.st_info)
     }
 
-    /// The visibility: the low three bits of `st_other`.
+    /// Returns the visibility: the low three bits of `st_other`.
     pub fn st_visibility(&self) -> u8
         ensures { result ≡ visibility_of self.now.st_other }
     {
         st_visibility(self.st_other)
     }
 
-    /// The `count` symbols that lie one after another from an offset on, as a vector.
+    /// Reads the `count` symbols from an offset on, as a vector. If `count` is 0 the vector is
+    /// empty, whatever the offset, and nothing is allocated.
     ///
-    /// More symbols than the bytes could hold anywhere are a `BufferTooShort`, which want of memory
-    /// never hides. Else memory is taken for all of them at once, and the first symbol without room
-    /// gives its fault. Where `count` is 0 the list is empty, whatever the offset and the memory.
+    /// # Errors
+    ///
+    /// `BufferTooShort` if `count` symbols don't fit into the bytes at any offset. This is tested
+    /// before the allocation, so out-of-memory never masks it. Then memory for all symbols is
+    /// allocated at once. Then the fault of the first symbol that the bytes don't hold.
     pub fn parse(
         alloc: Global,
         bytes: &[u8],
@@ -105,7 +109,7 @@ impl Sym {
         read_all(alloc, bytes, offset, count, ctx, "symbols")
     }
 
-    // Puts the symbol at the start of the bytes.
+    // Writes the symbol at the start of the bytes.
     fn put(self, bytes: &mut [u8], ctx: Ctx)
         requires { sym_size ctx.container ≤ length bytes.old }
         ensures { let image = sym_image ctx.container ctx.le self in
@@ -126,7 +130,7 @@ impl SizeWith<Ctx> for Sym {
     }
 }
 
-/// Refused is only what has no room.
+/// Fails with the fault of `room` if the bytes don't hold the record.
 impl<'a> TryFromCtx<'a, Ctx> for Sym {
     ghost try_from_gives = { λ bytes ctx answer.
         let size = sym_size ctx.container in
@@ -138,7 +142,7 @@ impl<'a> TryFromCtx<'a, Ctx> for Sym {
     }
 }
 
-/// Refused is only what has no room, and then no byte is written.
+/// Fails with the fault of `room` if the buffer doesn't hold the record, and then writes no byte.
 impl TryIntoCtx<Ctx> for Sym {
     ghost try_into_gives = { λ sym ctx old answer new.
         Writes (sym_size ctx.container) (sym_image ctx.container ctx.le sym) old answer new };
@@ -152,7 +156,7 @@ impl TryIntoCtx<Ctx> for Sym {
     }
 }
 
-/// The buffer must have room for a symbol.
+/// The buffer must hold a symbol.
 impl IntoCtx<Ctx> for Sym {
     ghost can_into = { λ _ ctx old. sym_size ctx.container ≤ length old };
 
@@ -185,44 +189,45 @@ impl Record<Ctx> for Sym {
     ghost laws = { λ ctx. obeys (sym_laws ctx.container ctx.le) };
 }
 
-/// The binding: the high four bits of `st_info`.
+/// Returns the binding: the high four bits of `st_info`.
 pub fn st_bind(info: u8) -> u8
     ensures { result ≡ bind_of info }
 {
     info >> 4
 }
 
-/// The type: the low four bits of `st_info`.
+/// Returns the type: the low four bits of `st_info`.
 pub fn st_type(info: u8) -> u8
     ensures { result ≡ type_of info }
 {
     info & 0xf
 }
 
-/// The visibility: the low three bits of `st_other`.
+/// Returns the visibility: the low three bits of `st_other`.
 pub fn st_visibility(other: u8) -> u8
     ensures { result ≡ visibility_of other }
 {
     other & 0x7
 }
 
-/// Whether a symbol with this `st_info` and value is global and has no value. Weak symbols are not
-/// counted here, but by the methods of the same name.
+/// Reports whether a symbol with this `st_info` and value is global and its value is 0. It is false
+/// for weak symbols, unlike the methods of the same name.
 pub fn is_import(info: u8, value: u64) -> bool
     ensures { IsTrue result ↔ IsGlobalImport info value }
 {
     st_bind(info) == STB_GLOBAL && value == 0
 }
 
-/// The name of the type in an `st_info`, as by `type_to_str`.
+/// Returns the name of the type of an `st_info`, as `type_to_str` does.
 pub fn get_type(info: u8) -> &'static str
     ensures { result.now ≡ type_name (type_of info) }
 {
     type_to_str(st_type(info))
 }
 
-/// Laws: which bytes a symbol is written as, that classes and byte orders keep lists of symbols the
-/// same, and that the default symbol is that of zeros.
+/// Laws of symbols: the image is the only list of bytes that is read as the symbol, and a list of
+/// symbols that fit both classes is read back the same in each class and byte order. All fields of
+/// the default symbol are 0.
 pub fn laws()
     ensures image { (class : Container) (order : Endian) →
         IsOneImage (sym_size class) (sym_of class order) (sym_image class order) (sym_low class) }
@@ -230,7 +235,7 @@ pub fn laws()
     ensures zeros { (sym : Sym) → ⟦<Sym as Default>⟧.is_default sym → sym ≡ sym_zero }
 {}
 
-// The constants of symbols, and their names.
+// The constants of symbols and their names.
 pub use crate::constants_sym::{
     STB_GLOBAL, STB_GNU_UNIQUE, STB_HIOS, STB_HIPROC, STB_LOCAL, STB_LOOS, STB_LOPROC, STB_NUM,
     STB_WEAK, STT_COMMON, STT_FILE, STT_FUNC, STT_GNU_IFUNC, STT_HIOS, STT_HIPROC, STT_LOOS,
@@ -239,7 +244,7 @@ pub use crate::constants_sym::{
     visibility_to_str,
 };
 
-// What number each constant is.
+// The number of each constant.
 mod constants_law;
 
 pub use constants_law::constants;

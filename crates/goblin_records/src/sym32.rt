@@ -20,25 +20,26 @@ use goblin_base::scroll::{SizeWith, TryFromCtx, TryIntoCtx};
 /// A symbol of the 32-bit class.
 #[derive(Clone, Copy, Debug, Default, PartialEq)]
 pub struct Sym {
-    /// Where the name lies in the string table, in bytes; 0 for none.
+    /// The offset of the name in the string table, in bytes; 0 if there is none.
     pub st_name: u32,
-    /// The value, which is an address for most symbols.
+    /// The value, an address for most symbols.
     pub st_value: u32,
-    /// How many bytes the symbol stands for; 0 for none or an unknown number.
+    /// The size of the symbol in bytes; 0 if it has none or an unknown one.
     pub st_size: u32,
-    /// The binding in the high four bits, and the type in the low four.
+    /// The binding in the high four bits and the type in the low four.
     pub st_info: u8,
     /// The visibility in the low three bits.
     pub st_other: u8,
-    /// The index of the section that the symbol belongs to, or a special index.
+    /// The index of the symbol's section, or a special index.
     pub st_shndx: u16,
 }
 
-/// How many bytes a symbol takes.
+/// The size of a symbol in bytes.
 pub const SIZEOF_SYM: usize = 4 + 4 + 4 + 1 + 1 + 2;
 
 impl Sym {
-    /// Whether the symbol is imported: its binding is `STB_GLOBAL` or `STB_WEAK`, and its value 0.
+    /// Reports whether the symbol is imported: its binding is `STB_GLOBAL` or `STB_WEAK`, and its
+    /// value is 0.
     pub fn is_import(&self) -> bool
         ensures { IsTrue result ↔ IsImport self.now.st_info self.now.st_value }
     {
@@ -46,14 +47,14 @@ impl Sym {
         (bind == STB_GLOBAL || bind == STB_WEAK) && self.st_value == 0
     }
 
-    /// Whether the symbol is a function: its type is `STT_FUNC`.
+    /// Reports whether the symbol is a function: its type is `STT_FUNC`.
     pub fn is_function(&self) -> bool
         ensures { IsTrue result ↔ (type_of self.now.st_info ≡ STT_FUNC) }
     {
         st_type(self.st_info) == STT_FUNC
     }
 
-    // The symbol at the start of the bytes.
+    // Reads the symbol at the start of the bytes.
     pub(crate) fn at(bytes: &[u8], order: Endian) -> Sym
         requires { SIZEOF_SYM ≤ length bytes.now }
         ensures { result ≡ sym32_of order bytes.now }
@@ -68,7 +69,7 @@ impl Sym {
         }
     }
 
-    // Puts the symbol at the start of the bytes.
+    // Writes the symbol at the start of the bytes.
     pub(crate) fn put(&self, bytes: &mut [u8], order: Endian)
         requires { SIZEOF_SYM ≤ length bytes.old }
         ensures { bytes.new ≡ sym32_image order self.now ++ drop SIZEOF_SYM bytes.old }
@@ -99,7 +100,7 @@ impl From<Sym> for ElfSym {
     }
 }
 
-/// Of each field the low bits are kept, as many as it has room for.
+/// Keeps the low bits of each field, as many as its width holds.
 impl From<ElfSym> for Sym {
     ghost use Rattle.goblin_records.specs.Sym.{as32};
 
@@ -125,7 +126,7 @@ impl SizeWith<Endian> for Sym {
     }
 }
 
-/// Refused is only what has no room.
+/// Fails with the fault of `room` if the bytes don't hold the record.
 impl<'a> TryFromCtx<'a, Endian> for Sym {
     ghost try_from_gives = { λ bytes order answer.
         answer ≡ with_size sym32_size (read_within sym32_size (sym32_of order) bytes) };
@@ -136,7 +137,7 @@ impl<'a> TryFromCtx<'a, Endian> for Sym {
     }
 }
 
-/// Refused is only what has no room, and then no byte is written.
+/// Fails with the fault of `room` if the buffer doesn't hold the record, and then writes no byte.
 impl TryIntoCtx<Endian> for Sym {
     ghost try_into_gives = { λ sym order old answer new.
         Writes sym32_size (sym32_image order sym) old answer new };
@@ -168,14 +169,15 @@ impl Record<Endian> for Sym {
     ghost laws = { λ order. obeys (sym32_laws order) };
 }
 
-/// Laws: which bytes a symbol is written as, and that the default symbol is that of zeros.
+/// Laws of symbols: the image is the only list of bytes that is read as the symbol. All fields of
+/// the default symbol are 0.
 pub fn laws()
     ensures image { (order : Endian) →
         IsOneImage sym32_size (sym32_of order) (sym32_image order) sym32_low }
     ensures zeros { (sym : Sym) → ⟦<Sym as Default>⟧.is_default sym → sym ≡ sym32_zero }
 {}
 
-// The constants of symbols, and their names.
+// The constants of symbols and their names.
 pub use crate::constants_sym::{
     STB_GLOBAL, STB_GNU_UNIQUE, STB_HIOS, STB_HIPROC, STB_LOCAL, STB_LOOS, STB_LOPROC, STB_NUM,
     STB_WEAK, STT_COMMON, STT_FILE, STT_FUNC, STT_GNU_IFUNC, STT_HIOS, STT_HIPROC, STT_LOOS,
@@ -184,10 +186,10 @@ pub use crate::constants_sym::{
     visibility_to_str,
 };
 
-// What the bytes of symbols tell.
+// The parts of `st_info` and `st_other`.
 pub use crate::sym::{get_type, is_import, st_bind, st_type, st_visibility};
 
-// What number each constant is.
+// The number of each constant.
 mod constants_law;
 
 pub use constants_law::constants;

@@ -1,10 +1,10 @@
-//! What number each constant of symbols is, under the name that it has in `sym`.
+//! The numbers of the constants of symbols, under their names in `sym`.
 ghost use Rattle.std.specs.Prelude.{◌≡◌, [], ◌∷◌};
 ghost use Rattle.goblin_records.specs.Constants.{bind_numbers, type_numbers, visibility_numbers};
 
 use super::*;
 
-/// Laws: the numbers of the constants that this module passes on, under the names that they have
+/// Laws: the numbers of the constants that this module re-exports, under the names that they have
 /// here. A call does nothing.
 pub fn constants()
     ensures bindings { STB_LOCAL ∷ STB_GLOBAL ∷ STB_WEAK ∷ STB_NUM ∷ STB_LOOS ∷ STB_GNU_UNIQUE

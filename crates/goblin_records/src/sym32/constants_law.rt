@@ -1,12 +1,12 @@
-//! What number each constant of symbols is, under the name that it has in `sym32`.
+//! The numbers of the constants of symbols, under their names in `sym32`.
 ghost use Rattle.std.specs.Prelude.{◌≡◌, [], ◌∷◌};
 ghost use Rattle.goblin_records.specs.Constants.{bind_numbers, type_numbers, visibility_numbers};
 ghost use Rattle.goblin_records.specs.Sym32.{sym32_size};
 
 use super::*;
 
-/// Laws: the numbers of this module's own constants, and those of the constants that it passes on,
-/// under the names that they have here. A call does nothing.
+/// Laws: the numbers of this module's own constants and of those that it re-exports, under the
+/// names that they have here. A call does nothing.
 pub fn constants()
     ensures size { SIZEOF_SYM ≡ sym32_size }
     ensures bindings { STB_LOCAL ∷ STB_GLOBAL ∷ STB_WEAK ∷ STB_NUM ∷ STB_LOOS ∷ STB_GNU_UNIQUE
