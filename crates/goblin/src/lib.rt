@@ -1,7 +1,7 @@
 //! The ELF layer of `goblin`, under its module paths.
 //!
-//! In all its crates a function whose doc begins with "A law" or "Laws" says in its clauses what holds of several calls:
-//! a call of it does nothing, or answers the value that the law is about.
+//! A function whose doc begins with "A law" or "Laws" states in its clauses what holds of several
+//! calls. A call of it does nothing, or returns the value that the law is about.
 #![tactic(auto)]
 
 pub mod elf;

@@ -19,7 +19,7 @@ pub use goblin_records::note::{
     NT_GNU_PROPERTY_TYPE_0, NT_PRPSINFO, NT_PRSTATUS, NT_SIGINFO, Nhdr32, Nhdr64,
 };
 
-/// The notes of a range, one after another, and then `None`.
+/// An iterator over the notes of a range of bytes.
 ///
 /// <!-- quoted: crates/goblin_uses/src/notes.rt -->
 /// ```
@@ -29,21 +29,21 @@ pub use goblin_records::note::{
 /// ```
 #[derive(Debug, Drop)]
 pub struct NoteDataIterator<'a> {
-    /// The bytes that the notes lie in.
+    /// The bytes that hold the notes.
     pub bytes: &'a [u8],
-    /// The offset at which the range ends: no note begins there or behind it, though one may reach
-    /// behind it.
+    /// The offset of the range's end. No note begins there or after it, but a note may end after
+    /// it.
     pub size: usize,
     /// The offset of the next note.
     pub offset: usize,
-    /// The alignment, and the context of the file.
+    /// The alignment of notes, and the file's class and byte order.
     pub ctx: (usize, Ctx),
 }
 
 impl<'a> NoteDataIterator<'a> {
     ghost use Rattle.goblin.specs.Notes.{after_next, item_of, items_left, most_left};
 
-    // What `next` answers, and where the fields are then.
+    // Returns what `next` returns, and moves the fields as it does.
     fn advance(&mut self) -> Option<Result<Note<'a>>>
         ensures steps { YieldsFirstBy item_of items_left self.old result self.new }
         ensures goes { MakesProgress (λ _. ⊤) (λ it. at_most (most_left it)) self.old result self.new }
@@ -65,10 +65,12 @@ impl<'a> NoteDataIterator<'a> {
     }
 }
 
-/// Each item is a note, or why there is none. Where the offset lies before `size`, it is a `BadOffset`
-/// at the end of the bytes or behind it, and else what reading a note there answers, whose places
-/// count from there. A note moves the offset behind it, and an error to `size`, so that it is the last
-/// item. No other field moves, and no item needs memory.
+/// Each item is the note at the offset, or the error of reading it. An offset at the end of the
+/// bytes or past it, but before `size`, is a `BadOffset`. Other errors are those of reading a note,
+/// with offsets relative to the note's start.
+///
+/// A note moves the offset to its end. An error moves it to `size`, so that it is the last item. No
+/// other field moves, and no item allocates.
 impl<'a> Iterator for NoteDataIterator<'a> {
     ghost use Rattle.goblin.specs.Notes.{TakesNote, item_of, items_left, most_left};
 
@@ -85,7 +87,7 @@ impl<'a> Iterator for NoteDataIterator<'a> {
     fn size_hint(&self) -> (usize, Option<usize>)
         ensures lower { IsWithinCount result.0 (at_most (most_left self.now)) }
         ensures upper { IfSome result.1 (UpTo (at_most (most_left self.now))) }
-        // One item is left at least, before the end, and no more than headers begin before it.
+        // Before the end at least one item is left, and at most as many as headers fit before it.
         ensures exact { let most = most_left self.now in result ≡ (min 1 most, Some most) }
         ensures least { result.0 ≤ length (items_left self.now) }
         ensures most { IfSome result.1 (λ most. length (items_left self.now) ≤ most) }
@@ -96,12 +98,12 @@ impl<'a> Iterator for NoteDataIterator<'a> {
     }
 }
 
-/// The notes of several ranges, one range after another, and then `None`.
+/// An iterator over the notes of several ranges of bytes, one range after another.
 #[derive(Debug, Drop)]
 pub struct NoteIterator<'a> {
     /// The ranges.
     pub iters: Vec<NoteDataIterator<'a>>,
-    /// The index of the range that the next note is looked for in.
+    /// The index of the range to read the next note from.
     pub index: usize,
 }
 
@@ -109,13 +111,13 @@ impl<'a> NoteIterator<'a> {
     ghost use Rattle.goblin.specs.Notes.{after_next_of_first, all_items_left, index_of_next};
     ghost use Rattle.goblin.specs.Notes.{item_of, most_left_in};
 
-    // What `next` answers, and where the fields are then.
+    // Returns what `next` returns, and moves the fields as it does.
     fn advance(&mut self) -> Option<Result<Note<'a>>>
         ensures steps { YieldsFirstBy item_of all_items_left self.old result self.new }
         ensures goes { MakesProgress (λ _. ⊤)
             (λ it. at_most (most_left_in (drop it.index it.iters.items))) self.old result self.new }
         ensures index { self.new.index ≡ index_of_next self.old }
-        // Of the ranges only the one that gave the item has moved.
+        // Only the range that the item came from has moved.
         ensures ranges { let at = index_of_next self.old in
             let old = self.old.iters.items in
             self.new.iters.items ≡ take at old ++ after_next_of_first (drop at old) }
@@ -131,9 +133,9 @@ impl<'a> NoteIterator<'a> {
     }
 }
 
-/// The items of the ranges from the index on, one range after another. The index moves to the range
-/// that gives the item, or to the end of the ranges where none has an item left. Of the ranges only
-/// that one moves, and no item needs memory.
+/// Returns the items of the ranges from the index on, one range after another. The index moves to
+/// the range that the item comes from, or to the end of the ranges if no item is left. No other
+/// range moves, and no item allocates.
 impl<'a> Iterator for NoteIterator<'a> {
     ghost use Rattle.goblin.specs.Notes.{TakesNoteOfRanges, most_left_in};
 
@@ -148,20 +150,20 @@ impl<'a> Iterator for NoteIterator<'a> {
     }
 }
 
-/// The places of a note: where its parts lie in bytes, counted from the note's start.
+/// The offsets and sizes of a note's parts in bytes. Offsets count from the note's start.
 #[derive(Clone, Copy, Debug, PartialEq)]
 pub struct NotePlaces {
     /// The type, whose meaning depends on the name.
     pub n_type: u32,
-    /// Where the name begins.
+    /// The offset of the name.
     pub name: usize,
-    /// How many bytes the name has, without the zero byte that closes it.
+    /// The size of the name, without its closing zero byte.
     pub name_size: usize,
-    /// Where the descriptor begins.
+    /// The offset of the descriptor.
     pub desc: usize,
-    /// How many bytes the descriptor has.
+    /// The size of the descriptor.
     pub desc_size: usize,
-    /// Where the next note begins, which may lie behind the bytes.
+    /// The offset of the next note, which may be past the end of the bytes.
     pub next: usize,
 }
 
@@ -170,9 +172,9 @@ pub struct NotePlaces {
 pub struct Note<'a> {
     /// The type, whose meaning depends on the name.
     pub n_type: u32,
-    /// The name, without the zero byte that closes it.
+    /// The name, without its closing zero byte.
     pub name: &'a str,
-    /// The descriptor: bytes whose meaning depends on name and type.
+    /// The descriptor, whose meaning depends on name and type.
     pub desc: &'a [u8],
 }
 
@@ -180,8 +182,12 @@ impl<'a> Note<'a> {
     ghost use Rattle.goblin.specs.Note.{note_there, parts_of, places_at, read_places};
     ghost use Rattle.goblin.specs.Notes.{LieWithin};
 
-    /// The note at an offset of some bytes, and where its parts lie. The offset must lie before the
-    /// bytes' end, or it is a `BadOffset`; then a note is read from it on, and refused as that is.
+    /// Reads the note at an offset, and returns it with the offsets of its parts.
+    ///
+    /// # Errors
+    ///
+    /// `BadOffset` if the offset is at the end of the bytes or past it, else the errors of reading
+    /// a note from the offset on.
     pub fn at(bytes: &'a [u8], offset: usize, ctx: (usize, Ctx)) -> Result<(Self, NotePlaces)>
         ensures note { Answers (λ found. (parts_of found.0, found.1.next)) result
             (note_at bytes.now offset ctx) }
@@ -194,7 +200,7 @@ impl<'a> Note<'a> {
         Note::with_places(&bytes[offset..], ctx)
     }
 
-    // The note at the start of the bytes, and where its parts lie.
+    // Reads the note at the start of the bytes, and returns it with the offsets of its parts.
     #[tactic(auto, unfolding(crate::specs::Note::read_places))]
     fn with_places(bytes: &'a [u8], ctx: (usize, Ctx)) -> Result<(Self, NotePlaces)>
         ensures places { Answers (λ found. found.1) result (read_places ctx.0 ctx.1.le bytes.now) }
@@ -222,7 +228,7 @@ impl<'a> Note<'a> {
         Ok((Note { n_type, name, desc }, places))
     }
 
-    /// The name of the type of the note, as its name gives it a meaning, or `NT_UNKNOWN`.
+    /// Returns the name of the note's type, which depends on the note's name, or `NT_UNKNOWN`.
     #[tactic(auto, unfolding(crate::specs::NoteType::note_type_name))]
     pub fn type_to_str(&self) -> &'static str
         ensures { result.now ≡ note_type_name self.now.name.now self.now.n_type }
@@ -246,7 +252,7 @@ impl<'a> Note<'a> {
     }
 }
 
-// So many bytes from a place on, or the fault of room.
+// Returns `size` bytes from an offset on, or the fault of `room`.
 fn bytes_at(bytes: &[u8], place: usize, size: usize) -> Result<&[u8]>
     ensures given { Answers (λ part. part.now) result (bytes_at bytes.now place size) }
     ensures there { IfOk result (λ part. part.now ≡ take size (drop place bytes.now)) }
@@ -256,7 +262,7 @@ fn bytes_at(bytes: &[u8], place: usize, size: usize) -> Result<&[u8]>
     Ok(&bytes[place..place + size])
 }
 
-// So many bytes of text from a place on, or else why there are none.
+// Returns `size` bytes from an offset on as UTF-8, or the fault of `room`, or `BadInput`.
 fn text_at(bytes: &[u8], place: usize, size: usize) -> Result<&str>
     ensures given { Answers (λ text. text.now) result (text_at bytes.now place size) }
     ensures there { IfOk result (λ text. text.now ≡ take size (drop place bytes.now)) }
@@ -265,10 +271,17 @@ fn text_at(bytes: &[u8], place: usize, size: usize) -> Result<&str>
     read_text(part, bytes.len() - place)
 }
 
-/// An alignment below 4 counts as 4, and any other than 4 and 8 is a `NoteAlign`, before a byte is
-/// read. Then a header without room is refused, a name without room, a name that is no text
-/// (`BadInput`) and a descriptor without room, in this order, with places that count from the note's
-/// start. The number answered is where the next note begins, which may lie behind the bytes.
+/// Reads the note at the start of the bytes. Returns it with the offset of the next note, which may
+/// be past the end of the bytes. An alignment below 4 counts as 4.
+///
+/// # Errors
+///
+/// The first of these that applies, with offsets relative to the note's start:
+///
+/// - `NoteAlign`: the alignment is neither 4 nor 8. No byte is read.
+/// - The fault of `room`: the bytes don't hold the header, or don't hold the name.
+/// - `BadInput`: the name isn't UTF-8.
+/// - The fault of `room`: the bytes don't hold the descriptor.
 impl<'a> TryFromCtx<'a, (usize, Ctx)> for Note<'a> {
     ghost use Rattle.goblin.specs.Note.{note_and_len, read_note};
 
@@ -282,7 +295,7 @@ impl<'a> TryFromCtx<'a, (usize, Ctx)> for Note<'a> {
     }
 }
 
-/// Laws: what the constants of this module stand for.
+/// Laws: the numbers of this module's constants.
 pub fn constants()
     ensures gnu { NT_GNU_ABI_TAG ∷ ELF_NOTE_ABI ∷ NT_GNU_HWCAP ∷ NT_GNU_BUILD_ID ∷
         NT_GNU_GOLD_VERSION ∷ NT_GNU_PROPERTY_TYPE_0 ∷ []
@@ -294,8 +307,8 @@ pub fn constants()
         ≡ 1 ∷ 3 ∷ 0x5349_4749 ∷ 0x4649_4c45 ∷ [] }
 {}
 
-/// Laws: how the items of a range follow one another, where the parts of a note lie, how far it
-/// reaches, and how many items a range has.
+/// Laws of notes: how the items of a range follow one another, where the parts of a note are, where
+/// it ends, and how many items a range has.
 pub fn laws()
     ensures items { NoteByNote }
     ensures places { PlacesLieWithin }

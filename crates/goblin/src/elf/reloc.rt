@@ -11,10 +11,10 @@ pub use goblin_records::reloc::{Reloc, RelocCtx, reloc32, reloc64};
 use std::alloc::Global;
 use std::marker::Model;
 
-/// A section of relocations, which are read from the file's bytes as they are asked for.
+/// A relocation section. Each relocation is read from the file's bytes when it is asked for.
 ///
-/// It takes no memory, and what it gives outlives it. Whoever asks gets each relocation alike: where the
-/// section was parsed so, through the pair of MIPS64 files of little order.
+/// It allocates nothing, and its relocations outlive it. A section that was parsed with
+/// `is_mips64el` decodes symbol and type in every call: `get`, iterators and `to_vec`.
 #[derive(Debug, Drop)]
 pub struct RelocSection<'a> {
     table: Table<'a, Reloc, RelocCtx>,
@@ -31,14 +31,13 @@ impl<'a> Model for RelocSection<'a> {
 }
 
 impl<'a> RelocSection<'a> {
-    /// The relocations, with addends or without, of `filesz` bytes at an offset.
+    /// Parses the relocations in `filesz` bytes from an offset on, with or without addends. There
+    /// are as many as those bytes hold whole; a remainder is not read. A `filesz` of 0 succeeds at
+    /// any offset.
     ///
-    /// A size of 0 succeeds at any offset, and else the section must lie in the bytes: a place past the
-    /// end, or the end itself, is a `BadOffset`, and more bytes than there are from the place on are
-    /// `TooBig`. There are as many relocations as the size holds whole; what remains is not read.
+    /// # Errors
     ///
-    /// The relocations are taken as they stand. [`is_mips64el`] tells of which files they are to go
-    /// through the pair, by [`RelocSection::parse_inner`]. From a program that goes by it:
+    /// Those of [`RelocSection::parse_inner`], which also serves little-endian MIPS64 files:
     ///
     /// <!-- quoted: crates/goblin_uses/src/relocations.rt -->
     /// ```
@@ -63,8 +62,13 @@ impl<'a> RelocSection<'a> {
         Self::parse_inner(bytes, offset, filesz, is_rela, ctx, false)
     }
 
-    /// The same, where `is_mips64el` says so with the symbol and the type of each relocation sent through
-    /// the pair of MIPS64 files of little order, in either class.
+    /// Parses relocations as [`RelocSection::parse`] does. If `is_mips64el` is true, the symbol and
+    /// the type of each are decoded as little-endian MIPS64 files store them, in either class.
+    ///
+    /// # Errors
+    ///
+    /// `BadOffset` if `filesz` isn't 0 and the offset is at the end of the bytes or past it, else
+    /// `TooBig` if fewer than `filesz` bytes follow the offset.
     #[tactic(auto, unfolding(goblin_base::specs::Table::records))]
     pub fn parse_inner(
         bytes: &'a [u8],
@@ -93,14 +97,14 @@ impl<'a> RelocSection<'a> {
         })
     }
 
-    /// The relocation at an index, or `None` from `len()` on.
+    /// Returns the relocation at an index, or `None` past the end.
     pub fn get(&self, index: usize) -> Option<Reloc>
         ensures { result ≡ slice_get self.now index }
     {
         self.table.get(index)
     }
 
-    /// How many relocations there are.
+    /// Returns the number of relocations.
     pub fn len(&self) -> usize
         ensures value { result ≡ length self.now }
         ensures bound { result < usize.MAX }
@@ -108,14 +112,14 @@ impl<'a> RelocSection<'a> {
         self.table.len()
     }
 
-    /// Whether there are none.
+    /// Reports whether there are no relocations.
     pub fn is_empty(&self) -> bool
         ensures { IsTrue result ↔ (self.now ≡ []) }
     {
         self.table.is_empty()
     }
 
-    /// An iterator over the relocations, from the first one on.
+    /// Returns an iterator over the relocations.
     pub fn iter(&self) -> RelocIterator<'a>
         ensures exact { result ≡ self.now }
         ensures bound { length self.now < 2 ^ 64 }
@@ -123,7 +127,8 @@ impl<'a> RelocSection<'a> {
         self.table.iter()
     }
 
-    /// The relocations as a vector. Only want of memory is an error, and an empty section takes none.
+    /// Returns the relocations as a vector. The only error is out of memory. An empty section
+    /// allocates nothing.
     pub fn to_vec(&self, alloc: Global) -> Result<Vec<Reloc>>
         ensures ok { IfOk result (λ v. v.items ≡ self.now) }
         ensures err { IfErr result (λ e. e ≡ Error.Memory alloc_error) }
@@ -133,7 +138,7 @@ impl<'a> RelocSection<'a> {
     }
 }
 
-/// The section of no relocations, without addends and without the pair.
+/// The default is an empty section, without addends and not of MIPS64.
 impl Default for RelocSection<'_> {
     ghost is_default = { λ s. s ≡ [] };
 
@@ -160,19 +165,19 @@ impl<'a, 'b> IntoIterator for &'b RelocSection<'a> {
     }
 }
 
-/// An iterator over the relocations of a section: from the first to the last, and `None` from then on.
+/// An iterator over the relocations of a section, from the first to the last.
 pub type RelocIterator<'a> = TableIter<'a, Reloc, RelocCtx>;
 
-/// Whether a file of this machine, class and byte order is a MIPS64 file of little order, whose
-/// relocations go through the pair.
+/// Reports whether files of this machine, class and byte order are little-endian MIPS64, whose
+/// relocations are stored in a special way.
 pub fn is_mips64el_in(machine: u16, ctx: Ctx) -> bool
     ensures { result ≡ is_mips64el_in machine ctx }
 {
     machine == EM_MIPS && ctx.is_big() && ctx.is_little_endian()
 }
 
-/// Whether a file with this header is one: its machine is `EM_MIPS`, its class byte `ELFCLASS64` and its
-/// data byte `ELFDATA2LSB`.
+/// Reports whether the header is of a little-endian MIPS64 file: its machine is `EM_MIPS`, its
+/// class byte is `ELFCLASS64` and its data byte is `ELFDATA2LSB`.
 pub fn is_mips64el(header: &Header) -> bool
     ensures { result ≡ is_of_mips64el header.now }
 {
@@ -182,8 +187,8 @@ pub fn is_mips64el(header: &Header) -> bool
     }
 }
 
-/// Laws: that a relocation section depends on its own bytes and on how many there are in all, alone, and is
-/// written as them.
+/// Laws: a relocation section depends only on its own bytes and on the file's length, and its
+/// relocations are written as those bytes.
 pub fn laws()
     ensures range { DependsOnItsRange }
     ensures bytes { WritesItsBytes }

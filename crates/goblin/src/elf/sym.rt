@@ -23,9 +23,9 @@ pub use goblin_records::sym::{
 use std::alloc::Global;
 use std::marker::Model;
 
-/// A symbol table, whose symbols are read from the file's bytes as they are asked for.
+/// A symbol table. Each symbol is read from the file's bytes when it is asked for.
 ///
-/// It takes no memory, and what it gives outlives it.
+/// It allocates nothing, and its symbols outlive it.
 #[derive(Debug, Drop)]
 pub struct Symtab<'a> {
     table: Table<'a, Sym, Ctx>,
@@ -43,11 +43,15 @@ impl<'a> Model for Symtab<'a> {
 }
 
 impl<'a> Symtab<'a> {
-    /// The table of `count` symbols that lie one after another from an offset on.
+    /// Parses the table of `count` symbols from an offset on.
     ///
-    /// An offset at the file's end or past it is a `SymtabOffset`, even where `count` is 0. Else a size
-    /// of all symbols that passes `usize` is `TooManySymbols`. Else more bytes than there are from the
-    /// offset on are `SymtabPast`.
+    /// # Errors
+    ///
+    /// The first of these that applies:
+    ///
+    /// - `SymtabOffset`: the offset is at the file's end or past it, even if `count` is 0.
+    /// - `TooManySymbols`: the size of all symbols doesn't fit `usize`.
+    /// - `SymtabPast`: fewer bytes follow the offset than the symbols take.
     ///
     /// <!-- quoted: crates/goblin_uses/src/functions.rt -->
     /// ```
@@ -62,12 +66,15 @@ impl<'a> Symtab<'a> {
         Symtab::parse_with_opts(bytes, offset, count, ctx, &ParseOptions::strict())
     }
 
-    /// The table of `count` symbols, by these options.
+    /// Parses the table of `count` symbols from an offset on, with options.
     ///
-    /// Strict options answer as [`Symtab::parse`] does. Permissive ones give the empty table where the
-    /// offset lies at the file's end or past it, whatever the count, and as many symbols as there are
-    /// bytes for where `count` asks for more. They refuse a size of all symbols that passes `usize`,
-    /// which is `TooManySymbols`, and nothing else.
+    /// Strict options do what [`Symtab::parse`] does. Permissive options return an empty table if
+    /// the offset is at the file's end or past it, and as many symbols as the bytes hold if `count`
+    /// is greater.
+    ///
+    /// # Errors
+    ///
+    /// Strict: those of [`Symtab::parse`]. Permissive: only `TooManySymbols`.
     #[tactic(auto, unfolding(goblin_base::specs::Table::records))]
     pub fn parse_with_opts(
         bytes: &'a [u8],
@@ -108,7 +115,7 @@ impl<'a> Symtab<'a> {
         }
     }
 
-    // The table of so many symbols, which the bytes from the offset on must hold.
+    // Returns the table of `count` symbols, which the bytes from the offset on must hold.
     fn of(bytes: &'a [u8], offset: usize, count: usize, ctx: Ctx) -> Symtab<'a>
         requires start { offset ≤ length bytes.now }
         requires room { count * sym_size ctx.container ≤ length bytes.now - offset }
@@ -121,14 +128,14 @@ impl<'a> Symtab<'a> {
         }
     }
 
-    /// The symbol at an index, or `None` from `len()` on.
+    /// Returns the symbol at an index, or `None` past the end.
     pub fn get(&self, index: usize) -> Option<Sym>
         ensures { result ≡ slice_get self.now.symbols index }
     {
         self.table.get(index)
     }
 
-    /// How many symbols there are.
+    /// Returns the number of symbols.
     pub fn len(&self) -> usize
         ensures value { result ≡ length self.now.symbols }
         ensures bound { result < usize.MAX }
@@ -136,28 +143,28 @@ impl<'a> Symtab<'a> {
         self.table.len()
     }
 
-    /// Where the table starts, in bytes from the file's start.
+    /// Returns the file offset of the table in bytes.
     pub fn offset(&self) -> usize
         ensures { result ≡ self.now.offset }
     {
         self.offset
     }
 
-    /// The class and the byte order of the symbols.
+    /// Returns the class and the byte order of the symbols.
     pub fn ctx(&self) -> &Ctx
         ensures { result.now ≡ self.now.ctx }
     {
         &self.ctx
     }
 
-    /// Whether there are no symbols.
+    /// Reports whether there are no symbols.
     pub fn is_empty(&self) -> bool
         ensures { IsTrue result ↔ (self.now.symbols ≡ []) }
     {
         self.table.is_empty()
     }
 
-    /// An iterator over the symbols, from the first one on.
+    /// Returns an iterator over the symbols.
     pub fn iter(&self) -> SymIterator<'a>
         ensures exact { result ≡ self.now.symbols }
         ensures bound { length self.now.symbols < 2 ^ 64 }
@@ -165,11 +172,11 @@ impl<'a> Symtab<'a> {
         self.table.iter()
     }
 
-    /// The index of the first symbol with this name, given as its bytes, or `None` where no symbol has it.
+    /// Returns the index of the first symbol with this name, or `None` if there is none.
     ///
-    /// The names are read plainly from the table's string table, as [`Strtab::get`] does: a symbol whose
-    /// name lies past it, or is no text, has none. For each symbol as many bytes as the name has, and one,
-    /// are read at most.
+    /// Names are read from the table's string table as [`Strtab::get`] reads them: a symbol whose
+    /// name is past the table's end or isn't UTF-8 has no name. At most `name.len() + 1` bytes are
+    /// read for each symbol.
     pub fn find(&self, names: &Strtab<'_>, name: &[u8]) -> Option<usize>
         ensures { result
             ≡ position (λ symbol. has_name names.now symbol.st_name name.now) self.now.symbols }
@@ -178,7 +185,8 @@ impl<'a> Symtab<'a> {
         self.iter().position(|symbol| wanted.is_at(symbol.st_name))
     }
 
-    /// The same, where the names are looked for in the bytes of a string table, which `delim` cuts.
+    /// Returns the index of the first symbol with this name, as [`Symtab::find`] does. The names
+    /// are read from the bytes of a string table whose strings end with `delim`.
     pub fn find_in(&self, strings: &[u8], delim: u8, name: &[u8]) -> Option<usize>
         ensures { let table = unparsed strings.now delim in result
             ≡ position (λ symbol. has_name table symbol.st_name name.now) self.now.symbols }
@@ -188,12 +196,14 @@ impl<'a> Symtab<'a> {
             .position(|symbol| wanted.is_at(strings, symbol.st_name))
     }
 
-    /// The index of the symbol that an address lies in, or `None` where no symbol stands at it or below it.
+    /// Returns the index of the symbol for an address, or `None` if no symbol is at the address or
+    /// below it.
     ///
-    /// It is the one with the highest value that isn't above the address; of those with the same value the
-    /// first that reaches the address by its size, or else the first. Only symbols of a section of the file count, and
-    /// of these only those without a type, objects, functions and indirect functions. Whether the symbol reaches
-    /// the address, where it has a size, is left to the caller.
+    /// It is the symbol with the highest value that isn't above the address. Of several with that
+    /// value it is the first whose size reaches past the address, or else the first. Only symbols
+    /// of a section of the file are considered, and of these only those without a type, objects,
+    /// functions and indirect functions. The caller tests whether the symbol's size reaches past
+    /// the address.
     pub fn at(&self, address: u64) -> Option<usize>
         ensures { result ≡ symbol_at address self.now.symbols }
     {
@@ -206,7 +216,8 @@ impl<'a> Symtab<'a> {
         index_of(found)
     }
 
-    /// The symbols as a vector. Only want of memory is an error, and an empty table takes none.
+    /// Returns the symbols as a vector. The only error is out of memory. An empty table allocates
+    /// nothing.
     pub fn to_vec(&self, alloc: Global) -> Result<Vec<Sym>>
         ensures ok { IfOk result (λ v. v.items ≡ self.now.symbols) }
         ensures err { IfErr result (λ e. e ≡ Error.Memory alloc_error) }
@@ -216,7 +227,7 @@ impl<'a> Symtab<'a> {
     }
 }
 
-// Whether a symbol of a section stands at an address or below it.
+// Reports whether a symbol of a section is at an address or below it.
 fn is_below(address: u64, symbol: &Sym) -> bool
     ensures { result ≡ is_below address symbol.now }
 {
@@ -230,7 +241,7 @@ fn is_below(address: u64, symbol: &Sym) -> bool
     is_of_section && is_of_bytes && symbol.st_value <= address
 }
 
-// Whether the bytes of a symbol reach behind an address.
+// Reports whether the bytes of a symbol reach past an address.
 fn reaches(address: u64, symbol: &Sym) -> bool
     ensures { result ≡ reaches address symbol.now }
 {
@@ -240,7 +251,7 @@ fn reaches(address: u64, symbol: &Sym) -> bool
     }
 }
 
-// What is taken of the symbol at an index, and of what was found before it.
+// Returns the nearer of the symbol at an index and the one found before it.
 fn nearer(address: u64, i: usize, symbol: Sym, found: Option<(usize, Sym)>) -> Option<(usize, Sym)>
     ensures { result ≡ taken address i symbol found }
 {
@@ -259,7 +270,7 @@ fn nearer(address: u64, i: usize, symbol: Sym, found: Option<(usize, Sym)>) -> O
     Some((i, symbol))
 }
 
-// The index of what was found.
+// Returns the index of the symbol that was found.
 fn index_of(found: Option<(usize, Sym)>) -> Option<usize>
     ensures { result ≡ option_map (λ found. found.0) found }
 {
@@ -269,7 +280,7 @@ fn index_of(found: Option<(usize, Sym)>) -> Option<usize>
     }
 }
 
-/// The table of no symbols at offset 0, in the default context.
+/// The default is an empty table at offset 0, in the default context.
 impl Default for Symtab<'_> {
     ghost use Rattle.goblin_base.specs.declared.container.Container.TheVariants as class;
     ghost use Rattle.goblin_base.specs.declared.container.Endian.TheVariants as order;
@@ -305,10 +316,10 @@ impl<'a, 'b> IntoIterator for &'b Symtab<'a> {
     }
 }
 
-/// An iterator over the symbols of a table: from the first to the last, and `None` from then on.
+/// An iterator over the symbols of a table, from the first to the last.
 pub type SymIterator<'a> = TableIter<'a, Sym, Ctx>;
 
-/// Laws: what the constants that this module passes on stand for.
+/// Laws: the numbers of the constants that this module re-exports.
 pub fn constants()
     ensures bindings { STB_LOCAL ∷ STB_GLOBAL ∷ STB_WEAK ∷ STB_NUM ∷ STB_LOOS ∷ STB_GNU_UNIQUE ∷
         STB_HIOS ∷ STB_LOPROC ∷ STB_HIPROC ∷ []
@@ -321,16 +332,17 @@ pub fn constants()
         ≡ visibility_numbers }
 {}
 
-/// Laws: where a table is accepted strictly, the permissive reading gives the same table; and a
-/// table depends on the bytes of its range and on how many there are in all, alone.
+/// Laws: a table that strict options accept is the same with permissive ones; a table depends only
+/// on the bytes of its range and on the file's length.
 pub fn laws()
     ensures permissive { PermissiveKeepsStrict }
     ensures range { DependsOnItsRange }
 {}
 
-/// Law: the symbol at an address stands there or below it, and comes first of all that do: none stands
-/// higher; of those as high one that reaches the address comes before one that doesn't, and the first
-/// before others. Where there is none, none stands there or below. Nothing else is answered.
+/// A law: the symbol for an address is at the address or below it, and comes first of all that are.
+/// None of them is higher. Of those equally high, one that reaches past the address comes before
+/// one that doesn't, and a lower index before a higher one. `None` is returned exactly if no symbol
+/// is at the address or below it.
 pub fn addresses()
     ensures { SymbolAtComesFirst }
 {}
