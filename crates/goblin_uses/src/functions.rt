@@ -14,14 +14,14 @@ use goblin::strtab::Strtab;
 use std::alloc::{AllocError, Global};
 use std::cmp::Reverse;
 
-/// How many functions there are.
+/// Returns the number of functions.
 pub fn count_functions(symbols: &Symtab) -> usize
     ensures { result ≡ count_by is_function symbols.now.symbols }
 {
     symbols.iter().filter(|symbol| symbol.is_function()).count()
 }
 
-/// The functions, the largest first. Only want of memory is an error.
+/// Returns the functions, the largest first. The only error is out of memory.
 pub fn functions_by_size(alloc: Global, symbols: &Symtab) -> Result<Vec<Sym>>
     ensures ok { let functions = filter is_function symbols.now.symbols in
         IfOk result (λ sorted. IsPermutation functions sorted.items) }
@@ -38,8 +38,11 @@ pub fn functions_by_size(alloc: Global, symbols: &Symtab) -> Result<Vec<Sym>>
     Ok(functions)
 }
 
-/// Adds the lines of the functions of a symbol section, whose names lie in a section of strings. Symbols that are refused
-/// are an error, then strings that are, and else want of memory alone.
+/// Adds the lines of the functions of a symbol section, whose names are in a string section.
+///
+/// # Errors
+///
+/// Those of the symbols, else those of the strings, else out of memory.
 pub fn push_functions(
     alloc: Global,
     text: &mut String,
@@ -66,7 +69,7 @@ pub fn push_functions(
     Ok(())
 }
 
-// Adds how many functions there are, and of how many symbols.
+// Adds the line with the number of functions and the number of symbols.
 fn push_count(text: &mut String, symbols: &Symtab) -> std::result::Result<(), AllocError>
     ensures { OnOk result
         (string_bytes text.new ≡ string_bytes text.old ++ functions_line symbols.now.symbols) }
@@ -76,7 +79,7 @@ fn push_count(text: &mut String, symbols: &Symtab) -> std::result::Result<(), Al
     write!(text, "{functions} functions of {all} symbols\n")
 }
 
-// Adds the line of the function with a number.
+// Adds the line of one function.
 fn push_line(
     text: &mut String,
     names: &Strtab,

@@ -1,9 +1,9 @@
-//! Lists what an ELF file on standard input holds: its symbols, its functions by size, its relocations, its notes. It is a
-//! small user of `goblin`, whose loops are written as people write them.
+//! Lists what an ELF file on standard input holds: its symbols, its functions by size, its
+//! relocations and its notes. It is a small program over `goblin`, with ordinary loops.
 //!
-//! `main` and `list` are a sketch of how the calls go together, and have no contract: nothing proves which sections are
-//! listed, in which order, or what is printed before a refusal. One stored run shows it (`stdin` and `stdout`). The lines
-//! that a call of the other modules adds are proved.
+//! The lines that a call of each module adds are proved. `main` and `list` show how the calls go
+//! together, and have no contract: which sections are listed, in which order, and what is printed
+//! before an error is not proved. One stored run (`stdin` and `stdout`) tests it.
 #![tactic(auto)]
 
 mod functions;
@@ -25,7 +25,7 @@ use std::io;
 use std::io::Read;
 use symbols::{linked, push_symbols};
 
-// Adds the lines of a file with these bytes, up to the first refusal.
+// Adds the lines of a file, up to the first error.
 fn list(alloc: Global, text: &mut String, bytes: &[u8]) -> Result<()> {
     let (header, _) = Header::try_from_ctx(bytes, LE)?;
     let ctx = Ctx::new(header.container()?, header.endianness()?);

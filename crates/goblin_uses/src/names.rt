@@ -1,4 +1,4 @@
-//! The names of a file's symbols, read under a count of the bytes and places read.
+//! The names of a file's symbols, read with a count of the bytes and stored offsets that are read.
 ghost use Rattle.std.specs.Prelude.{◌≡◌, ◌≤◌, ◌+◌, ◌++◌, OnOk, length, string_bytes};
 ghost use Rattle.goblin_base.specs.Entries.{places_of};
 ghost use Rattle.goblin_base.specs.Search.{digits};
@@ -13,7 +13,7 @@ use goblin_base::find::find;
 use goblin_base::walk::walk;
 use std::alloc::{AllocError, Global};
 
-/// The place of the last zero byte, which closes the last name.
+/// Returns the offset of the last zero byte, which closes the last name.
 pub fn last_zero(view: &mut Looked<'_>) -> Option<usize>
     ensures value { result ≡ last_zero (length view.old.bytes) view.old.bytes }
     ensures unchanged { view.new.bytes ≡ view.old.bytes }
@@ -27,7 +27,7 @@ pub fn last_zero(view: &mut Looked<'_>) -> Option<usize>
     last
 }
 
-/// How many bytes the longest name takes, with the zero that closes it, of all but the last.
+/// Returns the size of the longest name with its closing zero byte, of all names but the last.
 pub fn longest(probes: &mut Probes<'_>) -> usize
     ensures value { result ≡ longest_step 0 probes.old.places }
     ensures unchanged { probes.new.places ≡ probes.old.places }
@@ -42,8 +42,9 @@ pub fn longest(probes: &mut Probes<'_>) -> usize
     longest
 }
 
-/// How many places the search for an offset reads: as many as their number has binary digits, or one fewer. No clause says
-/// which of the two, nor that the search was for this offset.
+/// Returns the number of stored offsets that the search for an offset reads: the number of binary
+/// digits of their count, or one fewer. No clause says which of the two, nor that the search was
+/// for this offset.
 pub fn probes_of(entries: &Entries<'_>, offset: usize) -> u64
     ensures most { result ≤ digits (length (places_of entries.now)) }
     ensures least { digits (length (places_of entries.now) + 1) ≤ result + 1 }
@@ -53,7 +54,7 @@ pub fn probes_of(entries: &Entries<'_>, offset: usize) -> u64
     probes.count()
 }
 
-// Adds the line of so many names.
+// Adds the line with the number of names.
 fn push_line(
     text: &mut String,
     count: usize,
@@ -74,8 +75,11 @@ fn push_line(
     )
 }
 
-/// Adds a line on the names in these bytes, of which the one at an offset is looked for. Bytes that are no text are an
-/// error, and else want of memory alone.
+/// Adds a line on the names in these bytes, and on the search for the one at an offset.
+///
+/// # Errors
+///
+/// The error of bytes that aren't UTF-8, else out of memory.
 pub fn push_names(alloc: Global, text: &mut String, bytes: &[u8], offset: usize) -> Result<()>
     ensures added { AddsSuch (string_bytes text.old) (string_bytes text.new) result
         (IsNamesText bytes.now) (walked ParseMode.Strict bytes.now 0) }

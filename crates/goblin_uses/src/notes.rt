@@ -11,7 +11,7 @@ use goblin::elf::section_header::SectionHeader;
 use goblin::error::Result;
 use std::alloc::AllocError;
 
-// The notes of a section.
+// Returns the notes of a section.
 fn notes_of<'a>(bytes: &'a [u8], section: &SectionHeader, ctx: Ctx) -> NoteDataIterator<'a>
     ensures { items_left result ≡ notes_of bytes.now section.now ctx }
 {
@@ -24,7 +24,7 @@ fn notes_of<'a>(bytes: &'a [u8], section: &SectionHeader, ctx: Ctx) -> NoteDataI
     }
 }
 
-// How many notes there are.
+// Returns the number of notes.
 #[tactic(auto, using(goblin::specs::NoteRuns::notes_run))]
 fn count_notes(notes: NoteDataIterator) -> usize
     ensures { result ≡ length (items_left notes.entry) }
@@ -32,7 +32,7 @@ fn count_notes(notes: NoteDataIterator) -> usize
     notes.count()
 }
 
-// Adds how many notes there are.
+// Adds the line with the number of notes.
 fn push_count(text: &mut String, count: usize) -> std::result::Result<(), AllocError>
     ensures { OnOk result (string_bytes text.new ≡ string_bytes text.old ++ notes_line count) }
 {
@@ -62,8 +62,11 @@ fn push_each(text: &mut String, notes: NoteDataIterator) -> Result<()>
     Ok(())
 }
 
-/// Adds the lines of the notes of a section: how many there are, and one for each. The first that can't be read is an
-/// error, and else want of memory alone.
+/// Adds the lines of the notes of a section: their number, and a line for each.
+///
+/// # Errors
+///
+/// The error of the first note that can't be read, else out of memory.
 #[tactic(auto, using(crate::proofs::Behind::headed))]
 pub fn push_notes(text: &mut String, bytes: &[u8], section: &SectionHeader, ctx: Ctx) -> Result<()>
     ensures { Adds (string_bytes text.old) (string_bytes text.new) result

@@ -10,14 +10,14 @@ use goblin::elf::section_header::{SHT_RELA, SectionHeader};
 use goblin::error::Result;
 use std::alloc::AllocError;
 
-/// How many relocations of a section name a symbol.
+/// Returns the number of relocations that name a symbol.
 pub fn count_named(relocations: &RelocSection) -> usize
     ensures { result ≡ count_by names_symbol relocations.now }
 {
     relocations.iter().filter(|reloc| reloc.r_sym != 0).count()
 }
 
-// Adds the line of the relocation with a number.
+// Adds the line of one relocation.
 fn push_line(text: &mut String, index: usize, reloc: &Reloc) -> std::result::Result<(), AllocError>
     ensures { OnOk result
         (string_bytes text.new ≡ string_bytes text.old ++ relocation_line index reloc.now) }
@@ -42,7 +42,7 @@ fn push_each(text: &mut String, relocations: &RelocSection) -> std::result::Resu
     Ok(())
 }
 
-// Adds how many relocations name a symbol.
+// Adds the line with the number of relocations that name a symbol.
 fn push_count(text: &mut String, relocations: &RelocSection) -> std::result::Result<(), AllocError>
     ensures { OnOk result
         (string_bytes text.new ≡ string_bytes text.old ++ relocations_line relocations.now) }
@@ -52,7 +52,11 @@ fn push_count(text: &mut String, relocations: &RelocSection) -> std::result::Res
     write!(text, "{named} of {all} relocations name a symbol\n")
 }
 
-/// Adds the lines of the relocations of a section. Relocations that are refused are an error, and else want of memory alone.
+/// Adds the lines of the relocations of a section.
+///
+/// # Errors
+///
+/// Those of the relocations, else out of memory.
 pub fn push_relocations(
     text: &mut String,
     bytes: &[u8],

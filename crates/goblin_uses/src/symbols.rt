@@ -13,8 +13,11 @@ use goblin::scroll::{LE, TryFromCtx};
 use goblin::strtab::Strtab;
 use std::alloc::{AllocError, Global};
 
-/// Adds a line for each symbol of a file with these bytes: its value, and its name where it has one. What can't be read
-/// is an error, and else want of memory alone.
+/// Adds a line for each symbol of a file: its value, and its name if it has one.
+///
+/// # Errors
+///
+/// Those of the header, the section headers, the symbols and their strings, else out of memory.
 pub fn push_symbols(alloc: Global, text: &mut String, bytes: &[u8]) -> Result<()>
     ensures { let right = symbols_listed bytes.now in
         Adds (string_bytes text.old) (string_bytes text.new) result right }
@@ -29,7 +32,7 @@ pub fn push_symbols(alloc: Global, text: &mut String, bytes: &[u8]) -> Result<()
     Ok(())
 }
 
-// Adds the lines of a section's symbols, where it is a symbol table.
+// Adds the lines of a section's symbols, if it is a symbol table.
 fn push_section(
     alloc: Global,
     text: &mut String,
@@ -52,7 +55,7 @@ fn push_section(
     Ok(())
 }
 
-/// The bytes of a section in the file, or none where it has none there.
+/// Returns the bytes of a section in the file, or none if it has none there.
 pub fn bytes_of<'a>(bytes: &'a [u8], section: Option<&SectionHeader>) -> &'a [u8]
     ensures { result.now ≡ bytes_of bytes.now (option_map (λ s. s.now) section.entry) }
 {
