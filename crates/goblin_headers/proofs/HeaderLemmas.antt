@@ -1,4 +1,4 @@
--- Headers of each class and of both: an identification as it is, and behind it numbers of given widths.
+-- Headers of each class and of both: an identification as it is, followed by numbers of given widths.
 use Rattle.std.proofs.Common.{◌≡◌, ◌≤◌, ◌+◌, ℕ, List, [], ◌++◌, length, take, refl, sym, ap, ◌∙◌, arith}
 use Rattle.std.proofs.Math.Seq.{take-add}
 use Rattle.std.proofs.lemmas.List.{append_assoc, append-nil, length-append, take_all, take_at}
@@ -14,24 +14,24 @@ use Rattle.goblin_headers.specs.Header32.{header32_size, header32_of, header32_o
 use Rattle.goblin_headers.specs.Header64.{header64_size, header64_of, header64_of_values, header64_widths, header64_fields, header64_image, header64_low, Header64Fits}
 use Rattle.goblin_headers.specs.HeaderTrips.{IsOneHeaderImage}
 
--- headers of a size, with an identification in front, and what holds of reading and writing them
+-- headers of a size that begin with an identification, and what holds of reading and writing them
 pub record IsHeader {R : Type 0} (size : ℕ) (ident : R → List ℕ) (read : Endian → List ℕ → R) (image : Endian → R → List ℕ) (low : R → R) (Fits : R → Type 0) : Type 0 where
-  -- there is room for an identification
+  -- a header holds an identification
   pub enough : 16 ≤ size
-  -- which stands in front of other bytes
+  -- its image begins with it
   pub behind : Endian → R → List ℕ
   pub image_is : (order : Endian) (h : R) → image order h ≡ ident h ++ behind order h
   pub ident_read : (order : Endian) (bytes : List ℕ) → ident (read order bytes) ≡ take 16 bytes
-  -- the image has the size of a header, and is bytes
+  -- the image has the size of a header and consists of bytes
   pub length_image : (order : Endian) (h : R) → length (ident h) ≡ 16 → length (image order h) ≡ size
   pub image_bytes : (order : Endian) (h : R) → IsBytes (ident h) → IsBytes (image order h)
-  -- the low bits are read back, and what fits as it was, whatever follows
+  -- the low bits are read back, so a header that fits is read back unchanged, whatever bytes follow
   pub reads_low : (order : Endian) (h : R) (rest : List ℕ) → length (ident h) ≡ 16 → read order (image order h ++ rest) ≡ low h
   pub low_fits : (h : R) → Fits h → low h ≡ h
   -- bytes that were read are written back
   pub writes_back : (order : Endian) (bytes : List ℕ) → IsBytes bytes → size ≤ length bytes → image order (read order bytes) ≡ take size bytes
 
--- how the fields of a header lie behind its identification
+-- how the fields of a header follow its identification
 record IsHeaderLayout {R : Type 0} (widths : List ℕ) (ident : R → List ℕ) (read : Endian → List ℕ → R) (fields : R → List Field) (low : R → R) : Type 0 where
   -- the header with this identification and these numbers
   of_values : List ℕ → List ℕ → R
@@ -113,7 +113,7 @@ header64_laws = layout_laws {widths = header64_widths} {fields = header64_fields
   fields_read = λ order bytes. refl;
 })
 
--- headers that are read and written as other ones: `widen` makes what was read, `narrow` what is written
+-- headers that are read and written as other ones: `widen` is applied after reading, `narrow` before writing
 widened_laws : {A B : Type 0} {size : ℕ} {ident : A → List ℕ} {read : Endian → List ℕ → A} {image : Endian → A → List ℕ} {low : A → A} {Fits : A → Type 0} (widen : A → B) (narrow : B → A) → ((raw : A) → narrow (widen raw) ≡ raw) → ((h : B) → widen (narrow h) ≡ h) → IsHeader size ident read image low Fits → IsHeader size (λ h. ident (narrow h)) (λ order bytes. widen (read order bytes)) (λ order h. image order (narrow h)) (λ h. widen (low (narrow h))) (λ h. Fits (narrow h))
 widened_laws {ident = ident} {read = read} {image = image} widen narrow there back raw = record {
   enough = raw.enough;
@@ -133,7 +133,7 @@ header_laws class.Little = widened_laws widened32 as32 (λ raw. refl) (λ h. ref
 header_laws class.Big = widened_laws widened64 as64 (λ raw. refl) (λ h. refl) header64_laws
 
 module _ {R : Type 0} {size : ℕ} {ident : R → List ℕ} {read : Endian → List ℕ → R} {image : Endian → R → List ℕ} {low : R → R} {Fits : R → Type 0} (laws : IsHeader size ident read image low Fits) where
-  -- bytes of the size are the image of what they are read as
+  -- bytes of a header's size are the image of the header that is read from them
   again : (order : Endian) (bytes : List ℕ) → IsBytes bytes → length bytes ≡ size → bytes ≡ image order (read order bytes)
   again order bytes are long = sym (take_all size bytes (omega arith)) ∙ sym (laws.writes_back order bytes are (omega arith))
 
@@ -145,13 +145,13 @@ module _ {R : Type 0} {size : ℕ} {ident : R → List ℕ} {read : Endian → L
   image-low order h long are =
       ap (image order) (sym (reads_alone order h long)) ∙ sym (again order (image order h) (laws.image_bytes order h are) (laws.length_image order h long))
 
-  -- the image is the one list of bytes that reads so
+  -- the image is the only list of bytes that is read so
   pub one_header_image : IsOneHeaderImage size ident read image low
   one_header_image order h bytes long are = (
     λ is. rw is (laws.image_bytes order h are, laws.length_image order h long, reads_alone order h long),
     λ so. again order bytes so.0 so.1 ∙ ap (image order) so.2 ∙ image-low order h long are,
   )
 
-  -- what fits is read back, whatever follows
+  -- a header that fits is read back, whatever bytes follow
   pub reads_fitting : (order : Endian) (h : R) (rest : List ℕ) → length (ident h) ≡ 16 → Fits h → read order (image order h ++ rest) ≡ h
   reads_fitting order h rest long fits = laws.reads_low order h rest long ∙ laws.low_fits h fits

@@ -1,4 +1,5 @@
--- Headers of one class are read back from what was written, and written back as they were read.
+-- Headers of one class are read back from the bytes that they were written as, and written back as those they were read
+-- from.
 use Rattle.std.proofs.Common.{◌≡◌, ◌<◌, ◌≤◌, ℕ, List, ◌++◌, length, take, drop, slice_index, Some, Result, Ok, refl, ap, ◌∙◌, arith}
 use Rattle.std.proofs.lemmas.List.{append_assoc, get_or_append_left, get_or-take, length-append, take-append-drop}
 use Rattle.goblin_base.specs.declared.container.Endian.{Endian}
@@ -13,7 +14,7 @@ use Rattle.goblin_headers.specs.WriteHeader.{WritesInOrder}
 use Rattle.goblin_headers.proofs.HeaderLemmas.{IsHeader, reads_fitting}
 use Rattle.goblin_headers.proofs.StepLemmas.{step, found, had_room}
 
--- what writing answered and left, where there was room
+-- the result of writing into a buffer that is large enough, and what it leaves there
 pub record Wrote (size : ℕ) (image old new : List ℕ) (answer : Result ℕ Error) : Type 0 where
   pub answers : answer ≡ Ok size
   pub leaves : new ≡ image ++ drop size old
@@ -24,13 +25,13 @@ writes_there size image old new answer enough so =
     let wrote = rw (room_of_fits (length old) 0 size (omega arith)) at so in
     record { answers = wrote.0; leaves = wrote.1 }
 
--- where there is room and a byte order, the image in that order is written
+-- with a byte order and a buffer that is large enough, the image in that order is written
 pub writes_in_order : (ident : List ℕ) (size : ℕ) (image : Endian → List ℕ) (old new : List ℕ) (answer : Result ℕ Error) (order : Endian) → order_named (slice_index ident 5) ≡ Some order → size ≤ length old → WritesInOrder ident size image old answer new → Wrote size (image order) old new answer
 unfolding WritesInOrder
 writes_in_order ident size image old new answer order named room so =
     writes_there size (image order) old new answer room (rw named at so)
 
--- where there is room and a byte order, the header in that order is read
+-- with a byte order and enough bytes, the header is read in that order
 pub reads_in_order : {R : Type 0} (size : ℕ) (read : Endian → List ℕ → R) (fault : ℕ → Fault) (bytes : List ℕ) (order : Endian) → 16 ≤ size → size ≤ length bytes → order_named (slice_index bytes 5) ≡ Some order → read_in_order size read fault bytes ≡ Ok (read order bytes)
 unfolding read_in_order
 reads_in_order size read fault bytes order enough room named =
@@ -56,7 +57,7 @@ was_read_in_order size read fault bytes h is =
       header = cc room.rest;
     }
 
--- a byte of what stands in front
+-- a byte of the first of two parts
 pub front_byte : (image front behind rest : List ℕ) (i : ℕ) → image ≡ front ++ behind → i < length front → slice_index (image ++ rest) i ≡ slice_index front i
 front_byte image front behind rest i is h =
     ap (λ (all : List ℕ). slice_index (all ++ rest) i) is
@@ -67,7 +68,7 @@ front_byte image front behind rest i is h =
 pub ident_byte : (ident bytes : List ℕ) (i : ℕ) → ident ≡ take 16 bytes → i < 16 → slice_index ident i ≡ slice_index bytes i
 ident_byte ident bytes i is h = ap (λ (all : List ℕ). slice_index all i) is ∙ rw (get_or-take 16 bytes i 0) refl
 
--- bytes that are written over themselves stay as they were
+-- bytes that are written over themselves don't change
 pub over_itself : (size : ℕ) (image bytes new : List ℕ) → new ≡ image ++ drop size bytes → image ≡ take size bytes → new ≡ bytes
 over_itself size image bytes new is same =
     is ∙ ap (λ (front : List ℕ). front ++ drop size bytes) same ∙ take-append-drop size bytes

@@ -1,4 +1,4 @@
--- Reading a header of either class is reading a raw one, once its magic number and class byte are known.
+-- Reading a header of either class is reading a raw one, after the tests of its magic number and its class byte.
 use Rattle.std.proofs.Common.{◌≡◌, ◌≤◌, ℕ, true, false, nat_lt, nat_eq, not, List, length, slice_index, Some, Result, Ok, Err, refl, ap, sym, ◌∙◌, arith}
 use Rattle.std.specs.List.{starts_with}
 use Rattle.std.proofs.lemmas.Bool.Decides.{nat_tests}
@@ -23,14 +23,14 @@ pub record Begins (class : Container) (bytes : List ℕ) : Type 0 where
   pub starts : starts_with nat_eq bytes magic ≡ true
   pub named : class_named (slice_index bytes 4) ≡ Some class
 
--- with the magic number, a class, a byte order and room for the header of the class it is read
+-- with the magic number, a class, a byte order and enough bytes it is read
 pub read_header-ok : (bytes : List ℕ) (class : Container) (order : Endian) → Begins class bytes → order_named (slice_index bytes 5) ≡ Some order → header_size class ≤ length bytes → read_header bytes ≡ Ok (header_of class order bytes, header_size class)
 unfolding read_header
 read_header-ok bytes class order begins ordered room =
     let enough : nat_lt (length bytes) 16 ≡ false = grind (arith, nat_tests) in
     rw (enough, begins.starts, begins.named, ordered, room_of_fits (length bytes) 0 (header_size class) (omega arith)) refl
 
--- the header and the size that make an answer
+-- the header and the size that make a result
 pub record Sized {R : Type 0} (answer : Result R Error) (expected : ℕ) (x : R) (size : ℕ) : Type 0 where
   pub read : answer ≡ Ok x
   pub size_is : size ≡ expected
@@ -51,7 +51,7 @@ read_header-raw class read widen bytes raw size widened begins is =
     ∙ ap (λ (n : ℕ). Ok (header_of class from.order bytes, n)) whole.size_is
     ∙ sym (read_header-ok bytes class from.order begins from.ordered from.enough)
 
--- the steps that reading a header took: what its bytes name, the room that it had, and what it stands for
+-- what holds of a header that was read: what its bytes name, that there were enough, and which header it is
 pub record WasRead (bytes : List ℕ) (h : Header) (size : ℕ) : Type 0 where
   pub class : Container
   pub order : Endian

@@ -1,4 +1,4 @@
--- Lemmas for reading section headers at once.
+-- Lemmas for reading the section headers of a file.
 use Rattle.std.proofs.Common.{◌≡◌, ◌<◌, ◌≤◌, ◌/◌, ◌+◌, ℕ, List, length, take, drop, codes, max, nat_lt, true, false, Result, Ok, Err, IfErr, inl, inr, refl, sym, ap, ◌∙◌, arith}
 use Rattle.std.proofs.lemmas.Bool.{cases_lt}
 use Rattle.std.proofs.lemmas.Bool.Decides.{nat_tests}
@@ -18,16 +18,16 @@ use Rattle.goblin_headers.specs.SectionHeader.{section_header_size, section_head
 use Rattle.goblin_headers.specs.SectionHeaderLaws.{section_header_laws}
 use Rattle.goblin_headers.specs.SectionHeaders.{count_told, count_asked, count_from, section_headers_from_tested, section_headers_from}
 
--- the answer of the first header's reading
+-- the result of reading the first header
 abbrev pub read_first : List ℕ → ℕ → Ctx → Result SectionHeader Error
 read_first bytes offset ctx =
     unless_fault (room_of (length bytes) offset (section_header_size ctx.container)) (section_header_of ctx.container ctx.le (take (section_header_size ctx.container) (drop offset bytes)))
 
--- the items that are told where there are too many
+-- the name of the items in the refusal of too many
 abbrev pub items : List ℕ
 items = codes "section headers"
 
--- the first header has room, and is the one at the offset
+-- the bytes hold the first header, and it is the one at the offset
 same_first : (bytes : List ℕ) (offset : ℕ) (ctx : Ctx) (first : SectionHeader) → Ok first ≡ read_first bytes offset ctx → (room_of (length bytes) offset (section_header_size ctx.container) ≡ Ok tt) × (first ≡ section_header_of ctx.container ctx.le (drop offset bytes))
 same_first bytes offset ctx first is =
     let size = section_header_size ctx.container in
@@ -38,7 +38,7 @@ same_first bytes offset ctx first is =
     let front = (section_header_laws ctx.container ctx.le).reads_front (take size rest) (drop size rest) long in
     (found.0, found.1 ∙ sym front ∙ ap (section_header_of ctx.container ctx.le) (take-append-drop size rest))
 
--- and tells the count
+-- and it decides the count
 pub first_tells : (bytes : List ℕ) (offset count : ℕ) (ctx : Ctx) (first : SectionHeader) (most : ℕ) → Ok first ≡ read_first bytes offset ctx → most ≡ max (count_told first count) 1 → Ok most ≡ count_from bytes offset count ctx
 first_tells bytes offset count ctx first most is told =
     let found = same_first bytes offset ctx first is in
@@ -46,7 +46,7 @@ first_tells bytes offset count ctx first most is told =
     let all : most ≡ max 1 (count_asked bytes offset count ctx) = omega (arith, told, same) in
     rw (found.0) (ap Ok all)
 
--- without room for the first header the tests refuse
+-- if the bytes don't hold the first header, the tests refuse
 pub first_tested : (bytes : List ℕ) (offset count : ℕ) (ctx : Ctx) (e : Error) → Err e ≡ count_from bytes offset count ctx → section_headers_from_tested bytes offset count ctx ≡ Err (refusal_of e)
 unfolding section_headers_from_tested
 first_tested bytes offset count ctx e is =
@@ -58,12 +58,12 @@ pub first_refused : (bytes : List ℕ) (offset count : ℕ) (ctx : Ctx) (e : Err
 unfolding section_headers_from
 first_refused bytes offset count ctx e is = rw (first_tested bytes offset count ctx e is) refl
 
--- where a record has room, one record is not too many
+-- if the bytes hold a record, one record is not too many
 one_fits : (class : Container) (n offset : ℕ) → offset + section_header_size class ≤ n → 1 ≤ n / section_header_size class
 one_fits Little n offset fits = omega arith
 one_fits Big n offset fits = omega arith
 
--- a count is told where the first header has room
+-- there is a count if the bytes hold the first header
 module _ (bytes : List ℕ) (offset count : ℕ) (ctx : Ctx) (most : ℕ) (is : Ok most ≡ count_from bytes offset count ctx) where
   abbrev size : ℕ
   size = section_header_size ctx.container
@@ -77,7 +77,7 @@ module _ (bytes : List ℕ) (offset count : ℕ) (ctx : Ctx) (most : ℕ) (is : 
   one : 1 ≤ length bytes / size
   one = one_fits ctx.container (length bytes) offset (fits-room_of (length bytes) offset size tt found.0)
 
-  -- then what is left of the tests is the one of the count
+  -- then only the test of the count is left
   few : most ≤ length bytes / size → section_headers_from_tested bytes offset count ctx ≡ Ok tt
   unfolding section_headers_from_tested
   few enough =
@@ -101,7 +101,7 @@ module _ (bytes : List ℕ) (offset count : ℕ) (ctx : Ctx) (most : ℕ) (is : 
         | inr enough ↦ rw (few enough, ← found.1) (not_too_many size size (section_header_of ctx.container ctx.le) bytes offset most items refl enough)
       ]
 
-  -- what the tests refuse is the answer
+  -- a refusal of the tests is the result
   pub all_tested : {X : Type 0} (answer : Result X Error) → (length bytes / size < most → Refuses answer (buffer_too_short most items)) → IfErr (section_headers_from_tested bytes offset count ctx) (λ refusal. Refuses answer refusal)
   all_tested answer refuses =
       elim (cases_lt (length bytes / size) most) [

@@ -1,4 +1,4 @@
--- Steps one after another that succeeded: what each of them made.
+-- What each of several steps returned, if all of them succeeded.
 use Rattle.std.proofs.Common.{◌≡◌, ◌≤◌, ℕ, Bool, true, false, not, List, length, Option, Some, None, Result, Ok, Err, refl, arith}
 use Rattle.goblin_base.specs.declared.error.Error.{Error}
 use Rattle.goblin_base.specs.declared.scroll.Error.{Error as Misplaced}

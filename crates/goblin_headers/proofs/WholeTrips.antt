@@ -1,4 +1,5 @@
--- Headers of either class are read back from what was written, and written back as they were read.
+-- Headers of either class are read back from the bytes that they were written as, and written back as those they were
+-- read from.
 use Rattle.std.proofs.Common.{◌≡◌, ◌≤◌, ℕ, true, nat_eq, List, [], ◌++◌, length, take, drop, slice_index, Some, Result, Ok, refl, sym, ap, ◌∙◌, arith, rules}
 use Rattle.std.specs.List.{starts_with}
 use Rattle.std.proofs.lemmas.List.{append_assoc, append-nil, length-append, length-take-le, take-append-drop, take-append-le}
@@ -21,7 +22,7 @@ use Rattle.goblin_headers.proofs.ReadHeaderLemmas.{Begins, read_header-ok, was_r
 pub one_image : OneImage
 one_image class = one_header_image (header_laws class)
 
--- what begins with the magic number does so whatever follows
+-- bytes that begin with the magic number do so whatever bytes follow
 begins_so : (image ident behind rest : List ℕ) → image ≡ ident ++ behind → length ident ≡ 16 → take 4 ident ≡ magic → starts_with nat_eq (image ++ rest) magic ≡ true
 begins_so image ident behind rest is long starts =
     let front : take 4 (image ++ rest) ≡ magic =
@@ -45,7 +46,7 @@ reads_back class order h rest names fits =
     read_header-ok bytes class order begins (ap order_named data_byte ∙ names.2.1) room
     ∙ ap (λ (g : Header). Ok (g, header_size class)) (reads_fitting laws order h rest long fits)
 
--- where the class, the byte order and room are there, the image is written
+-- with a class, a byte order and a buffer that is large enough, the image is written
 writes_there : (class : Container) (order : Endian) (h : Header) (old new : List ℕ) (answer : Result ℕ Error) → class_named (slice_index h.e_ident 4) ≡ Some class → order_named (slice_index h.e_ident 5) ≡ Some order → header_size class ≤ length old → WritesHeader h old answer new → Wrote (header_size class) (header_image class order h) old new answer
 unfolding WritesHeader
 writes_there class order h old new answer named ordered room so =
@@ -56,7 +57,7 @@ written_and_read_back class order h old new answer names fits room so =
     let wrote = writes_there class order h old new answer names.1 names.2.1 room so in
     (wrote.answers, ap read_header wrote.leaves ∙ reads_back class order h (drop (header_size class) old) names fits)
 
--- what the identification of a header that was read names
+-- the class and the byte order that the identification of a header that was read names
 read_names : (class : Container) (order : Endian) (bytes ident : List ℕ) → 16 ≤ length bytes → ident ≡ take 16 bytes → starts_with nat_eq bytes magic ≡ true → class_named (slice_index bytes 4) ≡ Some class → order_named (slice_index bytes 5) ≡ Some order → Identifies class order ident
 read_names class order bytes ident enough is starts named ordered =
     let begins : magic ≡ take 4 bytes = (bytes_eq-Decides magic (take 4 bytes)).0 starts in

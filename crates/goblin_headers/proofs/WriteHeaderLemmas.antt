@@ -14,7 +14,7 @@ use Rattle.goblin_headers.specs.Header.{as32, as64, class_of}
 use Rattle.goblin_headers.specs.Header32.{header32_size, header32_fields, header32_image, header32_low}
 use Rattle.goblin_headers.specs.WriteHeader.{WritesInOrder, WritesHeader32, WritesHeader64, WritesHeader}
 
--- the bytes after an identification and the fields behind it were put
+-- the bytes after an identification and the fields that follow it were written
 pub with_header : (order : Endian) (ident old new : List ℕ) (fields : List Field) → length ident ≡ 16 → new ≡ ident ++ drop 16 old → 16 + size_of_fields fields ≤ length old → with_fields order new 16 fields ≡ (ident ++ image_of_fields order fields) ++ drop (16 + size_of_fields fields) old
 with_header order ident old new fields long is room =
     let size = size_of_fields fields in
@@ -29,7 +29,7 @@ with_header order ident old new fields long is room =
 pub image-low32 : (order : Endian) (h : Raw32) → header32_image order (header32_low h) ≡ header32_image order h
 image-low32 order h = ap (λ (rest : List ℕ). h.e_ident ++ rest) (image-low_fields order (header32_fields h))
 
--- a header of the 32-bit class is written as its 32-bit form
+-- a header of the 32-bit class is written as the raw one
 pub written_32 : (h : Header) (raw : Raw32) (old new : List ℕ) (answer : Result ℕ Error) → Ok class.Little ≡ class_of InvalidClass h.e_ident → raw ≡ header32_low (as32 h) → WritesHeader32 raw old answer new → WritesHeader h old answer new
 unfolding WritesHeader
 written_32 h raw old new answer known is so =
@@ -37,12 +37,12 @@ written_32 h raw old new answer known is so =
     let same : (λ (order : Endian). header32_image order (header32_low (as32 h))) ≡ (λ order. header32_image order (as32 h)) = λ i order. image-low32 order (as32 h) i in
     rw (← known) (subst (λ (image : Endian → List ℕ). WritesInOrder h.e_ident header32_size image old answer new) same low)
 
--- a header of the 64-bit class is written as its 64-bit form
+-- a header of the 64-bit class is written as the raw one
 pub written_64 : (h : Header) (raw : Raw64) (old new : List ℕ) (answer : Result ℕ Error) → Ok class.Big ≡ class_of InvalidClass h.e_ident → raw ≡ as64 h → WritesHeader64 raw old answer new → WritesHeader h old answer new
 unfolding WritesHeader
 written_64 h raw old new answer known is so = rw (← known) (subst (λ (r : Raw64). WritesHeader64 r old answer new) is so)
 
--- without a class nothing has changed
+-- without a class nothing changes
 pub no_class : (h : Header) (old : List ℕ) (e : Error) → Err e ≡ class_of InvalidClass h.e_ident → WritesHeader h old (Err e) old
 unfolding WritesHeader
 no_class h old e unknown = rw (← unknown) (refl, refl)

@@ -1,5 +1,5 @@
--- The numbers of the constants of headers, in the order in which the laws list their names (System V gABI, "ELF Header",
--- "Program Header" and "Section Header", and the numbers given out later).
+-- The numbers of the constants of headers, in the order in which the laws list their names (System V gABI, "ELF
+-- Header", "Program Header" and "Section Header", and the numbers assigned later).
 use Rattle.std.specs.Prelude.{ℕ, List, [], ◌∷◌}
 
 -- file types, and the ends of their ranges
@@ -10,11 +10,11 @@ file_type_numbers = 0 ∷ 1 ∷ 2 ∷ 3 ∷ 4 ∷ 5 ∷ 0xfe00 ∷ 0xfeff ∷ 0x
 abbrev pub unnamed_machine_numbers : List ℕ
 unnamed_machine_numbers = 0 ∷ 205 ∷ 248 ∷ 252 ∷ []
 
--- how many bytes the magic number and the identification have
+-- the sizes of the magic number and of the identification in bytes
 abbrev pub ident_size_numbers : List ℕ
 ident_size_numbers = 4 ∷ 16 ∷ []
 
--- the places in the identification: of class, data byte, version, system and its version
+-- the offsets in the identification: of class, data byte, version, OS/ABI and ABI version
 abbrev pub ident_place_numbers : List ℕ
 ident_place_numbers = 4 ∷ 5 ∷ 6 ∷ 7 ∷ 8 ∷ []
 
@@ -40,7 +40,7 @@ segment_type_numbers =
 abbrev pub segment_flag_numbers : List ℕ
 segment_flag_numbers = 1 ∷ 2 ∷ 4 ∷ 0x0ff00000 ∷ 0xf0000000 ∷ []
 
--- indices of sections with a meaning of their own
+-- special section indices
 abbrev pub section_index_numbers : List ℕ
 section_index_numbers =
     0 ∷ 0xff00 ∷ 0xff00 ∷ 0xff00 ∷ 0xff01 ∷ 0xff1f ∷ 0xff20 ∷ 0xff3f ∷ 0xfff1 ∷ 0xfff2 ∷ 0xffff ∷ 0xffff ∷ []

@@ -19,7 +19,7 @@ use Rattle.goblin_headers.specs.Header64.{header64_size, header64_fields, header
 use Rattle.goblin_headers.specs.ProgramHeader.{program_header_size}
 use Rattle.goblin_headers.specs.SectionHeader.{section_header_size}
 
--- how many bytes a header has
+-- the size of a header in bytes
 abbrev pub header_size : Container → ℕ
 header_size class.Little = header32_size
 header_size class.Big = header64_size
@@ -108,7 +108,7 @@ as32 h = header32_of_values h.e_ident (header_values h)
 abbrev pub as64 : Header → Raw64
 as64 h = header64_of_values h.e_ident (header_values h)
 
--- the header that bytes stand for in a class and a byte order
+-- the header read from bytes in a class and a byte order
 abbrev pub header_of : Container → Endian → List ℕ → Header
 header_of class.Little order bytes = widened32 (header32_of order bytes)
 header_of class.Big order bytes = widened64 (header64_of order bytes)
@@ -123,16 +123,16 @@ abbrev pub HeaderFits : Container → Header → Type 0
 HeaderFits class.Little h = Header32Fits (as32 h)
 HeaderFits class.Big h = Header64Fits (as64 h)
 
--- the header with the low bits of each field behind its identification, as many as its width in a class holds
+-- the header with the low bits of each field after its identification, as many as its width in a class holds
 abbrev pub header_low : Container → Header → Header
 header_low class.Little h = widened32 (header32_low (as32 h))
 header_low class.Big h = widened64 (header64_low (as64 h))
 
--- the identification of a new file in a context, version 1, with all else 0
+-- the identification of a new file in a context, version 1, with all other bytes 0
 abbrev pub new_ident : Ctx → List ℕ
 new_ident ctx = magic ++ class_byte ctx.container ∷ data_byte ctx.le ∷ 1 ∷ replicate 9 0
 
--- the header of a shared object file in a context, version 1, with the sizes of its class and all else 0
+-- the header of a shared object file in a context, version 1, with the sizes of its class and all other fields 0
 abbrev pub new_header : Ctx → Header
 new_header ctx = record {
   e_ident = new_ident ctx;

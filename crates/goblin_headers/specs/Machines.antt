@@ -1,4 +1,4 @@
--- The machines of ELF (System V gABI, "ELF Header", e_machine, and the numbers given out later).
+-- The machines of ELF (System V gABI, "ELF Header", e_machine, and the numbers assigned later).
 use Rattle.std.specs.Prelude.{ℕ, List, [], ◌∷◌, codes, map}
 use Rattle.goblin_base.specs.Names.{name_in}
 

@@ -9,12 +9,12 @@ use Rattle.goblin_headers.specs.declared.program_header64.ProgramHeader.{Program
 use Rattle.goblin_headers.specs.ProgramHeader32.{program_header32_size, program_header32_of, program_header32_image, program_header32_low, ProgramHeader32Fits}
 use Rattle.goblin_headers.specs.ProgramHeader64.{program_header64_size, program_header64_of, program_header64_image, program_header64_low, ProgramHeader64Fits}
 
--- how many bytes a program header of a class has
+-- the size of a program header of a class in bytes
 abbrev pub program_header_size : Container → ℕ
 program_header_size Little = program_header32_size
 program_header_size Big = program_header64_size
 
--- the program header with the fields of one of the 32-bit class
+-- the program header with the fields of a raw one
 abbrev pub widened32 : Raw32 → ProgramHeader
 widened32 h = record {
   p_type = h.p_type;
@@ -27,7 +27,7 @@ widened32 h = record {
   p_align = h.p_align;
 }
 
--- the program header with the fields of one of the 64-bit class
+-- the same for the 64-bit class
 abbrev pub widened64 : Raw64 → ProgramHeader
 widened64 h = record {
   p_type = h.p_type;
@@ -40,7 +40,7 @@ widened64 h = record {
   p_align = h.p_align;
 }
 
--- the program header of the 32-bit class with the same fields, whether they fit it or not
+-- the raw program header with the same fields, whether they fit or not
 abbrev pub as32 : ProgramHeader → Raw32
 as32 h = record {
   p_type = h.p_type;
@@ -53,7 +53,7 @@ as32 h = record {
   p_align = h.p_align;
 }
 
--- the program header of the 64-bit class with the same fields, whether they fit it or not
+-- the same for the 64-bit class
 abbrev pub as64 : ProgramHeader → Raw64
 as64 h = record {
   p_type = h.p_type;
@@ -66,7 +66,7 @@ as64 h = record {
   p_align = h.p_align;
 }
 
--- the program header that bytes stand for in a class
+-- the program header read from bytes in a class
 abbrev pub program_header_of : Container → Endian → List ℕ → ProgramHeader
 program_header_of Little order bytes = widened32 (program_header32_of order bytes)
 program_header_of Big order bytes = widened64 (program_header64_of order bytes)

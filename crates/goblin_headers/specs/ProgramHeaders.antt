@@ -1,4 +1,4 @@
--- New program headers, and lists of them that are read at once (System V gABI, "Program Header").
+-- New program headers, and lists of them (System V gABI, "Program Header").
 use Rattle.std.specs.Prelude.{◌/◌, ℕ, nat_lt, List, codes, length, Result}
 use Rattle.goblin_base.specs.declared.container.Ctx.{Ctx}
 use Rattle.goblin_base.specs.Eager.{records_from}
@@ -7,7 +7,7 @@ use Rattle.goblin_base.specs.Steps.{refuse_if}
 use Rattle.goblin_headers.specs.declared.program_header.ProgramHeader.{ProgramHeader}
 use Rattle.goblin_headers.specs.ProgramHeader.{program_header_size, program_header_of}
 
--- a header of a segment that is loaded (1), aligned to two megabytes, with all else 0
+-- a header of a loadable segment (type 1), aligned to 2 MiB, with all other fields 0
 abbrev pub new_program_header : ProgramHeader
 new_program_header = record {
   p_type = 1;
@@ -20,13 +20,13 @@ new_program_header = record {
   p_align = 2097152;
 }
 
--- the test before memory is taken: there are not more program headers than the bytes could hold anywhere
+-- the test before the allocation: that many program headers must fit into the bytes at some offset
 abbrev pub program_headers_tested : List ℕ → ℕ → Ctx → Result (Unit {0}) Refusal
 program_headers_tested bytes count ctx =
     refuse_if (nat_lt (length bytes / program_header_size ctx.container) count) (buffer_too_short count (codes "program headers"))
 
--- so many program headers from an offset on: more than the bytes could hold anywhere are refused as too many, and
--- else the first without room is refused
+-- `count` program headers from an offset on: too many to fit at any offset are refused, else the first that the bytes
+-- don't hold is
 abbrev pub program_headers_from : List ℕ → ℕ → ℕ → Ctx → Result (List ProgramHeader) Refusal
 program_headers_from bytes offset count ctx =
     records_from (program_header_size ctx.container) (program_header_of ctx.container ctx.le) bytes offset count (codes "program headers")

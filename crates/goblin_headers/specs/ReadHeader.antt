@@ -1,4 +1,4 @@
--- Reading a header: the first of these refusals that applies, or the header that the bytes stand for.
+-- Reading a header: the first refusal that applies, or else the header.
 use Rattle.std.specs.Prelude.{ℕ, nat_lt, nat_eq, not, List, length, Result, Ok}
 use Rattle.std.specs.List.{starts_with}
 use Rattle.goblin_base.specs.declared.container.Endian.{Endian}
@@ -17,11 +17,11 @@ use Rattle.goblin_headers.specs.Header.{header_size, magic, class_of, order_of, 
 use Rattle.goblin_headers.specs.Header32.{header32_size, header32_of}
 use Rattle.goblin_headers.specs.Header64.{header64_size, header64_of}
 
--- the bytes have room for this many at their start
+-- the bytes are at least this many
 abbrev pub needs : ℕ → List ℕ → Result (Unit {0}) Error
 needs size bytes = refuse_as Scroll (room_of (length bytes) 0 size)
 
--- a header of either class, and how many bytes it takes
+-- a header of either class, and its size
 unfoldable pub read_header : List ℕ → Result (Header × ℕ) Error
 read_header bytes = do
   _ ← refuse_if (nat_lt (length bytes) 16) (Malformed TooSmall)

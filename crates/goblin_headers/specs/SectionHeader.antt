@@ -10,7 +10,7 @@ use Rattle.goblin_headers.specs.declared.section_header64.SectionHeader.{Section
 use Rattle.goblin_headers.specs.SectionHeader32.{section_header32_size, section_header32_fields, section_header32_of_values, section_header32_of, section_header32_image, section_header32_low, SectionHeader32Fits}
 use Rattle.goblin_headers.specs.SectionHeader64.{section_header64_size, section_header64_fields, section_header64_of_values, section_header64_of, section_header64_image, section_header64_low, SectionHeader64Fits}
 
--- how many bytes a section header of a class has
+-- the size of a section header of a class in bytes
 abbrev pub section_header_size : Container → ℕ
 section_header_size Little = section_header32_size
 section_header_size Big = section_header64_size
@@ -50,7 +50,7 @@ as32 h = section_header32_of_values (section_header_values h)
 abbrev pub as64 : SectionHeader → Raw64
 as64 h = section_header64_of_values (section_header_values h)
 
--- the section header that bytes stand for in a class
+-- the section header read from bytes in a class
 abbrev pub section_header_of : Container → Endian → List ℕ → SectionHeader
 section_header_of Little order bytes = widened32 (section_header32_of order bytes)
 section_header_of Big order bytes = widened64 (section_header64_of order bytes)

@@ -1,5 +1,4 @@
--- New section headers, lists of them that are read at once, and whether a section lies in its file (System V gABI,
--- "Section Header").
+-- New section headers, lists of them, and whether a section lies in its file (System V gABI, "Section Header").
 use Rattle.std.specs.Prelude.{◌+◌, ◌/◌, ◌^◌, ◌||◌, ◌==◌, ℕ, nat_lt, nat_le, if◌then◌else◌, List, [], codes, drop, length, max, Bool, true, Option, Some, None, Result, Ok}
 use Rattle.goblin_base.specs.declared.container.Ctx.{Ctx}
 use Rattle.goblin_base.specs.declared.error.Error.{Error}
@@ -13,7 +12,7 @@ use Rattle.goblin_base.specs.Steps.{◌>>=◌, refuse_if, refuse_as}
 use Rattle.goblin_headers.specs.declared.section_header.SectionHeader.{SectionHeader}
 use Rattle.goblin_headers.specs.SectionHeader.{section_header_size, section_header_of}
 
--- a header of what a program defines (1), in memory while it runs (flag 2), aligned to 512 bytes, with all else 0
+-- a header of type 1 (data of the program) with flag 2 (allocated), aligned to 512 bytes, with all other fields 0
 abbrev pub new_section_header : SectionHeader
 new_section_header = record {
   sh_name = 0;
@@ -28,45 +27,44 @@ new_section_header = record {
   sh_entsize = 0;
 }
 
--- how many headers are asked for: the count, or where it is 0 the size that the first header tells
+-- the number of headers that are asked for: the count, or the first header's `sh_size` if the count is 0
 abbrev pub count_told : SectionHeader → ℕ → ℕ
 count_told first count = if count == 0 then first.sh_size else count
 
--- the same where the first header stands at an offset
+-- the same, with the first header at an offset
 abbrev pub count_asked : List ℕ → ℕ → ℕ → Ctx → ℕ
 count_asked bytes offset count ctx = count_told (section_header_of ctx.container ctx.le (drop offset bytes)) count
 
--- how many headers are read from an offset on, of which there is one at least; the first must have room
+-- the number of headers to read from an offset on, at least 1; the bytes must hold the first
 abbrev pub count_from : List ℕ → ℕ → ℕ → Ctx → Result ℕ Error
 count_from bytes offset count ctx =
     unless_fault (room_of (length bytes) offset (section_header_size ctx.container)) (max 1 (count_asked bytes offset count ctx))
 
--- the tests before memory is taken: the first header has room, and there are not more than the bytes could hold
--- anywhere
+-- the tests before the allocation: the bytes hold the first header, and that many headers fit into them at some offset
 unfoldable pub section_headers_from_tested : List ℕ → ℕ → ℕ → Ctx → Result (Unit {0}) Refusal
 section_headers_from_tested bytes offset count ctx = do
   _ ← refuse_as misplaced (room_of (length bytes) offset (section_header_size ctx.container))
   let asked = count_asked bytes offset count ctx in
       refuse_if (nat_lt (length bytes / section_header_size ctx.container) asked) (buffer_too_short asked (codes "section headers"))
 
--- the section headers from an offset on: after those tests the first without room is refused; there is one at least
+-- the section headers from an offset on, at least one: after those tests the first that the bytes don't hold is refused
 unfoldable pub section_headers_from : List ℕ → ℕ → ℕ → Ctx → Result (List SectionHeader) Refusal
 section_headers_from bytes offset count ctx = do
   _ ← section_headers_from_tested bytes offset count ctx
   records_in (section_header_size ctx.container) (section_header_of ctx.container ctx.le) bytes offset (max 1 (count_asked bytes offset count ctx))
 
--- the section headers of a file: none where they are said to start at its start
+-- the section headers of a file: none if their offset is 0
 abbrev pub section_headers_of : List ℕ → ℕ → ℕ → Ctx → Result (List SectionHeader) Refusal
 section_headers_of bytes offset count ctx =
     if offset == 0 then Ok [] else section_headers_from bytes offset count ctx
 
--- those of its tests that stand before memory is taken
+-- those of its tests that come before the allocation
 abbrev pub section_headers_of_tested : List ℕ → ℕ → ℕ → Ctx → Result (Unit {0}) Refusal
 section_headers_of_tested bytes offset count ctx =
     if offset == 0 then Ok tt else section_headers_from_tested bytes offset count ctx
 
--- the index of the section that holds the sections' names: e_shstrndx, or where that is 0xffff the sh_link of the
--- first section
+-- the index of the section that holds the section names: `e_shstrndx`, or the first section's `sh_link` if that is
+-- 0xffff
 abbrev pub link_of : Option SectionHeader → ℕ
 link_of (Some section) = section.sh_link
 link_of None = 0
@@ -74,8 +72,8 @@ link_of None = 0
 abbrev pub names_index : ℕ → Option SectionHeader → ℕ
 names_index index first = if index == 0xffff then link_of first else index
 
--- the section that another one names by its index as a table: index 0 is no section, and one of type 8 has no bytes in
--- the file
+-- the section at an index as a table that others name by the index: index 0 is no section, and a section of type 8 has
+-- no bytes in the file
 abbrev pub linked : ℕ → Option SectionHeader → Option SectionHeader
 linked index (Some section) = if index == 0 || section.sh_type == 8 then None else Some section
 linked index None = None
@@ -89,6 +87,6 @@ size_checked len s =
       _ ← refuse_if (nat_lt len (s.sh_offset + s.sh_size)) (Malformed (SectionOffset s.sh_name s.sh_size s.sh_offset (nat_le (2 ^ 64) (s.sh_offset + s.sh_size))))
       refuse_if (nat_le (2 ^ 64) (s.sh_addr + s.sh_size)) (Malformed (SectionAddr s.sh_name s.sh_size s.sh_addr true))
 
--- the same in a mode: a permissive check passes every section
+-- the same in a mode: every section passes a permissive check
 abbrev pub size_checked_in : Bool → ℕ → SectionHeader → Result (Unit {0}) Error
 size_checked_in permissive len s = if permissive then Ok tt else size_checked len s

@@ -1,5 +1,5 @@
--- The names of section types and of their flags (System V gABI, "Section Header", sh_type and sh_flags, and the
--- numbers given out later).
+-- The names of section types and of their flags (System V gABI, "Section Header", sh_type and sh_flags, and the numbers
+-- assigned later).
 use Rattle.std.specs.Prelude.{ℕ, List, [], ◌∷◌, codes}
 use Rattle.goblin_base.specs.Names.{name_in}
 

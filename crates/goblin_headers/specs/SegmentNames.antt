@@ -1,4 +1,4 @@
--- The names of segment types (System V gABI, "Program Header", p_type, and the numbers given out later).
+-- The names of segment types (System V gABI, "Program Header", p_type, and the numbers assigned later).
 use Rattle.std.specs.Prelude.{ℕ, List, [], ◌∷◌, codes}
 use Rattle.goblin_base.specs.Names.{name_in}
 

@@ -1,4 +1,4 @@
--- Writing a header: the first of these refusals that applies, which changes nothing, or the header's bytes in front.
+-- Writing a header: the first refusal that applies, which changes nothing, or else the header's bytes at the start.
 use Rattle.std.specs.Prelude.{◌≡◌, ℕ, List, Result, Ok, Err}
 use Rattle.goblin_base.specs.declared.container.Endian.{Endian}
 use Rattle.goblin_base.specs.declared.error.Error.{Error}
@@ -11,7 +11,7 @@ use Rattle.goblin_headers.specs.Header.{header_size, header_image, class_of, ord
 use Rattle.goblin_headers.specs.Header32.{header32_size, header32_image}
 use Rattle.goblin_headers.specs.Header64.{header64_size, header64_image}
 
--- where something is known it says what is written; else nothing has changed, and the answer is the refusal
+-- a found value decides what is written; an error is the result, and nothing changes
 abbrev pub WritesBy : {X : Type 0} → Result X Error → (X → List ℕ → Result ℕ Error → List ℕ → Type 0) → List ℕ → Result ℕ Error → List ℕ → Type 0
 WritesBy (Ok x) writes old answer new = writes x old answer new
 WritesBy (Err e) writes old answer new = (answer ≡ Err e) × (new ≡ old)
