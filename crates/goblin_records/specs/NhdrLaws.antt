@@ -1,4 +1,4 @@
--- Note headers of both classes are read back from what was written, and written back as they were read.
+-- Laws of note headers of each class: written headers are read back, and headers that were read are written back.
 use Rattle.std.proofs.Common.{refl, lit<}
 use Rattle.goblin_base.specs.declared.container.Endian.{Endian}
 use Rattle.goblin_base.specs.Layout.{IsRecord}
@@ -6,7 +6,7 @@ use Rattle.goblin_base.specs.LayoutLaws.{layout_laws}
 use Rattle.goblin_records.specs.Nhdr.{nhdr32_size, nhdr32_of, nhdr32_of_values, nhdr32_widths, nhdr32_fields, nhdr32_image, nhdr32_low, Nhdr32Fits}
 use Rattle.goblin_records.specs.Nhdr.{nhdr64_size, nhdr64_of, nhdr64_of_values, nhdr64_widths, nhdr64_fields, nhdr64_image, nhdr64_low, Nhdr64Fits}
 
--- how the fields of a note header lie
+-- the laws follow from the list of fields
 pub nhdr32_laws : (order : Endian) → IsRecord nhdr32_size (nhdr32_of order) (nhdr32_image order) nhdr32_low Nhdr32Fits
 nhdr32_laws order = layout_laws {widths = nhdr32_widths} {fields = nhdr32_fields} (record {
   of_values = nhdr32_of_values;
@@ -17,7 +17,7 @@ nhdr32_laws order = layout_laws {widths = nhdr32_widths} {fields = nhdr32_fields
   fields_read = λ order bytes are room. refl;
 }) order (lit< tt)
 
--- how the fields of a note header lie
+-- the laws follow from the list of fields
 pub nhdr64_laws : (order : Endian) → IsRecord nhdr64_size (nhdr64_of order) (nhdr64_image order) nhdr64_low Nhdr64Fits
 nhdr64_laws order = layout_laws {widths = nhdr64_widths} {fields = nhdr64_fields} (record {
   of_values = nhdr64_of_values;

@@ -18,7 +18,7 @@ use Rattle.goblin_records.specs.Reloc64.{rel64_size, rela64_size, rel64_of, rela
 use Rattle.goblin_records.specs.RelocInfo.{symbols, types, symbol_in, type_in, info_of, mips64el_pair, mips64el_pair_inverse}
 use Rattle.goblin_base.specs.Signed.{FitsSigned}
 
--- how many bytes a relocation takes, with an addend or without, in a class
+-- the size of a relocation in bytes, with an addend or without, in a class
 abbrev pub reloc_size : Bool → Container → ℕ
 reloc_size false Little = rel32_size
 reloc_size true Little = rela32_size
@@ -58,8 +58,8 @@ rela_widened64 r = record {
   r_type = type_in Big r.r_info;
 }
 
--- the raw relocation with the same offset and addend, whether they fit it or not, and the `r_info` of symbol and type;
--- a missing addend is 0
+-- the raw relocation with the same offset and addend, whether they fit or not, and the `r_info` of symbol and type; a
+-- missing addend becomes 0
 abbrev pub rel_as32 : Reloc → Rel32
 rel_as32 r = record { r_offset = r.r_offset; r_info = info_of Little r.r_sym r.r_type }
 
@@ -80,14 +80,14 @@ rela_as64 r = record {
   r_addend = unwrap_or r.r_addend (pos 0);
 }
 
--- the relocation that bytes stand for, with an addend or without, in a class
+-- the relocation read from bytes, with an addend or without, in a class
 abbrev pub reloc_of : Bool → Container → Endian → List ℕ → Reloc
 reloc_of false Little order bytes = rel_widened32 (rel32_of order bytes)
 reloc_of true Little order bytes = rela_widened32 (rela32_of order bytes)
 reloc_of false Big order bytes = rel_widened64 (rel64_of order bytes)
 reloc_of true Big order bytes = rela_widened64 (rela64_of order bytes)
 
--- the fields of a relocation in the order in which they lie, each with its width
+-- the fields of a relocation in file order, each with its width in bytes
 abbrev pub reloc_fields : Bool → Container → Reloc → List Field
 reloc_fields false Little r = rel32_fields (rel_as32 r)
 reloc_fields true Little r = rela32_fields (rela_as32 r)
@@ -98,14 +98,14 @@ reloc_fields true Big r = rela64_fields (rela_as64 r)
 abbrev pub reloc_image : Bool → Container → Endian → Reloc → List ℕ
 reloc_image is_rela class order r = image_of_fields order (reloc_fields is_rela class r)
 
--- the relocation with the low bits of each field, as many as there is room for
+-- the relocation with the low bits of each field, as many as its width holds
 abbrev pub reloc_low : Bool → Container → Reloc → Reloc
 reloc_low false Little r = rel_widened32 (rel32_low (rel_as32 r))
 reloc_low true Little r = rela_widened32 (rela32_low (rela_as32 r))
 reloc_low false Big r = rel_widened64 (rel64_low (rel_as64 r))
 reloc_low true Big r = rela_widened64 (rela64_low (rela_as64 r))
 
--- there is an addend exactly where one is written, and so many bytes can stand for it
+-- there is an addend exactly if one is written, and it fits its width
 abbrev pub AddendFits : Bool → ℕ → Option ℤ → Type 0
 AddendFits false width addend = addend ≡ None
 AddendFits true width addend = IsSomeAnd addend (FitsSigned width)
@@ -117,19 +117,19 @@ pub record RelocFits (is_rela : Bool) (class : Container) (r : Reloc) : Type 0 w
   pub typ : r.r_type < types class
   pub addend : AddendFits is_rela (word_size class) r.r_addend
 
--- what a relocation that was read means: in a MIPS64 file of little order its symbol and type go through the pair
+-- the relocation that a stored one means: in a little-endian MIPS64 file its symbol and type are decoded
 abbrev pub as_meant : Bool → Reloc → Reloc
 as_meant false r = r
 as_meant true r = let pair = mips64el_pair (r.r_sym, r.r_type) in record r { r_sym = pair.0; r_type = pair.1 }
 
--- the relocation that is stored for one that is meant
+-- the relocation to store for one that is meant
 abbrev pub as_stored : Bool → Reloc → Reloc
 as_stored false r = r
 as_stored true r =
     let pair = mips64el_pair_inverse (r.r_sym % 2 ^ 32, r.r_type) in
     record r { r_sym = pair.0; r_type = pair.1 }
 
--- what is stored for a relocation fits; of a pair each part is a word of 32 bits
+-- the relocation to store fits; for MIPS64 its symbol and its type are words of 32 bits
 abbrev pub StoredFits : Bool → Bool → Container → Reloc → Type 0
 StoredFits false is_rela class r = RelocFits is_rela class r
 StoredFits true is_rela class r =
@@ -143,29 +143,30 @@ context is_rela class order is_mips64el = record {
   is_mips64el = is_mips64el;
 }
 
--- the relocation that bytes stand for in a context, through the pair where it says so
+-- the relocation read from bytes in a context
 abbrev pub reloc_in : RelocCtx → List ℕ → Reloc
 reloc_in c bytes = as_meant c.is_mips64el (reloc_of c.is_rela c.ctx.container c.ctx.le bytes)
 
--- the bytes that a relocation is written as there
+-- the bytes that a relocation is written as in a context
 abbrev pub reloc_image_in : RelocCtx → Reloc → List ℕ
 reloc_image_in c r = reloc_image c.is_rela c.ctx.container c.ctx.le (as_stored c.is_mips64el r)
 
--- the relocation with the low bits of what is stored for it
+-- the relocation with the low bits of the one that is stored for it
 abbrev pub reloc_low_in : RelocCtx → Reloc → Reloc
 reloc_low_in c r = as_meant c.is_mips64el (reloc_low c.is_rela c.ctx.container (as_stored c.is_mips64el r))
 
--- what is stored for a relocation fits the context
+-- the relocation to store fits the context
 abbrev pub RelocFitsIn : RelocCtx → Reloc → Type 0
 RelocFitsIn c r = StoredFits c.is_mips64el c.is_rela c.ctx.container r
 
--- the image of a relocation is the one list of bytes of its size that reads as the low bits of what is stored for it
+-- the image of a relocation is the only list of bytes of its size that is read as the low bits of the one that is
+-- stored for it
 abbrev pub OneImage : Type 0
 OneImage =
     (c : RelocCtx) → IsOneImage (reloc_size c.is_rela c.ctx.container) (reloc_in c) (reloc_image_in c) (reloc_low_in c)
 
 -- relocations that fit both classes, written one after another in either class and order, are read in that class and
--- order as the same relocations; with addends and without, through the pair and not
+-- order as the same relocations; with addends and without, of MIPS64 and not
 abbrev pub SameInEachClass : Type 0
 SameInEachClass =
     (is_rela is_mips64el : Bool)
@@ -174,10 +175,10 @@ SameInEachClass =
     (λ class order. reloc_image_in (context is_rela class order is_mips64el))
     (StoredFits is_mips64el is_rela)
 
--- the relocation of zeros, without an addend, as the default has it
+-- the default relocation: all fields 0, without an addend
 abbrev pub reloc_zero : Reloc
 reloc_zero = record { r_offset = 0; r_addend = None; r_sym = 0; r_type = 0 }
 
--- no addends, and no pair, in the class of 64 bits and little byte order
+-- the default context: without addends, not of MIPS64, of the 64-bit class and little endian
 abbrev pub reloc_ctx_plain : RelocCtx
 reloc_ctx_plain = record { is_rela = false; ctx = record { container = Big; le = order.Little }; is_mips64el = false }

@@ -1,5 +1,5 @@
--- What an `r_info` tells: the symbol and the type (System V gABI, "Relocation", ELF32_R_SYM and its like), and the
--- order in which MIPS64 files of little order keep its parts.
+-- The parts of an `r_info`: the symbol and the type (System V gABI, "Relocation", ELF32_R_SYM and its like), and how
+-- little-endian MIPS64 files store them.
 use Rattle.std.specs.Prelude.{◌≡◌, ◌<◌, ◌+◌, ◌*◌, ◌/◌, ◌%◌, ◌^◌, ℕ}
 use Rattle.goblin_base.specs.declared.container.Container.{Container}
 use Rattle.goblin_base.specs.declared.container.Container.TheVariants.{Little, Big}
@@ -16,7 +16,7 @@ abbrev pub types : Container → ℕ
 types Little = 2 ^ 8
 types Big = 2 ^ 32
 
--- the symbol that an `r_info` names: what stands above its type
+-- the symbol that an `r_info` names: the bits above its type
 abbrev pub symbol_in : Container → ℕ → ℕ
 symbol_in class info = info / types class
 
@@ -24,25 +24,25 @@ symbol_in class info = info / types class
 abbrev pub type_in : Container → ℕ → ℕ
 type_in class info = info % types class
 
--- the `r_info` of the low bits of a symbol and of a type, as many as a class has room for
+-- the `r_info` of the low bits of a symbol and of a type, as many as a class holds
 abbrev pub info_of : Container → ℕ → ℕ → ℕ
 info_of class symbol typ = (symbol % symbols class) * types class + typ % types class
 
--- an `r_info` of a class is joined again from the parts that it was split into
+-- an `r_info` of a class is the one of its symbol and its type
 abbrev pub JoinsItsParts : Container → Type 0
 JoinsItsParts class =
     (info : ℕ) → info < symbols class * types class → info_of class (symbol_in class info) (type_in class info) ≡ info
 
--- what four bytes in little order stand for in big order
+-- the big-endian number of the four bytes of a little-endian one
 abbrev pub reversed : ℕ → ℕ
 reversed word = number order.Big (spelled order.Little 4 word)
 
--- what the high and the low word of an `r_info`, as they were read, stand for in a MIPS64 file of little order: the
--- low one is the symbol, and the high one has the bytes of the type in the other order
+-- the symbol and the type that the high and the low word of an `r_info` store in a little-endian MIPS64 file: the low
+-- word is the symbol, and the high word is the type with its bytes reversed
 abbrev pub mips64el_pair : ℕ × ℕ → ℕ × ℕ
 mips64el_pair read = (read.1, reversed read.0)
 
--- the words that stand for a symbol and a type there
+-- the words that store a symbol and a type there
 abbrev pub mips64el_pair_inverse : ℕ × ℕ → ℕ × ℕ
 mips64el_pair_inverse meant = (reversed meant.1, meant.0)
 
@@ -54,26 +54,26 @@ words_of info = (info / 2 ^ 32, info % 2 ^ 32)
 abbrev pub joined : ℕ × ℕ → ℕ
 joined words = words.0 * 2 ^ 32 + words.1
 
--- the standard `r_info` of one that was read from a MIPS64 file of little order
+-- the standard `r_info` of one that was read from a little-endian MIPS64 file
 abbrev pub mips64el_info : ℕ → ℕ
 mips64el_info info = joined (mips64el_pair (words_of info))
 
--- the `r_info` that stands for a standard one there
+-- the `r_info` that stores a standard one there
 abbrev pub mips64el_info_inverse : ℕ → ℕ
 mips64el_info_inverse info = joined (mips64el_pair_inverse (words_of info))
 
--- the one undoes the other, both ways
+-- the two undo each other
 abbrev pub MipsInverse : Type 0
 MipsInverse =
     (info : ℕ) → info < 2 ^ 64
     → (mips64el_info_inverse (mips64el_info info) ≡ info) × (mips64el_info (mips64el_info_inverse info) ≡ info)
 
--- no two infos stand for the same one
+-- different ones have different standard ones
 abbrev pub MipsOneToOne : Type 0
 MipsOneToOne =
     (one other : ℕ) → one < 2 ^ 64 → other < 2 ^ 64 → mips64el_info one ≡ mips64el_info other → one ≡ other
 
--- four times is not at all
+-- four times gives back the first
 abbrev pub MipsFourTimes : Type 0
 MipsFourTimes =
     (info : ℕ) → info < 2 ^ 64 → mips64el_info (mips64el_info (mips64el_info (mips64el_info info))) ≡ info

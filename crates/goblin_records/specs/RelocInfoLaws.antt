@@ -1,4 +1,4 @@
--- Laws of the parts of an `r_info`: they are joined again, and the pair of MIPS64 is turned back.
+-- Laws of the parts of an `r_info`: they can be joined again, and the decoding of MIPS64 can be undone.
 use Rattle.std.proofs.Common.{◌≡◌, ◌<◌, ◌+◌, ◌*◌, ◌/◌, ◌%◌, ◌^◌, ℕ, List, reverse, refl, sym, ap, ◌∙◌, arith}
 use Rattle.std.proofs.lemmas.List.{reverse-reverse}
 use Rattle.goblin_base.specs.declared.container.Container.{Container}
@@ -8,17 +8,17 @@ use Rattle.goblin_base.specs.Number.{number, spelled}
 use Rattle.goblin_base.specs.NumberLaws.{IsBytes-spelled, number-lt, number-spelled, length-spelled, spelled-number}
 use Rattle.goblin_records.specs.RelocInfo.{symbols, types, symbol_in, type_in, info_of, JoinsItsParts, reversed, mips64el_info_inverse, MipsInverse, MipsOneToOne, MipsFourTimes}
 
--- an `r_info` of the low bits of a symbol and a type is in range, and is split into them
+-- an `r_info` of the low bits of a symbol and a type is in range, and these are its parts
 pub info_of-parts : (class : Container) (symbol typ : ℕ) → let info = info_of class symbol typ in (info < symbols class * types class) × (symbol_in class info ≡ symbol % symbols class) × (type_in class info ≡ typ % types class)
 info_of-parts Little symbol typ = (omega arith, omega arith, omega arith)
 info_of-parts Big symbol typ = (omega arith, omega arith, omega arith)
 
--- and is joined again from what it was split into
+-- and it is the one of its parts
 pub joins_its_parts : (class : Container) → JoinsItsParts class
 joins_its_parts Little info h = omega arith
 joins_its_parts Big info h = omega arith
 
--- four bytes in big order are those in little order from the last to the first
+-- the four big-endian bytes of a number are its little-endian ones reversed
 spelled-big : (word : ℕ) → spelled order.Big 4 word ≡ reverse (spelled order.Little 4 word)
 unfolding spelled
 spelled-big word = refl
@@ -27,13 +27,13 @@ number-little : (bytes : List ℕ) → number order.Big (reverse bytes) ≡ numb
 unfolding number
 number-little bytes = ap (λ (all : List ℕ). number order.Little all) (reverse-reverse bytes)
 
--- four bytes stand for a number below 2 to the 32nd in either order
+-- four bytes are a number below 2 ^ 32 in either order
 pub reversed-lt : (word : ℕ) → reversed word < 2 ^ 32
 reversed-lt word =
     let below = number-lt order.Big (spelled order.Little 4 word) (IsBytes-spelled order.Little 4 word) in
     rw (length-spelled order.Little 4 word) at below
 
--- bytes that are reversed twice are as they were
+-- bytes that are reversed twice are unchanged
 pub reversed-reversed : (word : ℕ) → word < 2 ^ 32 → reversed (reversed word) ≡ word
 reversed-reversed word h =
     let bytes = spelled order.Little 4 word in

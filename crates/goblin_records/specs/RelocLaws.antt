@@ -1,5 +1,5 @@
--- Relocations of either class, with an addend or without, are read back from what was written, and written back as they
--- were read; through the pair of MIPS64 too.
+-- Laws of relocations of each class, with an addend or without, of MIPS64 or not: written relocations are read back,
+-- and relocations that were read are written back.
 use Rattle.std.proofs.Common.{refl, lit<, ◌≡◌, ◌<◌, ◌≤◌, ◌*◌, ◌^◌, ℕ, List, Bool, true, false, Option, Some, None, length, ◌∙◌, arith}
 use Rattle.std.specs.Prelude.{ℤ, pos, unwrap_or, IsSomeAnd}
 use Rattle.std.proofs.Math.Nat.{mod-eq_of_lt}
@@ -20,7 +20,7 @@ use Rattle.goblin_records.specs.RelocInfo.{symbols, types, symbol_in, type_in, i
 use Rattle.goblin_records.specs.RelocInfoLaws.{info_of-parts, joins_its_parts, reversed-reversed}
 use Rattle.goblin_records.specs.Reloc.{reloc_size, reloc_of, reloc_image, reloc_low, RelocFits, rel_widened32, rela_widened32, rel_widened64, rela_widened64, rel_as32, rela_as32, rel_as64, rela_as64, as_meant, as_stored, StoredFits, reloc_in, reloc_image_in, reloc_low_in, RelocFitsIn, context, OneImage, SameInEachClass}
 
--- how the fields of a relocation without an addend lie
+-- the laws of relocations without an addend follow from the list of fields
 pub rel32_laws : (order : Endian) → IsRecord rel32_size (rel32_of order) (rel32_image order) rel32_low Rel32Fits
 rel32_laws order = layout_laws {widths = rel32_widths} {fields = rel32_fields} (record {
   of_values = rel32_of_values;
@@ -31,7 +31,7 @@ rel32_laws order = layout_laws {widths = rel32_widths} {fields = rel32_fields} (
   fields_read = λ order bytes are room. refl;
 }) order (lit< tt)
 
--- how those of one with an addend lie
+-- and so do those of relocations with one
 pub rela32_laws : (order : Endian) → IsRecord rela32_size (rela32_of order) (rela32_image order) rela32_low Rela32Fits
 rela32_laws order = layout_laws {widths = rela32_widths} {fields = rela32_fields} (record {
   of_values = rela32_of_values;
@@ -42,7 +42,7 @@ rela32_laws order = layout_laws {widths = rela32_widths} {fields = rela32_fields
   fields_read = λ order bytes are room. rw (complement-signed_number_at order bytes 8 4 are room) refl;
 }) order (lit< tt)
 
--- how the fields of a relocation without an addend lie
+-- the laws of relocations without an addend follow from the list of fields
 pub rel64_laws : (order : Endian) → IsRecord rel64_size (rel64_of order) (rel64_image order) rel64_low Rel64Fits
 rel64_laws order = layout_laws {widths = rel64_widths} {fields = rel64_fields} (record {
   of_values = rel64_of_values;
@@ -53,7 +53,7 @@ rel64_laws order = layout_laws {widths = rel64_widths} {fields = rel64_fields} (
   fields_read = λ order bytes are room. refl;
 }) order (lit< tt)
 
--- how those of one with an addend lie
+-- and so do those of relocations with one
 pub rela64_laws : (order : Endian) → IsRecord rela64_size (rela64_of order) (rela64_image order) rela64_low Rela64Fits
 rela64_laws order = layout_laws {widths = rela64_widths} {fields = rela64_fields} (record {
   of_values = rela64_of_values;
@@ -69,19 +69,19 @@ parts_of : (class : Container) (symbol typ : ℕ) → symbol < symbols class →
 parts_of class symbol typ s t =
     let parts = info_of-parts class symbol typ in (parts.0, parts.1 ∙ mod-eq_of_lt s, parts.2 ∙ mod-eq_of_lt t)
 
--- an addend that is there is the one that is written
+-- an addend that is present is the one that is written
 some_fits : (width : ℕ) (addend : Option ℤ) → IsSomeAnd addend (FitsSigned width) → FitsSigned width (unwrap_or addend (pos 0)) × (Some (unwrap_or addend (pos 0)) ≡ addend)
 some_fits width None h = absurd h
 some_fits width (Some z) h = (h, refl)
 
--- an `r_info` that was read is joined again
+-- an `r_info` that was read is the one of its parts
 joins_32 : (order : Endian) (bytes : List ℕ) → IsBytes bytes → 8 ≤ length bytes → let info = number_at order bytes 4 4 in info_of Little (symbol_in Little info) (type_in Little info) ≡ info
 joins_32 order bytes are room = joins_its_parts Little (number_at order bytes 4 4) (number_at-lt order bytes 4 4 are room)
 
 joins_64 : (order : Endian) (bytes : List ℕ) → IsBytes bytes → 16 ≤ length bytes → let info = number_at order bytes 8 8 in info_of Big (symbol_in Big info) (type_in Big info) ≡ info
 joins_64 order bytes are room = joins_its_parts Big (number_at order bytes 8 8) (number_at-lt order bytes 8 8 are room)
 
--- the relocation of either class, with an addend or without, is a raw one through the conversions
+-- a relocation of either class, with an addend or without, is a converted raw one
 pub reloc_laws : (is_rela : Bool) (class : Container) (order : Endian) → IsRecord (reloc_size is_rela class) (reloc_of is_rela class order) (reloc_image is_rela class order) (reloc_low is_rela class) (RelocFits is_rela class)
 reloc_laws false Little order =
     converted_laws rel_widened32 rel_as32 (RelocFits false Little) (rel32_laws order)
@@ -107,15 +107,15 @@ words true Little order bytes are room = let below = number_at-lt order bytes 4 
 words false Big order bytes are room = let below = number_at-lt order bytes 8 8 are (omega arith) in (omega arith, omega arith)
 words true Big order bytes are room = let below = number_at-lt order bytes 8 8 are (omega arith) in (omega arith, omega arith)
 
--- what is stored for a relocation means it
+-- the relocation to store for one means that one
 meant-stored : (r : Reloc) → r.r_sym < 2 ^ 32 → r.r_type < 2 ^ 32 → as_meant true (as_stored true r) ≡ r
 meant-stored r s t = rw (mod-eq_of_lt s, reversed-reversed r.r_type t) refl
 
--- and for what a relocation means that one is stored
+-- and the relocation to store for the meaning of one is that one
 stored-meant : (r : Reloc) → r.r_sym < 2 ^ 32 → r.r_type < 2 ^ 32 → as_stored true (as_meant true r) ≡ r
 stored-meant r s t = rw (mod-eq_of_lt t, reversed-reversed r.r_sym s) refl
 
--- through the pair a relocation obeys the same laws
+-- relocations of MIPS64 obey the same laws
 stored_laws : (is_mips64el is_rela : Bool) (class : Container) (order : Endian) → let c = context is_rela class order is_mips64el in IsRecord (reloc_size is_rela class) (reloc_in c) (reloc_image_in c) (reloc_low_in c) (RelocFitsIn c)
 stored_laws false is_rela class order = reloc_laws is_rela class order
 stored_laws true is_rela class order =

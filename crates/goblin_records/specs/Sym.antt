@@ -12,12 +12,12 @@ use Rattle.goblin_records.specs.declared.sym64.Sym.{Sym as Sym64}
 use Rattle.goblin_records.specs.Sym32.{sym32_size, sym32_of, sym32_image, sym32_low, Sym32Fits}
 use Rattle.goblin_records.specs.Sym64.{sym64_size, sym64_of, sym64_image, sym64_low, Sym64Fits}
 
--- how many bytes a symbol of a class takes
+-- the size of a symbol of a class in bytes
 abbrev pub sym_size : Container → ℕ
 sym_size Little = sym32_size
 sym_size Big = sym64_size
 
--- the symbol with the fields of one of the 32-bit class
+-- the symbol with the fields of a raw one
 abbrev pub widened32 : Sym32 → Sym
 widened32 s = record {
   st_name = s.st_name;
@@ -28,7 +28,7 @@ widened32 s = record {
   st_size = s.st_size;
 }
 
--- the symbol with the fields of one of the 64-bit class
+-- the same for the 64-bit class
 abbrev pub widened64 : Sym64 → Sym
 widened64 s = record {
   st_name = s.st_name;
@@ -39,7 +39,7 @@ widened64 s = record {
   st_size = s.st_size;
 }
 
--- the symbol of the 32-bit class with the same fields, whether they fit it or not
+-- the raw symbol with the same fields, whether they fit or not
 abbrev pub as32 : Sym → Sym32
 as32 s = record {
   st_name = s.st_name;
@@ -50,7 +50,7 @@ as32 s = record {
   st_shndx = s.st_shndx;
 }
 
--- the symbol of the 64-bit class with the same fields, whether they fit it or not
+-- the same for the 64-bit class
 abbrev pub as64 : Sym → Sym64
 as64 s = record {
   st_name = s.st_name;
@@ -61,7 +61,7 @@ as64 s = record {
   st_size = s.st_size;
 }
 
--- the symbol that bytes stand for in a class
+-- the symbol read from bytes in a class
 abbrev pub sym_of : Container → Endian → List ℕ → Sym
 sym_of Little order bytes = widened32 (sym32_of order bytes)
 sym_of Big order bytes = widened64 (sym64_of order bytes)
@@ -81,8 +81,8 @@ abbrev pub sym_low : Container → Sym → Sym
 sym_low Little s = widened32 (sym32_low (as32 s))
 sym_low Big s = widened64 (sym64_low (as64 s))
 
--- so many symbols from an offset on: more than the bytes could hold anywhere are refused as too many, and else the
--- first without room is refused
+-- `count` symbols from an offset on: too many to fit at any offset are refused, else the first that the bytes don't
+-- hold is
 abbrev pub symbols_from : List ℕ → ℕ → ℕ → Ctx → Result (List Sym) Refusal
 symbols_from bytes offset count ctx =
     records_from (sym_size ctx.container) (sym_of ctx.container ctx.le) bytes offset count (codes "symbols")

@@ -1,4 +1,4 @@
--- Symbols of either class are read back from what was written, and written back as they were read.
+-- Laws of symbols of each class: written symbols are read back, and symbols that were read are written back.
 use Rattle.std.proofs.Common.{refl, lit<}
 use Rattle.goblin_base.specs.declared.container.Endian.{Endian}
 use Rattle.goblin_base.specs.declared.container.Container.{Container}
@@ -9,7 +9,7 @@ use Rattle.goblin_records.specs.Sym32.{sym32_size, sym32_of, sym32_of_values, sy
 use Rattle.goblin_records.specs.Sym64.{sym64_size, sym64_of, sym64_of_values, sym64_widths, sym64_fields, sym64_image, sym64_low, Sym64Fits}
 use Rattle.goblin_records.specs.Sym.{sym_size, sym_of, sym_image, sym_low, SymFits, as32, as64, widened32, widened64}
 
--- how the fields of a symbol lie
+-- the laws follow from the list of fields
 pub sym32_laws : (order : Endian) → IsRecord sym32_size (sym32_of order) (sym32_image order) sym32_low Sym32Fits
 sym32_laws order = layout_laws {widths = sym32_widths} {fields = sym32_fields} (record {
   of_values = sym32_of_values;
@@ -20,7 +20,7 @@ sym32_laws order = layout_laws {widths = sym32_widths} {fields = sym32_fields} (
   fields_read = λ order bytes are room. refl;
 }) order (lit< tt)
 
--- how the fields of a symbol lie
+-- the laws follow from the list of fields
 pub sym64_laws : (order : Endian) → IsRecord sym64_size (sym64_of order) (sym64_image order) sym64_low Sym64Fits
 sym64_laws order = layout_laws {widths = sym64_widths} {fields = sym64_fields} (record {
   of_values = sym64_of_values;
@@ -31,7 +31,7 @@ sym64_laws order = layout_laws {widths = sym64_widths} {fields = sym64_fields} (
   fields_read = λ order bytes are room. refl;
 }) order (lit< tt)
 
--- a symbol is the raw one of its class with its fields widened, and no two raw ones are widened to the same
+-- a symbol is the raw one of its class with its fields widened, and different raw ones are widened differently
 pub sym_laws : (class : Container) (order : Endian) → IsRecord (sym_size class) (sym_of class order) (sym_image class order) (sym_low class) (SymFits class)
 sym_laws Little order = converted_laws widened32 as32 (SymFits Little) (sym32_laws order) (λ s fits. (fits, refl)) (λ bytes are room. refl)
 sym_laws Big order = converted_laws widened64 as64 (SymFits Big) (sym64_laws order) (λ s fits. (fits, refl)) (λ bytes are room. refl)

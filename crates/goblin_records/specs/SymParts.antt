@@ -1,4 +1,4 @@
--- What the bytes of a symbol tell: its binding, its type and its visibility (System V gABI, "Symbol Table").
+-- The parts of a symbol's `st_info` and `st_other`: binding, type and visibility (System V gABI, "Symbol Table").
 use Rattle.std.specs.Prelude.{◌≡◌, ◌/◌, ◌%◌, ◌⊎◌, ℕ, List, [], ◌∷◌, codes}
 use Rattle.goblin_base.specs.Names.{name_in}
 
@@ -14,11 +14,11 @@ type_of info = info % 16
 abbrev pub visibility_of : ℕ → ℕ
 visibility_of other = other % 8
 
--- a global symbol (1) without a value
+-- a global symbol (1) of value 0
 abbrev pub IsGlobalImport : ℕ → ℕ → Type 0
 IsGlobalImport info value = (bind_of info ≡ 1) × (value ≡ 0)
 
--- a global (1) or weak (2) symbol without a value
+-- a global (1) or weak (2) symbol of value 0
 abbrev pub IsImport : ℕ → ℕ → Type 0
 IsImport info value = ((bind_of info ≡ 1) ⊎ (bind_of info ≡ 2)) × (value ≡ 0)
 
