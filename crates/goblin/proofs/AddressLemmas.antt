@@ -1,4 +1,4 @@
--- The symbol that is found for an address comes first of all that stand at it or below it.
+-- The symbol that is found for an address comes first of all that are at it or below it.
 use Rattle.std.proofs.Common.{◌≡◌, ◌≤◌, ◌<◌, ◌+◌, ◌*◌, ◌&&◌, ◌||◌, not, ℕ, zero, suc, Bool, true, false, ltb, eqb, cond, if◌then◌else◌, List, [], ◌∷◌, length, get_or, slice_get, Option, Some, None, inl, inr, refl, sym, ap, subst, ◌∙◌, arith}
 use Rattle.std.proofs.lemmas.Bool.{and_parts, and_from, cases_lt, lt-ltb, le-ltb, ltb-true, ltb-false, false≢true}
 use Rattle.std.proofs.lemmas.Bool.Decides.{nat_tests}
@@ -11,14 +11,15 @@ use Rattle.std.specs.Option.{option_map}
 use Rattle.goblin_records.specs.declared.sym.Sym.{Sym}
 use Rattle.goblin.specs.Addresses.{IsSymbolAt, SymbolAtComesFirst, is_below, is_nearer, is_nearest, reaches, symbol_at, taken}
 
--- how near a place is, as one number: the higher, and of two equally high the one that reaches the address
+-- how near a symbol is, as one number: the higher one is nearer, and of two equally high ones the one that reaches past
+-- the address
 abbrev pub rank : ℕ → Bool → ℕ
 rank value reach = 2 * value + cond reach 1 0
 
 abbrev rank_of : ℕ → Sym → ℕ
 rank_of address s = rank s.st_value (reaches address s)
 
--- what a rank says of place and reach, and the other way round
+-- how ranks compare, by value and reach
 near_rank : (x y : Bool) (a b : ℕ) → (ltb b a || (eqb b a && not y && x)) ≡ ltb (rank b y) (rank a x)
 near_rank x y a b = grind (arith, nat_tests)
 
@@ -51,7 +52,7 @@ same_item : (symbols : List Sym) (i k : ℕ) (s other : Sym) → slice_get symbo
 same_item symbols i k s other got got_other same = let at = ap (slice_get symbols) same in cc
 
 module _ (address i : ℕ) (symbols : List Sym) (s : Sym) (got : slice_get symbols i ≡ Some s) where
-  -- the new one, or one before it
+  -- a property of the new symbol and of those before it
   one_of : (k : ℕ) (other : Sym) (P : Sym → Type 0) → k < i + 1 → slice_get symbols k ≡ Some other → P s → (k < i → P other) → P other
   one_of k other P l g here before =
       elim (cases_lt k i) [

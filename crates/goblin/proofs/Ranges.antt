@@ -10,7 +10,7 @@ use Rattle.goblin.specs.Note.{NoteParts}
 use Rattle.goblin.specs.Notes.{items_left, most_left, most_left_in, spent, after_next, after_next_of_first}
 use Rattle.goblin.proofs.NoteLemmas.{note_items-past, note_items-some}
 
--- a range with an item has not come to its end
+-- a range with an item left is not at its end
 pub unspent : (it : NoteDataIterator) (item : Result NoteParts Refusal) (rest : List (Result NoteParts Refusal)) → items_left it ≡ item ∷ rest → it.offset < it.size
 unspent it item rest is =
     elim (cases_lt it.offset it.size) [
@@ -18,7 +18,7 @@ unspent it item rest is =
       | inr past ↦ let none = note_items-past it.bytes.now it.size it.offset it.ctx past in absurd (cc)
     ]
 
--- and one without has
+-- and one without is
 pub at_end : (it : NoteDataIterator) → items_left it ≡ [] → it.size ≤ it.offset
 at_end it is =
     elim (cases_lt it.offset it.size) [
@@ -26,28 +26,28 @@ at_end it is =
       | inr past ↦ past
     ]
 
--- an element that is written stands between the others
+-- a list with one element replaced
 set_is : {X : Type 0} (xs : List X) (i : ℕ) (y : X) → i < length xs → set xs i y ≡ take i xs ++ (y ∷ drop (i + 1) xs)
 set_is xs i y h = sym (take-append-drop i (set xs i y)) ∙ rw (take-set xs i y, drop-set xs i y h) refl
 
--- the element at an index stands before the others from there on
+-- the rest of a list from an index on begins with the element at it
 drop_is : {X : Type 0} (xs : List X) (i : ℕ) (x : X) → i < length xs → x ≡ get_or xs i x → drop i xs ≡ x ∷ drop (i + 1) xs
 drop_is xs i x h is = drop-cons xs i x h ∙ rw (← is, add-one) refl
 
--- what is written back as it was leaves the list
+-- replacing an element by itself leaves the list
 set_same : {X : Type 0} (xs : List X) (i : ℕ) (x : X) → i < length xs → x ≡ get_or xs i x → set xs i x ≡ xs
 set_same xs i x h is = set_is xs i x h ∙ rw (← drop_is xs i x h is) (take-append-drop i xs)
 
--- the range that gave an item has moved
+-- the range that an item came from has moved
 pub moved : (old now : List NoteDataIterator) (at i : ℕ) (x new : NoteDataIterator) → now ≡ old → i < length now → x ≡ get_or now i x → at ≡ i → new ≡ after_next x
     → set now i new ≡ take at old ++ after_next_of_first (drop at old)
 moved old now at i x new same h is there moves = rw (← same, there, moves, drop_is now i x h is) (set_is now i (after_next x) h)
 
--- a range with an item is the next one
+-- the first range with an item is the next one
 pub next_is : (old : List NoteDataIterator) (i : ℕ) (x : NoteDataIterator) → i < length old → x ≡ get_or old i x → x.offset < x.size → spent (drop i old) ≡ 0
 next_is old i x h is some = rw (drop_is old i x h is, lt-ltb x.offset x.size some) refl
 
--- a range without items is passed over, and stays as it is
+-- a range without items is skipped, and doesn't change
 pub passed : (old : List NoteDataIterator) (i : ℕ) (x : NoteDataIterator) → i < length old → x ≡ get_or old i x → items_left x ≡ []
     → (set old i (after_next x) ≡ old) × (flat_map items_left (drop (i + 1) old) ≡ flat_map items_left (drop i old))
     × (most_left_in (drop (i + 1) old) ≡ most_left_in (drop i old)) × (i + 1 + spent (drop (i + 1) old) ≡ i + spent (drop i old))

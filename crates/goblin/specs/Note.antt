@@ -1,4 +1,4 @@
--- Notes: what bytes are read as, and the notes of a range (System V gABI, "Note Section").
+-- Notes: the note that bytes are read as, and the notes of a range (System V gABI, "Note Section").
 use Rattle.std.specs.Prelude.{◌+◌, ◌-◌, ◌==◌, ◌||◌, max, ℕ, zero, suc, nat_le, if◌then◌else◌, List, [], ◌∷◌, length, take, drop, Result, Ok, Err}
 use Rattle.std.specs.Int.{next_multiple_of}
 use Rattle.goblin_base.specs.declared.container.Ctx.{Ctx}
@@ -14,7 +14,7 @@ use Rattle.goblin_records.specs.declared.note.Nhdr32.{Nhdr32}
 use Rattle.goblin.specs.declared.elf.note.Note.{Note}
 use Rattle.goblin.specs.declared.elf.note.NotePlaces.{NotePlaces}
 
--- what a note says: its type, its name without the zero byte that closes it, and its descriptor
+-- the parts of a note: its type, its name without the closing zero byte, and its descriptor
 pub record NoteParts : Type 0 where
   pub n_type : ℕ
   pub name : List ℕ
@@ -24,31 +24,31 @@ pub record NoteParts : Type 0 where
 abbrev pub parts_of : Note → NoteParts
 parts_of n = record { n_type = n.n_type; name = n.name.now; desc = n.desc.now }
 
--- the same, beside how many bytes the note takes
+-- the same, with the size of the note
 abbrev pub note_and_len : Note × ℕ → NoteParts × ℕ
 note_and_len p = (parts_of p.0, p.1)
 
--- the alignment of notes: one below 4 is 4, and one other than 4 and 8 is refused
+-- the alignment of notes: one below 4 counts as 4, and any other than 4 and 8 is refused
 abbrev pub note_align : ℕ → Result ℕ Refusal
 note_align alignment =
     let align = max alignment 4 in
     if (align == 4) || (align == 8) then Ok align else Err (malformed (NoteAlign align))
 
--- so many bytes from a place on, or the fault of room
+-- `size` bytes from an offset on, or the fault of `room`
 abbrev pub bytes_at : List ℕ → ℕ → ℕ → Result (List ℕ) Refusal
 bytes_at bytes place size = do
   _ ← refuse_as misplaced (room_of (length bytes) place size)
   Ok (take size (drop place bytes))
 
--- so many bytes of text from a place on, or else why there are none
+-- `size` bytes from an offset on that must be UTF-8, or else the refusal
 abbrev pub text_at : List ℕ → ℕ → ℕ → Result (List ℕ) Refusal
 text_at bytes place size = do
   text ← bytes_at bytes place size
   text_or_fault text (length bytes - place)
 
--- Where the parts of a note with a header lie, counted from the note's start. Behind its header lies its name, whose size
--- counts one byte more, unless it is 0. The descriptor lies from the next multiple of the alignment on, and the next note
--- from the next multiple behind that.
+-- The offsets and sizes of the parts of a note with a header; offsets count from the note's start. The name follows the
+-- header. Its size includes the closing byte, unless it is 0. The descriptor starts at the next multiple of the
+-- alignment, and the next note at the next multiple after the descriptor.
 abbrev pub places_of : ℕ → Nhdr32 → NotePlaces
 places_of align header =
     let desc = next_multiple_of (nhdr32_size + header.n_namesz) align in
@@ -61,7 +61,7 @@ places_of align header =
       next = next_multiple_of (desc + header.n_descsz) align;
     }
 
--- the places of the note at the start of some bytes, which must have its name, a text, and its descriptor
+-- the places of the note at the start of some bytes, which must hold its name, in UTF-8, and its descriptor
 unfoldable pub read_places : ℕ → Endian → List ℕ → Result NotePlaces Refusal
 read_places alignment order bytes = do
   align ← note_align alignment
@@ -71,7 +71,7 @@ read_places alignment order bytes = do
   _ ← bytes_at bytes places.desc places.desc_size
   Ok places
 
--- the note that some bytes have at these places
+-- the note in some bytes at these places
 abbrev pub note_there : List ℕ → NotePlaces → NoteParts
 note_there bytes places = record {
   n_type = places.n_type;
@@ -79,37 +79,37 @@ note_there bytes places = record {
   desc = take places.desc_size (drop places.desc bytes);
 }
 
--- the note at the start of some bytes, and how many bytes it takes, be they there or not
+-- the note at the start of some bytes, and its size, which may exceed the bytes
 unfoldable pub read_note : ℕ → Endian → List ℕ → Result (NoteParts × ℕ) Refusal
 read_note alignment order bytes = do
   places ← read_places alignment order bytes
   Ok (note_there bytes places, places.next)
 
--- the places of the note at an offset, which must lie before the bytes' end
+-- the places of the note at an offset, which must be before the bytes' end
 unfoldable pub places_at : List ℕ → ℕ → ℕ × Ctx → Result NotePlaces Refusal
 places_at bytes offset ctx = do
   _ ← refuse_if (nat_le (length bytes) offset) (bad_offset offset)
   read_places ctx.0 ctx.1.le (drop offset bytes)
 
--- the note there, and how many bytes it takes
+-- the note there, and its size
 unfoldable pub note_at : List ℕ → ℕ → ℕ × Ctx → Result (NoteParts × ℕ) Refusal
 note_at bytes offset ctx = do
   places ← places_at bytes offset ctx
   Ok (note_there (drop offset bytes) places, places.next)
 
--- a refusal is the last item, and behind a note come the items from its end on
+-- a refusal is the last item, and after a note come the items from its end on
 abbrev pub item_and_rest : Result (NoteParts × ℕ) Refusal → (ℕ → List (Result NoteParts Refusal)) → List (Result NoteParts Refusal)
 item_and_rest (Ok note) rest = Ok note.0 ∷ rest note.1
 item_and_rest (Err refusal) rest = Err refusal ∷ []
 
--- the items of a range, of which no more than so many bytes are looked through
+-- the items of a range, of which at most so many bytes are read
 abbrev pub items_within : ℕ → List ℕ → ℕ → ℕ → ℕ × Ctx → List (Result NoteParts Refusal)
 items_within zero bytes size offset ctx = []
 items_within (suc k) bytes size offset ctx =
     if nat_le size offset then []
     else item_and_rest (note_at bytes offset ctx) (λ len. items_within k bytes size (offset + len) ctx)
 
--- the items of the range from an offset up to `size`: none from `size` on; else the note at the offset, and then the
--- items from its end on; or else why there is none, as the last item
+-- the items of the range from an offset up to `size`: none from `size` on; else the note at the offset and then the
+-- items from its end on; or its refusal as the last item
 unfoldable pub note_items : List ℕ → ℕ → ℕ → ℕ × Ctx → List (Result NoteParts Refusal)
 note_items bytes size offset ctx = items_within (size - offset) bytes size offset ctx

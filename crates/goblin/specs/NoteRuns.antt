@@ -1,4 +1,4 @@
--- What a run of the notes' iterators gave: the items that were left, in order. Callers of `count` cite these laws.
+-- A run of the notes' iterators yields the items that were left, in order. Callers of `count` cite these laws.
 use Rattle.std.proofs.Common.{ap, length}
 use Rattle.std.specs.Iterator.Runs.{Run, YieldsRun, ItemsMapTo}
 use Rattle.std.proofs.iter.runs.Sources.{from_front}

@@ -1,9 +1,9 @@
--- The names of types of notes.
+-- The names of note types.
 use Rattle.std.specs.Prelude.{ℕ, if◌then◌else◌, List, [], ◌∷◌, codes}
 use Rattle.std.specs.Str.{bytes_eq}
 use Rattle.goblin_base.specs.Names.{name_in}
 
--- the name of the type of a note with this name: core files have types of their own
+-- the name of the type of a note with this name: notes of core files have types of their own
 unfoldable pub note_type_name : List ℕ → ℕ → List ℕ
 note_type_name name typ =
     let in_core =

@@ -1,4 +1,4 @@
--- The notes that iterators give.
+-- The notes that iterators yield.
 use Rattle.std.specs.Prelude.{◌≡◌, ◌+◌, ◌-◌, ◌≤◌, ℕ, nat_le, nat_lt, sum_by, if◌then◌else◌, List, [], ◌∷◌, ◌++◌, length, take, drop, flat_map, Option, Result, Ok, Err, IfOk}
 use Rattle.std.specs.Iterator.{YieldsFirstBy}
 use Rattle.std.specs.Int.{div_ceil}
@@ -13,7 +13,7 @@ use Rattle.goblin.specs.declared.elf.note.NoteIterator.{NoteIterator}
 use Rattle.goblin.specs.declared.elf.note.NotePlaces.{NotePlaces}
 use Rattle.goblin.specs.Note.{NoteParts, parts_of, places_at, note_at, note_items, item_and_rest}
 
--- the parts of a note, or what an error refuses
+-- the parts of a note, or the refusal of an error
 abbrev pub item_of : Result Note Error → Result NoteParts Refusal
 item_of (Ok note) = Ok (parts_of note)
 item_of (Err e) = Err (refusal_of e)
@@ -22,16 +22,16 @@ item_of (Err e) = Err (refusal_of e)
 abbrev pub items_left : NoteDataIterator → List (Result NoteParts Refusal)
 items_left it = note_items it.bytes.now it.size it.offset it.ctx
 
--- no more items are left than headers begin in the range
+-- at most as many items are left as headers fit into the range
 abbrev pub most_left : NoteDataIterator → ℕ
 most_left it = div_ceil (it.size - it.offset) nhdr32_size
 
--- the offset behind a note, or the end of the range where there is none
+-- the offset after a note, or the end of the range after a refusal
 abbrev pub offset_behind : Result (NoteParts × ℕ) Refusal → ℕ → ℕ → ℕ
 offset_behind (Ok note) size offset = offset + note.1
 offset_behind (Err refusal) size offset = size
 
--- the range after its next item was taken: nothing but its offset moves, and at the end not even that
+-- the range after its next item: only its offset moves, and at the end not even that
 abbrev pub after_next : NoteDataIterator → NoteDataIterator
 after_next it =
     if nat_le it.size it.offset then it
@@ -41,11 +41,11 @@ after_next it =
 abbrev pub all_items_left : NoteIterator → List (Result NoteParts Refusal)
 all_items_left it = flat_map items_left (drop it.index it.iters.items)
 
--- no more items are left than headers begin in these ranges
+-- at most as many items are left as headers fit into these ranges
 abbrev pub most_left_in : List NoteDataIterator → ℕ
 most_left_in ranges = sum_by most_left ranges
 
--- how many of these ranges, from the first one on, have nothing left
+-- the number of ranges, from the first one on, that have no item left
 abbrev pub spent : List NoteDataIterator → ℕ
 spent ranges = position_or_len (λ range. nat_lt range.offset range.size) ranges
 
@@ -53,24 +53,24 @@ spent ranges = position_or_len (λ range. nat_lt range.offset range.size) ranges
 abbrev pub index_of_next : NoteIterator → ℕ
 index_of_next it = it.index + spent (drop it.index it.iters.items)
 
--- the ranges after the first one's next item was taken
+-- the ranges after the next item of the first one
 abbrev pub after_next_of_first : List NoteDataIterator → List NoteDataIterator
 after_next_of_first [] = []
 after_next_of_first (range ∷ ranges) = after_next range ∷ ranges
 
--- the next item of a range was taken: the first that is left, and nothing else moved
+-- taking the next item of a range: it is the first that is left, and nothing else moves
 abbrev pub TakesNote : NoteDataIterator → Option (Result Note Error) → NoteDataIterator → Type 0
 TakesNote it item after = YieldsFirstBy item_of items_left it item after × (after ≡ after_next it)
 
--- the next item of ranges was taken: the first that is left, and of the ranges only the one that gave it moved
+-- taking the next item of ranges: it is the first that is left, and only the range that it comes from moves
 abbrev pub TakesNoteOfRanges : NoteIterator → Option (Result Note Error) → NoteIterator → Type 0
 TakesNoteOfRanges it item after =
     YieldsFirstBy item_of all_items_left it item after
     × (after.index ≡ index_of_next it)
     × (after.iters.items ≡ take (index_of_next it) it.iters.items ++ after_next_of_first (drop (index_of_next it) it.iters.items))
 
--- the items of a range are none from its end on; else the note at its offset and the items from the note's end on, or
--- the refusal alone
+-- the items of a range: none from its end on; else the note at its offset and the items from the note's end on, or the
+-- refusal alone
 abbrev pub NoteByNote : Type 0
 NoteByNote =
     (bytes : List ℕ) (size offset : ℕ) (ctx : ℕ × Ctx)
@@ -78,8 +78,8 @@ NoteByNote =
     ≡ (if nat_le size offset then []
     else item_and_rest (note_at bytes offset ctx) (λ len. note_items bytes size (offset + len) ctx))
 
--- of the note at an offset the parts lie within so many bytes; the next note begins at least a header behind the offset, and
--- at most 7 bytes behind the end
+-- the parts of the note at an offset lie inside the bytes; the next note starts at least a header after the offset, and
+-- at most 7 bytes past the end
 pub record LieWithin (size offset : ℕ) (places : NotePlaces) : Type 0 where
   pub name : offset + places.name + places.name_size ≤ size
   pub desc : offset + places.desc + places.desc_size ≤ size
@@ -91,13 +91,13 @@ abbrev pub PlacesLieWithin : Type 0
 PlacesLieWithin =
     (bytes : List ℕ) (offset : ℕ) (ctx : ℕ × Ctx) → IfOk (places_at bytes offset ctx) (LieWithin (length bytes) offset)
 
--- a note takes at least the bytes of its header, and at most 7 more than there are
+-- the size of a note is at least its header's, and at most 7 more than the bytes'
 abbrev pub NotesAdvance : Type 0
 NotesAdvance =
     (bytes : List ℕ) (offset : ℕ) (ctx : ℕ × Ctx)
     → IfOk (note_at bytes offset ctx) (λ note. (nhdr32_size ≤ note.1) × (offset + note.1 ≤ length bytes + 7))
 
--- a range has no more items than headers begin in it
+-- a range has at most as many items as headers fit into it
 abbrev pub FewNotes : Type 0
 FewNotes =
     (bytes : List ℕ) (size offset : ℕ) (ctx : ℕ × Ctx)

@@ -11,9 +11,8 @@ use Rattle.goblin_headers.specs.Header.{class_byte, data_byte}
 use Rattle.goblin_records.specs.declared.reloc.Reloc.{Reloc}
 use Rattle.goblin_records.specs.Reloc.{reloc_size, reloc_in, reloc_image_in}
 
--- the relocations of `filesz` bytes at an offset, through the pair of MIPS64 where that is asked for: no bytes lie
--- anywhere, and else there must be room for them; there are as many as lie in the bytes whole, and the rest of the
--- bytes is not read
+-- the relocations in `filesz` bytes from an offset on, which the file must hold unless `filesz` is 0; there are as many
+-- as those bytes hold whole, and a remainder is not read
 abbrev pub relocs_of : List ℕ → ℕ → ℕ → Bool → Ctx → Bool → Result (List Reloc) Error
 relocs_of bytes offset filesz is_rela ctx is_mips64el =
     let size = reloc_size is_rela ctx.container in
@@ -21,16 +20,17 @@ relocs_of bytes offset filesz is_rela ctx is_mips64el =
     if filesz == 0 then Ok []
     else unless_fault (room_of (length bytes) offset filesz) (records size read (filesz / size) (take filesz (drop offset bytes)))
 
--- whether a file of this machine, class and byte order is a MIPS64 file of little order: its machine is 8, its class byte
--- 2 and its data byte 1
+-- whether files of this machine, class and byte order are little-endian MIPS64: the machine is 8, the class byte 2 and
+-- the data byte 1
 abbrev pub is_mips64el_in : ℕ → Ctx → Bool
 is_mips64el_in machine ctx = (machine == 8) && (class_byte ctx.container == 2) && (data_byte ctx.le == 1)
 
--- whether a header is that of one
+-- whether a header is of a little-endian MIPS64 file
 abbrev pub is_of_mips64el : Header → Bool
 is_of_mips64el header = (header.e_machine == 8) && (slice_index header.e_ident 4 == 2) && (slice_index header.e_ident 5 == 1)
 
--- two files of one length that agree on the bytes of a section have the same relocations there, or refuse them alike
+-- two files of the same length that agree on the bytes of a section have the same relocations there, or the same
+-- refusal
 abbrev pub DependsOnItsRange : Type 0
 DependsOnItsRange =
     (bytes others : List ℕ) (offset filesz : ℕ) (is_rela : Bool) (ctx : Ctx) (is_mips64el : Bool)

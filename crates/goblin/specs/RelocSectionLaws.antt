@@ -1,4 +1,4 @@
--- Laws of relocation sections: they depend on their own bytes alone, and are written as them.
+-- Laws of relocation sections: they depend only on their own bytes, and are written as those bytes.
 use Rattle.std.proofs.Common.{◌≡◌, ◌≤◌, ◌+◌, ◌-◌, ◌*◌, ◌/◌, ◌==◌, ℕ, zero, suc, List, [], false, length, take, drop, Ok, inl, inr, refl, sym, ap, ◌∙◌, arith}
 use Rattle.std.specs.List.{flat_map}
 use Rattle.std.proofs.Math.Nat.{div-mul-le_self}
@@ -22,7 +22,7 @@ use Rattle.goblin.specs.RelocSection.{DependsOnItsRange, WritesItsBytes}
 pub depends_on_its_range : DependsOnItsRange
 depends_on_its_range bytes others offset filesz is_rela ctx is_mips64el long same = rw (long, same) refl
 
--- what follows some bytes is bytes
+-- the rest of a list of bytes is a list of bytes
 IsBytes-drop : (k : ℕ) (bytes : List ℕ) → IsBytes bytes → IsBytes (drop k bytes)
 IsBytes-drop k bytes are i = rw (get_or-drop k bytes i 0) (are (k + i))
 

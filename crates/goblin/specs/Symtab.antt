@@ -10,13 +10,13 @@ use Rattle.goblin_base.specs.Table.{records}
 use Rattle.goblin_records.specs.declared.sym.Sym.{Sym}
 use Rattle.goblin_records.specs.Sym.{sym_size, sym_of}
 
--- what a symbol table is: its symbols, and the offset and the context that it was parsed with
+-- a symbol table: its symbols, and the offset and the context that it was parsed with
 pub record Symbols : Type 0 where
   pub symbols : List Sym
   pub offset : ℕ
   pub ctx : Ctx
 
--- so many symbols that lie one after another from an offset on
+-- the table of `count` symbols from an offset on
 abbrev pub symbols_at : List ℕ → ℕ → ℕ → Ctx → Symbols
 symbols_at bytes offset count ctx = record {
   symbols = records (sym_size ctx.container) (sym_of ctx.container ctx.le) count (drop offset bytes);
@@ -24,8 +24,8 @@ symbols_at bytes offset count ctx = record {
   ctx = ctx;
 }
 
--- the table of so many symbols at an offset: the offset must lie before the end, even for no symbols; the size of
--- all symbols must fit a machine word, and the bytes from the offset on must hold them
+-- the table of `count` symbols from an offset on: the offset must be before the end, even for no symbols; the size of
+-- all symbols must fit 64 bits, and the bytes from the offset on must hold them
 abbrev pub symtab_of : List ℕ → ℕ → ℕ → Ctx → Result Symbols Error
 symtab_of bytes offset count ctx =
     let requested = count * sym_size ctx.container in
@@ -35,8 +35,8 @@ symtab_of bytes offset count ctx =
     else if nat_lt available requested then Err (Malformed (SymtabPast requested available))
     else Ok (symbols_at bytes offset count ctx)
 
--- the same of a damaged file: at the end or past it there are no symbols, and of more than the bytes hold there are
--- as many as they hold; a size that fits no machine word is refused
+-- the same for a damaged file: at the end or past it there are no symbols, and at most as many as the bytes hold; only
+-- a size that doesn't fit 64 bits is refused
 abbrev pub permissive_symtab_of : List ℕ → ℕ → ℕ → Ctx → Result Symbols Error
 permissive_symtab_of bytes offset count ctx =
     let size = sym_size ctx.container in
@@ -50,15 +50,15 @@ abbrev pub symtab_by : ParseMode → List ℕ → ℕ → ℕ → Ctx → Result
 symtab_by Strict = symtab_of
 symtab_by Permissive = permissive_symtab_of
 
--- where the strict reading accepts a table, the permissive one gives the same
+-- a table that the strict mode accepts is the same in the permissive one
 abbrev pub PermissiveKeepsStrict : Type 0
 PermissiveKeepsStrict =
     (bytes : List ℕ) (offset count : ℕ) (ctx : Ctx) (table : Symbols)
     → symtab_of bytes offset count ctx ≡ Ok table
     → permissive_symtab_of bytes offset count ctx ≡ Ok table
 
--- two files of one length that agree on the range of a table, as far as it lies in them, have the same table, or refuse
--- it alike
+-- two files of the same length that agree on the part of a table's range that lies in them have the same table, or the
+-- same refusal
 abbrev pub DependsOnItsRange : Type 0
 DependsOnItsRange =
     (mode : ParseMode) (bytes others : List ℕ) (offset count : ℕ) (ctx : Ctx)

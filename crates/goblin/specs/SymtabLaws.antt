@@ -14,7 +14,7 @@ use Rattle.goblin.specs.Symtab.{Symbols, symbols_at, PermissiveKeepsStrict, Depe
 positive : (ctx : Ctx) → 0 < sym_size ctx.container
 positive ctx = (sym_laws ctx.container ctx.le).size_positive
 
--- as many as are asked for, where there is room for all of them
+-- as many as are asked for, if the bytes hold all of them
 min_fits : (count size available : ℕ) → 0 < size → count * size ≤ available → min count (available / size) ≡ count
 min_fits count size available some room =
     let both = le-div_iff_mul-le {k = size} {x = count} {y = available} some in min-eq_left (both.1 room)
@@ -22,12 +22,12 @@ min_fits count size available some room =
 pub permissive_keeps_strict : PermissiveKeepsStrict
 permissive_keeps_strict bytes offset count ctx table is = grind (arith, nat_tests, min_fits, positive ctx)
 
--- answers behind a test are the same, if they are where it fails
+-- results after a test are the same, if they are when the test passes
 behind : (test : Bool) (e : Error) (a b : Result Symbols Error) → (test ≡ false → a ≡ b) → (if test then Err e else a) ≡ (if test then Err e else b)
 behind true e a b h = refl
 behind false e a b h = h refl
 
--- symbols from an offset on depend on the range that they lie in
+-- symbols from an offset on depend only on their range
 symbols-agree : (bytes others : List ℕ) (offset count : ℕ) (ctx : Ctx) → take (count * sym_size ctx.container) (drop offset bytes) ≡ take (count * sym_size ctx.container) (drop offset others) → symbols_at bytes offset count ctx ≡ symbols_at others offset count ctx
 symbols-agree bytes others offset count ctx same =
     ap (λ all. let table : Symbols = record { symbols = all; offset = offset; ctx = ctx } in table)
