@@ -1,4 +1,4 @@
--- Lines behind others.
+-- Lines after others.
 use Rattle.std.proofs.Common.{◌≡◌, ◌++◌, ℕ, List, ◌∷◌, Result, Ok, Err, ap, append_assoc, refl, sym, ◌∙◌, rules}
 use Rattle.goblin.specs.declared.elf.section_header.SectionHeader.{SectionHeader}
 use Rattle.goblin.specs.declared.error.Error.{Error}
@@ -8,12 +8,12 @@ use Rattle.goblin.specs.Steps.{◌>>=◌}
 use Rattle.goblin.specs.Texts.{◌&◌}
 use Rattle.goblin_uses.specs.Lines.{Adds, note_line, note_lines, sections_listed}
 
--- the same lines behind some others
+-- the same lines after some others
 abbrev pub behind : List ℕ → Result (List ℕ) Refusal → Result (List ℕ) Refusal
 behind lines (Ok more) = Ok (lines ++ more)
 behind lines (Err e) = Err e
 
--- the lines of one note more
+-- one more note
 more : (lines mine : List ℕ) (rest : Result (List ℕ) Refusal)
     → behind lines (rest >>= λ more. Ok (mine & more)) ≡ behind (lines ++ mine) rest
 more lines mine (Ok rest) = ap Ok (sym (append_assoc lines mine rest))
@@ -36,7 +36,7 @@ pub section_ok : (list : SectionHeader → Result (List ℕ) Refusal) (lines min
     → list s ≡ Ok mine → behind lines (sections_listed list (s ∷ sections)) ≡ behind (lines ++ mine) (sections_listed list sections)
 section_ok list lines mine s sections given = rw given (more lines mine (sections_listed list sections))
 
--- a section's lines behind those so far
+-- a section's lines after those so far
 pub section_added : (list : SectionHeader → Result (List ℕ) Refusal) (old mid new : List ℕ) (all : Result (List ℕ) Refusal)
     (result : Result (Unit {0}) Error) (s : SectionHeader) (left sections : List SectionHeader) → Adds mid new result (list s)
     → result ≡ Ok tt → left ≡ s ∷ sections

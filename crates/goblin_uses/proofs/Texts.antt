@@ -10,7 +10,7 @@ use Rattle.goblin.specs.Symtab.{Symbols}
 use Rattle.goblin_uses.specs.Lines.{IsFunctionsText, IsNamesText, function_lines, functions_line}
 use Rattle.goblin_uses.specs.Listed.{LargestFirst, is_function}
 
--- the table whose walk is answered
+-- the table that a walk returns
 abbrev pub table_with : List ℕ → StringTable
 table_with bytes = record { bytes = bytes; delim = 0; is_parsed = true }
 
@@ -19,7 +19,7 @@ pub same_table : (walk : Result (List (ℕ × List ℕ)) Refusal) (bytes : List 
 same_table (Ok entries) bytes names is = search (rules, is)
 same_table (Err e) bytes names is = search (rules, is)
 
--- the lines, one behind another
+-- the lines, one after another
 pub listed : (old counted named new : List ℕ) (symbols : Result Symbols Error) (table : Symbols) (names held : StringTable)
     (functions : List Sym) → symbols ≡ Ok table → names ≡ held → counted ≡ old ++ functions_line table.symbols
     → ((line : List ℕ) × IsNamesText names.bytes line × (named ≡ counted ++ line))

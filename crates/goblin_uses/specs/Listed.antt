@@ -20,7 +20,8 @@ use Rattle.goblin.specs.Strtab.{StringTable, table_of}
 use Rattle.goblin.specs.Sym.{sym_size}
 use Rattle.goblin.specs.Symtab.{Symbols, symtab_of}
 
--- the bytes of a section in the file: none without a section, without bytes there (type 8), or past the file's end
+-- the bytes of a section in the file: none without a section, for a section without bytes (type 8), or past the file's
+-- end
 abbrev pub bytes_of : List ℕ → Option SectionHeader → List ℕ
 bytes_of bytes None = []
 bytes_of bytes (Some s) =
@@ -50,18 +51,18 @@ is_function s = s.st_info % 16 == 2
 abbrev pub LargestFirst : List Sym → Type 0
 LargestFirst symbols = IsSortedByKey (λ s. s.st_size) (λ x y. nat_cmp y x) symbols
 
--- what a list of functions stands on: the symbols of a section, and then the table of the strings that name them
+-- what a list of functions needs: the symbols of a section, and then the string table with their names
 abbrev pub functions_of : List ℕ → SectionHeader → Option SectionHeader → Ctx → Result StringTable Refusal
 functions_of bytes s strings ctx = do
   _ ← refuse_as refusal_of (symbols_of bytes s ctx)
   table_of Strict (bytes_of bytes strings) 0
 
--- the last place before k that holds a zero, or none
+-- the last offset before k of a zero byte, or none
 abbrev pub last_zero : ℕ → List ℕ → Option ℕ
 last_zero zero bytes = None
 last_zero (suc k) bytes = if slice_index bytes k == 0 then Some k else last_zero k bytes
 
--- the longest way from one of rising places to the next, the first of which is reached from here
+-- the greatest distance from one of some ascending offsets to the next, the first of which follows `here`
 abbrev pub longest_step : ℕ → List ℕ → ℕ
 longest_step here [] = 0
 longest_step here (place ∷ places) = max (place - here) (longest_step place places)
@@ -70,7 +71,7 @@ longest_step here (place ∷ places) = max (place - here) (longest_step place pl
 abbrev pub names_of : List ℕ → Option SectionHeader → StringTable
 names_of bytes strings = record { bytes = bytes_of bytes strings; delim = 0; is_parsed = true }
 
--- the relocations of a section, with addends where its type is 4
+-- the relocations of a section, with addends if its type is 4
 abbrev pub relocations_of : List ℕ → SectionHeader → Header → Ctx → Result (List Reloc) Error
 relocations_of bytes s h ctx = relocs_of bytes s.sh_offset s.sh_size (s.sh_type == 4) ctx (is_of_mips64el h)
 

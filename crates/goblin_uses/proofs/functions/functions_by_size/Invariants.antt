@@ -2,7 +2,7 @@ use Rattle.std.proofs.Common.{◌≡◌, ◌++◌, filter}
 use Rattle.goblin_uses.specs.Listed.{is_function}
 use Rattle.goblin_uses.proofs.functions.functions_by_size.Given as goal
 
--- what is there and the functions that are left are all
+-- all functions are those that are there and those that are left
 abbrev pub invariant-loop-symbol : goal.invariant-loop-symbol
 invariant-loop-symbol l =
     l.functions.items ++ filter is_function l.symbol-iterator ≡ filter is_function l.symbols.symbols

@@ -4,7 +4,7 @@ use Rattle.goblin_uses.proofs.Behind.{behind}
 use Rattle.goblin_uses.specs.Lines.{note_lines}
 use Rattle.goblin_uses.proofs.notes.push_each.Given as goal
 
--- the lines so far stand before those of the notes that are left
+-- all lines are those so far and those of the notes that are left
 abbrev pub invariant-loop-note : goal.invariant-loop-note
 invariant-loop-note l =
     (lines : List ℕ) × (string_bytes l.text ≡ string_bytes l.initial.text ++ lines)

@@ -3,7 +3,7 @@ use Prim.Native.Nat.{◌^◌}
 use Rattle.goblin_uses.specs.Lines.{relocation_lines}
 use Rattle.goblin_uses.proofs.relocations.push_each.Given as goal
 
--- what is there and the lines that are left are all
+-- all lines are those that are there and those that are left
 abbrev pub invariant-loop-index : goal.invariant-loop-index
 invariant-loop-index l =
     (l.index + length l.reloc-iterator < 2 ^ 64)

@@ -5,7 +5,7 @@ use Rattle.goblin_uses.specs.Lines.{section_listed, sections_listed}
 use Rattle.goblin_uses.proofs.Behind.{section_added}
 use Rattle.goblin_uses.proofs.symbols.push_symbols.Goals as goal
 
--- what is read past the end of a list, which nothing does
+-- the default of reads past the end of a list, of which there are none
 abbrev past : SectionHeader
 past = record {
   sh_name = 0;

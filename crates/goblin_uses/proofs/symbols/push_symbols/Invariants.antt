@@ -3,7 +3,7 @@ use Rattle.goblin_uses.proofs.Behind.{behind}
 use Rattle.goblin_uses.specs.Lines.{section_listed, sections_listed}
 use Rattle.goblin_uses.proofs.symbols.push_symbols.Given as goal
 
--- the lines so far stand before those of the sections that are left
+-- all lines are those so far and those of the sections that are left
 abbrev pub invariant-loop-section : goal.invariant-loop-section
 invariant-loop-section l =
     let list = section_listed l.bytes l.section-items l.ctx in
