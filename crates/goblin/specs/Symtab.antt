@@ -50,6 +50,10 @@ abbrev pub symtab_by : ParseMode → List ℕ → ℕ → ℕ → Ctx → Result
 symtab_by Strict = symtab_of
 symtab_by Permissive = permissive_symtab_of
 
+-- the table of as many whole symbols as `size` bytes from an offset on hold
+abbrev pub symtab_in : ParseMode → List ℕ → ℕ → ℕ → Ctx → Result Symbols Error
+symtab_in mode bytes offset size ctx = symtab_by mode bytes offset (size / sym_size ctx.container) ctx
+
 -- a table that the strict mode accepts is the same in the permissive one
 abbrev pub PermissiveKeepsStrict : Type 0
 PermissiveKeepsStrict =

@@ -2,7 +2,7 @@
 ghost use Rattle.std.specs.Prelude.{◌≡◌, ◌≤◌, ◌<◌, ◌-◌, ◌*◌, ◌^◌, ◌↔◌, [], ◌∷◌, length, slice_get, IsTrue, IfOk, IfErr, IsOk, alloc_error, position};
 ghost use Rattle.std.specs.Option.{option_map};
 ghost use Rattle.goblin.specs.Addresses.{is_below, reaches, symbol_at, taken, SymbolAtComesFirst};
-ghost use Rattle.goblin.specs.Symtab.{symbols_at, symtab_by, symtab_of, DependsOnItsRange, PermissiveKeepsStrict};
+ghost use Rattle.goblin.specs.Symtab.{symbols_at, symtab_by, symtab_in, symtab_of, DependsOnItsRange, PermissiveKeepsStrict};
 ghost use Rattle.goblin_base.specs.Strtab.{has_name, unparsed};
 ghost use Rattle.goblin_records.specs.Constants.{bind_numbers, type_numbers, visibility_numbers};
 ghost use Rattle.goblin_records.specs.Sym.{sym_size};
@@ -113,6 +113,25 @@ impl<'a> Symtab<'a> {
             })),
             ParseMode::Permissive => Ok(Symtab::of(bytes, offset, available / size, ctx)),
         }
+    }
+
+    /// Parses the symbol table of a section: as many symbols as `size` bytes from an offset on hold
+    /// whole.
+    ///
+    /// # Errors
+    ///
+    /// Those of [`Symtab::parse_with_opts`] with that count.
+    pub fn in_range(
+        bytes: &'a [u8],
+        offset: usize,
+        size: usize,
+        ctx: Ctx,
+        opts: &ParseOptions,
+    ) -> Result<Symtab<'a>>
+        ensures exact { result ≡ symtab_in opts.now.parse_mode bytes.now offset size ctx }
+    {
+        let count = size / Sym::size(ctx.container);
+        Symtab::parse_with_opts(bytes, offset, count, ctx, opts)
     }
 
     // Returns the table of `count` symbols, which the bytes from the offset on must hold.
