@@ -17,7 +17,7 @@ use goblin_base::scroll::{BE, IntoCtx, LE, SizeWith, TryFromCtx, TryIntoCtx};
 /// <!-- quoted: crates/goblin_uses/src/main.rt -->
 /// ```
 /// let (header, _) = Header::try_from_ctx(bytes, LE)?;
-/// let ctx = Ctx::new(header.container()?, header.endianness()?);
+/// let ctx = header.ctx()?;
 /// ```
 #[derive(Clone, Copy, Debug, PartialEq)]
 pub struct Header {

@@ -1,5 +1,5 @@
 -- The lines that the example adds to a text, and the results of the calls that add them.
-use Rattle.std.specs.Prelude.{◌≡◌, ◌≢◌, ◌≤◌, ℕ, ◌+◌, ◌++◌, ◌==◌, not, Bool, if◌then◌else◌, IsPermutation, filter, List, Option, None, Some, [], ◌∷◌, length, codes, count_by, decimal, pos, unwrap_or, Result, Ok, Err}
+use Rattle.std.specs.Prelude.{◌≡◌, ◌≢◌, ◌≤◌, ℕ, ◌+◌, ◌++◌, ◌==◌, not, Bool, if◌then◌else◌, IsPermutation, filter, List, Option, None, Some, [], ◌∷◌, length, codes, count_by, decimal, pos, slice_get, unwrap_or, Result, Ok, Err}
 use Rattle.std.specs.Fmt.{signed_decimal}
 use Rattle.goblin.specs.declared.container.Ctx.{Ctx}
 use Rattle.goblin.specs.declared.elf.header.Header.{Header}
@@ -12,13 +12,13 @@ use Rattle.goblin.specs.Note.{NoteParts}
 use Rattle.goblin.specs.NoteType.{note_type_name}
 use Rattle.goblin.specs.ReadHeader.{read_header}
 use Rattle.goblin.specs.Refusal.{Refusal, out_of_memory, refusal_of}
-use Rattle.goblin.specs.SectionHeaders.{section_headers_of}
+use Rattle.goblin.specs.SectionHeaders.{linked, section_headers_of}
 use Rattle.goblin.specs.Steps.{◌>>=◌, refuse_as}
 use Rattle.goblin.specs.Strtab.{StringTable, look_up, table_of, walked}
 use Rattle.goblin.specs.Texts.{◌&◌, hexadecimal}
 use Rattle.goblin_base.specs.Entries.{places_of}
 use Rattle.goblin_base.specs.Search.{digits}
-use Rattle.goblin_uses.specs.Listed.{LargestFirst, bytes_of, ctx_of, is_function, last_zero, linked, longest_step, notes_of, relocations_of, symbols_of}
+use Rattle.goblin_uses.specs.Listed.{LargestFirst, bytes_of, is_function, last_zero, longest_step, notes_of, relocations_of, symbols_of}
 
 -- the end of a line
 abbrev pub newline : List ℕ
@@ -41,7 +41,7 @@ section_listed bytes sections ctx s =
     if not (s.sh_type == 2) then Ok []
     else do
       table ← refuse_as refusal_of (symbols_of bytes s ctx)
-      names ← table_of Strict (bytes_of bytes (linked sections s.sh_link)) 0
+      names ← table_of Strict (bytes_of bytes (linked s.sh_link (slice_get sections s.sh_link))) 0
       Ok (symbol_lines names table.symbols)
 
 -- the lines of each section, one after another, or the first refusal

@@ -1,5 +1,5 @@
 -- What the example reads of a file's sections.
-use Rattle.std.specs.Prelude.{ℕ, zero, suc, ◌+◌, ◌-◌, max, slice_index, ◌/◌, ◌==◌, ◌||◌, ◌%◌, Bool, true, nat_lt, if◌then◌else◌, List, [], ◌∷◌, length, take, drop, slice_get, Option, Some, None, Result, Ok}
+use Rattle.std.specs.Prelude.{ℕ, zero, suc, ◌+◌, ◌-◌, max, slice_index, ◌==◌, ◌||◌, ◌%◌, Bool, true, nat_lt, if◌then◌else◌, List, [], ◌∷◌, length, take, drop, Option, Some, None, Result}
 use Rattle.std.specs.List.Sorted.{IsSortedByKey}
 use Rattle.std.specs.Ordering.{nat_cmp}
 use Rattle.goblin.specs.declared.container.Ctx.{Ctx}
@@ -8,17 +8,14 @@ use Rattle.goblin.specs.declared.elf.reloc.Reloc.{Reloc}
 use Rattle.goblin.specs.declared.elf.section_header.SectionHeader.{SectionHeader}
 use Rattle.goblin.specs.declared.elf.sym.Sym.{Sym}
 use Rattle.goblin.specs.declared.error.Error.{Error}
-use Rattle.goblin.specs.declared.error.Fault.TheVariants.{InvalidClass, InvalidEndianness}
 use Rattle.goblin.specs.declared.options.ParseMode.TheVariants.{Strict}
-use Rattle.goblin.specs.Header.{class_of, order_of}
 use Rattle.goblin.specs.Note.{NoteParts, note_items}
 use Rattle.goblin.specs.Ranges.{span}
 use Rattle.goblin.specs.Refusal.{Refusal, refusal_of}
 use Rattle.goblin.specs.RelocSection.{is_of_mips64el, relocs_of}
 use Rattle.goblin.specs.Steps.{◌>>=◌, refuse_as}
 use Rattle.goblin.specs.Strtab.{StringTable, table_of}
-use Rattle.goblin.specs.Sym.{sym_size}
-use Rattle.goblin.specs.Symtab.{Symbols, symtab_of}
+use Rattle.goblin.specs.Symtab.{Symbols, symtab_in}
 
 -- the bytes of a section in the file: none without a section, for a section without bytes (type 8), or past the file's
 -- end
@@ -28,20 +25,9 @@ bytes_of bytes (Some s) =
     if (s.sh_type == 8) || nat_lt (length bytes) (s.sh_offset + s.sh_size) then []
     else take s.sh_size (drop s.sh_offset bytes)
 
--- the section that another one links to by its index: index 0 is none
-abbrev pub linked : List SectionHeader → ℕ → Option SectionHeader
-linked sections index = if index == 0 then None else slice_get sections index
-
--- the class and the byte order that a header tells
-abbrev pub ctx_of : Header → Result Ctx Error
-ctx_of h = do
-  class ← class_of InvalidClass h.e_ident
-  order ← order_of InvalidEndianness h.e_ident
-  Ok (record { container = class; le = order })
-
 -- the symbols of a section, as many as it holds whole
 abbrev pub symbols_of : List ℕ → SectionHeader → Ctx → Result Symbols Error
-symbols_of bytes s ctx = symtab_of bytes s.sh_offset (s.sh_size / sym_size ctx.container) ctx
+symbols_of bytes s ctx = symtab_in Strict bytes s.sh_offset s.sh_size ctx
 
 -- a symbol of a function: type 2
 abbrev pub is_function : Sym → Bool

@@ -5,7 +5,7 @@ ghost use Rattle.goblin_uses.specs.Lines.{AddsSuch, IsFunctionsText, function_li
 ghost use Rattle.goblin_uses.specs.Listed.{LargestFirst, functions_of, is_function, names_of, symbols_of};
 
 use crate::names::push_names;
-use crate::symbols::bytes_of;
+use crate::symbols::{bytes_of, symbols_of};
 use goblin::container::Ctx;
 use goblin::elf::section_header::SectionHeader;
 use goblin::elf::sym::{Sym, Symtab};
@@ -59,8 +59,7 @@ pub fn push_functions(
         (functions_of bytes.now section.now at ctx) }
     ensures first { IfErr (symbols_of bytes.now section.now ctx) (λ e. result ≡ Err e) }
 {
-    let count = section.sh_size as usize / Sym::size(ctx.container);
-    let symbols = Symtab::parse(bytes, section.sh_offset as usize, count, ctx)?;
+    let symbols = symbols_of(bytes, section, ctx)?;
     let names = Strtab::new_preparsed(alloc, bytes_of(bytes, strings), 0)?;
     push_count(text, &symbols)?;
     push_names(alloc, text, bytes_of(bytes, strings), 13)?;

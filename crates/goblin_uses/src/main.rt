@@ -13,7 +13,6 @@ mod relocations;
 mod symbols;
 
 use functions::push_functions;
-use goblin::container::Ctx;
 use goblin::elf::header::Header;
 use goblin::elf::section_header::{SHT_NOTE, SHT_REL, SHT_RELA, SHT_SYMTAB, SectionHeader};
 use goblin::error::Result;
@@ -23,19 +22,19 @@ use relocations::push_relocations;
 use std::alloc::Global;
 use std::io;
 use std::io::Read;
-use symbols::{linked, push_symbols};
+use symbols::push_symbols;
 
 // Adds the lines of a file, up to the first error.
 fn list(alloc: Global, text: &mut String, bytes: &[u8]) -> Result<()> {
     let (header, _) = Header::try_from_ctx(bytes, LE)?;
-    let ctx = Ctx::new(header.container()?, header.endianness()?);
+    let ctx = header.ctx()?;
     let count = usize::from(header.e_shnum);
     let sections = SectionHeader::parse(alloc, bytes, header.e_shoff as usize, count, ctx)?;
     push_symbols(alloc, text, bytes)?;
     for section in &sections {
         match section.sh_type {
             SHT_SYMTAB => {
-                let strings = linked(sections.as_slice(), section.sh_link);
+                let strings = SectionHeader::linked(sections.as_slice(), section.sh_link as usize);
                 push_functions(alloc, text, bytes, section, strings, ctx)?;
             }
             SHT_REL | SHT_RELA => push_relocations(text, bytes, section, &header, ctx)?,

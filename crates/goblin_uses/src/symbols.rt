@@ -2,13 +2,14 @@
 ghost use Rattle.std.specs.Prelude.{◌≡◌, ◌++◌, OnOk, string_bytes};
 ghost use Rattle.std.specs.Option.{option_map};
 ghost use Rattle.goblin_uses.specs.Lines.{Adds, section_listed, symbol_lines, symbols_listed};
-ghost use Rattle.goblin_uses.specs.Listed.{bytes_of, linked};
+ghost use Rattle.goblin_uses.specs.Listed.{bytes_of, symbols_of};
 
 use goblin::container::Ctx;
 use goblin::elf::header::Header;
-use goblin::elf::section_header::{SHN_UNDEF, SHT_SYMTAB, SectionHeader};
-use goblin::elf::sym::{Sym, Symtab};
+use goblin::elf::section_header::{SHT_SYMTAB, SectionHeader};
+use goblin::elf::sym::Symtab;
 use goblin::error::Result;
+use goblin::options::ParseOptions;
 use goblin::scroll::{LE, TryFromCtx};
 use goblin::strtab::Strtab;
 use std::alloc::{AllocError, Global};
@@ -23,7 +24,7 @@ pub fn push_symbols(alloc: Global, text: &mut String, bytes: &[u8]) -> Result<()
         Adds (string_bytes text.old) (string_bytes text.new) result right }
 {
     let (header, _) = Header::try_from_ctx(bytes, LE)?;
-    let ctx = Ctx::new(header.container()?, header.endianness()?);
+    let ctx = header.ctx()?;
     let count = usize::from(header.e_shnum);
     let sections = SectionHeader::parse(alloc, bytes, header.e_shoff as usize, count, ctx)?;
     for section in &sections {
@@ -47,9 +48,8 @@ fn push_section(
     if section.sh_type != SHT_SYMTAB {
         return Ok(());
     }
-    let count = section.sh_size as usize / Sym::size(ctx.container);
-    let symbols = Symtab::parse(bytes, section.sh_offset as usize, count, ctx)?;
-    let strings = linked(sections, section.sh_link);
+    let symbols = symbols_of(bytes, section, ctx)?;
+    let strings = SectionHeader::linked(sections, section.sh_link as usize);
     let names = Strtab::new_preparsed(alloc, bytes_of(bytes, strings), 0)?;
     push_each(text, &names, &symbols)?;
     Ok(())
@@ -65,14 +65,13 @@ pub fn bytes_of<'a>(bytes: &'a [u8], section: Option<&SectionHeader>) -> &'a [u8
     }
 }
 
-/// The section that another one links to by its index: index 0 is none.
-pub fn linked(sections: &[SectionHeader], index: u32) -> Option<&SectionHeader>
-    ensures { option_map (λ s. s.now) result ≡ linked sections.now index }
+/// Returns the symbols of a section, as many as it holds whole.
+pub fn symbols_of<'a>(bytes: &'a [u8], section: &SectionHeader, ctx: Ctx) -> Result<Symtab<'a>>
+    ensures { result ≡ symbols_of bytes.now section.now ctx }
 {
-    if index == SHN_UNDEF {
-        return None;
-    }
-    sections.get(index as usize)
+    let offset = section.sh_offset as usize;
+    let size = section.sh_size as usize;
+    Symtab::in_range(bytes, offset, size, ctx, &ParseOptions::strict())
 }
 
 // Adds a line for each symbol.

@@ -56,9 +56,6 @@ impl<'a> Symtab<'a> {
     /// <!-- quoted: crates/goblin_uses/src/functions.rt -->
     /// ```
     /// symbols.iter().filter(|symbol| symbol.is_function()).count()
-    ///
-    /// let count = section.sh_size as usize / Sym::size(ctx.container);
-    /// let symbols = Symtab::parse(bytes, section.sh_offset as usize, count, ctx)?;
     /// ```
     pub fn parse(bytes: &'a [u8], offset: usize, count: usize, ctx: Ctx) -> Result<Symtab<'a>>
         ensures { result ≡ symtab_of bytes.now offset count ctx }
@@ -117,6 +114,13 @@ impl<'a> Symtab<'a> {
 
     /// Parses the symbol table of a section: as many symbols as `size` bytes from an offset on hold
     /// whole.
+    ///
+    /// <!-- quoted: crates/goblin_uses/src/symbols.rt -->
+    /// ```
+    /// let offset = section.sh_offset as usize;
+    /// let size = section.sh_size as usize;
+    /// Symtab::in_range(bytes, offset, size, ctx, &ParseOptions::strict())
+    /// ```
     ///
     /// # Errors
     ///

@@ -1,24 +1,14 @@
 use Rattle.std.proofs.Common.{rules, string_bytes, ◌+◌, drop, slice_index_or}
 use Rattle.std.proofs.lemmas.List.{drop_more}
 use Rattle.goblin.specs.declared.elf.section_header.SectionHeader.{SectionHeader}
+use Rattle.goblin.specs.SectionHeader.{section_header_of_values}
 use Rattle.goblin_uses.specs.Lines.{section_listed, sections_listed}
 use Rattle.goblin_uses.proofs.Behind.{section_added}
 use Rattle.goblin_uses.proofs.symbols.push_symbols.Goals as goal
 
 -- the default of reads past the end of a list, of which there are none
 abbrev past : SectionHeader
-past = record {
-  sh_name = 0;
-  sh_type = 0;
-  sh_flags = 0;
-  sh_addr = 0;
-  sh_offset = 0;
-  sh_size = 0;
-  sh_link = 0;
-  sh_info = 0;
-  sh_addralign = 0;
-  sh_entsize = 0;
-}
+past = section_header_of_values []
 
 pub loop-section-preserved : goal.loop-section-preserved
 loop-section-preserved c =
