@@ -82,15 +82,15 @@ pub at_ok : {A E : Type 0} (answer : Result A E) (x : A) (P : A → Type 0) → 
 at_ok answer x P is h = rw is at h
 
 -- a property that holds if a test passes holds after the test
-read_behind : (test : Bool) (refusal : Refusal) (answer : Result NotePlaces Refusal) (P : NotePlaces → Type 0) → (test ≡ false → IfOk answer P) → IfOk (refuse_if test refusal >>= λ _. answer) P
-read_behind true refusal answer P h = tt
-read_behind false refusal answer P h = h refl
+after_test : (test : Bool) (refusal : Refusal) (answer : Result NotePlaces Refusal) (P : NotePlaces → Type 0) → (test ≡ false → IfOk answer P) → IfOk (refuse_if test refusal >>= λ _. answer) P
+after_test true refusal answer P h = tt
+after_test false refusal answer P h = h refl
 
 -- the places of a note lie within the bytes that it is read from
 pub places_lie_within : PlacesLieWithin
 unfolding places_at
 places_lie_within bytes offset ctx =
-    read_behind (nat_le (length bytes) offset) (bad_offset offset) (read_places ctx.0 ctx.1.le (drop offset bytes)) _ λ before.
+    after_test (nat_le (length bytes) offset) (bad_offset offset) (read_places ctx.0 ctx.1.le (drop offset bytes)) _ λ before.
     if_ok_more (read_places ctx.0 ctx.1.le (drop offset bytes)) _ _ (read_places-fits ctx.0 ctx.1.le (drop offset bytes)) λ p within.
     let there = leb-false (length bytes) offset before in
     let rest = length-drop offset bytes in

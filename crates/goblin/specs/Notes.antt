@@ -27,15 +27,15 @@ abbrev pub most_left : NoteDataIterator → ℕ
 most_left it = div_ceil (it.size - it.offset) nhdr32_size
 
 -- the offset after a note, or the end of the range after a refusal
-abbrev pub offset_behind : Result (NoteParts × ℕ) Refusal → ℕ → ℕ → ℕ
-offset_behind (Ok note) size offset = offset + note.1
-offset_behind (Err refusal) size offset = size
+abbrev pub next_offset : Result (NoteParts × ℕ) Refusal → ℕ → ℕ → ℕ
+next_offset (Ok note) size offset = offset + note.1
+next_offset (Err refusal) size offset = size
 
 -- the range after its next item: only its offset moves, and at the end not even that
 abbrev pub after_next : NoteDataIterator → NoteDataIterator
 after_next it =
     if nat_le it.size it.offset then it
-    else record it { offset = offset_behind (note_at it.bytes.now it.offset it.ctx) it.size it.offset }
+    else record it { offset = next_offset (note_at it.bytes.now it.offset it.ctx) it.size it.offset }
 
 -- the items that the ranges from the index on have left, one range after another
 abbrev pub all_items_left : NoteIterator → List (Result NoteParts Refusal)

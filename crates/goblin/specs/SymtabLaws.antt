@@ -23,9 +23,9 @@ pub permissive_keeps_strict : PermissiveKeepsStrict
 permissive_keeps_strict bytes offset count ctx table is = grind (arith, nat_tests, min_fits, positive ctx)
 
 -- results after a test are the same, if they are when the test passes
-behind : (test : Bool) (e : Error) (a b : Result Symbols Error) → (test ≡ false → a ≡ b) → (if test then Err e else a) ≡ (if test then Err e else b)
-behind true e a b h = refl
-behind false e a b h = h refl
+after_test : (test : Bool) (e : Error) (a b : Result Symbols Error) → (test ≡ false → a ≡ b) → (if test then Err e else a) ≡ (if test then Err e else b)
+after_test true e a b h = refl
+after_test false e a b h = h refl
 
 -- symbols from an offset on depend only on their range
 symbols-agree : (bytes others : List ℕ) (offset count : ℕ) (ctx : Ctx) → take (count * sym_size ctx.container) (drop offset bytes) ≡ take (count * sym_size ctx.container) (drop offset others) → symbols_at bytes offset count ctx ≡ symbols_at others offset count ctx
@@ -38,9 +38,9 @@ depends_on_its_range Strict bytes others offset count ctx long same =
     let size = sym_size ctx.container in
     let available = length bytes - offset in
     rw (← long)
-    (behind (nat_le (length bytes) offset) _ _ _ λ inside.
-    behind (nat_le (2 ^ 64) (count * size)) _ _ _ λ small.
-    behind (nat_lt available (count * size)) _ _ _ λ fits.
+    (after_test (nat_le (length bytes) offset) _ _ _ λ inside.
+    after_test (nat_le (2 ^ 64) (count * size)) _ _ _ λ small.
+    after_test (nat_lt available (count * size)) _ _ _ λ fits.
     let all : min count (available / size) ≡ count = grind (arith, nat_tests, min_fits, positive ctx) in
     ap Ok (symbols-agree bytes others offset count ctx (rw all at same)))
 depends_on_its_range Permissive bytes others offset count ctx long same =

@@ -19,8 +19,8 @@ pub record IsHeader {R : Type 0} (size : ℕ) (ident : R → List ℕ) (read : E
   -- a header holds an identification
   pub enough : 16 ≤ size
   -- its image begins with it
-  pub behind : Endian → R → List ℕ
-  pub image_is : (order : Endian) (h : R) → image order h ≡ ident h ++ behind order h
+  pub after_ident : Endian → R → List ℕ
+  pub image_is : (order : Endian) (h : R) → image order h ≡ ident h ++ after_ident order h
   pub ident_read : (order : Endian) (bytes : List ℕ) → ident (read order bytes) ≡ take 16 bytes
   -- the image has the size of a header and consists of bytes
   pub length_image : (order : Endian) (h : R) → length (ident h) ≡ 16 → length (image order h) ≡ size
@@ -56,13 +56,13 @@ module _ {R : Type 0} {widths : List ℕ} {ident : R → List ℕ} {read : Endia
 
   read-image : (order : Endian) (h : R) (rest : List ℕ) → length (ident h) ≡ 16 → read order (image order h ++ rest) ≡ low h
   read-image order h rest long =
-      let behind = image_of_fields order (fields h) in
-      let bytes = ident h ++ (behind ++ rest) in
-      let grouped : image order h ++ rest ≡ bytes = append_assoc (ident h) behind rest in
+      let after = image_of_fields order (fields h) in
+      let bytes = ident h ++ (after ++ rest) in
+      let grouped : image order h ++ rest ≡ bytes = append_assoc (ident h) after rest in
       let values : values_at order bytes 16 widths ≡ lows_of (fields h) =
       ap (values_at order bytes 16) (sym (l.has_widths h)) ∙ values_at-image order (fields h) (ident h) rest 16 long in
       ap (read order) grouped ∙ l.reads order bytes
-      ∙ ap (λ (i : List ℕ). l.of_values i (values_at order bytes 16 widths)) (take_at (ident h) (behind ++ rest) 16 long)
+      ∙ ap (λ (i : List ℕ). l.of_values i (values_at order bytes 16 widths)) (take_at (ident h) (after ++ rest) 16 long)
       ∙ ap (l.of_values (ident h)) values ∙ l.lows h
 
   low-fits : (h : R) → FieldsFit (fields h) → low h ≡ h
@@ -78,7 +78,7 @@ module _ {R : Type 0} {widths : List ℕ} {ident : R → List ℕ} {read : Endia
   layout_laws : IsHeader (16 + total widths) ident read image low (λ h. FieldsFit (fields h))
   layout_laws = record {
     enough = omega arith;
-    behind = λ order h. image_of_fields order (fields h);
+    after_ident = λ order h. image_of_fields order (fields h);
     image_is = λ order h. refl;
     ident_read = ident-read;
     length_image = length-image;
@@ -117,7 +117,7 @@ header64_laws = layout_laws {widths = header64_widths} {fields = header64_fields
 widened_laws : {A B : Type 0} {size : ℕ} {ident : A → List ℕ} {read : Endian → List ℕ → A} {image : Endian → A → List ℕ} {low : A → A} {Fits : A → Type 0} (widen : A → B) (narrow : B → A) → ((raw : A) → narrow (widen raw) ≡ raw) → ((h : B) → widen (narrow h) ≡ h) → IsHeader size ident read image low Fits → IsHeader size (λ h. ident (narrow h)) (λ order bytes. widen (read order bytes)) (λ order h. image order (narrow h)) (λ h. widen (low (narrow h))) (λ h. Fits (narrow h))
 widened_laws {ident = ident} {read = read} {image = image} widen narrow there back raw = record {
   enough = raw.enough;
-  behind = λ order h. raw.behind order (narrow h);
+  after_ident = λ order h. raw.after_ident order (narrow h);
   image_is = λ order h. raw.image_is order (narrow h);
   ident_read = λ order bytes. ap ident (there (read order bytes)) ∙ raw.ident_read order bytes;
   length_image = λ order h. raw.length_image order (narrow h);
@@ -134,8 +134,8 @@ header_laws class.Big = widened_laws widened64 as64 (λ raw. refl) (λ h. refl) 
 
 module _ {R : Type 0} {size : ℕ} {ident : R → List ℕ} {read : Endian → List ℕ → R} {image : Endian → R → List ℕ} {low : R → R} {Fits : R → Type 0} (laws : IsHeader size ident read image low Fits) where
   -- bytes of a header's size are the image of the header that is read from them
-  again : (order : Endian) (bytes : List ℕ) → IsBytes bytes → length bytes ≡ size → bytes ≡ image order (read order bytes)
-  again order bytes are long = sym (take_all size bytes (omega arith)) ∙ sym (laws.writes_back order bytes are (omega arith))
+  image_of_read : (order : Endian) (bytes : List ℕ) → IsBytes bytes → length bytes ≡ size → bytes ≡ image order (read order bytes)
+  image_of_read order bytes are long = sym (take_all size bytes (omega arith)) ∙ sym (laws.writes_back order bytes are (omega arith))
 
   reads_alone : (order : Endian) (h : R) → length (ident h) ≡ 16 → read order (image order h) ≡ low h
   reads_alone order h long = ap (read order) (sym (append-nil (image order h))) ∙ laws.reads_low order h [] long
@@ -143,13 +143,13 @@ module _ {R : Type 0} {size : ℕ} {ident : R → List ℕ} {read : Endian → L
   -- only the low bits are written
   pub image-low : (order : Endian) (h : R) → length (ident h) ≡ 16 → IsBytes (ident h) → image order (low h) ≡ image order h
   image-low order h long are =
-      ap (image order) (sym (reads_alone order h long)) ∙ sym (again order (image order h) (laws.image_bytes order h are) (laws.length_image order h long))
+      ap (image order) (sym (reads_alone order h long)) ∙ sym (image_of_read order (image order h) (laws.image_bytes order h are) (laws.length_image order h long))
 
   -- the image is the only list of bytes that is read so
   pub one_header_image : IsOneHeaderImage size ident read image low
   one_header_image order h bytes long are = (
     λ is. rw is (laws.image_bytes order h are, laws.length_image order h long, reads_alone order h long),
-    λ so. again order bytes so.0 so.1 ∙ ap (image order) so.2 ∙ image-low order h long are,
+    λ so. image_of_read order bytes so.0 so.1 ∙ ap (image order) so.2 ∙ image-low order h long are,
   )
 
   -- a header that fits is read back, whatever bytes follow

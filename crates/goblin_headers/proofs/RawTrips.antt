@@ -58,11 +58,11 @@ was_read_in_order size read fault bytes h is =
     }
 
 -- a byte of the first of two parts
-pub front_byte : (image front behind rest : List ℕ) (i : ℕ) → image ≡ front ++ behind → i < length front → slice_index (image ++ rest) i ≡ slice_index front i
-front_byte image front behind rest i is h =
+pub front_byte : (image front after rest : List ℕ) (i : ℕ) → image ≡ front ++ after → i < length front → slice_index (image ++ rest) i ≡ slice_index front i
+front_byte image front after rest i is h =
     ap (λ (all : List ℕ). slice_index (all ++ rest) i) is
-    ∙ ap (λ (all : List ℕ). slice_index all i) (append_assoc front behind rest)
-    ∙ get_or_append_left front (behind ++ rest) 0 i h
+    ∙ ap (λ (all : List ℕ). slice_index all i) (append_assoc front after rest)
+    ∙ get_or_append_left front (after ++ rest) 0 i h
 
 -- a byte of an identification
 pub ident_byte : (ident bytes : List ℕ) (i : ℕ) → ident ≡ take 16 bytes → i < 16 → slice_index ident i ≡ slice_index bytes i
@@ -83,7 +83,7 @@ module _ {R : Type 0} {size : ℕ} {ident : R → List ℕ} {read : Endian → L
       let enough = laws.enough in
       let long = names.0 in
       let room : size ≤ length bytes = omega (arith, length-append (image order h) rest, laws.length_image order h long) in
-      let byte = front_byte (image order h) (ident h) (laws.behind order h) rest 5 (laws.image_is order h) (omega arith) in
+      let byte = front_byte (image order h) (ident h) (laws.after_ident order h) rest 5 (laws.image_is order h) (omega arith) in
       reads_in_order size read fault bytes order enough room (ap order_named byte ∙ names.1) ∙ ap Ok (reads_fitting laws order h rest long fits)
 
   pub raw_written_and_read_back : IsWrittenAndReadBack size ident Fits writes (read_in_order size read)

@@ -16,7 +16,7 @@ use Rattle.goblin_base.proofs.Eager.{not_too_many, too_many}
 use Rattle.goblin_headers.specs.declared.section_header.SectionHeader.{SectionHeader}
 use Rattle.goblin_headers.specs.SectionHeader.{section_header_size, section_header_of}
 use Rattle.goblin_headers.specs.SectionHeaderLaws.{section_header_laws}
-use Rattle.goblin_headers.specs.SectionHeaders.{count_told, count_asked, count_from, section_headers_from_tested, section_headers_from}
+use Rattle.goblin_headers.specs.SectionHeaders.{header_count, count_asked, count_from, section_headers_from_tested, section_headers_from}
 
 -- the result of reading the first header
 abbrev pub read_first : List ℕ → ℕ → Ctx → Result SectionHeader Error
@@ -39,11 +39,11 @@ same_first bytes offset ctx first is =
     (found.0, found.1 ∙ sym front ∙ ap (section_header_of ctx.container ctx.le) (take-append-drop size rest))
 
 -- and it decides the count
-pub first_tells : (bytes : List ℕ) (offset count : ℕ) (ctx : Ctx) (first : SectionHeader) (most : ℕ) → Ok first ≡ read_first bytes offset ctx → most ≡ max (count_told first count) 1 → Ok most ≡ count_from bytes offset count ctx
-first_tells bytes offset count ctx first most is told =
+pub first_counts : (bytes : List ℕ) (offset count : ℕ) (ctx : Ctx) (first : SectionHeader) (most : ℕ) → Ok first ≡ read_first bytes offset ctx → most ≡ max (header_count first count) 1 → Ok most ≡ count_from bytes offset count ctx
+first_counts bytes offset count ctx first most is counted =
     let found = same_first bytes offset ctx first is in
-    let same : count_told first count ≡ count_asked bytes offset count ctx = ap (λ (h : SectionHeader). count_told h count) found.1 in
-    let all : most ≡ max 1 (count_asked bytes offset count ctx) = omega (arith, told, same) in
+    let same : header_count first count ≡ count_asked bytes offset count ctx = ap (λ (h : SectionHeader). header_count h count) found.1 in
+    let all : most ≡ max 1 (count_asked bytes offset count ctx) = omega (arith, counted, same) in
     rw (found.0) (ap Ok all)
 
 -- if the bytes don't hold the first header, the tests refuse

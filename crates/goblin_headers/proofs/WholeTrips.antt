@@ -23,10 +23,10 @@ pub one_image : OneImage
 one_image class = one_header_image (header_laws class)
 
 -- bytes that begin with the magic number do so whatever bytes follow
-begins_so : (image ident behind rest : List ℕ) → image ≡ ident ++ behind → length ident ≡ 16 → take 4 ident ≡ magic → starts_with nat_eq (image ++ rest) magic ≡ true
-begins_so image ident behind rest is long starts =
+begins_so : (image ident after rest : List ℕ) → image ≡ ident ++ after → length ident ≡ 16 → take 4 ident ≡ magic → starts_with nat_eq (image ++ rest) magic ≡ true
+begins_so image ident after rest is long starts =
     let front : take 4 (image ++ rest) ≡ magic =
-    ap (λ (all : List ℕ). take 4 (all ++ rest)) is ∙ ap (take 4) (append_assoc ident behind rest) ∙ take-append-le 4 ident (behind ++ rest) (omega arith) ∙ starts in
+    ap (λ (all : List ℕ). take 4 (all ++ rest)) is ∙ ap (take 4) (append_assoc ident after rest) ∙ take-append-le 4 ident (after ++ rest) (omega arith) ∙ starts in
     rw front refl
 
 pub reads_back : ReadsBack
@@ -35,13 +35,13 @@ reads_back class order h rest names fits =
     let image = header_image class order h in
     let bytes = image ++ rest in
     let is = laws.image_is order h in
-    let behind = laws.behind order h in
+    let after = laws.after_ident order h in
     let long = names.2.0 in
     let enough = laws.enough in
     let room : header_size class ≤ length bytes = omega (arith, length-append image rest, laws.length_image order h long) in
-    let starts = begins_so image h.e_ident behind rest is long names.0 in
-    let class_byte = front_byte image h.e_ident behind rest 4 is (omega arith) in
-    let data_byte = front_byte image h.e_ident behind rest 5 is (omega arith) in
+    let starts = begins_so image h.e_ident after rest is long names.0 in
+    let class_byte = front_byte image h.e_ident after rest 4 is (omega arith) in
+    let data_byte = front_byte image h.e_ident after rest 5 is (omega arith) in
     let begins : Begins class bytes = record { long = omega arith; starts = starts; named = ap class_named class_byte ∙ names.1 } in
     read_header-ok bytes class order begins (ap order_named data_byte ∙ names.2.1) room
     ∙ ap (λ (g : Header). Ok (g, header_size class)) (reads_fitting laws order h rest long fits)

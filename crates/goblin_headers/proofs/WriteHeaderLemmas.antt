@@ -21,8 +21,8 @@ with_header order ident old new fields long is room =
     let image = image_of_fields order fields in
     let enough : 16 + size ≤ length new = rw is (omega (arith, length-append ident (drop 16 old), length-drop 16 old)) in
     let front : take 16 new ≡ ident = ap (take 16) is ∙ take_at ident (drop 16 old) 16 long in
-    let behind : drop 16 new ≡ drop 16 old = ap (drop 16) is ∙ drop_at ident (drop 16 old) 16 long in
-    let rest : drop (16 + size) new ≡ drop (16 + size) old = sym (drop-drop size 16 new) ∙ ap (drop size) behind ∙ drop-drop size 16 old in
+    let after : drop 16 new ≡ drop 16 old = ap (drop 16) is ∙ drop_at ident (drop 16 old) 16 long in
+    let rest : drop (16 + size) new ≡ drop (16 + size) old = sym (drop-drop size 16 new) ∙ ap (drop size) after ∙ drop-drop size 16 old in
     with_fields-image order new 16 fields enough ∙ rw (front, rest) (sym (append_assoc ident image (drop (16 + size) old)))
 
 -- only the low bits are written

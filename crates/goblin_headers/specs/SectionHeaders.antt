@@ -28,12 +28,12 @@ new_section_header = record {
 }
 
 -- the number of headers that are asked for: the count, or the first header's `sh_size` if the count is 0
-abbrev pub count_told : SectionHeader → ℕ → ℕ
-count_told first count = if count == 0 then first.sh_size else count
+abbrev pub header_count : SectionHeader → ℕ → ℕ
+header_count first count = if count == 0 then first.sh_size else count
 
 -- the same, with the first header at an offset
 abbrev pub count_asked : List ℕ → ℕ → ℕ → Ctx → ℕ
-count_asked bytes offset count ctx = count_told (section_header_of ctx.container ctx.le (drop offset bytes)) count
+count_asked bytes offset count ctx = header_count (section_header_of ctx.container ctx.le (drop offset bytes)) count
 
 -- the number of headers to read from an offset on, at least 1; the bytes must hold the first
 abbrev pub count_from : List ℕ → ℕ → ℕ → Ctx → Result ℕ Error

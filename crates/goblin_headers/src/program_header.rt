@@ -142,8 +142,8 @@ impl ProgramHeader {
         count: usize,
         ctx: Ctx,
     ) -> Result<Vec<ProgramHeader>>
-        ensures given { let right = program_headers_from bytes.now offset count ctx in
-            Gives (λ v. v.items) result right }
+        ensures given { let expected = program_headers_from bytes.now offset count ctx in
+            Gives (λ v. v.items) result expected }
         ensures tested { IfErr (program_headers_tested bytes.now count ctx)
             (λ refusal. Refuses result refusal) }
         ensures none { (count ≡ 0) → IsOk result }
@@ -163,8 +163,8 @@ impl ProgramHeader {
         count: usize,
         ctx: Ctx,
     ) -> Result<Table<'_, ProgramHeader, Ctx>>
-        ensures { let right = program_headers_from bytes.now offset count ctx in
-            Answers (λ table. table) result right }
+        ensures { let expected = program_headers_from bytes.now offset count ctx in
+            Answers (λ table. table) result expected }
     {
         Table::counted(bytes, offset, count, ctx, "program headers")
     }

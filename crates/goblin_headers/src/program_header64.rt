@@ -62,9 +62,9 @@ impl ProgramHeader {
         count: usize,
         order: Endian,
     ) -> Result<Vec<ProgramHeader>>
-        ensures given { let right =
+        ensures given { let expected =
             records_in SIZEOF_PHDR (program_header64_of order) bytes.now offset count in
-            Gives (λ v. v.items) result right }
+            Gives (λ v. v.items) result expected }
         ensures range { IfErr (room_of_each (length bytes.now) offset SIZEOF_PHDR count)
             (λ e. result ≡ Err (Error.Scroll e)) }
         ensures none { (count ≡ 0) → IsOk result }

@@ -14,7 +14,7 @@ ghost use Rattle.goblin_base.specs.declared.container.Endian.{Endian};
 ghost use Rattle.goblin_headers.specs.Ranges.{span};
 ghost use Rattle.goblin_headers.specs.SectionHeader.{as64, section_header_size, section_header_of, section_header_image, section_header_low, SectionHeaderFits};
 ghost use Rattle.goblin_headers.specs.SectionHeader64.{section_header64_fields};
-ghost use Rattle.goblin_headers.specs.SectionHeaders.{new_section_header, count_from, count_told, linked, names_index, section_headers_from, section_headers_from_tested, section_headers_of, section_headers_of_tested, size_checked, size_checked_in};
+ghost use Rattle.goblin_headers.specs.SectionHeaders.{new_section_header, count_from, header_count, linked, names_index, section_headers_from, section_headers_from_tested, section_headers_of, section_headers_of_tested, size_checked, size_checked_in};
 ghost use Rattle.goblin_headers.specs.SectionNames.{section_flag_names};
 
 pub use crate::{section_header32, section_header64};
@@ -120,8 +120,8 @@ impl SectionHeader {
         count: usize,
         ctx: Ctx,
     ) -> Result<Vec<SectionHeader>>
-        ensures given { let right = section_headers_of bytes.now offset count ctx in
-            Gives (λ v. v.items) result right }
+        ensures given { let expected = section_headers_of bytes.now offset count ctx in
+            Gives (λ v. v.items) result expected }
         ensures tested { IfErr (section_headers_of_tested bytes.now offset count ctx)
             (λ refusal. Refuses result refusal) }
         ensures none { (offset ≡ 0) → IsOk result }
@@ -151,8 +151,8 @@ impl SectionHeader {
         count: usize,
         ctx: Ctx,
     ) -> Result<Vec<SectionHeader>>
-        ensures given { let right = section_headers_from bytes.now offset count ctx in
-            Gives (λ v. v.items) result right }
+        ensures given { let expected = section_headers_from bytes.now offset count ctx in
+            Gives (λ v. v.items) result expected }
         ensures tested { IfErr (section_headers_from_tested bytes.now offset count ctx)
             (λ refusal. Refuses result refusal) }
     {
@@ -173,8 +173,8 @@ impl SectionHeader {
         count: usize,
         ctx: Ctx,
     ) -> Result<Table<'_, SectionHeader, Ctx>>
-        ensures { let right = section_headers_of bytes.now offset count ctx in
-            Answers (λ table. table) result right }
+        ensures { let expected = section_headers_of bytes.now offset count ctx in
+            Answers (λ table. table) result expected }
     {
         if offset == 0 {
             return Ok(Table::of(&[], 0, ctx));
@@ -189,8 +189,8 @@ impl SectionHeader {
         count: usize,
         ctx: Ctx,
     ) -> Result<Table<'_, SectionHeader, Ctx>>
-        ensures { let right = section_headers_from bytes.now offset count ctx in
-            Answers (λ table. table) result right }
+        ensures { let expected = section_headers_from bytes.now offset count ctx in
+            Answers (λ table. table) result expected }
     {
         let most = SectionHeader::count_from(bytes, offset, count, ctx)?;
         Table::counted(bytes, offset, most, ctx, "section headers")
@@ -354,7 +354,7 @@ impl SectionHeader {
 
     // Returns the number of headers that are asked for, if this is the first of them.
     fn count_asked(&self, count: usize) -> usize
-        ensures { result ≡ count_told self.now count }
+        ensures { result ≡ header_count self.now count }
     {
         if count == 0 {
             self.sh_size as usize

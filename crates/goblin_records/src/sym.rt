@@ -100,8 +100,8 @@ impl Sym {
         count: usize,
         ctx: Ctx,
     ) -> Result<Vec<Sym>>
-        ensures given { let right = symbols_from bytes.now offset count ctx in
-            Gives (λ v. v.items) result right }
+        ensures given { let expected = symbols_from bytes.now offset count ctx in
+            Gives (λ v. v.items) result expected }
         ensures too_many { length bytes.now / sym_size ctx.container < count →
             Refuses result (buffer_too_short count (codes "symbols")) }
         ensures none { (count ≡ 0) → IsOk result }

@@ -51,7 +51,7 @@ fn push_line(text: &mut String, note: &Note) -> std::result::Result<(), AllocErr
 }
 
 // Adds a line for each note.
-#[tactic(auto, using(crate::proofs::Behind::note_lines_ok))]
+#[tactic(auto, using(crate::proofs::After::note_lines_ok))]
 fn push_each(text: &mut String, notes: NoteDataIterator) -> Result<()>
     ensures { Adds (string_bytes text.old) (string_bytes text.new) result
         (note_lines (items_left notes.entry)) }
@@ -67,7 +67,7 @@ fn push_each(text: &mut String, notes: NoteDataIterator) -> Result<()>
 /// # Errors
 ///
 /// The error of the first note that can't be read, else out of memory.
-#[tactic(auto, using(crate::proofs::Behind::headed))]
+#[tactic(auto, using(crate::proofs::After::headed))]
 pub fn push_notes(text: &mut String, bytes: &[u8], section: &SectionHeader, ctx: Ctx) -> Result<()>
     ensures { Adds (string_bytes text.old) (string_bytes text.new) result
         (notes_listed bytes.now section.now ctx) }

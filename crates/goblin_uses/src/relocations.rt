@@ -64,8 +64,8 @@ pub fn push_relocations(
     header: &Header,
     ctx: Ctx,
 ) -> Result<()>
-    ensures added { let right = relocations_listed bytes.now section.now header.now ctx in
-        Adds (string_bytes text.old) (string_bytes text.new) result right }
+    ensures added { let expected = relocations_listed bytes.now section.now header.now ctx in
+        Adds (string_bytes text.old) (string_bytes text.new) result expected }
     ensures first { IfErr (relocations_of bytes.now section.now header.now ctx)
         (λ e. result ≡ Err e) }
 {

@@ -20,8 +20,8 @@ use std::alloc::{AllocError, Global};
 ///
 /// Those of the header, the section headers, the symbols and their strings, else out of memory.
 pub fn push_symbols(alloc: Global, text: &mut String, bytes: &[u8]) -> Result<()>
-    ensures { let right = symbols_listed bytes.now in
-        Adds (string_bytes text.old) (string_bytes text.new) result right }
+    ensures { let expected = symbols_listed bytes.now in
+        Adds (string_bytes text.old) (string_bytes text.new) result expected }
 {
     let (header, _) = Header::try_from_ctx(bytes, LE)?;
     let ctx = header.ctx()?;
@@ -42,8 +42,8 @@ fn push_section(
     section: &SectionHeader,
     ctx: Ctx,
 ) -> Result<()>
-    ensures { let right = section_listed bytes.now sections.now ctx section.now in
-        Adds (string_bytes text.old) (string_bytes text.new) result right }
+    ensures { let expected = section_listed bytes.now sections.now ctx section.now in
+        Adds (string_bytes text.old) (string_bytes text.new) result expected }
 {
     if section.sh_type != SHT_SYMTAB {
         return Ok(());

@@ -1,6 +1,6 @@
 use Rattle.std.proofs.Common.{◌≡◌, ◌++◌, ℕ, List, string_bytes}
 use Rattle.goblin.specs.Notes.{items_left}
-use Rattle.goblin_uses.proofs.Behind.{behind}
+use Rattle.goblin_uses.proofs.After.{after}
 use Rattle.goblin_uses.specs.Lines.{note_lines}
 use Rattle.goblin_uses.proofs.notes.push_each.Given as goal
 
@@ -8,4 +8,4 @@ use Rattle.goblin_uses.proofs.notes.push_each.Given as goal
 abbrev pub invariant-loop-note : goal.invariant-loop-note
 invariant-loop-note l =
     (lines : List ℕ) × (string_bytes l.text ≡ string_bytes l.initial.text ++ lines)
-    × (note_lines (items_left l.fn.notes) ≡ behind lines (note_lines (items_left l.note-iterator)))
+    × (note_lines (items_left l.fn.notes) ≡ after lines (note_lines (items_left l.note-iterator)))

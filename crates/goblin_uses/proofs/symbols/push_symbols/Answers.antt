@@ -3,7 +3,7 @@ use Rattle.std.proofs.lemmas.List.{drop_more}
 use Rattle.goblin.specs.declared.elf.section_header.SectionHeader.{SectionHeader}
 use Rattle.goblin.specs.SectionHeader.{section_header_of_values}
 use Rattle.goblin_uses.specs.Lines.{section_listed, sections_listed}
-use Rattle.goblin_uses.proofs.Behind.{section_added}
+use Rattle.goblin_uses.proofs.After.{section_added}
 use Rattle.goblin_uses.proofs.symbols.push_symbols.Goals as goal
 
 -- the default of reads past the end of a list, of which there are none

@@ -9,13 +9,13 @@ use Rattle.goblin.specs.Texts.{◌&◌}
 use Rattle.goblin_uses.specs.Lines.{Adds, note_line, note_lines, sections_listed}
 
 -- the same lines after some others
-abbrev pub behind : List ℕ → Result (List ℕ) Refusal → Result (List ℕ) Refusal
-behind lines (Ok more) = Ok (lines ++ more)
-behind lines (Err e) = Err e
+abbrev pub after : List ℕ → Result (List ℕ) Refusal → Result (List ℕ) Refusal
+after lines (Ok more) = Ok (lines ++ more)
+after lines (Err e) = Err e
 
 -- one more note
 more : (lines mine : List ℕ) (rest : Result (List ℕ) Refusal)
-    → behind lines (rest >>= λ more. Ok (mine & more)) ≡ behind (lines ++ mine) rest
+    → after lines (rest >>= λ more. Ok (mine & more)) ≡ after (lines ++ mine) rest
 more lines mine (Ok rest) = ap Ok (sym (append_assoc lines mine rest))
 more lines mine (Err e) = refl
 
@@ -28,23 +28,23 @@ headed old head mid new right is (lines, given, added) =
 
 -- a note among items
 pub note_lines_ok : (lines : List ℕ) (note : NoteParts) (items : List (Result NoteParts Refusal))
-    → behind lines (note_lines (Ok note ∷ items)) ≡ behind (lines ++ note_line note) (note_lines items)
+    → after lines (note_lines (Ok note ∷ items)) ≡ after (lines ++ note_line note) (note_lines items)
 note_lines_ok lines note items = more lines (note_line note) (note_lines items)
 
 -- a section among others
 pub section_ok : (list : SectionHeader → Result (List ℕ) Refusal) (lines mine : List ℕ) (s : SectionHeader) (sections : List SectionHeader)
-    → list s ≡ Ok mine → behind lines (sections_listed list (s ∷ sections)) ≡ behind (lines ++ mine) (sections_listed list sections)
+    → list s ≡ Ok mine → after lines (sections_listed list (s ∷ sections)) ≡ after (lines ++ mine) (sections_listed list sections)
 section_ok list lines mine s sections given = rw given (more lines mine (sections_listed list sections))
 
 -- a section's lines after those so far
 pub section_added : (list : SectionHeader → Result (List ℕ) Refusal) (old mid new : List ℕ) (all : Result (List ℕ) Refusal)
     (result : Result (Unit {0}) Error) (s : SectionHeader) (left sections : List SectionHeader) → Adds mid new result (list s)
     → result ≡ Ok tt → left ≡ s ∷ sections
-    → ((lines : List ℕ) × (mid ≡ old ++ lines) × (all ≡ behind lines (sections_listed list left)))
-    → (lines : List ℕ) × (new ≡ old ++ lines) × (all ≡ behind lines (sections_listed list sections))
+    → ((lines : List ℕ) × (mid ≡ old ++ lines) × (all ≡ after lines (sections_listed list left)))
+    → (lines : List ℕ) × (new ≡ old ++ lines) × (all ≡ after lines (sections_listed list sections))
 section_added list old mid new all (Ok done) s left sections (mine, given, added) ok is (lines, before, rest) = (
   lines ++ mine,
   added ∙ ap (λ text. text ++ mine) before ∙ append_assoc old lines mine,
-  rest ∙ ap (λ left. behind lines (sections_listed list left)) is ∙ section_ok list lines mine s sections given,
+  rest ∙ ap (λ left. after lines (sections_listed list left)) is ∙ section_ok list lines mine s sections given,
 )
 section_added list old mid new all (Err e) s left sections adds ok is so_far = search (rules, ok)
