@@ -5,17 +5,23 @@ use Rattle.std.proofs.lemmas.List.{append_assoc, append-nil, length-append, take
 use Rattle.goblin_base.specs.declared.container.Container.{Container}
 use Rattle.goblin_base.specs.declared.container.Container.TheVariants as class
 use Rattle.goblin_base.specs.declared.container.Endian.{Endian}
-use Rattle.goblin_base.specs.Fields.{Field, FieldsFit, size_of_fields, image_of_fields, values_at, fields_at, total, widths_of, values_of, lows_of}
-use Rattle.goblin_base.specs.FieldLaws.{values_at-image, lows_of-fits, image-fields_at, length-image_of_fields, IsBytes-image_of_fields}
+use Rattle.goblin_base.specs.Fields.{Field, FieldsFit, size_of_fields, image_of_fields, values_at, fields_at, total}
+use Rattle.goblin_base.specs.Fields.{widths_of, values_of, lows_of}
+use Rattle.goblin_base.specs.FieldLaws.{values_at-image, lows_of-fits, image-fields_at, length-image_of_fields}
+use Rattle.goblin_base.specs.FieldLaws.{IsBytes-image_of_fields}
 use Rattle.goblin_base.specs.Number.{IsBytes}
 use Rattle.goblin_base.specs.NumberLaws.{IsBytes-append}
-use Rattle.goblin_headers.specs.Header.{header_size, header_of, header_image, header_low, HeaderFits, as32, as64, widened32, widened64}
-use Rattle.goblin_headers.specs.Header32.{header32_size, header32_of, header32_of_values, header32_widths, header32_fields, header32_image, header32_low, Header32Fits}
-use Rattle.goblin_headers.specs.Header64.{header64_size, header64_of, header64_of_values, header64_widths, header64_fields, header64_image, header64_low, Header64Fits}
+use Rattle.goblin_headers.specs.Header.{header_size, header_of, header_image, header_low, HeaderFits, as32, as64}
+use Rattle.goblin_headers.specs.Header.{widened32, widened64}
+use Rattle.goblin_headers.specs.Header32.{header32_size, header32_of, header32_of_values, header32_widths}
+use Rattle.goblin_headers.specs.Header32.{header32_fields, header32_image, header32_low, Header32Fits}
+use Rattle.goblin_headers.specs.Header64.{header64_size, header64_of, header64_of_values, header64_widths}
+use Rattle.goblin_headers.specs.Header64.{header64_fields, header64_image, header64_low, Header64Fits}
 use Rattle.goblin_headers.specs.HeaderTrips.{IsOneHeaderImage}
 
 -- headers of a size that begin with an identification, and what holds of reading and writing them
-pub record IsHeader {R : Type 0} (size : ℕ) (ident : R → List ℕ) (read : Endian → List ℕ → R) (image : Endian → R → List ℕ) (low : R → R) (Fits : R → Type 0) : Type 0 where
+pub record IsHeader {R : Type 0} (size : ℕ) (ident : R → List ℕ) (read : Endian → List ℕ → R)
+    (image : Endian → R → List ℕ) (low : R → R) (Fits : R → Type 0) : Type 0 where
   -- a header holds an identification
   pub enough : 16 ≤ size
   -- its image begins with it
@@ -26,16 +32,20 @@ pub record IsHeader {R : Type 0} (size : ℕ) (ident : R → List ℕ) (read : E
   pub length_image : (order : Endian) (h : R) → length (ident h) ≡ 16 → length (image order h) ≡ size
   pub image_bytes : (order : Endian) (h : R) → IsBytes (ident h) → IsBytes (image order h)
   -- the low bits are read back, so a header that fits is read back unchanged, whatever bytes follow
-  pub reads_low : (order : Endian) (h : R) (rest : List ℕ) → length (ident h) ≡ 16 → read order (image order h ++ rest) ≡ low h
+  pub reads_low : (order : Endian) (h : R) (rest : List ℕ)
+      → length (ident h) ≡ 16 → read order (image order h ++ rest) ≡ low h
   pub low_fits : (h : R) → Fits h → low h ≡ h
   -- bytes that were read are written back
-  pub writes_back : (order : Endian) (bytes : List ℕ) → IsBytes bytes → size ≤ length bytes → image order (read order bytes) ≡ take size bytes
+  pub writes_back : (order : Endian) (bytes : List ℕ)
+      → IsBytes bytes → size ≤ length bytes → image order (read order bytes) ≡ take size bytes
 
 -- how the fields of a header follow its identification
-record IsHeaderLayout {R : Type 0} (widths : List ℕ) (ident : R → List ℕ) (read : Endian → List ℕ → R) (fields : R → List Field) (low : R → R) : Type 0 where
+record IsHeaderLayout {R : Type 0} (widths : List ℕ) (ident : R → List ℕ) (read : Endian → List ℕ → R)
+    (fields : R → List Field) (low : R → R) : Type 0 where
   -- the header with this identification and these numbers
   of_values : List ℕ → List ℕ → R
-  reads : (order : Endian) (bytes : List ℕ) → read order bytes ≡ of_values (take 16 bytes) (values_at order bytes 16 widths)
+  reads : (order : Endian) (bytes : List ℕ)
+      → read order bytes ≡ of_values (take 16 bytes) (values_at order bytes 16 widths)
   has_ident : (i vs : List ℕ) → ident (of_values i vs) ≡ i
   has_widths : (h : R) → widths_of (fields h) ≡ widths
   has_size : (h : R) → size_of_fields (fields h) ≡ total widths
@@ -43,18 +53,27 @@ record IsHeaderLayout {R : Type 0} (widths : List ℕ) (ident : R → List ℕ) 
   whole : (h : R) → of_values (ident h) (values_of (fields h)) ≡ h
   fields_read : (order : Endian) (bytes : List ℕ) → fields (read order bytes) ≡ fields_at order bytes 16 widths
 
-module _ {R : Type 0} {widths : List ℕ} {ident : R → List ℕ} {read : Endian → List ℕ → R} {fields : R → List Field} {low : R → R} (l : IsHeaderLayout widths ident read fields low) where
+module _ {R : Type 0} {widths : List ℕ} {ident : R → List ℕ} {read : Endian → List ℕ → R} {fields : R → List Field}
+    {low : R → R} (l : IsHeaderLayout widths ident read fields low) where
   abbrev image : Endian → R → List ℕ
   image order h = ident h ++ image_of_fields order (fields h)
 
   ident-read : (order : Endian) (bytes : List ℕ) → ident (read order bytes) ≡ take 16 bytes
-  ident-read order bytes = ap ident (l.reads order bytes) ∙ l.has_ident (take 16 bytes) (values_at order bytes 16 widths)
+  ident-read order bytes =
+      ap ident (l.reads order bytes) ∙ l.has_ident (take 16 bytes) (values_at order bytes 16 widths)
 
   length-image : (order : Endian) (h : R) → length (ident h) ≡ 16 → length (image order h) ≡ 16 + total widths
   length-image order h long =
-      omega (arith, long, length-append (ident h) (image_of_fields order (fields h)), length-image_of_fields order (fields h), l.has_size h)
+      omega (
+        arith,
+        long,
+        length-append (ident h) (image_of_fields order (fields h)),
+        length-image_of_fields order (fields h),
+        l.has_size h,
+      )
 
-  read-image : (order : Endian) (h : R) (rest : List ℕ) → length (ident h) ≡ 16 → read order (image order h ++ rest) ≡ low h
+  read-image : (order : Endian) (h : R) (rest : List ℕ)
+      → length (ident h) ≡ 16 → read order (image order h ++ rest) ≡ low h
   read-image order h rest long =
       let after = image_of_fields order (fields h) in
       let bytes = ident h ++ (after ++ rest) in
@@ -68,7 +87,9 @@ module _ {R : Type 0} {widths : List ℕ} {ident : R → List ℕ} {read : Endia
   low-fits : (h : R) → FieldsFit (fields h) → low h ≡ h
   low-fits h fits = sym (l.lows h) ∙ ap (l.of_values (ident h)) (lows_of-fits (fields h) fits) ∙ l.whole h
 
-  image-read : (order : Endian) (bytes : List ℕ) → IsBytes bytes → 16 + total widths ≤ length bytes → image order (read order bytes) ≡ take (16 + total widths) bytes
+  image-read : (order : Endian) (bytes : List ℕ)
+      → IsBytes bytes → 16 + total widths ≤ length bytes
+      → image order (read order bytes) ≡ take (16 + total widths) bytes
   image-read order bytes are room =
       ap (λ (i : List ℕ). i ++ image_of_fields order (fields (read order bytes))) (ident-read order bytes)
       ∙ ap (λ (all : List Field). take 16 bytes ++ image_of_fields order all) (l.fields_read order bytes)
@@ -82,7 +103,9 @@ module _ {R : Type 0} {widths : List ℕ} {ident : R → List ℕ} {read : Endia
     image_is = λ order h. refl;
     ident_read = ident-read;
     length_image = length-image;
-    image_bytes = λ order h are i. IsBytes-append (ident h) (image_of_fields order (fields h)) are (IsBytes-image_of_fields order (fields h)) i;
+    image_bytes =
+        λ order h are i.
+        IsBytes-append (ident h) (image_of_fields order (fields h)) are (IsBytes-image_of_fields order (fields h)) i;
     reads_low = read-image;
     low_fits = low-fits;
     writes_back = image-read;
@@ -114,7 +137,13 @@ header64_laws = layout_laws {widths = header64_widths} {fields = header64_fields
 })
 
 -- headers that are read and written as other ones: `widen` is applied after reading, `narrow` before writing
-widened_laws : {A B : Type 0} {size : ℕ} {ident : A → List ℕ} {read : Endian → List ℕ → A} {image : Endian → A → List ℕ} {low : A → A} {Fits : A → Type 0} (widen : A → B) (narrow : B → A) → ((raw : A) → narrow (widen raw) ≡ raw) → ((h : B) → widen (narrow h) ≡ h) → IsHeader size ident read image low Fits → IsHeader size (λ h. ident (narrow h)) (λ order bytes. widen (read order bytes)) (λ order h. image order (narrow h)) (λ h. widen (low (narrow h))) (λ h. Fits (narrow h))
+widened_laws : {A B : Type 0} {size : ℕ} {ident : A → List ℕ} {read : Endian → List ℕ → A} {image : Endian → A → List ℕ}
+    {low : A → A} {Fits : A → Type 0} (widen : A → B) (narrow : B → A)
+    → ((raw : A) → narrow (widen raw) ≡ raw) → ((h : B) → widen (narrow h) ≡ h)
+    → IsHeader size ident read image low Fits
+    → IsHeader size (λ h. ident (narrow h)) (λ order bytes. widen (read order bytes))
+    (λ order h. image order (narrow h))
+    (λ h. widen (low (narrow h))) (λ h. Fits (narrow h))
 widened_laws {ident = ident} {read = read} {image = image} widen narrow there back raw = record {
   enough = raw.enough;
   after_ident = λ order h. raw.after_ident order (narrow h);
@@ -124,26 +153,34 @@ widened_laws {ident = ident} {read = read} {image = image} widen narrow there ba
   image_bytes = λ order h. raw.image_bytes order (narrow h);
   reads_low = λ order h rest long. ap widen (raw.reads_low order (narrow h) rest long);
   low_fits = λ h fits. ap widen (raw.low_fits (narrow h) fits) ∙ back h;
-  writes_back = λ order bytes are room. ap (image order) (there (read order bytes)) ∙ raw.writes_back order bytes are room;
+  writes_back =
+      λ order bytes are room. ap (image order) (there (read order bytes)) ∙ raw.writes_back order bytes are room;
 }
 
 -- a header of either class is the raw one of its class, widened
-pub header_laws : (class : Container) → IsHeader (header_size class) (λ h. h.e_ident) (header_of class) (header_image class) (header_low class) (HeaderFits class)
+pub header_laws : (class : Container)
+    → IsHeader (header_size class)
+    (λ h. h.e_ident) (header_of class) (header_image class) (header_low class) (HeaderFits class)
 header_laws class.Little = widened_laws widened32 as32 (λ raw. refl) (λ h. refl) header32_laws
 header_laws class.Big = widened_laws widened64 as64 (λ raw. refl) (λ h. refl) header64_laws
 
-module _ {R : Type 0} {size : ℕ} {ident : R → List ℕ} {read : Endian → List ℕ → R} {image : Endian → R → List ℕ} {low : R → R} {Fits : R → Type 0} (laws : IsHeader size ident read image low Fits) where
+module _ {R : Type 0} {size : ℕ} {ident : R → List ℕ} {read : Endian → List ℕ → R} {image : Endian → R → List ℕ}
+    {low : R → R} {Fits : R → Type 0} (laws : IsHeader size ident read image low Fits) where
   -- bytes of a header's size are the image of the header that is read from them
-  image_of_read : (order : Endian) (bytes : List ℕ) → IsBytes bytes → length bytes ≡ size → bytes ≡ image order (read order bytes)
-  image_of_read order bytes are long = sym (take_all size bytes (omega arith)) ∙ sym (laws.writes_back order bytes are (omega arith))
+  image_of_read : (order : Endian) (bytes : List ℕ)
+      → IsBytes bytes → length bytes ≡ size → bytes ≡ image order (read order bytes)
+  image_of_read order bytes are long =
+      sym (take_all size bytes (omega arith)) ∙ sym (laws.writes_back order bytes are (omega arith))
 
   reads_alone : (order : Endian) (h : R) → length (ident h) ≡ 16 → read order (image order h) ≡ low h
   reads_alone order h long = ap (read order) (sym (append-nil (image order h))) ∙ laws.reads_low order h [] long
 
   -- only the low bits are written
-  pub image-low : (order : Endian) (h : R) → length (ident h) ≡ 16 → IsBytes (ident h) → image order (low h) ≡ image order h
+  pub image-low : (order : Endian) (h : R)
+      → length (ident h) ≡ 16 → IsBytes (ident h) → image order (low h) ≡ image order h
   image-low order h long are =
-      ap (image order) (sym (reads_alone order h long)) ∙ sym (image_of_read order (image order h) (laws.image_bytes order h are) (laws.length_image order h long))
+      ap (image order) (sym (reads_alone order h long))
+      ∙ sym (image_of_read order (image order h) (laws.image_bytes order h are) (laws.length_image order h long))
 
   -- the image is the only list of bytes that is read so
   pub one_header_image : IsOneHeaderImage size ident read image low
@@ -153,5 +190,6 @@ module _ {R : Type 0} {size : ℕ} {ident : R → List ℕ} {read : Endian → L
   )
 
   -- a header that fits is read back, whatever bytes follow
-  pub reads_fitting : (order : Endian) (h : R) (rest : List ℕ) → length (ident h) ≡ 16 → Fits h → read order (image order h ++ rest) ≡ h
+  pub reads_fitting : (order : Endian) (h : R) (rest : List ℕ)
+      → length (ident h) ≡ 16 → Fits h → read order (image order h ++ rest) ≡ h
   reads_fitting order h rest long fits = laws.reads_low order h rest long ∙ laws.low_fits h fits

@@ -1,6 +1,7 @@
 -- Headers of one class are read back from the bytes that they were written as, and written back as those they were read
 -- from.
-use Rattle.std.proofs.Common.{◌≡◌, ◌<◌, ◌≤◌, ℕ, List, ◌++◌, length, take, drop, slice_index, Some, Result, Ok, refl, ap, ◌∙◌, arith}
+use Rattle.std.proofs.Common.{◌≡◌, ◌<◌, ◌≤◌, ℕ, List, ◌++◌, length, take, drop, slice_index, Some, Result, Ok, refl, ap}
+use Rattle.std.proofs.Common.{◌∙◌, arith}
 use Rattle.std.proofs.lemmas.List.{append_assoc, get_or_append_left, get_or-take, length-append, take-append-drop}
 use Rattle.goblin_base.specs.declared.container.Endian.{Endian}
 use Rattle.goblin_base.specs.declared.error.Error.{Error}
@@ -19,20 +20,27 @@ pub record Wrote (size : ℕ) (image old new : List ℕ) (answer : Result ℕ Er
   pub answers : answer ≡ Ok size
   pub leaves : new ≡ image ++ drop size old
 
-writes_there : (size : ℕ) (image old new : List ℕ) (answer : Result ℕ Error) → size ≤ length old → Writes size image old answer new → Wrote size image old new answer
+writes_there : (size : ℕ) (image old new : List ℕ) (answer : Result ℕ Error)
+    → size ≤ length old → Writes size image old answer new → Wrote size image old new answer
 unfolding Writes
 writes_there size image old new answer enough so =
     let wrote = rw (room_of_fits (length old) 0 size (omega arith)) at so in
     record { answers = wrote.0; leaves = wrote.1 }
 
 -- with a byte order and a buffer that is large enough, the image in that order is written
-pub writes_in_order : (ident : List ℕ) (size : ℕ) (image : Endian → List ℕ) (old new : List ℕ) (answer : Result ℕ Error) (order : Endian) → order_named (slice_index ident 5) ≡ Some order → size ≤ length old → WritesInOrder ident size image old answer new → Wrote size (image order) old new answer
+pub writes_in_order : (ident : List ℕ) (size : ℕ) (image : Endian → List ℕ) (old new : List ℕ) (answer : Result ℕ Error)
+    (order : Endian)
+    → order_named (slice_index ident 5) ≡ Some order → size ≤ length old → WritesInOrder ident size image old answer new
+    → Wrote size (image order) old new answer
 unfolding WritesInOrder
 writes_in_order ident size image old new answer order named room so =
     writes_there size (image order) old new answer room (rw named at so)
 
 -- with a byte order and enough bytes, the header is read in that order
-pub reads_in_order : {R : Type 0} (size : ℕ) (read : Endian → List ℕ → R) (fault : ℕ → Fault) (bytes : List ℕ) (order : Endian) → 16 ≤ size → size ≤ length bytes → order_named (slice_index bytes 5) ≡ Some order → read_in_order size read fault bytes ≡ Ok (read order bytes)
+pub reads_in_order : {R : Type 0} (size : ℕ) (read : Endian → List ℕ → R) (fault : ℕ → Fault) (bytes : List ℕ)
+    (order : Endian)
+    → 16 ≤ size → size ≤ length bytes → order_named (slice_index bytes 5) ≡ Some order
+    → read_in_order size read fault bytes ≡ Ok (read order bytes)
 unfolding read_in_order
 reads_in_order size read fault bytes order enough room named =
     rw (room_of_fits (length bytes) 0 16 (omega arith), named, room_of_fits (length bytes) 0 size (omega arith)) refl
@@ -44,7 +52,9 @@ pub record WasReadInOrder {R : Type 0} (size : ℕ) (read : Endian → List ℕ 
   pub enough : size ≤ length bytes
   pub header : h ≡ read order bytes
 
-pub was_read_in_order : {R : Type 0} (size : ℕ) (read : Endian → List ℕ → R) (fault : ℕ → Fault) (bytes : List ℕ) (h : R) → read_in_order size read fault bytes ≡ Ok h → WasReadInOrder size read bytes h
+pub was_read_in_order : {R : Type 0} (size : ℕ) (read : Endian → List ℕ → R) (fault : ℕ → Fault) (bytes : List ℕ)
+    (h : R)
+    → read_in_order size read fault bytes ≡ Ok h → WasReadInOrder size read bytes h
 unfolding read_in_order
 was_read_in_order size read fault bytes h is =
     let ident = step (needs 16 bytes) _ h is in
@@ -58,22 +68,26 @@ was_read_in_order size read fault bytes h is =
     }
 
 -- a byte of the first of two parts
-pub front_byte : (image front after rest : List ℕ) (i : ℕ) → image ≡ front ++ after → i < length front → slice_index (image ++ rest) i ≡ slice_index front i
+pub front_byte : (image front after rest : List ℕ) (i : ℕ)
+    → image ≡ front ++ after → i < length front → slice_index (image ++ rest) i ≡ slice_index front i
 front_byte image front after rest i is h =
     ap (λ (all : List ℕ). slice_index (all ++ rest) i) is
     ∙ ap (λ (all : List ℕ). slice_index all i) (append_assoc front after rest)
     ∙ get_or_append_left front (after ++ rest) 0 i h
 
 -- a byte of an identification
-pub ident_byte : (ident bytes : List ℕ) (i : ℕ) → ident ≡ take 16 bytes → i < 16 → slice_index ident i ≡ slice_index bytes i
+pub ident_byte : (ident bytes : List ℕ) (i : ℕ)
+    → ident ≡ take 16 bytes → i < 16 → slice_index ident i ≡ slice_index bytes i
 ident_byte ident bytes i is h = ap (λ (all : List ℕ). slice_index all i) is ∙ rw (get_or-take 16 bytes i 0) refl
 
 -- bytes that are written over themselves don't change
-pub over_itself : (size : ℕ) (image bytes new : List ℕ) → new ≡ image ++ drop size bytes → image ≡ take size bytes → new ≡ bytes
+pub over_itself : (size : ℕ) (image bytes new : List ℕ)
+    → new ≡ image ++ drop size bytes → image ≡ take size bytes → new ≡ bytes
 over_itself size image bytes new is same =
     is ∙ ap (λ (front : List ℕ). front ++ drop size bytes) same ∙ take-append-drop size bytes
 
-module _ {R : Type 0} {size : ℕ} {ident : R → List ℕ} {read : Endian → List ℕ → R} {image : Endian → R → List ℕ} {low : R → R} {Fits : R → Type 0} (laws : IsHeader size ident read image low Fits) where
+module _ {R : Type 0} {size : ℕ} {ident : R → List ℕ} {read : Endian → List ℕ → R} {image : Endian → R → List ℕ}
+    {low : R → R} {Fits : R → Type 0} (laws : IsHeader size ident read image low Fits) where
   abbrev writes : R → List ℕ → Result ℕ Error → List ℕ → Type 0
   writes h = WritesInOrder (ident h) size (λ order. image order h)
 
@@ -82,9 +96,12 @@ module _ {R : Type 0} {size : ℕ} {ident : R → List ℕ} {read : Endian → L
       let bytes = image order h ++ rest in
       let enough = laws.enough in
       let long = names.0 in
-      let room : size ≤ length bytes = omega (arith, length-append (image order h) rest, laws.length_image order h long) in
-      let byte = front_byte (image order h) (ident h) (laws.after_ident order h) rest 5 (laws.image_is order h) (omega arith) in
-      reads_in_order size read fault bytes order enough room (ap order_named byte ∙ names.1) ∙ ap Ok (reads_fitting laws order h rest long fits)
+      let room : size ≤ length bytes =
+      omega (arith, length-append (image order h) rest, laws.length_image order h long) in
+      let byte = front_byte (image order h) (ident h) (laws.after_ident order h) rest 5 (laws.image_is order h)
+      (omega arith) in
+      reads_in_order size read fault bytes order enough room (ap order_named byte ∙ names.1)
+      ∙ ap Ok (reads_fitting laws order h rest long fits)
 
   pub raw_written_and_read_back : IsWrittenAndReadBack size ident Fits writes (read_in_order size read)
   raw_written_and_read_back fault order h old new answer names fits room so =

@@ -1,5 +1,6 @@
 -- Reading a header of either class is reading a raw one, after the tests of its magic number and its class byte.
-use Rattle.std.proofs.Common.{◌≡◌, ◌≤◌, ℕ, true, false, nat_lt, nat_eq, not, List, length, slice_index, Some, Result, Ok, Err, refl, ap, sym, ◌∙◌, arith}
+use Rattle.std.proofs.Common.{◌≡◌, ◌≤◌, ℕ, true, false, nat_lt, nat_eq, not, List, length, slice_index, Some, Result}
+use Rattle.std.proofs.Common.{Ok, Err, refl, ap, sym, ◌∙◌, arith}
 use Rattle.std.specs.List.{starts_with}
 use Rattle.std.proofs.lemmas.Bool.Decides.{nat_tests}
 use Rattle.goblin_base.specs.declared.container.Container.{Container}
@@ -24,25 +25,34 @@ pub record Begins (class : Container) (bytes : List ℕ) : Type 0 where
   pub named : class_named (slice_index bytes 4) ≡ Some class
 
 -- with the magic number, a class, a byte order and enough bytes it is read
-pub read_header-ok : (bytes : List ℕ) (class : Container) (order : Endian) → Begins class bytes → order_named (slice_index bytes 5) ≡ Some order → header_size class ≤ length bytes → read_header bytes ≡ Ok (header_of class order bytes, header_size class)
+pub read_header-ok : (bytes : List ℕ) (class : Container) (order : Endian)
+    → Begins class bytes → order_named (slice_index bytes 5) ≡ Some order → header_size class ≤ length bytes
+    → read_header bytes ≡ Ok (header_of class order bytes, header_size class)
 unfolding read_header
 read_header-ok bytes class order begins ordered room =
     let enough : nat_lt (length bytes) 16 ≡ false = grind (arith, nat_tests) in
-    rw (enough, begins.starts, begins.named, ordered, room_of_fits (length bytes) 0 (header_size class) (omega arith)) refl
+    rw (enough, begins.starts, begins.named, ordered, room_of_fits (length bytes) 0 (header_size class) (omega arith))
+    refl
 
 -- the header and the size that make a result
 pub record Sized {R : Type 0} (answer : Result R Error) (expected : ℕ) (x : R) (size : ℕ) : Type 0 where
   pub read : answer ≡ Ok x
   pub size_is : size ≡ expected
 
-sized : {R : Type 0} (answer : Result R Error) (expected : ℕ) (x : R) (size : ℕ) → Ok (x, size) ≡ with_size expected answer → Sized answer expected x size
+sized : {R : Type 0} (answer : Result R Error) (expected : ℕ) (x : R) (size : ℕ)
+    → Ok (x, size) ≡ with_size expected answer → Sized answer expected x size
 sized {R = R} (Ok y) expected x size is =
     let both : (x, size) ≡ (y, expected) = cc in
     record { read = ap (λ (both : R × ℕ). Ok both.0) (sym both); size_is = ap (λ (both : R × ℕ). both.1) both }
 sized (Err e) expected x size is = absurd (cc)
 
 -- the raw header of its class that was read is, widened, the header of either class
-pub read_header-raw : {R : Type 0} (class : Container) (read : Endian → List ℕ → R) (widen : R → Header) (bytes : List ℕ) (raw : R) (size : ℕ) → ((order : Endian) → widen (read order bytes) ≡ header_of class order bytes) → Begins class bytes → Ok (raw, size) ≡ with_size (header_size class) (read_in_order (header_size class) read DataType bytes) → Ok (widen raw, size) ≡ read_header bytes
+pub read_header-raw : {R : Type 0} (class : Container) (read : Endian → List ℕ → R) (widen : R → Header)
+    (bytes : List ℕ)
+    (raw : R) (size : ℕ)
+    → ((order : Endian) → widen (read order bytes) ≡ header_of class order bytes) → Begins class bytes
+    → Ok (raw, size) ≡ with_size (header_size class) (read_in_order (header_size class) read DataType bytes)
+    → Ok (widen raw, size) ≡ read_header bytes
 read_header-raw class read widen bytes raw size widened begins is =
     let whole = sized (read_in_order (header_size class) read DataType bytes) (header_size class) raw size is in
     let from = was_read_in_order (header_size class) read DataType bytes raw whole.read in
@@ -67,7 +77,9 @@ pub was_read : (bytes : List ℕ) (h : Header) (size : ℕ) → read_header byte
 unfolding read_header
 was_read bytes h size is =
     let long = step (refuse_if (nat_lt (length bytes) 16) (Malformed TooSmall)) _ (h, size) is in
-    let magical = step (refuse_if (not (starts_with nat_eq bytes magic)) (BadMagic (number_at endian.Little bytes 0 8))) _ (h, size) long.rest in
+    let magical =
+    step (refuse_if (not (starts_with nat_eq bytes magic)) (BadMagic (number_at endian.Little bytes 0 8))) _
+    (h, size) long.rest in
     let class = step (class_of ElfClass bytes) _ (h, size) magical.rest in
     let order = step (order_of DataType bytes) _ (h, size) class.rest in
     let room = step (needs (header_size class.value) bytes) _ (h, size) order.rest in

@@ -1,5 +1,6 @@
 -- What each of several steps returned, if all of them succeeded.
-use Rattle.std.proofs.Common.{◌≡◌, ◌≤◌, ℕ, Bool, true, false, not, List, length, Option, Some, None, Result, Ok, Err, refl, arith}
+use Rattle.std.proofs.Common.{◌≡◌, ◌≤◌, ℕ, Bool, true, false, not, List, length, Option, Some, None, Result, Ok, Err}
+use Rattle.std.proofs.Common.{refl, arith}
 use Rattle.goblin_base.specs.declared.error.Error.{Error}
 use Rattle.goblin_base.specs.declared.scroll.Error.{Error as Misplaced}
 use Rattle.goblin_base.specs.RecordLaws.{fits-room_of}
@@ -13,7 +14,8 @@ pub record Step {X Y : Type 0} (first : Result X Error) (next : X → Result Y E
   pub is : first ≡ Ok value
   pub rest : next value ≡ Ok y
 
-pub step : {X Y : Type 0} (first : Result X Error) (next : X → Result Y Error) (y : Y) → (first >>= next) ≡ Ok y → Step first next y
+pub step : {X Y : Type 0} (first : Result X Error) (next : X → Result Y Error) (y : Y)
+    → (first >>= next) ≡ Ok y → Step first next y
 step (Ok x) next y is = record { value = x; is = refl; rest = is }
 step (Err e) next y is = absurd (cc)
 
@@ -28,7 +30,8 @@ found (Some y) e x is = cc
 found None e x is = absurd (cc)
 
 -- bytes that were enough
-room_was : (room : Result (Unit {0}) Misplaced) (within : Misplaced → Error) (u : Unit {0}) → refuse_as within room ≡ Ok u → room ≡ Ok tt
+room_was : (room : Result (Unit {0}) Misplaced) (within : Misplaced → Error) (u : Unit {0})
+    → refuse_as within room ≡ Ok u → room ≡ Ok tt
 room_was (Ok _) within u is = refl
 room_was (Err e) within u is = absurd (cc)
 

@@ -1,8 +1,10 @@
 -- Headers of either class are read back from the bytes that they were written as, and written back as those they were
 -- read from.
-use Rattle.std.proofs.Common.{◌≡◌, ◌≤◌, ℕ, true, nat_eq, List, [], ◌++◌, length, take, drop, slice_index, Some, Result, Ok, refl, sym, ap, ◌∙◌, arith, rules}
+use Rattle.std.proofs.Common.{◌≡◌, ◌≤◌, ℕ, true, nat_eq, List, [], ◌++◌, length, take, drop, slice_index, Some, Result}
+use Rattle.std.proofs.Common.{Ok, refl, sym, ap, ◌∙◌, arith, rules}
 use Rattle.std.specs.List.{starts_with}
-use Rattle.std.proofs.lemmas.List.{append_assoc, append-nil, length-append, length-take-le, take-append-drop, take-append-le}
+use Rattle.std.proofs.lemmas.List.{append_assoc, append-nil, length-append, length-take-le, take-append-drop}
+use Rattle.std.proofs.lemmas.List.{take-append-le}
 use Rattle.std.proofs.lemmas.Slice.Eq.{bytes_eq-Decides}
 use Rattle.goblin_base.specs.declared.container.Container.{Container}
 use Rattle.goblin_base.specs.declared.container.Container.TheVariants as class
@@ -11,8 +13,10 @@ use Rattle.goblin_base.specs.declared.container.Endian.TheVariants as endian
 use Rattle.goblin_base.specs.declared.error.Error.{Error}
 use Rattle.goblin_base.specs.Number.{IsBytes}
 use Rattle.goblin_headers.specs.declared.header.Header.{Header}
-use Rattle.goblin_headers.specs.Header.{header_size, header_image, HeaderFits, Identifies, new_header, magic, class_named, order_named}
-use Rattle.goblin_headers.specs.HeaderTrips.{OneImage, ReadsBack, WrittenAndReadBack, ImageOfRead, WritesBack, NewIsOfContext, NewIsReadBack}
+use Rattle.goblin_headers.specs.Header.{header_size, header_image, HeaderFits, Identifies, new_header, magic}
+use Rattle.goblin_headers.specs.Header.{class_named, order_named}
+use Rattle.goblin_headers.specs.HeaderTrips.{OneImage, ReadsBack, WrittenAndReadBack, ImageOfRead, WritesBack}
+use Rattle.goblin_headers.specs.HeaderTrips.{NewIsOfContext, NewIsReadBack}
 use Rattle.goblin_headers.specs.ReadHeader.{read_header}
 use Rattle.goblin_headers.specs.WriteHeader.{WritesHeader}
 use Rattle.goblin_headers.proofs.HeaderLemmas.{header_laws, one_header_image, reads_fitting}
@@ -23,10 +27,15 @@ pub one_image : OneImage
 one_image class = one_header_image (header_laws class)
 
 -- bytes that begin with the magic number do so whatever bytes follow
-begins_so : (image ident after rest : List ℕ) → image ≡ ident ++ after → length ident ≡ 16 → take 4 ident ≡ magic → starts_with nat_eq (image ++ rest) magic ≡ true
+begins_so : (image ident after rest : List ℕ)
+    → image ≡ ident ++ after → length ident ≡ 16 → take 4 ident ≡ magic
+    → starts_with nat_eq (image ++ rest) magic ≡ true
 begins_so image ident after rest is long starts =
     let front : take 4 (image ++ rest) ≡ magic =
-    ap (λ (all : List ℕ). take 4 (all ++ rest)) is ∙ ap (take 4) (append_assoc ident after rest) ∙ take-append-le 4 ident (after ++ rest) (omega arith) ∙ starts in
+    ap (λ (all : List ℕ). take 4 (all ++ rest)) is
+    ∙ ap (take 4) (append_assoc ident after rest)
+    ∙ take-append-le 4 ident (after ++ rest) (omega arith)
+    ∙ starts in
     rw front refl
 
 pub reads_back : ReadsBack
@@ -38,19 +47,25 @@ reads_back class order h rest names fits =
     let after = laws.after_ident order h in
     let long = names.2.0 in
     let enough = laws.enough in
-    let room : header_size class ≤ length bytes = omega (arith, length-append image rest, laws.length_image order h long) in
+    let room : header_size class ≤ length bytes =
+    omega (arith, length-append image rest, laws.length_image order h long) in
     let starts = begins_so image h.e_ident after rest is long names.0 in
     let class_byte = front_byte image h.e_ident after rest 4 is (omega arith) in
     let data_byte = front_byte image h.e_ident after rest 5 is (omega arith) in
-    let begins : Begins class bytes = record { long = omega arith; starts = starts; named = ap class_named class_byte ∙ names.1 } in
+    let begins : Begins class bytes =
+    record { long = omega arith; starts = starts; named = ap class_named class_byte ∙ names.1 } in
     read_header-ok bytes class order begins (ap order_named data_byte ∙ names.2.1) room
     ∙ ap (λ (g : Header). Ok (g, header_size class)) (reads_fitting laws order h rest long fits)
 
 -- with a class, a byte order and a buffer that is large enough, the image is written
-writes_there : (class : Container) (order : Endian) (h : Header) (old new : List ℕ) (answer : Result ℕ Error) → class_named (slice_index h.e_ident 4) ≡ Some class → order_named (slice_index h.e_ident 5) ≡ Some order → header_size class ≤ length old → WritesHeader h old answer new → Wrote (header_size class) (header_image class order h) old new answer
+writes_there : (class : Container) (order : Endian) (h : Header) (old new : List ℕ) (answer : Result ℕ Error)
+    → class_named (slice_index h.e_ident 4) ≡ Some class → order_named (slice_index h.e_ident 5) ≡ Some order
+    → header_size class ≤ length old → WritesHeader h old answer new
+    → Wrote (header_size class) (header_image class order h) old new answer
 unfolding WritesHeader
 writes_there class order h old new answer named ordered room so =
-    writes_in_order h.e_ident (header_size class) (λ o. header_image class o h) old new answer order ordered room (rw named at so)
+    writes_in_order h.e_ident (header_size class)
+    (λ o. header_image class o h) old new answer order ordered room (rw named at so)
 
 pub written_and_read_back : WrittenAndReadBack
 written_and_read_back class order h old new answer names fits room so =
@@ -58,12 +73,17 @@ written_and_read_back class order h old new answer names fits room so =
     (wrote.answers, ap read_header wrote.leaves ∙ reads_back class order h (drop (header_size class) old) names fits)
 
 -- the class and the byte order that the identification of a header that was read names
-read_names : (class : Container) (order : Endian) (bytes ident : List ℕ) → 16 ≤ length bytes → ident ≡ take 16 bytes → starts_with nat_eq bytes magic ≡ true → class_named (slice_index bytes 4) ≡ Some class → order_named (slice_index bytes 5) ≡ Some order → Identifies class order ident
+read_names : (class : Container) (order : Endian) (bytes ident : List ℕ)
+    → 16 ≤ length bytes → ident ≡ take 16 bytes → starts_with nat_eq bytes magic ≡ true
+    → class_named (slice_index bytes 4) ≡ Some class → order_named (slice_index bytes 5) ≡ Some order
+    → Identifies class order ident
 read_names class order bytes ident enough is starts named ordered =
     let begins : magic ≡ take 4 bytes = (bytes_eq-Decides magic (take 4 bytes)).0 starts in
     let long : length (take 16 bytes) ≡ 16 = length-take-le 16 bytes enough in
     let front : take 4 ident ≡ take 4 bytes =
-    ap (take 4) is ∙ sym (take-append-le 4 (take 16 bytes) (drop 16 bytes) (omega arith)) ∙ ap (take 4) (take-append-drop 16 bytes) in (
+    ap (take 4) is
+    ∙ sym (take-append-le 4 (take 16 bytes) (drop 16 bytes) (omega arith))
+    ∙ ap (take 4) (take-append-drop 16 bytes) in (
       front ∙ sym begins,
       ap class_named (ident_byte ident bytes 4 is (omega arith)) ∙ named,
       (ap length is ∙ long, ap order_named (ident_byte ident bytes 5 is (omega arith)) ∙ ordered),
@@ -78,7 +98,8 @@ record CameFrom (bytes : List ℕ) (h : Header) (size : ℕ) : Type 0 where
   enough : header_size class ≤ length bytes
   image : header_image class order h ≡ take (header_size class) bytes
 
-came_from : (h : Header) (bytes : List ℕ) (size : ℕ) → IsBytes bytes → read_header bytes ≡ Ok (h, size) → CameFrom bytes h size
+came_from : (h : Header) (bytes : List ℕ) (size : ℕ)
+    → IsBytes bytes → read_header bytes ≡ Ok (h, size) → CameFrom bytes h size
 came_from h bytes size are read =
     let from = was_read bytes h size read in
     let laws = header_laws from.class in
@@ -103,11 +124,14 @@ pub writes_back : WritesBack
 writes_back h bytes new size answer are read so =
     let from = came_from h bytes size are read in
     let wrote = writes_there from.class from.order h bytes new answer from.names.1 from.names.2.1 from.enough so in
-    let same = over_itself (header_size from.class) (header_image from.class from.order h) bytes new wrote.leaves from.image in
+    let same = over_itself (header_size from.class)
+    (header_image from.class from.order h) bytes new wrote.leaves from.image in
     (wrote.answers ∙ ap (λ (n : ℕ). Ok n) (sym from.sized), same)
 
 -- a new header of each class and byte order
-new_names : (class : Container) (order : Endian) → Identifies class order (new_header (record { container = class; le = order })).e_ident × HeaderFits class (new_header (record { container = class; le = order }))
+new_names : (class : Container) (order : Endian)
+    → Identifies class order (new_header (record { container = class; le = order })).e_ident
+    × HeaderFits class (new_header (record { container = class; le = order }))
 new_names class.Little endian.Little = ((refl, refl, (refl, refl)), search (rules, arith))
 new_names class.Little endian.Big = ((refl, refl, (refl, refl)), search (rules, arith))
 new_names class.Big endian.Little = ((refl, refl, (refl, refl)), search (rules, arith))
@@ -119,4 +143,5 @@ new_is_of_context ctx = new_names ctx.container ctx.le
 pub new_is_read_back : NewIsReadBack
 new_is_read_back ctx =
     let new = new_is_of_context ctx in
-    ap read_header (sym (append-nil (header_image ctx.container ctx.le (new_header ctx)))) ∙ reads_back ctx.container ctx.le (new_header ctx) [] new.0 new.1
+    ap read_header (sym (append-nil (header_image ctx.container ctx.le (new_header ctx))))
+    ∙ reads_back ctx.container ctx.le (new_header ctx) [] new.0 new.1

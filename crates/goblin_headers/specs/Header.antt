@@ -1,5 +1,6 @@
 -- The header of a file of either class (System V gABI, "ELF Header" and "ELF Identification").
-use Rattle.std.specs.Prelude.{◌≡◌, ℕ, ◌==◌, if◌then◌else◌, List, [], ◌∷◌, ◌++◌, length, replicate, slice_index, take, Option, Some, None, Result, Ok}
+use Rattle.std.specs.Prelude.{◌≡◌, ℕ, ◌==◌, if◌then◌else◌, List, [], ◌∷◌, ◌++◌, length, replicate, slice_index, take}
+use Rattle.std.specs.Prelude.{Option, Some, None, Result, Ok}
 use Rattle.goblin_base.specs.declared.container.Container.{Container}
 use Rattle.goblin_base.specs.declared.container.Container.TheVariants as class
 use Rattle.goblin_base.specs.declared.container.Endian.{Endian}
@@ -14,8 +15,10 @@ use Rattle.goblin_base.specs.Steps.{◌>>=◌, or_refuse}
 use Rattle.goblin_headers.specs.declared.header.Header.{Header}
 use Rattle.goblin_headers.specs.declared.header32.Header.{Header as Raw32}
 use Rattle.goblin_headers.specs.declared.header64.Header.{Header as Raw64}
-use Rattle.goblin_headers.specs.Header32.{header32_size, header32_fields, header32_of_values, header32_of, header32_image, header32_low, Header32Fits}
-use Rattle.goblin_headers.specs.Header64.{header64_size, header64_fields, header64_of_values, header64_of, header64_image, header64_low, Header64Fits}
+use Rattle.goblin_headers.specs.Header32.{header32_size, header32_fields, header32_of_values, header32_of}
+use Rattle.goblin_headers.specs.Header32.{header32_image, header32_low, Header32Fits}
+use Rattle.goblin_headers.specs.Header64.{header64_size, header64_fields, header64_of_values, header64_of}
+use Rattle.goblin_headers.specs.Header64.{header64_image, header64_low, Header64Fits}
 use Rattle.goblin_headers.specs.ProgramHeader.{program_header_size}
 use Rattle.goblin_headers.specs.SectionHeader.{section_header_size}
 

@@ -8,27 +8,33 @@ use Rattle.goblin_base.specs.declared.error.Error.{Error}
 use Rattle.goblin_base.specs.declared.error.Fault.{Fault}
 use Rattle.goblin_base.specs.Number.{IsBytes}
 use Rattle.goblin_headers.specs.declared.header.Header.{Header}
-use Rattle.goblin_headers.specs.Header.{header_size, header_of, header_image, header_low, HeaderFits, NamesOrder, Identifies, new_header}
+use Rattle.goblin_headers.specs.Header.{header_size, header_of, header_image, header_low, HeaderFits, NamesOrder}
+use Rattle.goblin_headers.specs.Header.{Identifies, new_header}
 use Rattle.goblin_headers.specs.ReadHeader.{read_header}
 use Rattle.goblin_headers.specs.WriteHeader.{WritesHeader}
 
 -- the image of a header is the only list of bytes of its size that is read as its identification and the low bits of
 -- its other fields
-abbrev pub IsOneHeaderImage : {R : Type 0} → ℕ → (R → List ℕ) → (Endian → List ℕ → R) → (Endian → R → List ℕ) → (R → R) → Type 0
+abbrev pub IsOneHeaderImage : {R : Type 0}
+    → ℕ → (R → List ℕ) → (Endian → List ℕ → R) → (Endian → R → List ℕ) → (R → R) → Type 0
 IsOneHeaderImage {R = R} size ident read image low =
     (order : Endian) (h : R) (bytes : List ℕ)
     → length (ident h) ≡ 16 → IsBytes (ident h)
     → (bytes ≡ image order h) ↔ (IsBytes bytes × (length bytes ≡ size) × (read order bytes ≡ low h))
 
 -- a header that fits is read back from its image in the byte order that it names, whatever bytes follow
-abbrev pub IsReadBack : {R : Type 0} → (R → List ℕ) → (R → Type 0) → (Endian → R → List ℕ) → ((ℕ → Fault) → List ℕ → Result R Error) → Type 0
+abbrev pub IsReadBack : {R : Type 0}
+    → (R → List ℕ) → (R → Type 0) → (Endian → R → List ℕ) → ((ℕ → Fault) → List ℕ → Result R Error) → Type 0
 IsReadBack {R = R} ident Fits image read =
     (fault : ℕ → Fault) (order : Endian) (h : R) (rest : List ℕ)
     → NamesOrder order (ident h) → Fits h
     → read fault (image order h ++ rest) ≡ Ok h
 
 -- it is written if the buffer holds it, and then read back
-abbrev pub IsWrittenAndReadBack : {R : Type 0} → ℕ → (R → List ℕ) → (R → Type 0) → (R → List ℕ → Result ℕ Error → List ℕ → Type 0) → ((ℕ → Fault) → List ℕ → Result R Error) → Type 0
+abbrev pub IsWrittenAndReadBack : {R : Type 0}
+    → ℕ → (R → List ℕ) → (R → Type 0) → (R → List ℕ → Result ℕ Error → List ℕ → Type 0)
+    → ((ℕ → Fault) → List ℕ → Result R Error)
+    → Type 0
 IsWrittenAndReadBack {R = R} size ident Fits Writes read =
     (fault : ℕ → Fault) (order : Endian) (h : R) (old new : List ℕ) (answer : Result ℕ Error)
     → NamesOrder order (ident h) → Fits h → size ≤ length old
@@ -36,7 +42,8 @@ IsWrittenAndReadBack {R = R} size ident Fits Writes read =
     → (answer ≡ Ok size) × (read fault new ≡ Ok h)
 
 -- a header that was read is written over the bytes that it was read from, and they don't change
-abbrev pub IsWrittenBack : {R : Type 0} → ℕ → ((ℕ → Fault) → List ℕ → Result R Error) → (R → List ℕ → Result ℕ Error → List ℕ → Type 0) → Type 0
+abbrev pub IsWrittenBack : {R : Type 0}
+    → ℕ → ((ℕ → Fault) → List ℕ → Result R Error) → (R → List ℕ → Result ℕ Error → List ℕ → Type 0) → Type 0
 IsWrittenBack {R = R} size read Writes =
     (fault : ℕ → Fault) (h : R) (bytes new : List ℕ) (answer : Result ℕ Error)
     → IsBytes bytes
@@ -46,7 +53,8 @@ IsWrittenBack {R = R} size read Writes =
 
 -- the image of a header in a class is the only list of bytes that is read as it
 abbrev pub OneImage : Type 0
-OneImage = (class : Container) → IsOneHeaderImage (header_size class) (λ h. h.e_ident) (header_of class) (header_image class) (header_low class)
+OneImage = (class : Container)
+    → IsOneHeaderImage (header_size class) (λ h. h.e_ident) (header_of class) (header_image class) (header_low class)
 
 -- a header that fits is read back from its image in the class and the byte order that it names, whatever bytes follow
 abbrev pub ReadsBack : Type 0
@@ -69,7 +77,8 @@ ImageOfRead =
     (h : Header) (bytes : List ℕ) (size : ℕ)
     → IsBytes bytes
     → read_header bytes ≡ Ok (h, size)
-    → (class : Container) × (order : Endian) × Identifies class order h.e_ident × (size ≡ header_size class) × (header_image class order h ≡ take size bytes)
+    → (class : Container) × (order : Endian) × Identifies class order h.e_ident × (size ≡ header_size class)
+    × (header_image class order h ≡ take size bytes)
 
 -- it is written over the bytes that it was read from, and they don't change
 abbrev pub WritesBack : Type 0

@@ -6,8 +6,10 @@ use Rattle.goblin_base.specs.declared.container.Endian.{Endian}
 use Rattle.goblin_headers.specs.declared.program_header.ProgramHeader.{ProgramHeader}
 use Rattle.goblin_headers.specs.declared.program_header32.ProgramHeader.{ProgramHeader as Raw32}
 use Rattle.goblin_headers.specs.declared.program_header64.ProgramHeader.{ProgramHeader as Raw64}
-use Rattle.goblin_headers.specs.ProgramHeader32.{program_header32_size, program_header32_of, program_header32_image, program_header32_low, ProgramHeader32Fits}
-use Rattle.goblin_headers.specs.ProgramHeader64.{program_header64_size, program_header64_of, program_header64_image, program_header64_low, ProgramHeader64Fits}
+use Rattle.goblin_headers.specs.ProgramHeader32.{program_header32_size, program_header32_of, program_header32_image}
+use Rattle.goblin_headers.specs.ProgramHeader32.{program_header32_low, ProgramHeader32Fits}
+use Rattle.goblin_headers.specs.ProgramHeader64.{program_header64_size, program_header64_of, program_header64_image}
+use Rattle.goblin_headers.specs.ProgramHeader64.{program_header64_low, ProgramHeader64Fits}
 
 -- the size of a program header of a class in bytes
 abbrev pub program_header_size : Container → ℕ

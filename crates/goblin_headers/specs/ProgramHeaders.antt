@@ -23,10 +23,12 @@ new_program_header = record {
 -- the test before the allocation: that many program headers must fit into the bytes at some offset
 abbrev pub program_headers_tested : List ℕ → ℕ → Ctx → Result (Unit {0}) Refusal
 program_headers_tested bytes count ctx =
-    refuse_if (nat_lt (length bytes / program_header_size ctx.container) count) (buffer_too_short count (codes "program headers"))
+    refuse_if (nat_lt (length bytes / program_header_size ctx.container) count)
+    (buffer_too_short count (codes "program headers"))
 
 -- `count` program headers from an offset on: too many to fit at any offset are refused, else the first that the bytes
 -- don't hold is
 abbrev pub program_headers_from : List ℕ → ℕ → ℕ → Ctx → Result (List ProgramHeader) Refusal
 program_headers_from bytes offset count ctx =
-    records_from (program_header_size ctx.container) (program_header_of ctx.container ctx.le) bytes offset count (codes "program headers")
+    records_from (program_header_size ctx.container) (program_header_of ctx.container ctx.le) bytes offset count
+    (codes "program headers")

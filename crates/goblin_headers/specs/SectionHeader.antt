@@ -7,8 +7,12 @@ use Rattle.goblin_base.specs.Fields.{values_of}
 use Rattle.goblin_headers.specs.declared.section_header.SectionHeader.{SectionHeader}
 use Rattle.goblin_headers.specs.declared.section_header32.SectionHeader.{SectionHeader as Raw32}
 use Rattle.goblin_headers.specs.declared.section_header64.SectionHeader.{SectionHeader as Raw64}
-use Rattle.goblin_headers.specs.SectionHeader32.{section_header32_size, section_header32_fields, section_header32_of_values, section_header32_of, section_header32_image, section_header32_low, SectionHeader32Fits}
-use Rattle.goblin_headers.specs.SectionHeader64.{section_header64_size, section_header64_fields, section_header64_of_values, section_header64_of, section_header64_image, section_header64_low, SectionHeader64Fits}
+use Rattle.goblin_headers.specs.SectionHeader32.{section_header32_size, section_header32_fields}
+use Rattle.goblin_headers.specs.SectionHeader32.{section_header32_of_values, section_header32_of}
+use Rattle.goblin_headers.specs.SectionHeader32.{section_header32_image, section_header32_low, SectionHeader32Fits}
+use Rattle.goblin_headers.specs.SectionHeader64.{section_header64_size, section_header64_fields}
+use Rattle.goblin_headers.specs.SectionHeader64.{section_header64_of_values, section_header64_of}
+use Rattle.goblin_headers.specs.SectionHeader64.{section_header64_image, section_header64_low, SectionHeader64Fits}
 
 -- the size of a section header of a class in bytes
 abbrev pub section_header_size : Container → ℕ

@@ -1,5 +1,6 @@
 -- New section headers, lists of them, and whether a section lies in its file (System V gABI, "Section Header").
-use Rattle.std.specs.Prelude.{◌+◌, ◌/◌, ◌^◌, ◌||◌, ◌==◌, ℕ, nat_lt, nat_le, if◌then◌else◌, List, [], codes, drop, length, max, Bool, true, Option, Some, None, Result, Ok}
+use Rattle.std.specs.Prelude.{◌+◌, ◌/◌, ◌^◌, ◌||◌, ◌==◌, ℕ, nat_lt, nat_le, if◌then◌else◌, List, [], codes, drop}
+use Rattle.std.specs.Prelude.{length, max, Bool, true, Option, Some, None, Result, Ok}
 use Rattle.goblin_base.specs.declared.container.Ctx.{Ctx}
 use Rattle.goblin_base.specs.declared.error.Error.{Error}
 use Rattle.goblin_base.specs.declared.error.Error.TheVariants.{Malformed}
@@ -38,20 +39,23 @@ count_asked bytes offset count ctx = header_count (section_header_of ctx.contain
 -- the number of headers to read from an offset on, at least 1; the bytes must hold the first
 abbrev pub count_from : List ℕ → ℕ → ℕ → Ctx → Result ℕ Error
 count_from bytes offset count ctx =
-    unless_fault (room_of (length bytes) offset (section_header_size ctx.container)) (max 1 (count_asked bytes offset count ctx))
+    unless_fault (room_of (length bytes) offset (section_header_size ctx.container))
+    (max 1 (count_asked bytes offset count ctx))
 
 -- the tests before the allocation: the bytes hold the first header, and that many headers fit into them at some offset
 unfoldable pub section_headers_from_tested : List ℕ → ℕ → ℕ → Ctx → Result (Unit {0}) Refusal
 section_headers_from_tested bytes offset count ctx = do
   _ ← refuse_as misplaced (room_of (length bytes) offset (section_header_size ctx.container))
   let asked = count_asked bytes offset count ctx in
-      refuse_if (nat_lt (length bytes / section_header_size ctx.container) asked) (buffer_too_short asked (codes "section headers"))
+      refuse_if (nat_lt (length bytes / section_header_size ctx.container) asked)
+      (buffer_too_short asked (codes "section headers"))
 
 -- the section headers from an offset on, at least one: after those tests the first that the bytes don't hold is refused
 unfoldable pub section_headers_from : List ℕ → ℕ → ℕ → Ctx → Result (List SectionHeader) Refusal
 section_headers_from bytes offset count ctx = do
   _ ← section_headers_from_tested bytes offset count ctx
-  records_in (section_header_size ctx.container) (section_header_of ctx.container ctx.le) bytes offset (max 1 (count_asked bytes offset count ctx))
+  records_in (section_header_size ctx.container) (section_header_of ctx.container ctx.le) bytes offset
+      (max 1 (count_asked bytes offset count ctx))
 
 -- the section headers of a file: none if their offset is 0
 abbrev pub section_headers_of : List ℕ → ℕ → ℕ → Ctx → Result (List SectionHeader) Refusal
@@ -84,7 +88,8 @@ abbrev pub size_checked : ℕ → SectionHeader → Result (Unit {0}) Error
 size_checked len s =
     if s.sh_type == 8 || s.sh_size == 0 then Ok tt
     else do
-      _ ← refuse_if (nat_lt len (s.sh_offset + s.sh_size)) (Malformed (SectionOffset s.sh_name s.sh_size s.sh_offset (nat_le (2 ^ 64) (s.sh_offset + s.sh_size))))
+      _ ← refuse_if (nat_lt len (s.sh_offset + s.sh_size))
+          (Malformed (SectionOffset s.sh_name s.sh_size s.sh_offset (nat_le (2 ^ 64) (s.sh_offset + s.sh_size))))
       refuse_if (nat_le (2 ^ 64) (s.sh_addr + s.sh_size)) (Malformed (SectionAddr s.sh_name s.sh_size s.sh_addr true))
 
 -- the same in a mode: every section passes a permissive check

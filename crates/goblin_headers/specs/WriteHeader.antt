@@ -12,7 +12,8 @@ use Rattle.goblin_headers.specs.Header32.{header32_size, header32_image}
 use Rattle.goblin_headers.specs.Header64.{header64_size, header64_image}
 
 -- a found value decides what is written; an error is the result, and nothing changes
-abbrev pub WritesBy : {X : Type 0} → Result X Error → (X → List ℕ → Result ℕ Error → List ℕ → Type 0) → List ℕ → Result ℕ Error → List ℕ → Type 0
+abbrev pub WritesBy : {X : Type 0}
+    → Result X Error → (X → List ℕ → Result ℕ Error → List ℕ → Type 0) → List ℕ → Result ℕ Error → List ℕ → Type 0
 WritesBy (Ok x) writes old answer new = writes x old answer new
 WritesBy (Err e) writes old answer new = (answer ≡ Err e) × (new ≡ old)
 
@@ -31,4 +32,5 @@ WritesHeader64 h = WritesInOrder h.e_ident header64_size (λ order. header64_ima
 -- a header of either class, in the class and the byte order that its own bytes name
 unfoldable pub WritesHeader : Header → List ℕ → Result ℕ Error → List ℕ → Type 0
 WritesHeader h =
-    WritesBy (class_of InvalidClass h.e_ident) (λ class. WritesInOrder h.e_ident (header_size class) (λ order. header_image class order h))
+    WritesBy (class_of InvalidClass h.e_ident)
+    (λ class. WritesInOrder h.e_ident (header_size class) (λ order. header_image class order h))

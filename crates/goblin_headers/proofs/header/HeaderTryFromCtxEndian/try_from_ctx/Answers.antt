@@ -8,10 +8,25 @@ use Rattle.goblin_headers.proofs.header.HeaderTryFromCtxEndian.try_from_ctx.Goal
 
 pub returns-in_ok-header-in-1 : goal.returns-in_ok-header-in-1
 returns-in_ok-header-in-1 c =
-    let begins : Begins class.Little c.args.bytes.now = record { long = c.if-bytes-lt-SIZEOF_IDENT.false; starts = sym c.starts_with.ensures.value ∙ c.if-not-starts_with.false; named = rw c.in-1.is refl } in
-    rw c.from.ensures (read_header-raw class.Little header32_of widened32 c.args.bytes.now c.in_ok-header-in-1.header c.in_ok-header-in-1.size (λ order. refl) begins c.in_ok-header-in-1.ensures)
+    let begins : Begins class.Little c.args.bytes.now =
+    record {
+      long = c.if-bytes-lt-SIZEOF_IDENT.false;
+      starts = sym c.starts_with.ensures.value ∙ c.if-not-starts_with.false;
+      named = rw c.in-1.is refl;
+    } in
+    rw c.from.ensures
+    (read_header-raw class.Little header32_of widened32 c.args.bytes.now c.in_ok-header-in-1.header
+    c.in_ok-header-in-1.size (λ order. refl) begins c.in_ok-header-in-1.ensures)
 
 pub returns-in_ok-header-in-2 : goal.returns-in_ok-header-in-2
 returns-in_ok-header-in-2 c =
-    let begins : Begins class.Big c.args.bytes.now = record { long = c.if-bytes-lt-SIZEOF_IDENT.false; starts = sym c.starts_with.ensures.value ∙ c.if-not-starts_with.false; named = rw c.in-2.is refl } in
-    rw c.from-in-2.ensures (read_header-raw class.Big header64_of widened64 c.args.bytes.now c.in_ok-header-in-2.header c.in_ok-header-in-2.size (λ order. refl) begins c.in_ok-header-in-2.ensures)
+    let begins : Begins class.Big c.args.bytes.now =
+    record {
+      long = c.if-bytes-lt-SIZEOF_IDENT.false;
+      starts = sym c.starts_with.ensures.value ∙ c.if-not-starts_with.false;
+      named = rw c.in-2.is refl;
+    } in
+    rw c.from-in-2.ensures
+    (read_header-raw class.Big header64_of widened64 c.args.bytes.now c.in_ok-header-in-2.header
+    c.in_ok-header-in-2.size
+    (λ order. refl) begins c.in_ok-header-in-2.ensures)

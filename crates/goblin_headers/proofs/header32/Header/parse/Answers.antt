@@ -6,4 +6,8 @@ use Rattle.goblin_headers.proofs.header32.Header.parse.Goals as goal
 
 pub returns : goal.returns
 returns c =
-    rw (c.at.ensures, reads_in_order header32_size header32_of faults.Data c.args.bytes.now c.in-Some.order (omega arith) (c.in_ok-room-2.ensures.fits.0 refl) (sym c.in-Some.ensures)) refl
+    rw (
+      c.at.ensures,
+      reads_in_order header32_size header32_of faults.Data c.args.bytes.now c.in-Some.order (omega arith)
+          (c.in_ok-room-2.ensures.fits.0 refl) (sym c.in-Some.ensures),
+    ) refl

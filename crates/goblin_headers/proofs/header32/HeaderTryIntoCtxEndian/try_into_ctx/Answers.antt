@@ -4,4 +4,6 @@ use Rattle.goblin_headers.proofs.header32.HeaderTryIntoCtxEndian.try_into_ctx.Go
 
 pub returns : goal.returns
 returns c =
-    in_order c.args.self.e_ident header32_size (λ order. header32_image order c.args.self) c.args.bytes.now c.put.new.bytes c.in-Some.order tt c.in-Some.ensures c.in_ok-room.ensures.exact c.put.ensures
+    in_order c.args.self.e_ident header32_size
+    (λ order. header32_image order c.args.self) c.args.bytes.now c.put.new.bytes c.in-Some.order tt c.in-Some.ensures
+    c.in_ok-room.ensures.exact c.put.ensures

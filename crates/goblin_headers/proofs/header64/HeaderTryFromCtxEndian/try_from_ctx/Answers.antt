@@ -6,4 +6,8 @@ use Rattle.goblin_headers.proofs.header64.HeaderTryFromCtxEndian.try_from_ctx.Go
 
 pub returns : goal.returns
 returns c =
-    rw (c.at.ensures, reads_in_order header64_size header64_of faults.DataType c.args.bytes.now c.in-Some.order (omega arith) (c.in_ok-room-2.ensures.fits.0 refl) (sym c.in-Some.ensures)) refl
+    rw (
+      c.at.ensures,
+      reads_in_order header64_size header64_of faults.DataType c.args.bytes.now c.in-Some.order (omega arith)
+          (c.in_ok-room-2.ensures.fits.0 refl) (sym c.in-Some.ensures),
+    ) refl

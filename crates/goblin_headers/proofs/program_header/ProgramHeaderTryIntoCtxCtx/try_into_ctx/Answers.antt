@@ -5,7 +5,8 @@ use Rattle.goblin_headers.proofs.program_header.ProgramHeaderTryIntoCtxCtx.try_i
 
 pub returns-in-Little : goal.returns-in-Little
 returns-in-Little c =
-    rw c.in-Little.is (rw (c.from.ensures, image-low (program_header32_laws c.args.ctx.le) (as32 c.args.self)) at c.try_into_ctx.ensures)
+    rw c.in-Little.is
+    (rw (c.from.ensures, image-low (program_header32_laws c.args.ctx.le) (as32 c.args.self)) at c.try_into_ctx.ensures)
 
 pub returns-in-Big : goal.returns-in-Big
 returns-in-Big c = rw c.in-Big.is (rw c.from-in-Big.ensures at c.try_into_ctx-in-Big.ensures)

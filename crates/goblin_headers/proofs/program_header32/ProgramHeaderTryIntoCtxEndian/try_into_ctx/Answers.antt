@@ -6,5 +6,8 @@ use Rattle.goblin_headers.proofs.program_header32.ProgramHeaderTryIntoCtxEndian.
 
 pub returns : goal.returns
 returns c =
-    let put = with_fields-image c.args.order c.args.bytes.now 0 (program_header32_fields c.args.self) (c.in_ok-room.ensures.fits.0 refl) in
-    Writes-ok 32 32 (program_header32_image c.args.order c.args.self) c.args.bytes.now c.put_u32-8.new.bytes tt refl c.in_ok-room.ensures.exact (cc put)
+    let put = with_fields-image c.args.order c.args.bytes.now 0 (program_header32_fields c.args.self)
+    (c.in_ok-room.ensures.fits.0 refl) in
+    Writes-ok 32 32
+    (program_header32_image c.args.order c.args.self) c.args.bytes.now c.put_u32-8.new.bytes tt refl
+    c.in_ok-room.ensures.exact (cc put)

@@ -6,5 +6,8 @@ use Rattle.goblin_headers.proofs.program_header64.ProgramHeaderTryIntoCtxEndian.
 
 pub returns : goal.returns
 returns c =
-    let put = with_fields-image c.args.order c.args.bytes.now 0 (program_header64_fields c.args.self) (c.in_ok-room.ensures.fits.0 refl) in
-    Writes-ok 56 56 (program_header64_image c.args.order c.args.self) c.args.bytes.now c.put_u64-6.new.bytes tt refl c.in_ok-room.ensures.exact (cc put)
+    let put = with_fields-image c.args.order c.args.bytes.now 0 (program_header64_fields c.args.self)
+    (c.in_ok-room.ensures.fits.0 refl) in
+    Writes-ok 56 56
+    (program_header64_image c.args.order c.args.self) c.args.bytes.now c.put_u64-6.new.bytes tt refl
+    c.in_ok-room.ensures.exact (cc put)

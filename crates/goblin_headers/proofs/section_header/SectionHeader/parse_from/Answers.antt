@@ -5,14 +5,21 @@ use Rattle.goblin_headers.proofs.section_header.SectionHeader.parse_from.Goals a
 
 pub returns-in_err-asked : goal.returns-in_err-asked
 returns-in_err-asked c =
-    let refused = first_refused c.args.bytes.now c.args.offset c.args.count c.args.ctx c.in_err-asked.field-0.0 c.in_err-asked.ensures in
-    let tested = first_tested c.args.bytes.now c.args.offset c.args.count c.args.ctx c.in_err-asked.field-0.0 c.in_err-asked.ensures in
+    let refused =
+    first_refused c.args.bytes.now c.args.offset c.args.count c.args.ctx c.in_err-asked.field-0.0
+    c.in_err-asked.ensures in
+    let tested =
+    first_tested c.args.bytes.now c.args.offset c.args.count c.args.ctx c.in_err-asked.field-0.0
+    c.in_err-asked.ensures in
     record { given = search (rules, refused); tested = search (rules, tested) }
 
 pub returns-clause-given : goal.returns-clause-given
 returns-clause-given c =
-    subst (Gives (λ v. v.items) c.read_all.result) (sym (from_is c.args.bytes.now c.args.offset c.args.count c.args.ctx c.in_ok-asked.asked c.in_ok-asked.ensures)) c.read_all.ensures.given
+    subst (Gives (λ v. v.items) c.read_all.result)
+    (sym (from_is c.args.bytes.now c.args.offset c.args.count c.args.ctx c.in_ok-asked.asked c.in_ok-asked.ensures))
+    c.read_all.ensures.given
 
 pub returns-clause-tested : goal.returns-clause-tested
 returns-clause-tested c =
-    all_tested c.args.bytes.now c.args.offset c.args.count c.args.ctx c.in_ok-asked.asked c.in_ok-asked.ensures c.read_all.result c.read_all.ensures.too_many
+    all_tested c.args.bytes.now c.args.offset c.args.count c.args.ctx c.in_ok-asked.asked c.in_ok-asked.ensures
+    c.read_all.result c.read_all.ensures.too_many
