@@ -1,4 +1,5 @@
--- The numbers of the constants of symbols, in the order in which the laws list their names (System V gABI, "Symbol Table").
+-- The numbers of the constants of symbols, in the order in which the laws list their names (System V gABI, "Symbol
+-- Table").
 use Rattle.std.specs.Prelude.{ℕ, List, [], ◌∷◌}
 
 -- bindings

@@ -3,8 +3,10 @@ use Rattle.std.proofs.Common.{refl, lit<}
 use Rattle.goblin_base.specs.declared.container.Endian.{Endian}
 use Rattle.goblin_base.specs.Layout.{IsRecord}
 use Rattle.goblin_base.specs.LayoutLaws.{layout_laws}
-use Rattle.goblin_records.specs.Nhdr.{nhdr32_size, nhdr32_of, nhdr32_of_values, nhdr32_widths, nhdr32_fields, nhdr32_image, nhdr32_low, Nhdr32Fits}
-use Rattle.goblin_records.specs.Nhdr.{nhdr64_size, nhdr64_of, nhdr64_of_values, nhdr64_widths, nhdr64_fields, nhdr64_image, nhdr64_low, Nhdr64Fits}
+use Rattle.goblin_records.specs.Nhdr.{nhdr32_size, nhdr32_of, nhdr32_of_values, nhdr32_widths, nhdr32_fields}
+use Rattle.goblin_records.specs.Nhdr.{nhdr32_image, nhdr32_low, Nhdr32Fits}
+use Rattle.goblin_records.specs.Nhdr.{nhdr64_size, nhdr64_of, nhdr64_of_values, nhdr64_widths, nhdr64_fields}
+use Rattle.goblin_records.specs.Nhdr.{nhdr64_image, nhdr64_low, Nhdr64Fits}
 
 -- the laws follow from the list of fields
 pub nhdr32_laws : (order : Endian) → IsRecord nhdr32_size (nhdr32_of order) (nhdr32_image order) nhdr32_low Nhdr32Fits

@@ -1,5 +1,6 @@
 -- Relocations of either class, with an addend or without, and lists of them (System V gABI, "Relocation").
-use Rattle.std.specs.Prelude.{◌≡◌, ◌<◌, ◌%◌, ◌^◌, ℕ, ℤ, pos, List, Bool, false, true, Option, Some, None, unwrap_or, IsSomeAnd}
+use Rattle.std.specs.Prelude.{◌≡◌, ◌<◌, ◌%◌, ◌^◌, ℕ, ℤ, pos, List, Bool, false, true, Option, Some, None, unwrap_or}
+use Rattle.std.specs.Prelude.{IsSomeAnd}
 use Rattle.goblin_base.specs.declared.container.Container.{Container}
 use Rattle.goblin_base.specs.declared.container.Container.TheVariants.{Little, Big}
 use Rattle.goblin_base.specs.declared.container.Endian.{Endian}
@@ -13,9 +14,12 @@ use Rattle.goblin_records.specs.declared.reloc32.Rel.{Rel as Rel32}
 use Rattle.goblin_records.specs.declared.reloc32.Rela.{Rela as Rela32}
 use Rattle.goblin_records.specs.declared.reloc64.Rel.{Rel as Rel64}
 use Rattle.goblin_records.specs.declared.reloc64.Rela.{Rela as Rela64}
-use Rattle.goblin_records.specs.Reloc32.{rel32_size, rela32_size, rel32_of, rela32_of, rel32_fields, rela32_fields, rel32_low, rela32_low}
-use Rattle.goblin_records.specs.Reloc64.{rel64_size, rela64_size, rel64_of, rela64_of, rel64_fields, rela64_fields, rel64_low, rela64_low}
-use Rattle.goblin_records.specs.RelocInfo.{symbols, types, symbol_in, type_in, info_of, mips64el_pair, mips64el_pair_inverse}
+use Rattle.goblin_records.specs.Reloc32.{rel32_size, rela32_size, rel32_of, rela32_of, rel32_fields, rela32_fields}
+use Rattle.goblin_records.specs.Reloc32.{rel32_low, rela32_low}
+use Rattle.goblin_records.specs.Reloc64.{rel64_size, rela64_size, rel64_of, rela64_of, rel64_fields, rela64_fields}
+use Rattle.goblin_records.specs.Reloc64.{rel64_low, rela64_low}
+use Rattle.goblin_records.specs.RelocInfo.{symbols, types, symbol_in, type_in, info_of, mips64el_pair}
+use Rattle.goblin_records.specs.RelocInfo.{mips64el_pair_inverse}
 use Rattle.goblin_base.specs.Signed.{FitsSigned}
 
 -- the size of a relocation in bytes, with an addend or without, in a class

@@ -6,10 +6,13 @@ use Rattle.goblin_base.specs.declared.container.Container.TheVariants.{Little, B
 use Rattle.goblin_base.specs.declared.container.Endian.TheVariants as order
 use Rattle.goblin_base.specs.Number.{number, spelled}
 use Rattle.goblin_base.specs.NumberLaws.{IsBytes-spelled, number-lt, number-spelled, length-spelled, spelled-number}
-use Rattle.goblin_records.specs.RelocInfo.{symbols, types, symbol_in, type_in, info_of, JoinsItsParts, reversed, mips64el_info_inverse, MipsInverse, MipsOneToOne, MipsFourTimes}
+use Rattle.goblin_records.specs.RelocInfo.{symbols, types, symbol_in, type_in, info_of, JoinsItsParts, reversed}
+use Rattle.goblin_records.specs.RelocInfo.{mips64el_info_inverse, MipsInverse, MipsOneToOne, MipsFourTimes}
 
 -- an `r_info` of the low bits of a symbol and a type is in range, and these are its parts
-pub info_of-parts : (class : Container) (symbol typ : ℕ) → let info = info_of class symbol typ in (info < symbols class * types class) × (symbol_in class info ≡ symbol % symbols class) × (type_in class info ≡ typ % types class)
+pub info_of-parts : (class : Container) (symbol typ : ℕ) → let info = info_of class symbol typ in
+    (info < symbols class * types class) × (symbol_in class info ≡ symbol % symbols class)
+    × (type_in class info ≡ typ % types class)
 info_of-parts Little symbol typ = (omega arith, omega arith, omega arith)
 info_of-parts Big symbol typ = (omega arith, omega arith, omega arith)
 
@@ -40,7 +43,8 @@ reversed-reversed word h =
     let again : spelled order.Big 4 (reversed word) ≡ bytes =
     rw (length-spelled order.Little 4 word) at (spelled-number order.Big bytes (IsBytes-spelled order.Little 4 word)) in
     let turned : spelled order.Little 4 (reversed word) ≡ reverse bytes =
-    sym (reverse-reverse (spelled order.Little 4 (reversed word))) ∙ ap reverse (sym (spelled-big (reversed word)) ∙ again) in
+    sym (reverse-reverse (spelled order.Little 4 (reversed word)))
+    ∙ ap reverse (sym (spelled-big (reversed word)) ∙ again) in
     ap (number order.Big) turned ∙ number-little bytes ∙ number-spelled order.Little 4 word h
 
 -- the words of joined words
@@ -57,7 +61,11 @@ mips_inverse info h =
     let a = reversed (info / 2 ^ 32) in
     let b = reversed (info % 2 ^ 32) in
     let whole : (info / 2 ^ 32) * 2 ^ 32 + info % 2 ^ 32 ≡ info = omega arith in (
-      rw (high_of (info % 2 ^ 32) a (reversed-lt (info / 2 ^ 32)), low_of (info % 2 ^ 32) a (reversed-lt (info / 2 ^ 32)), reversed-reversed (info / 2 ^ 32) high) whole,
+      rw (
+        high_of (info % 2 ^ 32) a (reversed-lt (info / 2 ^ 32)),
+        low_of (info % 2 ^ 32) a (reversed-lt (info / 2 ^ 32)),
+        reversed-reversed (info / 2 ^ 32) high,
+      ) whole,
       rw (high_of b (info / 2 ^ 32) high, low_of b (info / 2 ^ 32) high, reversed-reversed (info % 2 ^ 32) low) whole,
     )
 

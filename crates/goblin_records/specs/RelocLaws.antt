@@ -1,6 +1,7 @@
 -- Laws of relocations of each class, with an addend or without, of MIPS64 or not: written relocations are read back,
 -- and relocations that were read are written back.
-use Rattle.std.proofs.Common.{refl, lit<, ◌≡◌, ◌<◌, ◌≤◌, ◌*◌, ◌^◌, ℕ, List, Bool, true, false, Option, Some, None, length, ◌∙◌, arith}
+use Rattle.std.proofs.Common.{refl, lit<, ◌≡◌, ◌<◌, ◌≤◌, ◌*◌, ◌^◌, ℕ, List, Bool, true, false, Option, Some, None}
+use Rattle.std.proofs.Common.{length, ◌∙◌, arith}
 use Rattle.std.specs.Prelude.{ℤ, pos, unwrap_or, IsSomeAnd}
 use Rattle.std.proofs.Math.Nat.{mod-eq_of_lt}
 use Rattle.goblin_base.specs.declared.container.Endian.{Endian}
@@ -9,16 +10,24 @@ use Rattle.goblin_base.specs.declared.container.Container.TheVariants.{Little, B
 use Rattle.goblin_base.specs.Layout.{IsRecord}
 use Rattle.goblin_base.specs.LayoutLaws.{layout_laws, converted_laws, one_image, same_in_each_class}
 use Rattle.goblin_base.specs.Signed.{FitsSigned}
-use Rattle.goblin_base.specs.SignedLaws.{signed_of-complement, complement-lt, complement-mod, complement-signed_number_at}
+use Rattle.goblin_base.specs.SignedLaws.{signed_of-complement, complement-lt, complement-mod}
+use Rattle.goblin_base.specs.SignedLaws.{complement-signed_number_at}
 use Rattle.goblin_base.specs.FieldLaws.{number_at-lt}
 use Rattle.goblin_base.specs.Number.{IsBytes, number_at}
 use Rattle.goblin_records.specs.declared.reloc.Reloc.{Reloc}
 use Rattle.goblin_records.specs.declared.reloc.RelocCtx.{RelocCtx}
-use Rattle.goblin_records.specs.Reloc32.{rel32_size, rel32_of, rel32_of_values, rel32_widths, rel32_fields, rel32_image, rel32_low, Rel32Fits, rela32_size, rela32_of, rela32_of_values, rela32_widths, rela32_fields, rela32_image, rela32_low, Rela32Fits}
-use Rattle.goblin_records.specs.Reloc64.{rel64_size, rel64_of, rel64_of_values, rel64_widths, rel64_fields, rel64_image, rel64_low, Rel64Fits, rela64_size, rela64_of, rela64_of_values, rela64_widths, rela64_fields, rela64_image, rela64_low, Rela64Fits}
+use Rattle.goblin_records.specs.Reloc32.{rel32_size, rel32_of, rel32_of_values, rel32_widths, rel32_fields, rel32_image}
+use Rattle.goblin_records.specs.Reloc32.{rel32_low, Rel32Fits, rela32_size, rela32_of, rela32_of_values, rela32_widths}
+use Rattle.goblin_records.specs.Reloc32.{rela32_fields, rela32_image, rela32_low, Rela32Fits}
+use Rattle.goblin_records.specs.Reloc64.{rel64_size, rel64_of, rel64_of_values, rel64_widths, rel64_fields, rel64_image}
+use Rattle.goblin_records.specs.Reloc64.{rel64_low, Rel64Fits, rela64_size, rela64_of, rela64_of_values, rela64_widths}
+use Rattle.goblin_records.specs.Reloc64.{rela64_fields, rela64_image, rela64_low, Rela64Fits}
 use Rattle.goblin_records.specs.RelocInfo.{symbols, types, symbol_in, type_in, info_of}
 use Rattle.goblin_records.specs.RelocInfoLaws.{info_of-parts, joins_its_parts, reversed-reversed}
-use Rattle.goblin_records.specs.Reloc.{reloc_size, reloc_of, reloc_image, reloc_low, RelocFits, rel_widened32, rela_widened32, rel_widened64, rela_widened64, rel_as32, rela_as32, rel_as64, rela_as64, as_meant, as_stored, StoredFits, reloc_in, reloc_image_in, reloc_low_in, RelocFitsIn, context, OneImage, SameInEachClass}
+use Rattle.goblin_records.specs.Reloc.{reloc_size, reloc_of, reloc_image, reloc_low, RelocFits, rel_widened32}
+use Rattle.goblin_records.specs.Reloc.{rela_widened32, rel_widened64, rela_widened64, rel_as32, rela_as32, rel_as64}
+use Rattle.goblin_records.specs.Reloc.{rela_as64, as_meant, as_stored, StoredFits, reloc_in, reloc_image_in}
+use Rattle.goblin_records.specs.Reloc.{reloc_low_in, RelocFitsIn, context, OneImage, SameInEachClass}
 
 -- the laws of relocations without an addend follow from the list of fields
 pub rel32_laws : (order : Endian) → IsRecord rel32_size (rel32_of order) (rel32_image order) rel32_low Rel32Fits
@@ -38,7 +47,8 @@ rela32_laws order = layout_laws {widths = rela32_widths} {fields = rela32_fields
   reads = λ order bytes. refl;
   has_widths = λ r. refl;
   lows = λ r. rw (complement-mod 4 r.r_addend) refl;
-  fitting = λ r fits. ((fits.0, (fits.1, (complement-lt 4 r.r_addend, tt))), rw (signed_of-complement 4 r.r_addend fits.2) refl);
+  fitting = λ r fits.
+      ((fits.0, (fits.1, (complement-lt 4 r.r_addend, tt))), rw (signed_of-complement 4 r.r_addend fits.2) refl);
   fields_read = λ order bytes are room. rw (complement-signed_number_at order bytes 8 4 are room) refl;
 }) order (lit< tt)
 
@@ -60,52 +70,76 @@ rela64_laws order = layout_laws {widths = rela64_widths} {fields = rela64_fields
   reads = λ order bytes. refl;
   has_widths = λ r. refl;
   lows = λ r. rw (complement-mod 8 r.r_addend) refl;
-  fitting = λ r fits. ((fits.0, (fits.1, (complement-lt 8 r.r_addend, tt))), rw (signed_of-complement 8 r.r_addend fits.2) refl);
+  fitting = λ r fits.
+      ((fits.0, (fits.1, (complement-lt 8 r.r_addend, tt))), rw (signed_of-complement 8 r.r_addend fits.2) refl);
   fields_read = λ order bytes are room. rw (complement-signed_number_at order bytes 16 8 are room) refl;
 }) order (lit< tt)
 
 -- a symbol and a type that fit are the parts of their `r_info`, which is in range
-parts_of : (class : Container) (symbol typ : ℕ) → symbol < symbols class → typ < types class → let info = info_of class symbol typ in (info < symbols class * types class) × (symbol_in class info ≡ symbol) × (type_in class info ≡ typ)
+parts_of : (class : Container) (symbol typ : ℕ) → symbol < symbols class → typ < types class → let info =
+    info_of class symbol typ in
+    (info < symbols class * types class) × (symbol_in class info ≡ symbol) × (type_in class info ≡ typ)
 parts_of class symbol typ s t =
     let parts = info_of-parts class symbol typ in (parts.0, parts.1 ∙ mod-eq_of_lt s, parts.2 ∙ mod-eq_of_lt t)
 
 -- an addend that is present is the one that is written
-some_fits : (width : ℕ) (addend : Option ℤ) → IsSomeAnd addend (FitsSigned width) → FitsSigned width (unwrap_or addend (pos 0)) × (Some (unwrap_or addend (pos 0)) ≡ addend)
+some_fits : (width : ℕ) (addend : Option ℤ)
+    → IsSomeAnd addend (FitsSigned width)
+    → FitsSigned width (unwrap_or addend (pos 0)) × (Some (unwrap_or addend (pos 0)) ≡ addend)
 some_fits width None h = absurd h
 some_fits width (Some z) h = (h, refl)
 
 -- an `r_info` that was read is the one of its parts
-joins_32 : (order : Endian) (bytes : List ℕ) → IsBytes bytes → 8 ≤ length bytes → let info = number_at order bytes 4 4 in info_of Little (symbol_in Little info) (type_in Little info) ≡ info
-joins_32 order bytes are room = joins_its_parts Little (number_at order bytes 4 4) (number_at-lt order bytes 4 4 are room)
+joins_32 : (order : Endian) (bytes : List ℕ) → IsBytes bytes → 8 ≤ length bytes → let info =
+    number_at order bytes 4 4 in
+    info_of Little (symbol_in Little info) (type_in Little info) ≡ info
+joins_32 order bytes are room =
+    joins_its_parts Little (number_at order bytes 4 4) (number_at-lt order bytes 4 4 are room)
 
-joins_64 : (order : Endian) (bytes : List ℕ) → IsBytes bytes → 16 ≤ length bytes → let info = number_at order bytes 8 8 in info_of Big (symbol_in Big info) (type_in Big info) ≡ info
+joins_64 : (order : Endian) (bytes : List ℕ) → IsBytes bytes → 16 ≤ length bytes → let info =
+    number_at order bytes 8 8 in
+    info_of Big (symbol_in Big info) (type_in Big info) ≡ info
 joins_64 order bytes are room = joins_its_parts Big (number_at order bytes 8 8) (number_at-lt order bytes 8 8 are room)
 
 -- a relocation of either class, with an addend or without, is a converted raw one
-pub reloc_laws : (is_rela : Bool) (class : Container) (order : Endian) → IsRecord (reloc_size is_rela class) (reloc_of is_rela class order) (reloc_image is_rela class order) (reloc_low is_rela class) (RelocFits is_rela class)
+pub reloc_laws : (is_rela : Bool) (class : Container) (order : Endian)
+    → IsRecord (reloc_size is_rela class) (reloc_of is_rela class order) (reloc_image is_rela class order)
+    (reloc_low is_rela class) (RelocFits is_rela class)
 reloc_laws false Little order =
     converted_laws rel_widened32 rel_as32 (RelocFits false Little) (rel32_laws order)
-    (λ r fits. let parts = parts_of Little r.r_sym r.r_type fits.symbol fits.typ in ((fits.offset, (parts.0, tt)), rw (parts.1, parts.2, ← fits.addend) refl))
+    (λ r fits. let parts = parts_of Little r.r_sym r.r_type fits.symbol fits.typ in
+    ((fits.offset, (parts.0, tt)), rw (parts.1, parts.2, ← fits.addend) refl))
     (λ bytes are room. rw (joins_32 order bytes are room) refl)
 reloc_laws true Little order =
     converted_laws rela_widened32 rela_as32 (RelocFits true Little) (rela32_laws order)
-    (λ r fits. let parts = parts_of Little r.r_sym r.r_type fits.symbol fits.typ in let some = some_fits 4 r.r_addend fits.addend in ((fits.offset, parts.0, some.0), rw (parts.1, parts.2, some.1) refl))
+    (λ r fits. let parts = parts_of Little r.r_sym r.r_type fits.symbol fits.typ in
+    let some = some_fits 4 r.r_addend fits.addend in
+    ((fits.offset, parts.0, some.0), rw (parts.1, parts.2, some.1) refl))
     (λ bytes are room. rw (joins_32 order bytes are (omega arith)) refl)
 reloc_laws false Big order =
     converted_laws rel_widened64 rel_as64 (RelocFits false Big) (rel64_laws order)
-    (λ r fits. let parts = parts_of Big r.r_sym r.r_type fits.symbol fits.typ in ((fits.offset, (parts.0, tt)), rw (parts.1, parts.2, ← fits.addend) refl))
+    (λ r fits. let parts = parts_of Big r.r_sym r.r_type fits.symbol fits.typ in
+    ((fits.offset, (parts.0, tt)), rw (parts.1, parts.2, ← fits.addend) refl))
     (λ bytes are room. rw (joins_64 order bytes are room) refl)
 reloc_laws true Big order =
     converted_laws rela_widened64 rela_as64 (RelocFits true Big) (rela64_laws order)
-    (λ r fits. let parts = parts_of Big r.r_sym r.r_type fits.symbol fits.typ in let some = some_fits 8 r.r_addend fits.addend in ((fits.offset, parts.0, some.0), rw (parts.1, parts.2, some.1) refl))
+    (λ r fits. let parts = parts_of Big r.r_sym r.r_type fits.symbol fits.typ in
+    let some = some_fits 8 r.r_addend fits.addend in
+    ((fits.offset, parts.0, some.0), rw (parts.1, parts.2, some.1) refl))
     (λ bytes are room. rw (joins_64 order bytes are (omega arith)) refl)
 
 -- the symbol and the type that were read are words of 32 bits
-words : (is_rela : Bool) (class : Container) (order : Endian) (bytes : List ℕ) → IsBytes bytes → reloc_size is_rela class ≤ length bytes → ((reloc_of is_rela class order bytes).r_sym < 2 ^ 32) × ((reloc_of is_rela class order bytes).r_type < 2 ^ 32)
-words false Little order bytes are room = let below = number_at-lt order bytes 4 4 are (omega arith) in (omega arith, omega arith)
-words true Little order bytes are room = let below = number_at-lt order bytes 4 4 are (omega arith) in (omega arith, omega arith)
-words false Big order bytes are room = let below = number_at-lt order bytes 8 8 are (omega arith) in (omega arith, omega arith)
-words true Big order bytes are room = let below = number_at-lt order bytes 8 8 are (omega arith) in (omega arith, omega arith)
+words : (is_rela : Bool) (class : Container) (order : Endian) (bytes : List ℕ)
+    → IsBytes bytes → reloc_size is_rela class ≤ length bytes
+    → ((reloc_of is_rela class order bytes).r_sym < 2 ^ 32) × ((reloc_of is_rela class order bytes).r_type < 2 ^ 32)
+words false Little order bytes are room = let below = number_at-lt order bytes 4 4 are (omega arith) in
+    (omega arith, omega arith)
+words true Little order bytes are room = let below = number_at-lt order bytes 4 4 are (omega arith) in
+    (omega arith, omega arith)
+words false Big order bytes are room = let below = number_at-lt order bytes 8 8 are (omega arith) in
+    (omega arith, omega arith)
+words true Big order bytes are room = let below = number_at-lt order bytes 8 8 are (omega arith) in
+    (omega arith, omega arith)
 
 -- the relocation to store for one means that one
 meant-stored : (r : Reloc) → r.r_sym < 2 ^ 32 → r.r_type < 2 ^ 32 → as_meant true (as_stored true r) ≡ r
@@ -116,14 +150,18 @@ stored-meant : (r : Reloc) → r.r_sym < 2 ^ 32 → r.r_type < 2 ^ 32 → as_sto
 stored-meant r s t = rw (mod-eq_of_lt t, reversed-reversed r.r_sym s) refl
 
 -- relocations of MIPS64 obey the same laws
-stored_laws : (is_mips64el is_rela : Bool) (class : Container) (order : Endian) → let c = context is_rela class order is_mips64el in IsRecord (reloc_size is_rela class) (reloc_in c) (reloc_image_in c) (reloc_low_in c) (RelocFitsIn c)
+stored_laws : (is_mips64el is_rela : Bool) (class : Container) (order : Endian) → let c =
+    context is_rela class order is_mips64el in
+    IsRecord (reloc_size is_rela class) (reloc_in c) (reloc_image_in c) (reloc_low_in c) (RelocFitsIn c)
 stored_laws false is_rela class order = reloc_laws is_rela class order
 stored_laws true is_rela class order =
     converted_laws (as_meant true) (as_stored true) (StoredFits true is_rela class) (reloc_laws is_rela class order)
     (λ r fits. (fits.2, meant-stored r fits.0 fits.1))
-    (λ bytes are room. let w = words is_rela class order bytes are room in stored-meant (reloc_of is_rela class order bytes) w.0 w.1)
+    (λ bytes are room. let w = words is_rela class order bytes are room in
+    stored-meant (reloc_of is_rela class order bytes) w.0 w.1)
 
-pub reloc_laws_in : (c : RelocCtx) → IsRecord (reloc_size c.is_rela c.ctx.container) (reloc_in c) (reloc_image_in c) (reloc_low_in c) (RelocFitsIn c)
+pub reloc_laws_in : (c : RelocCtx)
+    → IsRecord (reloc_size c.is_rela c.ctx.container) (reloc_in c) (reloc_image_in c) (reloc_low_in c) (RelocFitsIn c)
 reloc_laws_in c = stored_laws c.is_mips64el c.is_rela c.ctx.container c.ctx.le
 
 pub one_image_in : OneImage

@@ -5,8 +5,10 @@ use Rattle.goblin_base.specs.declared.container.Container.{Container}
 use Rattle.goblin_base.specs.declared.container.Container.TheVariants.{Little, Big}
 use Rattle.goblin_base.specs.Layout.{IsRecord}
 use Rattle.goblin_base.specs.LayoutLaws.{layout_laws, converted_laws}
-use Rattle.goblin_records.specs.Sym32.{sym32_size, sym32_of, sym32_of_values, sym32_widths, sym32_fields, sym32_image, sym32_low, Sym32Fits}
-use Rattle.goblin_records.specs.Sym64.{sym64_size, sym64_of, sym64_of_values, sym64_widths, sym64_fields, sym64_image, sym64_low, Sym64Fits}
+use Rattle.goblin_records.specs.Sym32.{sym32_size, sym32_of, sym32_of_values, sym32_widths, sym32_fields, sym32_image}
+use Rattle.goblin_records.specs.Sym32.{sym32_low, Sym32Fits}
+use Rattle.goblin_records.specs.Sym64.{sym64_size, sym64_of, sym64_of_values, sym64_widths, sym64_fields, sym64_image}
+use Rattle.goblin_records.specs.Sym64.{sym64_low, Sym64Fits}
 use Rattle.goblin_records.specs.Sym.{sym_size, sym_of, sym_image, sym_low, SymFits, as32, as64, widened32, widened64}
 
 -- the laws follow from the list of fields
@@ -32,6 +34,9 @@ sym64_laws order = layout_laws {widths = sym64_widths} {fields = sym64_fields} (
 }) order (lit< tt)
 
 -- a symbol is the raw one of its class with its fields widened, and different raw ones are widened differently
-pub sym_laws : (class : Container) (order : Endian) → IsRecord (sym_size class) (sym_of class order) (sym_image class order) (sym_low class) (SymFits class)
-sym_laws Little order = converted_laws widened32 as32 (SymFits Little) (sym32_laws order) (λ s fits. (fits, refl)) (λ bytes are room. refl)
-sym_laws Big order = converted_laws widened64 as64 (SymFits Big) (sym64_laws order) (λ s fits. (fits, refl)) (λ bytes are room. refl)
+pub sym_laws : (class : Container) (order : Endian)
+    → IsRecord (sym_size class) (sym_of class order) (sym_image class order) (sym_low class) (SymFits class)
+sym_laws Little order =
+    converted_laws widened32 as32 (SymFits Little) (sym32_laws order) (λ s fits. (fits, refl)) (λ bytes are room. refl)
+sym_laws Big order =
+    converted_laws widened64 as64 (SymFits Big) (sym64_laws order) (λ s fits. (fits, refl)) (λ bytes are room. refl)

@@ -6,5 +6,8 @@ use Rattle.goblin_records.proofs.note.Nhdr32TryIntoCtxEndian.try_into_ctx.Goals 
 
 pub returns : goal.returns
 returns c =
-    let put = with_fields-image c.args.order c.args.bytes.now 0 (nhdr32_fields c.args.self) (c.in_ok-room.ensures.fits.0 refl) in
-    Writes-ok 12 12 (nhdr32_image c.args.order c.args.self) c.args.bytes.now c.put_u32-3.new.bytes tt refl c.in_ok-room.ensures.exact (cc put)
+    let put = with_fields-image c.args.order c.args.bytes.now 0 (nhdr32_fields c.args.self)
+    (c.in_ok-room.ensures.fits.0 refl) in
+    Writes-ok 12 12
+    (nhdr32_image c.args.order c.args.self) c.args.bytes.now c.put_u32-3.new.bytes tt refl c.in_ok-room.ensures.exact
+    (cc put)

@@ -6,5 +6,8 @@ use Rattle.goblin_records.proofs.note.Nhdr64TryIntoCtxEndian.try_into_ctx.Goals 
 
 pub returns : goal.returns
 returns c =
-    let put = with_fields-image c.args.order c.args.bytes.now 0 (nhdr64_fields c.args.self) (c.in_ok-room.ensures.fits.0 refl) in
-    Writes-ok 24 24 (nhdr64_image c.args.order c.args.self) c.args.bytes.now c.put_u64-3.new.bytes tt refl c.in_ok-room.ensures.exact (cc put)
+    let put = with_fields-image c.args.order c.args.bytes.now 0 (nhdr64_fields c.args.self)
+    (c.in_ok-room.ensures.fits.0 refl) in
+    Writes-ok 24 24
+    (nhdr64_image c.args.order c.args.self) c.args.bytes.now c.put_u64-3.new.bytes tt refl c.in_ok-room.ensures.exact
+    (cc put)

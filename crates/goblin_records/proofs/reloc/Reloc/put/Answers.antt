@@ -10,5 +10,6 @@ returns-in-Little-true c =
 
 pub returns-in-Little-false : goal.returns-in-Little-false
 returns-in-Little-false c =
-    let put = rw (c.from-in-Little-false.ensures, image-low (rel32_laws c.args.ctx.le) (rel_as32 c.args.self)) at c.put-in-Little-false.ensures in
+    let put = rw (c.from-in-Little-false.ensures, image-low (rel32_laws c.args.ctx.le) (rel_as32 c.args.self)) at
+    c.put-in-Little-false.ensures in
     rw (c.in-Little-false.is-0, c.in-Little-false.is-1) put

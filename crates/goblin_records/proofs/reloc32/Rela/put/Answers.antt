@@ -8,4 +8,5 @@ pub returns : goal.returns
 returns c =
     let fits : FitsSigned w32 c.args.self.now.r_addend = search rules in
     let put = simp to_z-of_z at c.put_i32.ensures in
-    rw (put, c.put_u32-2.ensures, c.put_u32.ensures) (with_fields-image c.args.order c.args.bytes.now 0 (rela32_fields c.args.self.now) c.requires)
+    rw (put, c.put_u32-2.ensures, c.put_u32.ensures)
+    (with_fields-image c.args.order c.args.bytes.now 0 (rela32_fields c.args.self.now) c.requires)

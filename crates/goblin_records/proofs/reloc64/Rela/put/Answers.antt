@@ -8,4 +8,5 @@ pub returns : goal.returns
 returns c =
     let fits : FitsSigned w64 c.args.self.now.r_addend = search rules in
     let put = simp to_z-of_z at c.put_i64.ensures in
-    rw (put, c.put_u64-2.ensures, c.put_u64.ensures) (with_fields-image c.args.order c.args.bytes.now 0 (rela64_fields c.args.self.now) c.requires)
+    rw (put, c.put_u64-2.ensures, c.put_u64.ensures)
+    (with_fields-image c.args.order c.args.bytes.now 0 (rela64_fields c.args.self.now) c.requires)

@@ -9,4 +9,5 @@ returns-in-Little c =
 
 pub returns-in-Big : goal.returns-in-Big
 returns-in-Big c =
-    rw c.in-Big.is (rw (c.from-in-Big.ensures, image-low (sym64_laws c.args.ctx.le) (as64 c.args.self)) at c.put-in-Big.ensures)
+    rw c.in-Big.is
+    (rw (c.from-in-Big.ensures, image-low (sym64_laws c.args.ctx.le) (as64 c.args.self)) at c.put-in-Big.ensures)

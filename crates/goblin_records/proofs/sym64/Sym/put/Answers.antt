@@ -4,4 +4,8 @@ use Rattle.goblin_records.proofs.sym64.Sym.put.Goals as goal
 
 pub returns : goal.returns
 returns c =
-    cc (with_fields-image c.args.order c.args.bytes.now 0 (sym64_fields c.args.self.now) c.requires, c.put_u8.ensures c.args.order, c.put_u8-2.ensures c.args.order)
+    cc (
+      with_fields-image c.args.order c.args.bytes.now 0 (sym64_fields c.args.self.now) c.requires,
+      c.put_u8.ensures c.args.order,
+      c.put_u8-2.ensures c.args.order,
+    )
