@@ -1,5 +1,6 @@
 -- Lemmas for reading notes and for the notes' iterators.
-use Rattle.std.proofs.Common.{◌≡◌, ◌+◌, ◌-◌, ◌<◌, ◌≤◌, ℕ, min, List, [], ◌∷◌, length, take, drop, Result, Ok, Err, IfOk, inl, inr, refl, ◌∙◌, arith}
+use Rattle.std.proofs.Common.{◌≡◌, ◌+◌, ◌-◌, ◌<◌, ◌≤◌, ℕ, min, List, [], ◌∷◌, length, take, drop, Result, Ok, Err, IfOk}
+use Rattle.std.proofs.Common.{inl, inr, refl, ◌∙◌, arith}
 use Rattle.std.proofs.lemmas.Bool.{cases_lt, le-leb, lt-leb}
 use Rattle.std.proofs.lemmas.List.{length-drop, take_all}
 use Rattle.goblin_base.specs.declared.container.Ctx.{Ctx}
@@ -8,36 +9,44 @@ use Rattle.goblin_base.specs.Refusal.{Answers, Refusal, bad_offset}
 use Rattle.goblin.specs.declared.elf.note.Note.{Note}
 use Rattle.goblin.specs.declared.elf.note.NoteDataIterator.{NoteDataIterator}
 use Rattle.goblin.specs.declared.elf.note.NotePlaces.{NotePlaces}
-use Rattle.goblin.specs.Note.{NoteParts, parts_of, note_there, read_places, places_at, note_at, item_and_rest, note_items}
+use Rattle.goblin.specs.Note.{NoteParts, parts_of, note_there, read_places, places_at, note_at, item_and_rest}
+use Rattle.goblin.specs.Note.{note_items}
 use Rattle.goblin.specs.Notes.{LieWithin, items_left, most_left}
 use Rattle.goblin.specs.NoteLaws.{at_ok, note_by_note, places_lie_within, few_notes}
 
 -- before the end of the bytes, places are read from the rest
-pub places_at-before : (bytes : List ℕ) (offset : ℕ) (ctx : ℕ × Ctx) → offset < length bytes → places_at bytes offset ctx ≡ read_places ctx.0 ctx.1.le (take (length bytes - offset) (drop offset bytes))
+pub places_at-before : (bytes : List ℕ) (offset : ℕ) (ctx : ℕ × Ctx)
+    → offset < length bytes
+    → places_at bytes offset ctx ≡ read_places ctx.0 ctx.1.le (take (length bytes - offset) (drop offset bytes))
 unfolding places_at
 places_at-before bytes offset ctx before =
     let all = take_all (length bytes - offset) (drop offset bytes) (omega (arith, length-drop offset bytes)) in
     rw (lt-leb (length bytes) offset before, all) refl
 
 -- from the end of the bytes on there are no places
-pub places_at-past : (bytes : List ℕ) (offset : ℕ) (ctx : ℕ × Ctx) → length bytes ≤ offset → places_at bytes offset ctx ≡ Err (bad_offset offset)
+pub places_at-past : (bytes : List ℕ) (offset : ℕ) (ctx : ℕ × Ctx)
+    → length bytes ≤ offset → places_at bytes offset ctx ≡ Err (bad_offset offset)
 unfolding places_at
 places_at-past bytes offset ctx past = rw (le-leb (length bytes) offset past) refl
 
 -- nor is there a note
-pub note_at-past : (bytes : List ℕ) (offset : ℕ) (ctx : ℕ × Ctx) → length bytes ≤ offset → note_at bytes offset ctx ≡ Err (bad_offset offset)
+pub note_at-past : (bytes : List ℕ) (offset : ℕ) (ctx : ℕ × Ctx)
+    → length bytes ≤ offset → note_at bytes offset ctx ≡ Err (bad_offset offset)
 unfolding note_at
 note_at-past bytes offset ctx past = rw (places_at-past bytes offset ctx past) refl
 
 -- what holds if a note and its places were read from an offset before the bytes' end
-pub record IsRead (answer : Result (Note × NotePlaces) Error) (bytes : List ℕ) (offset : ℕ) (ctx : ℕ × Ctx) : Type 0 where
+pub record IsRead (answer : Result (Note × NotePlaces) Error) (bytes : List ℕ) (offset : ℕ)
+    (ctx : ℕ × Ctx) : Type 0 where
   pub places : Answers (λ found. found.1) answer (places_at bytes offset ctx)
-  pub there : IfOk answer (λ found. parts_of found.0 ≡ note_there (take (length bytes - offset) (drop offset bytes)) found.1)
+  pub there : IfOk answer
+      (λ found. parts_of found.0 ≡ note_there (take (length bytes - offset) (drop offset bytes)) found.1)
 
 -- the note that was read is the one at the offset
 pub note_at-read :
     (answer : Result (Note × NotePlaces) Error) (bytes : List ℕ) (offset : ℕ) (ctx : ℕ × Ctx)
-    → IsRead answer bytes offset ctx → Answers (λ found. (parts_of found.0, found.1.next)) answer (note_at bytes offset ctx)
+    → IsRead answer bytes offset ctx
+    → Answers (λ found. (parts_of found.0, found.1.next)) answer (note_at bytes offset ctx)
 unfolding note_at
 note_at-read (Ok found) bytes offset ctx is =
     let all = take_all (length bytes - offset) (drop offset bytes) (omega (arith, length-drop offset bytes)) in
@@ -45,28 +54,41 @@ note_at-read (Ok found) bytes offset ctx is =
 note_at-read (Err e) bytes offset ctx is = rw is.places refl
 
 -- its places lie inside the bytes
-pub read-within : (answer : Result (Note × NotePlaces) Error) (bytes : List ℕ) (offset : ℕ) (ctx : ℕ × Ctx) → Answers (λ found. found.1) answer (places_at bytes offset ctx) → IfOk answer (λ found. LieWithin (length bytes) offset found.1)
-read-within (Ok found) bytes offset ctx is = at_ok (places_at bytes offset ctx) found.1 _ is (places_lie_within bytes offset ctx)
+pub read-within : (answer : Result (Note × NotePlaces) Error) (bytes : List ℕ) (offset : ℕ) (ctx : ℕ × Ctx)
+    → Answers (λ found. found.1) answer (places_at bytes offset ctx)
+    → IfOk answer (λ found. LieWithin (length bytes) offset found.1)
+read-within (Ok found) bytes offset ctx is =
+    at_ok (places_at bytes offset ctx) found.1 _ is (places_lie_within bytes offset ctx)
 read-within (Err e) bytes offset ctx is = tt
 
 -- no item is left from the end of a range on
-pub note_items-past : (bytes : List ℕ) (size offset : ℕ) (ctx : ℕ × Ctx) → size ≤ offset → note_items bytes size offset ctx ≡ []
+pub note_items-past : (bytes : List ℕ) (size offset : ℕ) (ctx : ℕ × Ctx)
+    → size ≤ offset → note_items bytes size offset ctx ≡ []
 note_items-past bytes size offset ctx past = note_by_note bytes size offset ctx ∙ rw (le-leb size offset past) refl
 
 -- a note, and the items after it
-pub note_items-note : (bytes : List ℕ) (size offset : ℕ) (ctx : ℕ × Ctx) (note : NoteParts × ℕ) → offset < size → note_at bytes offset ctx ≡ Ok note → note_items bytes size offset ctx ≡ Ok note.0 ∷ note_items bytes size (offset + note.1) ctx
-note_items-note bytes size offset ctx note before is = note_by_note bytes size offset ctx ∙ rw (lt-leb size offset before, is) refl
+pub note_items-note : (bytes : List ℕ) (size offset : ℕ) (ctx : ℕ × Ctx) (note : NoteParts × ℕ)
+    → offset < size → note_at bytes offset ctx ≡ Ok note
+    → note_items bytes size offset ctx ≡ Ok note.0 ∷ note_items bytes size (offset + note.1) ctx
+note_items-note bytes size offset ctx note before is =
+    note_by_note bytes size offset ctx ∙ rw (lt-leb size offset before, is) refl
 
 -- a refusal, and nothing after it
-pub note_items-refusal : (bytes : List ℕ) (size offset : ℕ) (ctx : ℕ × Ctx) (refusal : Refusal) → offset < size → note_at bytes offset ctx ≡ Err refusal → note_items bytes size offset ctx ≡ Err refusal ∷ note_items bytes size size ctx
+pub note_items-refusal : (bytes : List ℕ) (size offset : ℕ) (ctx : ℕ × Ctx) (refusal : Refusal)
+    → offset < size → note_at bytes offset ctx ≡ Err refusal
+    → note_items bytes size offset ctx ≡ Err refusal ∷ note_items bytes size size ctx
 note_items-refusal bytes size offset ctx refusal before is =
-    note_by_note bytes size offset ctx ∙ rw (lt-leb size offset before, is, note_items-past bytes size size ctx (omega arith)) refl
+    note_by_note bytes size offset ctx
+    ∙ rw (lt-leb size offset before, is, note_items-past bytes size size ctx (omega arith)) refl
 
 -- before the end of a range there is an item
-pub note_items-some : (bytes : List ℕ) (size offset : ℕ) (ctx : ℕ × Ctx) → offset < size → 0 < length (note_items bytes size offset ctx)
-note_items-some bytes size offset ctx before = rw (note_by_note bytes size offset ctx, lt-leb size offset before) (one_at_least (note_at bytes offset ctx) _)
+pub note_items-some : (bytes : List ℕ) (size offset : ℕ) (ctx : ℕ × Ctx)
+    → offset < size → 0 < length (note_items bytes size offset ctx)
+note_items-some bytes size offset ctx before =
+    rw (note_by_note bytes size offset ctx, lt-leb size offset before) (one_at_least (note_at bytes offset ctx) _)
   where
-    one_at_least : (answer : Result (NoteParts × ℕ) Refusal) (rest : ℕ → List (Result NoteParts Refusal)) → 0 < length (item_and_rest answer rest)
+    one_at_least : (answer : Result (NoteParts × ℕ) Refusal) (rest : ℕ → List (Result NoteParts Refusal))
+        → 0 < length (item_and_rest answer rest)
     one_at_least (Ok note) rest = omega arith
     one_at_least (Err e) rest = omega arith
 

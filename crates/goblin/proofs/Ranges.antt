@@ -1,5 +1,6 @@
 -- The ranges of notes that an iterator goes through.
-use Rattle.std.proofs.Common.{◌≡◌, ◌+◌, ◌<◌, ◌≤◌, ℕ, List, [], ◌∷◌, ◌++◌, Result, length, take, drop, get_or, set, inl, inr, refl, sym, ap, ◌∙◌, arith, add-one, drop-cons}
+use Rattle.std.proofs.Common.{◌≡◌, ◌+◌, ◌<◌, ◌≤◌, ℕ, List, [], ◌∷◌, ◌++◌, Result, length, take, drop, get_or, set, inl}
+use Rattle.std.proofs.Common.{inr, refl, sym, ap, ◌∙◌, arith, add-one, drop-cons}
 use Rattle.std.proofs.lemmas.Bool.{cases_lt, le-leb, lt-ltb, le-ltb}
 use Rattle.std.proofs.lemmas.List.{take-set, drop-set, take-append-drop}
 use Rattle.std.proofs.lemmas.List.Sums.{sum_by-cons}
@@ -11,7 +12,8 @@ use Rattle.goblin.specs.Notes.{items_left, most_left, most_left_in, spent, after
 use Rattle.goblin.proofs.NoteLemmas.{note_items-past, note_items-some}
 
 -- a range with an item left is not at its end
-pub unspent : (it : NoteDataIterator) (item : Result NoteParts Refusal) (rest : List (Result NoteParts Refusal)) → items_left it ≡ item ∷ rest → it.offset < it.size
+pub unspent : (it : NoteDataIterator) (item : Result NoteParts Refusal) (rest : List (Result NoteParts Refusal))
+    → items_left it ≡ item ∷ rest → it.offset < it.size
 unspent it item rest is =
     elim (cases_lt it.offset it.size) [
       | inl before ↦ before
@@ -22,7 +24,8 @@ unspent it item rest is =
 pub at_end : (it : NoteDataIterator) → items_left it ≡ [] → it.size ≤ it.offset
 at_end it is =
     elim (cases_lt it.offset it.size) [
-      | inl before ↦ let some = note_items-some it.bytes.now it.size it.offset it.ctx before in absurd (omega (arith, ap length is))
+      | inl before ↦ let some = note_items-some it.bytes.now it.size it.offset it.ctx before in
+          absurd (omega (arith, ap length is))
       | inr past ↦ past
     ]
 
@@ -31,7 +34,8 @@ set_is : {X : Type 0} (xs : List X) (i : ℕ) (y : X) → i < length xs → set 
 set_is xs i y h = sym (take-append-drop i (set xs i y)) ∙ rw (take-set xs i y, drop-set xs i y h) refl
 
 -- the rest of a list from an index on begins with the element at it
-drop_is : {X : Type 0} (xs : List X) (i : ℕ) (x : X) → i < length xs → x ≡ get_or xs i x → drop i xs ≡ x ∷ drop (i + 1) xs
+drop_is : {X : Type 0} (xs : List X) (i : ℕ) (x : X)
+    → i < length xs → x ≡ get_or xs i x → drop i xs ≡ x ∷ drop (i + 1) xs
 drop_is xs i x h is = drop-cons xs i x h ∙ rw (← is, add-one) refl
 
 -- replacing an element by itself leaves the list
@@ -39,18 +43,23 @@ set_same : {X : Type 0} (xs : List X) (i : ℕ) (x : X) → i < length xs → x 
 set_same xs i x h is = set_is xs i x h ∙ rw (← drop_is xs i x h is) (take-append-drop i xs)
 
 -- the range that an item came from has moved
-pub moved : (old now : List NoteDataIterator) (at i : ℕ) (x new : NoteDataIterator) → now ≡ old → i < length now → x ≡ get_or now i x → at ≡ i → new ≡ after_next x
+pub moved : (old now : List NoteDataIterator) (at i : ℕ) (x new : NoteDataIterator)
+    → now ≡ old → i < length now → x ≡ get_or now i x → at ≡ i → new ≡ after_next x
     → set now i new ≡ take at old ++ after_next_of_first (drop at old)
-moved old now at i x new same h is there moves = rw (← same, there, moves, drop_is now i x h is) (set_is now i (after_next x) h)
+moved old now at i x new same h is there moves =
+    rw (← same, there, moves, drop_is now i x h is) (set_is now i (after_next x) h)
 
 -- the first range with an item is the next one
-pub next_is : (old : List NoteDataIterator) (i : ℕ) (x : NoteDataIterator) → i < length old → x ≡ get_or old i x → x.offset < x.size → spent (drop i old) ≡ 0
+pub next_is : (old : List NoteDataIterator) (i : ℕ) (x : NoteDataIterator)
+    → i < length old → x ≡ get_or old i x → x.offset < x.size → spent (drop i old) ≡ 0
 next_is old i x h is some = rw (drop_is old i x h is, lt-ltb x.offset x.size some) refl
 
 -- a range without items is skipped, and doesn't change
-pub passed : (old : List NoteDataIterator) (i : ℕ) (x : NoteDataIterator) → i < length old → x ≡ get_or old i x → items_left x ≡ []
+pub passed : (old : List NoteDataIterator) (i : ℕ) (x : NoteDataIterator)
+    → i < length old → x ≡ get_or old i x → items_left x ≡ []
     → (set old i (after_next x) ≡ old) × (flat_map items_left (drop (i + 1) old) ≡ flat_map items_left (drop i old))
-    × (most_left_in (drop (i + 1) old) ≡ most_left_in (drop i old)) × (i + 1 + spent (drop (i + 1) old) ≡ i + spent (drop i old))
+    × (most_left_in (drop (i + 1) old) ≡ most_left_in (drop i old))
+    × (i + 1 + spent (drop (i + 1) old) ≡ i + spent (drop i old))
 passed old i x h is none =
     let past = at_end x none in
     let same : after_next x ≡ x = rw (le-leb x.size x.offset past) refl in

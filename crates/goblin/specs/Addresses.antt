@@ -1,5 +1,6 @@
 -- The symbol for an address (System V gABI, "Symbol Table").
-use Rattle.std.specs.Prelude.{◌≡◌, ◌↔◌, ◌+◌, ◌≤◌, ◌==◌, ◌&&◌, ◌||◌, not, ℕ, Bool, true, false, nat_lt, nat_le, if◌then◌else◌, List, position, slice_get, Option, Some, None}
+use Rattle.std.specs.Prelude.{◌≡◌, ◌↔◌, ◌+◌, ◌≤◌, ◌==◌, ◌&&◌, ◌||◌, not, ℕ, Bool, true, false, nat_lt, nat_le}
+use Rattle.std.specs.Prelude.{if◌then◌else◌, List, position, slice_get, Option, Some, None}
 use Rattle.std.specs.List.{list_any}
 use Rattle.goblin_records.specs.declared.sym.Sym.{Sym}
 use Rattle.goblin_records.specs.SymParts.{type_of}
@@ -9,7 +10,8 @@ use Rattle.goblin_records.specs.SymParts.{type_of}
 abbrev pub has_place : Sym → Bool
 has_place s =
     let typ = type_of s.st_info in
-    ((nat_lt 0 s.st_shndx && nat_lt s.st_shndx 0xff00) || s.st_shndx == 0xffff) && (typ == 0 || typ == 1 || typ == 2 || typ == 10)
+    ((nat_lt 0 s.st_shndx && nat_lt s.st_shndx 0xff00) || s.st_shndx == 0xffff)
+    && (typ == 0 || typ == 1 || typ == 2 || typ == 10)
 
 -- it is at an address or below it
 abbrev pub is_below : ℕ → Sym → Bool
@@ -23,11 +25,13 @@ reaches address s = nat_lt address (s.st_value + s.st_size)
 -- doesn't
 abbrev pub is_nearer : ℕ → Sym → Sym → Bool
 is_nearer address s other =
-    nat_lt other.st_value s.st_value || (other.st_value == s.st_value && not (reaches address other) && reaches address s)
+    nat_lt other.st_value s.st_value
+    || (other.st_value == s.st_value && not (reaches address other) && reaches address s)
 
 -- it is at an address or below it, and no such symbol is nearer
 abbrev pub is_nearest : ℕ → List Sym → Sym → Bool
-is_nearest address symbols s = is_below address s && not (list_any (λ other. is_below address other && is_nearer address other s) symbols)
+is_nearest address symbols s =
+    is_below address s && not (list_any (λ other. is_below address other && is_nearer address other s) symbols)
 
 -- the index of the symbol for an address: the first of the nearest
 unfoldable pub symbol_at : ℕ → List Sym → Option ℕ
@@ -53,9 +57,13 @@ pub record ComesFirst (address i : ℕ) (s : Sym) (k : ℕ) (other : Sym) : Type
 abbrev pub IsSymbolAt : ℕ → List Sym → Option ℕ → Type 0
 IsSymbolAt address symbols (Some i) =
     (s : Sym) × (slice_get symbols i ≡ Some s) × (is_below address s ≡ true)
-    × ((k : ℕ) (other : Sym) → slice_get symbols k ≡ Some other → is_below address other ≡ true → ComesFirst address i s k other)
-IsSymbolAt address symbols None = (k : ℕ) (other : Sym) → slice_get symbols k ≡ Some other → is_below address other ≡ false
+    × ((k : ℕ) (other : Sym) → slice_get symbols k ≡ Some other → is_below address other ≡ true
+    → ComesFirst address i s k other)
+IsSymbolAt address symbols None =
+    (k : ℕ) (other : Sym) → slice_get symbols k ≡ Some other → is_below address other ≡ false
 
 -- this is what a search returns, and nothing else
 abbrev pub SymbolAtComesFirst : Type 0
-SymbolAtComesFirst = (address : ℕ) (symbols : List Sym) (answer : Option ℕ) → (symbol_at address symbols ≡ answer) ↔ IsSymbolAt address symbols answer
+SymbolAtComesFirst =
+    (address : ℕ) (symbols : List Sym) (answer : Option ℕ)
+    → (symbol_at address symbols ≡ answer) ↔ IsSymbolAt address symbols answer

@@ -1,5 +1,6 @@
 -- Notes: the note that bytes are read as, and the notes of a range (System V gABI, "Note Section").
-use Rattle.std.specs.Prelude.{◌+◌, ◌-◌, ◌==◌, ◌||◌, max, ℕ, zero, suc, nat_le, if◌then◌else◌, List, [], ◌∷◌, length, take, drop, Result, Ok, Err}
+use Rattle.std.specs.Prelude.{◌+◌, ◌-◌, ◌==◌, ◌||◌, max, ℕ, zero, suc, nat_le, if◌then◌else◌, List, [], ◌∷◌, length}
+use Rattle.std.specs.Prelude.{take, drop, Result, Ok, Err}
 use Rattle.std.specs.Int.{next_multiple_of}
 use Rattle.goblin_base.specs.declared.container.Ctx.{Ctx}
 use Rattle.goblin_base.specs.declared.container.Endian.{Endian}
@@ -98,7 +99,8 @@ note_at bytes offset ctx = do
   Ok (note_there (drop offset bytes) places, places.next)
 
 -- a refusal is the last item, and after a note come the items from its end on
-abbrev pub item_and_rest : Result (NoteParts × ℕ) Refusal → (ℕ → List (Result NoteParts Refusal)) → List (Result NoteParts Refusal)
+abbrev pub item_and_rest : Result (NoteParts × ℕ) Refusal
+    → (ℕ → List (Result NoteParts Refusal)) → List (Result NoteParts Refusal)
 item_and_rest (Ok note) rest = Ok note.0 ∷ rest note.1
 item_and_rest (Err refusal) rest = Err refusal ∷ []
 

@@ -1,5 +1,6 @@
 -- Laws of notes and of the notes of a range.
-use Rattle.std.proofs.Common.{◌≡◌, ◌+◌, ◌-◌, ◌<◌, ◌≤◌, ℕ, zero, suc, Bool, true, false, nat_le, List, [], ◌∷◌, length, take, drop, Result, Ok, Err, IfOk, inl, inr, refl, sym, ap, ◌∙◌, arith}
+use Rattle.std.proofs.Common.{◌≡◌, ◌+◌, ◌-◌, ◌<◌, ◌≤◌, ℕ, zero, suc, Bool, true, false, nat_le, List, [], ◌∷◌, length}
+use Rattle.std.proofs.Common.{take, drop, Result, Ok, Err, IfOk, inl, inr, refl, sym, ap, ◌∙◌, arith}
 use Rattle.std.proofs.lemmas.Bool.{cases_lt, le-leb, lt-leb, leb-false}
 use Rattle.std.proofs.lemmas.Bool.Decides.{nat_tests}
 use Rattle.std.proofs.lemmas.List.{length-drop}
@@ -16,16 +17,19 @@ use Rattle.goblin_base.specs.Utf8.{text_or_fault}
 use Rattle.goblin_records.specs.declared.note.Nhdr32.{Nhdr32}
 use Rattle.goblin_records.specs.Nhdr.{nhdr32_of, nhdr32_size}
 use Rattle.goblin.specs.declared.elf.note.NotePlaces.{NotePlaces}
-use Rattle.goblin.specs.Note.{NoteParts, note_align, bytes_at, text_at, places_of, read_places, places_at, note_at, item_and_rest, items_within, note_items}
+use Rattle.goblin.specs.Note.{NoteParts, note_align, bytes_at, text_at, places_of, read_places, places_at, note_at}
+use Rattle.goblin.specs.Note.{item_and_rest, items_within, note_items}
 use Rattle.goblin.specs.Notes.{LieWithin, PlacesLieWithin, NoteByNote, NotesAdvance, FewNotes}
 
 -- a property that holds after each value of the first step holds after both
-if_ok_then : {A B E : Type 0} (first : Result A E) (next : A → Result B E) (P : B → Type 0) → ((x : A) → first ≡ Ok x → IfOk (next x) P) → IfOk (first >>= next) P
+if_ok_then : {A B E : Type 0} (first : Result A E) (next : A → Result B E) (P : B → Type 0)
+    → ((x : A) → first ≡ Ok x → IfOk (next x) P) → IfOk (first >>= next) P
 if_ok_then (Ok x) next P h = h x refl
 if_ok_then (Err e) next P h = tt
 
 -- a property that follows from one that holds
-if_ok_more : {A E : Type 0} (answer : Result A E) (P Q : A → Type 0) → IfOk answer P → ((x : A) → P x → Q x) → IfOk answer Q
+if_ok_more : {A E : Type 0} (answer : Result A E) (P Q : A → Type 0)
+    → IfOk answer P → ((x : A) → P x → Q x) → IfOk answer Q
 if_ok_more (Ok x) P Q h more = more x h
 if_ok_more (Err e) P Q h more = tt
 
@@ -34,32 +38,41 @@ align_range : (alignment align : ℕ) → note_align alignment ≡ Ok align → 
 align_range alignment align is = grind (arith, nat_tests)
 
 -- steps that return a value had a value of the first step
-first_of : {A B E : Type 0} (first : Result A E) (next : A → Result B E) (y : B) → (first >>= next) ≡ Ok y → (x : A) × (first ≡ Ok x)
+first_of : {A B E : Type 0} (first : Result A E) (next : A → Result B E) (y : B)
+    → (first >>= next) ≡ Ok y → (x : A) × (first ≡ Ok x)
 first_of (Ok x) next y is = (x, refl)
 first_of (Err e) next y is = absurd (cc)
 
 -- bytes that were read were there
-had_room : (room : Result (Unit {0}) Misplaced) (part other : List ℕ) → (refuse_as misplaced room >>= λ _. Ok other) ≡ Ok part → room ≡ Ok tt
+had_room : (room : Result (Unit {0}) Misplaced) (part other : List ℕ)
+    → (refuse_as misplaced room >>= λ _. Ok other) ≡ Ok part → room ≡ Ok tt
 had_room (Ok u) part other is = refl
 had_room (Err e) part other is = absurd (cc)
 
 -- bytes that are read are inside the bytes
-bytes_at-fits : (bytes : List ℕ) (place size : ℕ) (part : List ℕ) → bytes_at bytes place size ≡ Ok part → place + size ≤ length bytes
+bytes_at-fits : (bytes : List ℕ) (place size : ℕ) (part : List ℕ)
+    → bytes_at bytes place size ≡ Ok part → place + size ≤ length bytes
 bytes_at-fits bytes place size part is =
-    fits-room_of (length bytes) place size tt (had_room (room_of (length bytes) place size) part (take size (drop place bytes)) is)
+    fits-room_of (length bytes) place size tt
+    (had_room (room_of (length bytes) place size) part (take size (drop place bytes)) is)
 
 -- the least multiple from an offset on is less than the alignment past it
-multiple_range : (place align : ℕ) → 4 ≤ align → (place ≤ next_multiple_of place align) × (next_multiple_of place align < place + align)
+multiple_range : (place align : ℕ)
+    → 4 ≤ align → (place ≤ next_multiple_of place align) × (next_multiple_of place align < place + align)
 multiple_range place align h = (omega arith, omega arith)
 
 -- and so is text that is read
-text_at-fits : (bytes : List ℕ) (place size : ℕ) (text : List ℕ) → text_at bytes place size ≡ Ok text → place + size ≤ length bytes
+text_at-fits : (bytes : List ℕ) (place size : ℕ) (text : List ℕ)
+    → text_at bytes place size ≡ Ok text → place + size ≤ length bytes
 text_at-fits bytes place size text is =
     let part = first_of (bytes_at bytes place size) (λ part. text_or_fault part (length bytes - place)) text is in
     bytes_at-fits bytes place size part.0 part.1
 
 -- places of parts that lie inside the bytes
-places_fit : (available align : ℕ) (header : Nhdr32) → (4 ≤ align) × (align ≤ 8) → (let p = places_of align header in (p.name + p.name_size ≤ available) → (p.desc + p.desc_size ≤ available) → LieWithin available 0 p)
+places_fit : (available align : ℕ) (header : Nhdr32)
+    → (4 ≤ align) × (align ≤ 8)
+    → (let p = places_of align header in
+    (p.name + p.name_size ≤ available) → (p.desc + p.desc_size ≤ available) → LieWithin available 0 p)
 places_fit available align header range name desc =
     let place = next_multiple_of (nhdr32_size + header.n_namesz) align in
     let first = multiple_range (nhdr32_size + header.n_namesz) align range.0 in
@@ -67,7 +80,8 @@ places_fit available align header range name desc =
     record { name = omega (arith, name); desc = omega (arith, desc); least = omega arith; most = omega (arith, desc) }
 
 -- the places that are read lie inside the bytes
-read_places-fits : (alignment : ℕ) (order : Endian) (bytes : List ℕ) → IfOk (read_places alignment order bytes) (LieWithin (length bytes) 0)
+read_places-fits : (alignment : ℕ) (order : Endian) (bytes : List ℕ)
+    → IfOk (read_places alignment order bytes) (LieWithin (length bytes) 0)
 unfolding read_places
 read_places-fits alignment order bytes =
     if_ok_then (note_align alignment) _ _ λ align aligned.
@@ -75,14 +89,16 @@ read_places-fits alignment order bytes =
     let p = places_of align h in
     if_ok_then (text_at bytes p.name p.name_size) _ _ λ name named.
     if_ok_then (bytes_at bytes p.desc p.desc_size) _ _ λ desc described.
-    places_fit (length bytes) align h (align_range alignment align aligned) (text_at-fits bytes p.name p.name_size name named) (bytes_at-fits bytes p.desc p.desc_size desc described)
+    places_fit (length bytes) align h (align_range alignment align aligned)
+    (text_at-fits bytes p.name p.name_size name named) (bytes_at-fits bytes p.desc p.desc_size desc described)
 
 -- a property of each value holds of this one
 pub at_ok : {A E : Type 0} (answer : Result A E) (x : A) (P : A → Type 0) → answer ≡ Ok x → IfOk answer P → P x
 at_ok answer x P is h = rw is at h
 
 -- a property that holds if a test passes holds after the test
-after_test : (test : Bool) (refusal : Refusal) (answer : Result NotePlaces Refusal) (P : NotePlaces → Type 0) → (test ≡ false → IfOk answer P) → IfOk (refuse_if test refusal >>= λ _. answer) P
+after_test : (test : Bool) (refusal : Refusal) (answer : Result NotePlaces Refusal) (P : NotePlaces → Type 0)
+    → (test ≡ false → IfOk answer P) → IfOk (refuse_if test refusal >>= λ _. answer) P
 after_test true refusal answer P h = tt
 after_test false refusal answer P h = h refl
 
@@ -90,11 +106,19 @@ after_test false refusal answer P h = h refl
 pub places_lie_within : PlacesLieWithin
 unfolding places_at
 places_lie_within bytes offset ctx =
-    after_test (nat_le (length bytes) offset) (bad_offset offset) (read_places ctx.0 ctx.1.le (drop offset bytes)) _ λ before.
-    if_ok_more (read_places ctx.0 ctx.1.le (drop offset bytes)) _ _ (read_places-fits ctx.0 ctx.1.le (drop offset bytes)) λ p within.
+    after_test (nat_le (length bytes) offset) (bad_offset offset) (read_places ctx.0 ctx.1.le (drop offset bytes)) _
+    λ before.
+    if_ok_more (read_places ctx.0 ctx.1.le (drop offset bytes)) _ _
+    (read_places-fits ctx.0 ctx.1.le (drop offset bytes))
+    λ p within.
     let there = leb-false (length bytes) offset before in
     let rest = length-drop offset bytes in
-    record { name = omega (arith, within.name); desc = omega (arith, within.desc); least = within.least; most = omega (arith, within.most) }
+    record {
+      name = omega (arith, within.name);
+      desc = omega (arith, within.desc);
+      least = within.least;
+      most = omega (arith, within.most);
+    }
 
 -- the size of a note is at least its header's, and at most 7 more than the bytes'
 pub notes_advance : NotesAdvance
@@ -105,17 +129,22 @@ notes_advance bytes offset ctx =
     (within.least, within.most)
 
 -- nothing is left from the end of a range on
-items_past : (k : ℕ) (bytes : List ℕ) (size offset : ℕ) (ctx : ℕ × Ctx) → size ≤ offset → items_within k bytes size offset ctx ≡ []
+items_past : (k : ℕ) (bytes : List ℕ) (size offset : ℕ) (ctx : ℕ × Ctx)
+    → size ≤ offset → items_within k bytes size offset ctx ≡ []
 items_past zero bytes size offset ctx past = refl
 items_past (suc k) bytes size offset ctx past = rw (le-leb size offset past) refl
 
 -- the items from an offset on are the same if the items after each note are
-same_items : (answer : Result (NoteParts × ℕ) Refusal) (f g : ℕ → List (Result NoteParts Refusal)) → ((note : NoteParts × ℕ) → answer ≡ Ok note → f note.1 ≡ g note.1) → item_and_rest answer f ≡ item_and_rest answer g
+same_items : (answer : Result (NoteParts × ℕ) Refusal) (f g : ℕ → List (Result NoteParts Refusal))
+    → ((note : NoteParts × ℕ) → answer ≡ Ok note → f note.1 ≡ g note.1)
+    → item_and_rest answer f ≡ item_and_rest answer g
 same_items (Ok note) f g h = ap (λ (rest : List (Result NoteParts Refusal)). Ok note.0 ∷ rest) (h note refl)
 same_items (Err e) f g h = refl
 
 -- the number of bytes that may be read makes no difference if it is large enough
-items_enough : (k j : ℕ) (bytes : List ℕ) (size offset : ℕ) (ctx : ℕ × Ctx) → size - offset ≤ k → size - offset ≤ j → items_within k bytes size offset ctx ≡ items_within j bytes size offset ctx
+items_enough : (k j : ℕ) (bytes : List ℕ) (size offset : ℕ) (ctx : ℕ × Ctx)
+    → size - offset ≤ k → size - offset ≤ j
+    → items_within k bytes size offset ctx ≡ items_within j bytes size offset ctx
 items_enough zero j bytes size offset ctx h i = sym (items_past j bytes size offset ctx (omega arith))
 items_enough (suc k) zero bytes size offset ctx h i = items_past (suc k) bytes size offset ctx (omega arith)
 items_enough (suc k) (suc j) bytes size offset ctx h i =
@@ -136,20 +165,25 @@ note_by_note bytes size offset ctx =
           items_enough (size - offset) (suc (size - offset)) bytes size offset ctx (omega arith) (omega arith)
           ∙ rw (lt-leb size offset before) (same_items (note_at bytes offset ctx) _ _ λ note is.
           let moved = at_ok (note_at bytes offset ctx) note _ is (notes_advance bytes offset ctx) in
-          items_enough (size - offset) (size - (offset + note.1)) bytes size (offset + note.1) ctx (omega arith) (omega arith))
+          items_enough (size - offset) (size - (offset + note.1)) bytes size (offset + note.1) ctx (omega arith)
+          (omega arith))
     ]
 
 -- an item and the items after it are few, if those after each note are
-few_items : (answer : Result (NoteParts × ℕ) Refusal) (rest : ℕ → List (Result NoteParts Refusal)) (most : ℕ) → 0 < most → ((note : NoteParts × ℕ) → answer ≡ Ok note → length (rest note.1) < most) → length (item_and_rest answer rest) ≤ most
+few_items : (answer : Result (NoteParts × ℕ) Refusal) (rest : ℕ → List (Result NoteParts Refusal)) (most : ℕ)
+    → 0 < most → ((note : NoteParts × ℕ) → answer ≡ Ok note → length (rest note.1) < most)
+    → length (item_and_rest answer rest) ≤ most
 few_items (Ok note) rest most some h = let fewer = h note refl in omega arith
 few_items (Err e) rest most some h = omega arith
 
-few_within : (k : ℕ) (bytes : List ℕ) (size offset : ℕ) (ctx : ℕ × Ctx) → length (items_within k bytes size offset ctx) ≤ div_ceil (size - offset) nhdr32_size
+few_within : (k : ℕ) (bytes : List ℕ) (size offset : ℕ) (ctx : ℕ × Ctx)
+    → length (items_within k bytes size offset ctx) ≤ div_ceil (size - offset) nhdr32_size
 few_within zero bytes size offset ctx = omega arith
 few_within (suc k) bytes size offset ctx =
     elim (cases_lt offset size) [
       | inr past ↦ rw (items_past (suc k) bytes size offset ctx past) (omega arith)
-      | inl before ↦ rw (lt-leb size offset before) (few_items (note_at bytes offset ctx) _ (div_ceil (size - offset) nhdr32_size) (omega arith) λ note is.
+      | inl before ↦ rw (lt-leb size offset before)
+          (few_items (note_at bytes offset ctx) _ (div_ceil (size - offset) nhdr32_size) (omega arith) λ note is.
           let moved = at_ok (note_at bytes offset ctx) note _ is (notes_advance bytes offset ctx) in
           let few = few_within k bytes size (offset + note.1) ctx in
           omega arith)

@@ -1,5 +1,6 @@
 -- The notes that iterators yield.
-use Rattle.std.specs.Prelude.{◌≡◌, ◌+◌, ◌-◌, ◌≤◌, ℕ, nat_le, nat_lt, sum_by, if◌then◌else◌, List, [], ◌∷◌, ◌++◌, length, take, drop, flat_map, Option, Result, Ok, Err, IfOk}
+use Rattle.std.specs.Prelude.{◌≡◌, ◌+◌, ◌-◌, ◌≤◌, ℕ, nat_le, nat_lt, sum_by, if◌then◌else◌, List, [], ◌∷◌, ◌++◌, length}
+use Rattle.std.specs.Prelude.{take, drop, flat_map, Option, Result, Ok, Err, IfOk}
 use Rattle.std.specs.Iterator.{YieldsFirstBy}
 use Rattle.std.specs.Int.{div_ceil}
 use Rattle.std.specs.List.{position_or_len}
@@ -67,7 +68,8 @@ abbrev pub TakesNoteOfRanges : NoteIterator → Option (Result Note Error) → N
 TakesNoteOfRanges it item after =
     YieldsFirstBy item_of all_items_left it item after
     × (after.index ≡ index_of_next it)
-    × (after.iters.items ≡ take (index_of_next it) it.iters.items ++ after_next_of_first (drop (index_of_next it) it.iters.items))
+    × (after.iters.items
+    ≡ take (index_of_next it) it.iters.items ++ after_next_of_first (drop (index_of_next it) it.iters.items))
 
 -- the items of a range: none from its end on; else the note at its offset and the items from the note's end on, or the
 -- refusal alone

@@ -1,5 +1,6 @@
 -- Relocation sections: which are accepted, and which relocations they hold (System V gABI, "Relocation").
-use Rattle.std.specs.Prelude.{◌≡◌, ◌*◌, ◌/◌, ◌==◌, ◌&&◌, if◌then◌else◌, ℕ, Bool, List, [], length, take, drop, slice_index, flat_map, Result, Ok}
+use Rattle.std.specs.Prelude.{◌≡◌, ◌*◌, ◌/◌, ◌==◌, ◌&&◌, if◌then◌else◌, ℕ, Bool, List, [], length, take, drop}
+use Rattle.std.specs.Prelude.{slice_index, flat_map, Result, Ok}
 use Rattle.goblin_base.specs.declared.container.Ctx.{Ctx}
 use Rattle.goblin_base.specs.declared.error.Error.{Error}
 use Rattle.goblin_base.specs.Number.{IsBytes}
@@ -18,7 +19,8 @@ relocs_of bytes offset filesz is_rela ctx is_mips64el =
     let size = reloc_size is_rela ctx.container in
     let read = reloc_in (record { is_rela = is_rela; ctx = ctx; is_mips64el = is_mips64el }) in
     if filesz == 0 then Ok []
-    else unless_fault (room_of (length bytes) offset filesz) (records size read (filesz / size) (take filesz (drop offset bytes)))
+    else unless_fault (room_of (length bytes) offset filesz)
+    (records size read (filesz / size) (take filesz (drop offset bytes)))
 
 -- whether files of this machine, class and byte order are little-endian MIPS64: the machine is 8, the class byte 2 and
 -- the data byte 1
@@ -27,7 +29,8 @@ is_mips64el_in machine ctx = (machine == 8) && (class_byte ctx.container == 2) &
 
 -- whether a header is of a little-endian MIPS64 file
 abbrev pub is_of_mips64el : Header → Bool
-is_of_mips64el header = (header.e_machine == 8) && (slice_index header.e_ident 4 == 2) && (slice_index header.e_ident 5 == 1)
+is_of_mips64el header =
+    (header.e_machine == 8) && (slice_index header.e_ident 4 == 2) && (slice_index header.e_ident 5 == 1)
 
 -- two files of the same length that agree on the bytes of a section have the same relocations there, or the same
 -- refusal

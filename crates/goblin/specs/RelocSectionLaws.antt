@@ -1,5 +1,6 @@
 -- Laws of relocation sections: they depend only on their own bytes, and are written as those bytes.
-use Rattle.std.proofs.Common.{◌≡◌, ◌≤◌, ◌+◌, ◌-◌, ◌*◌, ◌/◌, ◌==◌, ℕ, zero, suc, List, [], false, length, take, drop, Ok, inl, inr, refl, sym, ap, ◌∙◌, arith}
+use Rattle.std.proofs.Common.{◌≡◌, ◌≤◌, ◌+◌, ◌-◌, ◌*◌, ◌/◌, ◌==◌, ℕ, zero, suc, List, [], false, length, take, drop, Ok}
+use Rattle.std.proofs.Common.{inl, inr, refl, sym, ap, ◌∙◌, arith}
 use Rattle.std.specs.List.{flat_map}
 use Rattle.std.proofs.Math.Nat.{div-mul-le_self}
 use Rattle.std.proofs.Math.Seq.{take-add}
@@ -40,34 +41,42 @@ flat_map-records {size = size} {read = read} {image = image} laws (suc n) bytes 
     let long : n * size ≤ length (drop size bytes) = omega (arith, length-drop size bytes) in
     let some : size ≤ length bytes = omega arith in
     let front : read (take size bytes) ≡ read bytes =
-    sym (laws.reads_front (take size bytes) (drop size bytes) (omega (arith, length-take-le size bytes some))) ∙ ap read (take-append-drop size bytes) in
+    sym (laws.reads_front (take size bytes) (drop size bytes) (omega (arith, length-take-le size bytes some)))
+    ∙ ap read (take-append-drop size bytes) in
     let first : image (read (take size bytes)) ≡ take size bytes = ap image front ∙ laws.writes_back bytes are some in
     let rest = flat_map-records laws n (drop size bytes) (IsBytes-drop size bytes are) long in
-    rw (first_record size read (suc n) bytes (omega arith), less, whole) (rw (first, rest) (sym (take-add size (n * size) bytes)))
+    rw (first_record size read (suc n) bytes (omega arith), less, whole)
+    (rw (first, rest) (sym (take-add size (n * size) bytes)))
 
 -- the same of a section that is not empty
 some_written :
     (bytes : List ℕ) (offset filesz : ℕ) (c : RelocCtx) (relocs : List Reloc) → IsBytes bytes
     → let size = reloc_size c.is_rela c.ctx.container in
-    unless_fault (room_of (length bytes) offset filesz) (records size (reloc_in c) (filesz / size) (take filesz (drop offset bytes))) ≡ Ok relocs
+    unless_fault (room_of (length bytes) offset filesz)
+    (records size (reloc_in c) (filesz / size) (take filesz (drop offset bytes)))
+    ≡ Ok relocs
     → flat_map (reloc_image_in c) relocs ≡ take (filesz / size * size) (drop offset bytes)
 some_written bytes offset filesz c relocs are is =
     let size = reloc_size c.is_rela c.ctx.container in
     let n = filesz / size in
     let part = take filesz (drop offset bytes) in
-    let found = unless_fault-is (room_of (length bytes) offset filesz) relocs (records size (reloc_in c) n part) (sym is) in
+    let found = unless_fault-is (room_of (length bytes) offset filesz) relocs (records size (reloc_in c) n part)
+    (sym is) in
     let fits = fits-room_of (length bytes) offset filesz tt found.0 in
     let whole = div-mul-le_self filesz size in
-    let same = records-agree size (reloc_in c) n part (drop offset bytes) (take-take (n * size) filesz (drop offset bytes) whole) in
+    let same = records-agree size (reloc_in c) n part (drop offset bytes)
+    (take-take (n * size) filesz (drop offset bytes) whole) in
     let long : n * size ≤ length (drop offset bytes) = omega (arith, length-drop offset bytes) in
-    ap (flat_map (reloc_image_in c)) (found.1 ∙ same) ∙ flat_map-records (reloc_laws_in c) n (drop offset bytes) (IsBytes-drop offset bytes are) long
+    ap (flat_map (reloc_image_in c)) (found.1 ∙ same)
+    ∙ flat_map-records (reloc_laws_in c) n (drop offset bytes) (IsBytes-drop offset bytes are) long
 
 pub writes_its_bytes : WritesItsBytes
 writes_its_bytes bytes offset filesz is_rela ctx is_mips64el relocs are is =
     let c : RelocCtx = record { is_rela = is_rela; ctx = ctx; is_mips64el = is_mips64el } in
     let size = reloc_size is_rela ctx.container in
     elim (cases_lt 0 filesz) [
-      | inl p ↦ let some : (filesz == 0) ≡ false = grind (arith, nat_tests) in some_written bytes offset filesz c relocs are (rw some at is)
+      | inl p ↦ let some : (filesz == 0) ≡ false = grind (arith, nat_tests) in
+          some_written bytes offset filesz c relocs are (rw some at is)
       | inr p ↦
           let none : filesz ≡ 0 = omega arith in
           let empty : relocs ≡ [] = let at_none = rw none at is in cc in

@@ -1,5 +1,6 @@
 -- Symbol tables: which are accepted, and which symbols they hold (System V gABI, "Symbol Table").
-use Rattle.std.specs.Prelude.{◌≡◌, ◌*◌, ◌-◌, ◌/◌, ◌^◌, min, ℕ, List, [], length, drop, take, nat_le, nat_lt, if◌then◌else◌, Result, Ok, Err}
+use Rattle.std.specs.Prelude.{◌≡◌, ◌*◌, ◌-◌, ◌/◌, ◌^◌, min, ℕ, List, [], length, drop, take, nat_le, nat_lt}
+use Rattle.std.specs.Prelude.{if◌then◌else◌, Result, Ok, Err}
 use Rattle.goblin_base.specs.declared.container.Ctx.{Ctx}
 use Rattle.goblin_base.specs.declared.error.Error.{Error}
 use Rattle.goblin_base.specs.declared.error.Error.TheVariants.{Malformed}

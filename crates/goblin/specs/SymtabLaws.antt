@@ -1,5 +1,6 @@
 -- Laws of symbol tables.
-use Rattle.std.proofs.Common.{◌≡◌, ◌<◌, ◌≤◌, ◌*◌, ◌-◌, ◌/◌, ◌^◌, min, ℕ, Bool, true, false, nat_le, nat_lt, if◌then◌else◌, List, length, take, drop, Result, Ok, Err, refl, ap, arith}
+use Rattle.std.proofs.Common.{◌≡◌, ◌<◌, ◌≤◌, ◌*◌, ◌-◌, ◌/◌, ◌^◌, min, ℕ, Bool, true, false, nat_le, nat_lt}
+use Rattle.std.proofs.Common.{if◌then◌else◌, List, length, take, drop, Result, Ok, Err, refl, ap, arith}
 use Rattle.std.proofs.Math.Nat.{le-div_iff_mul-le, min-eq_left}
 use Rattle.std.proofs.lemmas.Bool.Decides.{nat_tests}
 use Rattle.goblin_base.specs.declared.container.Ctx.{Ctx}
@@ -23,15 +24,20 @@ pub permissive_keeps_strict : PermissiveKeepsStrict
 permissive_keeps_strict bytes offset count ctx table is = grind (arith, nat_tests, min_fits, positive ctx)
 
 -- results after a test are the same, if they are when the test passes
-after_test : (test : Bool) (e : Error) (a b : Result Symbols Error) → (test ≡ false → a ≡ b) → (if test then Err e else a) ≡ (if test then Err e else b)
+after_test : (test : Bool) (e : Error) (a b : Result Symbols Error)
+    → (test ≡ false → a ≡ b) → (if test then Err e else a) ≡ (if test then Err e else b)
 after_test true e a b h = refl
 after_test false e a b h = h refl
 
 -- symbols from an offset on depend only on their range
-symbols-agree : (bytes others : List ℕ) (offset count : ℕ) (ctx : Ctx) → take (count * sym_size ctx.container) (drop offset bytes) ≡ take (count * sym_size ctx.container) (drop offset others) → symbols_at bytes offset count ctx ≡ symbols_at others offset count ctx
+symbols-agree : (bytes others : List ℕ) (offset count : ℕ) (ctx : Ctx)
+    → take (count * sym_size ctx.container) (drop offset bytes)
+    ≡ take (count * sym_size ctx.container) (drop offset others)
+    → symbols_at bytes offset count ctx ≡ symbols_at others offset count ctx
 symbols-agree bytes others offset count ctx same =
     ap (λ all. let table : Symbols = record { symbols = all; offset = offset; ctx = ctx } in table)
-    (records-agree (sym_size ctx.container) (sym_of ctx.container ctx.le) count (drop offset bytes) (drop offset others) same)
+    (records-agree (sym_size ctx.container) (sym_of ctx.container ctx.le) count (drop offset bytes)
+    (drop offset others) same)
 
 pub depends_on_its_range : DependsOnItsRange
 depends_on_its_range Strict bytes others offset count ctx long same =

@@ -9,11 +9,14 @@ pub returns-then-offset-bytes-clause-places : goal.returns-then-offset-bytes-cla
 returns-then-offset-bytes-clause-places c = places_at-past c.args.bytes.now c.args.offset c.args.ctx (omega arith)
 
 pub returns-clause-places : goal.returns-clause-places
-returns-clause-places c = rw (places_at-before c.args.bytes.now c.args.offset c.args.ctx (omega arith)) c.with_places.ensures.places
+returns-clause-places c =
+    rw (places_at-before c.args.bytes.now c.args.offset c.args.ctx (omega arith)) c.with_places.ensures.places
 
 pub returns-clause-note : goal.returns-clause-note
 returns-clause-note c =
-    note_at-read c.with_places.result c.args.bytes.now c.args.offset c.args.ctx (record { places = returns-clause-places c; there = c.with_places.ensures.there })
+    note_at-read c.with_places.result c.args.bytes.now c.args.offset c.args.ctx
+    (record { places = returns-clause-places c; there = c.with_places.ensures.there })
 
 pub returns-clause-within : goal.returns-clause-within
-returns-clause-within c = read-within c.with_places.result c.args.bytes.now c.args.offset c.args.ctx (returns-clause-places c)
+returns-clause-within c =
+    read-within c.with_places.result c.args.bytes.now c.args.offset c.args.ctx (returns-clause-places c)

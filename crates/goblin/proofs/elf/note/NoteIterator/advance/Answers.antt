@@ -18,7 +18,8 @@ pub loop-self-preserved : goal.loop-self-preserved
 loop-self-preserved c =
     let it = c.loop-self.self in
     let range = c.index_mut-range.result.now in
-    let on = passed it.iters.items it.index range (omega arith) c.index_mut-range.ensures.value c.in_default.ensures.steps.0 in
+    let on = passed it.iters.items it.index range
+    (omega arith) c.index_mut-range.ensures.value c.in_default.ensures.steps.0 in
     let were = c.loop-self.invariant in
     record {
       ranges = rw (c.in_default.ensures.moves, on.0) were.ranges;

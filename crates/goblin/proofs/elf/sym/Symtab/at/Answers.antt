@@ -6,12 +6,16 @@ use Rattle.goblin.proofs.elf.sym.Symtab.at.Goals.{in-Some, in_default}
 
 pub returns : goal.returns
 returns c =
-    c.index_of.ensures ∙ found_all c.args.address c.args.self.now.symbols c.loop-i.i c.loop-i.found (omega arith) c.loop-i.invariant
+    c.index_of.ensures
+    ∙ found_all c.args.address c.args.self.now.symbols c.loop-i.i c.loop-i.found (omega arith) c.loop-i.invariant
 
 pub loop-i-preserved : goal.loop-i-preserved
 loop-i-preserved c =
     elim c.match-get.branch [
       | in-Some w ↦
-          one_more c.args.address c.loop-i.i c.args.self.now.symbols w.in-Some.symbol (sym w.in-Some.ensures) c.loop-i.found c.match-get.found (w.found-is ∙ w.nearer-found.ensures) c.loop-i.invariant
-      | in_default w ↦ absurd (some-within c.args.self.now.symbols c.loop-i.i (omega arith) (sym w.in_default.is ∙ c.get.ensures))
+          one_more c.args.address c.loop-i.i c.args.self.now.symbols w.in-Some.symbol
+          (sym w.in-Some.ensures) c.loop-i.found c.match-get.found
+          (w.found-is ∙ w.nearer-found.ensures) c.loop-i.invariant
+      | in_default w ↦ absurd
+          (some-within c.args.self.now.symbols c.loop-i.i (omega arith) (sym w.in_default.is ∙ c.get.ensures))
     ]
