@@ -32,13 +32,17 @@ pub note_lines_ok : (lines : List ℕ) (note : NoteParts) (items : List (Result 
 note_lines_ok lines note items = more lines (note_line note) (note_lines items)
 
 -- a section among others
-pub section_ok : (list : SectionHeader → Result (List ℕ) Refusal) (lines mine : List ℕ) (s : SectionHeader) (sections : List SectionHeader)
-    → list s ≡ Ok mine → after lines (sections_listed list (s ∷ sections)) ≡ after (lines ++ mine) (sections_listed list sections)
+pub section_ok : (list : SectionHeader → Result (List ℕ) Refusal) (lines mine : List ℕ) (s : SectionHeader)
+    (sections : List SectionHeader)
+    → list s ≡ Ok mine
+    → after lines (sections_listed list (s ∷ sections)) ≡ after (lines ++ mine) (sections_listed list sections)
 section_ok list lines mine s sections given = rw given (more lines mine (sections_listed list sections))
 
 -- a section's lines after those so far
-pub section_added : (list : SectionHeader → Result (List ℕ) Refusal) (old mid new : List ℕ) (all : Result (List ℕ) Refusal)
-    (result : Result (Unit {0}) Error) (s : SectionHeader) (left sections : List SectionHeader) → Adds mid new result (list s)
+pub section_added : (list : SectionHeader → Result (List ℕ) Refusal) (old mid new : List ℕ)
+    (all : Result (List ℕ) Refusal)
+    (result : Result (Unit {0}) Error) (s : SectionHeader) (left sections : List SectionHeader)
+    → Adds mid new result (list s)
     → result ≡ Ok tt → left ≡ s ∷ sections
     → ((lines : List ℕ) × (mid ≡ old ++ lines) × (all ≡ after lines (sections_listed list left)))
     → (lines : List ℕ) × (new ≡ old ++ lines) × (all ≡ after lines (sections_listed list sections))

@@ -20,7 +20,8 @@ same_table (Ok entries) bytes names is = search (rules, is)
 same_table (Err e) bytes names is = search (rules, is)
 
 -- the lines, one after another
-pub listed : (old counted named new : List ℕ) (symbols : Result Symbols Error) (table : Symbols) (names held : StringTable)
+pub listed : (old counted named new : List ℕ) (symbols : Result Symbols Error) (table : Symbols)
+    (names held : StringTable)
     (functions : List Sym) → symbols ≡ Ok table → names ≡ held → counted ≡ old ++ functions_line table.symbols
     → ((line : List ℕ) × IsNamesText names.bytes line × (named ≡ counted ++ line))
     → IsPermutation (filter is_function table.symbols) functions → LargestFirst functions
@@ -31,6 +32,8 @@ listed old counted named new symbols table names held functions read same one (l
     let rest = function_lines names 0 functions in (
       head ++ (line ++ rest),
       rw read (line, functions, right, moved, order, refl),
-      three ∙ ap (λ t. named ++ function_lines t 0 functions) (sym same) ∙ ap (λ t. t ++ rest) (two ∙ ap (λ t. t ++ line) one)
+      three
+          ∙ ap (λ t. named ++ function_lines t 0 functions) (sym same)
+          ∙ ap (λ t. t ++ rest) (two ∙ ap (λ t. t ++ line) one)
           ∙ append_assoc (old ++ head) line rest ∙ append_assoc old head (line ++ rest),
     )

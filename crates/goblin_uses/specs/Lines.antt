@@ -1,5 +1,7 @@
 -- The lines that the example adds to a text, and the results of the calls that add them.
-use Rattle.std.specs.Prelude.{◌≡◌, ◌≢◌, ◌≤◌, ℕ, ◌+◌, ◌++◌, ◌==◌, not, Bool, if◌then◌else◌, IsPermutation, filter, List, Option, None, Some, [], ◌∷◌, length, codes, count_by, decimal, pos, slice_get, unwrap_or, Result, Ok, Err}
+use Rattle.std.specs.Prelude.{◌≡◌, ◌≢◌, ◌≤◌, ℕ, ◌+◌, ◌++◌, ◌==◌, not, Bool, if◌then◌else◌, IsPermutation, filter, List}
+use Rattle.std.specs.Prelude.{Option, None, Some, [], ◌∷◌, length, codes, count_by, decimal, pos, slice_get, unwrap_or}
+use Rattle.std.specs.Prelude.{Result, Ok, Err}
 use Rattle.std.specs.Fmt.{signed_decimal}
 use Rattle.goblin.specs.declared.container.Ctx.{Ctx}
 use Rattle.goblin.specs.declared.elf.header.Header.{Header}
@@ -18,7 +20,8 @@ use Rattle.goblin.specs.Strtab.{StringTable, look_up, table_of, walked}
 use Rattle.goblin.specs.Texts.{◌&◌, hexadecimal}
 use Rattle.goblin_base.specs.Entries.{places_of}
 use Rattle.goblin_base.specs.Search.{digits}
-use Rattle.goblin_uses.specs.Listed.{LargestFirst, bytes_of, is_function, last_zero, longest_step, notes_of, relocations_of, symbols_of}
+use Rattle.goblin_uses.specs.Listed.{LargestFirst, bytes_of, is_function, last_zero, longest_step, notes_of}
+use Rattle.goblin_uses.specs.Listed.{relocations_of, symbols_of}
 
 -- the end of a line
 abbrev pub newline : List ℕ
@@ -90,7 +93,8 @@ relocations_listed bytes s h ctx = do
 -- the line of a note: its name, the name of its type, and the size of its descriptor
 abbrev pub note_line : NoteParts → List ℕ
 note_line note =
-    note.name & codes " " & note_type_name note.name note.n_type & codes ": " & decimal (length note.desc) & codes " bytes"
+    note.name & codes " " & note_type_name note.name note.n_type & codes ": " & decimal
+    (length note.desc) & codes " bytes"
     & newline
 
 -- the lines of notes, or the first refusal among them
@@ -129,7 +133,8 @@ function_lines names number (s ∷ functions) = function_line names number s & f
 -- the line with the number of functions and of symbols
 abbrev pub functions_line : List Sym → List ℕ
 functions_line symbols =
-    decimal (count_by is_function symbols) & codes " functions of " & decimal (length symbols) & codes " symbols" & newline
+    decimal (count_by is_function symbols) & codes " functions of " & decimal
+    (length symbols) & codes " symbols" & newline
 
 -- the end of the last name: the size of the bytes up to the last zero byte
 abbrev pub closed_text : Option ℕ → List ℕ
@@ -159,7 +164,8 @@ IsFunctionsText symbols names text =
     × (text ≡ functions_line symbols & line & function_lines names 0 functions)
 
 -- the text that was added is such a text; an error is the expected refusal or out of memory
-abbrev pub AddsSuch : {X : Type 0} → List ℕ → List ℕ → Result (Unit {0}) Error → (List ℕ → Type 0) → Result X Refusal → Type 0
+abbrev pub AddsSuch : {X : Type 0}
+    → List ℕ → List ℕ → Result (Unit {0}) Error → (List ℕ → Type 0) → Result X Refusal → Type 0
 AddsSuch old new (Ok done) Such right = (lines : List ℕ) × Such lines × (new ≡ old ++ lines)
 AddsSuch old new (Err e) Such right = refusal_of e ≢ out_of_memory → right ≡ Err (refusal_of e)
 

@@ -1,5 +1,6 @@
 -- What the example reads of a file's sections.
-use Rattle.std.specs.Prelude.{ℕ, zero, suc, ◌+◌, ◌-◌, max, slice_index, ◌==◌, ◌||◌, ◌%◌, Bool, true, nat_lt, if◌then◌else◌, List, [], ◌∷◌, length, take, drop, Option, Some, None, Result}
+use Rattle.std.specs.Prelude.{ℕ, zero, suc, ◌+◌, ◌-◌, max, slice_index, ◌==◌, ◌||◌, ◌%◌, Bool, true, nat_lt}
+use Rattle.std.specs.Prelude.{if◌then◌else◌, List, [], ◌∷◌, length, take, drop, Option, Some, None, Result}
 use Rattle.std.specs.List.Sorted.{IsSortedByKey}
 use Rattle.std.specs.Ordering.{nat_cmp}
 use Rattle.goblin.specs.declared.container.Ctx.{Ctx}

@@ -15,6 +15,8 @@ loop-section-preserved c =
     let items = c.deref-section-items.result.now in
     let list = section_listed c.args.bytes.now items c.new-ctx.result in
     let index = c.loop-section.section-index in
-    section_added list (string_bytes c.args.text.now) (string_bytes c.loop-section.text) (string_bytes c.push_section.new.text) (sections_listed list items)
-    c.push_section.result (slice_index_or items index past) (drop index items) (drop (index + 1) items) (search rules) (search rules)
+    section_added list (string_bytes c.args.text.now) (string_bytes c.loop-section.text)
+    (string_bytes c.push_section.new.text) (sections_listed list items)
+    c.push_section.result (slice_index_or items index past) (drop index items) (drop (index + 1) items) (search rules)
+    (search rules)
     (drop_more items index past (search rules)) c.loop-section.invariant
