@@ -1,7 +1,7 @@
 //! Program headers, which describe how a file is loaded: System V gABI, "Program Header".
 ghost use Rattle.std.specs.Int.{IsBitSet};
 ghost use Rattle.std.specs.Int.Bits.{bit_or};
-ghost use Rattle.std.specs.Prelude.{◌≡◌, ◌≤◌, ◌↔◌, IsTrue, IfErr, IsOk, length, replicate};
+ghost use Rattle.std.specs.Prelude.{◌≡◌, ◌≤◌, ◌↔◌, IsTrue, IfErr, IsOk, length, replicate, [], ◌∷◌};
 ghost use Rattle.goblin_base.specs.Fields.{values_of};
 ghost use Rattle.goblin_base.specs.Layout.{IsOneImage, IsSameInEachClass};
 ghost use Rattle.goblin_base.specs.LayoutLaws.{obeys};
@@ -10,6 +10,7 @@ ghost use Rattle.goblin_base.specs.Refusal.{Answers, Gives, Refuses};
 ghost use Rattle.goblin_base.specs.Steps.{with_size};
 ghost use Rattle.goblin_base.specs.declared.container.Container.{Container};
 ghost use Rattle.goblin_base.specs.declared.container.Endian.{Endian};
+ghost use Rattle.goblin_headers.specs.Constants.{segment_flag_numbers, segment_type_numbers};
 ghost use Rattle.goblin_headers.specs.ProgramHeader.{as64, program_header_size, program_header_of, program_header_image, program_header_low, ProgramHeaderFits};
 ghost use Rattle.goblin_headers.specs.ProgramHeader64.{program_header64_fields};
 ghost use Rattle.goblin_headers.specs.ProgramHeaders.{new_program_header, program_headers_from, program_headers_tested};
@@ -265,7 +266,13 @@ pub use crate::constants_program_header::{
 // Segment permissions.
 pub use crate::constants_program_header::{PF_MASKOS, PF_MASKPROC, PF_R, PF_W, PF_X};
 
-// The number of each constant.
-mod constants_law;
-
-pub use constants_law::constants;
+/// Laws: the numbers of the constants that this module re-exports, under the names that they have
+/// here. A call does nothing.
+pub fn constants()
+    ensures types { PT_NULL ∷ PT_LOAD ∷ PT_DYNAMIC ∷ PT_INTERP ∷ PT_NOTE ∷ PT_SHLIB ∷ PT_PHDR
+        ∷ PT_TLS ∷ PT_NUM ∷ PT_LOOS ∷ PT_HIOS ∷ PT_LOPROC ∷ PT_HIPROC ∷ PT_GNU_EH_FRAME
+        ∷ PT_GNU_STACK ∷ PT_GNU_RELRO ∷ PT_GNU_PROPERTY ∷ PT_LOSUNW ∷ PT_SUNWBSS ∷ PT_SUNWSTACK
+        ∷ PT_HISUNW ∷ PT_ARM_EXIDX ∷ []
+        ≡ segment_type_numbers }
+    ensures flags { PF_X ∷ PF_W ∷ PF_R ∷ PF_MASKOS ∷ PF_MASKPROC ∷ [] ≡ segment_flag_numbers }
+{}

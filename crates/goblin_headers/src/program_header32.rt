@@ -1,5 +1,5 @@
 //! Program headers of the 32-bit class: System V gABI, "Program Header" (`Elf32_Phdr`).
-ghost use Rattle.std.specs.Prelude.{◌≡◌, ◌≤◌, ◌*◌, length, IfErr, IfOk, IsOk, alloc_error, replicate};
+ghost use Rattle.std.specs.Prelude.{◌≡◌, ◌≤◌, ◌*◌, length, IfErr, IfOk, IsOk, alloc_error, replicate, [], ◌∷◌};
 ghost use Rattle.goblin_base.specs.Eager.{records_in, room_of_each};
 ghost use Rattle.goblin_base.specs.Fields.{values_of};
 ghost use Rattle.goblin_base.specs.Layout.{IsOneImage};
@@ -9,6 +9,7 @@ ghost use Rattle.goblin_base.specs.Refusal.{Gives};
 ghost use Rattle.goblin_base.specs.Steps.{with_size};
 ghost use Rattle.goblin_base.specs.Table.{records};
 ghost use Rattle.goblin_base.specs.declared.container.Endian.{Endian};
+ghost use Rattle.goblin_headers.specs.Constants.{segment_flag_numbers, segment_type_numbers};
 ghost use Rattle.goblin_headers.specs.ProgramHeader32.{program_header32_fields, program_header32_of, program_header32_image, program_header32_size, program_header32_low};
 
 use crate::program_header::ProgramHeader as ElfProgramHeader;
@@ -227,7 +228,14 @@ pub use crate::constants_program_header::{
 // Segment permissions.
 pub use crate::constants_program_header::{PF_MASKOS, PF_MASKPROC, PF_R, PF_W, PF_X};
 
-// The number of each constant.
-mod constants_law;
-
-pub use constants_law::constants;
+/// Laws: the numbers of this module's own constants and of those that it re-exports, under the
+/// names that they have here. A call does nothing.
+pub fn constants()
+    ensures size { SIZEOF_PHDR ≡ program_header32_size }
+    ensures types { PT_NULL ∷ PT_LOAD ∷ PT_DYNAMIC ∷ PT_INTERP ∷ PT_NOTE ∷ PT_SHLIB ∷ PT_PHDR
+        ∷ PT_TLS ∷ PT_NUM ∷ PT_LOOS ∷ PT_HIOS ∷ PT_LOPROC ∷ PT_HIPROC ∷ PT_GNU_EH_FRAME
+        ∷ PT_GNU_STACK ∷ PT_GNU_RELRO ∷ PT_GNU_PROPERTY ∷ PT_LOSUNW ∷ PT_SUNWBSS ∷ PT_SUNWSTACK
+        ∷ PT_HISUNW ∷ PT_ARM_EXIDX ∷ []
+        ≡ segment_type_numbers }
+    ensures flags { PF_X ∷ PF_W ∷ PF_R ∷ PF_MASKOS ∷ PF_MASKPROC ∷ [] ≡ segment_flag_numbers }
+{}

@@ -1,5 +1,5 @@
 //! Section headers of the 64-bit class: System V gABI, "Section Header" (`Elf64_Shdr`).
-ghost use Rattle.std.specs.Prelude.{◌≡◌, ◌≤◌, ◌*◌, ◌++◌, length, drop, map, IfErr, IfOk, IsOk, alloc_error, replicate};
+ghost use Rattle.std.specs.Prelude.{◌≡◌, ◌≤◌, ◌*◌, ◌++◌, length, drop, map, IfErr, IfOk, IsOk, alloc_error, replicate, [], ◌∷◌};
 ghost use Rattle.goblin_base.specs.Fields.{values_of};
 ghost use Rattle.goblin_base.specs.Layout.{IsOneImage};
 ghost use Rattle.goblin_base.specs.LayoutLaws.{obeys};
@@ -7,6 +7,7 @@ ghost use Rattle.goblin_base.specs.Record.{read_within, Writes};
 ghost use Rattle.goblin_base.specs.Steps.{with_size};
 ghost use Rattle.goblin_base.specs.Table.{records};
 ghost use Rattle.goblin_base.specs.declared.container.Endian.{Endian};
+ghost use Rattle.goblin_headers.specs.Constants.{section_flag_numbers, section_index_numbers, section_type_numbers};
 ghost use Rattle.goblin_headers.specs.SectionHeader64.{section_header64_fields, section_header64_of, section_header64_image, section_header64_size, section_header64_low};
 ghost use Rattle.goblin_headers.specs.SectionNames.{section_flag_names};
 
@@ -235,7 +236,25 @@ pub use crate::constants_section_header::{
     SHF_OS_NONCONFORMING, SHF_STRINGS, SHF_TLS, SHF_WRITE, shf_to_str,
 };
 
-// The number of each constant.
-mod constants_law;
-
-pub use constants_law::constants;
+/// Laws: the numbers of this module's own constants and of those that it re-exports, under the
+/// names that they have here. A call does nothing.
+pub fn constants()
+    ensures size { SIZEOF_SHDR ≡ section_header64_size }
+    ensures indices { SHN_UNDEF ∷ SHN_LORESERVE ∷ SHN_LOPROC ∷ SHN_BEFORE ∷ SHN_AFTER ∷ SHN_HIPROC
+        ∷ SHN_LOOS ∷ SHN_HIOS ∷ SHN_ABS ∷ SHN_COMMON ∷ SHN_XINDEX ∷ SHN_HIRESERVE ∷ []
+        ≡ section_index_numbers }
+    ensures types { SHT_NULL ∷ SHT_PROGBITS ∷ SHT_SYMTAB ∷ SHT_STRTAB ∷ SHT_RELA ∷ SHT_HASH
+        ∷ SHT_DYNAMIC ∷ SHT_NOTE ∷ SHT_NOBITS ∷ SHT_REL ∷ SHT_SHLIB ∷ SHT_DYNSYM ∷ SHT_INIT_ARRAY
+        ∷ SHT_FINI_ARRAY ∷ SHT_PREINIT_ARRAY ∷ SHT_GROUP ∷ SHT_SYMTAB_SHNDX ∷ SHT_NUM ∷ SHT_LOOS
+        ∷ SHT_HIOS ∷ SHT_LOPROC ∷ SHT_HIPROC ∷ SHT_LOUSER ∷ SHT_HIUSER ∷ SHT_GNU_ATTRIBUTES
+        ∷ SHT_GNU_HASH ∷ SHT_GNU_LIBLIST ∷ SHT_CHECKSUM ∷ SHT_GNU_VERDEF ∷ SHT_GNU_VERNEED
+        ∷ SHT_GNU_VERSYM ∷ SHT_LOSUNW ∷ SHT_SUNW_MOVE ∷ SHT_SUNW_COMDAT ∷ SHT_SUNW_SYMINFO
+        ∷ SHT_HISUNW ∷ SHT_X86_64_UNWIND ∷ []
+        ≡ section_type_numbers }
+    ensures flags { SHF_WRITE ∷ SHF_ALLOC ∷ SHF_EXECINSTR ∷ SHF_MERGE ∷ SHF_STRINGS ∷ SHF_INFO_LINK
+        ∷ SHF_LINK_ORDER ∷ SHF_OS_NONCONFORMING ∷ SHF_GROUP ∷ SHF_TLS ∷ SHF_COMPRESSED ∷ SHF_ORDERED
+        ∷ SHF_MASKOS ∷ SHF_MASKPROC ∷ SHF_EXCLUDE ∷ []
+        ≡ section_flag_numbers }
+    ensures all_flags { SHF_FLAGS ≡ map (λ row. row.0) section_flag_names }
+    ensures count { SHF_NUM_REGULAR_FLAGS ≡ 12 }
+{}

@@ -1,5 +1,5 @@
 //! Symbols of either class: System V gABI, "Symbol Table".
-ghost use Rattle.std.specs.Prelude.{◌≡◌, ◌≤◌, ◌<◌, ◌/◌, ◌↔◌, ◌++◌, IsTrue, length, drop, codes, IsOk};
+ghost use Rattle.std.specs.Prelude.{◌≡◌, ◌≤◌, ◌<◌, ◌/◌, ◌↔◌, ◌++◌, IsTrue, length, drop, codes, IsOk, [], ◌∷◌};
 ghost use Rattle.goblin_base.specs.Layout.{IsOneImage, IsSameInEachClass};
 ghost use Rattle.goblin_base.specs.LayoutLaws.{obeys};
 ghost use Rattle.goblin_base.specs.Record.{read_within, Writes};
@@ -7,6 +7,7 @@ ghost use Rattle.goblin_base.specs.Refusal.{buffer_too_short, Gives, Refuses};
 ghost use Rattle.goblin_base.specs.Steps.{with_size};
 ghost use Rattle.goblin_base.specs.declared.container.Container.{Container};
 ghost use Rattle.goblin_base.specs.declared.container.Endian.{Endian};
+ghost use Rattle.goblin_records.specs.Constants.{bind_numbers, type_numbers, visibility_numbers};
 ghost use Rattle.goblin_records.specs.Sym.{sym_size, sym_of, sym_image, sym_low, SymFits, symbols_from, sym_zero};
 ghost use Rattle.goblin_records.specs.SymParts.{bind_of, type_of, visibility_of, IsGlobalImport, IsImport, type_name};
 ghost use Rattle.goblin_records.specs.declared.sym.Sym.{Sym};
@@ -244,7 +245,16 @@ pub use crate::constants_sym::{
     visibility_to_str,
 };
 
-// The number of each constant.
-mod constants_law;
-
-pub use constants_law::constants;
+/// Laws: the numbers of the constants that this module re-exports, under the names that they have
+/// here. A call does nothing.
+pub fn constants()
+    ensures bindings { STB_LOCAL ∷ STB_GLOBAL ∷ STB_WEAK ∷ STB_NUM ∷ STB_LOOS ∷ STB_GNU_UNIQUE
+        ∷ STB_HIOS ∷ STB_LOPROC ∷ STB_HIPROC ∷ []
+        ≡ bind_numbers }
+    ensures types { STT_NOTYPE ∷ STT_OBJECT ∷ STT_FUNC ∷ STT_SECTION ∷ STT_FILE ∷ STT_COMMON
+        ∷ STT_TLS ∷ STT_NUM ∷ STT_LOOS ∷ STT_GNU_IFUNC ∷ STT_HIOS ∷ STT_LOPROC ∷ STT_HIPROC ∷ []
+        ≡ type_numbers }
+    ensures visibilities { STV_DEFAULT ∷ STV_INTERNAL ∷ STV_HIDDEN ∷ STV_PROTECTED ∷ STV_EXPORTED
+        ∷ STV_SINGLETON ∷ STV_ELIMINATE ∷ []
+        ≡ visibility_numbers }
+{}

@@ -1,10 +1,11 @@
 //! Symbols of the 32-bit class: System V gABI, "Symbol Table" (`Elf32_Sym`).
-ghost use Rattle.std.specs.Prelude.{◌≡◌, ◌≤◌, ◌↔◌, ◌++◌, IsTrue, length, drop};
+ghost use Rattle.std.specs.Prelude.{◌≡◌, ◌≤◌, ◌↔◌, ◌++◌, IsTrue, length, drop, [], ◌∷◌};
 ghost use Rattle.goblin_base.specs.Layout.{IsOneImage};
 ghost use Rattle.goblin_base.specs.LayoutLaws.{obeys};
 ghost use Rattle.goblin_base.specs.Record.{read_within, Writes};
 ghost use Rattle.goblin_base.specs.Steps.{with_size};
 ghost use Rattle.goblin_base.specs.declared.container.Endian.{Endian};
+ghost use Rattle.goblin_records.specs.Constants.{bind_numbers, type_numbers, visibility_numbers};
 ghost use Rattle.goblin_records.specs.Sym32.{sym32_size, sym32_of, sym32_image, sym32_low, sym32_zero};
 ghost use Rattle.goblin_records.specs.SymParts.{type_of, IsImport};
 ghost use Rattle.goblin_records.specs.declared.sym32.Sym.{Sym};
@@ -189,7 +190,17 @@ pub use crate::constants_sym::{
 // The parts of `st_info` and `st_other`.
 pub use crate::sym::{get_type, is_import, st_bind, st_type, st_visibility};
 
-// The number of each constant.
-mod constants_law;
-
-pub use constants_law::constants;
+/// Laws: the numbers of this module's own constants and of those that it re-exports, under the
+/// names that they have here. A call does nothing.
+pub fn constants()
+    ensures size { SIZEOF_SYM ≡ sym32_size }
+    ensures bindings { STB_LOCAL ∷ STB_GLOBAL ∷ STB_WEAK ∷ STB_NUM ∷ STB_LOOS ∷ STB_GNU_UNIQUE
+        ∷ STB_HIOS ∷ STB_LOPROC ∷ STB_HIPROC ∷ []
+        ≡ bind_numbers }
+    ensures types { STT_NOTYPE ∷ STT_OBJECT ∷ STT_FUNC ∷ STT_SECTION ∷ STT_FILE ∷ STT_COMMON
+        ∷ STT_TLS ∷ STT_NUM ∷ STT_LOOS ∷ STT_GNU_IFUNC ∷ STT_HIOS ∷ STT_LOPROC ∷ STT_HIPROC ∷ []
+        ≡ type_numbers }
+    ensures visibilities { STV_DEFAULT ∷ STV_INTERNAL ∷ STV_HIDDEN ∷ STV_PROTECTED ∷ STV_EXPORTED
+        ∷ STV_SINGLETON ∷ STV_ELIMINATE ∷ []
+        ≡ visibility_numbers }
+{}
