@@ -171,9 +171,11 @@ fn refuses_a_cut_32_bit_header(rt: HostRuntime) {
 fn asks_a_header(rt: HostRuntime) {
     assert!(rt; answers(rt, READ.container(), Container::Big));
     assert!(rt; answers(rt, READ.endianness(), BE));
+    assert!(rt; answers(rt, READ.ctx(), BIG64));
     let new = Header::new(LITTLE32);
     assert!(rt; answers(rt, new.container(), Container::Little));
     assert!(rt; answers(rt, new.endianness(), LE));
+    assert!(rt; answers(rt, new.ctx(), LITTLE32));
 }
 
 #[test]
@@ -183,8 +185,11 @@ fn tells_a_bad_class_and_a_bad_order(rt: HostRuntime) {
     header.e_ident[5] = 11;
     let text = "Malformed entity: Invalid class in Header: 10";
     assert!(rt; says(rt, header.container(), text));
+    assert!(rt; says(rt, header.ctx(), text));
     let text = "Malformed entity: Invalid endianness in Header: 11";
     assert!(rt; says(rt, header.endianness(), text));
+    header.e_ident[4] = 1;
+    assert!(rt; says(rt, header.ctx(), text));
 }
 
 #[test]

@@ -472,6 +472,40 @@ fn finds_the_first_section_of_a_name(rt: HostRuntime) {
     assert!(rt; is(rt, found(b""), [None; 2]));
 }
 
+// The `sh_name` of the section that is a table at an index, in a list and in a lazy table: the sections have the types
+// 3, 3 and 8, and the names 1, 2 and 3.
+fn linked(index: usize) -> [Option<usize>; 2] {
+    let mut bytes = [0; 120];
+    bytes[0] = 1;
+    bytes[4] = 3;
+    bytes[40] = 2;
+    bytes[44] = 3;
+    bytes[80] = 3;
+    bytes[84] = 8;
+    let table = Table::<SectionHeader, Ctx>::of(&bytes, 3, LITTLE32);
+    let sections = [named(1, 3), named(2, 3), named(3, SHT_NOBITS)];
+    [
+        SectionHeader::linked(&sections, index).map(|section| section.sh_name),
+        SectionHeader::linked_in(&table, index).map(|section| section.sh_name),
+    ]
+}
+
+fn named(sh_name: usize, sh_type: u32) -> SectionHeader {
+    SectionHeader {
+        sh_name,
+        sh_type,
+        ..SectionHeader::default()
+    }
+}
+
+#[test]
+fn links_to_sections_with_bytes(rt: HostRuntime) {
+    assert!(rt; is(rt, linked(0), [None; 2]));
+    assert!(rt; is(rt, linked(1), [Some(2); 2]));
+    assert!(rt; is(rt, linked(2), [None; 2]));
+    assert!(rt; is(rt, linked(3), [None; 2]));
+}
+
 // What a header's `e_shstrndx` says, the `sh_link` of the first section if there is one, and the index of the section
 // that holds the names.
 static NAMES_AT: [(u16, Option<u32>, usize); 5] = [

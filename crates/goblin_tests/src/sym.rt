@@ -465,6 +465,35 @@ fn cuts_a_table_to_the_file_where_asked_to(rt: HostRuntime) {
     }
 }
 
+// The number of symbols in so many bytes from an offset on, of 48 zeros, or `None` if they are refused.
+fn count_in_range(offset: usize, size: usize, opts: &ParseOptions) -> Option<usize> {
+    match Symtab::in_range(&ZEROS[..48], offset, size, LITTLE64, opts) {
+        Ok(table) => Some(table.len()),
+        Err(_) => None,
+    }
+}
+
+// The offset and the size of a range, and the number of symbols there, strictly and permissively.
+static RANGES: [(usize, usize, [Option<usize>; 2]); 5] = [
+    (0, 48, [Some(2); 2]),
+    (0, 47, [Some(1); 2]),
+    (24, 23, [Some(0); 2]),
+    (0, 72, [None, Some(2)]),
+    (48, 0, [None, Some(0)]),
+];
+
+#[test]
+fn counts_the_symbols_of_a_range(rt: HostRuntime) {
+    let modes = [ParseOptions::strict(), ParseOptions::permissive()];
+    for row in &RANGES {
+        let counts = [
+            count_in_range(row.0, row.1, &modes[0]),
+            count_in_range(row.0, row.1, &modes[1]),
+        ];
+        assert!(rt; holds(rt, row, is(rt, counts, row.2)));
+    }
+}
+
 const ONE: Sym = Sym {
     st_name: 1,
     st_info: 0x12,
