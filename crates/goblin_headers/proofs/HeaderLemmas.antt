@@ -12,11 +12,10 @@ use Rattle.goblin_base.specs.FieldLaws.{IsBytes-image_of_fields}
 use Rattle.goblin_base.specs.Number.{IsBytes}
 use Rattle.goblin_base.specs.NumberLaws.{IsBytes-append}
 use Rattle.goblin_headers.specs.Header.{header_size, header_of, header_image, header_low, HeaderFits, as32, as64}
-use Rattle.goblin_headers.specs.Header.{widened32, widened64}
-use Rattle.goblin_headers.specs.Header32.{header32_size, header32_of, header32_of_values, header32_widths}
-use Rattle.goblin_headers.specs.Header32.{header32_fields, header32_image, header32_low, Header32Fits}
-use Rattle.goblin_headers.specs.Header64.{header64_size, header64_of, header64_of_values, header64_widths}
-use Rattle.goblin_headers.specs.Header64.{header64_fields, header64_image, header64_low, Header64Fits}
+use Rattle.goblin_headers.specs.Header.{widened32, widened64, header32_size, header32_of, header32_of_values}
+use Rattle.goblin_headers.specs.Header.{header32_widths, header32_fields, header32_image, header32_low, Header32Fits}
+use Rattle.goblin_headers.specs.Header.{header64_size, header64_of, header64_of_values, header64_widths}
+use Rattle.goblin_headers.specs.Header.{header64_fields, header64_image, header64_low, Header64Fits}
 use Rattle.goblin_headers.specs.HeaderTrips.{IsOneHeaderImage}
 
 -- headers of a size that begin with an identification, and what holds of reading and writing them

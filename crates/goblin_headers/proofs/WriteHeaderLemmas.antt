@@ -11,8 +11,8 @@ use Rattle.goblin_base.specs.Fields.{Field, size_of_fields, image_of_fields}
 use Rattle.goblin_headers.specs.declared.header.Header.{Header}
 use Rattle.goblin_headers.specs.declared.header32.Header.{Header as Raw32}
 use Rattle.goblin_headers.specs.declared.header64.Header.{Header as Raw64}
-use Rattle.goblin_headers.specs.Header.{as32, as64, class_of}
-use Rattle.goblin_headers.specs.Header32.{header32_size, header32_fields, header32_image, header32_low}
+use Rattle.goblin_headers.specs.Header.{as32, as64, class_of, header32_size, header32_fields, header32_image}
+use Rattle.goblin_headers.specs.Header.{header32_low}
 use Rattle.goblin_headers.specs.WriteHeader.{WritesInOrder, WritesHeader32, WritesHeader64, WritesHeader}
 
 -- the bytes after an identification and the fields that follow it were written

@@ -10,18 +10,117 @@ use Rattle.goblin_base.specs.declared.error.Error.{Error}
 use Rattle.goblin_base.specs.declared.error.Error.TheVariants.{Malformed}
 use Rattle.goblin_base.specs.declared.error.Fault.{Fault}
 use Rattle.goblin_base.specs.declared.error.Fault.TheVariants.{InvalidClass, InvalidEndianness}
-use Rattle.goblin_base.specs.Fields.{values_of}
+use Rattle.goblin_base.specs.Fields.{values_of, Field, field, FieldsFit, image_of_fields, values_at, widths_of, lows_of}
 use Rattle.goblin_base.specs.Steps.{◌>>=◌, or_refuse}
 use Rattle.goblin_headers.specs.declared.header.Header.{Header}
 use Rattle.goblin_headers.specs.declared.header32.Header.{Header as Raw32}
 use Rattle.goblin_headers.specs.declared.header64.Header.{Header as Raw64}
-use Rattle.goblin_headers.specs.Header32.{header32_size, header32_fields, header32_of_values, header32_of}
-use Rattle.goblin_headers.specs.Header32.{header32_image, header32_low, Header32Fits}
-use Rattle.goblin_headers.specs.Header64.{header64_size, header64_fields, header64_of_values, header64_of}
-use Rattle.goblin_headers.specs.Header64.{header64_image, header64_low, Header64Fits}
 use Rattle.goblin_headers.specs.ProgramHeader.{program_header_size}
 use Rattle.goblin_headers.specs.SectionHeader.{section_header_size}
 
+-- ---- the 32-bit class
+-- the size of a 32-bit header in bytes
+abbrev pub header32_size : ℕ
+header32_size = 52
+
+-- the fields of a 32-bit header after its identification, in file order, each with its width in bytes
+abbrev pub header32_fields : Raw32 → List Field
+header32_fields h =
+    field 2 h.e_type ∷ field 2 h.e_machine ∷ field 4 h.e_version ∷ field 4 h.e_entry ∷ field 4 h.e_phoff
+    ∷ field 4 h.e_shoff ∷ field 4 h.e_flags ∷ field 2 h.e_ehsize ∷ field 2 h.e_phentsize ∷ field 2 h.e_phnum
+    ∷ field 2 h.e_shentsize ∷ field 2 h.e_shnum ∷ field 2 h.e_shstrndx ∷ []
+
+-- the 32-bit header with this identification and these values of its other fields, in file order; a missing value is 0
+abbrev pub header32_of_values : List ℕ → List ℕ → Raw32
+header32_of_values ident values = record {
+  e_ident = ident;
+  e_type = slice_index values 0;
+  e_machine = slice_index values 1;
+  e_version = slice_index values 2;
+  e_entry = slice_index values 3;
+  e_phoff = slice_index values 4;
+  e_shoff = slice_index values 5;
+  e_flags = slice_index values 6;
+  e_ehsize = slice_index values 7;
+  e_phentsize = slice_index values 8;
+  e_phnum = slice_index values 9;
+  e_shentsize = slice_index values 10;
+  e_shnum = slice_index values 11;
+  e_shstrndx = slice_index values 12;
+}
+
+-- the widths of these fields, in the same order
+abbrev pub header32_widths : List ℕ
+header32_widths = widths_of (header32_fields (header32_of_values [] []))
+
+-- the 32-bit header read from bytes: the first 16 bytes as they are, then each field as the number at its offset
+abbrev pub header32_of : Endian → List ℕ → Raw32
+header32_of order bytes = header32_of_values (take 16 bytes) (values_at order bytes 16 header32_widths)
+
+-- each field after the identification is in the range of its width
+abbrev pub Header32Fits : Raw32 → Type 0
+Header32Fits h = FieldsFit (header32_fields h)
+
+-- the bytes that a 32-bit header is written as: its identification as it is, then the other fields
+abbrev pub header32_image : Endian → Raw32 → List ℕ
+header32_image order h = h.e_ident ++ image_of_fields order (header32_fields h)
+
+-- the 32-bit header with the low bits of each field after its identification, as many as its width holds
+abbrev pub header32_low : Raw32 → Raw32
+header32_low h = header32_of_values h.e_ident (lows_of (header32_fields h))
+
+-- ---- the 64-bit class
+-- the size of a 64-bit header in bytes
+abbrev pub header64_size : ℕ
+header64_size = 64
+
+-- the fields of a 64-bit header after its identification, in file order, each with its width in bytes
+abbrev pub header64_fields : Raw64 → List Field
+header64_fields h =
+    field 2 h.e_type ∷ field 2 h.e_machine ∷ field 4 h.e_version ∷ field 8 h.e_entry ∷ field 8 h.e_phoff
+    ∷ field 8 h.e_shoff ∷ field 4 h.e_flags ∷ field 2 h.e_ehsize ∷ field 2 h.e_phentsize ∷ field 2 h.e_phnum
+    ∷ field 2 h.e_shentsize ∷ field 2 h.e_shnum ∷ field 2 h.e_shstrndx ∷ []
+
+-- the 64-bit header with this identification and these values of its other fields, in file order; a missing value is 0
+abbrev pub header64_of_values : List ℕ → List ℕ → Raw64
+header64_of_values ident values = record {
+  e_ident = ident;
+  e_type = slice_index values 0;
+  e_machine = slice_index values 1;
+  e_version = slice_index values 2;
+  e_entry = slice_index values 3;
+  e_phoff = slice_index values 4;
+  e_shoff = slice_index values 5;
+  e_flags = slice_index values 6;
+  e_ehsize = slice_index values 7;
+  e_phentsize = slice_index values 8;
+  e_phnum = slice_index values 9;
+  e_shentsize = slice_index values 10;
+  e_shnum = slice_index values 11;
+  e_shstrndx = slice_index values 12;
+}
+
+-- the widths of these fields, in the same order
+abbrev pub header64_widths : List ℕ
+header64_widths = widths_of (header64_fields (header64_of_values [] []))
+
+-- the 64-bit header read from bytes: the first 16 bytes as they are, then each field as the number at its offset
+abbrev pub header64_of : Endian → List ℕ → Raw64
+header64_of order bytes = header64_of_values (take 16 bytes) (values_at order bytes 16 header64_widths)
+
+-- each field after the identification is in the range of its width
+abbrev pub Header64Fits : Raw64 → Type 0
+Header64Fits h = FieldsFit (header64_fields h)
+
+-- the bytes that a 64-bit header is written as: its identification as it is, then the other fields
+abbrev pub header64_image : Endian → Raw64 → List ℕ
+header64_image order h = h.e_ident ++ image_of_fields order (header64_fields h)
+
+-- the 64-bit header with the low bits of each field after its identification, as many as its width holds
+abbrev pub header64_low : Raw64 → Raw64
+header64_low h = header64_of_values h.e_ident (lows_of (header64_fields h))
+
+-- ---- either class
 -- the size of a header in bytes
 abbrev pub header_size : Container → ℕ
 header_size class.Little = header32_size

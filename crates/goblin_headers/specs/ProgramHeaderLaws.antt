@@ -5,14 +5,14 @@ use Rattle.goblin_base.specs.declared.container.Container.{Container}
 use Rattle.goblin_base.specs.declared.container.Container.TheVariants.{Little, Big}
 use Rattle.goblin_base.specs.Layout.{IsRecord}
 use Rattle.goblin_base.specs.LayoutLaws.{layout_laws, converted_laws}
-use Rattle.goblin_headers.specs.ProgramHeader32.{program_header32_size, program_header32_of, program_header32_of_values}
-use Rattle.goblin_headers.specs.ProgramHeader32.{program_header32_widths, program_header32_fields}
-use Rattle.goblin_headers.specs.ProgramHeader32.{program_header32_image, program_header32_low, ProgramHeader32Fits}
-use Rattle.goblin_headers.specs.ProgramHeader64.{program_header64_size, program_header64_of, program_header64_of_values}
-use Rattle.goblin_headers.specs.ProgramHeader64.{program_header64_widths, program_header64_fields}
-use Rattle.goblin_headers.specs.ProgramHeader64.{program_header64_image, program_header64_low, ProgramHeader64Fits}
-use Rattle.goblin_headers.specs.ProgramHeader.{program_header_size, program_header_of, program_header_image}
-use Rattle.goblin_headers.specs.ProgramHeader.{program_header_low, ProgramHeaderFits, as32, as64, widened32, widened64}
+use Rattle.goblin_headers.specs.ProgramHeader.{program_header32_size, program_header32_of, program_header32_of_values}
+use Rattle.goblin_headers.specs.ProgramHeader.{program_header32_widths, program_header32_fields, program_header32_image}
+use Rattle.goblin_headers.specs.ProgramHeader.{program_header32_low, ProgramHeader32Fits, program_header64_size}
+use Rattle.goblin_headers.specs.ProgramHeader.{program_header64_of, program_header64_of_values, program_header64_widths}
+use Rattle.goblin_headers.specs.ProgramHeader.{program_header64_fields, program_header64_image, program_header64_low}
+use Rattle.goblin_headers.specs.ProgramHeader.{ProgramHeader64Fits, program_header_size, program_header_of}
+use Rattle.goblin_headers.specs.ProgramHeader.{program_header_image, program_header_low, ProgramHeaderFits, as32, as64}
+use Rattle.goblin_headers.specs.ProgramHeader.{widened32, widened64}
 
 -- the laws follow from the list of fields
 pub program_header32_laws : (order : Endian)

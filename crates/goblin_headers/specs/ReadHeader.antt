@@ -13,9 +13,8 @@ use Rattle.goblin_base.specs.Steps.{◌>>=◌, refuse_if, refuse_as}
 use Rattle.goblin_headers.specs.declared.header.Header.{Header}
 use Rattle.goblin_headers.specs.declared.header32.Header.{Header as Raw32}
 use Rattle.goblin_headers.specs.declared.header64.Header.{Header as Raw64}
-use Rattle.goblin_headers.specs.Header.{header_size, magic, class_of, order_of, header_of}
-use Rattle.goblin_headers.specs.Header32.{header32_size, header32_of}
-use Rattle.goblin_headers.specs.Header64.{header64_size, header64_of}
+use Rattle.goblin_headers.specs.Header.{header_size, magic, class_of, order_of, header_of, header32_size, header32_of}
+use Rattle.goblin_headers.specs.Header.{header64_size, header64_of}
 
 -- the bytes are at least this many
 abbrev pub needs : ℕ → List ℕ → Result (Unit {0}) Error

@@ -3,17 +3,104 @@ use Rattle.std.specs.Prelude.{ℕ, List, [], ◌∷◌, slice_index}
 use Rattle.goblin_base.specs.declared.container.Container.{Container}
 use Rattle.goblin_base.specs.declared.container.Container.TheVariants.{Little, Big}
 use Rattle.goblin_base.specs.declared.container.Endian.{Endian}
-use Rattle.goblin_base.specs.Fields.{values_of}
+use Rattle.goblin_base.specs.Fields.{values_of, Field, field, FieldsFit, image_of_fields, values_at, widths_of, lows_of}
 use Rattle.goblin_headers.specs.declared.section_header.SectionHeader.{SectionHeader}
 use Rattle.goblin_headers.specs.declared.section_header32.SectionHeader.{SectionHeader as Raw32}
 use Rattle.goblin_headers.specs.declared.section_header64.SectionHeader.{SectionHeader as Raw64}
-use Rattle.goblin_headers.specs.SectionHeader32.{section_header32_size, section_header32_fields}
-use Rattle.goblin_headers.specs.SectionHeader32.{section_header32_of_values, section_header32_of}
-use Rattle.goblin_headers.specs.SectionHeader32.{section_header32_image, section_header32_low, SectionHeader32Fits}
-use Rattle.goblin_headers.specs.SectionHeader64.{section_header64_size, section_header64_fields}
-use Rattle.goblin_headers.specs.SectionHeader64.{section_header64_of_values, section_header64_of}
-use Rattle.goblin_headers.specs.SectionHeader64.{section_header64_image, section_header64_low, SectionHeader64Fits}
 
+-- ---- the 32-bit class
+-- the size of a 32-bit section header in bytes
+abbrev pub section_header32_size : ℕ
+section_header32_size = 40
+
+-- the fields of a 32-bit section header in file order, each with its width in bytes
+abbrev pub section_header32_fields : Raw32 → List Field
+section_header32_fields h =
+    field 4 h.sh_name ∷ field 4 h.sh_type ∷ field 4 h.sh_flags ∷ field 4 h.sh_addr ∷ field 4 h.sh_offset
+    ∷ field 4 h.sh_size ∷ field 4 h.sh_link ∷ field 4 h.sh_info ∷ field 4 h.sh_addralign ∷ field 4 h.sh_entsize ∷ []
+
+-- the 32-bit section header with these field values, in file order; a missing value is 0
+abbrev pub section_header32_of_values : List ℕ → Raw32
+section_header32_of_values values = record {
+  sh_name = slice_index values 0;
+  sh_type = slice_index values 1;
+  sh_flags = slice_index values 2;
+  sh_addr = slice_index values 3;
+  sh_offset = slice_index values 4;
+  sh_size = slice_index values 5;
+  sh_link = slice_index values 6;
+  sh_info = slice_index values 7;
+  sh_addralign = slice_index values 8;
+  sh_entsize = slice_index values 9;
+}
+
+-- the widths of these fields, in the same order
+abbrev pub section_header32_widths : List ℕ
+section_header32_widths = widths_of (section_header32_fields (section_header32_of_values []))
+
+-- the 32-bit section header read from bytes: each field is the number at its offset
+abbrev pub section_header32_of : Endian → List ℕ → Raw32
+section_header32_of order bytes = section_header32_of_values (values_at order bytes 0 section_header32_widths)
+
+-- each field of a 32-bit section header is in the range of its width
+abbrev pub SectionHeader32Fits : Raw32 → Type 0
+SectionHeader32Fits h = FieldsFit (section_header32_fields h)
+
+-- the bytes that a 32-bit section header is written as
+abbrev pub section_header32_image : Endian → Raw32 → List ℕ
+section_header32_image order h = image_of_fields order (section_header32_fields h)
+
+-- the 32-bit section header with the low bits of each field, as many as its width holds
+abbrev pub section_header32_low : Raw32 → Raw32
+section_header32_low h = section_header32_of_values (lows_of (section_header32_fields h))
+
+-- ---- the 64-bit class
+-- the size of a 64-bit section header in bytes
+abbrev pub section_header64_size : ℕ
+section_header64_size = 64
+
+-- the fields of a 64-bit section header in file order, each with its width in bytes
+abbrev pub section_header64_fields : Raw64 → List Field
+section_header64_fields h =
+    field 4 h.sh_name ∷ field 4 h.sh_type ∷ field 8 h.sh_flags ∷ field 8 h.sh_addr ∷ field 8 h.sh_offset
+    ∷ field 8 h.sh_size ∷ field 4 h.sh_link ∷ field 4 h.sh_info ∷ field 8 h.sh_addralign ∷ field 8 h.sh_entsize ∷ []
+
+-- the 64-bit section header with these field values, in file order; a missing value is 0
+abbrev pub section_header64_of_values : List ℕ → Raw64
+section_header64_of_values values = record {
+  sh_name = slice_index values 0;
+  sh_type = slice_index values 1;
+  sh_flags = slice_index values 2;
+  sh_addr = slice_index values 3;
+  sh_offset = slice_index values 4;
+  sh_size = slice_index values 5;
+  sh_link = slice_index values 6;
+  sh_info = slice_index values 7;
+  sh_addralign = slice_index values 8;
+  sh_entsize = slice_index values 9;
+}
+
+-- the widths of these fields, in the same order
+abbrev pub section_header64_widths : List ℕ
+section_header64_widths = widths_of (section_header64_fields (section_header64_of_values []))
+
+-- the 64-bit section header read from bytes: each field is the number at its offset
+abbrev pub section_header64_of : Endian → List ℕ → Raw64
+section_header64_of order bytes = section_header64_of_values (values_at order bytes 0 section_header64_widths)
+
+-- each field of a 64-bit section header is in the range of its width
+abbrev pub SectionHeader64Fits : Raw64 → Type 0
+SectionHeader64Fits h = FieldsFit (section_header64_fields h)
+
+-- the bytes that a 64-bit section header is written as
+abbrev pub section_header64_image : Endian → Raw64 → List ℕ
+section_header64_image order h = image_of_fields order (section_header64_fields h)
+
+-- the 64-bit section header with the low bits of each field, as many as its width holds
+abbrev pub section_header64_low : Raw64 → Raw64
+section_header64_low h = section_header64_of_values (lows_of (section_header64_fields h))
+
+-- ---- either class
 -- the size of a section header of a class in bytes
 abbrev pub section_header_size : Container → ℕ
 section_header_size Little = section_header32_size

@@ -5,14 +5,14 @@ use Rattle.goblin_base.specs.declared.container.Container.{Container}
 use Rattle.goblin_base.specs.declared.container.Container.TheVariants.{Little, Big}
 use Rattle.goblin_base.specs.Layout.{IsRecord}
 use Rattle.goblin_base.specs.LayoutLaws.{layout_laws, converted_laws}
-use Rattle.goblin_headers.specs.SectionHeader32.{section_header32_size, section_header32_of, section_header32_of_values}
-use Rattle.goblin_headers.specs.SectionHeader32.{section_header32_widths, section_header32_fields}
-use Rattle.goblin_headers.specs.SectionHeader32.{section_header32_image, section_header32_low, SectionHeader32Fits}
-use Rattle.goblin_headers.specs.SectionHeader64.{section_header64_size, section_header64_of, section_header64_of_values}
-use Rattle.goblin_headers.specs.SectionHeader64.{section_header64_widths, section_header64_fields}
-use Rattle.goblin_headers.specs.SectionHeader64.{section_header64_image, section_header64_low, SectionHeader64Fits}
-use Rattle.goblin_headers.specs.SectionHeader.{section_header_size, section_header_of, section_header_image}
-use Rattle.goblin_headers.specs.SectionHeader.{section_header_low, SectionHeaderFits, as32, as64, widened32, widened64}
+use Rattle.goblin_headers.specs.SectionHeader.{section_header32_size, section_header32_of, section_header32_of_values}
+use Rattle.goblin_headers.specs.SectionHeader.{section_header32_widths, section_header32_fields, section_header32_image}
+use Rattle.goblin_headers.specs.SectionHeader.{section_header32_low, SectionHeader32Fits, section_header64_size}
+use Rattle.goblin_headers.specs.SectionHeader.{section_header64_of, section_header64_of_values, section_header64_widths}
+use Rattle.goblin_headers.specs.SectionHeader.{section_header64_fields, section_header64_image, section_header64_low}
+use Rattle.goblin_headers.specs.SectionHeader.{SectionHeader64Fits, section_header_size, section_header_of}
+use Rattle.goblin_headers.specs.SectionHeader.{section_header_image, section_header_low, SectionHeaderFits, as32, as64}
+use Rattle.goblin_headers.specs.SectionHeader.{widened32, widened64}
 
 -- the laws follow from the list of fields
 pub section_header32_laws : (order : Endian)

@@ -7,9 +7,8 @@ use Rattle.goblin_base.specs.Record.{Writes}
 use Rattle.goblin_headers.specs.declared.header.Header.{Header}
 use Rattle.goblin_headers.specs.declared.header32.Header.{Header as Raw32}
 use Rattle.goblin_headers.specs.declared.header64.Header.{Header as Raw64}
-use Rattle.goblin_headers.specs.Header.{header_size, header_image, class_of, order_of}
-use Rattle.goblin_headers.specs.Header32.{header32_size, header32_image}
-use Rattle.goblin_headers.specs.Header64.{header64_size, header64_image}
+use Rattle.goblin_headers.specs.Header.{header_size, header_image, class_of, order_of, header32_size, header32_image}
+use Rattle.goblin_headers.specs.Header.{header64_size, header64_image}
 
 -- a found value decides what is written; an error is the result, and nothing changes
 abbrev pub WritesBy : {X : Type 0}

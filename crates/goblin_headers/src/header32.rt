@@ -2,8 +2,7 @@
 ghost use Rattle.std.specs.Prelude.{◌≡◌, ◌≤◌, ◌++◌, length, drop, replicate, [], ◌∷◌};
 ghost use Rattle.goblin_base.specs.Fields.{values_of};
 ghost use Rattle.goblin_headers.specs.Constants.{class_numbers, data_numbers, file_type_numbers, ident_place_numbers, ident_size_numbers, system_numbers, unnamed_machine_numbers};
-ghost use Rattle.goblin_headers.specs.Header.{magic};
-ghost use Rattle.goblin_headers.specs.Header32.{header32_of, header32_image, header32_size, header32_fields, header32_low, Header32Fits};
+ghost use Rattle.goblin_headers.specs.Header.{magic, header32_of, header32_image, header32_size, header32_fields, header32_low, Header32Fits};
 ghost use Rattle.goblin_headers.specs.HeaderTrips.{IsOneHeaderImage, IsReadBack, IsWrittenAndReadBack, IsWrittenBack};
 ghost use Rattle.goblin_headers.specs.Machines.{machine_numbers};
 ghost use Rattle.goblin_headers.specs.ReadHeader.{read_header32};

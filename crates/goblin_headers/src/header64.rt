@@ -2,8 +2,7 @@
 ghost use Rattle.std.specs.Prelude.{◌≡◌, ◌≤◌, ◌++◌, length, drop, replicate, [], ◌∷◌};
 ghost use Rattle.goblin_base.specs.Fields.{values_of};
 ghost use Rattle.goblin_headers.specs.Constants.{class_numbers, data_numbers, file_type_numbers, ident_place_numbers, ident_size_numbers, system_numbers, unnamed_machine_numbers};
-ghost use Rattle.goblin_headers.specs.Header.{magic};
-ghost use Rattle.goblin_headers.specs.Header64.{header64_of, header64_image, header64_size, header64_fields, header64_low, Header64Fits};
+ghost use Rattle.goblin_headers.specs.Header.{magic, header64_of, header64_image, header64_size, header64_fields, header64_low, Header64Fits};
 ghost use Rattle.goblin_headers.specs.HeaderTrips.{IsOneHeaderImage, IsReadBack, IsWrittenAndReadBack, IsWrittenBack};
 ghost use Rattle.goblin_headers.specs.Machines.{machine_numbers};
 ghost use Rattle.goblin_headers.specs.ReadHeader.{read_header64};

@@ -11,8 +11,7 @@ ghost use Rattle.goblin_base.specs.Steps.{with_size};
 ghost use Rattle.goblin_base.specs.declared.container.Container.{Container};
 ghost use Rattle.goblin_base.specs.declared.container.Endian.{Endian};
 ghost use Rattle.goblin_headers.specs.Constants.{segment_flag_numbers, segment_type_numbers};
-ghost use Rattle.goblin_headers.specs.ProgramHeader.{as64, program_header_size, program_header_of, program_header_image, program_header_low, ProgramHeaderFits};
-ghost use Rattle.goblin_headers.specs.ProgramHeader64.{program_header64_fields};
+ghost use Rattle.goblin_headers.specs.ProgramHeader.{as64, program_header_size, program_header_of, program_header_image, program_header_low, ProgramHeaderFits, program_header64_fields};
 ghost use Rattle.goblin_headers.specs.ProgramHeaders.{new_program_header, program_headers_from, program_headers_tested};
 ghost use Rattle.goblin_headers.specs.Ranges.{span};
 

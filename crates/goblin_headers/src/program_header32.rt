@@ -10,7 +10,7 @@ ghost use Rattle.goblin_base.specs.Steps.{with_size};
 ghost use Rattle.goblin_base.specs.Table.{records};
 ghost use Rattle.goblin_base.specs.declared.container.Endian.{Endian};
 ghost use Rattle.goblin_headers.specs.Constants.{segment_flag_numbers, segment_type_numbers};
-ghost use Rattle.goblin_headers.specs.ProgramHeader32.{program_header32_fields, program_header32_of, program_header32_image, program_header32_size, program_header32_low};
+ghost use Rattle.goblin_headers.specs.ProgramHeader.{program_header32_fields, program_header32_of, program_header32_image, program_header32_size, program_header32_low};
 
 use crate::program_header::ProgramHeader as ElfProgramHeader;
 use goblin_base::container::Endian;
@@ -187,7 +187,7 @@ impl TryIntoCtx<Endian> for ProgramHeader {
 }
 
 impl Record<Endian> for ProgramHeader {
-    ghost use Rattle.goblin_headers.specs.ProgramHeader32.{ProgramHeader32Fits};
+    ghost use Rattle.goblin_headers.specs.ProgramHeader.{ProgramHeader32Fits};
     ghost use Rattle.goblin_headers.specs.ProgramHeaderLaws.{program_header32_laws};
 
     ghost read = { program_header32_of };

@@ -10,7 +10,7 @@ ghost use Rattle.goblin_base.specs.Steps.{with_size};
 ghost use Rattle.goblin_base.specs.Table.{records};
 ghost use Rattle.goblin_base.specs.declared.container.Endian.{Endian};
 ghost use Rattle.goblin_headers.specs.Constants.{segment_flag_numbers, segment_type_numbers};
-ghost use Rattle.goblin_headers.specs.ProgramHeader64.{program_header64_fields, program_header64_of, program_header64_image, program_header64_size, program_header64_low};
+ghost use Rattle.goblin_headers.specs.ProgramHeader.{program_header64_fields, program_header64_of, program_header64_image, program_header64_size, program_header64_low};
 
 use crate::program_header::ProgramHeader as ElfProgramHeader;
 use goblin_base::container::Endian;
@@ -186,7 +186,7 @@ impl TryIntoCtx<Endian> for ProgramHeader {
 }
 
 impl Record<Endian> for ProgramHeader {
-    ghost use Rattle.goblin_headers.specs.ProgramHeader64.{ProgramHeader64Fits};
+    ghost use Rattle.goblin_headers.specs.ProgramHeader.{ProgramHeader64Fits};
     ghost use Rattle.goblin_headers.specs.ProgramHeaderLaws.{program_header64_laws};
 
     ghost read = { program_header64_of };

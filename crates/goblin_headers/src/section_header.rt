@@ -13,8 +13,7 @@ ghost use Rattle.goblin_base.specs.declared.container.Container.{Container};
 ghost use Rattle.goblin_base.specs.declared.container.Endian.{Endian};
 ghost use Rattle.goblin_headers.specs.Constants.{section_flag_numbers, section_index_numbers, section_type_numbers};
 ghost use Rattle.goblin_headers.specs.Ranges.{span};
-ghost use Rattle.goblin_headers.specs.SectionHeader.{as64, section_header_size, section_header_of, section_header_image, section_header_low, SectionHeaderFits};
-ghost use Rattle.goblin_headers.specs.SectionHeader64.{section_header64_fields};
+ghost use Rattle.goblin_headers.specs.SectionHeader.{as64, section_header_size, section_header_of, section_header_image, section_header_low, SectionHeaderFits, section_header64_fields};
 ghost use Rattle.goblin_headers.specs.SectionHeaders.{new_section_header, count_from, header_count, linked, names_index, section_headers_from, section_headers_from_tested, section_headers_of, section_headers_of_tested, size_checked, size_checked_in};
 ghost use Rattle.goblin_headers.specs.SectionNames.{section_flag_names};
 

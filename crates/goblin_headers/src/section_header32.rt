@@ -8,7 +8,7 @@ ghost use Rattle.goblin_base.specs.Steps.{with_size};
 ghost use Rattle.goblin_base.specs.Table.{records};
 ghost use Rattle.goblin_base.specs.declared.container.Endian.{Endian};
 ghost use Rattle.goblin_headers.specs.Constants.{section_flag_numbers, section_index_numbers, section_type_numbers};
-ghost use Rattle.goblin_headers.specs.SectionHeader32.{section_header32_fields, section_header32_of, section_header32_image, section_header32_size, section_header32_low};
+ghost use Rattle.goblin_headers.specs.SectionHeader.{section_header32_fields, section_header32_of, section_header32_image, section_header32_size, section_header32_low};
 ghost use Rattle.goblin_headers.specs.SectionNames.{section_flag_names};
 
 use crate::section_header::SectionHeader as ElfSectionHeader;
@@ -182,7 +182,7 @@ impl TryIntoCtx<Endian> for SectionHeader {
 }
 
 impl Record<Endian> for SectionHeader {
-    ghost use Rattle.goblin_headers.specs.SectionHeader32.{SectionHeader32Fits};
+    ghost use Rattle.goblin_headers.specs.SectionHeader.{SectionHeader32Fits};
     ghost use Rattle.goblin_headers.specs.SectionHeaderLaws.{section_header32_laws};
 
     ghost read = { section_header32_of };

@@ -8,7 +8,7 @@ ghost use Rattle.goblin_base.specs.Steps.{with_size};
 ghost use Rattle.goblin_base.specs.Table.{records};
 ghost use Rattle.goblin_base.specs.declared.container.Endian.{Endian};
 ghost use Rattle.goblin_headers.specs.Constants.{section_flag_numbers, section_index_numbers, section_type_numbers};
-ghost use Rattle.goblin_headers.specs.SectionHeader64.{section_header64_fields, section_header64_of, section_header64_image, section_header64_size, section_header64_low};
+ghost use Rattle.goblin_headers.specs.SectionHeader.{section_header64_fields, section_header64_of, section_header64_image, section_header64_size, section_header64_low};
 ghost use Rattle.goblin_headers.specs.SectionNames.{section_flag_names};
 
 use crate::section_header::SectionHeader as ElfSectionHeader;
@@ -182,7 +182,7 @@ impl TryIntoCtx<Endian> for SectionHeader {
 }
 
 impl Record<Endian> for SectionHeader {
-    ghost use Rattle.goblin_headers.specs.SectionHeader64.{SectionHeader64Fits};
+    ghost use Rattle.goblin_headers.specs.SectionHeader.{SectionHeader64Fits};
     ghost use Rattle.goblin_headers.specs.SectionHeaderLaws.{section_header64_laws};
 
     ghost read = { section_header64_of };

@@ -2,13 +2,9 @@ pub mod Constants
 pub mod Nhdr
 pub mod NhdrLaws
 pub mod Reloc
-pub mod Reloc32
-pub mod Reloc64
 pub mod RelocInfo
 pub mod RelocInfoLaws
 pub mod RelocLaws
 pub mod Sym
-pub mod Sym32
-pub mod Sym64
 pub mod SymLaws
 pub mod SymParts

@@ -1,27 +1,168 @@
 -- Relocations of either class, with an addend or without, and lists of them (System V gABI, "Relocation").
 use Rattle.std.specs.Prelude.{◌≡◌, ◌<◌, ◌%◌, ◌^◌, ℕ, ℤ, pos, List, Bool, false, true, Option, Some, None, unwrap_or}
-use Rattle.std.specs.Prelude.{IsSomeAnd}
+use Rattle.std.specs.Prelude.{IsSomeAnd, [], ◌∷◌, slice_index}
 use Rattle.goblin_base.specs.declared.container.Container.{Container}
 use Rattle.goblin_base.specs.declared.container.Container.TheVariants.{Little, Big}
 use Rattle.goblin_base.specs.declared.container.Endian.{Endian}
 use Rattle.goblin_base.specs.declared.container.Endian.TheVariants as order
 use Rattle.goblin_base.specs.Container.{word_size}
-use Rattle.goblin_base.specs.Fields.{Field, image_of_fields}
+use Rattle.goblin_base.specs.Fields.{Field, image_of_fields, field, FieldsFit, values_at, widths_of, lows_of}
 use Rattle.goblin_base.specs.Layout.{IsOneImage, IsSameInEachClass}
+use Rattle.goblin_base.specs.Signed.{FitsSigned, signed_of, complement, signed_low}
 use Rattle.goblin_records.specs.declared.reloc.Reloc.{Reloc}
 use Rattle.goblin_records.specs.declared.reloc.RelocCtx.{RelocCtx}
 use Rattle.goblin_records.specs.declared.reloc32.Rel.{Rel as Rel32}
 use Rattle.goblin_records.specs.declared.reloc32.Rela.{Rela as Rela32}
 use Rattle.goblin_records.specs.declared.reloc64.Rel.{Rel as Rel64}
 use Rattle.goblin_records.specs.declared.reloc64.Rela.{Rela as Rela64}
-use Rattle.goblin_records.specs.Reloc32.{rel32_size, rela32_size, rel32_of, rela32_of, rel32_fields, rela32_fields}
-use Rattle.goblin_records.specs.Reloc32.{rel32_low, rela32_low}
-use Rattle.goblin_records.specs.Reloc64.{rel64_size, rela64_size, rel64_of, rela64_of, rel64_fields, rela64_fields}
-use Rattle.goblin_records.specs.Reloc64.{rel64_low, rela64_low}
 use Rattle.goblin_records.specs.RelocInfo.{symbols, types, symbol_in, type_in, info_of, mips64el_pair}
 use Rattle.goblin_records.specs.RelocInfo.{mips64el_pair_inverse}
-use Rattle.goblin_base.specs.Signed.{FitsSigned}
 
+-- ---- the 32-bit class
+-- the size of a 32-bit relocation in bytes, without an addend and with one
+abbrev pub rel32_size : ℕ
+rel32_size = 8
+
+abbrev pub rela32_size : ℕ
+rela32_size = 12
+
+-- the fields in file order, each with its width in bytes; a negative addend is its two's complement
+abbrev pub rel32_fields : Rel32 → List Field
+rel32_fields r = field 4 r.r_offset ∷ field 4 r.r_info ∷ []
+
+abbrev pub rela32_fields : Rela32 → List Field
+rela32_fields r = field 4 r.r_offset ∷ field 4 r.r_info ∷ field 4 (complement 4 r.r_addend) ∷ []
+
+-- the 32-bit relocation with these field values, in file order; a missing value is 0, and the addend is signed
+abbrev pub rel32_of_values : List ℕ → Rel32
+rel32_of_values values = record { r_offset = slice_index values 0; r_info = slice_index values 1 }
+
+abbrev pub rela32_of_values : List ℕ → Rela32
+rela32_of_values values = record {
+  r_offset = slice_index values 0;
+  r_info = slice_index values 1;
+  r_addend = signed_of 4 (slice_index values 2);
+}
+
+-- the 32-bit relocations whose fields are all 0
+abbrev pub rel32_zero : Rel32
+rel32_zero = rel32_of_values []
+
+abbrev pub rela32_zero : Rela32
+rela32_zero = rela32_of_values []
+
+-- the widths of these fields, in the same order
+abbrev pub rel32_widths : List ℕ
+rel32_widths = widths_of (rel32_fields rel32_zero)
+
+abbrev pub rela32_widths : List ℕ
+rela32_widths = widths_of (rela32_fields rela32_zero)
+
+-- the 32-bit relocation read from bytes: each field is the number at its offset
+abbrev pub rel32_of : Endian → List ℕ → Rel32
+rel32_of order bytes = rel32_of_values (values_at order bytes 0 rel32_widths)
+
+abbrev pub rela32_of : Endian → List ℕ → Rela32
+rela32_of order bytes = rela32_of_values (values_at order bytes 0 rela32_widths)
+
+-- the bytes that a 32-bit relocation is written as
+abbrev pub rel32_image : Endian → Rel32 → List ℕ
+rel32_image order r = image_of_fields order (rel32_fields r)
+
+abbrev pub rela32_image : Endian → Rela32 → List ℕ
+rela32_image order r = image_of_fields order (rela32_fields r)
+
+-- the 32-bit relocation with the low bits of each field, as many as its width holds
+abbrev pub rel32_low : Rel32 → Rel32
+rel32_low r = rel32_of_values (lows_of (rel32_fields r))
+
+abbrev pub rela32_low : Rela32 → Rela32
+rela32_low r = record {
+  r_offset = r.r_offset % 256 ^ 4;
+  r_info = r.r_info % 256 ^ 4;
+  r_addend = signed_low 4 r.r_addend;
+}
+
+-- each field is in the range of its width
+abbrev pub Rel32Fits : Rel32 → Type 0
+Rel32Fits r = FieldsFit (rel32_fields r)
+
+abbrev pub Rela32Fits : Rela32 → Type 0
+Rela32Fits r = (r.r_offset < 256 ^ 4) × (r.r_info < 256 ^ 4) × FitsSigned 4 r.r_addend
+
+-- ---- the 64-bit class
+-- the size of a 64-bit relocation in bytes, without an addend and with one
+abbrev pub rel64_size : ℕ
+rel64_size = 16
+
+abbrev pub rela64_size : ℕ
+rela64_size = 24
+
+-- the fields in file order, each with its width in bytes; a negative addend is its two's complement
+abbrev pub rel64_fields : Rel64 → List Field
+rel64_fields r = field 8 r.r_offset ∷ field 8 r.r_info ∷ []
+
+abbrev pub rela64_fields : Rela64 → List Field
+rela64_fields r = field 8 r.r_offset ∷ field 8 r.r_info ∷ field 8 (complement 8 r.r_addend) ∷ []
+
+-- the 64-bit relocation with these field values, in file order; a missing value is 0, and the addend is signed
+abbrev pub rel64_of_values : List ℕ → Rel64
+rel64_of_values values = record { r_offset = slice_index values 0; r_info = slice_index values 1 }
+
+abbrev pub rela64_of_values : List ℕ → Rela64
+rela64_of_values values = record {
+  r_offset = slice_index values 0;
+  r_info = slice_index values 1;
+  r_addend = signed_of 8 (slice_index values 2);
+}
+
+-- the 64-bit relocations whose fields are all 0
+abbrev pub rel64_zero : Rel64
+rel64_zero = rel64_of_values []
+
+abbrev pub rela64_zero : Rela64
+rela64_zero = rela64_of_values []
+
+-- the widths of these fields, in the same order
+abbrev pub rel64_widths : List ℕ
+rel64_widths = widths_of (rel64_fields rel64_zero)
+
+abbrev pub rela64_widths : List ℕ
+rela64_widths = widths_of (rela64_fields rela64_zero)
+
+-- the 64-bit relocation read from bytes: each field is the number at its offset
+abbrev pub rel64_of : Endian → List ℕ → Rel64
+rel64_of order bytes = rel64_of_values (values_at order bytes 0 rel64_widths)
+
+abbrev pub rela64_of : Endian → List ℕ → Rela64
+rela64_of order bytes = rela64_of_values (values_at order bytes 0 rela64_widths)
+
+-- the bytes that a 64-bit relocation is written as
+abbrev pub rel64_image : Endian → Rel64 → List ℕ
+rel64_image order r = image_of_fields order (rel64_fields r)
+
+abbrev pub rela64_image : Endian → Rela64 → List ℕ
+rela64_image order r = image_of_fields order (rela64_fields r)
+
+-- the 64-bit relocation with the low bits of each field, as many as its width holds
+abbrev pub rel64_low : Rel64 → Rel64
+rel64_low r = rel64_of_values (lows_of (rel64_fields r))
+
+abbrev pub rela64_low : Rela64 → Rela64
+rela64_low r = record {
+  r_offset = r.r_offset % 256 ^ 8;
+  r_info = r.r_info % 256 ^ 8;
+  r_addend = signed_low 8 r.r_addend;
+}
+
+-- each field is in the range of its width
+abbrev pub Rel64Fits : Rel64 → Type 0
+Rel64Fits r = FieldsFit (rel64_fields r)
+
+abbrev pub Rela64Fits : Rela64 → Type 0
+Rela64Fits r = (r.r_offset < 256 ^ 8) × (r.r_info < 256 ^ 8) × FitsSigned 8 r.r_addend
+
+-- ---- either class
 -- the size of a relocation in bytes, with an addend or without, in a class
 abbrev pub reloc_size : Bool → Container → ℕ
 reloc_size false Little = rel32_size

@@ -16,18 +16,18 @@ use Rattle.goblin_base.specs.FieldLaws.{number_at-lt}
 use Rattle.goblin_base.specs.Number.{IsBytes, number_at}
 use Rattle.goblin_records.specs.declared.reloc.Reloc.{Reloc}
 use Rattle.goblin_records.specs.declared.reloc.RelocCtx.{RelocCtx}
-use Rattle.goblin_records.specs.Reloc32.{rel32_size, rel32_of, rel32_of_values, rel32_widths, rel32_fields, rel32_image}
-use Rattle.goblin_records.specs.Reloc32.{rel32_low, Rel32Fits, rela32_size, rela32_of, rela32_of_values, rela32_widths}
-use Rattle.goblin_records.specs.Reloc32.{rela32_fields, rela32_image, rela32_low, Rela32Fits}
-use Rattle.goblin_records.specs.Reloc64.{rel64_size, rel64_of, rel64_of_values, rel64_widths, rel64_fields, rel64_image}
-use Rattle.goblin_records.specs.Reloc64.{rel64_low, Rel64Fits, rela64_size, rela64_of, rela64_of_values, rela64_widths}
-use Rattle.goblin_records.specs.Reloc64.{rela64_fields, rela64_image, rela64_low, Rela64Fits}
+use Rattle.goblin_records.specs.Reloc.{rel32_size, rel32_of, rel32_of_values, rel32_widths, rel32_fields, rel32_image}
+use Rattle.goblin_records.specs.Reloc.{rel32_low, Rel32Fits, rela32_size, rela32_of, rela32_of_values, rela32_widths}
+use Rattle.goblin_records.specs.Reloc.{rela32_fields, rela32_image, rela32_low, Rela32Fits, rel64_size, rel64_of}
+use Rattle.goblin_records.specs.Reloc.{rel64_of_values, rel64_widths, rel64_fields, rel64_image, rel64_low, Rel64Fits}
+use Rattle.goblin_records.specs.Reloc.{rela64_size, rela64_of, rela64_of_values, rela64_widths, rela64_fields}
+use Rattle.goblin_records.specs.Reloc.{rela64_image, rela64_low, Rela64Fits, reloc_size, reloc_of, reloc_image}
+use Rattle.goblin_records.specs.Reloc.{reloc_low, RelocFits, rel_widened32, rela_widened32, rel_widened64}
+use Rattle.goblin_records.specs.Reloc.{rela_widened64, rel_as32, rela_as32, rel_as64, rela_as64, as_meant, as_stored}
+use Rattle.goblin_records.specs.Reloc.{StoredFits, reloc_in, reloc_image_in, reloc_low_in, RelocFitsIn, context}
+use Rattle.goblin_records.specs.Reloc.{OneImage, SameInEachClass}
 use Rattle.goblin_records.specs.RelocInfo.{symbols, types, symbol_in, type_in, info_of}
 use Rattle.goblin_records.specs.RelocInfoLaws.{info_of-parts, joins_its_parts, reversed-reversed}
-use Rattle.goblin_records.specs.Reloc.{reloc_size, reloc_of, reloc_image, reloc_low, RelocFits, rel_widened32}
-use Rattle.goblin_records.specs.Reloc.{rela_widened32, rel_widened64, rela_widened64, rel_as32, rela_as32, rel_as64}
-use Rattle.goblin_records.specs.Reloc.{rela_as64, as_meant, as_stored, StoredFits, reloc_in, reloc_image_in}
-use Rattle.goblin_records.specs.Reloc.{reloc_low_in, RelocFitsIn, context, OneImage, SameInEachClass}
 
 -- the laws of relocations without an addend follow from the list of fields
 pub rel32_laws : (order : Endian) → IsRecord rel32_size (rel32_of order) (rel32_image order) rel32_low Rel32Fits

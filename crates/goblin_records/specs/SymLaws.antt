@@ -5,11 +5,10 @@ use Rattle.goblin_base.specs.declared.container.Container.{Container}
 use Rattle.goblin_base.specs.declared.container.Container.TheVariants.{Little, Big}
 use Rattle.goblin_base.specs.Layout.{IsRecord}
 use Rattle.goblin_base.specs.LayoutLaws.{layout_laws, converted_laws}
-use Rattle.goblin_records.specs.Sym32.{sym32_size, sym32_of, sym32_of_values, sym32_widths, sym32_fields, sym32_image}
-use Rattle.goblin_records.specs.Sym32.{sym32_low, Sym32Fits}
-use Rattle.goblin_records.specs.Sym64.{sym64_size, sym64_of, sym64_of_values, sym64_widths, sym64_fields, sym64_image}
-use Rattle.goblin_records.specs.Sym64.{sym64_low, Sym64Fits}
-use Rattle.goblin_records.specs.Sym.{sym_size, sym_of, sym_image, sym_low, SymFits, as32, as64, widened32, widened64}
+use Rattle.goblin_records.specs.Sym.{sym32_size, sym32_of, sym32_of_values, sym32_widths, sym32_fields, sym32_image}
+use Rattle.goblin_records.specs.Sym.{sym32_low, Sym32Fits, sym64_size, sym64_of, sym64_of_values, sym64_widths}
+use Rattle.goblin_records.specs.Sym.{sym64_fields, sym64_image, sym64_low, Sym64Fits, sym_size, sym_of, sym_image}
+use Rattle.goblin_records.specs.Sym.{sym_low, SymFits, as32, as64, widened32, widened64}
 
 -- the laws follow from the list of fields
 pub sym32_laws : (order : Endian) → IsRecord sym32_size (sym32_of order) (sym32_image order) sym32_low Sym32Fits

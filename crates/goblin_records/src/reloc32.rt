@@ -6,7 +6,7 @@ ghost use Rattle.goblin_base.specs.Record.{read_within, Writes};
 ghost use Rattle.goblin_base.specs.Steps.{with_size};
 ghost use Rattle.goblin_base.specs.declared.container.Container.TheVariants as class;
 ghost use Rattle.goblin_base.specs.declared.container.Endian.{Endian};
-ghost use Rattle.goblin_records.specs.Reloc32.{rel32_size, rel32_of, rel32_image, rel32_low, rel32_zero, rela32_size, rela32_of, rela32_image, rela32_low, rela32_zero};
+ghost use Rattle.goblin_records.specs.Reloc.{rel32_size, rel32_of, rel32_image, rel32_low, rel32_zero, rela32_size, rela32_of, rela32_image, rela32_low, rela32_zero};
 ghost use Rattle.goblin_records.specs.RelocInfo.{symbol_in, type_in, info_of, JoinsItsParts};
 
 use crate::reloc::Reloc;
@@ -205,7 +205,7 @@ impl TryIntoCtx<Endian> for Rela {
 }
 
 impl Record<Endian> for Rela {
-    ghost use Rattle.goblin_records.specs.Reloc32.{Rela32Fits};
+    ghost use Rattle.goblin_records.specs.Reloc.{Rela32Fits};
     ghost use Rattle.goblin_records.specs.RelocLaws.{rela32_laws};
 
     ghost read = { rela32_of };
@@ -256,7 +256,7 @@ impl TryIntoCtx<Endian> for Rel {
 }
 
 impl Record<Endian> for Rel {
-    ghost use Rattle.goblin_records.specs.Reloc32.{Rel32Fits};
+    ghost use Rattle.goblin_records.specs.Reloc.{Rel32Fits};
     ghost use Rattle.goblin_records.specs.RelocLaws.{rel32_laws};
 
     ghost read = { rel32_of };

@@ -6,7 +6,7 @@ ghost use Rattle.goblin_base.specs.Record.{read_within, Writes};
 ghost use Rattle.goblin_base.specs.Steps.{with_size};
 ghost use Rattle.goblin_base.specs.declared.container.Container.TheVariants as class;
 ghost use Rattle.goblin_base.specs.declared.container.Endian.{Endian};
-ghost use Rattle.goblin_records.specs.Reloc64.{rel64_size, rel64_of, rel64_image, rel64_low, rel64_zero, rela64_size, rela64_of, rela64_image, rela64_low, rela64_zero};
+ghost use Rattle.goblin_records.specs.Reloc.{rel64_size, rel64_of, rel64_image, rel64_low, rel64_zero, rela64_size, rela64_of, rela64_image, rela64_low, rela64_zero};
 ghost use Rattle.goblin_records.specs.RelocInfo.{symbol_in, type_in, info_of, JoinsItsParts, mips64el_info, mips64el_info_inverse, MipsInverse, MipsOneToOne, MipsFourTimes};
 
 use crate::reloc::Reloc;
@@ -220,7 +220,7 @@ impl TryIntoCtx<Endian> for Rela {
 }
 
 impl Record<Endian> for Rela {
-    ghost use Rattle.goblin_records.specs.Reloc64.{Rela64Fits};
+    ghost use Rattle.goblin_records.specs.Reloc.{Rela64Fits};
     ghost use Rattle.goblin_records.specs.RelocLaws.{rela64_laws};
 
     ghost read = { rela64_of };
@@ -271,7 +271,7 @@ impl TryIntoCtx<Endian> for Rel {
 }
 
 impl Record<Endian> for Rel {
-    ghost use Rattle.goblin_records.specs.Reloc64.{Rel64Fits};
+    ghost use Rattle.goblin_records.specs.Reloc.{Rel64Fits};
     ghost use Rattle.goblin_records.specs.RelocLaws.{rel64_laws};
 
     ghost read = { rel64_of };

@@ -6,7 +6,7 @@ ghost use Rattle.goblin_base.specs.Record.{read_within, Writes};
 ghost use Rattle.goblin_base.specs.Steps.{with_size};
 ghost use Rattle.goblin_base.specs.declared.container.Endian.{Endian};
 ghost use Rattle.goblin_records.specs.Constants.{bind_numbers, type_numbers, visibility_numbers};
-ghost use Rattle.goblin_records.specs.Sym32.{sym32_size, sym32_of, sym32_image, sym32_low, sym32_zero};
+ghost use Rattle.goblin_records.specs.Sym.{sym32_size, sym32_of, sym32_image, sym32_low, sym32_zero};
 ghost use Rattle.goblin_records.specs.SymParts.{type_of, IsImport};
 ghost use Rattle.goblin_records.specs.declared.sym32.Sym.{Sym};
 
@@ -152,7 +152,7 @@ impl TryIntoCtx<Endian> for Sym {
 }
 
 impl Record<Endian> for Sym {
-    ghost use Rattle.goblin_records.specs.Sym32.{Sym32Fits};
+    ghost use Rattle.goblin_records.specs.Sym.{Sym32Fits};
     ghost use Rattle.goblin_records.specs.SymLaws.{sym32_laws};
 
     ghost read = { sym32_of };

@@ -6,7 +6,7 @@ ghost use Rattle.goblin_base.specs.Record.{read_within, Writes};
 ghost use Rattle.goblin_base.specs.Steps.{with_size};
 ghost use Rattle.goblin_base.specs.declared.container.Endian.{Endian};
 ghost use Rattle.goblin_records.specs.Constants.{bind_numbers, type_numbers, visibility_numbers};
-ghost use Rattle.goblin_records.specs.Sym64.{sym64_size, sym64_of, sym64_image, sym64_low, sym64_zero};
+ghost use Rattle.goblin_records.specs.Sym.{sym64_size, sym64_of, sym64_image, sym64_low, sym64_zero};
 ghost use Rattle.goblin_records.specs.SymParts.{type_of, IsImport};
 ghost use Rattle.goblin_records.specs.declared.sym64.Sym.{Sym};
 
@@ -152,7 +152,7 @@ impl TryIntoCtx<Endian> for Sym {
 }
 
 impl Record<Endian> for Sym {
-    ghost use Rattle.goblin_records.specs.Sym64.{Sym64Fits};
+    ghost use Rattle.goblin_records.specs.Sym.{Sym64Fits};
     ghost use Rattle.goblin_records.specs.SymLaws.{sym64_laws};
 
     ghost read = { sym64_of };

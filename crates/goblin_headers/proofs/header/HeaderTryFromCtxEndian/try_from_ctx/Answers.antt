@@ -1,8 +1,6 @@
 use Rattle.std.proofs.Common.{refl, sym, ◌∙◌}
 use Rattle.goblin_base.specs.declared.container.Container.TheVariants as class
-use Rattle.goblin_headers.specs.Header.{widened32, widened64}
-use Rattle.goblin_headers.specs.Header32.{header32_of}
-use Rattle.goblin_headers.specs.Header64.{header64_of}
+use Rattle.goblin_headers.specs.Header.{widened32, widened64, header32_of, header64_of}
 use Rattle.goblin_headers.proofs.ReadHeaderLemmas.{Begins, read_header-raw}
 use Rattle.goblin_headers.proofs.header.HeaderTryFromCtxEndian.try_from_ctx.Goals as goal
 

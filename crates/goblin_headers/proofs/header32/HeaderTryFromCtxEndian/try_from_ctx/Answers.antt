@@ -1,6 +1,6 @@
 use Rattle.std.proofs.Common.{refl, sym, arith}
 use Rattle.goblin_base.specs.declared.error.Fault.TheVariants as faults
-use Rattle.goblin_headers.specs.Header32.{header32_size, header32_of}
+use Rattle.goblin_headers.specs.Header.{header32_size, header32_of}
 use Rattle.goblin_headers.proofs.RawTrips.{reads_in_order}
 use Rattle.goblin_headers.proofs.header32.HeaderTryFromCtxEndian.try_from_ctx.Goals as goal
 

@@ -1,4 +1,4 @@
-use Rattle.goblin_headers.specs.Header32.{header32_size, header32_image}
+use Rattle.goblin_headers.specs.Header.{header32_size, header32_image}
 use Rattle.goblin_headers.specs.WriteHeaderLaws.{in_order}
 use Rattle.goblin_headers.proofs.header32.HeaderTryIntoCtxEndian.try_into_ctx.Goals as goal
 

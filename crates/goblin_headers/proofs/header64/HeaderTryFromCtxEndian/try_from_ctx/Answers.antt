@@ -1,6 +1,6 @@
 use Rattle.std.proofs.Common.{refl, sym, arith}
 use Rattle.goblin_base.specs.declared.error.Fault.TheVariants as faults
-use Rattle.goblin_headers.specs.Header64.{header64_size, header64_of}
+use Rattle.goblin_headers.specs.Header.{header64_size, header64_of}
 use Rattle.goblin_headers.proofs.RawTrips.{reads_in_order}
 use Rattle.goblin_headers.proofs.header64.HeaderTryFromCtxEndian.try_from_ctx.Goals as goal
 

@@ -1,4 +1,4 @@
-use Rattle.goblin_headers.specs.Header64.{header64_size, header64_image}
+use Rattle.goblin_headers.specs.Header.{header64_size, header64_image}
 use Rattle.goblin_headers.specs.WriteHeaderLaws.{in_order}
 use Rattle.goblin_headers.proofs.header64.HeaderTryIntoCtxEndian.try_into_ctx.Goals as goal
 

@@ -1,7 +1,7 @@
 use Rattle.std.proofs.Common.{refl}
 use Rattle.goblin_base.specs.FieldLaws.{with_fields-image}
 use Rattle.goblin_base.specs.RecordLaws.{Writes-ok}
-use Rattle.goblin_headers.specs.ProgramHeader32.{program_header32_fields, program_header32_image}
+use Rattle.goblin_headers.specs.ProgramHeader.{program_header32_fields, program_header32_image}
 use Rattle.goblin_headers.proofs.program_header32.ProgramHeaderTryIntoCtxEndian.try_into_ctx.Goals as goal
 
 pub returns : goal.returns

@@ -1,6 +1,6 @@
 use Rattle.std.proofs.Common.{refl}
 use Rattle.goblin_base.specs.RecordLaws.{read_within-ok}
-use Rattle.goblin_headers.specs.ProgramHeader64.{program_header64_of}
+use Rattle.goblin_headers.specs.ProgramHeader.{program_header64_of}
 use Rattle.goblin_headers.proofs.program_header64.ProgramHeaderRecordEndian.read_record.Goals as goal
 
 pub returns : goal.returns

@@ -1,5 +1,5 @@
 use Rattle.goblin_base.specs.FieldLaws.{with_fields-image}
-use Rattle.goblin_headers.specs.SectionHeader32.{section_header32_fields}
+use Rattle.goblin_headers.specs.SectionHeader.{section_header32_fields}
 use Rattle.goblin_headers.proofs.section_header32.SectionHeader.put.Goals as goal
 
 pub returns : goal.returns

@@ -1,6 +1,6 @@
 use Rattle.std.proofs.Common.{refl}
 use Rattle.goblin_base.specs.RecordLaws.{read_within-ok}
-use Rattle.goblin_headers.specs.SectionHeader32.{section_header32_of}
+use Rattle.goblin_headers.specs.SectionHeader.{section_header32_of}
 use Rattle.goblin_headers.proofs.section_header32.SectionHeaderRecordEndian.read_record.Goals as goal
 
 pub returns : goal.returns

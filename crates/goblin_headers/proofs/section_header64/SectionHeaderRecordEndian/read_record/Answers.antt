@@ -1,6 +1,6 @@
 use Rattle.std.proofs.Common.{refl}
 use Rattle.goblin_base.specs.RecordLaws.{read_within-ok}
-use Rattle.goblin_headers.specs.SectionHeader64.{section_header64_of}
+use Rattle.goblin_headers.specs.SectionHeader.{section_header64_of}
 use Rattle.goblin_headers.proofs.section_header64.SectionHeaderRecordEndian.read_record.Goals as goal
 
 pub returns : goal.returns

@@ -1,5 +1,5 @@
 use Rattle.goblin_base.specs.FieldLaws.{with_fields-image}
-use Rattle.goblin_records.specs.Reloc32.{rel32_fields}
+use Rattle.goblin_records.specs.Reloc.{rel32_fields}
 use Rattle.goblin_records.proofs.reloc32.Rel.put.Goals as goal
 
 pub returns : goal.returns

@@ -1,7 +1,7 @@
 use Rattle.std.proofs.Common.{rules, FitsSigned, w64}
 use Rattle.std.proofs.lemmas.Int.{to_z-of_z}
 use Rattle.goblin_base.specs.FieldLaws.{with_fields-image}
-use Rattle.goblin_records.specs.Reloc64.{rela64_fields}
+use Rattle.goblin_records.specs.Reloc.{rela64_fields}
 use Rattle.goblin_records.proofs.reloc64.Rela.put.Goals as goal
 
 pub returns : goal.returns

@@ -1,5 +1,5 @@
 use Rattle.goblin_base.specs.FieldLaws.{with_fields-image}
-use Rattle.goblin_records.specs.Sym64.{sym64_fields}
+use Rattle.goblin_records.specs.Sym.{sym64_fields}
 use Rattle.goblin_records.proofs.sym64.Sym.put.Goals as goal
 
 pub returns : goal.returns
