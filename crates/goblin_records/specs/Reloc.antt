@@ -325,5 +325,5 @@ abbrev pub reloc_zero : Reloc
 reloc_zero = record { r_offset = 0; r_addend = None; r_sym = 0; r_type = 0 }
 
 -- the default context: without addends, not of MIPS64, of the 64-bit class and little endian
-abbrev pub reloc_ctx_plain : RelocCtx
-reloc_ctx_plain = record { is_rela = false; ctx = record { container = Big; le = order.Little }; is_mips64el = false }
+abbrev pub reloc_ctx_default : RelocCtx
+reloc_ctx_default = record { is_rela = false; ctx = record { container = Big; le = order.Little }; is_mips64el = false }

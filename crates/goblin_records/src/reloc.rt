@@ -3,7 +3,7 @@ ghost use Rattle.std.specs.Prelude.{◌≡◌, ◌≤◌, ◌++◌, length, drop
 ghost use Rattle.goblin_base.specs.LayoutLaws.{obeys};
 ghost use Rattle.goblin_base.specs.Record.{read_within, Writes};
 ghost use Rattle.goblin_base.specs.Steps.{with_size};
-ghost use Rattle.goblin_records.specs.Reloc.{reloc_size, reloc_of, reloc_image, as_meant, as_stored, reloc_in, reloc_image_in, OneImage, SameInEachClass, reloc_ctx_plain, reloc_zero};
+ghost use Rattle.goblin_records.specs.Reloc.{reloc_size, reloc_of, reloc_image, as_meant, as_stored, reloc_in, reloc_image_in, OneImage, SameInEachClass, reloc_ctx_default, reloc_zero};
 
 pub use crate::{reloc32, reloc64};
 use goblin_base::container::{Container, Ctx};
@@ -261,5 +261,5 @@ pub fn laws()
     ensures image { OneImage }
     ensures same { SameInEachClass }
     ensures zeros { (reloc : Reloc) → ⟦<Reloc as Default>⟧.is_default reloc → reloc ≡ reloc_zero }
-    ensures plain { (ctx : RelocCtx) → ⟦<RelocCtx as Default>⟧.is_default ctx → ctx ≡ reloc_ctx_plain }
+    ensures context { (ctx : RelocCtx) → ⟦<RelocCtx as Default>⟧.is_default ctx → ctx ≡ reloc_ctx_default }
 {}

@@ -20,10 +20,10 @@ more lines mine (Ok rest) = ap Ok (sym (append_assoc lines mine rest))
 more lines mine (Err e) = refl
 
 -- a line before lines that were added
-pub headed : (old head mid new : List ℕ) (right : Result (List ℕ) Refusal) → mid ≡ old ++ head
-    → ((lines : List ℕ) × (right ≡ Ok lines) × (new ≡ mid ++ lines))
-    → (lines : List ℕ) × ((right >>= λ lines. Ok (head & lines)) ≡ Ok lines) × (new ≡ old ++ lines)
-headed old head mid new right is (lines, given, added) =
+pub headed : (old head mid new : List ℕ) (expected : Result (List ℕ) Refusal) → mid ≡ old ++ head
+    → ((lines : List ℕ) × (expected ≡ Ok lines) × (new ≡ mid ++ lines))
+    → (lines : List ℕ) × ((expected >>= λ lines. Ok (head & lines)) ≡ Ok lines) × (new ≡ old ++ lines)
+headed old head mid new expected is (lines, given, added) =
     (head ++ lines, rw given refl, added ∙ ap (λ text. text ++ lines) is ∙ append_assoc old head lines)
 
 -- a note among items

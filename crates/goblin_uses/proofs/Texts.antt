@@ -21,19 +21,20 @@ same_table (Err e) bytes names is = search (rules, is)
 
 -- the lines, one after another
 pub listed : (old counted named new : List ℕ) (symbols : Result Symbols Error) (table : Symbols)
-    (names held : StringTable)
-    (functions : List Sym) → symbols ≡ Ok table → names ≡ held → counted ≡ old ++ functions_line table.symbols
+    (names held : StringTable) (functions : List Sym)
+    → symbols ≡ Ok table → names ≡ held → counted ≡ old ++ functions_line table.symbols
     → ((line : List ℕ) × IsNamesText names.bytes line × (named ≡ counted ++ line))
     → IsPermutation (filter is_function table.symbols) functions → LargestFirst functions
     → new ≡ named ++ function_lines held 0 functions
     → (text : List ℕ) × IfOk symbols (λ table. IsFunctionsText table.symbols names text) × (new ≡ old ++ text)
-listed old counted named new symbols table names held functions read same one (line, right, two) moved order three =
+listed old counted named new symbols table names held functions read same counted_is
+    (line, is_names, named_is) moved order new_is =
     let head = functions_line table.symbols in
     let rest = function_lines names 0 functions in (
       head ++ (line ++ rest),
-      rw read (line, functions, right, moved, order, refl),
-      three
+      rw read (line, functions, is_names, moved, order, refl),
+      new_is
           ∙ ap (λ t. named ++ function_lines t 0 functions) (sym same)
-          ∙ ap (λ t. t ++ rest) (two ∙ ap (λ t. t ++ line) one)
+          ∙ ap (λ t. t ++ rest) (named_is ∙ ap (λ t. t ++ line) counted_is)
           ∙ append_assoc (old ++ head) line rest ∙ append_assoc old head (line ++ rest),
     )

@@ -156,7 +156,8 @@ IsNamesText bytes text =
     × (probes ≤ digits (length entries)) × (digits (length entries + 1) ≤ probes + 1)
     × (text ≡ names_line (length entries) (last_zero (length bytes) bytes) (longest_step 0 (places_of entries)) probes)
 
--- a text is the line of the names, and then the lines of these symbols' functions, the largest first
+-- a text is the line with the number of functions, the line of the names, and the lines of these symbols' functions,
+-- the largest first
 abbrev pub IsFunctionsText : List Sym → StringTable → List ℕ → Type 0
 IsFunctionsText symbols names text =
     (line : List ℕ) × (functions : List Sym) × IsNamesText names.bytes line
@@ -166,10 +167,10 @@ IsFunctionsText symbols names text =
 -- the text that was added is such a text; an error is the expected refusal or out of memory
 abbrev pub AddsSuch : {X : Type 0}
     → List ℕ → List ℕ → Result (Unit {0}) Error → (List ℕ → Type 0) → Result X Refusal → Type 0
-AddsSuch old new (Ok done) Such right = (lines : List ℕ) × Such lines × (new ≡ old ++ lines)
-AddsSuch old new (Err e) Such right = refusal_of e ≢ out_of_memory → right ≡ Err (refusal_of e)
+AddsSuch old new (Ok done) Such expected = (lines : List ℕ) × Such lines × (new ≡ old ++ lines)
+AddsSuch old new (Err e) Such expected = refusal_of e ≢ out_of_memory → expected ≡ Err (refusal_of e)
 
 -- the text that was added is the expected one; an error is the expected refusal or out of memory
 abbrev pub Adds : List ℕ → List ℕ → Result (Unit {0}) Error → Result (List ℕ) Refusal → Type 0
-Adds old new (Ok done) right = (lines : List ℕ) × (right ≡ Ok lines) × (new ≡ old ++ lines)
-Adds old new (Err e) right = refusal_of e ≢ out_of_memory → right ≡ Err (refusal_of e)
+Adds old new (Ok done) expected = (lines : List ℕ) × (expected ≡ Ok lines) × (new ≡ old ++ lines)
+Adds old new (Err e) expected = refusal_of e ≢ out_of_memory → expected ≡ Err (refusal_of e)
