@@ -95,17 +95,17 @@ module _ {R : Type 0} {size : ℕ} {ident : R → List ℕ} {read : Endian → L
   raw_reads_back fault order h rest names fits =
       let bytes = image order h ++ rest in
       let enough = laws.enough in
-      let long = names.0 in
+      let long = names.long in
       let room : size ≤ length bytes =
       omega (arith, length-append (image order h) rest, laws.length_image order h long) in
       let byte = front_byte (image order h) (ident h) (laws.after_ident order h) rest 5 (laws.image_is order h)
       (omega arith) in
-      reads_in_order size read fault bytes order enough room (ap order_named byte ∙ names.1)
+      reads_in_order size read fault bytes order enough room (ap order_named byte ∙ names.named)
       ∙ ap Ok (reads_fitting laws order h rest long fits)
 
   pub raw_written_and_read_back : IsWrittenAndReadBack size ident Fits writes (read_in_order size read)
   raw_written_and_read_back fault order h old new answer names fits room so =
-      let wrote = writes_in_order (ident h) size (λ o. image o h) old new answer order names.1 room so in
+      let wrote = writes_in_order (ident h) size (λ o. image o h) old new answer order names.named room so in
       let back = raw_reads_back fault order h (drop size old) names fits in
       (wrote.answers, ap (read_in_order size read fault) wrote.leaves ∙ back)
 

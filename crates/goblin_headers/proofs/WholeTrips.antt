@@ -14,6 +14,7 @@ use Rattle.goblin_base.specs.declared.error.Error.{Error}
 use Rattle.goblin_base.specs.Number.{IsBytes}
 use Rattle.goblin_headers.specs.declared.header.Header.{Header}
 use Rattle.goblin_headers.specs.Header.{header_size, header_image, HeaderFits, Identifies, new_header, magic}
+use Rattle.goblin_headers.specs.Header.{class_byte, data_byte}
 use Rattle.goblin_headers.specs.Header.{class_named, order_named}
 use Rattle.goblin_headers.specs.HeaderTrips.{OneImage, ReadsBack, WrittenAndReadBack, ImageOfRead, WritesBack}
 use Rattle.goblin_headers.specs.HeaderTrips.{NewIsOfContext, NewIsReadBack}
@@ -45,16 +46,16 @@ reads_back class order h rest names fits =
     let bytes = image ++ rest in
     let is = laws.image_is order h in
     let after = laws.after_ident order h in
-    let long = names.2.0 in
+    let long = names.names_order.long in
     let enough = laws.enough in
     let room : header_size class ≤ length bytes =
     omega (arith, length-append image rest, laws.length_image order h long) in
-    let starts = begins_so image h.e_ident after rest is long names.0 in
+    let starts = begins_so image h.e_ident after rest is long names.begins in
     let class_byte = front_byte image h.e_ident after rest 4 is (omega arith) in
     let data_byte = front_byte image h.e_ident after rest 5 is (omega arith) in
     let begins : Begins class bytes =
-    record { long = omega arith; starts = starts; named = ap class_named class_byte ∙ names.1 } in
-    read_header-ok bytes class order begins (ap order_named data_byte ∙ names.2.1) room
+    record { long = omega arith; starts = starts; named = ap class_named class_byte ∙ names.named } in
+    read_header-ok bytes class order begins (ap order_named data_byte ∙ names.names_order.named) room
     ∙ ap (λ (g : Header). Ok (g, header_size class)) (reads_fitting laws order h rest long fits)
 
 -- with a class, a byte order and a buffer that is large enough, the image is written
@@ -69,7 +70,7 @@ writes_there class order h old new answer named ordered room so =
 
 pub written_and_read_back : WrittenAndReadBack
 written_and_read_back class order h old new answer names fits room so =
-    let wrote = writes_there class order h old new answer names.1 names.2.1 room so in
+    let wrote = writes_there class order h old new answer names.named names.names_order.named room so in
     (wrote.answers, ap read_header wrote.leaves ∙ reads_back class order h (drop (header_size class) old) names fits)
 
 -- the class and the byte order that the identification of a header that was read names
@@ -83,11 +84,15 @@ read_names class order bytes ident enough is starts named ordered =
     let front : take 4 ident ≡ take 4 bytes =
     ap (take 4) is
     ∙ sym (take-append-le 4 (take 16 bytes) (drop 16 bytes) (omega arith))
-    ∙ ap (take 4) (take-append-drop 16 bytes) in (
-      front ∙ sym begins,
-      ap class_named (ident_byte ident bytes 4 is (omega arith)) ∙ named,
-      (ap length is ∙ long, ap order_named (ident_byte ident bytes 5 is (omega arith)) ∙ ordered),
-    )
+    ∙ ap (take 4) (take-append-drop 16 bytes) in
+    record {
+      begins = front ∙ sym begins;
+      named = ap class_named (ident_byte ident bytes 4 is (omega arith)) ∙ named;
+      names_order = record {
+        long = ap length is ∙ long;
+        named = ap order_named (ident_byte ident bytes 5 is (omega arith)) ∙ ordered;
+      };
+    }
 
 -- what a header that was read names, and its image, which is the bytes that it was read from
 record CameFrom (bytes : List ℕ) (h : Header) (size : ℕ) : Type 0 where
@@ -123,22 +128,36 @@ image_of_read h bytes size are read =
 pub writes_back : WritesBack
 writes_back h bytes new size answer are read so =
     let from = came_from h bytes size are read in
-    let wrote = writes_there from.class from.order h bytes new answer from.names.1 from.names.2.1 from.enough so in
+    let names = from.names in
+    let wrote = writes_there from.class from.order h bytes new answer names.named names.names_order.named from.enough
+    so in
     let same = over_itself (header_size from.class)
     (header_image from.class from.order h) bytes new wrote.leaves from.image in
     (wrote.answers ∙ ap (λ (n : ℕ). Ok n) (sym from.sized), same)
 
--- a new header of each class and byte order
-new_names : (class : Container) (order : Endian)
-    → Identifies class order (new_header (record { container = class; le = order })).e_ident
-    × HeaderFits class (new_header (record { container = class; le = order }))
-new_names class.Little endian.Little = ((refl, refl, (refl, refl)), search (rules, arith))
-new_names class.Little endian.Big = ((refl, refl, (refl, refl)), search (rules, arith))
-new_names class.Big endian.Little = ((refl, refl, (refl, refl)), search (rules, arith))
-new_names class.Big endian.Big = ((refl, refl, (refl, refl)), search (rules, arith))
+-- a new header names its class and its byte order, and fits its class
+class_is_named : (class : Container) → class_named (class_byte class) ≡ Some class
+class_is_named class.Little = refl
+class_is_named class.Big = refl
+
+order_is_named : (order : Endian) → order_named (data_byte order) ≡ Some order
+order_is_named endian.Little = refl
+order_is_named endian.Big = refl
+
+new_fits : (class : Container) (order : Endian)
+    → HeaderFits class (new_header (record { container = class; le = order }))
+new_fits class.Little order = search (rules, arith)
+new_fits class.Big order = search (rules, arith)
 
 pub new_is_of_context : NewIsOfContext
-new_is_of_context ctx = new_names ctx.container ctx.le
+new_is_of_context ctx = (
+  record {
+    begins = refl;
+    named = class_is_named ctx.container;
+    names_order = record { long = refl; named = order_is_named ctx.le };
+  },
+  new_fits ctx.container ctx.le,
+)
 
 pub new_is_read_back : NewIsReadBack
 new_is_read_back ctx =

@@ -163,13 +163,15 @@ ctx_of h = do
   Ok (record { container = class; le = order })
 
 -- an identification of 16 bytes that names this byte order
-abbrev pub NamesOrder : Endian → List ℕ → Type 0
-NamesOrder order ident = (length ident ≡ 16) × (order_named (slice_index ident 5) ≡ Some order)
+pub record NamesOrder (order : Endian) (ident : List ℕ) : Type 0 where
+  pub long : length ident ≡ 16
+  pub named : order_named (slice_index ident 5) ≡ Some order
 
 -- an identification that begins with the magic number, and names this class and this byte order
-abbrev pub Identifies : Container → Endian → List ℕ → Type 0
-Identifies class order ident =
-    (take 4 ident ≡ magic) × (class_named (slice_index ident 4) ≡ Some class) × NamesOrder order ident
+pub record Identifies (class : Container) (order : Endian) (ident : List ℕ) : Type 0 where
+  pub begins : take 4 ident ≡ magic
+  pub named : class_named (slice_index ident 4) ≡ Some class
+  pub names_order : NamesOrder order ident
 
 -- the values of the fields of a header after its identification, in file order, which is the same in both classes
 abbrev pub header_values : Header → List ℕ
