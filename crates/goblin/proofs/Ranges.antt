@@ -55,17 +55,21 @@ pub next_is : (old : List NoteDataIterator) (i : ℕ) (x : NoteDataIterator)
 next_is old i x h is some = rw (drop_is old i x h is, lt-ltb x.offset x.size some) refl
 
 -- a range without items is skipped, and doesn't change
-pub passed : (old : List NoteDataIterator) (i : ℕ) (x : NoteDataIterator)
-    → i < length old → x ≡ get_or old i x → items_left x ≡ []
-    → (set old i (after_next x) ≡ old) × (flat_map items_left (drop (i + 1) old) ≡ flat_map items_left (drop i old))
-    × (most_left_in (drop (i + 1) old) ≡ most_left_in (drop i old))
-    × (i + 1 + spent (drop (i + 1) old) ≡ i + spent (drop i old))
-passed old i x h is none =
+pub record Skipped (old : List NoteDataIterator) (i : ℕ) (x : NoteDataIterator) : Type 0 where
+  pub ranges : set old i (after_next x) ≡ old
+  pub left : flat_map items_left (drop (i + 1) old) ≡ flat_map items_left (drop i old)
+  pub most : most_left_in (drop (i + 1) old) ≡ most_left_in (drop i old)
+  pub next : i + 1 + spent (drop (i + 1) old) ≡ i + spent (drop i old)
+
+pub skipped : (old : List NoteDataIterator) (i : ℕ) (x : NoteDataIterator)
+    → i < length old → x ≡ get_or old i x → items_left x ≡ [] → Skipped old i x
+skipped old i x h is none =
     let past = at_end x none in
     let same : after_next x ≡ x = rw (le-leb x.size x.offset past) refl in
-    let few : most_left x ≡ 0 = omega arith in (
-      rw same (set_same old i x h is),
-      rw (drop_is old i x h is, none) refl,
-      rw (drop_is old i x h is, sum_by-cons most_left x (drop (i + 1) old)) (omega arith),
-      rw (drop_is old i x h is, le-ltb x.offset x.size past) (omega arith),
-    )
+    let few : most_left x ≡ 0 = omega arith in
+    record {
+      ranges = rw same (set_same old i x h is);
+      left = rw (drop_is old i x h is, none) refl;
+      most = rw (drop_is old i x h is, sum_by-cons most_left x (drop (i + 1) old)) (omega arith);
+      next = rw (drop_is old i x h is, le-ltb x.offset x.size past) (omega arith);
+    }

@@ -1,6 +1,6 @@
 use Rattle.std.proofs.Common.{◌≡◌, arith, ◌∙◌}
 use Rattle.goblin.specs.Notes.{index_of_next}
-use Rattle.goblin.proofs.Ranges.{unspent, moved, next_is, passed}
+use Rattle.goblin.proofs.Ranges.{unspent, moved, next_is, skipped}
 use Rattle.goblin.proofs.elf.note.NoteIterator.advance.Goals as goal
 
 pub returns-in-Some-clause-ranges : goal.returns-in-Some-clause-ranges
@@ -18,12 +18,12 @@ pub loop-self-preserved : goal.loop-self-preserved
 loop-self-preserved c =
     let it = c.loop-self.self in
     let range = c.index_mut-range.result.now in
-    let on = passed it.iters.items it.index range
+    let past = skipped it.iters.items it.index range
     (omega arith) c.index_mut-range.ensures.value c.in_default.ensures.steps.0 in
     let were = c.loop-self.invariant in
     record {
-      ranges = rw (c.in_default.ensures.moves, on.0) were.ranges;
-      left = rw (c.in_default.ensures.moves, on.0) (on.1 ∙ were.left);
-      most = rw (c.in_default.ensures.moves, on.0) (on.2 ∙ were.most);
-      next = rw (c.in_default.ensures.moves, on.0) (on.3 ∙ were.next);
+      ranges = rw (c.in_default.ensures.moves, past.ranges) were.ranges;
+      left = rw (c.in_default.ensures.moves, past.ranges) (past.left ∙ were.left);
+      most = rw (c.in_default.ensures.moves, past.ranges) (past.most ∙ were.most);
+      next = rw (c.in_default.ensures.moves, past.ranges) (past.next ∙ were.next);
     }
