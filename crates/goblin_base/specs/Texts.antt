@@ -1,11 +1,15 @@
 -- The texts of the errors.
-use Rattle.std.specs.Prelude.{ℕ, Bool, false, if◌then◌else◌, List, [], ◌∷◌, ◌++◌, codes}
+use Rattle.std.specs.Prelude.{◌≡◌, ℕ, Bool, true, false, ◌&&◌, ◌==◌, nat_le, nat_lt, if◌then◌else◌, List, [], ◌∷◌, ◌++◌, codes, length, Option, Some}
 use Rattle.std.specs.Fmt.{decimal, digits}
+use Rattle.std.specs.List.{find}
 use Rattle.goblin_base.specs.declared.error.Fault.{Fault}
-use Rattle.goblin_base.specs.declared.error.Fault.TheVariants.{InvalidClass, InvalidEndianness, TooSmall, ElfClass, DataType, Data, NoteAlign, SymtabOffset, TooManySymbols, SymtabPast, StrtabOffset, StrtabRange, SectionOffset, SectionAddr, IntegerFit}
+use Rattle.goblin_base.specs.declared.error.Fault.TheVariants as fault
+use Rattle.goblin_base.specs.declared.texts.Kind.{Kind}
+use Rattle.goblin_base.specs.declared.texts.Kind.TheVariants.{BadMagic, TooBig, BadOffset, BadInput, BufferTooShort, OutOfMemory, InvalidClass, InvalidEndianness, TooSmall, ElfClass, DataType, Data, NoteAlign, SymtabOffset, TooManySymbols, SymtabPast, StrtabOffset, StrtabRange, SectionOffset, SectionAddr, IntegerFit}
 use Rattle.goblin_base.specs.declared.texts.Part.{Part}
 use Rattle.goblin_base.specs.declared.texts.Part.TheVariants as part
-use Rattle.goblin_base.specs.declared.texts.Told.{Told}
+use Rattle.goblin_base.specs.declared.texts.Report.{Report}
+use Rattle.goblin_base.specs.declared.texts.TheConstants.{KINDS}
 use Rattle.goblin_base.specs.Refusal.{Refusal, malformed, bad_magic, too_big, bad_offset, bad_input, buffer_too_short, out_of_memory}
 
 -- one text after another
@@ -21,61 +25,179 @@ hexadecimal n = digits 16 false n
 abbrev pub word_of : Bool → List ℕ
 word_of b = if b then codes "true" else codes "false"
 
+-- an error as its kind, its numbers and its item, without where the item lies in memory
+pub record Facts : Type 0 where
+  pub kind : Kind
+  pub item : List ℕ
+  pub first : ℕ
+  pub second : ℕ
+  pub third : ℕ
+  pub overflow : Bool
+
+-- those of a report
+abbrev pub facts_of : Report → Facts
+facts_of report = record {
+  kind = report.kind;
+  item = report.item.now;
+  first = report.first;
+  second = report.second;
+  third = report.third;
+  overflow = report.overflow;
+}
+
+-- those of a kind with numbers, and with an item
+abbrev pub numbers : Kind → ℕ → ℕ → ℕ → Bool → Facts
+numbers kind first second third overflow =
+    record { kind = kind; item = []; first = first; second = second; third = third; overflow = overflow }
+
+abbrev pub with_item : Kind → ℕ → List ℕ → Facts
+with_item kind first item =
+    record { kind = kind; item = item; first = first; second = 0; third = 0; overflow = false }
+
+-- those of a fault
+abbrev pub fault_facts : Fault → Facts
+fault_facts (fault.InvalidClass class) = numbers InvalidClass class 0 0 false
+fault_facts (fault.InvalidEndianness order) = numbers InvalidEndianness order 0 0 false
+fault_facts fault.TooSmall = numbers TooSmall 0 0 0 false
+fault_facts (fault.ElfClass class) = numbers ElfClass class 0 0 false
+fault_facts (fault.DataType order) = numbers DataType order 0 0 false
+fault_facts (fault.Data order) = numbers Data order 0 0 false
+fault_facts (fault.NoteAlign align) = numbers NoteAlign align 0 0 false
+fault_facts (fault.SymtabOffset offset len) = numbers SymtabOffset offset len 0 false
+fault_facts (fault.TooManySymbols offset count) = numbers TooManySymbols offset count 0 false
+fault_facts (fault.SymtabPast requested available) = numbers SymtabPast requested available 0 false
+fault_facts (fault.StrtabOffset offset len) = numbers StrtabOffset offset len 0 false
+fault_facts (fault.StrtabRange size offset len overflow) = numbers StrtabRange size offset len overflow
+fault_facts (fault.SectionOffset name size offset overflow) = numbers SectionOffset name size offset overflow
+fault_facts (fault.SectionAddr name size addr overflow) = numbers SectionAddr name size addr overflow
+fault_facts (fault.IntegerFit e) = numbers IntegerFit 0 0 0 false
+
+-- those of a refusal
+abbrev pub refusal_facts : Refusal → Facts
+refusal_facts (malformed f) = fault_facts f
+refusal_facts (bad_magic magic) = numbers BadMagic magic 0 0 false
+refusal_facts (too_big size len) = numbers TooBig size len 0 false
+refusal_facts (bad_offset offset) = numbers BadOffset offset 0 0 false
+refusal_facts (bad_input size msg) = with_item BadInput size msg
+refusal_facts (buffer_too_short count item) = with_item BufferTooShort count item
+refusal_facts out_of_memory = numbers OutOfMemory 0 0 0 false
+
+-- the number of a kind
+abbrev pub kind_number : Kind → ℕ
+kind_number BadMagic = 2
+kind_number TooBig = 3
+kind_number BadOffset = 4
+kind_number BadInput = 5
+kind_number BufferTooShort = 6
+kind_number OutOfMemory = 7
+kind_number InvalidClass = 10
+kind_number InvalidEndianness = 11
+kind_number TooSmall = 12
+kind_number ElfClass = 13
+kind_number DataType = 14
+kind_number Data = 15
+kind_number NoteAlign = 16
+kind_number SymtabOffset = 17
+kind_number TooManySymbols = 18
+kind_number SymtabPast = 19
+kind_number StrtabOffset = 20
+kind_number StrtabRange = 21
+kind_number SectionOffset = 22
+kind_number SectionAddr = 23
+kind_number IntegerFit = 24
+
+-- a kind has this number
+abbrev pub is_kind : ℕ → Kind → Bool
+is_kind number kind = kind_number kind == number
+
+-- the kind with a number, if there is one
+abbrev pub kind_with : ℕ → Option Kind
+kind_with number = find (is_kind number) KINDS.now
+
+-- each kind is found by its number
+abbrev pub KindsAreFound : Type 0
+KindsAreFound = (kind : Kind) → kind_with (kind_number kind) ≡ Some kind
+
+-- what stands before the text of a fault, which is of a kind from 10 on, and before others
+abbrev pub prefix : Kind → List ℕ
+prefix kind = if nat_lt (kind_number kind) 10 then [] else codes "Malformed entity: "
+
+-- the text of an error of a kind, without its prefix
+abbrev pub kind_text : Kind → Facts → List ℕ
+kind_text BadMagic e = codes "Invalid magic number: 0x" & hexadecimal e.first
+kind_text TooBig e = codes "type is too big (" & decimal e.first & codes ") for " & decimal e.second
+kind_text BadOffset e = codes "bad offset " & decimal e.first
+kind_text BadInput e = codes "bad input " & e.item & codes " (" & decimal e.first & codes ")"
+kind_text BufferTooShort e = codes "Buffer is too short for " & decimal e.first & codes " " & e.item
+kind_text OutOfMemory e = codes "Out of memory"
+kind_text InvalidClass e = codes "Invalid class in Header: " & decimal e.first
+kind_text InvalidEndianness e = codes "Invalid endianness in Header: " & decimal e.first
+kind_text TooSmall e = codes "Too small"
+kind_text ElfClass e = codes "invalid ELF class " & hexadecimal e.first
+kind_text DataType e = codes "invalid ELF endianness DATA type " & hexadecimal e.first
+kind_text Data e = codes "invalid ELF DATA type " & hexadecimal e.first
+kind_text NoteAlign e = codes "Notes has unimplemented alignment requirement: 0x" & hexadecimal e.first
+kind_text SymtabOffset e =
+    codes "Symbol table offset (" & decimal e.first & codes ") is beyond file boundary (" & decimal e.second & codes ")"
+kind_text TooManySymbols e =
+    codes "Too many ELF symbols (offset 0x" & hexadecimal e.first & codes ", count " & decimal e.second & codes ")"
+kind_text SymtabPast e =
+    codes "Symbol table extends beyond file boundary (requested: " & decimal e.first & codes ", available: "
+    & decimal e.second & codes ")"
+kind_text StrtabOffset e =
+    codes "String table offset (" & decimal e.first & codes ") is beyond file boundary (" & decimal e.second & codes ")"
+kind_text StrtabRange e =
+    codes "Strtable size (" & decimal e.first & codes ") + offset (" & decimal e.second & codes ") is out of bounds for "
+    & decimal e.third & codes " #bytes. Overflowed: " & word_of e.overflow
+kind_text SectionOffset e =
+    codes "Section " & decimal e.first & codes " size (" & decimal e.second & codes ") + offset (" & decimal e.third
+    & codes ") is out of bounds. Overflowed: " & word_of e.overflow
+kind_text SectionAddr e =
+    codes "Section " & decimal e.first & codes " size (" & decimal e.second & codes ") + addr (" & decimal e.third
+    & codes ") is out of bounds. Overflowed: " & word_of e.overflow
+kind_text IntegerFit e = codes "Integer do not fit: out of range integral type conversion attempted"
+
 -- the text of a fault
 abbrev pub fault_text : Fault → List ℕ
-fault_text (InvalidClass class) = codes "Invalid class in Header: " & decimal class
-fault_text (InvalidEndianness order) = codes "Invalid endianness in Header: " & decimal order
-fault_text TooSmall = codes "Too small"
-fault_text (ElfClass class) = codes "invalid ELF class " & hexadecimal class
-fault_text (DataType order) = codes "invalid ELF endianness DATA type " & hexadecimal order
-fault_text (Data order) = codes "invalid ELF DATA type " & hexadecimal order
-fault_text (NoteAlign align) = codes "Notes has unimplemented alignment requirement: 0x" & hexadecimal align
-fault_text (SymtabOffset offset len) =
-    codes "Symbol table offset (" & decimal offset & codes ") is beyond file boundary (" & decimal len & codes ")"
-fault_text (TooManySymbols offset count) =
-    codes "Too many ELF symbols (offset 0x" & hexadecimal offset & codes ", count " & decimal count & codes ")"
-fault_text (SymtabPast requested available) =
-    codes "Symbol table extends beyond file boundary (requested: " & decimal requested & codes ", available: "
-    & decimal available & codes ")"
-fault_text (StrtabOffset offset len) =
-    codes "String table offset (" & decimal offset & codes ") is beyond file boundary (" & decimal len & codes ")"
-fault_text (StrtabRange size offset len overflow) =
-    codes "Strtable size (" & decimal size & codes ") + offset (" & decimal offset & codes ") is out of bounds for "
-    & decimal len & codes " #bytes. Overflowed: " & word_of overflow
-fault_text (SectionOffset name size offset overflow) =
-    codes "Section " & decimal name & codes " size (" & decimal size & codes ") + offset (" & decimal offset
-    & codes ") is out of bounds. Overflowed: " & word_of overflow
-fault_text (SectionAddr name size addr overflow) =
-    codes "Section " & decimal name & codes " size (" & decimal size & codes ") + addr (" & decimal addr
-    & codes ") is out of bounds. Overflowed: " & word_of overflow
-fault_text (IntegerFit e) = codes "Integer do not fit: out of range integral type conversion attempted"
+fault_text f = let e = fault_facts f in kind_text e.kind e
 
--- the text of a refusal
+-- the text of an error, and of a refusal
+abbrev pub facts_text : Facts → List ℕ
+facts_text e = prefix e.kind & kind_text e.kind e
+
 abbrev pub refusal_text : Refusal → List ℕ
-refusal_text (malformed fault) = codes "Malformed entity: " & fault_text fault
-refusal_text (bad_magic magic) = codes "Invalid magic number: 0x" & hexadecimal magic
-refusal_text (too_big size len) = codes "type is too big (" & decimal size & codes ") for " & decimal len
-refusal_text (bad_offset offset) = codes "bad offset " & decimal offset
-refusal_text (bad_input size msg) = codes "bad input " & msg & codes " (" & decimal size & codes ")"
-refusal_text (buffer_too_short count item) = codes "Buffer is too short for " & decimal count & codes " " & item
-refusal_text out_of_memory = codes "Out of memory"
+refusal_text refusal = facts_text (refusal_facts refusal)
 
--- what a part is in the text of what is told
-abbrev pub part_text : Told → Part → List ℕ
-part_text told (part.Text text) = text.now
-part_text told part.First = decimal told.first
-part_text told part.Second = decimal told.second
-part_text told part.Third = decimal told.third
-part_text told part.Hexadecimal = hexadecimal told.first
-part_text told part.Item = told.item.now
-part_text told part.Overflowed = word_of told.overflowed
+-- what a part is in the text of an error
+abbrev pub part_text : Facts → Part → List ℕ
+part_text e (part.Text text) = text.now
+part_text e part.First = decimal e.first
+part_text e part.Second = decimal e.second
+part_text e part.Third = decimal e.third
+part_text e part.Hexadecimal = hexadecimal e.first
+part_text e part.Item = e.item
+part_text e part.Overflow = word_of e.overflow
 
 -- parts, one after another
-abbrev pub joined : Told → List Part → List ℕ
-joined told [] = []
-joined told (p ∷ []) = part_text told p
-joined told (p ∷ q ∷ rest) = part_text told p & joined told (q ∷ rest)
+abbrev pub joined : Facts → List Part → List ℕ
+joined e [] = []
+joined e (p ∷ []) = part_text e p
+joined e (p ∷ q ∷ rest) = part_text e p & joined e (q ∷ rest)
 
--- the text of what is told
-abbrev pub told_text : Told → List ℕ
-told_text told = told.before.now & joined told told.parts.now
+-- a part that isn't a text of over 100 bytes
+abbrev pub is_short : Part → Bool
+is_short (part.Text text) = nat_le (length text.now) 100
+is_short part.First = true
+is_short part.Second = true
+is_short part.Third = true
+is_short part.Hexadecimal = true
+is_short part.Item = true
+is_short part.Overflow = true
+
+-- at most 16 parts, none of which is such a text
+abbrev pub each_short : List Part → Bool
+each_short [] = true
+each_short (p ∷ rest) = is_short p && each_short rest
+
+abbrev pub are_short : List Part → Bool
+are_short parts = nat_le (length parts) 16 && each_short parts

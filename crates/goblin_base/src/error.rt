@@ -1,10 +1,10 @@
 //! Why reading or writing is refused.
-ghost use Rattle.std.specs.Prelude.{false, ◌≡◌, IfOk, Some, string_bytes};
+ghost use Rattle.std.specs.Prelude.{◌≡◌, IfOk, Some, string_bytes};
 ghost use Rattle.goblin_base.specs.Refusal.{misplaced, refusal_of};
-ghost use Rattle.goblin_base.specs.Texts.{◌&◌, fault_text, refusal_text, told_text};
+ghost use Rattle.goblin_base.specs.Texts.{facts_of, fault_facts, fault_text, numbers, refusal_facts, refusal_text, with_item};
 
-use crate::texts::{Part, Told};
-use crate::{scroll, texts};
+use crate::scroll;
+use crate::texts::{Kind, Report};
 use std::alloc::{AllocError, AllocFailed, Global};
 use std::num::TryFromIntError;
 use std::{fmt, result};
@@ -156,137 +156,133 @@ impl<T: Drop> From<AllocFailed<T>> for Error {
     }
 }
 
-// What is told by two numbers.
-fn told(before: &'static str, parts: &'static [Part], first: u64, second: u64) -> Told
-    ensures { result ≡ record { before = before.entry; parts = parts.entry; item = result.item; first = first; second = second; third = 0; overflowed = false } }
+// The report of an error of a kind, with its numbers.
+fn numbers(kind: Kind, first: u64, second: u64, third: u64, overflow: bool) -> Report
+    ensures { facts_of result ≡ numbers kind first second third overflow }
 {
-    Told {
-        before,
-        parts,
+    Report {
+        kind,
         item: "",
         first,
         second,
-        third: 0,
-        overflowed: false,
+        third,
+        overflow,
+    }
+}
+
+// The report of an error of a kind, with its number and its item.
+fn with_item(kind: Kind, first: usize, item: &'static str) -> Report
+    ensures { facts_of result ≡ with_item kind first item.now }
+{
+    Report {
+        item,
+        ..numbers(kind, first as u64, 0, 0, false)
     }
 }
 
 impl Fault {
-    // What the fault tells, behind a text.
-    fn told(&self, before: &'static str) -> Told
-        ensures { told_text result ≡ before.now & fault_text self.now }
+    /// Returns the fault as its kind and its numbers.
+    pub fn report(&self) -> Report
+        ensures { facts_of result ≡ fault_facts self.now }
     {
-        match self {
-            Fault::InvalidClass(class) => told(before, texts::INVALID_CLASS, *class as u64, 0),
-            Fault::InvalidEndianness(order) => told(
-                before,
-                texts::INVALID_ENDIANNESS,
-                *order as u64,
-                0,
-            ),
-            Fault::TooSmall => told(before, texts::TOO_SMALL, 0, 0),
-            Fault::ElfClass(class) => told(before, texts::ELF_CLASS, *class as u64, 0),
-            Fault::DataType(order) => told(before, texts::DATA_TYPE, *order as u64, 0),
-            Fault::Data(order) => told(before, texts::DATA, *order as u64, 0),
-            Fault::NoteAlign(align) => told(before, texts::NOTE_ALIGN, *align as u64, 0),
-            Fault::SymtabOffset { offset, len } => told(
-                before,
-                texts::SYMTAB_OFFSET,
-                *offset as u64,
-                *len as u64,
-            ),
-            Fault::TooManySymbols { offset, count } => told(
-                before,
-                texts::TOO_MANY_SYMBOLS,
-                *offset as u64,
-                *count as u64,
-            ),
+        match *self {
+            Fault::InvalidClass(class) => numbers(Kind::InvalidClass, class as u64, 0, 0, false),
+            Fault::InvalidEndianness(order) => {
+                numbers(Kind::InvalidEndianness, order as u64, 0, 0, false)
+            }
+            Fault::TooSmall => numbers(Kind::TooSmall, 0, 0, 0, false),
+            Fault::ElfClass(class) => numbers(Kind::ElfClass, class as u64, 0, 0, false),
+            Fault::DataType(order) => numbers(Kind::DataType, order as u64, 0, 0, false),
+            Fault::Data(order) => numbers(Kind::Data, order as u64, 0, 0, false),
+            Fault::NoteAlign(align) => numbers(Kind::NoteAlign, align as u64, 0, 0, false),
+            Fault::SymtabOffset { offset, len } => {
+                numbers(Kind::SymtabOffset, offset as u64, len as u64, 0, false)
+            }
+            Fault::TooManySymbols { offset, count } => {
+                numbers(Kind::TooManySymbols, offset as u64, count as u64, 0, false)
+            }
             Fault::SymtabPast {
                 requested,
                 available,
-            } => told(
-                before,
-                texts::SYMTAB_PAST,
-                *requested as u64,
-                *available as u64,
+            } => numbers(
+                Kind::SymtabPast,
+                requested as u64,
+                available as u64,
+                0,
+                false,
             ),
-            Fault::StrtabOffset { offset, len } => told(
-                before,
-                texts::STRTAB_OFFSET,
-                *offset as u64,
-                *len as u64,
-            ),
+            Fault::StrtabOffset { offset, len } => {
+                numbers(Kind::StrtabOffset, offset as u64, len as u64, 0, false)
+            }
             Fault::StrtabRange {
                 size,
                 offset,
                 len,
                 overflow,
-            } => Told {
-                third: *len as u64,
-                overflowed: *overflow,
-                ..told(before, texts::STRTAB_RANGE, *size as u64, *offset as u64)
-            },
+            } => numbers(
+                Kind::StrtabRange,
+                size as u64,
+                offset as u64,
+                len as u64,
+                overflow,
+            ),
             Fault::SectionOffset {
                 name,
                 size,
                 offset,
                 overflow,
-            } => Told {
-                third: *offset,
-                overflowed: *overflow,
-                ..told(before, texts::SECTION_OFFSET, *name as u64, *size)
-            },
+            } => numbers(Kind::SectionOffset, name as u64, size, offset, overflow),
             Fault::SectionAddr {
                 name,
                 size,
                 addr,
                 overflow,
-            } => Told {
-                third: *addr,
-                overflowed: *overflow,
-                ..told(before, texts::SECTION_ADDR, *name as u64, *size)
-            },
-            Fault::IntegerFit(_) => told(before, texts::INTEGER_FIT, 0, 0),
+            } => numbers(Kind::SectionAddr, name as u64, size, addr, overflow),
+            Fault::IntegerFit(_) => numbers(Kind::IntegerFit, 0, 0, 0, false),
         }
     }
 }
 
 impl scroll::Error {
-    // What the error tells.
-    fn told(&self) -> Told
-        ensures { told_text result ≡ refusal_text (misplaced self.now) }
+    /// Returns the error as its kind, its numbers and its item.
+    pub fn report(&self) -> Report
+        ensures { facts_of result ≡ refusal_facts (misplaced self.now) }
     {
-        match self {
+        match *self {
             scroll::Error::TooBig { size, len } => {
-                told("", texts::TOO_BIG, *size as u64, *len as u64)
+                numbers(Kind::TooBig, size as u64, len as u64, 0, false)
             }
-            scroll::Error::BadOffset(offset) => told("", texts::BAD_OFFSET, *offset as u64, 0),
-            scroll::Error::BadInput { size, msg } => Told {
-                item: msg,
-                ..told("", texts::BAD_INPUT, *size as u64, 0)
-            },
+            scroll::Error::BadOffset(offset) => numbers(
+                Kind::BadOffset,
+                offset as u64,
+                0,
+                0,
+                false,
+            ),
+            scroll::Error::BadInput { size, msg } => with_item(Kind::BadInput, size, msg),
         }
     }
 }
 
 impl Error {
-    // What the error tells.
-    fn told(&self) -> Told
-        ensures { told_text result ≡ refusal_text (refusal_of self.now) }
+    /// Returns the error as its kind, its numbers and its item.
+    pub fn report(&self) -> Report
+        ensures { facts_of result ≡ refusal_facts (refusal_of self.now) }
     {
         match self {
-            Error::Malformed(fault) => fault.told(texts::MALFORMED),
-            Error::BadMagic(magic) => told("", texts::BAD_MAGIC, *magic, 0),
-            Error::Scroll(e) => e.told(),
-            Error::BufferTooShort(count, item) => Told {
-                item,
-                ..told("", texts::BUFFER_TOO_SHORT, *count as u64, 0)
-            },
-            Error::Memory(_) => told("", texts::MEMORY, 0, 0),
+            Error::Malformed(fault) => fault.report(),
+            Error::BadMagic(magic) => numbers(Kind::BadMagic, *magic, 0, 0, false),
+            Error::Scroll(e) => e.report(),
+            Error::BufferTooShort(count, item) => with_item(Kind::BufferTooShort, *count, item),
+            Error::Memory(_) => numbers(Kind::OutOfMemory, 0, 0, 0, false),
         }
     }
 
-    /// The text that `Display` writes. Only want of memory is an error.
+    /// Returns the text that `Display` writes.
+    ///
+    /// # Errors
+    ///
+    /// Out of memory.
     pub fn line(&self, alloc: Global) -> result::Result<String, AllocError>
         ensures { IfOk result (λ text. string_bytes text ≡ refusal_text (refusal_of self.now)) }
     {
@@ -298,7 +294,7 @@ impl fmt::Display for Fault {
     ghost output = { λ fault. Some (fault_text fault) };
 
     fn fmt<W: fmt::Write>(&self, f: &mut fmt::Formatter<W>) -> fmt::Result {
-        write!(f, "{}", self.told(""))
+        self.report().write_parts(f)
     }
 }
 
@@ -306,7 +302,7 @@ impl fmt::Display for scroll::Error {
     ghost output = { λ e. Some (refusal_text (misplaced e)) };
 
     fn fmt<W: fmt::Write>(&self, f: &mut fmt::Formatter<W>) -> fmt::Result {
-        write!(f, "{}", self.told())
+        write!(f, "{}", self.report())
     }
 }
 
@@ -314,6 +310,6 @@ impl fmt::Display for Error {
     ghost output = { λ e. Some (refusal_text (refusal_of e)) };
 
     fn fmt<W: fmt::Write>(&self, f: &mut fmt::Formatter<W>) -> fmt::Result {
-        write!(f, "{}", self.told())
+        write!(f, "{}", self.report())
     }
 }

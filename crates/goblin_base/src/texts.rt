@@ -1,15 +1,64 @@
-//! The texts of errors, each in parts.
-ghost use Rattle.std.specs.Prelude.{Some};
+//! An error as its kind, its numbers and its item, and the text of each kind, in parts.
+ghost use Rattle.std.specs.Prelude.{◌≡◌, IsTrue, Some};
 ghost use Rattle.std.specs.Fmt.{WritesOnOk};
-ghost use Rattle.goblin_base.specs.Texts.{part_text, told_text};
+ghost use Rattle.std.specs.List.{find};
+ghost use Rattle.goblin_base.specs.Texts.{Facts, KindsAreFound, are_short, facts_of, facts_text, is_kind, joined, kind_number, kind_text, kind_with, part_text, prefix};
 
-use Part::{First, Hexadecimal, Item, Overflowed, Second, Text, Third};
+use Part::{First, Hexadecimal, Item, Overflow, Second, Text, Third};
 use std::fmt;
+
+/// The kinds of errors. A kind's number stays for good: other languages know the kind by it. From 10 on
+/// are the kinds of faults.
+#[derive(Clone, Copy, Debug, PartialEq, Eq)]
+pub enum Kind {
+    /// `Error::BadMagic`, with the first eight bytes.
+    BadMagic = 2,
+    /// `scroll::Error::TooBig`, with the size and the length.
+    TooBig = 3,
+    /// `scroll::Error::BadOffset`, with the offset.
+    BadOffset = 4,
+    /// `scroll::Error::BadInput`, with the size and what is wrong.
+    BadInput = 5,
+    /// `Error::BufferTooShort`, with the number of items and their name.
+    BufferTooShort = 6,
+    /// `Error::Memory`.
+    OutOfMemory = 7,
+    /// `Fault::InvalidClass`, with the class byte.
+    InvalidClass = 10,
+    /// `Fault::InvalidEndianness`, with the data byte.
+    InvalidEndianness = 11,
+    /// `Fault::TooSmall`.
+    TooSmall = 12,
+    /// `Fault::ElfClass`, with the class byte.
+    ElfClass = 13,
+    /// `Fault::DataType`, with the data byte.
+    DataType = 14,
+    /// `Fault::Data`, with the data byte.
+    Data = 15,
+    /// `Fault::NoteAlign`, with the alignment.
+    NoteAlign = 16,
+    /// `Fault::SymtabOffset`, with the offset and the file's length.
+    SymtabOffset = 17,
+    /// `Fault::TooManySymbols`, with the offset and the number of symbols.
+    TooManySymbols = 18,
+    /// `Fault::SymtabPast`, with the bytes requested and available.
+    SymtabPast = 19,
+    /// `Fault::StrtabOffset`, with the offset and the file's length.
+    StrtabOffset = 20,
+    /// `Fault::StrtabRange`, with the size, the offset, the file's length and the overflow.
+    StrtabRange = 21,
+    /// `Fault::SectionOffset`, with the name, the size, the offset and the overflow.
+    SectionOffset = 22,
+    /// `Fault::SectionAddr`, with the name, the size, the address and the overflow.
+    SectionAddr = 23,
+    /// `Fault::IntegerFit`.
+    IntegerFit = 24,
+}
 
 /// A part of the text of an error.
 #[derive(Clone, Copy, Debug)]
 pub enum Part {
-    /// What stands in each such text.
+    /// The same text in each error of the kind.
     Text(&'static str),
     /// The first number, by decimal digits.
     First,
@@ -19,83 +68,86 @@ pub enum Part {
     Third,
     /// The first number, by hexadecimal digits.
     Hexadecimal,
-    /// The text that the error names.
+    /// The item.
     Item,
-    /// Whether a sum passed its type.
-    Overflowed,
+    /// Whether a sum overflowed: `true` or `false`.
+    Overflow,
 }
 
-/// What an error tells, and the parts of the text that tells it.
+/// An error as its kind, its numbers and its item.
 #[derive(Clone, Copy, Debug)]
-pub struct Told {
-    /// What stands before the parts.
-    pub before: &'static str,
-    /// The parts, one after another.
-    pub parts: &'static [Part],
-    /// The text that the error names, or else the empty one.
+pub struct Report {
+    /// The kind of the error.
+    pub kind: Kind,
+    /// The text or the items that the error names. Empty if it names none.
     pub item: &'static str,
-    /// Its numbers, and behind them 0.
+    /// The numbers of the error in the order of its fields, followed by zeros.
     pub first: u64,
     pub second: u64,
     pub third: u64,
-    /// Whether a sum passed its type.
-    pub overflowed: bool,
+    /// Whether a sum overflowed.
+    pub overflow: bool,
 }
 
-/// What stands before the text of a fault.
-pub const MALFORMED: &str = "Malformed entity: ";
-
-/// The text of `Fault::InvalidClass`.
-pub const INVALID_CLASS: &[Part] = &[Text("Invalid class in Header: "), First];
-/// The text of `Fault::InvalidEndianness`.
-pub const INVALID_ENDIANNESS: &[Part] = &[Text("Invalid endianness in Header: "), First];
-/// The text of `Fault::TooSmall`.
-pub const TOO_SMALL: &[Part] = &[Text("Too small")];
-/// The text of `Fault::ElfClass`.
-pub const ELF_CLASS: &[Part] = &[Text("invalid ELF class "), Hexadecimal];
-/// The text of `Fault::DataType`.
-pub const DATA_TYPE: &[Part] = &[Text("invalid ELF endianness DATA type "), Hexadecimal];
-/// The text of `Fault::Data`.
-pub const DATA: &[Part] = &[Text("invalid ELF DATA type "), Hexadecimal];
-/// The text of `Fault::NoteAlign`.
-pub const NOTE_ALIGN: &[Part] = &[
-    Text("Notes has unimplemented alignment requirement: 0x"),
-    Hexadecimal,
+/// All kinds.
+pub const KINDS: &[Kind] = &[
+    Kind::BadMagic,
+    Kind::TooBig,
+    Kind::BadOffset,
+    Kind::BadInput,
+    Kind::BufferTooShort,
+    Kind::OutOfMemory,
+    Kind::InvalidClass,
+    Kind::InvalidEndianness,
+    Kind::TooSmall,
+    Kind::ElfClass,
+    Kind::DataType,
+    Kind::Data,
+    Kind::NoteAlign,
+    Kind::SymtabOffset,
+    Kind::TooManySymbols,
+    Kind::SymtabPast,
+    Kind::StrtabOffset,
+    Kind::StrtabRange,
+    Kind::SectionOffset,
+    Kind::SectionAddr,
+    Kind::IntegerFit,
 ];
-/// The text of `Fault::SymtabOffset`.
-pub const SYMTAB_OFFSET: &[Part] = &[
+
+// The parts of the longer texts.
+const SYMTAB_OFFSET: &[Part] = &[
     Text("Symbol table offset ("),
     First,
     Text(") is beyond file boundary ("),
     Second,
     Text(")"),
 ];
-/// The text of `Fault::TooManySymbols`.
-pub const TOO_MANY_SYMBOLS: &[Part] = &[
+
+const TOO_MANY_SYMBOLS: &[Part] = &[
     Text("Too many ELF symbols (offset 0x"),
     Hexadecimal,
     Text(", count "),
     Second,
     Text(")"),
 ];
-/// The text of `Fault::SymtabPast`.
-pub const SYMTAB_PAST: &[Part] = &[
+
+const SYMTAB_PAST: &[Part] = &[
     Text("Symbol table extends beyond file boundary (requested: "),
     First,
     Text(", available: "),
     Second,
     Text(")"),
 ];
-/// The text of `Fault::StrtabOffset`.
-pub const STRTAB_OFFSET: &[Part] = &[
+
+const STRTAB_OFFSET: &[Part] = &[
     Text("String table offset ("),
     First,
     Text(") is beyond file boundary ("),
     Second,
     Text(")"),
 ];
-/// The text of `Fault::StrtabRange`.
-pub const STRTAB_RANGE: &[Part] = &[
+
+const STRTAB_RANGE: &[Part] = &[
     Text("Strtable size ("),
     First,
     Text(") + offset ("),
@@ -103,10 +155,10 @@ pub const STRTAB_RANGE: &[Part] = &[
     Text(") is out of bounds for "),
     Third,
     Text(" #bytes. Overflowed: "),
-    Overflowed,
+    Overflow,
 ];
-/// The text of `Fault::SectionOffset`.
-pub const SECTION_OFFSET: &[Part] = &[
+
+const SECTION_OFFSET: &[Part] = &[
     Text("Section "),
     First,
     Text(" size ("),
@@ -114,10 +166,10 @@ pub const SECTION_OFFSET: &[Part] = &[
     Text(") + offset ("),
     Third,
     Text(") is out of bounds. Overflowed: "),
-    Overflowed,
+    Overflow,
 ];
-/// The text of `Fault::SectionAddr`.
-pub const SECTION_ADDR: &[Part] = &[
+
+const SECTION_ADDR: &[Part] = &[
     Text("Section "),
     First,
     Text(" size ("),
@@ -125,29 +177,87 @@ pub const SECTION_ADDR: &[Part] = &[
     Text(") + addr ("),
     Third,
     Text(") is out of bounds. Overflowed: "),
-    Overflowed,
+    Overflow,
 ];
-/// The text of `Fault::IntegerFit`.
-pub const INTEGER_FIT: &[Part] = &[Text(
-    "Integer do not fit: out of range integral type conversion attempted",
-)];
-/// The text of `Error::BadMagic`.
-pub const BAD_MAGIC: &[Part] = &[Text("Invalid magic number: 0x"), Hexadecimal];
-/// The text of `scroll::Error::TooBig`.
-pub const TOO_BIG: &[Part] = &[Text("type is too big ("), First, Text(") for "), Second];
-/// The text of `scroll::Error::BadOffset`.
-pub const BAD_OFFSET: &[Part] = &[Text("bad offset "), First];
-/// The text of `scroll::Error::BadInput`.
-pub const BAD_INPUT: &[Part] = &[Text("bad input "), Item, Text(" ("), First, Text(")")];
-/// The text of `Error::BufferTooShort`.
-pub const BUFFER_TOO_SHORT: &[Part] = &[Text("Buffer is too short for "), First, Text(" "), Item];
-/// The text of `Error::Memory`.
-pub const MEMORY: &[Part] = &[Text("Out of memory")];
 
-impl Told {
-    // Writes a part.
+// Returns the first of some kinds with a number.
+fn find_kind(kinds: &[Kind], number: u32) -> Option<Kind>
+    ensures { result ≡ find (is_kind number) kinds.now }
+{
+    for kind in kinds {
+        if kind.number() == number {
+            return Some(*kind);
+        }
+    }
+    None
+}
+
+impl Kind {
+    /// Returns the number of the kind.
+    pub fn number(self) -> u32
+        ensures { result ≡ kind_number self }
+    {
+        self as u32
+    }
+
+    /// Returns the kind with a number, or `None` if no kind has it.
+    pub fn with_number(number: u32) -> Option<Kind>
+        ensures { result ≡ kind_with number }
+    {
+        find_kind(KINDS, number)
+    }
+
+    /// Returns the text before the parts: that an error is a fault, or nothing.
+    pub fn prefix(self) -> &'static str
+        ensures { result.now ≡ prefix self }
+    {
+        if self.number() < 10 {
+            ""
+        } else {
+            "Malformed entity: "
+        }
+    }
+
+    /// Returns the parts of the text of an error, without its prefix.
+    pub fn parts(self) -> &'static [Part]
+        ensures text { (facts : Facts) → joined facts result.now ≡ kind_text self facts }
+        ensures short { IsTrue (are_short result.now) }
+    {
+        match self {
+            Kind::BadMagic => &[Text("Invalid magic number: 0x"), Hexadecimal],
+            Kind::TooBig => &[Text("type is too big ("), First, Text(") for "), Second],
+            Kind::BadOffset => &[Text("bad offset "), First],
+            Kind::BadInput => &[Text("bad input "), Item, Text(" ("), First, Text(")")],
+            Kind::BufferTooShort => &[Text("Buffer is too short for "), First, Text(" "), Item],
+            Kind::OutOfMemory => &[Text("Out of memory")],
+            Kind::InvalidClass => &[Text("Invalid class in Header: "), First],
+            Kind::InvalidEndianness => &[Text("Invalid endianness in Header: "), First],
+            Kind::TooSmall => &[Text("Too small")],
+            Kind::ElfClass => &[Text("invalid ELF class "), Hexadecimal],
+            Kind::DataType => &[Text("invalid ELF endianness DATA type "), Hexadecimal],
+            Kind::Data => &[Text("invalid ELF DATA type "), Hexadecimal],
+            Kind::NoteAlign => &[
+                Text("Notes has unimplemented alignment requirement: 0x"),
+                Hexadecimal,
+            ],
+            Kind::SymtabOffset => SYMTAB_OFFSET,
+            Kind::TooManySymbols => TOO_MANY_SYMBOLS,
+            Kind::SymtabPast => SYMTAB_PAST,
+            Kind::StrtabOffset => STRTAB_OFFSET,
+            Kind::StrtabRange => STRTAB_RANGE,
+            Kind::SectionOffset => SECTION_OFFSET,
+            Kind::SectionAddr => SECTION_ADDR,
+            Kind::IntegerFit => &[Text(
+                "Integer do not fit: out of range integral type conversion attempted",
+            )],
+        }
+    }
+}
+
+impl Report {
+    // Writes a part of the text.
     fn write_part<W: fmt::Write>(&self, part: &Part, f: &mut fmt::Formatter<W>) -> fmt::Result
-        ensures { WritesOnOk W.write_str_gives f.old result (part_text self.now part.now) f.new }
+        ensures { WritesOnOk W.write_str_gives f.old result (part_text (facts_of self.now) part.now) f.new }
     {
         match part {
             Text(text) => write!(f, "{text}"),
@@ -156,19 +266,36 @@ impl Told {
             Third => write!(f, "{}", self.third),
             Hexadecimal => write!(f, "{:x}", self.first),
             Item => write!(f, "{}", self.item),
-            Overflowed => write!(f, "{}", self.overflowed),
+            Overflow => write!(f, "{}", self.overflow),
         }
     }
-}
 
-impl fmt::Display for Told {
-    ghost output = { λ told. Some (told_text told) };
-
-    fn fmt<W: fmt::Write>(&self, f: &mut fmt::Formatter<W>) -> fmt::Result {
-        write!(f, "{}", self.before)?;
-        for part in self.parts {
+    /// Writes the text without its prefix.
+    ///
+    /// # Errors
+    ///
+    /// An error of the formatter.
+    pub fn write_parts<W: fmt::Write>(&self, f: &mut fmt::Formatter<W>) -> fmt::Result
+        ensures { WritesOnOk W.write_str_gives f.old result (kind_text self.now.kind (facts_of self.now)) f.new }
+    {
+        let parts = self.kind.parts();
+        for part in parts {
             self.write_part(part, f)?;
         }
         Ok(())
     }
 }
+
+impl fmt::Display for Report {
+    ghost output = { λ report. Some (facts_text (facts_of report)) };
+
+    fn fmt<W: fmt::Write>(&self, f: &mut fmt::Formatter<W>) -> fmt::Result {
+        write!(f, "{}", self.kind.prefix())?;
+        self.write_parts(f)
+    }
+}
+
+/// Law: each kind is found by its number.
+pub fn laws()
+    ensures { KindsAreFound }
+{}

@@ -1,24 +1,23 @@
 -- Texts that are written part by part.
-use Rattle.std.proofs.Common.{◌≡◌, ◌+◌, ◌<◌, ◌≤◌, ℕ, zero, suc, ◌&&◌, IsTrue, nat_le, List, [], ◌∷◌, ◌++◌, length, get_or, take, drop, sym, ap, ◌∙◌, length-append, arith}
+use Rattle.std.proofs.Common.{◌≡◌, ◌+◌, ◌<◌, ◌≤◌, ℕ, zero, suc, IsTrue, nat_le, List, [], ◌∷◌, ◌++◌, length, get_or, take, drop, sym, ap, ◌∙◌, length-append, arith}
 use Rattle.std.proofs.lemmas.Bool.{and_parts, leb-true}
 use Rattle.goblin_base.specs.declared.texts.Part.{Part}
-use Rattle.goblin_base.specs.declared.texts.Told.{Told}
+use Rattle.goblin_base.specs.Texts.{are_short, each_short, is_short}
 use Rattle.goblin_c.specs.Laid.{laid}
 use Rattle.goblin_c.specs.Laws.{KindsAreAnswers}
-use Rattle.goblin_c.specs.Texts.{TextIsKept, are_short, is_brief, is_short}
+use Rattle.goblin_c.specs.Texts.{TextIsKept}
 use Rattle.goblin_c.proofs.LaidLemmas.{laid-behind}
 
-short_at : (told : Told) (ps : List Part) (i : ℕ) (d : Part) → IsTrue (are_short told ps) → i < length ps → IsTrue (is_short told (get_or ps i d))
-short_at told [] i d short h = absurd (omega arith)
-short_at told (p ∷ ps) zero d short h = (and_parts (is_short told p) (are_short told ps) short).0
-short_at told (p ∷ ps) (suc i) d short h = short_at told ps i d (and_parts (is_short told p) (are_short told ps) short).1 (omega arith)
+short_at : (parts : List Part) (i : ℕ) (d : Part) → IsTrue (each_short parts) → i < length parts → IsTrue (is_short (get_or parts i d))
+short_at [] i d short h = absurd (omega arith)
+short_at (p ∷ parts) zero d short h = (and_parts (is_short p) (each_short parts) short).0
+short_at (p ∷ parts) (suc i) d short h = short_at parts i d (and_parts (is_short p) (each_short parts) short).1 (omega arith)
 
--- what is brief begins with a short text, has few parts, and each of them is short
-pub brief : (told : Told) → IsTrue (is_brief told) → (length told.before.now ≤ 100) × (length told.parts.now ≤ 16) × ((i : ℕ) (d : Part) → i < length told.parts.now → IsTrue (is_short told (get_or told.parts.now i d)))
-brief told is =
-    let all = and_parts (nat_le (length told.before.now) 100 && nat_le (length told.parts.now) 16) (are_short told told.parts.now) is in
-    let few = and_parts (nat_le (length told.before.now) 100) (nat_le (length told.parts.now) 16) all.0 in
-    (leb-true _ _ few.0, leb-true _ _ few.1, λ i d h. short_at told told.parts.now i d all.1 h)
+-- there are few parts, and each of them is short
+pub short_parts : (parts : List Part) → IsTrue (are_short parts) → (length parts ≤ 16) × ((i : ℕ) (d : Part) → i < length parts → IsTrue (is_short (get_or parts i d)))
+short_parts parts short =
+    let both = and_parts (nat_le (length parts) 16) (each_short parts) short in
+    (leb-true _ _ both.0, λ i d h. short_at parts i d both.1 h)
 
 -- the step of a loop that writes parts
 pub laid-part : (text more part old now new : List ℕ) (len : ℕ) → more ≡ text ++ part → now ≡ laid text old → len ≡ length text → new ≡ take len now ++ laid part (drop len now) → new ≡ laid more old

@@ -24,8 +24,8 @@ use Rattle.goblin_c.specs.Answers.{ctx_of, header_told, is_mips64el, reloc_told,
 use Rattle.goblin_c.specs.Bytes.{number_right, section_bytes_right, segment_bytes_right, string_bytes_right}
 use Rattle.goblin_c.specs.Laid.{laid}
 use Rattle.goblin_c.specs.Notes.{note_right}
-use Rattle.goblin_c.specs.Status.{refusal_told}
-use Rattle.goblin_c.specs.Texts.{told_text}
+use Rattle.goblin_c.specs.Status.{refusal_converted}
+use Rattle.goblin_c.specs.Texts.{converted_text}
 use Rattle.goblin_c.specs.declared.types.GoblinHeader.{GoblinHeader}
 use Rattle.goblin_c.specs.declared.types.GoblinNote.{GoblinNote}
 use Rattle.goblin_c.specs.declared.types.GoblinRange.{GoblinRange}
@@ -91,7 +91,7 @@ NotesLieInFile =
 -- a refusal that is an answer keeps its text on its way through C
 abbrev pub KeepsText : {X : Type 0} → Result X Refusal → Type 0
 KeepsText (Ok x) = ⊤
-KeepsText (Err refusal) = told_text (refusal_told refusal) ≡ refusal_text refusal
+KeepsText (Err refusal) = converted_text (refusal_converted refusal) ≡ refusal_text refusal
 
 -- so does every refusal of every call that is asked this
 pub record KeepTheirText
@@ -131,7 +131,7 @@ RefusalsKeepTheirText =
 
 -- the kind of a refusal, which a call answers, is neither 0 nor 1
 abbrev pub KindsAreAnswers : Type 0
-KindsAreAnswers = (refusal : Refusal) → 2 ≤ (refusal_told refusal).kind
+KindsAreAnswers = (refusal : Refusal) → 2 ≤ (refusal_converted refusal).kind
 
 -- a file has this header
 abbrev pub HasHeader : List ℕ → Header → Type 0

@@ -9,7 +9,7 @@ ghost use Rattle.goblin_c.specs.Laid.{laid};
 ghost use Rattle.goblin_c.specs.Layout.{layout};
 ghost use Rattle.goblin_c.specs.Notes.{note_right};
 ghost use Rattle.goblin_c.specs.Status.{Fills, Tells};
-ghost use Rattle.goblin_c.specs.Texts.{told_text};
+ghost use Rattle.goblin_c.specs.Texts.{converted_text};
 ghost use Rattle.goblin.specs.HeaderNames.{class_name, type_name as file_type_name};
 ghost use Rattle.goblin.specs.Machines.{machine_name};
 ghost use Rattle.goblin.specs.NoteType.{note_type_name};
@@ -291,8 +291,8 @@ pub extern "C" fn goblin_note_type_to_str(name: &[u8], n_type: u32, text: &mut [
 /// The text of a refusal.
 #[unsafe(no_mangle)]
 pub extern "C" fn goblin_refusal_text(why: &GoblinRefusal, text: &mut [u8]) -> u64
-    ensures written { text.new ≡ laid (told_text why.now) text.old }
-    ensures whole { result ≡ length (told_text why.now) }
+    ensures written { text.new ≡ laid (converted_text why.now) text.old }
+    ensures whole { result ≡ length (converted_text why.now) }
 {
     write_refusal(why, text)
 }

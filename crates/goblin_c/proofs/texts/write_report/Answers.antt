@@ -1,0 +1,24 @@
+use Rattle.std.proofs.Common.{ℕ, ◌++◌, ◌+◌, ◌∙◌, ap, append_assoc, arith, sym, take}
+use Rattle.goblin_base.specs.Texts.{facts_of, joined, prefix}
+use Rattle.goblin_base.proofs.PartsLemmas.{joined_more}
+use Rattle.goblin_c.proofs.TextLemmas.{laid-part, long-part, short_parts}
+use Rattle.goblin_c.proofs.texts.write_report.Goals as goal
+
+pub write_part-len-requires-clause-short : goal.write_part-len-requires-clause-short
+write_part-len-requires-clause-short c =
+    (short_parts c.parts-parts.result.now c.parts-parts.ensures.short).1 c.loop-part.part-index _ c.loop-part-test.true
+
+pub loop-part-preserved : goal.loop-part-preserved
+loop-part-preserved c =
+    let l = c.loop-part in
+    let facts = facts_of c.args.report.now in
+    let parts = c.parts-parts.result.now in
+    let done = c.write_part-len.ensures in
+    let text = λ (n : ℕ). prefix c.args.report.now.kind ++ joined facts (take n parts) in
+    let more =
+    ap (λ rest. prefix c.args.report.now.kind ++ rest) (joined_more facts parts l.part-index _ c.loop-part-test.true)
+    ∙ sym (append_assoc (prefix c.args.report.now.kind) (joined facts (take l.part-index parts)) _) in (
+      laid-part (text l.part-index) (text (l.part-index + 1)) _ c.args.room.now l.room c.write_part-len.new.room l.len more l.invariant.0 l.invariant.1 done.written,
+      long-part (text l.part-index) (text (l.part-index + 1)) _ c.write_part-len.result l.len more l.invariant.1 done.whole,
+      omega arith,
+    )

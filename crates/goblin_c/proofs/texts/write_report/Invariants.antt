@@ -1,0 +1,9 @@
+use Rattle.std.proofs.Common.{◌≡◌, ◌≤◌, ◌+◌, ◌*◌, ◌++◌, length, take}
+use Rattle.goblin_base.specs.Texts.{facts_of, joined, prefix}
+use Rattle.goblin_c.specs.Laid.{laid}
+use Rattle.goblin_c.proofs.texts.write_report.Given as goal
+
+abbrev pub invariant-loop-part : goal.invariant-loop-part
+invariant-loop-part l =
+    let text = prefix l.report.kind ++ joined (facts_of l.report) (take l.part-index l.parts) in
+    (l.room ≡ laid text l.fn.room) × (l.len ≡ length text) × (l.len ≤ 100 + l.part-index * 100)
