@@ -453,7 +453,7 @@ fn writes_refusals(rt: HostRuntime) {
     let sections = b"Buffer is too short for 2 section headers";
     assert!(rt; says(6, 2, [2, 0, 0, 0], sections));
     assert!(rt; says(7, 0, [0, 0, 0, 0], b"Out of memory"));
-    assert!(rt; says(25, 0, [1, 2, 3, 4], b""));
+    assert!(rt; says(9, 0, [1, 2, 3, 4], b"") && says(u32::MAX, 0, [1, 2, 3, 4], b""));
 }
 
 #[test]
