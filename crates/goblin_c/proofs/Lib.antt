@@ -1,7 +1,6 @@
 pub mod LaidLemmas
 pub mod DigitLemmas
 pub mod IndexLemmas
-pub mod KeptLemmas
 pub mod NoteLemmas
 pub mod PieceLemmas
 pub mod PlaceLemmas

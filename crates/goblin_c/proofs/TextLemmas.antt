@@ -5,7 +5,6 @@ use Rattle.goblin_base.specs.declared.texts.Part.{Part}
 use Rattle.goblin_base.specs.Texts.{are_short, each_short, is_short}
 use Rattle.goblin_c.specs.Laid.{laid}
 use Rattle.goblin_c.specs.Laws.{KindsAreAnswers}
-use Rattle.goblin_c.specs.Texts.{TextIsKept}
 use Rattle.goblin_c.proofs.LaidLemmas.{laid-behind}
 
 short_at : (parts : List Part) (i : ℕ) (d : Part) → IsTrue (each_short parts) → i < length parts → IsTrue (is_short (get_or parts i d))
@@ -26,9 +25,6 @@ laid-part text more part old now new len is was long step =
 
 pub long-part : (text more part : List ℕ) (n len : ℕ) → more ≡ text ++ part → len ≡ length text → n ≡ len + length part → n ≡ length more
 long-part text more part n len is long sum = omega (arith, ap length is, length-append text part)
-
-pub text-kept : TextIsKept
-text-kept refusal known = grind arith
 
 pub kinds-are-answers : KindsAreAnswers
 kinds-are-answers refusal = grind arith

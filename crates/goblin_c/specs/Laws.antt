@@ -1,12 +1,11 @@
--- Laws of the calls: what they tell one by one is what the library has at once, and no refusal loses its text.
-use Rattle.std.specs.Prelude.{◌≡◌, ◌≢◌, ◌⊎◌, ◌+◌, ◌/◌, ◌<◌, ◌≤◌, ⊤, ℕ, zero, suc, min, Bool, List, [], ◌∷◌, length, take, drop, slice_get, Option, Some, None, Result, Ok, Err}
+-- Laws of the calls: what they tell one by one is what the library has at once.
+use Rattle.std.specs.Prelude.{◌≡◌, ◌≢◌, ◌⊎◌, ◌+◌, ◌/◌, ◌<◌, ◌≤◌, ℕ, zero, suc, min, Bool, List, [], ◌∷◌, length, take, drop, slice_get, Option, Some, None, Result, Ok, Err}
 use Rattle.std.specs.Option.{option_map}
 use Rattle.goblin_base.specs.declared.container.Ctx.{Ctx}
 use Rattle.goblin_base.specs.declared.error.Fault.TheVariants.{InvalidClass, InvalidEndianness}
 use Rattle.goblin_base.specs.Refusal.{Refusal, refusal_of}
 use Rattle.goblin_base.specs.Steps.{◌>>=◌, refuse_as}
 use Rattle.goblin_base.specs.Strtab.{plain}
-use Rattle.goblin_base.specs.Texts.{refusal_text}
 use Rattle.goblin.specs.declared.elf.header.Header.{Header}
 use Rattle.goblin.specs.declared.elf.note.NoteDataIterator.{NoteDataIterator}
 use Rattle.goblin.specs.Header.{class_of, order_of}
@@ -20,12 +19,11 @@ use Rattle.goblin.specs.SectionHeaders.{section_headers_of}
 use Rattle.goblin.specs.declared.elf.sym.Sym.{Sym}
 use Rattle.goblin.specs.Sym.{sym_size}
 use Rattle.goblin.specs.Symtab.{symtab_of}
-use Rattle.goblin_c.specs.Answers.{ctx_of, header_told, is_mips64el, reloc_told, section_told, segment_told, symbol_told, header_right, section_by_type_right, section_count_right, section_right, segment_count_right, segment_right, symbol_right, reloc_right, string_right, symbol_count_right, reloc_count_right, sections_from_right, symbols_from_right, relocs_from_right, section_names_right, section_by_name_right, symbol_by_address_right, symbol_by_name_right, strings_right, table_of, table_right}
-use Rattle.goblin_c.specs.Bytes.{number_right, section_bytes_right, segment_bytes_right, string_bytes_right}
+use Rattle.goblin_c.specs.Answers.{ctx_of, header_told, is_mips64el, reloc_told, section_told, segment_told, symbol_told, section_by_type_right, section_count_right, section_right, segment_count_right, segment_right, symbol_right, reloc_right, string_right, symbol_count_right, reloc_count_right, sections_from_right, symbols_from_right, relocs_from_right, section_names_right, section_by_name_right, symbol_by_name_right, strings_right, table_of, table_right}
+use Rattle.goblin_c.specs.Bytes.{section_bytes_right, segment_bytes_right, string_bytes_right}
 use Rattle.goblin_c.specs.Laid.{laid}
 use Rattle.goblin_c.specs.Notes.{note_right}
 use Rattle.goblin_c.specs.Status.{refusal_converted}
-use Rattle.goblin_c.specs.Texts.{converted_text}
 use Rattle.goblin_c.specs.declared.types.GoblinHeader.{GoblinHeader}
 use Rattle.goblin_c.specs.declared.types.GoblinNote.{GoblinNote}
 use Rattle.goblin_c.specs.declared.types.GoblinRange.{GoblinRange}
@@ -87,47 +85,6 @@ NotesLieInFile =
     (bytes : List ℕ) (h : GoblinHeader) (range : GoblinRange) (alignment offset : ℕ) (told : GoblinNote)
     → note_right bytes h range alignment offset ≡ Ok (Some told)
     → LiesIn bytes told.name × LiesIn bytes told.desc × (offset + nhdr32_size ≤ told.next)
-
--- a refusal that is an answer keeps its text on its way through C
-abbrev pub KeepsText : {X : Type 0} → Result X Refusal → Type 0
-KeepsText (Ok x) = ⊤
-KeepsText (Err refusal) = converted_text (refusal_converted refusal) ≡ refusal_text refusal
-
--- so does every refusal of every call that is asked this
-pub record KeepTheirText
-    (bytes : List ℕ) (h : GoblinHeader) (range names : GoblinRange) (name : List ℕ) (is_rela : Bool)
-    (index offset address alignment width sh_type : ℕ) (s : GoblinSection) (p : GoblinSegment) : Type 0 where
-  pub header : KeepsText (header_right bytes)
-  pub section_count : KeepsText (section_count_right bytes h)
-  pub section : KeepsText (section_right bytes h index)
-  pub sections : KeepsText (sections_from_right bytes h index)
-  pub section_names : KeepsText (section_names_right bytes h)
-  pub table : KeepsText (table_right bytes h index)
-  pub segment : KeepsText (segment_right bytes h index)
-  pub symbol : KeepsText (symbol_right bytes h range index)
-  pub symbols : KeepsText (symbols_from_right bytes h range index)
-  pub reloc : KeepsText (reloc_right bytes h range is_rela index)
-  pub relocs : KeepsText (relocs_from_right bytes h range is_rela index)
-  pub string : KeepsText (string_right bytes range offset)
-  pub note : KeepsText (note_right bytes h range alignment offset)
-  pub section_by_name : KeepsText (section_by_name_right bytes h names name)
-  pub symbol_by_name : KeepsText (symbol_by_name_right bytes h range names name)
-  pub segment_count : KeepsText (segment_count_right bytes h)
-  pub symbol_count : KeepsText (symbol_count_right bytes h range)
-  pub reloc_count : KeepsText (reloc_count_right bytes h range is_rela)
-  pub symbol_by_address : KeepsText (symbol_by_address_right bytes h range address)
-  pub section_by_type : KeepsText (section_by_type_right bytes h sh_type index)
-  pub section_bytes : KeepsText (section_bytes_right bytes s)
-  pub segment_bytes : KeepsText (segment_bytes_right bytes p)
-  pub string_bytes : KeepsText (string_bytes_right bytes range offset)
-  pub number : KeepsText (number_right bytes h offset width)
-
--- so does every refusal of every call
-abbrev pub RefusalsKeepTheirText : Type 0
-RefusalsKeepTheirText =
-    (bytes : List ℕ) (h : GoblinHeader) (range names : GoblinRange) (name : List ℕ) (is_rela : Bool)
-    (index offset address alignment width sh_type : ℕ) (s : GoblinSection) (p : GoblinSegment)
-    → KeepTheirText bytes h range names name is_rela index offset address alignment width sh_type s p
 
 -- the kind of a refusal, which a call answers, is neither 0 nor 1
 abbrev pub KindsAreAnswers : Type 0

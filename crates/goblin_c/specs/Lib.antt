@@ -5,4 +5,5 @@ pub mod Laws
 pub mod Layout
 pub mod Notes
 pub mod Status
+pub mod TextLaws
 pub mod Texts

@@ -1,4 +1,4 @@
-use Rattle.goblin_c.proofs.KeptLemmas.{refusals_keep_their_text}
+use Rattle.goblin_c.specs.TextLaws.{refusals_keep_their_text}
 use Rattle.goblin_c.proofs.laws.texts.Goals as goal
 
 pub returns : goal.returns
