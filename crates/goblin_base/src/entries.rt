@@ -2,14 +2,22 @@
 //!
 //! The views here keep their fields to themselves and can't be copied, so that whoever reads through them
 //! can't read uncounted.
-ghost use Rattle.std.specs.Prelude.{◌≡◌, ◌↔◌, ◌+◌, ◌-◌, ◌*◌, ◌^◌, ◌<◌, ◌≤◌, [], min, length, IsTrue, slice_index, slice_index_or, slice_range};
-ghost use Rattle.std.specs.Str.{IsUtf8};
+ghost use Rattle.std.specs.Prelude.{◌≡◌, ◌↔◌, ◌+◌, ◌-◌, ◌*◌, ◌^◌, ◌<◌, ◌≤◌, [], min, length, position, ◌==◌, IfOk, IsTrue, MatchResult, slice_get, slice_index, slice_index_or, slice_range};
+ghost use Rattle.std.specs.Option.{unwrap_or};
+ghost use Rattle.std.specs.Str.{IsUtf8, IsValidUpTo, valid_up_to};
 ghost use Rattle.goblin_base.specs.Entries.{AreKept, IsKeptEntry, entries_between, places_of, text_of};
+ghost use Rattle.goblin_base.specs.Refusal.{Answers, malformed};
 ghost use Rattle.goblin_base.specs.Search.{IsRising};
+ghost use Rattle.goblin_base.specs.Steps.{refuse_as};
+ghost use Rattle.goblin_base.specs.Strtab.{IsRange, range_in};
 
+use crate::error::Result;
+use crate::options::ParseMode;
+use crate::strtab::{bytes_in_range, position};
 use std::alloc::Global;
-use std::fmt;
 use std::marker::Model;
+use std::str::Utf8Error;
+use std::{fmt, result};
 
 // A number up to `u128::MAX`, in two halves: so adding to it is one addition and a branch that is hardly
 // ever taken.
@@ -117,6 +125,65 @@ impl<'a> Looked<'a> {
         self.bytes[i]
     }
 
+    /// Returns the places from which and up to which `len` bytes at an offset stand, which `bytes_in_range` returns or
+    /// refuses. It is no look.
+    pub fn range(&self, offset: usize, len: usize, mode: ParseMode) -> Result<(usize, usize)>
+        ensures given { let right = refuse_as malformed (range_in mode self.now.bytes offset len) in
+            Answers (λ range. slice_range self.now.bytes range.0 range.1) result right }
+        ensures places { IfOk result (λ range.
+            IsRange mode self.now.bytes offset len range.0 range.1) }
+    {
+        let range = bytes_in_range(self.bytes, offset, len, mode)?;
+        let start = offset.min(self.bytes.len());
+        Ok((start, start + range.len()))
+    }
+
+    /// Returns the byte at a place, or `None` past the end. It is one look, whether there is a byte or not.
+    pub fn get(&mut self, i: usize) -> Option<u8>
+        ensures value { result ≡ slice_get self.old.bytes i }
+        ensures counted { self.new ≡ record self.old { count = min (self.old.count + 1) u128.MAX } }
+        ensures unchanged { self.new.bytes ≡ self.old.bytes }
+        ensures rising { self.old.count ≤ self.new.count }
+    {
+        self.count.add(1);
+        self.bytes.get(i).copied()
+    }
+
+    /// Returns where a byte stands first from one place up to another, or that other place. It is a look at each byte up
+    /// to it.
+    pub fn find(&mut self, byte: u8, from: usize, to: usize) -> usize
+        requires ordered { from ≤ to }
+        requires within { to ≤ length self.old.bytes }
+        ensures value { let range = slice_range self.old.bytes from to in
+            result ≡ from + unwrap_or (position (λ b. b == byte) range) (length range) }
+        ensures from { from ≤ result }
+        ensures to { result ≤ to }
+        ensures counted { let looks = min (result + 1) to - from in
+            self.new ≡ record self.old { count = min (self.old.count + looks) u128.MAX } }
+        ensures unchanged { self.new.bytes ≡ self.old.bytes }
+        ensures rising { self.old.count ≤ self.new.count }
+    {
+        let range = &self.bytes[from..to];
+        let len = position(range, byte).unwrap_or(range.len());
+        self.count.add((len + 1).min(to - from) as u64);
+        from + len
+    }
+
+    /// Returns the bytes from one place up to another as a text, or how far they are text. It is a look at each of them.
+    pub fn str(&mut self, from: usize, to: usize) -> result::Result<&'a str, Utf8Error>
+        requires ordered { from ≤ to }
+        requires within { to ≤ length self.old.bytes }
+        ensures cases { let range = slice_range self.old.bytes from to in
+            MatchResult result (λ text. (text.now ≡ range) × IsUtf8 range)
+            (λ e. ¬ (IsUtf8 range) × IsValidUpTo range (valid_up_to e)) }
+        ensures counted { self.new ≡ record self.old { count = min (self.old.count + (to - from)) u128.MAX } }
+        ensures unchanged { self.new.bytes ≡ self.old.bytes }
+        ensures rising { self.old.count ≤ self.new.count }
+    {
+        self.count.add((to - from) as u64);
+        std::str::from_utf8(&self.bytes[from..to])
+    }
+
     /// Whether the bytes from one place up to another are text. It is a look at each of them.
     pub fn text(&mut self, from: usize, to: usize) -> bool
         requires ordered { from ≤ to }
@@ -126,8 +193,7 @@ impl<'a> Looked<'a> {
         ensures unchanged { self.new.bytes ≡ self.old.bytes }
         ensures rising { self.old.count ≤ self.new.count }
     {
-        self.count.add((to - from) as u64);
-        std::str::from_utf8(&self.bytes[from..to]).is_ok()
+        self.str(from, to).is_ok()
     }
 
     // The entries at these places over the bytes, the last of which ends one before the closing place.

@@ -77,7 +77,7 @@ pub fn piece_len(bytes: &[u8], offset: usize, delim: u8) -> usize
 }
 
 // Returns the offset of the first delimiter.
-fn position(bytes: &[u8], delim: u8) -> Option<usize>
+pub(crate) fn position(bytes: &[u8], delim: u8) -> Option<usize>
     ensures { result ≡ position (λ b. b == delim) bytes.now }
 {
     bytes.iter().position(|b| *b == delim)
