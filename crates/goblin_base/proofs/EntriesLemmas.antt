@@ -1,5 +1,6 @@
 -- Entries kept as places.
-use Rattle.std.proofs.Common.{◌≡◌, ℕ, zero, suc, ◌+◌, ◌-◌, ◌<◌, ◌≤◌, true, false, take, drop, List, [], ◌∷◌, ◌++◌, length, get_or, refl, sym, ap, subst, ◌∙◌, arith}
+use Rattle.std.proofs.Common.{◌≡◌, ℕ, zero, suc, ◌+◌, ◌-◌, ◌<◌, ◌≤◌, true, false, take, drop, List, [], ◌∷◌, ◌++◌}
+use Rattle.std.proofs.Common.{length, get_or, refl, sym, ap, subst, ◌∙◌, arith}
 use Rattle.std.specs.List.{slice_range}
 use Rattle.std.specs.Str.{is_utf8}
 use Rattle.goblin_base.specs.Entries.{places_of, text_of}
@@ -21,14 +22,18 @@ module _ (bytes : List ℕ) where
   length-between (p ∷ ps) c = ap suc (length-between ps c)
 
   -- the entry at k ends before the place after it, or before the closing place
-  pub text_kept : (ps : List ℕ) (c k : ℕ) → k < length ps → text_of (get_or (entries_between bytes ps c) k (0, [])) ≡ slice_range bytes (get_or ps k 0) (get_or ps (k + 1) c - 1)
+  pub text_kept : (ps : List ℕ) (c k : ℕ)
+      → k < length ps
+      → text_of (get_or (entries_between bytes ps c) k (0, []))
+      ≡ slice_range bytes (get_or ps k 0) (get_or ps (k + 1) c - 1)
   text_kept [] c k h = absurd (omega arith)
   text_kept (p ∷ []) c zero h = refl
   text_kept (p ∷ q ∷ ps) c zero h = refl
   text_kept (p ∷ ps) c (suc k) h = let e : suc k + 1 ≡ suc (k + 1) = omega arith in
       text_kept ps c k (omega arith) ∙ ap (λ j. slice_range bytes (get_or ps k 0) (get_or (p ∷ ps) j c - 1)) (sym e)
 
-  pub kept_at : (ps : List ℕ) (c k : ℕ) → AreKept bytes ps c → k < length ps → IsKeptEntry bytes (get_or ps k 0) (get_or ps (k + 1) c)
+  pub kept_at : (ps : List ℕ) (c k : ℕ)
+      → AreKept bytes ps c → k < length ps → IsKeptEntry bytes (get_or ps k 0) (get_or ps (k + 1) c)
   kept_at [] c k a h = absurd (omega arith)
   kept_at (p ∷ []) c zero a h = a.0
   kept_at (p ∷ q ∷ ps) c zero a h = a.0
@@ -36,13 +41,20 @@ module _ (bytes : List ℕ) where
       subst (λ j. IsKeptEntry bytes (get_or ps k 0) (get_or (p ∷ ps) j c)) (sym e) (kept_at ps c k a.1 (omega arith))
 
   -- the same, from what was read of the places
-  pub kept_ends : (ps qs : List ℕ) (c k f n : ℕ) (es : List (ℕ × List ℕ)) → entries_between bytes ps c ≡ es → qs ≡ ps → f ≡ get_or qs k 0 → n ≡ get_or qs (k + 1) c → AreKept bytes ps c → k < length es → IsKeptEntry bytes f n × (slice_range bytes f (n - 1) ≡ text_of (get_or es k (0, [])))
+  pub kept_ends : (ps qs : List ℕ) (c k f n : ℕ) (es : List (ℕ × List ℕ))
+      → entries_between bytes ps c ≡ es → qs ≡ ps → f ≡ get_or qs k 0 → n ≡ get_or qs (k + 1) c → AreKept bytes ps c
+      → k < length es
+      → IsKeptEntry bytes f n × (slice_range bytes f (n - 1) ≡ text_of (get_or es k (0, [])))
   kept_ends ps qs c k f n es v e x y a h =
       let l : k < length ps = omega (arith, length-between ps c, ap length v) in
       let from : f ≡ get_or ps k 0 = x ∙ ap (λ l. get_or l k 0) e in
       let next : n ≡ get_or ps (k + 1) c = y ∙ ap (λ l. get_or l (k + 1) c) e in (
-        subst (λ j. IsKeptEntry bytes j n) (sym from) (subst (IsKeptEntry bytes (get_or ps k 0)) (sym next) (kept_at ps c k a l)),
-        ap (λ j. slice_range bytes j (n - 1)) from ∙ ap (λ j. slice_range bytes (get_or ps k 0) (j - 1)) next ∙ sym (text_kept ps c k l) ∙ ap (λ l. text_of (get_or l k (0, []))) v,
+        subst (λ j. IsKeptEntry bytes j n) (sym from)
+            (subst (IsKeptEntry bytes (get_or ps k 0)) (sym next) (kept_at ps c k a l)),
+        ap (λ j. slice_range bytes j (n - 1)) from
+            ∙ ap (λ j. slice_range bytes (get_or ps k 0) (j - 1)) next
+            ∙ sym (text_kept ps c k l)
+            ∙ ap (λ l. text_of (get_or l k (0, []))) v,
       )
 
   above_first : (p : ℕ) (ps : List ℕ) (c : ℕ) → AreKept bytes (p ∷ ps) c → (k : ℕ) → k < length ps → p < get_or ps k 0
@@ -61,9 +73,12 @@ module _ (bytes : List ℕ) where
   next_of-push (p ∷ ps) q c = refl
 
   -- one more entry begins where the last one closed
-  pub between_push : (ps : List ℕ) (q c : ℕ) → entries_between bytes (ps ++ q ∷ []) c ≡ entries_between bytes ps q ++ (q, slice_range bytes q (c - 1)) ∷ []
+  pub between_push : (ps : List ℕ) (q c : ℕ)
+      → entries_between bytes (ps ++ q ∷ []) c ≡ entries_between bytes ps q ++ (q, slice_range bytes q (c - 1)) ∷ []
   between_push [] q c = refl
-  between_push (p ∷ ps) q c = ap (λ n. (p, slice_range bytes p (n - 1)) ∷ entries_between bytes (ps ++ q ∷ []) c) (next_of-push ps q c) ∙ ap (λ l. (p, slice_range bytes p (next_of ps q - 1)) ∷ l) (between_push ps q c)
+  between_push (p ∷ ps) q c =
+      ap (λ n. (p, slice_range bytes p (n - 1)) ∷ entries_between bytes (ps ++ q ∷ []) c) (next_of-push ps q c)
+      ∙ ap (λ l. (p, slice_range bytes p (next_of ps q - 1)) ∷ l) (between_push ps q c)
 
   pub kept_push : (ps : List ℕ) (q c : ℕ) → AreKept bytes ps q → IsKeptEntry bytes q c → AreKept bytes (ps ++ q ∷ []) c
   kept_push [] q c a e = (e, tt)
@@ -78,30 +93,54 @@ pub ruleset kept = (length-between, places_between, none_between)
 
 -- one more place, in the walk
 module _ (bytes : List ℕ) (d : ℕ) where
-  walked_more : (ps qs : List ℕ) (p q : ℕ) → qs ≡ ps ++ p ∷ [] → IsKeptEntry bytes p q → entries_from bytes d p ≡ (p, slice_range bytes p (q - 1)) ∷ entries_from bytes d q → IsWalkedTo bytes d ps p → IsWalkedTo bytes d qs q
+  walked_more : (ps qs : List ℕ) (p q : ℕ)
+      → qs ≡ ps ++ p ∷ [] → IsKeptEntry bytes p q
+      → entries_from bytes d p ≡ (p, slice_range bytes p (q - 1)) ∷ entries_from bytes d q → IsWalkedTo bytes d ps p
+      → IsWalkedTo bytes d qs q
   walked_more ps qs p q e k step w = record {
     kept = subst (λ l. AreKept bytes l q) (sym e) (kept_push bytes ps p q w.kept k);
-    found = found_more bytes d _ _ (p, slice_range bytes p (q - 1)) p q (ap (λ l. entries_between bytes l q) e ∙ between_push bytes ps p q) step w.found;
+    found = found_more bytes d _ _ (p, slice_range bytes p (q - 1)) p q
+        (ap (λ l. entries_between bytes l q) e ∙ between_push bytes ps p q) step w.found;
   }
 
   empty_range : (p : ℕ) → slice_range bytes p (p + 1 - 1) ≡ []
   empty_range p = let e : p + 1 - 1 - p ≡ 0 = omega arith in ap (λ n. take n (drop p bytes)) e
 
   kept_empty : (p : ℕ) → p < length bytes → IsKeptEntry bytes p (p + 1)
-  kept_empty p h = record { rising = omega arith; within = omega arith; text = ap is_utf8 (empty_range p) ∙ is_utf8-from_IsUtf8 [] IsUtf8-nil }
+  kept_empty p h =
+      record {
+        rising = omega arith;
+        within = omega arith;
+        text = ap is_utf8 (empty_range p) ∙ is_utf8-from_IsUtf8 [] IsUtf8-nil;
+      }
 
   -- an entry with no text, where the piece is none
-  pub walked_empty : (ps qs : List ℕ) (p : ℕ) → p < length bytes → is_readable bytes d p ≡ false → qs ≡ ps ++ p ∷ [] → IsWalkedTo bytes d ps p → IsWalkedTo bytes d qs (p + 1)
-  walked_empty ps qs p h r e = walked_more ps qs p (p + 1) e (kept_empty p h) (entries_more_bad bytes d p h r ∙ ap (λ t. (p, t) ∷ entries_from bytes d (p + 1)) (sym (empty_range p)))
+  pub walked_empty : (ps qs : List ℕ) (p : ℕ)
+      → p < length bytes → is_readable bytes d p ≡ false → qs ≡ ps ++ p ∷ [] → IsWalkedTo bytes d ps p
+      → IsWalkedTo bytes d qs (p + 1)
+  walked_empty ps qs p h r e =
+      walked_more ps qs p (p + 1) e (kept_empty p h)
+      (entries_more_bad bytes d p h r ∙ ap (λ t. (p, t) ∷ entries_from bytes d (p + 1)) (sym (empty_range p)))
 
-  kept_text : (p end : ℕ) → p ≤ end → end ≤ length bytes → end ≡ piece_end bytes d p → is_readable bytes d p ≡ true → IsKeptEntry bytes p (end + 1)
-  kept_text p end l m e r = let s : end ≡ end + 1 - 1 = omega arith in record { rising = omega arith; within = omega arith; text = ap (λ n. is_utf8 (slice_range bytes p n)) (sym s) ∙ text_from_readable bytes d p end e r }
+  kept_text : (p end : ℕ)
+      → p ≤ end → end ≤ length bytes → end ≡ piece_end bytes d p → is_readable bytes d p ≡ true
+      → IsKeptEntry bytes p (end + 1)
+  kept_text p end l m e r = let s : end ≡ end + 1 - 1 = omega arith in
+      record {
+        rising = omega arith;
+        within = omega arith;
+        text = ap (λ n. is_utf8 (slice_range bytes p n)) (sym s) ∙ text_from_readable bytes d p end e r;
+      }
 
   -- an entry whose text is the whole piece
-  pub walked_text : (ps qs : List ℕ) (p end : ℕ) → p < length bytes → p ≤ end → end ≤ length bytes → end ≡ piece_end bytes d p → is_readable bytes d p ≡ true → qs ≡ ps ++ p ∷ [] → IsWalkedTo bytes d ps p → IsWalkedTo bytes d qs (end + 1)
+  pub walked_text : (ps qs : List ℕ) (p end : ℕ)
+      → p < length bytes → p ≤ end → end ≤ length bytes → end ≡ piece_end bytes d p → is_readable bytes d p ≡ true
+      → qs ≡ ps ++ p ∷ [] → IsWalkedTo bytes d ps p
+      → IsWalkedTo bytes d qs (end + 1)
   walked_text ps qs p end h l m e r same =
       let s : end + 1 - 1 ≡ end = omega arith in
-      walked_more ps qs p (end + 1) same (kept_text p end l m e r) (entry_of_text bytes d p end _ h e (ap (slice_range bytes p) s) r)
+      walked_more ps qs p (end + 1) same (kept_text p end l m e r)
+      (entry_of_text bytes d p end _ h e (ap (slice_range bytes p) s) r)
 
   pub walked_none : IsWalkedTo bytes d [] 0
   walked_none = record { kept = tt; found = refl }

@@ -1,4 +1,5 @@
--- The entries of a string table, kept as places in its bytes and one closing place; bytes and places read under a count.
+-- The entries of a string table, kept as places in its bytes and one closing place; bytes and places read under a
+-- count.
 use Rattle.std.specs.Prelude.{◌≡◌, ℕ, ◌+◌, ◌-◌, ◌^◌, ◌<◌, ◌≤◌, true, List, [], ◌∷◌, length, map, min, slice_range}
 use Rattle.std.specs.Str.{is_utf8}
 
