@@ -1,5 +1,5 @@
 //! Binary search among sorted offsets.
-ghost use Rattle.std.specs.Prelude.{◌≡◌, ◌+◌, ◌≤◌, min, length};
+ghost use Rattle.std.specs.Prelude.{◌≡◌, ◌+◌, ◌≤◌, if◌then◌else◌, min, length, nat_le};
 ghost use Rattle.goblin_base.specs.Search.{FindsLast, digits};
 
 use crate::entries::Probes;
@@ -32,12 +32,18 @@ pub fn find(view: &mut Probes<'_>, offset: usize) -> Option<usize>
     let mut size = view.len();
     while size > 0 {
         let half = size / 2;
-        if view.at(low + half) <= offset {
-            low += half + 1;
-            size -= half + 1;
-        } else {
-            size = half;
-        }
+        low += step_past(view.at(low + half), offset, size - half);
+        size = half;
     }
     if low == 0 { None } else { Some(low - 1) }
+}
+
+// Returns `step` if the place is at or before the offset, else 0. A branch would be mispredicted half the time, so the
+// borrow of a subtraction masks the step.
+#[inline(always)]
+fn step_past(place: usize, offset: usize, step: usize) -> usize
+    ensures { result ≡ (if nat_le place offset then step else 0) }
+{
+    let borrow = (place as u128).wrapping_sub(offset as u128 + 1) >> 64;
+    step & borrow as usize
 }

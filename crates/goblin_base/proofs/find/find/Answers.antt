@@ -1,5 +1,5 @@
-use Rattle.std.proofs.Common.{ℕ, ◌+◌, ◌-◌, ◌/◌, ◌<◌, ◌≤◌, ⊎_elim, List, length, slice_index, ap, ◌∙◌, arith}
-use Rattle.std.proofs.lemmas.Bool.{cases_lt}
+use Rattle.std.proofs.Common.{◌≡◌, ℕ, ◌+◌, ◌-◌, ◌/◌, ◌<◌, ◌≤◌, ⊎_elim, List, length, slice_index, ap, ◌∙◌, arith}
+use Rattle.std.proofs.lemmas.Bool.{cases_lt, cond-true, cond-false, le-leb, lt-leb}
 use Rattle.goblin_base.specs.Search.{IsRising}
 use Rattle.goblin_base.proofs.DigitsLemmas.{digits_step, digits_step_back}
 use Rattle.goblin_base.proofs.find.find.Goals as goal
@@ -15,39 +15,38 @@ to_the_right : (ps : List ℕ) (m o : ℕ)
 to_the_right ps m o rising here k h within =
     ⊎_elim (λ (l : m < k). omega (arith, rising m k l within)) (λ (l : k ≤ m). grind arith) (cases_lt m k)
 
-pub loop-size-preserved-then-at-offset : goal.loop-size-preserved-then-at-offset
-loop-size-preserved-then-at-offset c =
-    let s = c.loop-size in
-    let ps = c.args.view.now.places in
-    let m = s.low + s.size / 2 in
-    let left = s.size - (s.size / 2 + 1) in
-    let n = ap (λ v. v.count) c.at.ensures.counted in
-    let here : slice_index ps m ≤ c.args.offset =
-    omega (arith, c.at.ensures.value, ap (λ l. slice_index l m) s.invariant.same, c.if-at-offset.true) in
-    record {
-      same = c.at.ensures.unchanged ∙ s.invariant.same;
-      within = omega arith;
-      before = λ k h. to_the_left ps m c.args.offset c.len-size.ensures.rising (omega arith) here k (omega arith);
-      after = λ k h w. s.invariant.after k (omega arith) w;
-      rising = omega arith;
-      most = omega (arith, n, digits_step s.size left (omega arith) (omega arith), s.invariant.most);
-      least = omega (arith, n, digits_step_back (s.size + 1) (left + 1) (omega arith), s.invariant.least);
-    }
-
 pub loop-size-preserved : goal.loop-size-preserved
 loop-size-preserved c =
     let s = c.loop-size in
     let ps = c.args.view.now.places in
     let m = s.low + s.size / 2 in
+    let step = s.size - s.size / 2 in
+    let place = c.at.result in
     let n = ap (λ v. v.count) c.at.ensures.counted in
-    let here : c.args.offset < slice_index ps m =
-    omega (arith, c.at.ensures.value, ap (λ l. slice_index l m) s.invariant.same, c.if-at-offset.false) in
+    let here : place ≡ slice_index ps m = c.at.ensures.value ∙ ap (λ l. slice_index l m) s.invariant.same in
+    let moved = c.step_past-low.ensures in
+    ⊎_elim
+    (λ (l : c.args.offset < place).
+    let stays : c.step_past-low.result ≡ 0 = moved ∙ cond-false _ _ _ (lt-leb place c.args.offset l) in
     record {
       same = c.at.ensures.unchanged ∙ s.invariant.same;
       within = omega arith;
-      before = s.invariant.before;
-      after = to_the_right ps m c.args.offset c.len-size.ensures.rising here;
+      before = λ k h. s.invariant.before k (omega arith);
+      after = λ k h w. to_the_right ps m c.args.offset c.len-size.ensures.rising (omega arith) k (omega arith) w;
       rising = omega arith;
       most = omega (arith, n, digits_step s.size (s.size / 2) (omega arith) (omega arith), s.invariant.most);
       least = omega (arith, n, digits_step_back (s.size + 1) (s.size / 2 + 1) (omega arith), s.invariant.least);
-    }
+    })
+    (λ (l : place ≤ c.args.offset).
+    let goes : c.step_past-low.result ≡ step = moved ∙ cond-true _ _ _ (le-leb place c.args.offset l) in
+    record {
+      same = c.at.ensures.unchanged ∙ s.invariant.same;
+      within = omega arith;
+      before = λ k h.
+          to_the_left ps m c.args.offset c.len-size.ensures.rising (omega arith) (omega arith) k (omega arith);
+      after = λ k h w. s.invariant.after k (omega arith) w;
+      rising = omega arith;
+      most = omega (arith, n, digits_step s.size (s.size / 2) (omega arith) (omega arith), s.invariant.most);
+      least = omega (arith, n, digits_step_back (s.size + 1) (s.size / 2 + 1) (omega arith), s.invariant.least);
+    })
+    (cases_lt c.args.offset place)
