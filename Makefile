@@ -36,24 +36,20 @@ gate:
 
 # First what takes seconds. Then side by side, so that two processors have work up to the end: every proof that the toolchain
 # hasn't kept on this machine, with the must-fail edits, the tests and the stored runs, and after it the program's words, real
-# files, and what hostile files may take; the library for C, which is proved in a copy, since `rt ci` holds the crates' folders, and
-# then called from C, Rust and JavaScript; and allocations that fail.
+# files, and what hostile files may take; the library for C, which is made in a copy, since `rt ci` holds the crates' folders, over
+# the libraries that it has proved, and then called from C, Rust and JavaScript; and allocations that fail.
 tested:
 	sh checks/quotes.sh
 	sh checks/lint.sh
 	python3 checks/edits --fits
 	@$(MAKE) --no-print-directory -j4 words files limits called refused unit
 
-# Every edit, which begins with what the library's proofs have kept, and whether edits that test nothing are told from those that do.
+# Every edit, and whether edits that test nothing are told from those that do.
 tried:
 	@$(MAKE) --no-print-directory -j2 edited planted
 
-# What the copy has kept and made, for later commands.
+# The library as it was made in the copy for each target, for later commands.
 left:
-	@for out in "$(ROOM)"/copy/crates/*/out; do \
-	    crate=crates/$$(basename "$$(dirname "$$out")"); rm -rf "$$crate/out/incremental" "$$crate/out/rlib"; \
-	    mkdir -p "$$crate/out"; cp -R "$$out"/* "$$crate/out/"; \
-	done
 	@mkdir -p out; rm -rf out/library; cp -R "$(ROOM)/copy/out/library" out/
 
 proved:
@@ -71,6 +67,7 @@ limits: proved
 
 called:
 	@mkdir "$(ROOM)/copy"; git ls-files | tr '\n' '\0' | xargs -0 cp --parents -t "$(ROOM)/copy"
+	@python3 checks/taken.py "$(ROOM)/copy" goblin_c
 	@cd "$(ROOM)/copy" && sh checks/faces.sh
 
 refused:
@@ -80,7 +77,7 @@ unit:
 	@python3 checks/took.py unit
 
 edited:
-	$(part) edits python3 checks/edits --over "$(ROOM)/copy"
+	$(part) edits python3 checks/edits
 
 planted:
 	$(part) planted python3 checks/edits/planted.py

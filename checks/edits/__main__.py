@@ -6,7 +6,6 @@
     python3 checks/edits --edit NAME          the one of that name
     python3 checks/edits --from FOLDER ..     those of FOLDER/CRATE/ in place of the crates' own
     python3 checks/edits --fits               only whether each fits the code, and each of must-fail/ too: nothing is proved
-    python3 checks/edits --over FOLDER ..     over what checks kept in FOLDER/crates/, and not over what they kept here
 
 Those of crates/NAME/must-fail/ `rt ci` tries by itself. Run from the repository's root. It works on copies, as many crates side
 by side as there are processors.
@@ -46,7 +45,7 @@ def crates_listed():
     return {crate: below(crate) for crate in stands_on}
 
 
-def copied(crate, below, room, over):
+def copied(crate, below, room):
     """Makes a copy of the repository for one crate, with what its own checks have kept, and the libraries below it as they were
     proved: since no two crates share a folder, neither waits for the other's proof."""
     to = f'{room}/{crate}'
@@ -55,7 +54,7 @@ def copied(crate, below, room, over):
     for name in below:
         # no check writes into the library that another crate stands on
         shutil.copytree(f'{room}/{name}/crates/{name}/out/rlib', f'{to}/crates/{name}/out/rlib', copy_function=os.link)
-    keep(f'{over}/crates/{crate}', f'{to}/crates/{crate}')
+    keep(f'crates/{crate}', f'{to}/crates/{crate}')
     for name in ('HANDLES', 'crates.txt'):
         shutil.copy(name, to)
     return f'{to}/crates/{crate}'
@@ -73,14 +72,14 @@ class Run:
     """All crates that are tried: each proved once those below it are, and its edits tried once it is."""
 
     def __init__(self, room, edits, below, words):
-        self.room, self.edits, self.below, self.jobs, self.over = room, edits, below, words.jobs, words.over
+        self.room, self.edits, self.below, self.jobs = room, edits, below, words.jobs
         self.wrong, self.ways, self.said = [], set(), {}
 
     def prove(self, crate, jobs):
         """Proves a crate, as a library where others stand on it."""
         is_library = any(crate in below for below in self.below.values())
         verb = ['rt', 'lib' if is_library else 'check', '--jobs', str(jobs)]
-        folder = copied(crate, self.below[crate], self.room, self.over)
+        folder = copied(crate, self.below[crate], self.room)
         how = {'cwd': folder, 'stdin': subprocess.DEVNULL, 'stdout': subprocess.PIPE, 'stderr': subprocess.STDOUT}
         ran = subprocess.run(verb, text=True, errors='replace', **how)
         self.said[crate] = Said(ran.stdout, crate)
@@ -161,7 +160,6 @@ def main():
     parser.add_argument('--edit')
     parser.add_argument('--from', dest='folder')
     parser.add_argument('--fits', action='store_true')
-    parser.add_argument('--over', metavar='FOLDER', default='.')
     parser.add_argument('--jobs', type=int, default=len(os.sched_getaffinity(0)))
     words = parser.parse_args()
     below = crates_listed()
