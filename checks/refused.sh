@@ -31,19 +31,20 @@ add_cases() {
     fi
 }
 
-# Runs a crate's program over the calls of a folder, with so many growths of each refused, and as many more of those calls that
-# ask for more, until none does. Of the last call that is named, which asks for more than one, one alone is refused too: the
-# toolchain has to say so in the words that are read here, as it has to say of others that they are as expected.
+# Runs a crate's program over the calls of a folder, with as many growths of each refused as its count says, and as many more of
+# those calls that ask for more, until none does. Of the call that is named, which asks for more than one, one alone is refused too:
+# the toolchain has to say so in the words that are read here, as it has to say of others that they are as expected.
 try_growths() {
-    first=1
+    rounds=0
     while [ -s "$2/names" ]; do
         rm -rf "$2/cases"
         mkdir "$2/cases"
         while read -r name; do
-            add_cases "$2" "$name" "$first" $((first + $3 - 1))
+            count=$(cat "$2/$name.count")
+            add_cases "$2" "$name" $((rounds * count + 1)) $(((rounds + 1) * count))
         done < "$2/names"
-        if [ "$first" -eq 1 ]; then
-            { echo "$(cat "$2/$4.line") 1 $refused last"; cat "$2/$4.file"; } > "$2/cases/too_few.1"
+        if [ "$rounds" -eq 0 ]; then
+            { echo "$(cat "$2/$3.line") 1 $refused last"; cat "$2/$3.file"; } > "$2/cases/too_few.1"
             echo "$well" > "$2/cases/too_few.1.stdout"
         fi
         (cd "$1" && rt try --steps 100000 --fail-alloc "$refused" --cases "$2/cases") > "$folder/out" 2>&1 || true
@@ -55,7 +56,7 @@ try_growths() {
             grep -v output=expected "$folder/out"
             exit 1
         fi
-        if [ "$first" -eq 1 ]; then
+        if [ "$rounds" -eq 0 ]; then
             if [ "$told" -eq 0 ] || ! grep -q -x too_few "$2/names"; then
                 cat "$folder/out"
                 echo "refused: rt try speaks in other words now of output that is expected, or that differs"
@@ -63,20 +64,21 @@ try_growths() {
             fi
             sed -i '/^too_few$/d' "$2/names"
         fi
-        first=$((first + $3))
+        rounds=$((rounds + 1))
     done
 }
 
-# A call in a folder: its name, its line and its file.
+# A call in a folder: its name, how many of its growths are refused at once, its line and its file.
 add_call() {
     echo "$2" >> "$1/names"
-    echo "$3" > "$1/$2.line"
-    cp "$4" "$1/$2.file"
+    echo "$3" > "$1/$2.count"
+    echo "$4" > "$1/$2.line"
+    cp "$5" "$1/$2.file"
 }
 while read -r name; do
-    add_call "$folder/calls" "$name" "$name" /dev/null
+    add_call "$folder/calls" "$name" 8 "$name" /dev/null
 done < crates/goblin_refused/stdin
-try_growths crates/goblin_refused "$folder/calls" 8 segments-parse
+try_growths crates/goblin_refused "$folder/calls" segments-parse
 
 # A program over goblin_text that tries growths.
 cp -r --parents crates.txt crates/*/src crates/*/specs crates/*/proofs "$folder"
@@ -87,18 +89,19 @@ cp crates/goblin_refused/src/growths.rt "$folder/crates/goblin_runs/src"
 
 # A run over a file with zeros behind it, which writes this where all memory is there.
 add_run() {
-    add_call "$folder/runs" "$1" "$2" "$3"
+    add_call "$folder/runs" "$1" "$2" "$3" "$4"
     cat > "$folder/runs/$1.shown"
 }
 names=crates/goblin_show/stdin
 { head -c 53 "$names"; printf '\377'; tail -c +55 "$names"; } > "$folder/damaged"
 printf 0123456789abcdef > "$folder/magic"
-add_run symbols 'strict 0' checks/files/symbols < checks/files/symbols.shown
-add_run relocations 'strict 0' checks/files/relocations < checks/files/relocations.shown
-add_run names 'strict 0' "$names" < crates/goblin_show/stdout
-sed 's/name=[.]s$/name=/' crates/goblin_show/stdout | add_run damaged 'permissive 0' "$folder/damaged"
-echo 'refused: Invalid magic number: 0x3736353433323130' | add_run longest 'strict 16777200' "$folder/magic"
-add_run text 'text 0' checks/files/symbols < checks/files/symbols.shown
-echo refused | add_run text_damaged 'text 0' "$folder/damaged"
-try_growths "$folder/crates/goblin_runs" "$folder/runs" 20 symbols
+add_run symbols 20 'strict 0' checks/files/symbols < checks/files/symbols.shown
+add_run relocations 20 'strict 0' checks/files/relocations < checks/files/relocations.shown
+add_run names 20 'strict 0' "$names" < crates/goblin_show/stdout
+sed 's/name=[.]s$/name=/' crates/goblin_show/stdout | add_run damaged 20 'permissive 0' "$folder/damaged"
+# (each of its cases takes seconds, so few are made beyond what it asks for)
+echo 'refused: Invalid magic number: 0x3736353433323130' | add_run longest 8 'strict 16777200' "$folder/magic"
+add_run text 20 'text 0' checks/files/symbols < checks/files/symbols.shown
+echo refused | add_run text_damaged 20 'text 0' "$folder/damaged"
+try_growths "$folder/crates/goblin_runs" "$folder/runs" symbols
 echo 'each growth that is refused is answered by want of memory, or as with ample memory'
