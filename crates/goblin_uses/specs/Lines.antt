@@ -10,6 +10,7 @@ use Rattle.goblin.specs.declared.elf.section_header.SectionHeader.{SectionHeader
 use Rattle.goblin.specs.declared.elf.sym.Sym.{Sym}
 use Rattle.goblin.specs.declared.error.Error.{Error}
 use Rattle.goblin.specs.declared.options.ParseMode.TheVariants.{Strict}
+use Rattle.goblin.specs.Header.{ctx_of}
 use Rattle.goblin.specs.Note.{NoteParts}
 use Rattle.goblin.specs.NoteType.{note_type_name}
 use Rattle.goblin.specs.ReadHeader.{read_header}
