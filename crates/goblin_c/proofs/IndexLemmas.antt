@@ -18,8 +18,8 @@ use Rattle.goblin.specs.SectionHeaders.{link_of, names_index}
 use Rattle.goblin_headers.proofs.HeaderLemmas.{header_laws}
 use Rattle.goblin_headers.proofs.RawTrips.{ident_byte}
 use Rattle.goblin_headers.proofs.ReadHeaderLemmas.{read_header-is}
-use Rattle.goblin_c.specs.Answers.{count_of, ctx_of, each_told, header_told, item_of, items_from, reloc_count_right, reloc_right, reloc_told, relocs_right, relocs_told, section_told, sections_right, sections_told, segment_told, segments_right, symbol_told, symbols_right, symbols_told, table_at}
-use Rattle.goblin_c.specs.Laws.{ContextIsTheHeaders, FilledByIndex, GivenFrom, HasHeader, NamesByIndex, NamesContext, RelocsByIndex, SectionsByIndex, SegmentsByIndex, SymbolsByIndex, TablesByIndex, TellsCount, TellsEach, table_told}
+use Rattle.goblin_c.specs.Answers.{count_of, ctx_of, each_converted, header_converted, item_of, items_from, reloc_count_right, reloc_right, reloc_converted, relocs_right, relocs_converted, section_converted, sections_right, sections_converted, segment_converted, segments_right, symbol_converted, symbols_right, symbols_converted, table_at}
+use Rattle.goblin_c.specs.Laws.{ContextIsTheHeaders, FilledByIndex, GivenFrom, HasHeader, NamesByIndex, NamesContext, RelocsByIndex, SectionsByIndex, SegmentsByIndex, SymbolsByIndex, TablesByIndex, TellsCount, TellsEach, table_converted}
 
 -- what a file's header tells of its class and its byte order
 named : (bytes : List ℕ) (h : Header) → HasHeader bytes h → (class : Container) × (order : Endian) × (class_named (slice_index h.e_ident 4) ≡ Some class) × (order_named (slice_index h.e_ident 5) ≡ Some order)
@@ -33,52 +33,52 @@ named bytes h has =
     )
 
 -- the context of what C hands back is the one that the header names
-context : (bytes : List ℕ) (h : Header) → HasHeader bytes h → NamesContext h (ctx_of (header_told h))
+context : (bytes : List ℕ) (h : Header) → HasHeader bytes h → NamesContext h (ctx_of (header_converted h))
 context bytes h has =
-    let tells = named bytes h has in
-    let class = tells.2 in
-    let order = tells.3 in
+    let names = named bytes h has in
+    let class = names.2 in
+    let order = names.3 in
     (grind (arith, nat_tests), grind (arith, nat_tests))
 
 pub context_is_the_headers : ContextIsTheHeaders
 context_is_the_headers bytes h has =
-    let tells = named bytes h has in
-    let class = tells.2 in
-    let order = tells.3 in
+    let names = named bytes h has in
+    let class = names.2 in
+    let order = names.3 in
     (context bytes h has, grind (arith, nat_tests))
 
 same : {A E : Type 0} (x y : A) → ◌≡◌ {A = Result A E} (Ok x) (Ok y) → x ≡ y
 same x y is = cc
 
 -- a header names one context
-one_context : (bytes : List ℕ) (h : Header) (ctx : Ctx) → HasHeader bytes h → NamesContext h ctx → ctx_of (header_told h) ≡ ctx
+one_context : (bytes : List ℕ) (h : Header) (ctx : Ctx) → HasHeader bytes h → NamesContext h ctx → ctx_of (header_converted h) ≡ ctx
 one_context bytes h ctx has named =
     let own = context bytes h has in
-    let told = ctx_of (header_told h) in
-    let classes = same told.container ctx.container (sym own.0 ∙ named.0) in
-    let orders = same told.le ctx.le (sym own.1 ∙ named.1) in
+    let handed = ctx_of (header_converted h) in
+    let classes = same handed.container ctx.container (sym own.0 ∙ named.0) in
+    let orders = same handed.le ctx.le (sym own.1 ∙ named.1) in
     λ j. record { container = classes j; le = orders j }
 
 -- what is told of a list by index, and how many items it has
-listed : {X Y : Type 0} (tell : X → Y) (all : Result (List X) Refusal) → TellsEach tell all (item_of (each_told tell all)) × TellsCount all (count_of (each_told tell all))
-listed tell (Ok items) = (λ index. ap Ok (slice_get-map tell items index), ap (λ (n : ℕ). Ok (Some n)) (length-map items tell))
-listed tell (Err refusal) = (λ index. refl, refl)
+listed : {X Y : Type 0} (convert : X → Y) (all : Result (List X) Refusal) → TellsEach convert all (item_of (each_converted convert all)) × TellsCount all (count_of (each_converted convert all))
+listed convert (Ok items) = (λ index. ap Ok (slice_get-map convert items index), ap (λ (n : ℕ). Ok (Some n)) (length-map items convert))
+listed convert (Err refusal) = (λ index. refl, refl)
 
 pub sections_by_index : SectionsByIndex
-sections_by_index bytes h ctx has named = rw (← one_context bytes h ctx has named) (listed section_told (sections_right bytes (header_told h)))
+sections_by_index bytes h ctx has named = rw (← one_context bytes h ctx has named) (listed section_converted (sections_right bytes (header_converted h)))
 
 pub segments_by_index : SegmentsByIndex
-segments_by_index bytes h ctx has named = rw (← one_context bytes h ctx has named) (listed segment_told (segments_right bytes (header_told h)))
+segments_by_index bytes h ctx has named = rw (← one_context bytes h ctx has named) (listed segment_converted (segments_right bytes (header_converted h)))
 
 pub symbols_by_index : SymbolsByIndex
-symbols_by_index bytes h ctx range has named = rw (← one_context bytes h ctx has named) (listed symbol_told (symbols_right bytes (header_told h) range))
+symbols_by_index bytes h ctx range has named = rw (← one_context bytes h ctx has named) (listed symbol_converted (symbols_right bytes (header_converted h) range))
 
 pub relocs_by_index : RelocsByIndex
 relocs_by_index bytes h ctx range is_rela has named =
-    let of_pair = λ (pair : Bool). refuse_as refusal_of (relocs_of bytes range.offset range.size is_rela (ctx_of (header_told h)) pair) in
+    let of_pair = λ (pair : Bool). refuse_as refusal_of (relocs_of bytes range.offset range.size is_rela (ctx_of (header_converted h)) pair) in
     rw (← one_context bytes h ctx has named)
-    (subst (λ (pair : Bool). TellsEach reloc_told (of_pair pair) (reloc_right bytes (header_told h) range is_rela) × TellsCount (of_pair pair) (reloc_count_right bytes (header_told h) range is_rela))
-    (context_is_the_headers bytes h has).1 (listed reloc_told (relocs_right bytes (header_told h) range is_rela)))
+    (subst (λ (pair : Bool). TellsEach reloc_converted (of_pair pair) (reloc_right bytes (header_converted h) range is_rela) × TellsCount (of_pair pair) (reloc_count_right bytes (header_converted h) range is_rela))
+    (context_is_the_headers bytes h has).1 (listed reloc_converted (relocs_right bytes (header_converted h) range is_rela)))
 
 -- the item at an index behind those that are left out
 pub behind : {X : Type 0} (xs : List X) (n k : ℕ) → slice_get xs (n + k) ≡ slice_get (drop n xs) k
@@ -103,29 +103,29 @@ from (Err refusal) first = λ index. refl
 
 pub filled_by_index : FilledByIndex
 filled_by_index = record {
-  sections = λ bytes h first. from (sections_told bytes h) first;
-  symbols = λ bytes h range first. from (symbols_told bytes h range) first;
-  relocs = λ bytes h range is_rela first. from (relocs_told bytes h range is_rela) first;
+  sections = λ bytes h first. from (sections_converted bytes h) first;
+  symbols = λ bytes h range first. from (symbols_converted bytes h range) first;
+  relocs = λ bytes h range is_rela first. from (relocs_converted bytes h range is_rela) first;
 }
 
 -- the table at an index is the section that is told there
-table_there : (all : Result (List GoblinSection) Refusal) (index : ℕ) → (all >>= λ items. Ok (table_at items index)) ≡ table_told index (item_of all index)
+table_there : (all : Result (List GoblinSection) Refusal) (index : ℕ) → (all >>= λ items. Ok (table_at items index)) ≡ table_converted index (item_of all index)
 table_there (Ok items) index = refl
 table_there (Err refusal) index = refl
 
 pub tables_by_index : TablesByIndex
-tables_by_index bytes h index = table_there (sections_told bytes h) index
+tables_by_index bytes h index = table_there (sections_converted bytes h) index
 
 -- the table with the index in the header, or the one that the first section links to
-in_header : (all : Result (List SectionHeader) Refusal) (index : ℕ) → (index == 0xffff) ≡ false → (all >>= λ items. Ok (table_at (map section_told items) (names_index index (slice_get items 0)))) ≡ (each_told section_told all >>= λ items. Ok (table_at items index))
+in_header : (all : Result (List SectionHeader) Refusal) (index : ℕ) → (index == 0xffff) ≡ false → (all >>= λ items. Ok (table_at (map section_converted items) (names_index index (slice_get items 0)))) ≡ (each_converted section_converted all >>= λ items. Ok (table_at items index))
 in_header (Ok items) index other = rw other refl
 in_header (Err refusal) index other = refl
 
-in_first : (all : Result (List SectionHeader) Refusal) (first : GoblinSection) → item_of (each_told section_told all) 0 ≡ Ok (Some first) → (all >>= λ items. Ok (table_at (map section_told items) (link_of (slice_get items 0)))) ≡ (each_told section_told all >>= λ items. Ok (table_at items first.sh_link))
+in_first : (all : Result (List SectionHeader) Refusal) (first : GoblinSection) → item_of (each_converted section_converted all) 0 ≡ Ok (Some first) → (all >>= λ items. Ok (table_at (map section_converted items) (link_of (slice_get items 0)))) ≡ (each_converted section_converted all >>= λ items. Ok (table_at items first.sh_link))
 in_first (Ok []) first is = absurd (cc)
 in_first (Ok (s ∷ items)) first is =
     let link : link_of (Some s) ≡ first.sh_link = cc in
-    ap (λ (index : ℕ). Ok (table_at (map section_told (s ∷ items)) index)) link
+    ap (λ (index : ℕ). Ok (table_at (map section_converted (s ∷ items)) index)) link
 in_first (Err refusal) first is = absurd (cc)
 
 pub names_by_index : NamesByIndex

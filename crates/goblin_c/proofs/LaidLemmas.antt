@@ -39,8 +39,8 @@ laid-step {X = X} i xs old now d is within room =
     ∙ laid-next i xs old (get_or xs i d) (take (i + 1) xs) (omega arith) room (take_more xs i d within)
 
 -- the step of a loop that writes the items from an index on
-pub laid-told : {X : Type 0} (all : List X) (first i : ℕ) (old now : List X) (x : X) → slice_get all (first + i) ≡ Some x → now ≡ laid (take i (drop first all)) old → i < length old → set now i x ≡ laid (take (i + 1) (drop first all)) old
-laid-told {X = X} all first i old now x found is room =
+pub laid-item : {X : Type 0} (all : List X) (first i : ℕ) (old now : List X) (x : X) → slice_get all (first + i) ≡ Some x → now ≡ laid (take i (drop first all)) old → i < length old → set now i x ≡ laid (take (i + 1) (drop first all)) old
+laid-item {X = X} all first i old now x found is room =
     let inside : first + i < length all = slice_get_within all (first + i) x found in
     let same : get_or (drop first all) i x ≡ x = get_or-drop first all i x ∙ get_or_from_slice_get all (first + i) x x found in
     ap (λ (v : X). set now i v) (sym same) ∙ laid-step i (drop first all) old now x is (omega (arith, length-drop first all)) room

@@ -11,8 +11,8 @@ use Rattle.goblin_c.specs.Laws.{BytesLieInFile, LiesIn, StringsAreBytes, Strings
 use Rattle.goblin_c.proofs.StringLemmas.{in_range, plain_is}
 
 -- a range that is told lies in the file
-range_lies : (bytes : List ℕ) (range told : GoblinRange) → range_right bytes range ≡ Ok (Some told) → LiesIn bytes told
-range_lies bytes range told is = grind (arith, fits-room_of (length bytes) range.offset range.size)
+range_lies : (bytes : List ℕ) (range found : GoblinRange) → range_right bytes range ≡ Ok (Some found) → LiesIn bytes found
+range_lies bytes range found is = grind (arith, fits-room_of (length bytes) range.offset range.size)
 
 -- a piece is no longer than the strings from its offset on
 piece_short : (strings : List ℕ) (offset : ℕ) → length (piece strings 0 offset) ≤ length strings - offset
@@ -23,14 +23,14 @@ piece_short strings offset =
 
 pub bytes_lie_in_file : BytesLieInFile
 bytes_lie_in_file = record {
-  section = λ bytes s told is. grind (arith, range_lies bytes s.file told);
-  segment = λ bytes s told is. grind (arith, range_lies bytes s.file told);
-  string = λ bytes range offset told is. grind (arith, nat_tests, in_range bytes range, piece_short, length-take, length-drop);
+  section = λ bytes s found is. grind (arith, range_lies bytes s.file found);
+  segment = λ bytes s found is. grind (arith, range_lies bytes s.file found);
+  string = λ bytes range offset found is. grind (arith, nat_tests, in_range bytes range, piece_short, length-take, length-drop);
 }
 
 -- a string that is text lies where its bytes do
 pub strings_are_bytes : StringsAreBytes
-strings_are_bytes bytes range offset told is = grind (arith, nat_tests, plain_is)
+strings_are_bytes bytes range offset found is = grind (arith, nat_tests, plain_is)
 
 pub strings_lie_in_file : StringsLieInFile
-strings_lie_in_file bytes range offset told is = bytes_lie_in_file.string bytes range offset told (strings_are_bytes bytes range offset told is)
+strings_lie_in_file bytes range offset found is = bytes_lie_in_file.string bytes range offset found (strings_are_bytes bytes range offset found is)

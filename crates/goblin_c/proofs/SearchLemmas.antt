@@ -9,7 +9,7 @@ use Rattle.std.specs.Option.{option_map}
 use Rattle.goblin_base.specs.Refusal.{Refusal}
 use Rattle.goblin_base.specs.Steps.{◌>>=◌}
 use Rattle.goblin_c.specs.declared.types.GoblinSection.{GoblinSection}
-use Rattle.goblin_c.specs.Answers.{each_told, item_of, section_told, sections_right}
+use Rattle.goblin_c.specs.Answers.{each_converted, item_of, section_converted, sections_right}
 use Rattle.goblin_c.specs.Laws.{FindsFrom, RefusesAll, SectionsByType}
 use Rattle.goblin_c.proofs.IndexLemmas.{behind}
 
@@ -32,10 +32,10 @@ all_fail test items k x none found =
     fails_at test items k x found (fails_before_first test items k x (grind (arith, nat_tests)))
 
 -- the item of which an item was told
-told_one : {X Y : Type 0} (tell : X → Y) (items : List X) (k : ℕ) (y : Y) → ◌≡◌ {A = Result (Option Y) Refusal} (Ok (slice_get (map tell items) k)) (Ok (Some y)) → (x : X) × (slice_get items k ≡ Some x) × (y ≡ tell x)
-told_one tell [] k y is = absurd (cc)
-told_one tell (x ∷ items) zero y is = (x, refl, cc)
-told_one tell (x ∷ items) (suc k) y is = told_one tell items k y is
+converted_one : {X Y : Type 0} (convert : X → Y) (items : List X) (k : ℕ) (y : Y) → ◌≡◌ {A = Result (Option Y) Refusal} (Ok (slice_get (map convert items) k)) (Ok (Some y)) → (x : X) × (slice_get items k ≡ Some x) × (y ≡ convert x)
+converted_one convert [] k y is = absurd (cc)
+converted_one convert (x ∷ items) zero y is = (x, refl, cc)
+converted_one convert (x ∷ items) (suc k) y is = converted_one convert items k y is
 
 -- it is among those from the first index on
 there : {X : Type 0} (items : List X) (first i : ℕ) (x : X) → first ≤ i → slice_get items i ≡ Some x → slice_get (drop first items) (i - first) ≡ Some x
@@ -49,24 +49,24 @@ from_none (Some place) = ap Some (omega arith)
 from_none None = refl
 
 -- what is told of the items from an index on that pass a test
-module _ {X Y : Type 0} (tell : X → Y) (IsSo : Y → Type 0) (test : X → Bool) (decides : (x : X) → Decides (test x) (IsSo (tell x))) where
-  not_so : (items : List X) (first k : ℕ) (y : Y) → first ≤ k → ◌≡◌ {A = Result (Option Y) Refusal} (Ok (slice_get (map tell items) k)) (Ok (Some y)) → ((x : X) → slice_get (drop first items) (k - first) ≡ Some x → test x ≡ false) → ¬ (IsSo y)
-  not_so items first k y after told fails so =
-      let one = told_one tell items k y told in
+module _ {X Y : Type 0} (convert : X → Y) (IsSo : Y → Type 0) (test : X → Bool) (decides : (x : X) → Decides (test x) (IsSo (convert x))) where
+  not_so : (items : List X) (first k : ℕ) (y : Y) → first ≤ k → ◌≡◌ {A = Result (Option Y) Refusal} (Ok (slice_get (map convert items) k)) (Ok (Some y)) → ((x : X) → slice_get (drop first items) (k - first) ≡ Some x → test x ≡ false) → ¬ (IsSo y)
+  not_so items first k y after stored fails so =
+      let one = converted_one convert items k y stored in
       true≢false (sym ((decides one.0).1 (subst IsSo one.2 so)) ∙ fails one.0 (there items first k one.0 after one.1))
 
-  pub finds : (Refuses : Refusal → Type 0) (items : List X) (first : ℕ) (found : Option ℕ) → position test (drop first items) ≡ found → FindsFrom first (λ index. Ok (slice_get (map tell items) index)) IsSo Refuses (Ok (option_map (λ place. first + place) found))
+  pub finds : (Refuses : Refusal → Type 0) (items : List X) (first : ℕ) (found : Option ℕ) → position test (drop first items) ≡ found → FindsFrom first (λ index. Ok (slice_get (map convert items) index)) IsSo Refuses (Ok (option_map (λ place. first + place) found))
   finds Refuses items first (Some i) is =
       let one = first_passes test (drop first items) i is in (
         omega arith,
-        (tell one.0, ap Ok (slice_get-map tell items (first + i) ∙ ap (option_map tell) (behind items first i ∙ one.1)), (decides one.0).0 one.2),
-        λ k y after before told. not_so items first k y after told (λ x found. earlier_fail test (drop first items) i (k - first) x is (omega (arith, after, before)) found),
+        (convert one.0, ap Ok (slice_get-map convert items (first + i) ∙ ap (option_map convert) (behind items first i ∙ one.1)), (decides one.0).0 one.2),
+        λ k y after before stored. not_so items first k y after stored (λ x found. earlier_fail test (drop first items) i (k - first) x is (omega (arith, after, before)) found),
       )
   finds Refuses items first None is =
-      λ k y after told. not_so items first k y after told (λ x found. all_fail test (drop first items) (k - first) x is found)
+      λ k y after stored. not_so items first k y after stored (λ x found. all_fail test (drop first items) (k - first) x is found)
 
-  from_list : (all : Result (List X) Refusal) (first : ℕ) → let call = item_of (each_told tell all) in FindsFrom first call IsSo (RefusesAll call) (all >>= λ items. Ok (option_map (λ place. first + place) (position test (drop first items))))
-  from_list (Ok items) first = finds (RefusesAll (item_of (each_told tell (Ok items)))) items first (position test (drop first items)) refl
+  from_list : (all : Result (List X) Refusal) (first : ℕ) → let call = item_of (each_converted convert all) in FindsFrom first call IsSo (RefusesAll call) (all >>= λ items. Ok (option_map (λ place. first + place) (position test (drop first items))))
+  from_list (Ok items) first = finds (RefusesAll (item_of (each_converted convert (Ok items)))) items first (position test (drop first items)) refl
   from_list (Err e) first = λ index. refl
 
 -- a number equals another, or not, by its test
@@ -75,5 +75,5 @@ equal-Decides a b = (λ is. grind (arith, nat_tests), λ is. grind (arith, nat_t
 
 pub sections_by_type : SectionsByType
 sections_by_type bytes h sh_type first =
-    from_list section_told (λ (section : GoblinSection). section.sh_type ≡ sh_type) (λ section. section.sh_type == sh_type)
+    from_list section_converted (λ (section : GoblinSection). section.sh_type ≡ sh_type) (λ section. section.sh_type == sh_type)
     (λ section. equal-Decides section.sh_type sh_type) (sections_right bytes h) first

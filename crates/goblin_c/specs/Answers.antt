@@ -29,8 +29,8 @@ use Rattle.goblin_c.specs.declared.types.GoblinSymbol.{GoblinSymbol}
 use Rattle.goblin_c.specs.Status.{number_of_bool}
 
 -- what C is told of a header
-abbrev pub header_told : Header → GoblinHeader
-header_told h = record {
+abbrev pub header_converted : Header → GoblinHeader
+header_converted h = record {
   e_entry = h.e_entry;
   e_phoff = h.e_phoff;
   e_shoff = h.e_shoff;
@@ -52,8 +52,8 @@ header_told h = record {
 }
 
 -- of a section header
-abbrev pub section_told : SectionHeader → GoblinSection
-section_told s = record {
+abbrev pub section_converted : SectionHeader → GoblinSection
+section_converted s = record {
   file = record { offset = s.sh_offset; size = s.sh_size };
   sh_name = s.sh_name;
   sh_flags = s.sh_flags;
@@ -66,8 +66,8 @@ section_told s = record {
 }
 
 -- of a program header
-abbrev pub segment_told : ProgramHeader → GoblinSegment
-segment_told s = record {
+abbrev pub segment_converted : ProgramHeader → GoblinSegment
+segment_converted s = record {
   file = record { offset = s.p_offset; size = s.p_filesz };
   p_vaddr = s.p_vaddr;
   p_paddr = s.p_paddr;
@@ -78,8 +78,8 @@ segment_told s = record {
 }
 
 -- of a symbol
-abbrev pub symbol_told : Sym → GoblinSymbol
-symbol_told s = record {
+abbrev pub symbol_converted : Sym → GoblinSymbol
+symbol_converted s = record {
   st_name = s.st_name;
   st_shndx = s.st_shndx;
   st_value = s.st_value;
@@ -89,8 +89,8 @@ symbol_told s = record {
 }
 
 -- of a relocation
-abbrev pub reloc_told : Reloc → GoblinReloc
-reloc_told r = record {
+abbrev pub reloc_converted : Reloc → GoblinReloc
+reloc_converted r = record {
   r_offset = r.r_offset;
   r_sym = r.r_sym;
   r_addend = unwrap_or r.r_addend (pos 0);
@@ -109,17 +109,17 @@ ctx_of h = record {
 abbrev pub header_right : List ℕ → Result (Option GoblinHeader) Refusal
 header_right bytes = do
   read ← refuse_as refusal_of (read_header bytes)
-  Ok (Some (header_told read.0))
+  Ok (Some (header_converted read.0))
 
 -- the section headers of a file, as the library reads them at once
 abbrev pub sections_right : List ℕ → GoblinHeader → Result (List SectionHeader) Refusal
 sections_right bytes h = section_headers_of bytes h.e_shoff h.e_shnum (ctx_of h)
 
 -- what C is told of the items of a list
-abbrev pub each_told : {X Y : Type 0} → (X → Y) → Result (List X) Refusal → Result (List Y) Refusal
-each_told tell list = do
+abbrev pub each_converted : {X Y : Type 0} → (X → Y) → Result (List X) Refusal → Result (List Y) Refusal
+each_converted convert list = do
   items ← list
-  Ok (map tell items)
+  Ok (map convert items)
 
 -- how many items a list has
 abbrev pub count_of : {X : Type 0} → Result (List X) Refusal → Result (Option ℕ) Refusal
@@ -140,31 +140,31 @@ items_from list first = do
   Ok (if nat_le (length items) first then None else Some (drop first items))
 
 -- what C is told of the section headers, by index, from an index on, and how many there are
-abbrev pub sections_told : List ℕ → GoblinHeader → Result (List GoblinSection) Refusal
-sections_told bytes h = each_told section_told (sections_right bytes h)
+abbrev pub sections_converted : List ℕ → GoblinHeader → Result (List GoblinSection) Refusal
+sections_converted bytes h = each_converted section_converted (sections_right bytes h)
 
 abbrev pub section_right : List ℕ → GoblinHeader → ℕ → Result (Option GoblinSection) Refusal
-section_right bytes h index = item_of (sections_told bytes h) index
+section_right bytes h index = item_of (sections_converted bytes h) index
 
 abbrev pub sections_from_right : List ℕ → GoblinHeader → ℕ → Result (Option (List GoblinSection)) Refusal
-sections_from_right bytes h first = items_from (sections_told bytes h) first
+sections_from_right bytes h first = items_from (sections_converted bytes h) first
 
 abbrev pub section_count_right : List ℕ → GoblinHeader → Result (Option ℕ) Refusal
-section_count_right bytes h = count_of (sections_told bytes h)
+section_count_right bytes h = count_of (sections_converted bytes h)
 
 -- the program headers of a file, as the library reads them at once
 abbrev pub segments_right : List ℕ → GoblinHeader → Result (List ProgramHeader) Refusal
 segments_right bytes h = program_headers_from bytes h.e_phoff h.e_phnum (ctx_of h)
 
 -- what C is told of them, by index, and how many there are
-abbrev pub segments_told : List ℕ → GoblinHeader → Result (List GoblinSegment) Refusal
-segments_told bytes h = each_told segment_told (segments_right bytes h)
+abbrev pub segments_converted : List ℕ → GoblinHeader → Result (List GoblinSegment) Refusal
+segments_converted bytes h = each_converted segment_converted (segments_right bytes h)
 
 abbrev pub segment_right : List ℕ → GoblinHeader → ℕ → Result (Option GoblinSegment) Refusal
-segment_right bytes h index = item_of (segments_told bytes h) index
+segment_right bytes h index = item_of (segments_converted bytes h) index
 
 abbrev pub segment_count_right : List ℕ → GoblinHeader → Result (Option ℕ) Refusal
-segment_count_right bytes h = count_of (segments_told bytes h)
+segment_count_right bytes h = count_of (segments_converted bytes h)
 
 -- the index of the first section of a type, from an index on
 abbrev pub section_by_type_right : List ℕ → GoblinHeader → ℕ → ℕ → Result (Option ℕ) Refusal
@@ -179,17 +179,17 @@ symbols_right bytes h range = do
   Ok table.symbols
 
 -- what C is told of them, by index, from an index on, and how many there are
-abbrev pub symbols_told : List ℕ → GoblinHeader → GoblinRange → Result (List GoblinSymbol) Refusal
-symbols_told bytes h range = each_told symbol_told (symbols_right bytes h range)
+abbrev pub symbols_converted : List ℕ → GoblinHeader → GoblinRange → Result (List GoblinSymbol) Refusal
+symbols_converted bytes h range = each_converted symbol_converted (symbols_right bytes h range)
 
 abbrev pub symbol_right : List ℕ → GoblinHeader → GoblinRange → ℕ → Result (Option GoblinSymbol) Refusal
-symbol_right bytes h range index = item_of (symbols_told bytes h range) index
+symbol_right bytes h range index = item_of (symbols_converted bytes h range) index
 
 abbrev pub symbols_from_right : List ℕ → GoblinHeader → GoblinRange → ℕ → Result (Option (List GoblinSymbol)) Refusal
-symbols_from_right bytes h range first = items_from (symbols_told bytes h range) first
+symbols_from_right bytes h range first = items_from (symbols_converted bytes h range) first
 
 abbrev pub symbol_count_right : List ℕ → GoblinHeader → GoblinRange → Result (Option ℕ) Refusal
-symbol_count_right bytes h range = count_of (symbols_told bytes h range)
+symbol_count_right bytes h range = count_of (symbols_converted bytes h range)
 
 -- whether a file is a MIPS64 one of little order
 abbrev pub is_mips64el : GoblinHeader → Bool
@@ -201,17 +201,17 @@ relocs_right bytes h range is_rela =
     refuse_as refusal_of (relocs_of bytes range.offset range.size is_rela (ctx_of h) (is_mips64el h))
 
 -- what C is told of them, by index, from an index on, and how many there are
-abbrev pub relocs_told : List ℕ → GoblinHeader → GoblinRange → Bool → Result (List GoblinReloc) Refusal
-relocs_told bytes h range is_rela = each_told reloc_told (relocs_right bytes h range is_rela)
+abbrev pub relocs_converted : List ℕ → GoblinHeader → GoblinRange → Bool → Result (List GoblinReloc) Refusal
+relocs_converted bytes h range is_rela = each_converted reloc_converted (relocs_right bytes h range is_rela)
 
 abbrev pub reloc_right : List ℕ → GoblinHeader → GoblinRange → Bool → ℕ → Result (Option GoblinReloc) Refusal
-reloc_right bytes h range is_rela index = item_of (relocs_told bytes h range is_rela) index
+reloc_right bytes h range is_rela index = item_of (relocs_converted bytes h range is_rela) index
 
 abbrev pub relocs_from_right : List ℕ → GoblinHeader → GoblinRange → Bool → ℕ → Result (Option (List GoblinReloc)) Refusal
-relocs_from_right bytes h range is_rela first = items_from (relocs_told bytes h range is_rela) first
+relocs_from_right bytes h range is_rela first = items_from (relocs_converted bytes h range is_rela) first
 
 abbrev pub reloc_count_right : List ℕ → GoblinHeader → GoblinRange → Bool → Result (Option ℕ) Refusal
-reloc_count_right bytes h range is_rela = count_of (relocs_told bytes h range is_rela)
+reloc_count_right bytes h range is_rela = count_of (relocs_converted bytes h range is_rela)
 
 -- the bytes of a range of strings
 abbrev pub strings_right : List ℕ → GoblinRange → Result (List ℕ) Refusal
@@ -261,11 +261,11 @@ table_at sections index = table_of index (slice_get sections index)
 -- the table at an index
 abbrev pub table_right : List ℕ → GoblinHeader → ℕ → Result (Option GoblinSection) Refusal
 table_right bytes h index = do
-  sections ← sections_told bytes h
+  sections ← sections_converted bytes h
   Ok (table_at sections index)
 
 -- the section that holds the sections' names, where it is a table
 abbrev pub section_names_right : List ℕ → GoblinHeader → Result (Option GoblinSection) Refusal
 section_names_right bytes h = do
   sections ← sections_right bytes h
-  Ok (table_at (map section_told sections) (names_index h.e_shstrndx (slice_get sections 0)))
+  Ok (table_at (map section_converted sections) (names_index h.e_shstrndx (slice_get sections 0)))

@@ -19,7 +19,7 @@ use Rattle.goblin.specs.SectionHeaders.{section_headers_of}
 use Rattle.goblin.specs.declared.elf.sym.Sym.{Sym}
 use Rattle.goblin.specs.Sym.{sym_size}
 use Rattle.goblin.specs.Symtab.{symtab_of}
-use Rattle.goblin_c.specs.Answers.{ctx_of, header_told, is_mips64el, reloc_told, section_told, segment_told, symbol_told, section_by_type_right, section_count_right, section_right, segment_count_right, segment_right, symbol_right, reloc_right, string_right, symbol_count_right, reloc_count_right, sections_from_right, symbols_from_right, relocs_from_right, section_names_right, section_by_name_right, symbol_by_name_right, strings_right, table_of, table_right}
+use Rattle.goblin_c.specs.Answers.{ctx_of, header_converted, is_mips64el, reloc_converted, section_converted, segment_converted, symbol_converted, section_by_type_right, section_count_right, section_right, segment_count_right, segment_right, symbol_right, reloc_right, string_right, symbol_count_right, reloc_count_right, sections_from_right, symbols_from_right, relocs_from_right, section_names_right, section_by_name_right, symbol_by_name_right, strings_right, table_of, table_right}
 use Rattle.goblin_c.specs.Bytes.{section_bytes_right, segment_bytes_right, string_bytes_right}
 use Rattle.goblin_c.specs.Laid.{laid}
 use Rattle.goblin_c.specs.Notes.{note_right}
@@ -38,15 +38,15 @@ bytes_in bytes range = take range.size (drop range.offset bytes)
 
 -- the note that a file has at the places told
 abbrev pub note_in : List ℕ → GoblinNote → NoteParts
-note_in bytes told =
-    record { n_type = told.n_type; name = bytes_in bytes told.name; desc = bytes_in bytes told.desc }
+note_in bytes found =
+    record { n_type = found.n_type; name = bytes_in bytes found.name; desc = bytes_in bytes found.desc }
 
 -- the items of which a call tells the first: none; the note told and those from the next offset on; or a refusal alone
-abbrev pub items_told :
+abbrev pub items_reported :
     List ℕ → Result (Option GoblinNote) Refusal → (ℕ → List (Result NoteParts Refusal)) → List (Result NoteParts Refusal)
-items_told bytes (Ok None) rest = []
-items_told bytes (Ok (Some told)) rest = Ok (note_in bytes told) ∷ rest told.next
-items_told bytes (Err refusal) rest = Err refusal ∷ []
+items_reported bytes (Ok None) rest = []
+items_reported bytes (Ok (Some found)) rest = Ok (note_in bytes found) ∷ rest found.next
+items_reported bytes (Err refusal) rest = Err refusal ∷ []
 
 -- the library's iterator goes over the file's notes in this range, with this alignment
 abbrev pub IsOver : NoteDataIterator → GoblinHeader → GoblinRange → ℕ → Type 0
@@ -58,21 +58,21 @@ abbrev pub NotesAreItems : Type 0
 NotesAreItems =
     (notes : NoteDataIterator) (h : GoblinHeader) (range : GoblinRange) (alignment : ℕ)
     → IsOver notes h range alignment
-    → let told = note_right notes.bytes.now h range alignment notes.offset in
-    items_left notes ≡ items_told notes.bytes.now told (λ next. items_left (record notes { offset = next }))
+    → let found = note_right notes.bytes.now h range alignment notes.offset in
+    items_left notes ≡ items_reported notes.bytes.now found (λ next. items_left (record notes { offset = next }))
 
 -- the items of which so many calls tell: the first at an offset, and each other at the next offset of the one before
-abbrev pub notes_told : ℕ → List ℕ → GoblinHeader → GoblinRange → ℕ → ℕ → List (Result NoteParts Refusal)
-notes_told zero bytes h range alignment offset = []
-notes_told (suc calls) bytes h range alignment offset =
-    items_told bytes (note_right bytes h range alignment offset) (notes_told calls bytes h range alignment)
+abbrev pub notes_reported : ℕ → List ℕ → GoblinHeader → GoblinRange → ℕ → ℕ → List (Result NoteParts Refusal)
+notes_reported zero bytes h range alignment offset = []
+notes_reported (suc calls) bytes h range alignment offset =
+    items_reported bytes (note_right bytes h range alignment offset) (notes_reported calls bytes h range alignment)
 
 -- so many calls, one after another from the iterator's offset on, tell the first so many items that it has left
 abbrev pub NotesInARow : Type 0
 NotesInARow =
     (calls : ℕ) (notes : NoteDataIterator) (h : GoblinHeader) (range : GoblinRange) (alignment : ℕ)
     → IsOver notes h range alignment
-    → notes_told calls notes.bytes.now h range alignment notes.offset ≡ take calls (items_left notes)
+    → notes_reported calls notes.bytes.now h range alignment notes.offset ≡ take calls (items_left notes)
 
 -- a range lies in a file
 abbrev pub LiesIn : List ℕ → GoblinRange → Type 0
@@ -82,9 +82,9 @@ LiesIn bytes range = range.offset + range.size ≤ length bytes
 -- this note
 abbrev pub NotesLieInFile : Type 0
 NotesLieInFile =
-    (bytes : List ℕ) (h : GoblinHeader) (range : GoblinRange) (alignment offset : ℕ) (told : GoblinNote)
-    → note_right bytes h range alignment offset ≡ Ok (Some told)
-    → LiesIn bytes told.name × LiesIn bytes told.desc × (offset + nhdr32_size ≤ told.next)
+    (bytes : List ℕ) (h : GoblinHeader) (range : GoblinRange) (alignment offset : ℕ) (found : GoblinNote)
+    → note_right bytes h range alignment offset ≡ Ok (Some found)
+    → LiesIn bytes found.name × LiesIn bytes found.desc × (offset + nhdr32_size ≤ found.next)
 
 -- the kind of a refusal, which a call answers, is neither 0 nor 1
 abbrev pub KindsAreAnswers : Type 0
@@ -104,7 +104,7 @@ NamesContext h ctx =
 abbrev pub ContextIsTheHeaders : Type 0
 ContextIsTheHeaders =
     (bytes : List ℕ) (h : Header) → HasHeader bytes h
-    → NamesContext h (ctx_of (header_told h)) × (is_mips64el (header_told h) ≡ is_of_mips64el h)
+    → NamesContext h (ctx_of (header_converted h)) × (is_mips64el (header_converted h) ≡ is_of_mips64el h)
 
 -- a call answers this refusal at each index
 abbrev pub RefusesAll : {Y : Type 0} → (ℕ → Result (Option Y) Refusal) → Refusal → Type 0
@@ -114,8 +114,8 @@ RefusesAll call refusal = (index : ℕ) → call index ≡ Err refusal
 -- place of a list
 abbrev pub TellsEach :
     {X Y : Type 0} → (X → Y) → Result (List X) Refusal → (ℕ → Result (Option Y) Refusal) → Type 0
-TellsEach tell (Ok items) call = (index : ℕ) → call index ≡ Ok (option_map tell (slice_get items index))
-TellsEach tell (Err refusal) call = RefusesAll call refusal
+TellsEach convert (Ok items) call = (index : ℕ) → call index ≡ Ok (option_map convert (slice_get items index))
+TellsEach convert (Err refusal) call = RefusesAll call refusal
 
 -- a call tells how many items a list has, or the refusal that there is in its place
 abbrev pub TellsCount : {X : Type 0} → Result (List X) Refusal → Result (Option ℕ) Refusal → Type 0
@@ -127,16 +127,16 @@ abbrev pub SectionsByIndex : Type 0
 SectionsByIndex =
     (bytes : List ℕ) (h : Header) (ctx : Ctx) → HasHeader bytes h → NamesContext h ctx
     → let sections = section_headers_of bytes h.e_shoff h.e_shnum ctx in
-    TellsEach section_told sections (section_right bytes (header_told h))
-    × TellsCount sections (section_count_right bytes (header_told h))
+    TellsEach section_converted sections (section_right bytes (header_converted h))
+    × TellsCount sections (section_count_right bytes (header_converted h))
 
 -- its program headers by index are the library's list, and the count is its length
 abbrev pub SegmentsByIndex : Type 0
 SegmentsByIndex =
     (bytes : List ℕ) (h : Header) (ctx : Ctx) → HasHeader bytes h → NamesContext h ctx
     → let segments = program_headers_from bytes h.e_phoff h.e_phnum ctx in
-    TellsEach segment_told segments (segment_right bytes (header_told h))
-    × TellsCount segments (segment_count_right bytes (header_told h))
+    TellsEach segment_converted segments (segment_right bytes (header_converted h))
+    × TellsCount segments (segment_count_right bytes (header_converted h))
 
 -- the symbols of the library's table in a range, of as many as lie in it whole
 abbrev pub symbols_in : List ℕ → GoblinRange → Ctx → Result (List Sym) Refusal
@@ -148,8 +148,8 @@ symbols_in bytes range ctx = do
 abbrev pub SymbolsByIndex : Type 0
 SymbolsByIndex =
     (bytes : List ℕ) (h : Header) (ctx : Ctx) (range : GoblinRange) → HasHeader bytes h → NamesContext h ctx
-    → TellsEach symbol_told (symbols_in bytes range ctx) (symbol_right bytes (header_told h) range)
-    × TellsCount (symbols_in bytes range ctx) (symbol_count_right bytes (header_told h) range)
+    → TellsEach symbol_converted (symbols_in bytes range ctx) (symbol_right bytes (header_converted h) range)
+    × TellsCount (symbols_in bytes range ctx) (symbol_count_right bytes (header_converted h) range)
 
 -- the relocations of a range by index are the library's list, and the count is its length
 abbrev pub RelocsByIndex : Type 0
@@ -157,8 +157,8 @@ RelocsByIndex =
     (bytes : List ℕ) (h : Header) (ctx : Ctx) (range : GoblinRange) (is_rela : Bool)
     → HasHeader bytes h → NamesContext h ctx
     → let relocs = refuse_as refusal_of (relocs_of bytes range.offset range.size is_rela ctx (is_of_mips64el h)) in
-    TellsEach reloc_told relocs (reloc_right bytes (header_told h) range is_rela)
-    × TellsCount relocs (reloc_count_right bytes (header_told h) range is_rela)
+    TellsEach reloc_converted relocs (reloc_right bytes (header_converted h) range is_rela)
+    × TellsCount relocs (reloc_count_right bytes (header_converted h) range is_rela)
 
 -- the items that are given from an index on, one at least, are those that a call tells there one by one, and none
 -- behind them; or the call tells none there, or the same refusal at each index
@@ -198,27 +198,27 @@ pub record RoomIsFilled : Type 0 where
 -- the bytes at the place that a call tells of a string are the string that the library reads among the strings there
 abbrev pub StringsAreThere : Type 0
 StringsAreThere =
-    (bytes : List ℕ) (range : GoblinRange) (offset : ℕ) (told : GoblinRange)
-    → string_right bytes range offset ≡ Ok (Some told)
-    → (strings_right bytes range >>= λ strings. plain strings 0 offset) ≡ Ok (bytes_in bytes told)
+    (bytes : List ℕ) (range : GoblinRange) (offset : ℕ) (found : GoblinRange)
+    → string_right bytes range offset ≡ Ok (Some found)
+    → (strings_right bytes range >>= λ strings. plain strings 0 offset) ≡ Ok (bytes_in bytes found)
 
 -- the place that a call tells of a string lies in the file
 abbrev pub StringsLieInFile : Type 0
 StringsLieInFile =
-    (bytes : List ℕ) (range : GoblinRange) (offset : ℕ) (told : GoblinRange)
-    → string_right bytes range offset ≡ Ok (Some told) → LiesIn bytes told
+    (bytes : List ℕ) (range : GoblinRange) (offset : ℕ) (found : GoblinRange)
+    → string_right bytes range offset ≡ Ok (Some found) → LiesIn bytes found
 
 -- what is told of the section at an index, where it is a table by that index
-abbrev pub table_told : ℕ → Result (Option GoblinSection) Refusal → Result (Option GoblinSection) Refusal
-table_told index told = do
-  section ← told
+abbrev pub table_converted : ℕ → Result (Option GoblinSection) Refusal → Result (Option GoblinSection) Refusal
+table_converted index found = do
+  section ← found
   Ok (table_of index section)
 
 -- the table at each index is the section there, where that is one
 abbrev pub TablesByIndex : Type 0
 TablesByIndex =
     (bytes : List ℕ) (h : GoblinHeader) (index : ℕ)
-    → table_right bytes h index ≡ table_told index (section_right bytes h index)
+    → table_right bytes h index ≡ table_converted index (section_right bytes h index)
 
 -- the section that holds the sections' names is the table with the index in the header; where this is 0xffff it is that
 -- with the index that the first section links to
@@ -232,7 +232,7 @@ NamesByIndex =
 -- a call tells of a string at an offset, and its bytes are this name
 abbrev pub IsNameAt : List ℕ → GoblinRange → ℕ → List ℕ → Type 0
 IsNameAt bytes names offset name =
-    (told : GoblinRange) × (string_right bytes names offset ≡ Ok (Some told)) × (bytes_in bytes told ≡ name)
+    (found : GoblinRange) × (string_right bytes names offset ≡ Ok (Some found)) × (bytes_in bytes found ≡ name)
 
 -- an answer is the index of the first item from an index on that a call tells and that is so; or none is so from there
 -- on; or it is a refusal of this kind
@@ -281,17 +281,17 @@ SectionsByType =
 -- the places that are told of bytes lie in the file
 pub record BytesLieInFile : Type 0 where
   pub section :
-      (bytes : List ℕ) (s : GoblinSection) (told : GoblinRange)
-      → section_bytes_right bytes s ≡ Ok (Some told) → LiesIn bytes told
+      (bytes : List ℕ) (s : GoblinSection) (found : GoblinRange)
+      → section_bytes_right bytes s ≡ Ok (Some found) → LiesIn bytes found
   pub segment :
-      (bytes : List ℕ) (s : GoblinSegment) (told : GoblinRange)
-      → segment_bytes_right bytes s ≡ Ok (Some told) → LiesIn bytes told
+      (bytes : List ℕ) (s : GoblinSegment) (found : GoblinRange)
+      → segment_bytes_right bytes s ≡ Ok (Some found) → LiesIn bytes found
   pub string :
-      (bytes : List ℕ) (range : GoblinRange) (offset : ℕ) (told : GoblinRange)
-      → string_bytes_right bytes range offset ≡ Ok (Some told) → LiesIn bytes told
+      (bytes : List ℕ) (range : GoblinRange) (offset : ℕ) (found : GoblinRange)
+      → string_bytes_right bytes range offset ≡ Ok (Some found) → LiesIn bytes found
 
 -- the place that a call tells of a string is the one that is told of it, text or not
 abbrev pub StringsAreBytes : Type 0
 StringsAreBytes =
-    (bytes : List ℕ) (range : GoblinRange) (offset : ℕ) (told : GoblinRange)
-    → string_right bytes range offset ≡ Ok (Some told) → string_bytes_right bytes range offset ≡ Ok (Some told)
+    (bytes : List ℕ) (range : GoblinRange) (offset : ℕ) (found : GoblinRange)
+    → string_right bytes range offset ≡ Ok (Some found) → string_bytes_right bytes range offset ≡ Ok (Some found)

@@ -10,8 +10,8 @@ use Rattle.goblin_c.specs.declared.types.GoblinNote.{GoblinNote}
 use Rattle.goblin_c.specs.declared.types.GoblinRange.{GoblinRange}
 
 -- what C is told of the note at an offset whose parts lie at these places, counted from the offset
-abbrev pub note_told : ℕ → NotePlaces → GoblinNote
-note_told offset places = record {
+abbrev pub note_converted : ℕ → NotePlaces → GoblinNote
+note_converted offset places = record {
   name = record { offset = offset + places.name; size = places.name_size };
   desc = record { offset = offset + places.desc; size = places.desc_size };
   next = offset + places.next;
@@ -24,4 +24,4 @@ note_right bytes h range alignment offset =
     if nat_le (range.offset + range.size) offset then Ok None
     else do
       places ← places_at bytes offset (alignment, ctx_of h)
-      Ok (Some (note_told offset places))
+      Ok (Some (note_converted offset places))

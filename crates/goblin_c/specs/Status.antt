@@ -35,9 +35,9 @@ abbrev pub refusal_converted : Refusal → GoblinRefusal
 refusal_converted refusal = converted (refusal_facts refusal)
 
 -- what C is told of the items of a list that was answered
-abbrev pub told_of : {X Y : Type 0} → (X → List Y) → Result X Error → Result (List Y) Refusal
-told_of listed (Ok all) = Ok (listed all)
-told_of listed (Err e) = Err (refusal_of e)
+abbrev pub converted_list : {X Y : Type 0} → (X → List Y) → Result X Error → Result (List Y) Refusal
+converted_list listed (Ok all) = Ok (listed all)
+converted_list listed (Err e) = Err (refusal_of e)
 
 -- What a call that finds `right` answers, and what it leaves where an item and a refusal stood: 0 and the item; 1 past
 -- the last item; or the kind of the refusal, and what is told of it. All else is as it was.

@@ -21,7 +21,7 @@ use Rattle.goblin_c.specs.Answers.{section_by_name_right, section_by_type_right,
 use Rattle.goblin_c.specs.Answers.{section_right, sections_from_right, sections_right, segment_count_right, segment_right}
 use Rattle.goblin_c.specs.Answers.{segments_right, string_right, strings_right, symbol_by_address_right}
 use Rattle.goblin_c.specs.Answers.{symbol_by_name_right, symbol_count_right, symbol_right, symbols_from_right, symbols_right}
-use Rattle.goblin_c.specs.Answers.{count_of, each_told, item_of, items_from, reloc_told, section_told, segment_told, symbol_told, table_right}
+use Rattle.goblin_c.specs.Answers.{count_of, each_converted, item_of, items_from, reloc_converted, section_converted, segment_converted, symbol_converted, table_right}
 use Rattle.goblin_c.specs.Bytes.{number_right, section_bytes_right, segment_bytes_right, string_bytes_right}
 use Rattle.goblin_c.specs.Notes.{note_right}
 use Rattle.goblin_c.specs.Status.{refusal_converted}
@@ -97,16 +97,16 @@ known_note bytes offset ctx = grind (arith, known_room)
 
 -- the items of a list for C, one, many or how many, are refused as the list is
 module _ {X Y : Type 0} (convert : X → Y) where
-  counted : (list : Result (List X) Refusal) → KeepsText list → KeepsText (count_of (each_told convert list))
+  counted : (list : Result (List X) Refusal) → KeepsText list → KeepsText (count_of (each_converted convert list))
   counted (Ok items) keeps = tt
   counted (Err refusal) keeps = keeps
 
-  one : (list : Result (List X) Refusal) (index : ℕ) → KeepsText list → KeepsText (item_of (each_told convert list) index)
+  one : (list : Result (List X) Refusal) (index : ℕ) → KeepsText list → KeepsText (item_of (each_converted convert list) index)
   one (Ok items) index keeps = tt
   one (Err refusal) index keeps = keeps
 
   many :
-      (list : Result (List X) Refusal) (first : ℕ) → KeepsText list → KeepsText (items_from (each_told convert list) first)
+      (list : Result (List X) Refusal) (first : ℕ) → KeepsText list → KeepsText (items_from (each_converted convert list) first)
   many (Ok items) first keeps = grind arith
   many (Err refusal) first keeps = keeps
 
@@ -157,23 +157,23 @@ refusals_keep_their_text bytes h range names name is_rela index offset address a
     let keep_symbols = kept (symbols_right bytes h range) symbols in
     record {
       header = kept (header_right bytes) (grind (arith, known_header bytes));
-      section_count = counted section_told (sections_right bytes h) keep_sections;
-      section = one section_told (sections_right bytes h) index keep_sections;
-      sections = many section_told (sections_right bytes h) index keep_sections;
+      section_count = counted section_converted (sections_right bytes h) keep_sections;
+      section = one section_converted (sections_right bytes h) index keep_sections;
+      sections = many section_converted (sections_right bytes h) index keep_sections;
       section_names = kept (section_names_right bytes h) (grind (arith, sections));
       table = kept (table_right bytes h index) (grind (arith, sections));
-      segment = one segment_told (segments_right bytes h) index segments;
-      symbol = one symbol_told (symbols_right bytes h range) index keep_symbols;
-      symbols = many symbol_told (symbols_right bytes h range) index keep_symbols;
-      reloc = one reloc_told (relocs_right bytes h range is_rela) index relocs;
-      relocs = many reloc_told (relocs_right bytes h range is_rela) index relocs;
+      segment = one segment_converted (segments_right bytes h) index segments;
+      symbol = one symbol_converted (symbols_right bytes h range) index keep_symbols;
+      symbols = many symbol_converted (symbols_right bytes h range) index keep_symbols;
+      reloc = one reloc_converted (relocs_right bytes h range is_rela) index relocs;
+      relocs = many reloc_converted (relocs_right bytes h range is_rela) index relocs;
       string = kept (string_right bytes range offset) (known_string bytes range offset);
       note = kept (note_right bytes h range alignment offset) (grind (arith, known_note bytes offset (alignment, ctx_of h)));
       section_by_name = kept (section_by_name_right bytes h names name) (grind (arith, sections, strings));
       symbol_by_name = kept (symbol_by_name_right bytes h range names name) (grind (arith, symbols, strings));
-      segment_count = counted segment_told (segments_right bytes h) segments;
-      symbol_count = counted symbol_told (symbols_right bytes h range) keep_symbols;
-      reloc_count = counted reloc_told (relocs_right bytes h range is_rela) relocs;
+      segment_count = counted segment_converted (segments_right bytes h) segments;
+      symbol_count = counted symbol_converted (symbols_right bytes h range) keep_symbols;
+      reloc_count = counted reloc_converted (relocs_right bytes h range is_rela) relocs;
       symbol_by_address = kept (symbol_by_address_right bytes h range address) (grind (arith, symbols));
       section_by_type = kept (section_by_type_right bytes h sh_type index) (grind (arith, sections));
       section_bytes = kept (section_bytes_right bytes s) (grind (arith, known_room));

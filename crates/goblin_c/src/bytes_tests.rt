@@ -3,7 +3,7 @@
 //! addends, the bytes 1 to 8, and four section headers. The first program header and the first section header stand
 //! for nothing, whatever their sizes; the third section has no bytes; the fourth ends past the file.
 use crate::layout::marked_layout;
-use crate::tests::{range, told};
+use crate::tests::{called, range};
 use crate::types::{GoblinHeader, GoblinRange, GoblinRefusal};
 use crate::*;
 
@@ -26,22 +26,22 @@ const STRINGS: GoblinRange = GoblinRange {
 
 // The file's header.
 fn header() -> GoblinHeader {
-    told!(goblin_header(FILE), marked_layout().header).1
+    called!(goblin_header(FILE), marked_layout().header).1
 }
 
 fn segment_count() -> (u32, u64) {
-    let (status, count, _) = told!(goblin_segment_count(FILE, &header()), 9);
+    let (status, count, _) = called!(goblin_segment_count(FILE, &header()), 9);
     (status, count)
 }
 
 // The answer for the symbols of a range, with how many they are and the refusal's first number.
 fn symbol_count(symbols: &GoblinRange) -> (u32, u64, u64) {
-    let (status, count, why) = told!(goblin_symbol_count(FILE, &header(), symbols), 9);
+    let (status, count, why) = called!(goblin_symbol_count(FILE, &header(), symbols), 9);
     (status, count, why.first)
 }
 
 fn reloc_count(is_rela: bool) -> (u32, u64) {
-    let (status, count, _) = told!(
+    let (status, count, _) = called!(
         goblin_reloc_count(FILE, &header(), &range(124, 23), is_rela),
         9
     );
@@ -63,7 +63,7 @@ fn refuses_symbols_at_the_end(rt: HostRuntime) {
 
 // The answer and the index of the first section of a type, from an index on.
 fn of_type(sh_type: u32, first: u64) -> (u32, u64) {
-    let (status, index, _) = told!(goblin_section_by_type(FILE, &header(), sh_type, first), 9);
+    let (status, index, _) = called!(goblin_section_by_type(FILE, &header(), sh_type, first), 9);
     (status, index)
 }
 
@@ -89,12 +89,12 @@ fn shown((status, found, why): (u32, GoblinRange, GoblinRefusal)) -> (u32, u64, 
 // That for the bytes of a section.
 fn bytes_of_section(index: u64) -> (u32, u64, u64) {
     let mark = marked_layout().section;
-    let (_, section, _) = told!(goblin_section(FILE, &header(), index), mark);
-    shown(told!(goblin_section_bytes(FILE, &section), range(0, 0)))
+    let (_, section, _) = called!(goblin_section(FILE, &header(), index), mark);
+    shown(called!(goblin_section_bytes(FILE, &section), range(0, 0)))
 }
 
 #[test]
-fn tells_the_bytes_of_sections(rt: HostRuntime) {
+fn finds_the_bytes_of_sections(rt: HostRuntime) {
     assert!(rt; bytes_of_section(0) == (1, 0, 0) && bytes_of_section(1) == (0, 116, 8));
     assert!(rt; bytes_of_section(2) == (1, 0, 0) && bytes_of_section(3) == (3, 9, 8));
 }
@@ -102,13 +102,13 @@ fn tells_the_bytes_of_sections(rt: HostRuntime) {
 // The same for those of a segment.
 fn bytes_of_segment(index: u64, size: u64) -> (u32, u64, u64) {
     let mark = marked_layout().segment;
-    let (_, mut segment, _) = told!(goblin_segment(FILE, &header(), index), mark);
+    let (_, mut segment, _) = called!(goblin_segment(FILE, &header(), index), mark);
     segment.file.size = size;
-    shown(told!(goblin_segment_bytes(FILE, &segment), range(0, 0)))
+    shown(called!(goblin_segment_bytes(FILE, &segment), range(0, 0)))
 }
 
 #[test]
-fn tells_the_bytes_of_segments(rt: HostRuntime) {
+fn finds_the_bytes_of_segments(rt: HostRuntime) {
     assert!(rt; bytes_of_segment(0, 8) == (1, 0, 0) && bytes_of_segment(1, 32) == (0, 116, 32));
     assert!(rt; bytes_of_segment(1, 0) == (1, 0, 0) && bytes_of_segment(1, 192) == (0, 116, 192));
     assert!(rt; bytes_of_segment(1, 193) == (3, 193, 192));
@@ -116,11 +116,11 @@ fn tells_the_bytes_of_segments(rt: HostRuntime) {
 
 // The answer for the bytes of a string.
 fn string_in(strings: &GoblinRange, offset: u64) -> (u32, u64, u64) {
-    shown(told!(goblin_string_bytes(FILE, strings, offset), range(0, 0)))
+    shown(called!(goblin_string_bytes(FILE, strings, offset), range(0, 0)))
 }
 
 #[test]
-fn tells_strings_that_are_no_text(rt: HostRuntime) {
+fn finds_strings_that_are_not_utf8(rt: HostRuntime) {
     assert!(rt; string_in(&STRINGS, 0) == (0, 116, 0) && string_in(&STRINGS, 1) == (0, 117, 2));
     assert!(rt; string_in(&STRINGS, 4) == (0, 120, 2) && string_in(&STRINGS, 7) == (0, 123, 1));
     assert!(rt;
@@ -132,7 +132,7 @@ fn tells_strings_that_are_no_text(rt: HostRuntime) {
 fn number_at(offset: u64, width: u64, order: u8) -> (u32, u64) {
     let mut header = header();
     header.ei_data = order;
-    let (status, value, why) = told!(goblin_number(FILE, &header, offset, width), 9);
+    let (status, value, why) = called!(goblin_number(FILE, &header, offset, width), 9);
     if status > 1 {
         return (status, why.first);
     }
@@ -140,7 +140,7 @@ fn number_at(offset: u64, width: u64, order: u8) -> (u32, u64) {
 }
 
 #[test]
-fn tells_numbers(rt: HostRuntime) {
+fn reads_numbers(rt: HostRuntime) {
     assert!(rt; number_at(140, 1, 2) == (0, 1) && number_at(140, 2, 2) == (0, 0x0102));
     assert!(rt;
         number_at(140, 4, 2) == (0, 0x0102_0304)

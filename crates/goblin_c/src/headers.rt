@@ -1,7 +1,7 @@
 //! The header, the section headers and the program headers, as the library gives them.
 ghost use Rattle.std.specs.Prelude.{◌≡◌, ◌+◌, ◌<◌, ◌==◌, ◌^◌, IfSome, drop, map, position};
 ghost use Rattle.goblin.specs.Refusal.{Answers};
-ghost use Rattle.goblin_c.specs.Answers.{ctx_of, header_right, header_told, section_by_type_right, section_names_right, section_told, sections_right, segment_told, segments_right, table_at, table_right};
+ghost use Rattle.goblin_c.specs.Answers.{ctx_of, header_right, header_converted, section_by_type_right, section_names_right, section_converted, sections_right, segment_converted, segments_right, table_at, table_right};
 
 use crate::lists::Listed;
 use crate::types::{GoblinHeader, GoblinRange, GoblinSection, GoblinSegment};
@@ -32,8 +32,8 @@ pub fn ctx_of(header: &GoblinHeader) -> Ctx
     Ctx::new(container, order)
 }
 
-fn told_header(h: &Header) -> GoblinHeader
-    ensures { result ≡ header_told h.now }
+fn convert_header(h: &Header) -> GoblinHeader
+    ensures { result ≡ header_converted h.now }
 {
     GoblinHeader {
         e_entry: h.e_entry,
@@ -57,8 +57,8 @@ fn told_header(h: &Header) -> GoblinHeader
     }
 }
 
-fn told_section(s: &SectionHeader) -> GoblinSection
-    ensures { result ≡ section_told s.now }
+fn convert_section(s: &SectionHeader) -> GoblinSection
+    ensures { result ≡ section_converted s.now }
 {
     GoblinSection {
         file: GoblinRange {
@@ -76,8 +76,8 @@ fn told_section(s: &SectionHeader) -> GoblinSection
     }
 }
 
-fn told_segment(s: &ProgramHeader) -> GoblinSegment
-    ensures { result ≡ segment_told s.now }
+fn convert_segment(s: &ProgramHeader) -> GoblinSegment
+    ensures { result ≡ segment_converted s.now }
 {
     GoblinSegment {
         file: GoblinRange {
@@ -98,7 +98,7 @@ pub fn header_at(bytes: &[u8]) -> Result<Option<GoblinHeader>>
     ensures { Answers (λ found. found) result (header_right bytes.now) }
 {
     let (header, _) = Header::try_from_ctx(bytes, LE)?;
-    Ok(Some(told_header(&header)))
+    Ok(Some(convert_header(&header)))
 }
 
 /// The section headers.
@@ -117,16 +117,16 @@ pub fn sections_of<'a>(
 }
 
 impl Listed for Table<'_, SectionHeader, Ctx> {
-    type Told = GoblinSection;
+    type Converted = GoblinSection;
 
-    ghost listed = { λ sections. map section_told sections };
+    ghost listed = { λ sections. map section_converted sections };
 
     fn count(&self) -> usize {
         self.len()
     }
 
-    fn told(&self, index: usize) -> Option<GoblinSection> {
-        Some(told_section(&self.get(index)?))
+    fn converted(&self, index: usize) -> Option<GoblinSection> {
+        Some(convert_section(&self.get(index)?))
     }
 }
 
@@ -161,13 +161,13 @@ pub fn section_by_type(
 }
 
 // What C is told of the section that is a table by its index.
-fn told_table(sections: &Table<'_, SectionHeader, Ctx>, index: usize) -> Option<GoblinSection>
-    ensures { result ≡ table_at (map section_told sections.now) index }
+fn converted_table(sections: &Table<'_, SectionHeader, Ctx>, index: usize) -> Option<GoblinSection>
+    ensures { result ≡ table_at (map section_converted sections.now) index }
 {
     if index == 0 {
         return None;
     }
-    match sections.told(index) {
+    match sections.converted(index) {
         Some(section) if section.sh_type != SHT_NOBITS => Some(section),
         _ => None,
     }
@@ -181,7 +181,7 @@ pub fn table_section(
 ) -> Result<Option<GoblinSection>>
     ensures { Answers (λ found. found) result (table_right bytes.now header.now index) }
 {
-    Ok(told_table(&sections_of(bytes, header)?, index as usize))
+    Ok(converted_table(&sections_of(bytes, header)?, index as usize))
 }
 
 /// The section that holds the sections' names.
@@ -191,7 +191,7 @@ pub fn section_names(bytes: &[u8], header: &GoblinHeader) -> Result<Option<Gobli
     let sections = sections_of(bytes, header)?;
     let first = sections.get(0);
     let index = SectionHeader::names_index(header.e_shstrndx, first.as_ref());
-    Ok(told_table(&sections, index))
+    Ok(converted_table(&sections, index))
 }
 
 /// The program headers.
@@ -210,15 +210,15 @@ pub fn segments_of<'a>(
 }
 
 impl Listed for Table<'_, ProgramHeader, Ctx> {
-    type Told = GoblinSegment;
+    type Converted = GoblinSegment;
 
-    ghost listed = { λ segments. map segment_told segments };
+    ghost listed = { λ segments. map segment_converted segments };
 
     fn count(&self) -> usize {
         self.len()
     }
 
-    fn told(&self, index: usize) -> Option<GoblinSegment> {
-        Some(told_segment(&self.get(index)?))
+    fn converted(&self, index: usize) -> Option<GoblinSegment> {
+        Some(convert_segment(&self.get(index)?))
     }
 }

@@ -67,10 +67,10 @@ pub extern "C" fn goblin_version() -> u32
 
 /// The sizes of what crosses, and one of each struct, whose fields are numbered.
 #[unsafe(no_mangle)]
-pub extern "C" fn goblin_layout(told: &mut GoblinLayout)
-    ensures { told.new ≡ layout }
+pub extern "C" fn goblin_layout(marks: &mut GoblinLayout)
+    ensures { marks.new ≡ layout }
 {
-    *told = marked_layout();
+    *marks = marked_layout();
 }
 
 /// The header at the file's start.

@@ -4,7 +4,7 @@ ghost use Rattle.std.specs.Prelude.{◌≡◌, ◌-◌, ◌<◌, List, drop, len
 ghost use Rattle.goblin.specs.Refusal.{Answers};
 ghost use Rattle.goblin_c.specs.Answers.{count_of, item_of, items_from};
 ghost use Rattle.goblin_c.specs.Laid.{laid};
-ghost use Rattle.goblin_c.specs.Status.{Fills, told_of};
+ghost use Rattle.goblin_c.specs.Status.{Fills, converted_list};
 
 use crate::kinds::{END, OK};
 use crate::status::refuse;
@@ -14,45 +14,45 @@ use goblin::error::Result;
 /// A list whose items C is told of.
 pub trait Listed: Drop {
     /// What C is told of an item.
-    type Told: Copy;
+    type Converted: Copy;
 
     // what C is told of each item, in their order
-    ghost listed: { Self → List Self.Told };
+    ghost listed: { Self → List Self.Converted };
 
     /// How many items there are.
     fn count(&self) -> usize
         ensures { result ≡ length (listed self.now) };
 
     /// What C is told of the item at an index, or `None` from `count()` on.
-    fn told(&self, index: usize) -> Option<Self::Told>
+    fn converted(&self, index: usize) -> Option<Self::Converted>
         ensures { result ≡ slice_get (listed self.now) index };
 }
 
 /// How many items a list has.
 pub fn count_of<L: Listed>(list: Result<L>) -> Result<Option<u64>>
-    ensures { Answers (λ found. found) result (count_of (told_of L.listed list)) }
+    ensures { Answers (λ found. found) result (count_of (converted_list L.listed list)) }
 {
     Ok(Some(list?.count() as u64))
 }
 
 /// The item of a list at an index.
-pub fn item_of<L: Listed>(list: Result<L>, index: u64) -> Result<Option<L::Told>>
-    ensures { Answers (λ found. found) result (item_of (told_of L.listed list) index) }
+pub fn item_of<L: Listed>(list: Result<L>, index: u64) -> Result<Option<L::Converted>>
+    ensures { Answers (λ found. found) result (item_of (converted_list L.listed list) index) }
 {
-    Ok(list?.told(index as usize))
+    Ok(list?.converted(index as usize))
 }
 
 // Fills room with the items from an index on, and answers how many there was room for.
 #[tactic(auto, using(crate::proofs::LaidLemmas::laid_steps))]
-fn fill<L: Listed>(all: &L, first: usize, room: &mut [L::Told]) -> usize
+fn fill<L: Listed>(all: &L, first: usize, room: &mut [L::Converted]) -> usize
     requires { first < length (L.listed all.now) }
     ensures filled { room.new ≡ laid (drop first (L.listed all.now)) room.old }
     ensures count { result ≡ min (length (L.listed all.now) - first) (length room.old) }
 {
     let count = room.len().min(all.count() - first);
     for (i, place) in room.iter_mut().enumerate() {
-        match all.told(first + i) {
-            Some(told) => *place = told,
+        match all.converted(first + i) {
+            Some(item) => *place = item,
             None => break,
         }
     }
@@ -64,11 +64,11 @@ fn fill<L: Listed>(all: &L, first: usize, room: &mut [L::Told]) -> usize
 pub fn tell_from<L: Listed>(
     list: Result<L>,
     first: u64,
-    room: &mut [L::Told],
+    room: &mut [L::Converted],
     filled: &mut u64,
     why: &mut GoblinRefusal,
 ) -> u32
-    ensures { Fills (items_from (told_of L.listed list) first)
+    ensures { Fills (items_from (converted_list L.listed list) first)
         room.old filled.old why.old result room.new filled.new why.new }
 {
     match list {

@@ -37,8 +37,8 @@ fn converted(e: &Error) -> GoblinRefusal
 
 /// Tells a refusal, and answers its kind.
 pub fn refuse(e: &Error, why: &mut GoblinRefusal) -> u32
-    ensures told { why.new ≡ refusal_converted (refusal_of e.now) }
-    ensures kind { result ≡ (refusal_converted (refusal_of e.now)).kind }
+    ensures written { why.new ≡ refusal_converted (refusal_of e.now) }
+    ensures exact { result ≡ (refusal_converted (refusal_of e.now)).kind }
 {
     *why = converted(e);
     why.kind

@@ -1,7 +1,7 @@
 //! Symbols, relocations and what is found by its name, as the library gives them.
 ghost use Rattle.std.specs.Prelude.{◌≡◌, length, map, position};
 ghost use Rattle.goblin.specs.Refusal.{Answers};
-ghost use Rattle.goblin_c.specs.Answers.{reloc_told, relocs_right, section_by_name_right, symbol_by_address_right, symbol_by_name_right, is_named, symbol_told, symbols_right};
+ghost use Rattle.goblin_c.specs.Answers.{reloc_converted, relocs_right, section_by_name_right, symbol_by_address_right, symbol_by_name_right, is_named, symbol_converted, symbols_right};
 
 use crate::headers::{ctx_of, sections_of};
 use crate::lists::Listed;
@@ -12,8 +12,8 @@ use goblin::elf::section_header::SectionHeader;
 use goblin::elf::sym::{Sym, Symtab};
 use goblin::error::Result;
 
-fn told_symbol(s: &Sym) -> GoblinSymbol
-    ensures { result ≡ symbol_told s.now }
+fn convert_symbol(s: &Sym) -> GoblinSymbol
+    ensures { result ≡ symbol_converted s.now }
 {
     GoblinSymbol {
         st_name: s.st_name as u64,
@@ -25,8 +25,8 @@ fn told_symbol(s: &Sym) -> GoblinSymbol
     }
 }
 
-fn told_reloc(r: &Reloc) -> GoblinReloc
-    ensures { result ≡ reloc_told r.now }
+fn convert_reloc(r: &Reloc) -> GoblinReloc
+    ensures { result ≡ reloc_converted r.now }
 {
     GoblinReloc {
         r_offset: r.r_offset,
@@ -52,16 +52,16 @@ pub fn symbols_of<'a>(
 }
 
 impl Listed for Symtab<'_> {
-    type Told = GoblinSymbol;
+    type Converted = GoblinSymbol;
 
-    ghost listed = { λ table. map symbol_told table.symbols };
+    ghost listed = { λ table. map symbol_converted table.symbols };
 
     fn count(&self) -> usize {
         self.len()
     }
 
-    fn told(&self, index: usize) -> Option<GoblinSymbol> {
-        Some(told_symbol(&self.get(index)?))
+    fn converted(&self, index: usize) -> Option<GoblinSymbol> {
+        Some(convert_symbol(&self.get(index)?))
     }
 }
 
@@ -87,16 +87,16 @@ pub fn relocs_of<'a>(
 }
 
 impl Listed for RelocSection<'_> {
-    type Told = GoblinReloc;
+    type Converted = GoblinReloc;
 
-    ghost listed = { λ relocs. map reloc_told relocs };
+    ghost listed = { λ relocs. map reloc_converted relocs };
 
     fn count(&self) -> usize {
         self.len()
     }
 
-    fn told(&self, index: usize) -> Option<GoblinReloc> {
-        Some(told_reloc(&self.get(index)?))
+    fn converted(&self, index: usize) -> Option<GoblinReloc> {
+        Some(convert_reloc(&self.get(index)?))
     }
 }
 

@@ -27,34 +27,36 @@ pub fn range(offset: u64, size: u64) -> GoblinRange {
     GoblinRange { offset, size }
 }
 
-// What a call answers, what it leaves in place of this mark, and what it leaves of a refusal.
-macro_rules! told {
+// The status of a call, what it stores in place of this mark, and the refusal that it stores.
+macro_rules! called {
     ($call:ident($($given:expr),*), $mark:expr) => {{
-        let (mut told, mut why) = ($mark, marked_layout().refusal);
-        let status = $call($($given,)* &mut told, &mut why);
-        (status, told, why)
+        let (mut found, mut why) = ($mark, marked_layout().refusal);
+        let status = $call($($given,)* &mut found, &mut why);
+        (status, found, why)
     }};
 }
 
-pub(crate) use told;
+pub(crate) use called;
 
 // The file's header, or one of marks where it is refused.
 fn header() -> GoblinHeader {
-    told!(goblin_header(FILE), marked_layout().header).1
+    called!(goblin_header(FILE), marked_layout().header).1
 }
 
 #[test]
 fn reads_the_header(rt: HostRuntime) {
-    let told = header();
-    assert!(rt; told.e_type == 3 && told.e_shoff == 88 && told.e_shnum == 3 && told.e_ehsize == 52);
+    let found = header();
     assert!(rt;
-        told.ei_class == 1 && told.ei_data == 1 && told.ei_version == 1 && told.ei_osabi == 0
+        found.e_type == 3 && found.e_shoff == 88 && found.e_shnum == 3 && found.e_ehsize == 52
+    );
+    assert!(rt;
+        found.ei_class == 1 && found.ei_data == 1 && found.ei_version == 1 && found.ei_osabi == 0
     );
 }
 
 // Whether a header is refused, by this kind with these numbers.
 fn refuses(bytes: &[u8], kind: u32, first: u64, second: u64) -> bool {
-    let (status, _, why) = told!(goblin_header(bytes), marked_layout().header);
+    let (status, _, why) = called!(goblin_header(bytes), marked_layout().header);
     status == kind && why.kind == kind && why.first == first && why.second == second
 }
 
@@ -68,8 +70,8 @@ fn refuses_headers(rt: HostRuntime) {
 // What the section header at an index is: its answer, type, place and link.
 fn section(index: u64) -> (u32, u32, u64, u32) {
     let mark = marked_layout().section;
-    let (status, told, _) = told!(goblin_section(FILE, &header(), index), mark);
-    (status, told.sh_type, told.file.offset, told.sh_link)
+    let (status, found, _) = called!(goblin_section(FILE, &header(), index), mark);
+    (status, found.sh_type, found.file.offset, found.sh_link)
 }
 
 #[test]
@@ -80,14 +82,14 @@ fn reads_sections(rt: HostRuntime) {
 }
 
 fn count() -> (u32, u64) {
-    let (status, told, _) = told!(goblin_section_count(FILE, &header()), 9);
-    (status, told)
+    let (status, found, _) = called!(goblin_section_count(FILE, &header()), 9);
+    (status, found)
 }
 
 fn fills_sections() -> bool {
-    let mut told = [marked_layout().section; 4];
-    let (status, filled, _) = told!(goblin_sections(FILE, &header(), 1, &mut told), 9);
-    status == 0 && filled == 2 && told[0].sh_type == 3 && told[1].sh_type == 2
+    let mut found = [marked_layout().section; 4];
+    let (status, filled, _) = called!(goblin_sections(FILE, &header(), 1, &mut found), 9);
+    status == 0 && filled == 2 && found[0].sh_type == 3 && found[1].sh_type == 2
 }
 
 #[test]
@@ -101,8 +103,8 @@ fn segment_type(index: u64) -> (u32, u32) {
     let mut header = header();
     (header.e_phoff, header.e_phnum) = (52, 1);
     let mark = marked_layout().segment;
-    let (status, told, _) = told!(goblin_segment(FILE, &header, index), mark);
-    (status, told.p_type)
+    let (status, found, _) = called!(goblin_segment(FILE, &header, index), mark);
+    (status, found.p_type)
 }
 
 #[test]
@@ -114,14 +116,14 @@ fn reads_segments(rt: HostRuntime) {
 // What the symbol at an index is: the answer, its value and its binding and type.
 fn symbol(index: u64) -> (u32, u64, u8) {
     let mark = marked_layout().symbol;
-    let (status, told, _) = told!(goblin_symbol(FILE, &header(), &SYMBOLS, index), mark);
-    (status, told.st_value, told.st_info)
+    let (status, found, _) = called!(goblin_symbol(FILE, &header(), &SYMBOLS, index), mark);
+    (status, found.st_value, found.st_info)
 }
 
 fn fills_symbols() -> bool {
-    let mut told = [marked_layout().symbol; 3];
-    let (status, filled, _) = told!(goblin_symbols(FILE, &header(), &SYMBOLS, 1, &mut told), 9);
-    status == 0 && filled == 1 && told[0].st_value == 0x1000
+    let mut found = [marked_layout().symbol; 3];
+    let (status, filled, _) = called!(goblin_symbols(FILE, &header(), &SYMBOLS, 1, &mut found), 9);
+    status == 0 && filled == 1 && found[0].st_value == 0x1000
 }
 
 #[test]
@@ -133,7 +135,7 @@ fn reads_symbols(rt: HostRuntime) {
 
 // Where a name is found: the answer and the index.
 fn finds_symbol(name: &[u8]) -> (u32, u64) {
-    let (status, index, _) = told!(
+    let (status, index, _) = called!(
         goblin_symbol_by_name(FILE, &header(), &SYMBOLS, &STRINGS, name),
         9
     );
@@ -141,7 +143,7 @@ fn finds_symbol(name: &[u8]) -> (u32, u64) {
 }
 
 fn finds_section(name: &[u8]) -> (u32, u64) {
-    let (status, index, _) = told!(goblin_section_by_name(FILE, &header(), &STRINGS, name), 9);
+    let (status, index, _) = called!(goblin_section_by_name(FILE, &header(), &STRINGS, name), 9);
     (status, index)
 }
 
@@ -166,8 +168,8 @@ fn changed(place: usize, byte: u8) -> [u8; 208] {
 // What the table at an index is: its answer and its type, which is a mark where there is none.
 fn table(bytes: &[u8], index: u64) -> (u32, u32) {
     let mark = marked_layout().section;
-    let (status, told, _) = told!(goblin_table(bytes, &header(), index), mark);
-    (status, told.sh_type)
+    let (status, found, _) = called!(goblin_table(bytes, &header(), index), mark);
+    (status, found.sh_type)
 }
 
 // The same of the section that holds names, by the number of sections and the index in the header.
@@ -175,8 +177,8 @@ fn names_of(bytes: &[u8], count: u16, index: u16) -> (u32, u32) {
     let mut header = header();
     (header.e_shnum, header.e_shstrndx) = (count, index);
     let mark = marked_layout().section;
-    let (status, told, _) = told!(goblin_section_names(bytes, &header), mark);
-    (status, told.sh_type)
+    let (status, found, _) = called!(goblin_section_names(bytes, &header), mark);
+    (status, found.sh_type)
 }
 
 fn names(bytes: &[u8], index: u16) -> (u32, u32) {
@@ -210,7 +212,7 @@ fn takes_no_section_for_names(rt: HostRuntime) {
     assert!(rt; names(&changed(FIRST_LINK, 3), 0xffff) == NONE);
 }
 
-// The header tells no number of sections, and the first one's size does.
+// The header has no number of sections. The first section's size is the number.
 #[test]
 fn takes_the_size_of_the_first_for_no_names(rt: HostRuntime) {
     let file = changed(FIRST_SIZE, 3);
@@ -220,8 +222,8 @@ fn takes_the_size_of_the_first_for_no_names(rt: HostRuntime) {
 
 // Where a string lies: the answer, its offset and its size.
 fn string(offset: u64) -> (u32, u64, u64) {
-    let (status, told, _) = told!(goblin_string(FILE, &STRINGS, offset), range(9, 9));
-    (status, told.offset, told.size)
+    let (status, found, _) = called!(goblin_string(FILE, &STRINGS, offset), range(9, 9));
+    (status, found.offset, found.size)
 }
 
 #[test]
@@ -239,11 +241,11 @@ static LONG: &[u8; 71] = b"abcdefghijklmnopq\0\
 
 // The answer for a string of these, with its size or the refusal's first number.
 fn long_string(offset: u64) -> (u32, u64) {
-    let (status, told, why) = told!(goblin_string(LONG, &range(0, 71), offset), STRINGS);
+    let (status, found, why) = called!(goblin_string(LONG, &range(0, 71), offset), STRINGS);
     if status > 1 {
         return (status, why.first);
     }
-    (status, told.size)
+    (status, found.size)
 }
 
 #[test]
@@ -261,23 +263,23 @@ fn places_long_strings(rt: HostRuntime) {
 
 static RELOC: &[u8; 12] = b"\x10\0\0\0\x01\x02\0\0\xfc\xff\xff\xff";
 
-fn is_reloc(told: &GoblinReloc) -> bool {
-    told.r_offset == 16 && told.r_sym == 2 && told.r_type == 1 && told.r_addend == -4
+fn is_reloc(found: &GoblinReloc) -> bool {
+    found.r_offset == 16 && found.r_sym == 2 && found.r_type == 1 && found.r_addend == -4
 }
 
 fn reads_reloc() -> bool {
     let mark = marked_layout().reloc;
-    let (status, told, _) = told!(goblin_reloc(RELOC, &header(), &range(0, 12), true, 0), mark);
-    status == 0 && is_reloc(&told) && told.has_addend == 1
+    let (status, found, _) = called!(goblin_reloc(RELOC, &header(), &range(0, 12), true, 0), mark);
+    status == 0 && is_reloc(&found) && found.has_addend == 1
 }
 
 fn fills_reloc() -> bool {
-    let mut told = [marked_layout().reloc; 2];
-    let (status, filled, _) = told!(
-        goblin_relocs(RELOC, &header(), &range(0, 12), true, 0, &mut told),
+    let mut found = [marked_layout().reloc; 2];
+    let (status, filled, _) = called!(
+        goblin_relocs(RELOC, &header(), &range(0, 12), true, 0, &mut found),
         9
     );
-    status == 0 && filled == 1 && is_reloc(&told[0])
+    status == 0 && filled == 1 && is_reloc(&found[0])
 }
 
 #[test]
@@ -293,8 +295,8 @@ fn reads_pair(machine: u16, class: u8, order: u8) -> (u32, u64, u32) {
     let mut header = marked_layout().header;
     (header.e_machine, header.ei_class, header.ei_data) = (machine, class, order);
     let mark = marked_layout().reloc;
-    let (status, told, _) = told!(goblin_reloc(PAIR, &header, &range(0, 16), false, 0), mark);
-    (status, told.r_sym, told.r_type)
+    let (status, found, _) = called!(goblin_reloc(PAIR, &header, &range(0, 16), false, 0), mark);
+    (status, found.r_sym, found.r_type)
 }
 
 #[test]
@@ -307,15 +309,15 @@ fn reads_each_order_but_2_alike(rt: HostRuntime) {
     assert!(rt; reads_pair(8, 0, 3).2 == 0);
 }
 
-// A header of the 32-bit class in big order whose fields differ from one another: behind the first 16 bytes stand
+// A header of the 32-bit class in big order whose fields differ from one another: after the first 16 bytes come
 // 1 to 40, the bytes of a record of each kind too.
 static EACH: &[u8; 56] = b"\x7fELF\x01\x02\x03\x04\x05\0\0\0\0\0\0\0\
     \x01\x02\x03\x04\x05\x06\x07\x08\x09\x0a\x0b\x0c\x0d\x0e\x0f\x10\x11\x12\x13\x14\
     \x15\x16\x17\x18\x19\x1a\x1b\x1c\x1d\x1e\x1f\x20\x21\x22\x23\x24\x25\x26\x27\x28";
 
-// That header, by which a section and a segment lie behind the first 16 bytes.
+// That header, by which a section and a segment lie after the first 16 bytes.
 fn each_header() -> GoblinHeader {
-    told!(goblin_header(EACH), marked_layout().header).1
+    called!(goblin_header(EACH), marked_layout().header).1
 }
 
 fn each_in_place() -> GoblinHeader {
@@ -325,7 +327,7 @@ fn each_in_place() -> GoblinHeader {
     header
 }
 
-fn tells_header() -> bool {
+fn has_each_of_header() -> bool {
     let h = each_header();
     let numbers = h.e_type == 0x0102 && h.e_machine == 0x0304 && h.e_version == 0x0506_0708;
     let places = h.e_entry == 0x090a_0b0c && h.e_phoff == 0x0d0e_0f10 && h.e_shoff == 0x1112_1314;
@@ -335,9 +337,9 @@ fn tells_header() -> bool {
     numbers && places && sizes && counts && first && h.ei_osabi == 4 && h.ei_abiversion == 5
 }
 
-fn tells_section() -> bool {
+fn has_each_of_section() -> bool {
     let mark = marked_layout().section;
-    let (status, s, _) = told!(goblin_section(EACH, &each_in_place(), 0), mark);
+    let (status, s, _) = called!(goblin_section(EACH, &each_in_place(), 0), mark);
     let kind = s.sh_name == 0x0102_0304 && s.sh_type == 0x0506_0708 && s.sh_flags == 0x090a_0b0c;
     let place = s.sh_addr == 0x0d0e_0f10 && s.file.offset == 0x1112_1314;
     let links = s.file.size == 0x1516_1718 && s.sh_link == 0x191a_1b1c;
@@ -345,17 +347,17 @@ fn tells_section() -> bool {
     status == 0 && kind && place && links && items && s.sh_entsize == 0x2526_2728
 }
 
-fn tells_segment() -> bool {
+fn has_each_of_segment() -> bool {
     let mark = marked_layout().segment;
-    let (status, s, _) = told!(goblin_segment(EACH, &each_in_place(), 0), mark);
+    let (status, s, _) = called!(goblin_segment(EACH, &each_in_place(), 0), mark);
     let place = s.p_type == 0x0102_0304 && s.file.offset == 0x0506_0708 && s.p_vaddr == 0x090a_0b0c;
     let size = s.p_paddr == 0x0d0e_0f10 && s.file.size == 0x1112_1314 && s.p_memsz == 0x1516_1718;
     status == 0 && place && size && s.p_flags == 0x191a_1b1c && s.p_align == 0x1d1e_1f20
 }
 
-fn tells_symbol() -> bool {
+fn has_each_of_symbol() -> bool {
     let mark = marked_layout().symbol;
-    let (status, s, _) = told!(
+    let (status, s, _) = called!(
         goblin_symbol(EACH, &each_in_place(), &range(16, 16), 0),
         mark
     );
@@ -363,9 +365,9 @@ fn tells_symbol() -> bool {
     status == 0 && place && s.st_info == 0x0d && s.st_other == 0x0e && s.st_shndx == 0x0f10
 }
 
-fn tells_reloc() -> bool {
+fn has_each_of_reloc() -> bool {
     let mark = marked_layout().reloc;
-    let (status, r, _) = told!(
+    let (status, r, _) = called!(
         goblin_reloc(EACH, &each_in_place(), &range(16, 12), true, 0),
         mark
     );
@@ -374,36 +376,36 @@ fn tells_reloc() -> bool {
 }
 
 #[test]
-fn tells_each_field(rt: HostRuntime) {
-    assert!(rt; tells_header() && each_header().e_shstrndx == 0x2324);
-    assert!(rt; tells_section());
-    assert!(rt; tells_segment());
-    assert!(rt; tells_symbol());
-    assert!(rt; tells_reloc());
+fn reads_each_field(rt: HostRuntime) {
+    assert!(rt; has_each_of_header() && each_header().e_shstrndx == 0x2324);
+    assert!(rt; has_each_of_section());
+    assert!(rt; has_each_of_segment());
+    assert!(rt; has_each_of_symbol());
+    assert!(rt; has_each_of_reloc());
 }
 
 static NOTE: &[u8; 20] = b"\x04\0\0\0\x04\0\0\0\x03\0\0\0GNU\0\xaa\xbb\xcc\xdd";
 
-// The answer for the note, and what is told of it.
-fn note_told(alignment: u64) -> (u32, GoblinNote) {
+// The status for the note, and the note.
+fn note_with(alignment: u64) -> (u32, GoblinNote) {
     let mark = marked_layout().note;
-    let (status, told, _) = told!(
+    let (status, found, _) = called!(
         goblin_note(NOTE, &header(), &range(0, 20), alignment, 0),
         mark
     );
-    (status, told)
+    (status, found)
 }
 
 fn reads_note() -> bool {
-    let (status, told) = note_told(4);
-    let parts = told.name.offset == 12 && told.name.size == 3 && told.desc.offset == 16;
-    status == 0 && parts && told.desc.size == 4 && told.next == 20 && told.n_type == 3
+    let (status, found) = note_with(4);
+    let parts = found.name.offset == 12 && found.name.size == 3 && found.desc.offset == 16;
+    status == 0 && parts && found.desc.size == 4 && found.next == 20 && found.n_type == 3
 }
 
 #[test]
 fn reads_notes(rt: HostRuntime) {
     assert!(rt; reads_note());
-    assert!(rt; note_told(16).0 == 16);
+    assert!(rt; note_with(16).0 == 16);
 }
 
 // What is written of a name into six bytes, and how long the name is.
@@ -514,10 +516,10 @@ fn writes_faults(rt: HostRuntime) {
     assert!(rt; says(21, 0, [u64::MAX, 1, 4, 1], range));
 }
 
-// What is written in room for four bytes, and the length that is told.
+// The text written into a buffer of four bytes, and the length that is returned.
 fn cut_text() -> ([u8; 4], u64) {
     let mut room = [9; 4];
-    let (_, _, why) = told!(goblin_header(&FILE[..51]), header());
+    let (_, _, why) = called!(goblin_header(&FILE[..51]), header());
     let len = goblin_refusal_text(&why, &mut room);
     (room, len)
 }
@@ -565,12 +567,12 @@ static FIELDS: &[&str] = &[
         289360691352306692 }, next: 361700864190383365, n_type: 101058054 }",
 ];
 
-// Whether a text has these parts, each behind the one before.
+// Whether a text has these parts, each after the one before.
 fn has_in_order(text: &str, parts: &[&str]) -> bool {
     let mut rest = text;
     for part in parts {
         match rest.split_once(*part) {
-            Some((_, behind)) => rest = behind,
+            Some((_, after)) => rest = after,
             None => return false,
         }
     }

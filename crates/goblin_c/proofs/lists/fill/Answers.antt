@@ -1,17 +1,17 @@
 use Rattle.std.proofs.Common.{◌+◌, sym, ◌∙◌, arith}
 use Rattle.std.proofs.lemmas.List.{set-get_or}
 use Rattle.std.proofs.lemmas.Option.{slice_get_within}
-use Rattle.goblin_c.proofs.LaidLemmas.{laid-told, laid-ended}
+use Rattle.goblin_c.proofs.LaidLemmas.{laid-item, laid-ended}
 use Rattle.goblin_c.proofs.lists.fill.Goals as goal
 
 pub loop-i-preserved : goal.loop-i-preserved
 loop-i-preserved g c =
     let all = g.L.Listed.listed c.args.all.now in
-    let found = sym c.told.ensures ∙ c.in-Some.is in
-    let inside = slice_get_within all (c.args.first + c.loop-i.i) c.in-Some.told found in
-    (omega arith, laid-told all c.args.first c.loop-i.i c.args.room.now c.loop-i.room c.in-Some.told found c.loop-i.invariant.1 c.loop-i-test.true)
+    let found = sym c.converted.ensures ∙ c.in-Some.is in
+    let inside = slice_get_within all (c.args.first + c.loop-i.i) c.in-Some.item found in
+    (omega arith, laid-item all c.args.first c.loop-i.i c.args.room.now c.loop-i.room c.in-Some.item found c.loop-i.invariant.1 c.loop-i-test.true)
 
 pub returns-in-None-clause-filled : goal.returns-in-None-clause-filled
 returns-in-None-clause-filled g c =
     set-get_or c.loop-i.room c.loop-i.i _
-    ∙ laid-ended (g.L.Listed.listed c.args.all.now) c.args.first c.loop-i.i c.args.room.now c.loop-i.room (sym c.told.ensures ∙ c.in-None.is) c.loop-i.invariant.1
+    ∙ laid-ended (g.L.Listed.listed c.args.all.now) c.args.first c.loop-i.i c.args.room.now c.loop-i.room (sym c.converted.ensures ∙ c.in-None.is) c.loop-i.invariant.1
