@@ -18,7 +18,7 @@ use Rattle.goblin.specs.SectionHeaders.{link_of, names_index}
 use Rattle.goblin_headers.proofs.HeaderLemmas.{header_laws}
 use Rattle.goblin_headers.proofs.RawTrips.{ident_byte}
 use Rattle.goblin_headers.proofs.ReadHeaderLemmas.{read_header-is}
-use Rattle.goblin_c.specs.Answers.{count_of, ctx_of, each_converted, header_converted, item_of, items_from, reloc_count_right, reloc_right, reloc_converted, relocs_right, relocs_converted, section_converted, sections_right, sections_converted, segment_converted, segments_right, symbol_converted, symbols_right, symbols_converted, table_at}
+use Rattle.goblin_c.specs.Answers.{count_of, ctx_of, each_converted, header_converted, item_of, items_from, reloc_count_expected, reloc_expected, reloc_converted, relocs_expected, relocs_converted, section_converted, sections_expected, sections_converted, segment_converted, segments_expected, symbol_converted, symbols_expected, symbols_converted, table_at}
 use Rattle.goblin_c.specs.Laws.{ContextIsTheHeaders, FilledByIndex, GivenFrom, HasHeader, NamesByIndex, NamesContext, RelocsByIndex, SectionsByIndex, SegmentsByIndex, SymbolsByIndex, TablesByIndex, TellsCount, TellsEach, table_converted}
 
 -- what a file's header tells of its class and its byte order
@@ -65,20 +65,20 @@ listed convert (Ok items) = (λ index. ap Ok (slice_get-map convert items index)
 listed convert (Err refusal) = (λ index. refl, refl)
 
 pub sections_by_index : SectionsByIndex
-sections_by_index bytes h ctx has named = rw (← one_context bytes h ctx has named) (listed section_converted (sections_right bytes (header_converted h)))
+sections_by_index bytes h ctx has named = rw (← one_context bytes h ctx has named) (listed section_converted (sections_expected bytes (header_converted h)))
 
 pub segments_by_index : SegmentsByIndex
-segments_by_index bytes h ctx has named = rw (← one_context bytes h ctx has named) (listed segment_converted (segments_right bytes (header_converted h)))
+segments_by_index bytes h ctx has named = rw (← one_context bytes h ctx has named) (listed segment_converted (segments_expected bytes (header_converted h)))
 
 pub symbols_by_index : SymbolsByIndex
-symbols_by_index bytes h ctx range has named = rw (← one_context bytes h ctx has named) (listed symbol_converted (symbols_right bytes (header_converted h) range))
+symbols_by_index bytes h ctx range has named = rw (← one_context bytes h ctx has named) (listed symbol_converted (symbols_expected bytes (header_converted h) range))
 
 pub relocs_by_index : RelocsByIndex
 relocs_by_index bytes h ctx range is_rela has named =
     let of_pair = λ (pair : Bool). refuse_as refusal_of (relocs_of bytes range.offset range.size is_rela (ctx_of (header_converted h)) pair) in
     rw (← one_context bytes h ctx has named)
-    (subst (λ (pair : Bool). TellsEach reloc_converted (of_pair pair) (reloc_right bytes (header_converted h) range is_rela) × TellsCount (of_pair pair) (reloc_count_right bytes (header_converted h) range is_rela))
-    (context_is_the_headers bytes h has).1 (listed reloc_converted (relocs_right bytes (header_converted h) range is_rela)))
+    (subst (λ (pair : Bool). TellsEach reloc_converted (of_pair pair) (reloc_expected bytes (header_converted h) range is_rela) × TellsCount (of_pair pair) (reloc_count_expected bytes (header_converted h) range is_rela))
+    (context_is_the_headers bytes h has).1 (listed reloc_converted (relocs_expected bytes (header_converted h) range is_rela)))
 
 -- the item at an index behind those that are left out
 pub behind : {X : Type 0} (xs : List X) (n k : ℕ) → slice_get xs (n + k) ≡ slice_get (drop n xs) k
@@ -130,6 +130,6 @@ in_first (Err refusal) first is = absurd (cc)
 
 pub names_by_index : NamesByIndex
 names_by_index bytes h = (
-  λ other. in_header (sections_right bytes h) h.e_shstrndx (grind (arith, nat_tests)),
-  λ first is found. rw is (in_first (sections_right bytes h) first found),
+  λ other. in_header (sections_expected bytes h) h.e_shstrndx (grind (arith, nat_tests)),
+  λ first is found. rw is (in_first (sections_expected bytes h) first found),
 )

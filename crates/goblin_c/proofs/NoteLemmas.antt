@@ -12,7 +12,7 @@ use Rattle.goblin_c.specs.declared.types.GoblinHeader.{GoblinHeader}
 use Rattle.goblin_c.specs.declared.types.GoblinNote.{GoblinNote}
 use Rattle.goblin_c.specs.declared.types.GoblinRange.{GoblinRange}
 use Rattle.goblin_c.specs.Answers.{ctx_of}
-use Rattle.goblin_c.specs.Notes.{note_right, note_converted}
+use Rattle.goblin_c.specs.Notes.{note_expected, note_converted}
 use Rattle.goblin_c.specs.Laws.{LiesIn, NotesAreItems, NotesInARow, NotesLieInFile, items_reported, note_in, notes_reported}
 use Rattle.goblin_c.proofs.StepLemmas.{one_converted}
 
@@ -31,7 +31,7 @@ items_of true bytes answer offset rest = refl
 items_of false bytes (Ok places) offset rest = λ j. Ok (note_same bytes offset places j) ∷ rest (offset + places.next)
 items_of false bytes (Err refusal) offset rest = refl
 
-items_there : (bytes : List ℕ) (h : GoblinHeader) (range : GoblinRange) (alignment offset : ℕ) → note_items bytes (range.offset + range.size) offset (alignment, ctx_of h) ≡ items_reported bytes (note_right bytes h range alignment offset) (λ next. note_items bytes (range.offset + range.size) next (alignment, ctx_of h))
+items_there : (bytes : List ℕ) (h : GoblinHeader) (range : GoblinRange) (alignment offset : ℕ) → note_items bytes (range.offset + range.size) offset (alignment, ctx_of h) ≡ items_reported bytes (note_expected bytes h range alignment offset) (λ next. note_items bytes (range.offset + range.size) next (alignment, ctx_of h))
 unfolding note_at
 items_there bytes h range alignment offset =
     let ctx : ℕ × Ctx = (alignment, ctx_of h) in
@@ -52,7 +52,7 @@ one_more bytes (Err refusal) calls f g same = ap (λ rest. Err refusal ∷ rest)
 in_a_row : (calls : ℕ) (bytes : List ℕ) (h : GoblinHeader) (range : GoblinRange) (alignment offset : ℕ) → notes_reported calls bytes h range alignment offset ≡ take calls (note_items bytes (range.offset + range.size) offset (alignment, ctx_of h))
 in_a_row zero bytes h range alignment offset = refl
 in_a_row (suc calls) bytes h range alignment offset =
-    one_more bytes (note_right bytes h range alignment offset) calls (notes_reported calls bytes h range alignment) (λ next. note_items bytes (range.offset + range.size) next (alignment, ctx_of h)) (in_a_row calls bytes h range alignment)
+    one_more bytes (note_expected bytes h range alignment offset) calls (notes_reported calls bytes h range alignment) (λ next. note_items bytes (range.offset + range.size) next (alignment, ctx_of h)) (in_a_row calls bytes h range alignment)
     ∙ ap (take (suc calls)) (sym (items_there bytes h range alignment offset))
 
 pub notes_in_a_row : NotesInARow

@@ -6,12 +6,12 @@ use Rattle.std.specs.List.{position_or_len}
 use Rattle.goblin_base.specs.Pieces.{piece}
 use Rattle.goblin_base.specs.RecordLaws.{fits-room_of}
 use Rattle.goblin_c.specs.declared.types.GoblinRange.{GoblinRange}
-use Rattle.goblin_c.specs.Bytes.{range_right}
+use Rattle.goblin_c.specs.Bytes.{range_expected}
 use Rattle.goblin_c.specs.Laws.{BytesLieInFile, LiesIn, StringsAreBytes, StringsLieInFile}
 use Rattle.goblin_c.proofs.StringLemmas.{in_range, plain_is}
 
 -- a range that is told lies in the file
-range_lies : (bytes : List ℕ) (range found : GoblinRange) → range_right bytes range ≡ Ok (Some found) → LiesIn bytes found
+range_lies : (bytes : List ℕ) (range found : GoblinRange) → range_expected bytes range ≡ Ok (Some found) → LiesIn bytes found
 range_lies bytes range found is = grind (arith, fits-room_of (length bytes) range.offset range.size)
 
 -- a piece is no longer than the strings from its offset on

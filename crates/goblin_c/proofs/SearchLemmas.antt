@@ -9,7 +9,7 @@ use Rattle.std.specs.Option.{option_map}
 use Rattle.goblin_base.specs.Refusal.{Refusal}
 use Rattle.goblin_base.specs.Steps.{◌>>=◌}
 use Rattle.goblin_c.specs.declared.types.GoblinSection.{GoblinSection}
-use Rattle.goblin_c.specs.Answers.{each_converted, item_of, section_converted, sections_right}
+use Rattle.goblin_c.specs.Answers.{each_converted, item_of, section_converted, sections_expected}
 use Rattle.goblin_c.specs.Laws.{FindsFrom, RefusesAll, SectionsByType}
 use Rattle.goblin_c.proofs.IndexLemmas.{behind}
 
@@ -76,4 +76,4 @@ equal-Decides a b = (λ is. grind (arith, nat_tests), λ is. grind (arith, nat_t
 pub sections_by_type : SectionsByType
 sections_by_type bytes h sh_type first =
     from_list section_converted (λ (section : GoblinSection). section.sh_type ≡ sh_type) (λ section. section.sh_type == sh_type)
-    (λ section. equal-Decides section.sh_type sh_type) (sections_right bytes h) first
+    (λ section. equal-Decides section.sh_type sh_type) (sections_expected bytes h) first

@@ -12,13 +12,13 @@ use Rattle.goblin_base.specs.Refusal.{Refusal}
 use Rattle.goblin_base.specs.Steps.{◌>>=◌}
 use Rattle.goblin_base.specs.Strtab.{has_name, is_text_of, plain, range_in}
 use Rattle.goblin_c.specs.declared.types.GoblinRange.{GoblinRange}
-use Rattle.goblin_c.specs.Answers.{each_converted, is_named, item_of, section_converted, sections_right, string_right, strings_right, symbol_converted, symbols_right}
+use Rattle.goblin_c.specs.Answers.{each_converted, is_named, item_of, section_converted, sections_expected, string_expected, strings_expected, symbol_converted, symbols_expected}
 use Rattle.goblin_c.specs.Laws.{FindsFirst, IsNameAt, RefusesAll, RefusesEither, SectionsByName, StringsAreThere, SymbolsByName, bytes_in}
 use Rattle.goblin_c.proofs.SearchLemmas.{finds, from_none}
 use Rattle.goblin_c.proofs.StepLemmas.{one_converted}
 
 -- the strings of a range are its bytes, and lie in the file
-pub in_range : (bytes : List ℕ) (range : GoblinRange) (found : List ℕ) → strings_right bytes range ≡ Ok found → (found ≡ bytes_in bytes range) × (range.offset + range.size ≤ length bytes)
+pub in_range : (bytes : List ℕ) (range : GoblinRange) (found : List ℕ) → strings_expected bytes range ≡ Ok found → (found ≡ bytes_in bytes range) × (range.offset + range.size ≤ length bytes)
 unfolding range_in
 in_range bytes range found is = (grind (arith, nat_tests), grind (arith, nat_tests))
 
@@ -51,28 +51,28 @@ plain_is strings offset text is = grind arith
 abbrev pub place_of : GoblinRange → ℕ → List ℕ → GoblinRange
 place_of range offset text = record { offset = range.offset + offset; size = length text }
 
-text_there : (bytes : List ℕ) (range : GoblinRange) (offset : ℕ) (strings text : List ℕ) → strings_right bytes range ≡ Ok strings → offset < length strings → plain strings 0 offset ≡ Ok text → bytes_in bytes (place_of range offset text) ≡ text
+text_there : (bytes : List ℕ) (range : GoblinRange) (offset : ℕ) (strings text : List ℕ) → strings_expected bytes range ≡ Ok strings → offset < length strings → plain strings 0 offset ≡ Ok text → bytes_in bytes (place_of range offset text) ≡ text
 text_there bytes range offset strings text found before is =
     let of_range = (in_range bytes range strings found).0 in
     let same_text : text ≡ piece (bytes_in bytes range) 0 offset = plain_is strings offset text is ∙ ap (λ xs. piece xs 0 offset) of_range in
     rw same_text (piece_there bytes range offset (subst (λ (xs : List ℕ). offset < length xs) of_range before))
 
 -- a string that is told was read among the strings of the range, and lies at its place
-string_is : (bytes : List ℕ) (range : GoblinRange) (offset : ℕ) (strings : List ℕ) (place : GoblinRange) → strings_right bytes range ≡ Ok strings → string_right bytes range offset ≡ Ok (Some place) → (text : List ℕ) × (offset < length strings) × (plain strings 0 offset ≡ Ok text) × (bytes_in bytes place ≡ text)
+string_is : (bytes : List ℕ) (range : GoblinRange) (offset : ℕ) (strings : List ℕ) (place : GoblinRange) → strings_expected bytes range ≡ Ok strings → string_expected bytes range offset ≡ Ok (Some place) → (text : List ℕ) × (offset < length strings) × (plain strings 0 offset ≡ Ok text) × (bytes_in bytes place ≡ text)
 string_is bytes range offset strings place found is =
     let steps = one_converted (nat_le (length strings) offset) (plain strings 0 offset) (place_of range offset) place (rw found at is) in
     let before : offset < length strings = (let test = steps.1 in grind (arith, nat_tests)) in
     (steps.0, before, steps.2, ap (bytes_in bytes) steps.3 ∙ text_there bytes range offset strings steps.0 found before steps.2)
 
 -- the strings are given where one of them is
-strings_there : (bytes : List ℕ) (range : GoblinRange) (offset : ℕ) (place : GoblinRange) (answer : Result (List ℕ) Refusal) → strings_right bytes range ≡ answer → string_right bytes range offset ≡ Ok (Some place) → (answer >>= λ strings. plain strings 0 offset) ≡ Ok (bytes_in bytes place)
+strings_there : (bytes : List ℕ) (range : GoblinRange) (offset : ℕ) (place : GoblinRange) (answer : Result (List ℕ) Refusal) → strings_expected bytes range ≡ answer → string_expected bytes range offset ≡ Ok (Some place) → (answer >>= λ strings. plain strings 0 offset) ≡ Ok (bytes_in bytes place)
 strings_there bytes range offset place (Ok strings) found is =
     let there = string_is bytes range offset strings place found is in
     there.2 ∙ ap Ok (sym there.3)
 strings_there bytes range offset place (Err e) found is = let refused = rw found at is in absurd (cc)
 
 pub strings_are_there : StringsAreThere
-strings_are_there bytes range offset place is = strings_there bytes range offset place (strings_right bytes range) refl is
+strings_are_there bytes range offset place is = strings_there bytes range offset place (strings_expected bytes range) refl is
 
 -- a string has a name where the library's look-up says so: its test, taken apart
 named_is : (strings name : List ℕ) (offset : ℕ) → is_named strings name offset ≡ true → (offset < length strings) × (plain strings 0 offset ≡ Ok name)
@@ -86,10 +86,10 @@ unfolding has_name
 is_named-from strings name offset before is = grind (arith, nat_tests, bytes_eq-Decides name name)
 
 -- and where a call tells a string with these bytes
-string_from : (bytes : List ℕ) (range : GoblinRange) (offset : ℕ) (strings text : List ℕ) → strings_right bytes range ≡ Ok strings → offset < length strings → plain strings 0 offset ≡ Ok text → string_right bytes range offset ≡ Ok (Some (place_of range offset text))
+string_from : (bytes : List ℕ) (range : GoblinRange) (offset : ℕ) (strings text : List ℕ) → strings_expected bytes range ≡ Ok strings → offset < length strings → plain strings 0 offset ≡ Ok text → string_expected bytes range offset ≡ Ok (Some (place_of range offset text))
 string_from bytes range offset strings text found before is = grind (arith, nat_tests)
 
-named-Decides : (bytes : List ℕ) (names : GoblinRange) (name strings : List ℕ) (offset : ℕ) → strings_right bytes names ≡ Ok strings → Decides (is_named strings name offset) (IsNameAt bytes names offset name)
+named-Decides : (bytes : List ℕ) (names : GoblinRange) (name strings : List ℕ) (offset : ℕ) → strings_expected bytes names ≡ Ok strings → Decides (is_named strings name offset) (IsNameAt bytes names offset name)
 named-Decides bytes names name strings offset found = (
   λ is. let read = named_is strings name offset is in (
     place_of names offset name,
@@ -101,25 +101,25 @@ named-Decides bytes names name strings offset found = (
 )
 
 -- without the strings of a range none of them is told
-no_strings : (bytes : List ℕ) (range : GoblinRange) (e : Refusal) → strings_right bytes range ≡ Err e → RefusesAll (string_right bytes range) e
+no_strings : (bytes : List ℕ) (range : GoblinRange) (e : Refusal) → strings_expected bytes range ≡ Err e → RefusesAll (string_expected bytes range) e
 no_strings bytes range e refused offset = rw refused refl
 
 -- what is found by a name, in the strings of a range
 module _ {X Y : Type 0} (convert : X → Y) (bytes : List ℕ) (names : GoblinRange) (HasTheName : Y → Type 0) (test : List ℕ → X → Bool) where
-  by_name : (all : Result (List X) Refusal) (strings : Result (List ℕ) Refusal) → strings_right bytes names ≡ strings → ((read : List ℕ) → strings_right bytes names ≡ Ok read → (x : X) → Decides (test read x) (HasTheName (convert x))) → FindsFirst (item_of (each_converted convert all)) (string_right bytes names) HasTheName (all >>= λ items. strings >>= λ read. Ok (position (test read) items))
+  by_name : (all : Result (List X) Refusal) (strings : Result (List ℕ) Refusal) → strings_expected bytes names ≡ strings → ((read : List ℕ) → strings_expected bytes names ≡ Ok read → (x : X) → Decides (test read x) (HasTheName (convert x))) → FindsFirst (item_of (each_converted convert all)) (string_expected bytes names) HasTheName (all >>= λ items. strings >>= λ read. Ok (position (test read) items))
   by_name (Ok items) (Ok read) found decides =
-      subst (λ (place : Option ℕ). FindsFirst (λ index. Ok (slice_get (map convert items) index)) (string_right bytes names) HasTheName (Ok place))
+      subst (λ (place : Option ℕ). FindsFirst (λ index. Ok (slice_get (map convert items) index)) (string_expected bytes names) HasTheName (Ok place))
       (from_none (position (test read) items))
-      (finds convert HasTheName (test read) (decides read found) (RefusesEither (item_of (each_converted convert (Ok items))) (string_right bytes names)) items 0 (position (test read) items) refl)
+      (finds convert HasTheName (test read) (decides read found) (RefusesEither (item_of (each_converted convert (Ok items))) (string_expected bytes names)) items 0 (position (test read) items) refl)
   by_name (Ok items) (Err e) found decides = inr (no_strings bytes names e found)
   by_name (Err e) strings found decides = inl (λ index. refl)
 
 pub sections_by_name : SectionsByName
 sections_by_name bytes h names name =
-    by_name section_converted bytes names (λ section. IsNameAt bytes names section.sh_name name) (λ strings section. is_named strings name section.sh_name) (sections_right bytes h) (strings_right bytes names) refl
+    by_name section_converted bytes names (λ section. IsNameAt bytes names section.sh_name name) (λ strings section. is_named strings name section.sh_name) (sections_expected bytes h) (strings_expected bytes names) refl
     (λ strings found section. named-Decides bytes names name strings section.sh_name found)
 
 pub symbols_by_name : SymbolsByName
 symbols_by_name bytes h range names name =
-    by_name symbol_converted bytes names (λ symbol. IsNameAt bytes names symbol.st_name name) (λ strings symbol. is_named strings name symbol.st_name) (symbols_right bytes h range) (strings_right bytes names) refl
+    by_name symbol_converted bytes names (λ symbol. IsNameAt bytes names symbol.st_name name) (λ strings symbol. is_named strings name symbol.st_name) (symbols_expected bytes h range) (strings_expected bytes names) refl
     (λ strings found symbol. named-Decides bytes names name strings symbol.st_name found)

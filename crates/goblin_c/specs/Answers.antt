@@ -106,14 +106,14 @@ ctx_of h = record {
 }
 
 -- the header at a file's start
-abbrev pub header_right : List ℕ → Result (Option GoblinHeader) Refusal
-header_right bytes = do
+abbrev pub header_expected : List ℕ → Result (Option GoblinHeader) Refusal
+header_expected bytes = do
   read ← refuse_as refusal_of (read_header bytes)
   Ok (Some (header_converted read.0))
 
 -- the section headers of a file, as the library reads them at once
-abbrev pub sections_right : List ℕ → GoblinHeader → Result (List SectionHeader) Refusal
-sections_right bytes h = section_headers_of bytes h.e_shoff h.e_shnum (ctx_of h)
+abbrev pub sections_expected : List ℕ → GoblinHeader → Result (List SectionHeader) Refusal
+sections_expected bytes h = section_headers_of bytes h.e_shoff h.e_shnum (ctx_of h)
 
 -- what C is told of the items of a list
 abbrev pub each_converted : {X Y : Type 0} → (X → Y) → Result (List X) Refusal → Result (List Y) Refusal
@@ -141,87 +141,87 @@ items_from list first = do
 
 -- what C is told of the section headers, by index, from an index on, and how many there are
 abbrev pub sections_converted : List ℕ → GoblinHeader → Result (List GoblinSection) Refusal
-sections_converted bytes h = each_converted section_converted (sections_right bytes h)
+sections_converted bytes h = each_converted section_converted (sections_expected bytes h)
 
-abbrev pub section_right : List ℕ → GoblinHeader → ℕ → Result (Option GoblinSection) Refusal
-section_right bytes h index = item_of (sections_converted bytes h) index
+abbrev pub section_expected : List ℕ → GoblinHeader → ℕ → Result (Option GoblinSection) Refusal
+section_expected bytes h index = item_of (sections_converted bytes h) index
 
-abbrev pub sections_from_right : List ℕ → GoblinHeader → ℕ → Result (Option (List GoblinSection)) Refusal
-sections_from_right bytes h first = items_from (sections_converted bytes h) first
+abbrev pub sections_from_expected : List ℕ → GoblinHeader → ℕ → Result (Option (List GoblinSection)) Refusal
+sections_from_expected bytes h first = items_from (sections_converted bytes h) first
 
-abbrev pub section_count_right : List ℕ → GoblinHeader → Result (Option ℕ) Refusal
-section_count_right bytes h = count_of (sections_converted bytes h)
+abbrev pub section_count_expected : List ℕ → GoblinHeader → Result (Option ℕ) Refusal
+section_count_expected bytes h = count_of (sections_converted bytes h)
 
 -- the program headers of a file, as the library reads them at once
-abbrev pub segments_right : List ℕ → GoblinHeader → Result (List ProgramHeader) Refusal
-segments_right bytes h = program_headers_from bytes h.e_phoff h.e_phnum (ctx_of h)
+abbrev pub segments_expected : List ℕ → GoblinHeader → Result (List ProgramHeader) Refusal
+segments_expected bytes h = program_headers_from bytes h.e_phoff h.e_phnum (ctx_of h)
 
 -- what C is told of them, by index, and how many there are
 abbrev pub segments_converted : List ℕ → GoblinHeader → Result (List GoblinSegment) Refusal
-segments_converted bytes h = each_converted segment_converted (segments_right bytes h)
+segments_converted bytes h = each_converted segment_converted (segments_expected bytes h)
 
-abbrev pub segment_right : List ℕ → GoblinHeader → ℕ → Result (Option GoblinSegment) Refusal
-segment_right bytes h index = item_of (segments_converted bytes h) index
+abbrev pub segment_expected : List ℕ → GoblinHeader → ℕ → Result (Option GoblinSegment) Refusal
+segment_expected bytes h index = item_of (segments_converted bytes h) index
 
-abbrev pub segment_count_right : List ℕ → GoblinHeader → Result (Option ℕ) Refusal
-segment_count_right bytes h = count_of (segments_converted bytes h)
+abbrev pub segment_count_expected : List ℕ → GoblinHeader → Result (Option ℕ) Refusal
+segment_count_expected bytes h = count_of (segments_converted bytes h)
 
 -- the index of the first section of a type, from an index on
-abbrev pub section_by_type_right : List ℕ → GoblinHeader → ℕ → ℕ → Result (Option ℕ) Refusal
-section_by_type_right bytes h sh_type first = do
-  sections ← sections_right bytes h
+abbrev pub section_by_type_expected : List ℕ → GoblinHeader → ℕ → ℕ → Result (Option ℕ) Refusal
+section_by_type_expected bytes h sh_type first = do
+  sections ← sections_expected bytes h
   Ok (option_map (λ place. first + place) (position (λ section. section.sh_type == sh_type) (drop first sections)))
 
 -- the symbols of a range, as many as lie in it whole
-abbrev pub symbols_right : List ℕ → GoblinHeader → GoblinRange → Result (List Sym) Refusal
-symbols_right bytes h range = do
+abbrev pub symbols_expected : List ℕ → GoblinHeader → GoblinRange → Result (List Sym) Refusal
+symbols_expected bytes h range = do
   table ← refuse_as refusal_of (symtab_of bytes range.offset (range.size / sym_size (ctx_of h).container) (ctx_of h))
   Ok table.symbols
 
 -- what C is told of them, by index, from an index on, and how many there are
 abbrev pub symbols_converted : List ℕ → GoblinHeader → GoblinRange → Result (List GoblinSymbol) Refusal
-symbols_converted bytes h range = each_converted symbol_converted (symbols_right bytes h range)
+symbols_converted bytes h range = each_converted symbol_converted (symbols_expected bytes h range)
 
-abbrev pub symbol_right : List ℕ → GoblinHeader → GoblinRange → ℕ → Result (Option GoblinSymbol) Refusal
-symbol_right bytes h range index = item_of (symbols_converted bytes h range) index
+abbrev pub symbol_expected : List ℕ → GoblinHeader → GoblinRange → ℕ → Result (Option GoblinSymbol) Refusal
+symbol_expected bytes h range index = item_of (symbols_converted bytes h range) index
 
-abbrev pub symbols_from_right : List ℕ → GoblinHeader → GoblinRange → ℕ → Result (Option (List GoblinSymbol)) Refusal
-symbols_from_right bytes h range first = items_from (symbols_converted bytes h range) first
+abbrev pub symbols_from_expected : List ℕ → GoblinHeader → GoblinRange → ℕ → Result (Option (List GoblinSymbol)) Refusal
+symbols_from_expected bytes h range first = items_from (symbols_converted bytes h range) first
 
-abbrev pub symbol_count_right : List ℕ → GoblinHeader → GoblinRange → Result (Option ℕ) Refusal
-symbol_count_right bytes h range = count_of (symbols_converted bytes h range)
+abbrev pub symbol_count_expected : List ℕ → GoblinHeader → GoblinRange → Result (Option ℕ) Refusal
+symbol_count_expected bytes h range = count_of (symbols_converted bytes h range)
 
 -- whether a file is a MIPS64 one of little order
 abbrev pub is_mips64el : GoblinHeader → Bool
 is_mips64el h = is_mips64el_in h.e_machine (ctx_of h)
 
 -- the relocations of a range
-abbrev pub relocs_right : List ℕ → GoblinHeader → GoblinRange → Bool → Result (List Reloc) Refusal
-relocs_right bytes h range is_rela =
+abbrev pub relocs_expected : List ℕ → GoblinHeader → GoblinRange → Bool → Result (List Reloc) Refusal
+relocs_expected bytes h range is_rela =
     refuse_as refusal_of (relocs_of bytes range.offset range.size is_rela (ctx_of h) (is_mips64el h))
 
 -- what C is told of them, by index, from an index on, and how many there are
 abbrev pub relocs_converted : List ℕ → GoblinHeader → GoblinRange → Bool → Result (List GoblinReloc) Refusal
-relocs_converted bytes h range is_rela = each_converted reloc_converted (relocs_right bytes h range is_rela)
+relocs_converted bytes h range is_rela = each_converted reloc_converted (relocs_expected bytes h range is_rela)
 
-abbrev pub reloc_right : List ℕ → GoblinHeader → GoblinRange → Bool → ℕ → Result (Option GoblinReloc) Refusal
-reloc_right bytes h range is_rela index = item_of (relocs_converted bytes h range is_rela) index
+abbrev pub reloc_expected : List ℕ → GoblinHeader → GoblinRange → Bool → ℕ → Result (Option GoblinReloc) Refusal
+reloc_expected bytes h range is_rela index = item_of (relocs_converted bytes h range is_rela) index
 
-abbrev pub relocs_from_right : List ℕ → GoblinHeader → GoblinRange → Bool → ℕ → Result (Option (List GoblinReloc)) Refusal
-relocs_from_right bytes h range is_rela first = items_from (relocs_converted bytes h range is_rela) first
+abbrev pub relocs_from_expected : List ℕ → GoblinHeader → GoblinRange → Bool → ℕ → Result (Option (List GoblinReloc)) Refusal
+relocs_from_expected bytes h range is_rela first = items_from (relocs_converted bytes h range is_rela) first
 
-abbrev pub reloc_count_right : List ℕ → GoblinHeader → GoblinRange → Bool → Result (Option ℕ) Refusal
-reloc_count_right bytes h range is_rela = count_of (relocs_converted bytes h range is_rela)
+abbrev pub reloc_count_expected : List ℕ → GoblinHeader → GoblinRange → Bool → Result (Option ℕ) Refusal
+reloc_count_expected bytes h range is_rela = count_of (relocs_converted bytes h range is_rela)
 
 -- the bytes of a range of strings
-abbrev pub strings_right : List ℕ → GoblinRange → Result (List ℕ) Refusal
-strings_right bytes range = refuse_as malformed (range_in Strict bytes range.offset range.size)
+abbrev pub strings_expected : List ℕ → GoblinRange → Result (List ℕ) Refusal
+strings_expected bytes range = refuse_as malformed (range_in Strict bytes range.offset range.size)
 
 -- where the string at an offset of the strings of a range lies in the file, without the zero byte that closes it: the
 -- plain reading
-abbrev pub string_right : List ℕ → GoblinRange → ℕ → Result (Option GoblinRange) Refusal
-string_right bytes range offset = do
-  strings ← strings_right bytes range
+abbrev pub string_expected : List ℕ → GoblinRange → ℕ → Result (Option GoblinRange) Refusal
+string_expected bytes range offset = do
+  strings ← strings_expected bytes range
   if nat_le (length strings) offset then Ok None
       else do
         text ← plain strings 0 offset
@@ -232,22 +232,22 @@ abbrev pub is_named : List ℕ → List ℕ → ℕ → Bool
 is_named strings name offset = has_name (unparsed strings 0) offset name
 
 -- the index of the first section, and of the first symbol, with a name
-abbrev pub section_by_name_right : List ℕ → GoblinHeader → GoblinRange → List ℕ → Result (Option ℕ) Refusal
-section_by_name_right bytes h names name = do
-  sections ← sections_right bytes h
-  strings ← strings_right bytes names
+abbrev pub section_by_name_expected : List ℕ → GoblinHeader → GoblinRange → List ℕ → Result (Option ℕ) Refusal
+section_by_name_expected bytes h names name = do
+  sections ← sections_expected bytes h
+  strings ← strings_expected bytes names
   Ok (position (λ section. is_named strings name section.sh_name) sections)
 
-abbrev pub symbol_by_name_right : List ℕ → GoblinHeader → GoblinRange → GoblinRange → List ℕ → Result (Option ℕ) Refusal
-symbol_by_name_right bytes h range names name = do
-  symbols ← symbols_right bytes h range
-  strings ← strings_right bytes names
+abbrev pub symbol_by_name_expected : List ℕ → GoblinHeader → GoblinRange → GoblinRange → List ℕ → Result (Option ℕ) Refusal
+symbol_by_name_expected bytes h range names name = do
+  symbols ← symbols_expected bytes h range
+  strings ← strings_expected bytes names
   Ok (position (λ symbol. is_named strings name symbol.st_name) symbols)
 
 -- the index of the symbol of a range that an address lies in
-abbrev pub symbol_by_address_right : List ℕ → GoblinHeader → GoblinRange → ℕ → Result (Option ℕ) Refusal
-symbol_by_address_right bytes h range address = do
-  symbols ← symbols_right bytes h range
+abbrev pub symbol_by_address_expected : List ℕ → GoblinHeader → GoblinRange → ℕ → Result (Option ℕ) Refusal
+symbol_by_address_expected bytes h range address = do
+  symbols ← symbols_expected bytes h range
   Ok (symbol_at address symbols)
 
 -- a section, where it is a table by its index: index 0 is no section, and one of type 8 has no bytes in the file
@@ -259,13 +259,13 @@ abbrev pub table_at : List GoblinSection → ℕ → Option GoblinSection
 table_at sections index = table_of index (slice_get sections index)
 
 -- the table at an index
-abbrev pub table_right : List ℕ → GoblinHeader → ℕ → Result (Option GoblinSection) Refusal
-table_right bytes h index = do
+abbrev pub table_expected : List ℕ → GoblinHeader → ℕ → Result (Option GoblinSection) Refusal
+table_expected bytes h index = do
   sections ← sections_converted bytes h
   Ok (table_at sections index)
 
 -- the section that holds the sections' names, where it is a table
-abbrev pub section_names_right : List ℕ → GoblinHeader → Result (Option GoblinSection) Refusal
-section_names_right bytes h = do
-  sections ← sections_right bytes h
+abbrev pub section_names_expected : List ℕ → GoblinHeader → Result (Option GoblinSection) Refusal
+section_names_expected bytes h = do
+  sections ← sections_expected bytes h
   Ok (table_at (map section_converted sections) (names_index h.e_shstrndx (slice_get sections 0)))

@@ -5,7 +5,7 @@ use Rattle.goblin_base.specs.Pieces.{piece}
 use Rattle.goblin_base.specs.Refusal.{Refusal, misplaced}
 use Rattle.goblin_base.specs.Room.{room_of}
 use Rattle.goblin_base.specs.Steps.{◌>>=◌, refuse_as}
-use Rattle.goblin_c.specs.Answers.{ctx_of, strings_right}
+use Rattle.goblin_c.specs.Answers.{ctx_of, strings_expected}
 use Rattle.goblin_c.specs.declared.types.GoblinHeader.{GoblinHeader}
 use Rattle.goblin_c.specs.declared.types.GoblinRange.{GoblinRange}
 use Rattle.goblin_c.specs.declared.types.GoblinSection.{GoblinSection}
@@ -21,23 +21,23 @@ abbrev pub segment_has_bytes : GoblinSegment → Bool
 segment_has_bytes s = not (s.p_type == 0 || s.file.size == 0)
 
 -- a range, where there must be room for it in the file
-abbrev pub range_right : List ℕ → GoblinRange → Result (Option GoblinRange) Refusal
-range_right bytes range = do
+abbrev pub range_expected : List ℕ → GoblinRange → Result (Option GoblinRange) Refusal
+range_expected bytes range = do
   _ ← refuse_as misplaced (room_of (length bytes) range.offset range.size)
   Ok (Some range)
 
 -- the bytes of a section, and of a segment: none where it has none
-abbrev pub section_bytes_right : List ℕ → GoblinSection → Result (Option GoblinRange) Refusal
-section_bytes_right bytes s = if section_has_bytes s then range_right bytes s.file else Ok None
+abbrev pub section_bytes_expected : List ℕ → GoblinSection → Result (Option GoblinRange) Refusal
+section_bytes_expected bytes s = if section_has_bytes s then range_expected bytes s.file else Ok None
 
-abbrev pub segment_bytes_right : List ℕ → GoblinSegment → Result (Option GoblinRange) Refusal
-segment_bytes_right bytes s = if segment_has_bytes s then range_right bytes s.file else Ok None
+abbrev pub segment_bytes_expected : List ℕ → GoblinSegment → Result (Option GoblinRange) Refusal
+segment_bytes_expected bytes s = if segment_has_bytes s then range_expected bytes s.file else Ok None
 
 -- where the string at an offset of the strings of a range lies in the file, text or not: up to the next zero byte or the
 -- range's end
-abbrev pub string_bytes_right : List ℕ → GoblinRange → ℕ → Result (Option GoblinRange) Refusal
-string_bytes_right bytes range offset = do
-  strings ← strings_right bytes range
+abbrev pub string_bytes_expected : List ℕ → GoblinRange → ℕ → Result (Option GoblinRange) Refusal
+string_bytes_expected bytes range offset = do
+  strings ← strings_expected bytes range
   if nat_le (length strings) offset then Ok None
       else Ok (Some (record { offset = range.offset + offset; size = length (piece strings 0 offset) }))
 
@@ -46,7 +46,7 @@ abbrev pub is_width : ℕ → Bool
 is_width width = width == 1 || width == 2 || width == 4 || width == 8
 
 -- the number that so many bytes at an offset stand for, in the order of the file; none of another width
-abbrev pub number_right : List ℕ → GoblinHeader → ℕ → ℕ → Result (Option ℕ) Refusal
-number_right bytes h offset width = if is_width width then (do
+abbrev pub number_expected : List ℕ → GoblinHeader → ℕ → ℕ → Result (Option ℕ) Refusal
+number_expected bytes h offset width = if is_width width then (do
   _ ← refuse_as misplaced (room_of (length bytes) offset width)
   Ok (Some (number_at (ctx_of h).le bytes offset width))) else Ok None

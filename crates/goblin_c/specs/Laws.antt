@@ -19,10 +19,10 @@ use Rattle.goblin.specs.SectionHeaders.{section_headers_of}
 use Rattle.goblin.specs.declared.elf.sym.Sym.{Sym}
 use Rattle.goblin.specs.Sym.{sym_size}
 use Rattle.goblin.specs.Symtab.{symtab_of}
-use Rattle.goblin_c.specs.Answers.{ctx_of, header_converted, is_mips64el, reloc_converted, section_converted, segment_converted, symbol_converted, section_by_type_right, section_count_right, section_right, segment_count_right, segment_right, symbol_right, reloc_right, string_right, symbol_count_right, reloc_count_right, sections_from_right, symbols_from_right, relocs_from_right, section_names_right, section_by_name_right, symbol_by_name_right, strings_right, table_of, table_right}
-use Rattle.goblin_c.specs.Bytes.{section_bytes_right, segment_bytes_right, string_bytes_right}
+use Rattle.goblin_c.specs.Answers.{ctx_of, header_converted, is_mips64el, reloc_converted, section_converted, segment_converted, symbol_converted, section_by_type_expected, section_count_expected, section_expected, segment_count_expected, segment_expected, symbol_expected, reloc_expected, string_expected, symbol_count_expected, reloc_count_expected, sections_from_expected, symbols_from_expected, relocs_from_expected, section_names_expected, section_by_name_expected, symbol_by_name_expected, strings_expected, table_of, table_expected}
+use Rattle.goblin_c.specs.Bytes.{section_bytes_expected, segment_bytes_expected, string_bytes_expected}
 use Rattle.goblin_c.specs.Laid.{laid}
-use Rattle.goblin_c.specs.Notes.{note_right}
+use Rattle.goblin_c.specs.Notes.{note_expected}
 use Rattle.goblin_c.specs.Status.{refusal_converted}
 use Rattle.goblin_c.specs.declared.types.GoblinHeader.{GoblinHeader}
 use Rattle.goblin_c.specs.declared.types.GoblinNote.{GoblinNote}
@@ -58,14 +58,14 @@ abbrev pub NotesAreItems : Type 0
 NotesAreItems =
     (notes : NoteDataIterator) (h : GoblinHeader) (range : GoblinRange) (alignment : ℕ)
     → IsOver notes h range alignment
-    → let found = note_right notes.bytes.now h range alignment notes.offset in
+    → let found = note_expected notes.bytes.now h range alignment notes.offset in
     items_left notes ≡ items_reported notes.bytes.now found (λ next. items_left (record notes { offset = next }))
 
 -- the items of which so many calls tell: the first at an offset, and each other at the next offset of the one before
 abbrev pub notes_reported : ℕ → List ℕ → GoblinHeader → GoblinRange → ℕ → ℕ → List (Result NoteParts Refusal)
 notes_reported zero bytes h range alignment offset = []
 notes_reported (suc calls) bytes h range alignment offset =
-    items_reported bytes (note_right bytes h range alignment offset) (notes_reported calls bytes h range alignment)
+    items_reported bytes (note_expected bytes h range alignment offset) (notes_reported calls bytes h range alignment)
 
 -- so many calls, one after another from the iterator's offset on, tell the first so many items that it has left
 abbrev pub NotesInARow : Type 0
@@ -83,7 +83,7 @@ LiesIn bytes range = range.offset + range.size ≤ length bytes
 abbrev pub NotesLieInFile : Type 0
 NotesLieInFile =
     (bytes : List ℕ) (h : GoblinHeader) (range : GoblinRange) (alignment offset : ℕ) (found : GoblinNote)
-    → note_right bytes h range alignment offset ≡ Ok (Some found)
+    → note_expected bytes h range alignment offset ≡ Ok (Some found)
     → LiesIn bytes found.name × LiesIn bytes found.desc × (offset + nhdr32_size ≤ found.next)
 
 -- the kind of a refusal, which a call answers, is neither 0 nor 1
@@ -127,16 +127,16 @@ abbrev pub SectionsByIndex : Type 0
 SectionsByIndex =
     (bytes : List ℕ) (h : Header) (ctx : Ctx) → HasHeader bytes h → NamesContext h ctx
     → let sections = section_headers_of bytes h.e_shoff h.e_shnum ctx in
-    TellsEach section_converted sections (section_right bytes (header_converted h))
-    × TellsCount sections (section_count_right bytes (header_converted h))
+    TellsEach section_converted sections (section_expected bytes (header_converted h))
+    × TellsCount sections (section_count_expected bytes (header_converted h))
 
 -- its program headers by index are the library's list, and the count is its length
 abbrev pub SegmentsByIndex : Type 0
 SegmentsByIndex =
     (bytes : List ℕ) (h : Header) (ctx : Ctx) → HasHeader bytes h → NamesContext h ctx
     → let segments = program_headers_from bytes h.e_phoff h.e_phnum ctx in
-    TellsEach segment_converted segments (segment_right bytes (header_converted h))
-    × TellsCount segments (segment_count_right bytes (header_converted h))
+    TellsEach segment_converted segments (segment_expected bytes (header_converted h))
+    × TellsCount segments (segment_count_expected bytes (header_converted h))
 
 -- the symbols of the library's table in a range, of as many as lie in it whole
 abbrev pub symbols_in : List ℕ → GoblinRange → Ctx → Result (List Sym) Refusal
@@ -148,8 +148,8 @@ symbols_in bytes range ctx = do
 abbrev pub SymbolsByIndex : Type 0
 SymbolsByIndex =
     (bytes : List ℕ) (h : Header) (ctx : Ctx) (range : GoblinRange) → HasHeader bytes h → NamesContext h ctx
-    → TellsEach symbol_converted (symbols_in bytes range ctx) (symbol_right bytes (header_converted h) range)
-    × TellsCount (symbols_in bytes range ctx) (symbol_count_right bytes (header_converted h) range)
+    → TellsEach symbol_converted (symbols_in bytes range ctx) (symbol_expected bytes (header_converted h) range)
+    × TellsCount (symbols_in bytes range ctx) (symbol_count_expected bytes (header_converted h) range)
 
 -- the relocations of a range by index are the library's list, and the count is its length
 abbrev pub RelocsByIndex : Type 0
@@ -157,8 +157,8 @@ RelocsByIndex =
     (bytes : List ℕ) (h : Header) (ctx : Ctx) (range : GoblinRange) (is_rela : Bool)
     → HasHeader bytes h → NamesContext h ctx
     → let relocs = refuse_as refusal_of (relocs_of bytes range.offset range.size is_rela ctx (is_of_mips64el h)) in
-    TellsEach reloc_converted relocs (reloc_right bytes (header_converted h) range is_rela)
-    × TellsCount relocs (reloc_count_right bytes (header_converted h) range is_rela)
+    TellsEach reloc_converted relocs (reloc_expected bytes (header_converted h) range is_rela)
+    × TellsCount relocs (reloc_count_expected bytes (header_converted h) range is_rela)
 
 -- the items that are given from an index on, one at least, are those that a call tells there one by one, and none
 -- behind them; or the call tells none there, or the same refusal at each index
@@ -172,13 +172,13 @@ GivenFrom first call (Err refusal) = RefusesAll call refusal
 pub record FilledByIndex : Type 0 where
   pub sections :
       (bytes : List ℕ) (h : GoblinHeader) (first : ℕ)
-      → GivenFrom first (section_right bytes h) (sections_from_right bytes h first)
+      → GivenFrom first (section_expected bytes h) (sections_from_expected bytes h first)
   pub symbols :
       (bytes : List ℕ) (h : GoblinHeader) (range : GoblinRange) (first : ℕ)
-      → GivenFrom first (symbol_right bytes h range) (symbols_from_right bytes h range first)
+      → GivenFrom first (symbol_expected bytes h range) (symbols_from_expected bytes h range first)
   pub relocs :
       (bytes : List ℕ) (h : GoblinHeader) (range : GoblinRange) (is_rela : Bool) (first : ℕ)
-      → GivenFrom first (reloc_right bytes h range is_rela) (relocs_from_right bytes h range is_rela first)
+      → GivenFrom first (reloc_expected bytes h range is_rela) (relocs_from_expected bytes h range is_rela first)
 
 -- room is as long as it was: it holds these items as far as both go, and from there on what it held
 abbrev pub IsFilled : {X : Type 0} → List X → List X → List X → Type 0
@@ -199,14 +199,14 @@ pub record RoomIsFilled : Type 0 where
 abbrev pub StringsAreThere : Type 0
 StringsAreThere =
     (bytes : List ℕ) (range : GoblinRange) (offset : ℕ) (found : GoblinRange)
-    → string_right bytes range offset ≡ Ok (Some found)
-    → (strings_right bytes range >>= λ strings. plain strings 0 offset) ≡ Ok (bytes_in bytes found)
+    → string_expected bytes range offset ≡ Ok (Some found)
+    → (strings_expected bytes range >>= λ strings. plain strings 0 offset) ≡ Ok (bytes_in bytes found)
 
 -- the place that a call tells of a string lies in the file
 abbrev pub StringsLieInFile : Type 0
 StringsLieInFile =
     (bytes : List ℕ) (range : GoblinRange) (offset : ℕ) (found : GoblinRange)
-    → string_right bytes range offset ≡ Ok (Some found) → LiesIn bytes found
+    → string_expected bytes range offset ≡ Ok (Some found) → LiesIn bytes found
 
 -- what is told of the section at an index, where it is a table by that index
 abbrev pub table_converted : ℕ → Result (Option GoblinSection) Refusal → Result (Option GoblinSection) Refusal
@@ -218,21 +218,21 @@ table_converted index found = do
 abbrev pub TablesByIndex : Type 0
 TablesByIndex =
     (bytes : List ℕ) (h : GoblinHeader) (index : ℕ)
-    → table_right bytes h index ≡ table_converted index (section_right bytes h index)
+    → table_expected bytes h index ≡ table_converted index (section_expected bytes h index)
 
 -- the section that holds the sections' names is the table with the index in the header; where this is 0xffff it is that
 -- with the index that the first section links to
 abbrev pub NamesByIndex : Type 0
 NamesByIndex =
     (bytes : List ℕ) (h : GoblinHeader)
-    → (h.e_shstrndx ≢ 0xffff → section_names_right bytes h ≡ table_right bytes h h.e_shstrndx)
-    × ((first : GoblinSection) → h.e_shstrndx ≡ 0xffff → section_right bytes h 0 ≡ Ok (Some first)
-    → section_names_right bytes h ≡ table_right bytes h first.sh_link)
+    → (h.e_shstrndx ≢ 0xffff → section_names_expected bytes h ≡ table_expected bytes h h.e_shstrndx)
+    × ((first : GoblinSection) → h.e_shstrndx ≡ 0xffff → section_expected bytes h 0 ≡ Ok (Some first)
+    → section_names_expected bytes h ≡ table_expected bytes h first.sh_link)
 
 -- a call tells of a string at an offset, and its bytes are this name
 abbrev pub IsNameAt : List ℕ → GoblinRange → ℕ → List ℕ → Type 0
 IsNameAt bytes names offset name =
-    (found : GoblinRange) × (string_right bytes names offset ≡ Ok (Some found)) × (bytes_in bytes found ≡ name)
+    (found : GoblinRange) × (string_expected bytes names offset ≡ Ok (Some found)) × (bytes_in bytes found ≡ name)
 
 -- an answer is the index of the first item from an index on that a call tells and that is so; or none is so from there
 -- on; or it is a refusal of this kind
@@ -261,37 +261,37 @@ abbrev pub SectionsByName : Type 0
 SectionsByName =
     (bytes : List ℕ) (h : GoblinHeader) (names : GoblinRange) (name : List ℕ)
     → let HasTheName = λ (section : GoblinSection). IsNameAt bytes names section.sh_name name in
-    FindsFirst (section_right bytes h) (string_right bytes names) HasTheName (section_by_name_right bytes h names name)
+    FindsFirst (section_expected bytes h) (string_expected bytes names) HasTheName (section_by_name_expected bytes h names name)
 
 abbrev pub SymbolsByName : Type 0
 SymbolsByName =
     (bytes : List ℕ) (h : GoblinHeader) (range names : GoblinRange) (name : List ℕ)
     → let HasTheName = λ (symbol : GoblinSymbol). IsNameAt bytes names symbol.st_name name in
-    let found = symbol_by_name_right bytes h range names name in
-    FindsFirst (symbol_right bytes h range) (string_right bytes names) HasTheName found
+    let found = symbol_by_name_expected bytes h range names name in
+    FindsFirst (symbol_expected bytes h range) (string_expected bytes names) HasTheName found
 
 -- what is found by a type is the first section from the index on that has it
 abbrev pub SectionsByType : Type 0
 SectionsByType =
     (bytes : List ℕ) (h : GoblinHeader) (sh_type first : ℕ)
     → let IsOfType = λ (section : GoblinSection). section.sh_type ≡ sh_type in
-    let found = section_by_type_right bytes h sh_type first in
-    FindsFrom first (section_right bytes h) IsOfType (RefusesAll (section_right bytes h)) found
+    let found = section_by_type_expected bytes h sh_type first in
+    FindsFrom first (section_expected bytes h) IsOfType (RefusesAll (section_expected bytes h)) found
 
 -- the places that are told of bytes lie in the file
 pub record BytesLieInFile : Type 0 where
   pub section :
       (bytes : List ℕ) (s : GoblinSection) (found : GoblinRange)
-      → section_bytes_right bytes s ≡ Ok (Some found) → LiesIn bytes found
+      → section_bytes_expected bytes s ≡ Ok (Some found) → LiesIn bytes found
   pub segment :
       (bytes : List ℕ) (s : GoblinSegment) (found : GoblinRange)
-      → segment_bytes_right bytes s ≡ Ok (Some found) → LiesIn bytes found
+      → segment_bytes_expected bytes s ≡ Ok (Some found) → LiesIn bytes found
   pub string :
       (bytes : List ℕ) (range : GoblinRange) (offset : ℕ) (found : GoblinRange)
-      → string_bytes_right bytes range offset ≡ Ok (Some found) → LiesIn bytes found
+      → string_bytes_expected bytes range offset ≡ Ok (Some found) → LiesIn bytes found
 
 -- the place that a call tells of a string is the one that is told of it, text or not
 abbrev pub StringsAreBytes : Type 0
 StringsAreBytes =
     (bytes : List ℕ) (range : GoblinRange) (offset : ℕ) (found : GoblinRange)
-    → string_right bytes range offset ≡ Ok (Some found) → string_bytes_right bytes range offset ≡ Ok (Some found)
+    → string_expected bytes range offset ≡ Ok (Some found) → string_bytes_expected bytes range offset ≡ Ok (Some found)

@@ -19,8 +19,8 @@ note_converted offset places = record {
 }
 
 -- the note at an offset: none from the range's end on
-abbrev pub note_right : List ℕ → GoblinHeader → GoblinRange → ℕ → ℕ → Result (Option GoblinNote) Refusal
-note_right bytes h range alignment offset =
+abbrev pub note_expected : List ℕ → GoblinHeader → GoblinRange → ℕ → ℕ → Result (Option GoblinNote) Refusal
+note_expected bytes h range alignment offset =
     if nat_le (range.offset + range.size) offset then Ok None
     else do
       places ← places_at bytes offset (alignment, ctx_of h)

@@ -16,14 +16,14 @@ use Rattle.goblin_c.specs.declared.types.GoblinHeader.{GoblinHeader}
 use Rattle.goblin_c.specs.declared.types.GoblinRange.{GoblinRange}
 use Rattle.goblin_c.specs.declared.types.GoblinSection.{GoblinSection}
 use Rattle.goblin_c.specs.declared.types.GoblinSegment.{GoblinSegment}
-use Rattle.goblin_c.specs.Answers.{ctx_of, header_right, reloc_count_right, reloc_right, relocs_from_right, relocs_right}
-use Rattle.goblin_c.specs.Answers.{section_by_name_right, section_by_type_right, section_count_right, section_names_right}
-use Rattle.goblin_c.specs.Answers.{section_right, sections_from_right, sections_right, segment_count_right, segment_right}
-use Rattle.goblin_c.specs.Answers.{segments_right, string_right, strings_right, symbol_by_address_right}
-use Rattle.goblin_c.specs.Answers.{symbol_by_name_right, symbol_count_right, symbol_right, symbols_from_right, symbols_right}
-use Rattle.goblin_c.specs.Answers.{count_of, each_converted, item_of, items_from, reloc_converted, section_converted, segment_converted, symbol_converted, table_right}
-use Rattle.goblin_c.specs.Bytes.{number_right, section_bytes_right, segment_bytes_right, string_bytes_right}
-use Rattle.goblin_c.specs.Notes.{note_right}
+use Rattle.goblin_c.specs.Answers.{ctx_of, header_expected, reloc_count_expected, reloc_expected, relocs_from_expected, relocs_expected}
+use Rattle.goblin_c.specs.Answers.{section_by_name_expected, section_by_type_expected, section_count_expected, section_names_expected}
+use Rattle.goblin_c.specs.Answers.{section_expected, sections_from_expected, sections_expected, segment_count_expected, segment_expected}
+use Rattle.goblin_c.specs.Answers.{segments_expected, string_expected, strings_expected, symbol_by_address_expected}
+use Rattle.goblin_c.specs.Answers.{symbol_by_name_expected, symbol_count_expected, symbol_expected, symbols_from_expected, symbols_expected}
+use Rattle.goblin_c.specs.Answers.{count_of, each_converted, item_of, items_from, reloc_converted, section_converted, segment_converted, symbol_converted, table_expected}
+use Rattle.goblin_c.specs.Bytes.{number_expected, section_bytes_expected, segment_bytes_expected, string_bytes_expected}
+use Rattle.goblin_c.specs.Notes.{note_expected}
 use Rattle.goblin_c.specs.Status.{refusal_converted}
 use Rattle.goblin_c.specs.Texts.{NamesKnown, TextIsKept, converted_text}
 
@@ -59,36 +59,36 @@ unfolding read_header
 known_header bytes = grind (arith, known_room)
 
 -- the lists
-known_sections : (bytes : List ℕ) (h : GoblinHeader) → Known (sections_right bytes h)
+known_sections : (bytes : List ℕ) (h : GoblinHeader) → Known (sections_expected bytes h)
 unfolding section_headers_from section_headers_from_tested records_in
 known_sections bytes h =
     let known : NamesKnown (buffer_too_short 0 (codes "section headers")) = inl refl in
     grind (arith, known_room, known_each, known)
 
-known_segments : (bytes : List ℕ) (h : GoblinHeader) → Known (segments_right bytes h)
+known_segments : (bytes : List ℕ) (h : GoblinHeader) → Known (segments_expected bytes h)
 unfolding records_from
 known_segments bytes h =
     let known : NamesKnown (buffer_too_short 0 (codes "program headers")) = inr refl in
     grind (arith, known_each, known)
 
-known_symbols : (bytes : List ℕ) (h : GoblinHeader) (range : GoblinRange) → Known (symbols_right bytes h range)
+known_symbols : (bytes : List ℕ) (h : GoblinHeader) (range : GoblinRange) → Known (symbols_expected bytes h range)
 known_symbols bytes h range = grind arith
 
 known_relocs :
-    (bytes : List ℕ) (h : GoblinHeader) (range : GoblinRange) (is_rela : Bool) → Known (relocs_right bytes h range is_rela)
+    (bytes : List ℕ) (h : GoblinHeader) (range : GoblinRange) (is_rela : Bool) → Known (relocs_expected bytes h range is_rela)
 known_relocs bytes h range is_rela = grind (arith, known_room)
 
 -- strings, and notes
-known_strings : (bytes : List ℕ) (range : GoblinRange) → Known (strings_right bytes range)
+known_strings : (bytes : List ℕ) (range : GoblinRange) → Known (strings_expected bytes range)
 unfolding range_in
 known_strings bytes range = grind arith
 
 known_string :
-    (bytes : List ℕ) (range : GoblinRange) (offset : ℕ) → Known (string_right bytes range offset)
+    (bytes : List ℕ) (range : GoblinRange) (offset : ℕ) → Known (string_expected bytes range offset)
 known_string bytes range offset = grind (arith, known_strings bytes range)
 
 known_string_bytes :
-    (bytes : List ℕ) (range : GoblinRange) (offset : ℕ) → Known (string_bytes_right bytes range offset)
+    (bytes : List ℕ) (range : GoblinRange) (offset : ℕ) → Known (string_bytes_expected bytes range offset)
 known_string_bytes bytes range offset = grind (arith, known_strings bytes range)
 
 known_note : (bytes : List ℕ) (offset : ℕ) (ctx : ℕ × Ctx) → Known (places_at bytes offset ctx)
@@ -114,30 +114,30 @@ module _ {X Y : Type 0} (convert : X → Y) where
 pub record KeepTheirText
     (bytes : List ℕ) (h : GoblinHeader) (range names : GoblinRange) (name : List ℕ) (is_rela : Bool)
     (index offset address alignment width sh_type : ℕ) (s : GoblinSection) (p : GoblinSegment) : Type 0 where
-  pub header : KeepsText (header_right bytes)
-  pub section_count : KeepsText (section_count_right bytes h)
-  pub section : KeepsText (section_right bytes h index)
-  pub sections : KeepsText (sections_from_right bytes h index)
-  pub section_names : KeepsText (section_names_right bytes h)
-  pub table : KeepsText (table_right bytes h index)
-  pub segment : KeepsText (segment_right bytes h index)
-  pub symbol : KeepsText (symbol_right bytes h range index)
-  pub symbols : KeepsText (symbols_from_right bytes h range index)
-  pub reloc : KeepsText (reloc_right bytes h range is_rela index)
-  pub relocs : KeepsText (relocs_from_right bytes h range is_rela index)
-  pub string : KeepsText (string_right bytes range offset)
-  pub note : KeepsText (note_right bytes h range alignment offset)
-  pub section_by_name : KeepsText (section_by_name_right bytes h names name)
-  pub symbol_by_name : KeepsText (symbol_by_name_right bytes h range names name)
-  pub segment_count : KeepsText (segment_count_right bytes h)
-  pub symbol_count : KeepsText (symbol_count_right bytes h range)
-  pub reloc_count : KeepsText (reloc_count_right bytes h range is_rela)
-  pub symbol_by_address : KeepsText (symbol_by_address_right bytes h range address)
-  pub section_by_type : KeepsText (section_by_type_right bytes h sh_type index)
-  pub section_bytes : KeepsText (section_bytes_right bytes s)
-  pub segment_bytes : KeepsText (segment_bytes_right bytes p)
-  pub string_bytes : KeepsText (string_bytes_right bytes range offset)
-  pub number : KeepsText (number_right bytes h offset width)
+  pub header : KeepsText (header_expected bytes)
+  pub section_count : KeepsText (section_count_expected bytes h)
+  pub section : KeepsText (section_expected bytes h index)
+  pub sections : KeepsText (sections_from_expected bytes h index)
+  pub section_names : KeepsText (section_names_expected bytes h)
+  pub table : KeepsText (table_expected bytes h index)
+  pub segment : KeepsText (segment_expected bytes h index)
+  pub symbol : KeepsText (symbol_expected bytes h range index)
+  pub symbols : KeepsText (symbols_from_expected bytes h range index)
+  pub reloc : KeepsText (reloc_expected bytes h range is_rela index)
+  pub relocs : KeepsText (relocs_from_expected bytes h range is_rela index)
+  pub string : KeepsText (string_expected bytes range offset)
+  pub note : KeepsText (note_expected bytes h range alignment offset)
+  pub section_by_name : KeepsText (section_by_name_expected bytes h names name)
+  pub symbol_by_name : KeepsText (symbol_by_name_expected bytes h range names name)
+  pub segment_count : KeepsText (segment_count_expected bytes h)
+  pub symbol_count : KeepsText (symbol_count_expected bytes h range)
+  pub reloc_count : KeepsText (reloc_count_expected bytes h range is_rela)
+  pub symbol_by_address : KeepsText (symbol_by_address_expected bytes h range address)
+  pub section_by_type : KeepsText (section_by_type_expected bytes h sh_type index)
+  pub section_bytes : KeepsText (section_bytes_expected bytes s)
+  pub segment_bytes : KeepsText (segment_bytes_expected bytes p)
+  pub string_bytes : KeepsText (string_bytes_expected bytes range offset)
+  pub number : KeepsText (number_expected bytes h offset width)
 
 -- so does every refusal of every call
 abbrev pub RefusalsKeepTheirText : Type 0
@@ -149,35 +149,35 @@ RefusalsKeepTheirText =
 pub refusals_keep_their_text : RefusalsKeepTheirText
 refusals_keep_their_text bytes h range names name is_rela index offset address alignment width sh_type s p =
     let sections = known_sections bytes h in
-    let segments = kept (segments_right bytes h) (known_segments bytes h) in
+    let segments = kept (segments_expected bytes h) (known_segments bytes h) in
     let symbols = known_symbols bytes h range in
-    let relocs = kept (relocs_right bytes h range is_rela) (known_relocs bytes h range is_rela) in
+    let relocs = kept (relocs_expected bytes h range is_rela) (known_relocs bytes h range is_rela) in
     let strings = known_strings bytes names in
-    let keep_sections = kept (sections_right bytes h) sections in
-    let keep_symbols = kept (symbols_right bytes h range) symbols in
+    let keep_sections = kept (sections_expected bytes h) sections in
+    let keep_symbols = kept (symbols_expected bytes h range) symbols in
     record {
-      header = kept (header_right bytes) (grind (arith, known_header bytes));
-      section_count = counted section_converted (sections_right bytes h) keep_sections;
-      section = one section_converted (sections_right bytes h) index keep_sections;
-      sections = many section_converted (sections_right bytes h) index keep_sections;
-      section_names = kept (section_names_right bytes h) (grind (arith, sections));
-      table = kept (table_right bytes h index) (grind (arith, sections));
-      segment = one segment_converted (segments_right bytes h) index segments;
-      symbol = one symbol_converted (symbols_right bytes h range) index keep_symbols;
-      symbols = many symbol_converted (symbols_right bytes h range) index keep_symbols;
-      reloc = one reloc_converted (relocs_right bytes h range is_rela) index relocs;
-      relocs = many reloc_converted (relocs_right bytes h range is_rela) index relocs;
-      string = kept (string_right bytes range offset) (known_string bytes range offset);
-      note = kept (note_right bytes h range alignment offset) (grind (arith, known_note bytes offset (alignment, ctx_of h)));
-      section_by_name = kept (section_by_name_right bytes h names name) (grind (arith, sections, strings));
-      symbol_by_name = kept (symbol_by_name_right bytes h range names name) (grind (arith, symbols, strings));
-      segment_count = counted segment_converted (segments_right bytes h) segments;
-      symbol_count = counted symbol_converted (symbols_right bytes h range) keep_symbols;
-      reloc_count = counted reloc_converted (relocs_right bytes h range is_rela) relocs;
-      symbol_by_address = kept (symbol_by_address_right bytes h range address) (grind (arith, symbols));
-      section_by_type = kept (section_by_type_right bytes h sh_type index) (grind (arith, sections));
-      section_bytes = kept (section_bytes_right bytes s) (grind (arith, known_room));
-      segment_bytes = kept (segment_bytes_right bytes p) (grind (arith, known_room));
-      string_bytes = kept (string_bytes_right bytes range offset) (known_string_bytes bytes range offset);
-      number = kept (number_right bytes h offset width) (grind (arith, known_room));
+      header = kept (header_expected bytes) (grind (arith, known_header bytes));
+      section_count = counted section_converted (sections_expected bytes h) keep_sections;
+      section = one section_converted (sections_expected bytes h) index keep_sections;
+      sections = many section_converted (sections_expected bytes h) index keep_sections;
+      section_names = kept (section_names_expected bytes h) (grind (arith, sections));
+      table = kept (table_expected bytes h index) (grind (arith, sections));
+      segment = one segment_converted (segments_expected bytes h) index segments;
+      symbol = one symbol_converted (symbols_expected bytes h range) index keep_symbols;
+      symbols = many symbol_converted (symbols_expected bytes h range) index keep_symbols;
+      reloc = one reloc_converted (relocs_expected bytes h range is_rela) index relocs;
+      relocs = many reloc_converted (relocs_expected bytes h range is_rela) index relocs;
+      string = kept (string_expected bytes range offset) (known_string bytes range offset);
+      note = kept (note_expected bytes h range alignment offset) (grind (arith, known_note bytes offset (alignment, ctx_of h)));
+      section_by_name = kept (section_by_name_expected bytes h names name) (grind (arith, sections, strings));
+      symbol_by_name = kept (symbol_by_name_expected bytes h range names name) (grind (arith, symbols, strings));
+      segment_count = counted segment_converted (segments_expected bytes h) segments;
+      symbol_count = counted symbol_converted (symbols_expected bytes h range) keep_symbols;
+      reloc_count = counted reloc_converted (relocs_expected bytes h range is_rela) relocs;
+      symbol_by_address = kept (symbol_by_address_expected bytes h range address) (grind (arith, symbols));
+      section_by_type = kept (section_by_type_expected bytes h sh_type index) (grind (arith, sections));
+      section_bytes = kept (section_bytes_expected bytes s) (grind (arith, known_room));
+      segment_bytes = kept (segment_bytes_expected bytes p) (grind (arith, known_room));
+      string_bytes = kept (string_bytes_expected bytes range offset) (known_string_bytes bytes range offset);
+      number = kept (number_expected bytes h offset width) (grind (arith, known_room));
     }

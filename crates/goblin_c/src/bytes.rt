@@ -2,7 +2,7 @@
 ghost use Rattle.std.specs.Prelude.{◌≡◌, ◌≤◌, ◌==◌, length, position};
 ghost use Rattle.goblin.specs.Refusal.{Answers};
 ghost use Rattle.goblin_base.specs.Pieces.{piece};
-ghost use Rattle.goblin_c.specs.Bytes.{number_right, range_right, section_bytes_right, segment_bytes_right, string_bytes_right};
+ghost use Rattle.goblin_c.specs.Bytes.{number_expected, range_expected, section_bytes_expected, segment_bytes_expected, string_bytes_expected};
 
 use crate::headers::ctx_of;
 use crate::strings::strings_of;
@@ -15,7 +15,7 @@ use goblin_base::room::room;
 
 // A range, where there is room for it in the file.
 fn range_in(bytes: &[u8], range: &GoblinRange) -> Result<Option<GoblinRange>>
-    ensures { Answers (λ found. found) result (range_right bytes.now range.now) }
+    ensures { Answers (λ found. found) result (range_expected bytes.now range.now) }
 {
     room(bytes.len(), range.offset as usize, range.size as usize)?;
     Ok(Some(*range))
@@ -23,7 +23,7 @@ fn range_in(bytes: &[u8], range: &GoblinRange) -> Result<Option<GoblinRange>>
 
 /// Where the bytes of a section lie in the file.
 pub fn section_bytes(bytes: &[u8], section: &GoblinSection) -> Result<Option<GoblinRange>>
-    ensures { Answers (λ found. found) result (section_bytes_right bytes.now section.now) }
+    ensures { Answers (λ found. found) result (section_bytes_expected bytes.now section.now) }
 {
     let sh_type = section.sh_type;
     if sh_type == SHT_NULL || sh_type == SHT_NOBITS || section.file.size == 0 {
@@ -34,7 +34,7 @@ pub fn section_bytes(bytes: &[u8], section: &GoblinSection) -> Result<Option<Gob
 
 /// Where the bytes of a segment lie in the file.
 pub fn segment_bytes(bytes: &[u8], segment: &GoblinSegment) -> Result<Option<GoblinRange>>
-    ensures { Answers (λ found. found) result (segment_bytes_right bytes.now segment.now) }
+    ensures { Answers (λ found. found) result (segment_bytes_expected bytes.now segment.now) }
 {
     if segment.p_type == PT_NULL || segment.file.size == 0 {
         return Ok(None);
@@ -61,7 +61,7 @@ fn piece_len(strings: &[u8], offset: usize) -> usize
 /// Where the string at an offset of a range of strings lies in the file, text or not.
 pub fn string_bytes(bytes: &[u8], range: &GoblinRange, offset: u64) -> Result<Option<GoblinRange>>
     ensures { Answers (λ found. found) result
-        (string_bytes_right bytes.now range.now offset) }
+        (string_bytes_expected bytes.now range.now offset) }
 {
     let strings = strings_of(bytes, range)?;
     let start = offset as usize;
@@ -76,7 +76,7 @@ pub fn string_bytes(bytes: &[u8], range: &GoblinRange, offset: u64) -> Result<Op
 
 /// The number that so many bytes at an offset stand for, in the file's order.
 pub fn number(bytes: &[u8], header: &GoblinHeader, offset: u64, width: u64) -> Result<Option<u64>>
-    ensures { Answers (λ found. found) result (number_right bytes.now header.now offset width) }
+    ensures { Answers (λ found. found) result (number_expected bytes.now header.now offset width) }
 {
     if width != 1 && width != 2 && width != 4 && width != 8 {
         return Ok(None);

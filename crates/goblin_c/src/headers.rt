@@ -1,7 +1,7 @@
 //! The header, the section headers and the program headers, as the library gives them.
 ghost use Rattle.std.specs.Prelude.{◌≡◌, ◌+◌, ◌<◌, ◌==◌, ◌^◌, IfSome, drop, map, position};
 ghost use Rattle.goblin.specs.Refusal.{Answers};
-ghost use Rattle.goblin_c.specs.Answers.{ctx_of, header_right, header_converted, section_by_type_right, section_names_right, section_converted, sections_right, segment_converted, segments_right, table_at, table_right};
+ghost use Rattle.goblin_c.specs.Answers.{ctx_of, header_expected, header_converted, section_by_type_expected, section_names_expected, section_converted, sections_expected, segment_converted, segments_expected, table_at, table_expected};
 
 use crate::lists::Listed;
 use crate::types::{GoblinHeader, GoblinRange, GoblinSection, GoblinSegment};
@@ -95,7 +95,7 @@ fn convert_segment(s: &ProgramHeader) -> GoblinSegment
 
 /// The header at the file's start.
 pub fn header_at(bytes: &[u8]) -> Result<Option<GoblinHeader>>
-    ensures { Answers (λ found. found) result (header_right bytes.now) }
+    ensures { Answers (λ found. found) result (header_expected bytes.now) }
 {
     let (header, _) = Header::try_from_ctx(bytes, LE)?;
     Ok(Some(convert_header(&header)))
@@ -106,7 +106,7 @@ pub fn sections_of<'a>(
     bytes: &'a [u8],
     header: &GoblinHeader,
 ) -> Result<Table<'a, SectionHeader, Ctx>>
-    ensures { Answers (λ table. table) result (sections_right bytes.now header.now) }
+    ensures { Answers (λ table. table) result (sections_expected bytes.now header.now) }
 {
     SectionHeader::table(
         bytes,
@@ -150,7 +150,7 @@ pub fn section_by_type(
     first: u64,
 ) -> Result<Option<u64>>
     ensures { Answers (λ found. found) result
-        (section_by_type_right bytes.now header.now sh_type first) }
+        (section_by_type_expected bytes.now header.now sh_type first) }
 {
     let sections = sections_of(bytes, header)?;
     let first = first as usize;
@@ -179,14 +179,14 @@ pub fn table_section(
     header: &GoblinHeader,
     index: u64,
 ) -> Result<Option<GoblinSection>>
-    ensures { Answers (λ found. found) result (table_right bytes.now header.now index) }
+    ensures { Answers (λ found. found) result (table_expected bytes.now header.now index) }
 {
     Ok(converted_table(&sections_of(bytes, header)?, index as usize))
 }
 
 /// The section that holds the sections' names.
 pub fn section_names(bytes: &[u8], header: &GoblinHeader) -> Result<Option<GoblinSection>>
-    ensures { Answers (λ found. found) result (section_names_right bytes.now header.now) }
+    ensures { Answers (λ found. found) result (section_names_expected bytes.now header.now) }
 {
     let sections = sections_of(bytes, header)?;
     let first = sections.get(0);
@@ -199,7 +199,7 @@ pub fn segments_of<'a>(
     bytes: &'a [u8],
     header: &GoblinHeader,
 ) -> Result<Table<'a, ProgramHeader, Ctx>>
-    ensures { Answers (λ table. table) result (segments_right bytes.now header.now) }
+    ensures { Answers (λ table. table) result (segments_expected bytes.now header.now) }
 {
     ProgramHeader::table(
         bytes,

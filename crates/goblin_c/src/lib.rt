@@ -3,11 +3,11 @@
 #![tactic(auto)]
 
 ghost use Rattle.std.specs.Prelude.{◌≡◌, length};
-ghost use Rattle.goblin_c.specs.Answers.{header_right, reloc_count_right, reloc_right, section_by_type_right, section_count_right, section_right, segment_count_right, segment_right, string_right, symbol_count_right, symbol_right, relocs_from_right, sections_from_right, symbols_from_right, section_by_name_right, section_names_right, symbol_by_address_right, symbol_by_name_right, table_right};
-ghost use Rattle.goblin_c.specs.Bytes.{number_right, section_bytes_right, segment_bytes_right, string_bytes_right};
+ghost use Rattle.goblin_c.specs.Answers.{header_expected, reloc_count_expected, reloc_expected, section_by_type_expected, section_count_expected, section_expected, segment_count_expected, segment_expected, string_expected, symbol_count_expected, symbol_expected, relocs_from_expected, sections_from_expected, symbols_from_expected, section_by_name_expected, section_names_expected, symbol_by_address_expected, symbol_by_name_expected, table_expected};
+ghost use Rattle.goblin_c.specs.Bytes.{number_expected, section_bytes_expected, segment_bytes_expected, string_bytes_expected};
 ghost use Rattle.goblin_c.specs.Laid.{laid};
 ghost use Rattle.goblin_c.specs.Layout.{layout};
-ghost use Rattle.goblin_c.specs.Notes.{note_right};
+ghost use Rattle.goblin_c.specs.Notes.{note_expected};
 ghost use Rattle.goblin_c.specs.Status.{Fills, Tells};
 ghost use Rattle.goblin_c.specs.Texts.{converted_text};
 ghost use Rattle.goblin.specs.HeaderNames.{class_name, type_name as file_type_name};
@@ -80,7 +80,7 @@ pub extern "C" fn goblin_header(
     header: &mut GoblinHeader,
     why: &mut GoblinRefusal,
 ) -> u32
-    ensures { Tells (header_right bytes.now) header.old why.old result header.new why.new }
+    ensures { Tells (header_expected bytes.now) header.old why.old result header.new why.new }
 {
     tell(header_at(bytes), header, why)
 }
@@ -93,7 +93,7 @@ pub extern "C" fn goblin_section_count(
     count: &mut u64,
     why: &mut GoblinRefusal,
 ) -> u32
-    ensures { Tells (section_count_right bytes.now header.now)
+    ensures { Tells (section_count_expected bytes.now header.now)
         count.old why.old result count.new why.new }
 {
     tell(count_of(sections_of(bytes, header)), count, why)
@@ -108,7 +108,7 @@ pub extern "C" fn goblin_section(
     section: &mut GoblinSection,
     why: &mut GoblinRefusal,
 ) -> u32
-    ensures { Tells (section_right bytes.now header.now index)
+    ensures { Tells (section_expected bytes.now header.now index)
         section.old why.old result section.new why.new }
 {
     tell(item_of(sections_of(bytes, header), index), section, why)
@@ -123,7 +123,7 @@ pub extern "C" fn goblin_segment(
     segment: &mut GoblinSegment,
     why: &mut GoblinRefusal,
 ) -> u32
-    ensures { Tells (segment_right bytes.now header.now index)
+    ensures { Tells (segment_expected bytes.now header.now index)
         segment.old why.old result segment.new why.new }
 {
     tell(item_of(segments_of(bytes, header), index), segment, why)
@@ -139,7 +139,7 @@ pub extern "C" fn goblin_symbol(
     symbol: &mut GoblinSymbol,
     why: &mut GoblinRefusal,
 ) -> u32
-    ensures { Tells (symbol_right bytes.now header.now table.now index)
+    ensures { Tells (symbol_expected bytes.now header.now table.now index)
         symbol.old why.old result symbol.new why.new }
 {
     let found = item_of(symbols_of(bytes, header, table), index);
@@ -157,7 +157,7 @@ pub extern "C" fn goblin_reloc(
     reloc: &mut GoblinReloc,
     why: &mut GoblinRefusal,
 ) -> u32
-    ensures { Tells (reloc_right bytes.now header.now relocs.now is_rela index)
+    ensures { Tells (reloc_expected bytes.now header.now relocs.now is_rela index)
         reloc.old why.old result reloc.new why.new }
 {
     let found = item_of(relocs_of(bytes, header, relocs, is_rela), index);
@@ -173,7 +173,7 @@ pub extern "C" fn goblin_string(
     string: &mut GoblinRange,
     why: &mut GoblinRefusal,
 ) -> u32
-    ensures { Tells (string_right bytes.now strings.now offset)
+    ensures { Tells (string_expected bytes.now strings.now offset)
         string.old why.old result string.new why.new }
 {
     tell(string_at(bytes, strings, offset), string, why)
@@ -191,7 +191,7 @@ pub extern "C" fn goblin_note(
     note: &mut GoblinNote,
     why: &mut GoblinRefusal,
 ) -> u32
-    ensures { Tells (note_right bytes.now header.now notes.now alignment offset)
+    ensures { Tells (note_expected bytes.now header.now notes.now alignment offset)
         note.old why.old result note.new why.new }
 {
     let found = note_from(bytes, header, notes, alignment, offset);
@@ -307,7 +307,7 @@ pub extern "C" fn goblin_sections(
     filled: &mut u64,
     why: &mut GoblinRefusal,
 ) -> u32
-    ensures { Fills (sections_from_right bytes.now header.now first)
+    ensures { Fills (sections_from_expected bytes.now header.now first)
         sections.old filled.old why.old result sections.new filled.new why.new }
 {
     tell_from(sections_of(bytes, header), first, sections, filled, why)
@@ -324,7 +324,7 @@ pub extern "C" fn goblin_symbols(
     filled: &mut u64,
     why: &mut GoblinRefusal,
 ) -> u32
-    ensures { Fills (symbols_from_right bytes.now header.now table.now first)
+    ensures { Fills (symbols_from_expected bytes.now header.now table.now first)
         symbols.old filled.old why.old result symbols.new filled.new why.new }
 {
     let list = symbols_of(bytes, header, table);
@@ -343,7 +343,7 @@ pub extern "C" fn goblin_relocs(
     filled: &mut u64,
     why: &mut GoblinRefusal,
 ) -> u32
-    ensures { Fills (relocs_from_right bytes.now header.now relocs.now is_rela first)
+    ensures { Fills (relocs_from_expected bytes.now header.now relocs.now is_rela first)
         items.old filled.old why.old result items.new filled.new why.new }
 {
     let list = relocs_of(bytes, header, relocs, is_rela);
@@ -360,7 +360,7 @@ pub extern "C" fn goblin_table(
     section: &mut GoblinSection,
     why: &mut GoblinRefusal,
 ) -> u32
-    ensures { Tells (table_right bytes.now header.now index)
+    ensures { Tells (table_expected bytes.now header.now index)
         section.old why.old result section.new why.new }
 {
     tell(table_section(bytes, header, index), section, why)
@@ -374,7 +374,7 @@ pub extern "C" fn goblin_section_names(
     section: &mut GoblinSection,
     why: &mut GoblinRefusal,
 ) -> u32
-    ensures { Tells (section_names_right bytes.now header.now)
+    ensures { Tells (section_names_expected bytes.now header.now)
         section.old why.old result section.new why.new }
 {
     tell(section_names(bytes, header), section, why)
@@ -390,7 +390,7 @@ pub extern "C" fn goblin_section_by_name(
     index: &mut u64,
     why: &mut GoblinRefusal,
 ) -> u32
-    ensures { Tells (section_by_name_right bytes.now header.now names.now name.now)
+    ensures { Tells (section_by_name_expected bytes.now header.now names.now name.now)
         index.old why.old result index.new why.new }
 {
     tell(section_by_name(bytes, header, names, name), index, why)
@@ -407,7 +407,7 @@ pub extern "C" fn goblin_symbol_by_name(
     index: &mut u64,
     why: &mut GoblinRefusal,
 ) -> u32
-    ensures { Tells (symbol_by_name_right bytes.now header.now table.now names.now name.now)
+    ensures { Tells (symbol_by_name_expected bytes.now header.now table.now names.now name.now)
         index.old why.old result index.new why.new }
 {
     let found = symbol_by_name(bytes, header, table, names, name);
@@ -422,7 +422,7 @@ pub extern "C" fn goblin_segment_count(
     count: &mut u64,
     why: &mut GoblinRefusal,
 ) -> u32
-    ensures { Tells (segment_count_right bytes.now header.now)
+    ensures { Tells (segment_count_expected bytes.now header.now)
         count.old why.old result count.new why.new }
 {
     tell(count_of(segments_of(bytes, header)), count, why)
@@ -437,7 +437,7 @@ pub extern "C" fn goblin_symbol_count(
     count: &mut u64,
     why: &mut GoblinRefusal,
 ) -> u32
-    ensures { Tells (symbol_count_right bytes.now header.now table.now)
+    ensures { Tells (symbol_count_expected bytes.now header.now table.now)
         count.old why.old result count.new why.new }
 {
     tell(count_of(symbols_of(bytes, header, table)), count, why)
@@ -453,7 +453,7 @@ pub extern "C" fn goblin_reloc_count(
     count: &mut u64,
     why: &mut GoblinRefusal,
 ) -> u32
-    ensures { Tells (reloc_count_right bytes.now header.now relocs.now is_rela)
+    ensures { Tells (reloc_count_expected bytes.now header.now relocs.now is_rela)
         count.old why.old result count.new why.new }
 {
     let found = count_of(relocs_of(bytes, header, relocs, is_rela));
@@ -470,7 +470,7 @@ pub extern "C" fn goblin_section_by_type(
     index: &mut u64,
     why: &mut GoblinRefusal,
 ) -> u32
-    ensures { Tells (section_by_type_right bytes.now header.now sh_type first)
+    ensures { Tells (section_by_type_expected bytes.now header.now sh_type first)
         index.old why.old result index.new why.new }
 {
     tell(section_by_type(bytes, header, sh_type, first), index, why)
@@ -484,7 +484,7 @@ pub extern "C" fn goblin_section_bytes(
     range: &mut GoblinRange,
     why: &mut GoblinRefusal,
 ) -> u32
-    ensures { Tells (section_bytes_right bytes.now section.now)
+    ensures { Tells (section_bytes_expected bytes.now section.now)
         range.old why.old result range.new why.new }
 {
     tell(section_bytes(bytes, section), range, why)
@@ -498,7 +498,7 @@ pub extern "C" fn goblin_segment_bytes(
     range: &mut GoblinRange,
     why: &mut GoblinRefusal,
 ) -> u32
-    ensures { Tells (segment_bytes_right bytes.now segment.now)
+    ensures { Tells (segment_bytes_expected bytes.now segment.now)
         range.old why.old result range.new why.new }
 {
     tell(segment_bytes(bytes, segment), range, why)
@@ -513,7 +513,7 @@ pub extern "C" fn goblin_string_bytes(
     string: &mut GoblinRange,
     why: &mut GoblinRefusal,
 ) -> u32
-    ensures { Tells (string_bytes_right bytes.now strings.now offset)
+    ensures { Tells (string_bytes_expected bytes.now strings.now offset)
         string.old why.old result string.new why.new }
 {
     tell(string_bytes(bytes, strings, offset), string, why)
@@ -529,7 +529,7 @@ pub extern "C" fn goblin_number(
     value: &mut u64,
     why: &mut GoblinRefusal,
 ) -> u32
-    ensures { Tells (number_right bytes.now header.now offset width)
+    ensures { Tells (number_expected bytes.now header.now offset width)
         value.old why.old result value.new why.new }
 {
     tell(number(bytes, header, offset, width), value, why)
@@ -545,7 +545,7 @@ pub extern "C" fn goblin_symbol_by_address(
     index: &mut u64,
     why: &mut GoblinRefusal,
 ) -> u32
-    ensures { Tells (symbol_by_address_right bytes.now header.now table.now address)
+    ensures { Tells (symbol_by_address_expected bytes.now header.now table.now address)
         index.old why.old result index.new why.new }
 {
     tell(symbol_by_address(bytes, header, table, address), index, why)

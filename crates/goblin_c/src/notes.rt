@@ -2,7 +2,7 @@
 ghost use Rattle.std.specs.Prelude.{◌≡◌};
 ghost use Rattle.goblin.specs.NoteType.{note_type_name};
 ghost use Rattle.goblin.specs.Refusal.{Answers};
-ghost use Rattle.goblin_c.specs.Notes.{note_right};
+ghost use Rattle.goblin_c.specs.Notes.{note_expected};
 
 use crate::headers::ctx_of;
 use crate::types::{GoblinHeader, GoblinNote, GoblinRange};
@@ -18,7 +18,7 @@ pub fn note_from(
     offset: u64,
 ) -> Result<Option<GoblinNote>>
     ensures { Answers (λ found. found) result
-        (note_right bytes.now header.now range.now alignment offset) }
+        (note_expected bytes.now header.now range.now alignment offset) }
 {
     if offset >= range.offset && offset - range.offset >= range.size {
         return Ok(None);

@@ -1,7 +1,7 @@
 //! Strings, and where they lie in the file.
 ghost use Rattle.std.specs.Prelude.{◌≡◌, ◌+◌, ◌≤◌, IfOk, length};
 ghost use Rattle.goblin.specs.Refusal.{Answers};
-ghost use Rattle.goblin_c.specs.Answers.{string_right, strings_right};
+ghost use Rattle.goblin_c.specs.Answers.{string_expected, strings_expected};
 
 use crate::types::GoblinRange;
 use goblin::error::Result;
@@ -13,7 +13,7 @@ use goblin::strtab::bytes_in_range;
 #[tactic(auto, unfolding(goblin_base::specs::Strtab::range_in))]
 pub fn strings_of<'a>(bytes: &'a [u8], range: &GoblinRange) -> Result<&'a [u8]>
     ensures given { Answers (λ strings. strings.now) result
-        (strings_right bytes.now range.now) }
+        (strings_expected bytes.now range.now) }
     ensures within { IfOk result (λ strings. range.now.offset + length strings.now ≤ length bytes.now) }
 {
     bytes_in_range(
@@ -26,7 +26,7 @@ pub fn strings_of<'a>(bytes: &'a [u8], range: &GoblinRange) -> Result<&'a [u8]>
 
 /// Where the string at an offset of a range of strings lies in the file.
 pub fn string_at(bytes: &[u8], range: &GoblinRange, offset: u64) -> Result<Option<GoblinRange>>
-    ensures { Answers (λ found. found) result (string_right bytes.now range.now offset) }
+    ensures { Answers (λ found. found) result (string_expected bytes.now range.now offset) }
 {
     let strings = strings_of(bytes, range)?;
     match strtab::string_at(strings, 0, offset as usize) {

@@ -1,7 +1,7 @@
 //! Symbols, relocations and what is found by its name, as the library gives them.
 ghost use Rattle.std.specs.Prelude.{◌≡◌, length, map, position};
 ghost use Rattle.goblin.specs.Refusal.{Answers};
-ghost use Rattle.goblin_c.specs.Answers.{reloc_converted, relocs_right, section_by_name_right, symbol_by_address_right, symbol_by_name_right, is_named, symbol_converted, symbols_right};
+ghost use Rattle.goblin_c.specs.Answers.{reloc_converted, relocs_expected, section_by_name_expected, symbol_by_address_expected, symbol_by_name_expected, is_named, symbol_converted, symbols_expected};
 
 use crate::headers::{ctx_of, sections_of};
 use crate::lists::Listed;
@@ -44,7 +44,7 @@ pub fn symbols_of<'a>(
     range: &GoblinRange,
 ) -> Result<Symtab<'a>>
     ensures { Answers (λ table. table.symbols) result
-        (symbols_right bytes.now header.now range.now) }
+        (symbols_expected bytes.now header.now range.now) }
 {
     let ctx = ctx_of(header);
     let count = range.size as usize / Sym::size(ctx.container);
@@ -73,7 +73,7 @@ pub fn relocs_of<'a>(
     is_rela: bool,
 ) -> Result<RelocSection<'a>>
     ensures { Answers (λ relocs. relocs) result
-        (relocs_right bytes.now header.now range.now is_rela) }
+        (relocs_expected bytes.now header.now range.now is_rela) }
 {
     let ctx = ctx_of(header);
     RelocSection::parse_inner(
@@ -108,7 +108,7 @@ pub fn section_by_name(
     name: &[u8],
 ) -> Result<Option<u64>>
     ensures { Answers (λ found. found) result
-        (section_by_name_right bytes.now header.now names.now name.now) }
+        (section_by_name_expected bytes.now header.now names.now name.now) }
 {
     let sections = sections_of(bytes, header)?;
     let strings = strings_of(bytes, names)?;
@@ -125,7 +125,7 @@ pub fn symbol_by_name(
     name: &[u8],
 ) -> Result<Option<u64>>
     ensures { Answers (λ found. found) result
-        (symbol_by_name_right bytes.now header.now range.now names.now name.now) }
+        (symbol_by_name_expected bytes.now header.now range.now names.now name.now) }
 {
     let symbols = symbols_of(bytes, header, range)?;
     let strings = strings_of(bytes, names)?;
@@ -141,7 +141,7 @@ pub fn symbol_by_address(
     address: u64,
 ) -> Result<Option<u64>>
     ensures { Answers (λ found. found) result
-        (symbol_by_address_right bytes.now header.now range.now address) }
+        (symbol_by_address_expected bytes.now header.now range.now address) }
 {
     let found = symbols_of(bytes, header, range)?.at(address);
     Ok(found.map(|index| index as u64))
