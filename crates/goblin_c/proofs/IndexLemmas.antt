@@ -19,7 +19,7 @@ use Rattle.goblin_headers.proofs.HeaderLemmas.{header_laws}
 use Rattle.goblin_headers.proofs.RawTrips.{ident_byte}
 use Rattle.goblin_headers.proofs.ReadHeaderLemmas.{read_header-is}
 use Rattle.goblin_c.specs.Answers.{count_of, ctx_of, each_converted, header_converted, item_of, items_from, reloc_count_expected, reloc_expected, reloc_converted, relocs_expected, relocs_converted, section_converted, sections_expected, sections_converted, segment_converted, segments_expected, symbol_converted, symbols_expected, symbols_converted, table_at}
-use Rattle.goblin_c.specs.Laws.{ContextIsTheHeaders, FilledByIndex, GivenFrom, HasHeader, NamesByIndex, NamesContext, RelocsByIndex, SectionsByIndex, SegmentsByIndex, SymbolsByIndex, TablesByIndex, TellsCount, TellsEach, table_converted}
+use Rattle.goblin_c.specs.Laws.{ContextIsTheHeaders, FilledByIndex, GivenFrom, HasHeader, NamesByIndex, NamesContext, RelocsByIndex, SectionsByIndex, SegmentsByIndex, SymbolsByIndex, TablesByIndex, ReturnsCount, ReturnsEach, table_converted}
 
 -- what a file's header tells of its class and its byte order
 named : (bytes : List ℕ) (h : Header) → HasHeader bytes h → (class : Container) × (order : Endian) × (class_named (slice_index h.e_ident 4) ≡ Some class) × (order_named (slice_index h.e_ident 5) ≡ Some order)
@@ -60,7 +60,7 @@ one_context bytes h ctx has named =
     λ j. record { container = classes j; le = orders j }
 
 -- what is told of a list by index, and how many items it has
-listed : {X Y : Type 0} (convert : X → Y) (all : Result (List X) Refusal) → TellsEach convert all (item_of (each_converted convert all)) × TellsCount all (count_of (each_converted convert all))
+listed : {X Y : Type 0} (convert : X → Y) (all : Result (List X) Refusal) → ReturnsEach convert all (item_of (each_converted convert all)) × ReturnsCount all (count_of (each_converted convert all))
 listed convert (Ok items) = (λ index. ap Ok (slice_get-map convert items index), ap (λ (n : ℕ). Ok (Some n)) (length-map items convert))
 listed convert (Err refusal) = (λ index. refl, refl)
 
@@ -77,7 +77,7 @@ pub relocs_by_index : RelocsByIndex
 relocs_by_index bytes h ctx range is_rela has named =
     let of_pair = λ (pair : Bool). refuse_as refusal_of (relocs_of bytes range.offset range.size is_rela (ctx_of (header_converted h)) pair) in
     rw (← one_context bytes h ctx has named)
-    (subst (λ (pair : Bool). TellsEach reloc_converted (of_pair pair) (reloc_expected bytes (header_converted h) range is_rela) × TellsCount (of_pair pair) (reloc_count_expected bytes (header_converted h) range is_rela))
+    (subst (λ (pair : Bool). ReturnsEach reloc_converted (of_pair pair) (reloc_expected bytes (header_converted h) range is_rela) × ReturnsCount (of_pair pair) (reloc_count_expected bytes (header_converted h) range is_rela))
     (context_is_the_headers bytes h has).1 (listed reloc_converted (relocs_expected bytes (header_converted h) range is_rela)))
 
 -- the item at an index behind those that are left out

@@ -112,31 +112,31 @@ RefusesAll call refusal = (index : ℕ) → call index ≡ Err refusal
 
 -- a call tells each item of a list at its index, and none behind them; or at each index the refusal that there is in
 -- place of a list
-abbrev pub TellsEach :
+abbrev pub ReturnsEach :
     {X Y : Type 0} → (X → Y) → Result (List X) Refusal → (ℕ → Result (Option Y) Refusal) → Type 0
-TellsEach convert (Ok items) call = (index : ℕ) → call index ≡ Ok (option_map convert (slice_get items index))
-TellsEach convert (Err refusal) call = RefusesAll call refusal
+ReturnsEach convert (Ok items) call = (index : ℕ) → call index ≡ Ok (option_map convert (slice_get items index))
+ReturnsEach convert (Err refusal) call = RefusesAll call refusal
 
 -- a call tells how many items a list has, or the refusal that there is in its place
-abbrev pub TellsCount : {X : Type 0} → Result (List X) Refusal → Result (Option ℕ) Refusal → Type 0
-TellsCount (Ok items) answer = answer ≡ Ok (Some (length items))
-TellsCount (Err refusal) answer = answer ≡ Err refusal
+abbrev pub ReturnsCount : {X : Type 0} → Result (List X) Refusal → Result (Option ℕ) Refusal → Type 0
+ReturnsCount (Ok items) answer = answer ≡ Ok (Some (length items))
+ReturnsCount (Err refusal) answer = answer ≡ Err refusal
 
 -- the section headers of a file by index are the library's list, and the count is its length
 abbrev pub SectionsByIndex : Type 0
 SectionsByIndex =
     (bytes : List ℕ) (h : Header) (ctx : Ctx) → HasHeader bytes h → NamesContext h ctx
     → let sections = section_headers_of bytes h.e_shoff h.e_shnum ctx in
-    TellsEach section_converted sections (section_expected bytes (header_converted h))
-    × TellsCount sections (section_count_expected bytes (header_converted h))
+    ReturnsEach section_converted sections (section_expected bytes (header_converted h))
+    × ReturnsCount sections (section_count_expected bytes (header_converted h))
 
 -- its program headers by index are the library's list, and the count is its length
 abbrev pub SegmentsByIndex : Type 0
 SegmentsByIndex =
     (bytes : List ℕ) (h : Header) (ctx : Ctx) → HasHeader bytes h → NamesContext h ctx
     → let segments = program_headers_from bytes h.e_phoff h.e_phnum ctx in
-    TellsEach segment_converted segments (segment_expected bytes (header_converted h))
-    × TellsCount segments (segment_count_expected bytes (header_converted h))
+    ReturnsEach segment_converted segments (segment_expected bytes (header_converted h))
+    × ReturnsCount segments (segment_count_expected bytes (header_converted h))
 
 -- the symbols of the library's table in a range, of as many as lie in it whole
 abbrev pub symbols_in : List ℕ → GoblinRange → Ctx → Result (List Sym) Refusal
@@ -148,8 +148,8 @@ symbols_in bytes range ctx = do
 abbrev pub SymbolsByIndex : Type 0
 SymbolsByIndex =
     (bytes : List ℕ) (h : Header) (ctx : Ctx) (range : GoblinRange) → HasHeader bytes h → NamesContext h ctx
-    → TellsEach symbol_converted (symbols_in bytes range ctx) (symbol_expected bytes (header_converted h) range)
-    × TellsCount (symbols_in bytes range ctx) (symbol_count_expected bytes (header_converted h) range)
+    → ReturnsEach symbol_converted (symbols_in bytes range ctx) (symbol_expected bytes (header_converted h) range)
+    × ReturnsCount (symbols_in bytes range ctx) (symbol_count_expected bytes (header_converted h) range)
 
 -- the relocations of a range by index are the library's list, and the count is its length
 abbrev pub RelocsByIndex : Type 0
@@ -157,8 +157,8 @@ RelocsByIndex =
     (bytes : List ℕ) (h : Header) (ctx : Ctx) (range : GoblinRange) (is_rela : Bool)
     → HasHeader bytes h → NamesContext h ctx
     → let relocs = refuse_as refusal_of (relocs_of bytes range.offset range.size is_rela ctx (is_of_mips64el h)) in
-    TellsEach reloc_converted relocs (reloc_expected bytes (header_converted h) range is_rela)
-    × TellsCount relocs (reloc_count_expected bytes (header_converted h) range is_rela)
+    ReturnsEach reloc_converted relocs (reloc_expected bytes (header_converted h) range is_rela)
+    × ReturnsCount relocs (reloc_count_expected bytes (header_converted h) range is_rela)
 
 -- the items that are given from an index on, one at least, are those that a call tells there one by one, and none
 -- behind them; or the call tells none there, or the same refusal at each index

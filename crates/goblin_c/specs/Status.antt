@@ -41,10 +41,10 @@ converted_list listed (Err e) = Err (refusal_of e)
 
 -- What a call that finds `right` answers, and what it leaves where an item and a refusal stood: 0 and the item; 1 past
 -- the last item; or the kind of the refusal, and what is told of it. All else is as it was.
-abbrev pub Tells : {X : Type 0} → Result (Option X) Refusal → X → GoblinRefusal → ℕ → X → GoblinRefusal → Type 0
-Tells (Ok (Some x)) old was status new why = (status ≡ OK) × (new ≡ x) × (why ≡ was)
-Tells (Ok None) old was status new why = (status ≡ END) × (new ≡ old) × (why ≡ was)
-Tells (Err refusal) old was status new why =
+abbrev pub Stores : {X : Type 0} → Result (Option X) Refusal → X → GoblinRefusal → ℕ → X → GoblinRefusal → Type 0
+Stores (Ok (Some x)) old was status new why = (status ≡ OK) × (new ≡ x) × (why ≡ was)
+Stores (Ok None) old was status new why = (status ≡ END) × (new ≡ old) × (why ≡ was)
+Stores (Err refusal) old was status new why =
     (status ≡ (refusal_converted refusal).kind) × (new ≡ old) × (why ≡ refusal_converted refusal)
 
 -- What a call that fills room with the items from an index on answers, and what it leaves: where there are items, 0, as

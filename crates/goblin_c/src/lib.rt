@@ -8,7 +8,7 @@ ghost use Rattle.goblin_c.specs.Bytes.{number_expected, section_bytes_expected, 
 ghost use Rattle.goblin_c.specs.Laid.{laid};
 ghost use Rattle.goblin_c.specs.Layout.{layout};
 ghost use Rattle.goblin_c.specs.Notes.{note_expected};
-ghost use Rattle.goblin_c.specs.Status.{Fills, Tells};
+ghost use Rattle.goblin_c.specs.Status.{Fills, Stores};
 ghost use Rattle.goblin_c.specs.Texts.{converted_text};
 ghost use Rattle.goblin.specs.HeaderNames.{class_name, type_name as file_type_name};
 ghost use Rattle.goblin.specs.Machines.{machine_name};
@@ -42,9 +42,9 @@ use goblin::elf::section_header::{shf_to_str, sht_to_str};
 use goblin::elf::sym::{bind_to_str, type_to_str, visibility_to_str};
 use headers::{header_at, section_by_type, section_names, sections_of, segments_of, table_section};
 use layout::{GoblinLayout, marked_layout};
-use lists::{count_of, item_of, tell_from};
+use lists::{count_of, item_of, store_from};
 use notes::{note_from, note_type};
-use status::tell;
+use status::store;
 use strings::string_at;
 use tables::{relocs_of, section_by_name, symbol_by_address, symbol_by_name, symbols_of};
 use texts::write_refusal;
@@ -80,9 +80,9 @@ pub extern "C" fn goblin_header(
     header: &mut GoblinHeader,
     why: &mut GoblinRefusal,
 ) -> u32
-    ensures { Tells (header_expected bytes.now) header.old why.old result header.new why.new }
+    ensures { Stores (header_expected bytes.now) header.old why.old result header.new why.new }
 {
-    tell(header_at(bytes), header, why)
+    store(header_at(bytes), header, why)
 }
 
 /// How many section headers there are.
@@ -93,10 +93,10 @@ pub extern "C" fn goblin_section_count(
     count: &mut u64,
     why: &mut GoblinRefusal,
 ) -> u32
-    ensures { Tells (section_count_expected bytes.now header.now)
+    ensures { Stores (section_count_expected bytes.now header.now)
         count.old why.old result count.new why.new }
 {
-    tell(count_of(sections_of(bytes, header)), count, why)
+    store(count_of(sections_of(bytes, header)), count, why)
 }
 
 /// The section header at an index.
@@ -108,10 +108,10 @@ pub extern "C" fn goblin_section(
     section: &mut GoblinSection,
     why: &mut GoblinRefusal,
 ) -> u32
-    ensures { Tells (section_expected bytes.now header.now index)
+    ensures { Stores (section_expected bytes.now header.now index)
         section.old why.old result section.new why.new }
 {
-    tell(item_of(sections_of(bytes, header), index), section, why)
+    store(item_of(sections_of(bytes, header), index), section, why)
 }
 
 /// The program header at an index.
@@ -123,10 +123,10 @@ pub extern "C" fn goblin_segment(
     segment: &mut GoblinSegment,
     why: &mut GoblinRefusal,
 ) -> u32
-    ensures { Tells (segment_expected bytes.now header.now index)
+    ensures { Stores (segment_expected bytes.now header.now index)
         segment.old why.old result segment.new why.new }
 {
-    tell(item_of(segments_of(bytes, header), index), segment, why)
+    store(item_of(segments_of(bytes, header), index), segment, why)
 }
 
 /// The symbol at an index of the table that lies in a range.
@@ -139,11 +139,11 @@ pub extern "C" fn goblin_symbol(
     symbol: &mut GoblinSymbol,
     why: &mut GoblinRefusal,
 ) -> u32
-    ensures { Tells (symbol_expected bytes.now header.now table.now index)
+    ensures { Stores (symbol_expected bytes.now header.now table.now index)
         symbol.old why.old result symbol.new why.new }
 {
     let found = item_of(symbols_of(bytes, header, table), index);
-    tell(found, symbol, why)
+    store(found, symbol, why)
 }
 
 /// The relocation at an index of those that lie in a range, with addends or without.
@@ -157,11 +157,11 @@ pub extern "C" fn goblin_reloc(
     reloc: &mut GoblinReloc,
     why: &mut GoblinRefusal,
 ) -> u32
-    ensures { Tells (reloc_expected bytes.now header.now relocs.now is_rela index)
+    ensures { Stores (reloc_expected bytes.now header.now relocs.now is_rela index)
         reloc.old why.old result reloc.new why.new }
 {
     let found = item_of(relocs_of(bytes, header, relocs, is_rela), index);
-    tell(found, reloc, why)
+    store(found, reloc, why)
 }
 
 /// Where the string at an offset of a range of strings lies in the file.
@@ -173,10 +173,10 @@ pub extern "C" fn goblin_string(
     string: &mut GoblinRange,
     why: &mut GoblinRefusal,
 ) -> u32
-    ensures { Tells (string_expected bytes.now strings.now offset)
+    ensures { Stores (string_expected bytes.now strings.now offset)
         string.old why.old result string.new why.new }
 {
-    tell(string_at(bytes, strings, offset), string, why)
+    store(string_at(bytes, strings, offset), string, why)
 }
 
 /// The note at an offset of the file, among those of a range. The first one is at the range's start,
@@ -191,11 +191,11 @@ pub extern "C" fn goblin_note(
     note: &mut GoblinNote,
     why: &mut GoblinRefusal,
 ) -> u32
-    ensures { Tells (note_expected bytes.now header.now notes.now alignment offset)
+    ensures { Stores (note_expected bytes.now header.now notes.now alignment offset)
         note.old why.old result note.new why.new }
 {
     let found = note_from(bytes, header, notes, alignment, offset);
-    tell(found, note, why)
+    store(found, note, why)
 }
 
 /// The name of a class.
@@ -310,7 +310,7 @@ pub extern "C" fn goblin_sections(
     ensures { Fills (sections_from_expected bytes.now header.now first)
         sections.old filled.old why.old result sections.new filled.new why.new }
 {
-    tell_from(sections_of(bytes, header), first, sections, filled, why)
+    store_from(sections_of(bytes, header), first, sections, filled, why)
 }
 
 /// The symbols from an index on, as many as there is room for.
@@ -328,7 +328,7 @@ pub extern "C" fn goblin_symbols(
         symbols.old filled.old why.old result symbols.new filled.new why.new }
 {
     let list = symbols_of(bytes, header, table);
-    tell_from(list, first, symbols, filled, why)
+    store_from(list, first, symbols, filled, why)
 }
 
 /// The relocations from an index on, as many as there is room for.
@@ -347,7 +347,7 @@ pub extern "C" fn goblin_relocs(
         items.old filled.old why.old result items.new filled.new why.new }
 {
     let list = relocs_of(bytes, header, relocs, is_rela);
-    tell_from(list, first, items, filled, why)
+    store_from(list, first, items, filled, why)
 }
 
 /// The section at an index, where it is a table that something names by this index: not at index 0, and
@@ -360,10 +360,10 @@ pub extern "C" fn goblin_table(
     section: &mut GoblinSection,
     why: &mut GoblinRefusal,
 ) -> u32
-    ensures { Tells (table_expected bytes.now header.now index)
+    ensures { Stores (table_expected bytes.now header.now index)
         section.old why.old result section.new why.new }
 {
-    tell(table_section(bytes, header, index), section, why)
+    store(table_section(bytes, header, index), section, why)
 }
 
 /// The section that holds the sections' names, where it is such a table.
@@ -374,10 +374,10 @@ pub extern "C" fn goblin_section_names(
     section: &mut GoblinSection,
     why: &mut GoblinRefusal,
 ) -> u32
-    ensures { Tells (section_names_expected bytes.now header.now)
+    ensures { Stores (section_names_expected bytes.now header.now)
         section.old why.old result section.new why.new }
 {
-    tell(section_names(bytes, header), section, why)
+    store(section_names(bytes, header), section, why)
 }
 
 /// The index of the first section with a name.
@@ -390,10 +390,10 @@ pub extern "C" fn goblin_section_by_name(
     index: &mut u64,
     why: &mut GoblinRefusal,
 ) -> u32
-    ensures { Tells (section_by_name_expected bytes.now header.now names.now name.now)
+    ensures { Stores (section_by_name_expected bytes.now header.now names.now name.now)
         index.old why.old result index.new why.new }
 {
-    tell(section_by_name(bytes, header, names, name), index, why)
+    store(section_by_name(bytes, header, names, name), index, why)
 }
 
 /// The index of the first symbol with a name.
@@ -407,11 +407,11 @@ pub extern "C" fn goblin_symbol_by_name(
     index: &mut u64,
     why: &mut GoblinRefusal,
 ) -> u32
-    ensures { Tells (symbol_by_name_expected bytes.now header.now table.now names.now name.now)
+    ensures { Stores (symbol_by_name_expected bytes.now header.now table.now names.now name.now)
         index.old why.old result index.new why.new }
 {
     let found = symbol_by_name(bytes, header, table, names, name);
-    tell(found, index, why)
+    store(found, index, why)
 }
 
 /// How many program headers there are.
@@ -422,10 +422,10 @@ pub extern "C" fn goblin_segment_count(
     count: &mut u64,
     why: &mut GoblinRefusal,
 ) -> u32
-    ensures { Tells (segment_count_expected bytes.now header.now)
+    ensures { Stores (segment_count_expected bytes.now header.now)
         count.old why.old result count.new why.new }
 {
-    tell(count_of(segments_of(bytes, header)), count, why)
+    store(count_of(segments_of(bytes, header)), count, why)
 }
 
 /// How many symbols there are in a range, as many as lie in it whole.
@@ -437,10 +437,10 @@ pub extern "C" fn goblin_symbol_count(
     count: &mut u64,
     why: &mut GoblinRefusal,
 ) -> u32
-    ensures { Tells (symbol_count_expected bytes.now header.now table.now)
+    ensures { Stores (symbol_count_expected bytes.now header.now table.now)
         count.old why.old result count.new why.new }
 {
-    tell(count_of(symbols_of(bytes, header, table)), count, why)
+    store(count_of(symbols_of(bytes, header, table)), count, why)
 }
 
 /// How many relocations there are in a range, with addends or without.
@@ -453,11 +453,11 @@ pub extern "C" fn goblin_reloc_count(
     count: &mut u64,
     why: &mut GoblinRefusal,
 ) -> u32
-    ensures { Tells (reloc_count_expected bytes.now header.now relocs.now is_rela)
+    ensures { Stores (reloc_count_expected bytes.now header.now relocs.now is_rela)
         count.old why.old result count.new why.new }
 {
     let found = count_of(relocs_of(bytes, header, relocs, is_rela));
-    tell(found, count, why)
+    store(found, count, why)
 }
 
 /// The index of the first section of a type, from an index on.
@@ -470,10 +470,10 @@ pub extern "C" fn goblin_section_by_type(
     index: &mut u64,
     why: &mut GoblinRefusal,
 ) -> u32
-    ensures { Tells (section_by_type_expected bytes.now header.now sh_type first)
+    ensures { Stores (section_by_type_expected bytes.now header.now sh_type first)
         index.old why.old result index.new why.new }
 {
-    tell(section_by_type(bytes, header, sh_type, first), index, why)
+    store(section_by_type(bytes, header, sh_type, first), index, why)
 }
 
 /// Where the bytes of a section lie in the file.
@@ -484,10 +484,10 @@ pub extern "C" fn goblin_section_bytes(
     range: &mut GoblinRange,
     why: &mut GoblinRefusal,
 ) -> u32
-    ensures { Tells (section_bytes_expected bytes.now section.now)
+    ensures { Stores (section_bytes_expected bytes.now section.now)
         range.old why.old result range.new why.new }
 {
-    tell(section_bytes(bytes, section), range, why)
+    store(section_bytes(bytes, section), range, why)
 }
 
 /// Where the bytes of a segment lie in the file.
@@ -498,10 +498,10 @@ pub extern "C" fn goblin_segment_bytes(
     range: &mut GoblinRange,
     why: &mut GoblinRefusal,
 ) -> u32
-    ensures { Tells (segment_bytes_expected bytes.now segment.now)
+    ensures { Stores (segment_bytes_expected bytes.now segment.now)
         range.old why.old result range.new why.new }
 {
-    tell(segment_bytes(bytes, segment), range, why)
+    store(segment_bytes(bytes, segment), range, why)
 }
 
 /// Where the string at an offset of a range of strings lies in the file, text or not.
@@ -513,10 +513,10 @@ pub extern "C" fn goblin_string_bytes(
     string: &mut GoblinRange,
     why: &mut GoblinRefusal,
 ) -> u32
-    ensures { Tells (string_bytes_expected bytes.now strings.now offset)
+    ensures { Stores (string_bytes_expected bytes.now strings.now offset)
         string.old why.old result string.new why.new }
 {
-    tell(string_bytes(bytes, strings, offset), string, why)
+    store(string_bytes(bytes, strings, offset), string, why)
 }
 
 /// The number that 1, 2, 4 or 8 bytes at an offset stand for, in the file's order.
@@ -529,10 +529,10 @@ pub extern "C" fn goblin_number(
     value: &mut u64,
     why: &mut GoblinRefusal,
 ) -> u32
-    ensures { Tells (number_expected bytes.now header.now offset width)
+    ensures { Stores (number_expected bytes.now header.now offset width)
         value.old why.old result value.new why.new }
 {
-    tell(number(bytes, header, offset, width), value, why)
+    store(number(bytes, header, offset, width), value, why)
 }
 
 /// The index of the symbol that an address lies in.
@@ -545,8 +545,8 @@ pub extern "C" fn goblin_symbol_by_address(
     index: &mut u64,
     why: &mut GoblinRefusal,
 ) -> u32
-    ensures { Tells (symbol_by_address_expected bytes.now header.now table.now address)
+    ensures { Stores (symbol_by_address_expected bytes.now header.now table.now address)
         index.old why.old result index.new why.new }
 {
-    tell(symbol_by_address(bytes, header, table, address), index, why)
+    store(symbol_by_address(bytes, header, table, address), index, why)
 }

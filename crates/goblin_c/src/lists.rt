@@ -59,9 +59,9 @@ fn fill<L: Listed>(all: &L, first: usize, room: &mut [L::Converted]) -> usize
     count
 }
 
-/// Tells the items of a list from an index on: 0, as many as there is room for, and how many those
+/// Stores the items of a list from an index on: 0, as many as there is room for, and how many those
 /// are; 1; or the kind of a refusal, which is told.
-pub fn tell_from<L: Listed>(
+pub fn store_from<L: Listed>(
     list: Result<L>,
     first: u64,
     room: &mut [L::Converted],

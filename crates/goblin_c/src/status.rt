@@ -2,7 +2,7 @@
 ghost use Rattle.std.specs.Prelude.{◌≡◌};
 ghost use Rattle.goblin.specs.Refusal.{refusal_of};
 ghost use Rattle.goblin.specs.Steps.{refuse_as};
-ghost use Rattle.goblin_c.specs.Status.{item_number, refusal_converted, Tells};
+ghost use Rattle.goblin_c.specs.Status.{item_number, refusal_converted, Stores};
 
 use crate::kinds::{END, INVALID_UTF8, OK, PROGRAM_HEADERS, SECTION_HEADERS};
 use crate::types::GoblinRefusal;
@@ -35,7 +35,7 @@ fn converted(e: &Error) -> GoblinRefusal
     }
 }
 
-/// Tells a refusal, and answers its kind.
+/// Stores a refusal, and answers its kind.
 pub fn refuse(e: &Error, why: &mut GoblinRefusal) -> u32
     ensures written { why.new ≡ refusal_converted (refusal_of e.now) }
     ensures exact { result ≡ (refusal_converted (refusal_of e.now)).kind }
@@ -44,9 +44,9 @@ pub fn refuse(e: &Error, why: &mut GoblinRefusal) -> u32
     why.kind
 }
 
-/// Tells an answer: 0 and the item, 1, or the kind of a refusal, which is told.
-pub fn tell<T: Copy>(answer: Result<Option<T>>, place: &mut T, why: &mut GoblinRefusal) -> u32
-    ensures { Tells (refuse_as refusal_of answer) place.old why.old result place.new why.new }
+/// Stores an answer: 0 and the item, 1, or the kind of a refusal, which is told.
+pub fn store<T: Copy>(answer: Result<Option<T>>, place: &mut T, why: &mut GoblinRefusal) -> u32
+    ensures { Stores (refuse_as refusal_of answer) place.old why.old result place.new why.new }
 {
     match answer {
         Ok(Some(item)) => {
