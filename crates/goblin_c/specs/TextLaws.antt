@@ -25,24 +25,24 @@ use Rattle.goblin_c.specs.Answers.{count_of, each_converted, item_of, items_from
 use Rattle.goblin_c.specs.Bytes.{number_expected, section_bytes_expected, segment_bytes_expected, string_bytes_expected}
 use Rattle.goblin_c.specs.Notes.{note_expected}
 use Rattle.goblin_c.specs.Status.{refusal_converted}
-use Rattle.goblin_c.specs.Texts.{NamesKnown, TextIsKept, converted_text}
+use Rattle.goblin_c.specs.Texts.{NamesKnown, TextIsSame, converted_text}
 
-pub text-kept : TextIsKept
-text-kept refusal known = grind arith
+pub text-same : TextIsSame
+text-same refusal known = grind arith
 
 -- a refusal that is an answer keeps its text on its way through C
-abbrev pub KeepsText : {X : Type 0} → Result X Refusal → Type 0
-KeepsText (Ok x) = ⊤
-KeepsText (Err refusal) = converted_text (refusal_converted refusal) ≡ refusal_text refusal
+abbrev pub HasSameText : {X : Type 0} → Result X Refusal → Type 0
+HasSameText (Ok x) = ⊤
+HasSameText (Err refusal) = converted_text (refusal_converted refusal) ≡ refusal_text refusal
 
 -- an answer's refusal names no item, or one that has a number
 abbrev Known : {X : Type 0} → Result X Refusal → Type 0
 Known (Ok x) = ⊤
 Known (Err refusal) = NamesKnown refusal
 
-kept : {X : Type 0} (answer : Result X Refusal) → Known answer → KeepsText answer
-kept (Ok x) known = tt
-kept (Err refusal) known = text-kept refusal known
+same_text : {X : Type 0} (answer : Result X Refusal) → Known answer → HasSameText answer
+same_text (Ok x) known = tt
+same_text (Err refusal) known = text-same refusal known
 
 -- what the library refuses: a place without room, a header
 known_room : (len offset size : ℕ) → Known (refuse_as misplaced (room_of len offset size))
@@ -97,87 +97,87 @@ known_note bytes offset ctx = grind (arith, known_room)
 
 -- the items of a list for C, one, many or how many, are refused as the list is
 module _ {X Y : Type 0} (convert : X → Y) where
-  counted : (list : Result (List X) Refusal) → KeepsText list → KeepsText (count_of (each_converted convert list))
-  counted (Ok items) keeps = tt
-  counted (Err refusal) keeps = keeps
+  counted : (list : Result (List X) Refusal) → HasSameText list → HasSameText (count_of (each_converted convert list))
+  counted (Ok items) same = tt
+  counted (Err refusal) same = same
 
-  one : (list : Result (List X) Refusal) (index : ℕ) → KeepsText list → KeepsText (item_of (each_converted convert list) index)
-  one (Ok items) index keeps = tt
-  one (Err refusal) index keeps = keeps
+  one : (list : Result (List X) Refusal) (index : ℕ) → HasSameText list → HasSameText (item_of (each_converted convert list) index)
+  one (Ok items) index same = tt
+  one (Err refusal) index same = same
 
   many :
-      (list : Result (List X) Refusal) (first : ℕ) → KeepsText list → KeepsText (items_from (each_converted convert list) first)
-  many (Ok items) first keeps = grind arith
-  many (Err refusal) first keeps = keeps
+      (list : Result (List X) Refusal) (first : ℕ) → HasSameText list → HasSameText (items_from (each_converted convert list) first)
+  many (Ok items) first same = grind arith
+  many (Err refusal) first same = same
 
 -- so does every refusal of every call that is asked this
-pub record KeepTheirText
+pub record HaveSameText
     (bytes : List ℕ) (h : GoblinHeader) (range names : GoblinRange) (name : List ℕ) (is_rela : Bool)
     (index offset address alignment width sh_type : ℕ) (s : GoblinSection) (p : GoblinSegment) : Type 0 where
-  pub header : KeepsText (header_expected bytes)
-  pub section_count : KeepsText (section_count_expected bytes h)
-  pub section : KeepsText (section_expected bytes h index)
-  pub sections : KeepsText (sections_from_expected bytes h index)
-  pub section_names : KeepsText (section_names_expected bytes h)
-  pub table : KeepsText (table_expected bytes h index)
-  pub segment : KeepsText (segment_expected bytes h index)
-  pub symbol : KeepsText (symbol_expected bytes h range index)
-  pub symbols : KeepsText (symbols_from_expected bytes h range index)
-  pub reloc : KeepsText (reloc_expected bytes h range is_rela index)
-  pub relocs : KeepsText (relocs_from_expected bytes h range is_rela index)
-  pub string : KeepsText (string_expected bytes range offset)
-  pub note : KeepsText (note_expected bytes h range alignment offset)
-  pub section_by_name : KeepsText (section_by_name_expected bytes h names name)
-  pub symbol_by_name : KeepsText (symbol_by_name_expected bytes h range names name)
-  pub segment_count : KeepsText (segment_count_expected bytes h)
-  pub symbol_count : KeepsText (symbol_count_expected bytes h range)
-  pub reloc_count : KeepsText (reloc_count_expected bytes h range is_rela)
-  pub symbol_by_address : KeepsText (symbol_by_address_expected bytes h range address)
-  pub section_by_type : KeepsText (section_by_type_expected bytes h sh_type index)
-  pub section_bytes : KeepsText (section_bytes_expected bytes s)
-  pub segment_bytes : KeepsText (segment_bytes_expected bytes p)
-  pub string_bytes : KeepsText (string_bytes_expected bytes range offset)
-  pub number : KeepsText (number_expected bytes h offset width)
+  pub header : HasSameText (header_expected bytes)
+  pub section_count : HasSameText (section_count_expected bytes h)
+  pub section : HasSameText (section_expected bytes h index)
+  pub sections : HasSameText (sections_from_expected bytes h index)
+  pub section_names : HasSameText (section_names_expected bytes h)
+  pub table : HasSameText (table_expected bytes h index)
+  pub segment : HasSameText (segment_expected bytes h index)
+  pub symbol : HasSameText (symbol_expected bytes h range index)
+  pub symbols : HasSameText (symbols_from_expected bytes h range index)
+  pub reloc : HasSameText (reloc_expected bytes h range is_rela index)
+  pub relocs : HasSameText (relocs_from_expected bytes h range is_rela index)
+  pub string : HasSameText (string_expected bytes range offset)
+  pub note : HasSameText (note_expected bytes h range alignment offset)
+  pub section_by_name : HasSameText (section_by_name_expected bytes h names name)
+  pub symbol_by_name : HasSameText (symbol_by_name_expected bytes h range names name)
+  pub segment_count : HasSameText (segment_count_expected bytes h)
+  pub symbol_count : HasSameText (symbol_count_expected bytes h range)
+  pub reloc_count : HasSameText (reloc_count_expected bytes h range is_rela)
+  pub symbol_by_address : HasSameText (symbol_by_address_expected bytes h range address)
+  pub section_by_type : HasSameText (section_by_type_expected bytes h sh_type index)
+  pub section_bytes : HasSameText (section_bytes_expected bytes s)
+  pub segment_bytes : HasSameText (segment_bytes_expected bytes p)
+  pub string_bytes : HasSameText (string_bytes_expected bytes range offset)
+  pub number : HasSameText (number_expected bytes h offset width)
 
 -- so does every refusal of every call
-abbrev pub RefusalsKeepTheirText : Type 0
-RefusalsKeepTheirText =
+abbrev pub RefusalsHaveSameText : Type 0
+RefusalsHaveSameText =
     (bytes : List ℕ) (h : GoblinHeader) (range names : GoblinRange) (name : List ℕ) (is_rela : Bool)
     (index offset address alignment width sh_type : ℕ) (s : GoblinSection) (p : GoblinSegment)
-    → KeepTheirText bytes h range names name is_rela index offset address alignment width sh_type s p
+    → HaveSameText bytes h range names name is_rela index offset address alignment width sh_type s p
 
-pub refusals_keep_their_text : RefusalsKeepTheirText
-refusals_keep_their_text bytes h range names name is_rela index offset address alignment width sh_type s p =
+pub refusals_have_same_text : RefusalsHaveSameText
+refusals_have_same_text bytes h range names name is_rela index offset address alignment width sh_type s p =
     let sections = known_sections bytes h in
-    let segments = kept (segments_expected bytes h) (known_segments bytes h) in
+    let segments = same_text (segments_expected bytes h) (known_segments bytes h) in
     let symbols = known_symbols bytes h range in
-    let relocs = kept (relocs_expected bytes h range is_rela) (known_relocs bytes h range is_rela) in
+    let relocs = same_text (relocs_expected bytes h range is_rela) (known_relocs bytes h range is_rela) in
     let strings = known_strings bytes names in
-    let keep_sections = kept (sections_expected bytes h) sections in
-    let keep_symbols = kept (symbols_expected bytes h range) symbols in
+    let same_sections = same_text (sections_expected bytes h) sections in
+    let same_symbols = same_text (symbols_expected bytes h range) symbols in
     record {
-      header = kept (header_expected bytes) (grind (arith, known_header bytes));
-      section_count = counted section_converted (sections_expected bytes h) keep_sections;
-      section = one section_converted (sections_expected bytes h) index keep_sections;
-      sections = many section_converted (sections_expected bytes h) index keep_sections;
-      section_names = kept (section_names_expected bytes h) (grind (arith, sections));
-      table = kept (table_expected bytes h index) (grind (arith, sections));
+      header = same_text (header_expected bytes) (grind (arith, known_header bytes));
+      section_count = counted section_converted (sections_expected bytes h) same_sections;
+      section = one section_converted (sections_expected bytes h) index same_sections;
+      sections = many section_converted (sections_expected bytes h) index same_sections;
+      section_names = same_text (section_names_expected bytes h) (grind (arith, sections));
+      table = same_text (table_expected bytes h index) (grind (arith, sections));
       segment = one segment_converted (segments_expected bytes h) index segments;
-      symbol = one symbol_converted (symbols_expected bytes h range) index keep_symbols;
-      symbols = many symbol_converted (symbols_expected bytes h range) index keep_symbols;
+      symbol = one symbol_converted (symbols_expected bytes h range) index same_symbols;
+      symbols = many symbol_converted (symbols_expected bytes h range) index same_symbols;
       reloc = one reloc_converted (relocs_expected bytes h range is_rela) index relocs;
       relocs = many reloc_converted (relocs_expected bytes h range is_rela) index relocs;
-      string = kept (string_expected bytes range offset) (known_string bytes range offset);
-      note = kept (note_expected bytes h range alignment offset) (grind (arith, known_note bytes offset (alignment, ctx_of h)));
-      section_by_name = kept (section_by_name_expected bytes h names name) (grind (arith, sections, strings));
-      symbol_by_name = kept (symbol_by_name_expected bytes h range names name) (grind (arith, symbols, strings));
+      string = same_text (string_expected bytes range offset) (known_string bytes range offset);
+      note = same_text (note_expected bytes h range alignment offset) (grind (arith, known_note bytes offset (alignment, ctx_of h)));
+      section_by_name = same_text (section_by_name_expected bytes h names name) (grind (arith, sections, strings));
+      symbol_by_name = same_text (symbol_by_name_expected bytes h range names name) (grind (arith, symbols, strings));
       segment_count = counted segment_converted (segments_expected bytes h) segments;
-      symbol_count = counted symbol_converted (symbols_expected bytes h range) keep_symbols;
+      symbol_count = counted symbol_converted (symbols_expected bytes h range) same_symbols;
       reloc_count = counted reloc_converted (relocs_expected bytes h range is_rela) relocs;
-      symbol_by_address = kept (symbol_by_address_expected bytes h range address) (grind (arith, symbols));
-      section_by_type = kept (section_by_type_expected bytes h sh_type index) (grind (arith, sections));
-      section_bytes = kept (section_bytes_expected bytes s) (grind (arith, known_room));
-      segment_bytes = kept (segment_bytes_expected bytes p) (grind (arith, known_room));
-      string_bytes = kept (string_bytes_expected bytes range offset) (known_string_bytes bytes range offset);
-      number = kept (number_expected bytes h offset width) (grind (arith, known_room));
+      symbol_by_address = same_text (symbol_by_address_expected bytes h range address) (grind (arith, symbols));
+      section_by_type = same_text (section_by_type_expected bytes h sh_type index) (grind (arith, sections));
+      section_bytes = same_text (section_bytes_expected bytes s) (grind (arith, known_room));
+      segment_bytes = same_text (segment_bytes_expected bytes p) (grind (arith, known_room));
+      string_bytes = same_text (string_bytes_expected bytes range offset) (known_string_bytes bytes range offset);
+      number = same_text (number_expected bytes h offset width) (grind (arith, known_room));
     }

@@ -45,5 +45,5 @@ NamesKnown (bad_offset offset) = ⊤
 NamesKnown out_of_memory = ⊤
 
 -- a refusal converted for C has the text of the refusal
-abbrev pub TextIsKept : Type 0
-TextIsKept = (refusal : Refusal) → NamesKnown refusal → converted_text (refusal_converted refusal) ≡ refusal_text refusal
+abbrev pub TextIsSame : Type 0
+TextIsSame = (refusal : Refusal) → NamesKnown refusal → converted_text (refusal_converted refusal) ≡ refusal_text refusal

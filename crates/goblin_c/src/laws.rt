@@ -1,5 +1,5 @@
 //! Laws of the calls: what they tell one by one is what the library has at once.
-ghost use Rattle.goblin_c.specs.TextLaws.{RefusalsKeepTheirText};
+ghost use Rattle.goblin_c.specs.TextLaws.{RefusalsHaveSameText};
 ghost use Rattle.goblin_c.specs.Laws.{NotesAreItems, NotesInARow, NotesLieInFile, ContextIsTheHeaders, SectionsByIndex, SegmentsByIndex, SymbolsByIndex, RelocsByIndex, FilledByIndex, RoomIsFilled, NamesByIndex, StringsAreThere, StringsLieInFile, SectionsByName, SymbolsByName, SectionsByType, BytesLieInFile, StringsAreBytes, TablesByIndex, KindsAreAnswers};
 
 /// Laws: who calls `goblin_note` at a range's start and then at each `next` gets the notes that the
@@ -15,7 +15,7 @@ pub fn notes()
 /// Law: for each refusal that a call leaves, `goblin_refusal_text` writes the text that the library's
 /// own error prints.
 pub fn texts()
-    ensures { RefusalsKeepTheirText }
+    ensures { RefusalsHaveSameText }
 {}
 
 /// Law: what a call answers tells an item from the end and from a refusal: the kind of a refusal is

@@ -3,7 +3,7 @@ ghost use Rattle.std.specs.Prelude.{◌≡◌, ◌+◌, ◌≤◌, ◌<◌, ◌^
 ghost use Rattle.std.specs.Fmt.{digit_glyph, digits};
 ghost use Rattle.goblin_base.specs.Texts.{facts_of, is_short, facts_text, part_text, word_of};
 ghost use Rattle.goblin_c.specs.Laid.{laid};
-ghost use Rattle.goblin_c.specs.Texts.{converted_text, facts_from, item_text, TextIsKept};
+ghost use Rattle.goblin_c.specs.Texts.{converted_text, facts_from, item_text, TextIsSame};
 
 use crate::kinds;
 use crate::types::GoblinRefusal;
@@ -150,5 +150,5 @@ pub fn write_refusal(why: &GoblinRefusal, text: &mut [u8]) -> u64
 
 /// Law: a refusal converted for C has the text of the refusal.
 pub fn laws()
-    ensures { TextIsKept }
+    ensures { TextIsSame }
 {}

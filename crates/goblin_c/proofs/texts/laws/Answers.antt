@@ -1,5 +1,5 @@
-use Rattle.goblin_c.specs.TextLaws.{text-kept}
+use Rattle.goblin_c.specs.TextLaws.{text-same}
 use Rattle.goblin_c.proofs.texts.laws.Goals as goal
 
 pub returns : goal.returns
-returns c = text-kept
+returns c = text-same

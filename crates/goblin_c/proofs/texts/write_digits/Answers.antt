@@ -15,9 +15,9 @@ pub loop-i-preserved : goal.loop-i-preserved
 loop-i-preserved c =
     let l = c.loop-i in
     let a = c.args in
-    let kept = length-set l.buffer (l.i - 1) c.digit.result ∙ l.invariant.1 in
+    let unchanged = length-set l.buffer (l.i - 1) c.digit.result ∙ l.invariant.1 in
     let written = ap (digits_onto (l.i - 1) a.base false (l.rest / a.base)) (drop-set-before l.buffer l.i _ _ c.loop-i-test.true (omega arith) c.digit.ensures) in
-    (omega arith, kept, written ∙ sym (digits_onto_step a.base false l.rest (drop l.i l.buffer) l.i c.loop-i-test.true c.if-rest-eq0.false) ∙ l.invariant.2)
+    (omega arith, unchanged, written ∙ sym (digits_onto_step a.base false l.rest (drop l.i l.buffer) l.i c.loop-i-test.true c.if-rest-eq0.false) ∙ l.invariant.2)
 
 pub returns-then-rest-eq0 : goal.returns-then-rest-eq0
 returns-then-rest-eq0 c =
