@@ -8,7 +8,7 @@ use Rattle.std.proofs.lemmas.Slice.{take-put_mid}
 use borrow.Rule.Slice.PartMut.{put_mid}
 use Rattle.goblin.proofs.Positions.{some-within}
 use Rattle.goblin_c.specs.Laid.{laid}
-use Rattle.goblin_c.specs.Laws.{IsFilled, RoomIsFilled}
+use Rattle.goblin_c.specs.Laws.{IsFilled, BufferIsFilled}
 
 -- one item more
 pub laid-more : {X : Type 0} (xs old : List X) (x : X) → length xs < length old → set (laid xs old) (length xs) x ≡ laid (xs ++ x ∷ []) old
@@ -61,10 +61,10 @@ laid-nowhere [] = refl
 laid-nowhere (x ∷ xs) = refl
 
 -- what is cut behind as much as was cut before
-pub laid-behind : {X : Type 0} (xs ys old : List X) → take (length xs) (laid xs old) ++ laid ys (drop (length xs) (laid xs old)) ≡ laid (xs ++ ys) old
-laid-behind [] ys old = refl
-laid-behind (x ∷ xs) ys [] = laid-nowhere ys
-laid-behind (x ∷ xs) ys (o ∷ os) = ap (λ rest. x ∷ rest) (laid-behind xs ys os)
+pub laid-appended : {X : Type 0} (xs ys old : List X) → take (length xs) (laid xs old) ++ laid ys (drop (length xs) (laid xs old)) ≡ laid (xs ++ ys) old
+laid-appended [] ys old = refl
+laid-appended (x ∷ xs) ys [] = laid-nowhere ys
+laid-appended (x ∷ xs) ys (o ∷ os) = ap (λ rest. x ∷ rest) (laid-appended xs ys os)
 
 -- nothing is written behind the room's end
 pub laid-past : {X : Type 0} (n : ℕ) (xs old : List X) → length old ≤ n → take n old ++ laid xs (drop n old) ≡ old
@@ -101,7 +101,7 @@ laid-after (x ∷ items) (o ∷ old) (suc k) h = laid-after items old k (omega a
 is_filled : {X : Type 0} (items old : List X) → IsFilled items old (laid items old)
 is_filled items old = (laid-length items old, laid-before items old, laid-after items old)
 
-pub room_is_filled : RoomIsFilled
-room_is_filled = record { bytes = is_filled; sections = is_filled; symbols = is_filled; relocs = is_filled }
+pub buffer_is_filled : BufferIsFilled
+buffer_is_filled = record { bytes = is_filled; sections = is_filled; symbols = is_filled; relocs = is_filled }
 
 pub ruleset laid_steps = (laid-enough, laid-step, laid-into, laid-past)

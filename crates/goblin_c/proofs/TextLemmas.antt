@@ -5,7 +5,7 @@ use Rattle.goblin_base.specs.declared.texts.Part.{Part}
 use Rattle.goblin_base.specs.Texts.{are_short, each_short, is_short}
 use Rattle.goblin_c.specs.Laid.{laid}
 use Rattle.goblin_c.specs.Laws.{KindsAreAnswers}
-use Rattle.goblin_c.proofs.LaidLemmas.{laid-behind}
+use Rattle.goblin_c.proofs.LaidLemmas.{laid-appended}
 
 short_at : (parts : List Part) (i : ℕ) (d : Part) → IsTrue (each_short parts) → i < length parts → IsTrue (is_short (get_or parts i d))
 short_at [] i d short h = absurd (omega arith)
@@ -21,7 +21,7 @@ short_parts parts short =
 -- the step of a loop that writes parts
 pub laid-part : (text more part old now new : List ℕ) (len : ℕ) → more ≡ text ++ part → now ≡ laid text old → len ≡ length text → new ≡ take len now ++ laid part (drop len now) → new ≡ laid more old
 laid-part text more part old now new len is was long step =
-    step ∙ (λ j. take (long j) (was j) ++ laid part (drop (long j) (was j))) ∙ laid-behind text part old ∙ ap (λ xs. laid xs old) (sym is)
+    step ∙ (λ j. take (long j) (was j) ++ laid part (drop (long j) (was j))) ∙ laid-appended text part old ∙ ap (λ xs. laid xs old) (sym is)
 
 pub long-part : (text more part : List ℕ) (n len : ℕ) → more ≡ text ++ part → len ≡ length text → n ≡ len + length part → n ≡ length more
 long-part text more part n len is long sum = omega (arith, ap length is, length-append text part)

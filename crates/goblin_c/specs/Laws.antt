@@ -189,7 +189,7 @@ IsFilled items old new =
     × ((k : ℕ) → filled ≤ k → slice_get new k ≡ slice_get old k)
 
 -- so is the room that calls fill with bytes, sections, symbols and relocations
-pub record RoomIsFilled : Type 0 where
+pub record BufferIsFilled : Type 0 where
   pub bytes : (text old : List ℕ) → IsFilled text old (laid text old)
   pub sections : (sections old : List GoblinSection) → IsFilled sections old (laid sections old)
   pub symbols : (symbols old : List GoblinSymbol) → IsFilled symbols old (laid symbols old)

@@ -1,6 +1,6 @@
 //! Laws of the calls: what they tell one by one is what the library has at once.
 ghost use Rattle.goblin_c.specs.TextLaws.{RefusalsHaveSameText};
-ghost use Rattle.goblin_c.specs.Laws.{NotesAreItems, NotesInARow, NotesLieInFile, ContextIsTheHeaders, SectionsByIndex, SegmentsByIndex, SymbolsByIndex, RelocsByIndex, FilledByIndex, RoomIsFilled, NamesByIndex, StringsAreThere, StringsLieInFile, SectionsByName, SymbolsByName, SectionsByType, BytesLieInFile, StringsAreBytes, TablesByIndex, KindsAreAnswers};
+ghost use Rattle.goblin_c.specs.Laws.{NotesAreItems, NotesInARow, NotesLieInFile, ContextIsTheHeaders, SectionsByIndex, SegmentsByIndex, SymbolsByIndex, RelocsByIndex, FilledByIndex, BufferIsFilled, NamesByIndex, StringsAreThere, StringsLieInFile, SectionsByName, SymbolsByName, SectionsByType, BytesLieInFile, StringsAreBytes, TablesByIndex, KindsAreAnswers};
 
 /// Laws: who calls `goblin_note` at a range's start and then at each `next` gets the notes that the
 /// library's iterator over the range gives, in its order and no other, up to the end or the first
@@ -52,9 +52,9 @@ pub fn names()
 /// Laws: `goblin_sections`, `goblin_symbols` and `goblin_relocs` give from each index on what the calls
 /// for one item tell there, one after another, and one at least before the end. As many as there is
 /// room for stand in the room, and behind them it holds what it held; so it is with each text.
-pub fn rooms()
+pub fn buffers()
     ensures items { FilledByIndex }
-    ensures held { RoomIsFilled }
+    ensures held { BufferIsFilled }
 {}
 
 /// Laws: the bytes at the place that `goblin_string` tells are the string that the library reads there,

@@ -44,13 +44,13 @@ pub fn item_of<L: Listed>(list: Result<L>, index: u64) -> Result<Option<L::Conve
 
 // Fills room with the items from an index on, and answers how many there was room for.
 #[tactic(auto, using(crate::proofs::LaidLemmas::laid_steps))]
-fn fill<L: Listed>(all: &L, first: usize, room: &mut [L::Converted]) -> usize
+fn fill<L: Listed>(all: &L, first: usize, buffer: &mut [L::Converted]) -> usize
     requires { first < length (L.listed all.now) }
-    ensures filled { room.new ≡ laid (drop first (L.listed all.now)) room.old }
-    ensures count { result ≡ min (length (L.listed all.now) - first) (length room.old) }
+    ensures filled { buffer.new ≡ laid (drop first (L.listed all.now)) buffer.old }
+    ensures count { result ≡ min (length (L.listed all.now) - first) (length buffer.old) }
 {
-    let count = room.len().min(all.count() - first);
-    for (i, place) in room.iter_mut().enumerate() {
+    let count = buffer.len().min(all.count() - first);
+    for (i, place) in buffer.iter_mut().enumerate() {
         match all.converted(first + i) {
             Some(item) => *place = item,
             None => break,
@@ -64,19 +64,19 @@ fn fill<L: Listed>(all: &L, first: usize, room: &mut [L::Converted]) -> usize
 pub fn store_from<L: Listed>(
     list: Result<L>,
     first: u64,
-    room: &mut [L::Converted],
+    buffer: &mut [L::Converted],
     filled: &mut u64,
     why: &mut GoblinRefusal,
 ) -> u32
     ensures { Fills (items_from (converted_list L.listed list) first)
-        room.old filled.old why.old result room.new filled.new why.new }
+        buffer.old filled.old why.old result buffer.new filled.new why.new }
 {
     match list {
         Ok(all) => {
             if first >= all.count() as u64 {
                 return END;
             }
-            *filled = fill(&all, first as usize, room) as u64;
+            *filled = fill(&all, first as usize, buffer) as u64;
             OK
         }
         Err(e) => refuse(&e, why),

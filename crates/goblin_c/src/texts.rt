@@ -12,13 +12,13 @@ use goblin_base::texts::{Kind, Part, Report};
 
 // Writes as much as there is room for behind the bytes so far, and answers how many they are then.
 #[tactic(auto, using(crate::proofs::LaidLemmas::laid_steps))]
-fn write_behind(text: &[u8], len: u64, room: &mut [u8]) -> u64
+fn write_after(text: &[u8], len: u64, buffer: &mut [u8]) -> u64
     requires { len + length text.now < 2 ^ 64 }
-    ensures written { room.new ≡ take len room.old ++ laid text.now (drop len room.old) }
+    ensures written { buffer.new ≡ take len buffer.old ++ laid text.now (drop len buffer.old) }
     ensures whole { result ≡ len + length text.now }
 {
-    if len < room.len() as u64 {
-        write_bytes(text, &mut room[len as usize..]);
+    if len < buffer.len() as u64 {
+        write_bytes(text, &mut buffer[len as usize..]);
     }
     len + text.len() as u64
 }
@@ -55,16 +55,16 @@ fn write_digits(n: u64, base: u64, buffer: &mut [u8; 64]) -> usize
 }
 
 // Writes a number behind the bytes so far, and answers how many they are then.
-fn write_number(n: u64, base: u64, len: u64, room: &mut [u8]) -> u64
+fn write_number(n: u64, base: u64, len: u64, buffer: &mut [u8]) -> u64
     requires base { (2 ≤ base) × (base ≤ 16) }
     requires few { len ≤ 1000000 }
-    ensures written { room.new ≡ take len room.old ++ laid (digits base false n) (drop len room.old) }
+    ensures written { buffer.new ≡ take len buffer.old ++ laid (digits base false n) (drop len buffer.old) }
     ensures whole { result ≡ len + length (digits base false n) }
     ensures near { result ≤ len + 64 }
 {
-    let mut buffer = [0; 64];
-    let start = write_digits(n, base, &mut buffer);
-    write_behind(&buffer[start..], len, room)
+    let mut spelled = [0; 64];
+    let start = write_digits(n, base, &mut spelled);
+    write_after(&spelled[start..], len, buffer)
 }
 
 // Returns a truth value as a word.
@@ -89,35 +89,35 @@ fn item_of(item: u32) -> &'static str
 }
 
 // Writes a part after the bytes so far. Returns how many bytes there are then.
-fn write_part(report: &Report, part: &Part, len: u64, room: &mut [u8]) -> u64
+fn write_part(report: &Report, part: &Part, len: u64, buffer: &mut [u8]) -> u64
     requires short { IsTrue (is_short part.now) }
     requires item { length report.now.item.now ≤ 15 }
     requires few { len ≤ 1000000 }
-    ensures written { room.new ≡ take len room.old ++ laid (part_text (facts_of report.now) part.now) (drop len room.old) }
+    ensures written { buffer.new ≡ take len buffer.old ++ laid (part_text (facts_of report.now) part.now) (drop len buffer.old) }
     ensures whole { result ≡ len + length (part_text (facts_of report.now) part.now) }
     ensures near { result ≤ len + 100 }
 {
     match part {
-        Part::Text(text) => write_behind(text.as_bytes(), len, room),
-        Part::First => write_number(report.first, 10, len, room),
-        Part::Second => write_number(report.second, 10, len, room),
-        Part::Third => write_number(report.third, 10, len, room),
-        Part::Hexadecimal => write_number(report.first, 16, len, room),
-        Part::Item => write_behind(report.item.as_bytes(), len, room),
-        Part::Overflow => write_behind(word_of(report.overflow).as_bytes(), len, room),
+        Part::Text(text) => write_after(text.as_bytes(), len, buffer),
+        Part::First => write_number(report.first, 10, len, buffer),
+        Part::Second => write_number(report.second, 10, len, buffer),
+        Part::Third => write_number(report.third, 10, len, buffer),
+        Part::Hexadecimal => write_number(report.first, 16, len, buffer),
+        Part::Item => write_after(report.item.as_bytes(), len, buffer),
+        Part::Overflow => write_after(word_of(report.overflow).as_bytes(), len, buffer),
     }
 }
 
 // Writes as much of the text of an error as the buffer holds. Returns the length of the whole text.
-fn write_report(report: &Report, room: &mut [u8]) -> u64
+fn write_report(report: &Report, buffer: &mut [u8]) -> u64
     requires item { length report.now.item.now ≤ 15 }
-    ensures written { room.new ≡ laid (facts_text (facts_of report.now)) room.old }
+    ensures written { buffer.new ≡ laid (facts_text (facts_of report.now)) buffer.old }
     ensures whole { result ≡ length (facts_text (facts_of report.now)) }
 {
-    let mut len = write_behind(report.kind.prefix().as_bytes(), 0, room);
+    let mut len = write_after(report.kind.prefix().as_bytes(), 0, buffer);
     let parts = report.kind.parts();
     for part in parts {
-        len = write_part(report, part, len, room);
+        len = write_part(report, part, len, buffer);
     }
     len
 }

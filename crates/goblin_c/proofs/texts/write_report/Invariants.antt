@@ -6,4 +6,4 @@ use Rattle.goblin_c.proofs.texts.write_report.Given as goal
 abbrev pub invariant-loop-part : goal.invariant-loop-part
 invariant-loop-part l =
     let text = prefix l.report.kind ++ joined (facts_of l.report) (take l.part-index l.parts) in
-    (l.room ≡ laid text l.fn.room) × (l.len ≡ length text) × (l.len ≤ 100 + l.part-index * 100)
+    (l.buffer ≡ laid text l.fn.buffer) × (l.len ≡ length text) × (l.len ≤ 100 + l.part-index * 100)
