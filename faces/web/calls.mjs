@@ -1,6 +1,6 @@
-// Whether the calls of goblin.js take and return what its comments say: calls.mjs FOLDER FILE.. tries them over these files, whole,
-// cut and damaged. A list is refused where it is made, or has each item however one goes over it. And whether its constants are the
-// library's, and its package and its types hold what it exports.
+// Tests the calls of goblin.js against its comments: calls.mjs FOLDER FILE..
+// The files are read whole, cut and damaged. The call that makes a list must throw, or each way to iterate over the list must have all items.
+// It also tests that the constants are the library's, and that the package and the declarations have all that goblin.js exports.
 import assert from 'node:assert/strict';
 import { existsSync, readdirSync, readFileSync } from 'node:fs';
 import { join, resolve } from 'node:path';
@@ -12,8 +12,8 @@ const [, , web, ...paths] = process.argv;
 const goblin = await import(pathToFileURL(resolve(web, 'goblin.js')));
 const { Elf, GoblinError, Kind } = goblin;
 const files = paths.map((path) => readFileSync(path));
-const own = files.at(-1); // (a program of this machine, with relocations and both tables of symbols)
-// A file with two notes, in a section and in a segment, and what they say.
+const own = files.at(-1); // (a program for this machine, with relocations and both symbol tables)
+// Two notes, and a file that has them in a section and in a segment.
 const NOTES = [['GNU', 3, 'abcd'], ['goblin', 0x1234, 'hello']];
 const note_bytes = Buffer.concat(NOTES.map(([name, type, desc]) => note(name, type, Buffer.from(desc))));
 const noted = elf_file({ sections: [{ name: '.note', type: 7, bytes: note_bytes }], segments: [{ type: 4, bytes: note_bytes }] });
@@ -33,7 +33,7 @@ async function check_missing_memories() {
     WebAssembly.validate = validate;
 }
 
-// ---- what a file is given as ----
+// ---- types of bytes ----
 
 function check_bytes() {
     const length = own.length + 8 - own.length % 8, whole = new ArrayBuffer(length + 16), shared = new SharedArrayBuffer(length);
@@ -68,7 +68,7 @@ function check_bytes() {
 
 // ---- lists ----
 
-// The items that a way of going over a list gives.
+// Ways to iterate over a list: each returns the items.
 const WAYS = {
     spread: (list) => [...list],
     destructuring: (list) => { const [...items] = list; return items; },
@@ -107,7 +107,7 @@ const WAYS_OF_LISTS = {
     toJSON: (list) => list.toJSON(),
 };
 
-// Whether each way gives these items.
+// Asserts that each way returns these items.
 function has_each(list, items, what) {
     const ways = Object.entries(list instanceof goblin.List ? { ...WAYS, ...WAYS_OF_LISTS } : WAYS);
     for (const [name, way] of ways) assert.deepEqual(way(list), items, `${what}, by ${name}`);
@@ -119,14 +119,14 @@ function has_each(list, items, what) {
     assert.equal(JSON.stringify(list), JSON.stringify(items), what);
 }
 
-// The items that a call reads by their indices.
+// Returns the items that a call reads by their indices.
 function each(by_index) {
     const items = [];
     for (let item; (item = by_index(items.length)) !== undefined;) items.push(item);
     return items;
 }
 
-// Lists that a file has: what each is, the call that makes it of a file, how many of the file's first bytes that needs, and its items.
+// Returns the lists of a file: a title, the call that makes the list, how many bytes from the start of the file it needs, and the items.
 function lists_of(whole) {
     const { e_phoff, e_phnum, e_shoff, e_shnum } = whole.header, [of_segment, of_section] = whole.is_64() ? [56n, 64n] : [32n, 40n];
     const segments = each((i) => whole.program_header(i)), sections = each((i) => whole.section_header(i));
@@ -158,7 +158,7 @@ function lists_of(whole) {
     for (const section of of_relocs) made.push(['relocations', (elf) => elf.relocs(section), end(section), items_of(section)]);
     made.push(['sections of relocations', (elf) => pairs(elf.shdr_relocs()), latest(of_sections, ...of_relocs.map(end)),
         of_relocs.map((section) => [section, items_of(section)])]);
-    // (what fills the last descriptor up to the alignment isn't needed)
+    // (the padding of the last descriptor isn't needed)
     const end_of_notes = (notes) => latest(...notes.map(({ desc_range: { offset, size } }) => offset + size));
     const section_notes = [], segment_notes = [];
     for (const section of of_type(goblin.SHT_NOTE)) {
@@ -176,7 +176,7 @@ function lists_of(whole) {
     return made;
 }
 
-// Of each file, cut to each length or to some, each list is refused where it is made, or has each item.
+// Tests the lists of each file, cut to all lengths or to some: the call that makes a list throws, or the list has all items.
 function check_lists() {
     let refused = 0, made = 0;
     for (const content of files) {
@@ -202,7 +202,7 @@ function check_lists() {
     return `${made} lists that have each item, ${refused} that are refused where they are made`;
 }
 
-// A copy of a file in which the bytes of a section start at its last byte.
+// Returns a copy of a file in which the bytes of a section start at the file's last byte.
 function with_moved(content, elf, index) {
     const copy = Buffer.from(content), view = new DataView(copy.buffer, copy.byteOffset), at = Number(elf.header.e_shoff);
     if (elf.is_64()) view.setBigUint64(at + 64 * index + 24, BigInt(content.length - 1), elf.little_endian());
@@ -210,7 +210,7 @@ function with_moved(content, elf, index) {
     return copy;
 }
 
-// Where one section of several passes the file's end, its list is refused, and each that has it as a part; lists of others are not.
+// If one section of several ends past the end of the file, its list throws, and so does each list that includes it. Others do not.
 function check_moved_sections() {
     const calls = {
         2: [(elf, section) => elf.symtab(section), (elf) => elf.syms()], 11: [(elf, section) => elf.symtab(section), (elf) => elf.dynsyms()],
@@ -266,7 +266,7 @@ function check_notes() {
         assert.deepEqual(elf[readable](holder, 1), { notes: notes.slice(0, 1), refusal: undefined });
         notes.forEach(({ name_range }, before) => {
             const copy = Buffer.from(noted);
-            copy[Number(name_range.offset)] = 0xff; // (which starts no text)
+            copy[Number(name_range.offset)] = 0xff; // (which is not UTF-8)
             const damaged = Elf.parse(copy), found = damaged[readable](holder);
             assert.deepEqual([said(found.notes), found.refusal.kind], [NOTES.slice(0, before), Kind.BAD_INPUT]);
             assert.throws(() => damaged[of_one](holder), is_refusal(Kind.BAD_INPUT));
@@ -279,14 +279,14 @@ function check_notes() {
 
 // ---- items and JSON ----
 
-// An item as JSON has it, by the type of each of its fields.
+// Returns an item as JSON has it, by the type of each of its fields.
 const as_json = (item) => Object.fromEntries(Object.entries(item).filter(([, value]) => value !== undefined).map(([name, value]) => {
     if (typeof value === 'bigint') return [name, value.toString()];
     if (value instanceof Uint8Array) return [name, Buffer.from(value).toString('hex')];
     return [name, typeof value === 'object' ? as_json(value) : value];
 }));
 
-// One of each item of a file of this machine, by the name of its type.
+// Returns one item of each type, by the name of its type.
 function some_items() {
     const elf = Elf.parse(own), sections = elf.section_headers(), [[, relocs]] = elf.shdr_relocs();
     return {
@@ -304,7 +304,7 @@ function check_json() {
         assert.deepEqual(JSON.parse(JSON.stringify({ more: 1n, ...item }, goblin.json)), { more: '1', ...as_json(item) });
         assert.deepEqual(structuredClone(item), item);
     }
-    // a field of 64 bits is exact, whatever it holds
+    // a field of 64 bits is exact for every value
     const elf = Elf.parse(own), copy = Buffer.from(own), at = Number(elf.header.e_shoff) + 64 + 16;
     copy.fill(0xff, at, at + 8);
     const section = Elf.parse(copy).section_header(1);
@@ -350,7 +350,7 @@ function check_arguments() {
 function check_segments() {
     const { PT_DYNAMIC, PT_GNU_EH_FRAME, PT_GNU_RELRO, PT_GNU_STACK, PT_INTERP, PT_LOAD, PT_NOTE, PT_PHDR, PT_TLS } = goblin;
     const { SHF_ALLOC, SHF_TLS, SHT_NOBITS, SHT_NOTE, SHT_PROGBITS } = goblin;
-    // the segment has 0x50 bytes of the file from 0x100 on, and 0x80 addresses from 0x1100 on
+    // the segment has 0x50 bytes at offset 0x100, and 0x80 addresses from 0x1100 on
     const holds = (p_type, sh_flags, sh_type, [before, size]) => goblin.segment_holds(
         { p_type, p_offset: 0x100n, p_filesz: 0x50n, p_vaddr: 0x1100n, p_memsz: 0x80n },
         { sh_type, sh_flags, sh_offset: BigInt.asUintN(64, 0x100n + BigInt(before)), sh_addr: BigInt.asUintN(64, 0x1100n + BigInt(before)),
@@ -363,15 +363,15 @@ function check_segments() {
         { sh_type: SHT_NOTE, sh_flags: 0n, sh_offset, sh_addr: 0n, sh_size });
     const found = [
         [[0, 0x50], [0x4f, 1], [0, 0x51], [-1, 1], [0x50, 1], [1, -1], [0, 0], [0x50, 0]].map((range) => loaded(PT_LOAD, range)),
-        // without bytes in the file the addresses tell
+        // without bytes in the file only the addresses count
         [[0x50, 0x30], [0x50, 0x31], [0x80, 0]].map(zeros),
-        // some segments hold loaded sections alone
+        // some segments hold only loaded sections
         [PT_LOAD, PT_DYNAMIC, PT_GNU_EH_FRAME, PT_GNU_RELRO, PT_GNU_STACK, PT_INTERP].map((p_type) => holds(p_type, 0n, SHT_PROGBITS, [1, 1])),
         [PT_PHDR, PT_TLS, PT_DYNAMIC].map((p_type) => loaded(p_type, [1, 1])),
-        // each thread's own
+        // thread-local storage
         [PT_TLS, PT_LOAD, PT_GNU_RELRO, PT_NOTE, PT_GNU_STACK].map((p_type) => of_thread(p_type, SHT_PROGBITS)),
         [PT_TLS, PT_LOAD, PT_GNU_RELRO].map((p_type) => of_thread(p_type, SHT_NOBITS)),
-        // an empty section at the start of notes is none of them, unless the segment is empty too
+        // an empty section at the start of a segment of notes is not held, unless the segment is empty, too
         [PT_NOTE, PT_DYNAMIC, PT_LOAD].map((p_type) => loaded(p_type, [0, 0])),
         [PT_NOTE, PT_DYNAMIC, PT_LOAD].map((p_type) => loaded(p_type, [1, 0])),
         [empty(0x100n, 0n), empty(0x101n, 0n), empty(0x100n, 1n)],
@@ -385,12 +385,12 @@ function check_segments() {
 
 // ---- constants ----
 
-// The library's constants, by the modules that hold them where they aren't of all: each as a BigInt, or a list of them.
+// Returns the library's constants, each as a BigInt or a list of BigInts. The name of a constant of one class starts with its module.
 function constants_of_library() {
     const all = new Map(), of = (module, name) => all.get(`${module}.${name}`) ?? all.get(name);
     const folders = ['goblin_headers', 'goblin_records'].map((crate) => fileURLToPath(new URL(`../../crates/${crate}/src`, import.meta.url)));
     const sources = folders.flatMap((folder) => readdirSync(folder).filter((name) => name.endsWith('.rt')).map((name) => join(folder, name)));
-    // (those of all first, which the others are made of)
+    // (those of both classes first, since the others are made from them)
     for (const path of sources.sort((a, b) => b.includes('constants_') - a.includes('constants_'))) {
         const module = /\/(\w+\d\d)\.rt$/.exec(path)?.[1], source = readFileSync(path, 'utf8');
         for (const [, name, value] of source.matchAll(/^pub const (\w+): [^=]+ = ([^;]+);/gm)) {
@@ -417,7 +417,7 @@ async function check_constants() {
         if (Array.isArray(value)) found.set(name, value.map(BigInt));
         else if (typeof value === 'object') Object.entries(value).forEach(([field, number]) => found.set(`${name}.${field}`, BigInt(number)));
         else found.set(name, BigInt(value));
-        // of the type of the field that holds it
+        // its type must be that of the field that holds it
         const is_big = /^SH[FN]_/.test(name) && name !== 'SHF_NUM_REGULAR_FLAGS';
         if (typeof value !== 'object') assert.equal(typeof value, is_big ? 'bigint' : 'number', name);
     }
@@ -430,7 +430,7 @@ async function check_constants() {
 
 // ---- the package ----
 
-// What the declarations for TypeScript say of each type: the names of its members, each with its own type.
+// Returns the declarations for TypeScript: for each type the names and types of its members.
 function declared_members(declared, word) {
     const bodies = declared.matchAll(new RegExp(`^export ${word} (\\w+)[^\\n]* {\\n(.*?)^}`, 'gms'));
     return Object.fromEntries([...bodies].map(([, name, body]) =>
@@ -485,11 +485,11 @@ function check_package() {
 
 await check_missing_memories();
 await goblin.default();
-const told = [
+const tested = [
     check_bytes(), check_lists(), check_moved_sections(), check_types_of_sections(), check_notes(), check_json(), await check_constants(),
     check_declarations(),
 ];
 check_arguments();
 check_segments();
 check_package();
-console.log(`goblin.js takes and returns what it says: ${told.join(', ')}`);
+console.log(`goblin.js does what its comments say: ${tested.join(', ')}`);

@@ -1,8 +1,8 @@
-// Small ELF files of 64 bits, lowest byte first, that the page's test writes: each section and segment with its bytes.
+// Makes small 64-bit little-endian ELF files for the page's test, from sections and segments with their bytes.
 
 const align = (number, to) => Math.ceil(number / to) * to;
 
-/** A record of fields, each a number with its width in bytes. */
+/** Returns a struct of fields, each a number and its width in bytes. */
 export function packed(...fields) {
     const bytes = Buffer.alloc(fields.reduce((all, [, width]) => all + width, 0));
     let at = 0;
@@ -13,23 +13,23 @@ export function packed(...fields) {
     return bytes;
 }
 
-/** A note of an owner, whose signs are bytes. */
+/** Returns a note of an owner, each character of which is a byte. */
 export function note(owner, type, descriptor) {
     const name = Buffer.from(`${owner}\0`, 'latin1');
     const padded = (bytes) => Buffer.concat([bytes, Buffer.alloc(align(bytes.length, 4) - bytes.length)]);
     return Buffer.concat([packed([name.length, 4], [descriptor.length, 4], [type, 4]), padded(name), padded(descriptor)]);
 }
 
-/** A symbol. */
+/** Returns a symbol. */
 export const symbol = ({ name = 0, info = 0, other = 0, shndx = 0, value = 0, size = 0 }) =>
     packed([name, 4], [info, 1], [other, 1], [shndx, 2], [value, 8], [size, 8]);
 
-/** A relocation with an addend. */
+/** Returns a relocation with an addend. */
 export const rela = ({ offset = 0, sym = 0, type, addend = 0 }) => packed([offset, 8], [type, 4], [sym, 4], [addend, 8]);
 
 /**
- * A file of a type, for a machine, with sections { name, type, flags, addr, link, info, entsize, bytes } from the first one on (that
- * at 0 and the last, of names, are added) and segments { type, flags, vaddr, bytes }.
+ * Returns a file of a type, for a machine, with sections { name, type, flags, addr, link, info, entsize, bytes } and segments { type, flags,
+ * vaddr, bytes }. The section at index 0 and the section names at the end are added.
  */
 export function elf_file({ type = 1, machine = 62, osabi = 0, sections = [], segments = [] }) {
     const parts = [];

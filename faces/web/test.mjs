@@ -1,6 +1,6 @@
-// Whether goblin.js tells of files what a C program over the same library tells: test.mjs FOLDER DUMP FILE.. compares, line for
-// line, all that DUMP, made of faces/c/dump.c, prints of these files and of damaged copies of them with what goblin.js of the FOLDER
-// tells. And whether the module needs nothing from outside, and goblin.js knows the structs and refusals as goblin.h has them.
+// Tests goblin.js against C: test.mjs FOLDER DUMP FILE..
+// It compares, line by line, what goblin.js in FOLDER reads of the files and of damaged copies with what DUMP prints, the program of
+// faces/c/dump.c. It also tests that the module has no imports, and that goblin.js has the structs and refusals of goblin.h.
 import assert from 'node:assert/strict';
 import { spawnSync } from 'node:child_process';
 import { mkdtempSync, readFileSync, rmSync, writeFileSync } from 'node:fs';
@@ -12,11 +12,11 @@ const COPIES = 150, FEW = 3;
 const [, , web, dump, ...files] = process.argv;
 const goblin = await import(pathToFileURL(resolve(web, 'goblin.js')));
 
-// ---- what goblin.h says ----
+// ---- goblin.h ----
 
 const header = readFileSync(new URL('../c/goblin.h', import.meta.url), 'utf8');
 
-// Each byte of a struct's first field is 1, of its second 2, and so on, by the library's own word.
+// Each byte of a struct's first field must be 1, of its second 2, and so on, as goblin_layout fills them.
 function check_layout() {
     const fields = { refusal: 6, range: 2, header: 18, section: 10, segment: 8, symbol: 6, reloc: 5, note: 6 };
     const layout = goblin.layout();
@@ -51,7 +51,7 @@ function check_arguments() {
     for (const wrong of [-1, 1.5, 1n << 64n]) assert.throws(() => elf.section_headers().get(wrong), RangeError);
     assert.throws(() => elf.section_by_type(1n << 32n), RangeError);
     assert.throws(() => goblin.machine_to_str(0x10000), RangeError);
-    const long = 'x'.repeat(1 << 20); // (for which the memory grows, with the file in it)
+    const long = 'x'.repeat(1 << 20); // (the memory must grow for it, with the file in it)
     assert.equal(elf.section_by_name(long), undefined);
     assert.equal(elf.section_by_name('.text'), 1);
     const [first, ...rest] = [...elf.syms()].map((symbol) => elf.syms().name(symbol));
@@ -63,26 +63,26 @@ function check_arguments() {
     assert.equal(names.get_start(names.range.size, 4), undefined);
 }
 
-// ---- what dump.c prints ----
+// ---- the lines of dump.c ----
 
-// The names of goblin.js's fields where goblin.h has them otherwise.
+// The names in goblin.h of the fields that have other names in goblin.js.
 const IN_C = {
     sh_offset: 'file.offset', sh_size: 'file.size', p_offset: 'file.offset', p_filesz: 'file.size', name_offset: 'name.offset',
     name_size: 'name.size', desc_offset: 'desc.offset', desc_size: 'desc.size',
 };
 const length = ({ length }) => ` ${hex(length)}`;
-// A section as one of another type, with the same bytes in the file.
+// Returns a section with another type and the same bytes in the file.
 const as_type = (section, sh_type) =>
     ({ ...section, ...(section.sh_type === goblin.SHT_NOBITS ? { sh_offset: 0n, sh_size: 0n } : {}), sh_type });
 const hex = (number) => BigInt.asUintN(64, BigInt(number)).toString(16);
 const fields = (item) => Object.entries(item).map(([name, value]) => ` ${IN_C[name] ?? name}=${hex(value)}`).join('');
 const bytes = (array) => ` ${Buffer.from(array).toString('hex')}`;
 
-// All that goblin.js tells of a file, in the lines of dump.c.
+// Returns all that goblin.js reads of a file, in the lines of dump.c.
 class Dump {
     lines = [];
 
-    // A line for what is asked: what is told of it, or none, or why it is refused. Whether something was told.
+    // Adds the line of a call: its result, or none, or its refusal. Returns whether it has a result.
     ask(what, told, put = (item) => (typeof item === 'object' ? fields(item) : ` ${hex(item)}`)) {
         let item;
         try {
@@ -116,7 +116,7 @@ class Dump {
     symbols(elf, section) {
         const is_table = section.sh_type === goblin.SHT_SYMTAB || section.sh_type === goblin.SHT_DYNSYM;
         const table = is_table ? section : as_type(section, goblin.SHT_SYMTAB);
-        // (the names of a table without symbols are those of one that is refused)
+        // (dump.c prints these names for a refused table, too)
         const without = { ...table, sh_offset: 0n, sh_size: 0n };
         if (!this.ask('goblin_table', () => elf.symtab(without), ({ strtab }) => fields(strtab.range))) return;
         const symtab = this.ask('goblin_symbol_count', () => elf.symtab(table), length);
@@ -207,7 +207,7 @@ class Dump {
 
 // ---- damaged copies ----
 
-// The next number of a sequence that is the same in each run.
+// Returns the next number of a sequence that is the same in each run.
 let state = 88172645463325252n;
 function any(below) {
     for (const [by, left] of [[13n, true], [7n, false], [17n, true]]) {
@@ -216,7 +216,7 @@ function any(below) {
     return Number(state % BigInt(below));
 }
 
-// A copy with some bytes changed, most of them among those that tell where things lie, or with the end cut off.
+// Returns a copy with some bytes changed, most of them among those that hold offsets and sizes, or with the end cut off.
 function damaged(content) {
     const copy = Buffer.from(any(4) ? content : content.subarray(0, any(content.length + 1)));
     for (let changes = any(9); changes > 0 && copy.length > 0; changes--) {
@@ -226,7 +226,7 @@ function damaged(content) {
     return copy;
 }
 
-// Compares what both tell of files that lie in a folder, some at a time.
+// Compares what both print of files in a folder, several at a time.
 function compare(paths) {
     const { stdout, status } = spawnSync(dump, paths, { maxBuffer: 1 << 30 });
     assert.equal(status, 0, 'dump.c');

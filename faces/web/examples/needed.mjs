@@ -1,16 +1,17 @@
-// Lists what an ELF file asks of the dynamic linker: its interpreter, and from its dynamic section the libraries that it needs, its
-// own name and its paths: node needed.mjs FILE.., which names each of several files before its lines.
+// Lists what ELF files need of the dynamic linker: node needed.mjs FILE..
+// These are the interpreter and, from the dynamic section, the libraries that a file needs, its soname and its search paths. If there are
+// several files, a line names each.
 //
-// The library has no calls for the dynamic section. It is read here by its own layout, as pairs of numbers, of which some are
-// offsets of strings. The calls for numbers and strings are proved; what this program makes of them is only tested.
+// The library does not read the dynamic section, which is a table of pairs of numbers, a tag and a value. Some values are offsets of
+// strings. The calls for numbers and strings are proved; what this program does with them is only tested.
 import init, { Elf, PT_INTERP, SHT_DYNAMIC } from '../goblin.js';
 import { readFileSync } from 'node:fs';
 
 const DT_NULL = 0n;
-// The names under which strings of the dynamic section are listed, by their tags.
+// The names that are printed for tags of the dynamic section whose values are listed.
 const NAMES = new Map([[1n, 'needed'], [14n, 'soname'], [15n, 'rpath'], [29n, 'runpath']]);
 
-// The path of the interpreter, up to the zero byte that closes it.
+// Returns the path of the interpreter, without the zero byte at its end.
 function interpreter(elf) {
     const segment = elf.program_headers().find(({ p_type }) => p_type === PT_INTERP), bytes = segment && elf.segment_data(segment);
     if (!bytes) return [];
@@ -18,7 +19,7 @@ function interpreter(elf) {
     return [['interpreter', end < 0 ? bytes : bytes.subarray(0, end)]];
 }
 
-// The strings of the dynamic section, text or not, each behind its name, in their order.
+// Returns the strings of the dynamic section, which need not be UTF-8, each after its name.
 function strings(elf) {
     const index = elf.section_by_type(SHT_DYNAMIC), all = [], width = elf.is_64() ? 8 : 4, entry = 2n * BigInt(width);
     if (index === undefined) return all;

@@ -1,5 +1,5 @@
-// Lists the segments of an ELF file, each with the names of the sections that lie in it: node segments.mjs FILE.., which names each
-// of several files before its lines.
+// Lists the segments of ELF files, each with the names of its sections: node segments.mjs FILE..
+// If there are several files, a line names each.
 import init, { Elf, pt_to_str } from '../goblin.js';
 import { readFileSync } from 'node:fs';
 
