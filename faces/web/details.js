@@ -1,4 +1,4 @@
-// What the page's side says of an item or a place: a title, fields with where they lead, and blocks of the file's bytes.
+// What the side of the page shows of an item or a location: a title, fields with links, and blocks of the file's bytes.
 import * as goblin from './goblin.js';
 import {
     called, file, GROUP, is_wide, part, RELOCATION_TYPES, section_at, section_refusal, sections, segment_refusal,
@@ -15,21 +15,21 @@ import {
 import { count, hex } from './text.js';
 
 const { prefixed } = labels;
-// A field: its name, its value, what that means, and what it leads to, as `{ text, to }`.
+// Returns a field: its name, its value, its meaning, and its links, as `{ text, to }`.
 const field = (name, value, meaning = '', ...links) => ({ name, value: `${value}`, meaning, links: links.filter((link) => link) });
 const bytes_word = (size) => `${count(size)} bytes`;
 
-// An address as a field's link, where the file has addresses and there is something.
+// Returns a field's link to an address, if the file has addresses and something is loaded there.
 const at_address = (address) => (has_addresses() && address > 0n ? { ...to_address(address), text: 'address' } : undefined);
 const at_offset = (offset) => (Number(offset) < file.content.length ? { ...to_offset(offset), text: 'offset' } : undefined);
 
-// The entry of a table of a section.
+// Returns the link to an entry of a table.
 function entry(of, index, kind) {
     const size = size_of(kind);
     return { word: `entry in ${called(of)}`, at: Number(section_at(of).sh_offset) + index * size, size };
 }
 
-// The bytes of a range, or why they are refused.
+// Returns the bytes of a range, or their refusal.
 function block(word, range, refused) {
     const told = part(() => range() ?? {}, refused);
     return told.offset === undefined ? { word, ...told } : { word, at: Number(told.offset), size: Number(told.size) };
@@ -39,7 +39,7 @@ const from_place = (section) => (section === undefined ? 'from its place on' : `
 
 const to_section_number = (index) => (index > 0 && section_at(index) ? to_section(index) : undefined);
 
-// What the sh_info of a section leads to: a section, or the symbol after the last local one, or that by which a group is known.
+// Returns the link of a section's sh_info, if it has one: to a section, or to the symbol that identifies a group.
 function info_link({ sh_type, sh_flags, sh_info, sh_link }) {
     const is_section = RELOCATION_TYPES.includes(sh_type) || sh_flags & 0x40n;
     if (is_section) return to_section_number(sh_info);
@@ -54,7 +54,7 @@ function symbol_link(table, index) {
 
 const INFO_WORDS = { [goblin.SHT_SYMTAB]: 'symbols that are local', [goblin.SHT_DYNSYM]: 'symbols that are local' };
 
-// The list that a section is.
+// Returns the list that a section holds.
 function list_of({ sh_type }, index) {
     if (SYMBOL_TYPES.includes(sh_type)) return { text: 'its symbols', to: `symbols/${index}` };
     if (RELOCATION_TYPES.includes(sh_type)) return { text: 'its relocations', to: `relocations/${index}` };
@@ -80,7 +80,7 @@ function section_details(item, index) {
     };
 }
 
-// How many sections of a segment are named.
+// How many sections of a segment are named at most.
 const MOST_SECTIONS = 24;
 function sections_in({ p_offset, p_filesz, p_vaddr, p_memsz }) {
     const found = [];
@@ -173,7 +173,7 @@ function note_details(item, index, by) {
     };
 }
 
-// A part of the map: the piece that is drawn there, and the others.
+// Returns what is shown of a part of the map: the piece that is drawn there, and the others.
 function part_details(index) {
     const { starts, depths } = parts(), [top, ...others] = pieces_at(index);
     const [start, end] = [starts[index], starts[index + 1]], depth = depths[index];
@@ -194,12 +194,12 @@ const LISTS = {
     notes: note_details, layout: (item, index) => part_details(index),
 };
 
-/** What is said of an item of a list. */
+/** Returns what is shown of an item of a list. */
 export const item_details = (source, { list, index, of }) => LISTS[list](source.list.get(index), index, of);
 
-// ---- places ----
+// ---- offsets and addresses ----
 
-/** What is said of an offset: which pieces hold it, and the bytes from there on to the end of that which is drawn there. */
+/** Returns what is shown of an offset: the pieces that hold it, and the bytes from there to the end of the piece that is drawn. */
 export function offset_details(offset) {
     const index = part_at(offset), { starts } = parts(), pieces = pieces_at(index);
     const end = pieces[0]?.end ?? starts[index + 1], address = address_of_offset(offset);
@@ -216,11 +216,11 @@ export function offset_details(offset) {
     };
 }
 
-/** Whether there is something at an address. */
+/** Reports whether something is loaded at an address. */
 export const is_address = (address) =>
     segments_of_address(address).length > 0 || section_of_address(address) !== undefined || symbol_of_address(address) !== undefined;
 
-/** What is said of an address: its segments, section and symbol, and the bytes that are loaded from there on. */
+/** Returns what is shown of an address: its segments, section and symbol, and the bytes that are loaded from there on. */
 export function address_details(address) {
     const inside = segments_of_address(address), section = section_of_address(address), symbol = symbol_of_address(address);
     const at = offset_of_address(address);
@@ -247,7 +247,7 @@ const FIELDS = ['e_type', 'e_machine', 'e_version', 'e_entry', 'e_phoff', 'e_sho
     'e_shentsize', 'e_shnum', 'e_shstrndx'];
 const IDENT = ['ei_class', 'ei_data', 'ei_version', 'ei_osabi', 'ei_abiversion'];
 
-// What the fields are, in a few words.
+// The fields' meanings, in a few words.
 const WORDS = {
     ei_class: 'class', ei_data: 'byte order', ei_version: 'version of the format', ei_osabi: 'operating system and ABI',
     ei_abiversion: 'version of the ABI', e_type: 'what the file is', e_machine: 'machine', e_version: 'version of the format, once more',
@@ -257,7 +257,7 @@ const WORDS = {
     e_shstrndx: 'index of the section with the names of sections',
 };
 
-// The meanings of the header's numbers that have one.
+// The names of the header's numbers that have one.
 function header_meanings({ ei_class, ei_data, ei_osabi, e_type, e_machine }) {
     const known = (name, prefix) => (/^(0x|\d+$)/.test(name) ? '' : prefixed(prefix, name));
     return {
@@ -272,7 +272,7 @@ const header_links = ({ e_entry, e_phoff, e_shoff, e_shstrndx }) => ({
     e_shstrndx: told_or(undefined, () => to_section_number(e_shstrndx)),
 });
 
-/** The header's fields, each with its bytes. */
+/** Returns the header's fields, each with its bytes. */
 export function header_fields() {
     const { header } = file.elf, word = is_wide() ? 8 : 4;
     const sizes = [2, 2, 4, word, word, word, 4, 2, 2, 2, 2, 2, 2], meanings = header_meanings(header), links = header_links(header);

@@ -1,11 +1,11 @@
-// Elements of the page, and texts in them. Every text of a file is put as text, with what is not seen made visible.
+// Elements of the page and their texts. A text of a file is always inserted as text, with invisible characters made visible.
 
 export const get = (id) => document.getElementById(id);
 export const number = (value) => value.toLocaleString('en');
 export const hex = (value) => `0x${value.toString(16)}`;
 export const plural = (count, word) => `${number(count)} ${word}${count === 1 ? '' : 's'}`;
 
-/** An element with attributes and what stands in it: elements, and texts, which stay texts. */
+/** Returns an element with attributes and content: elements and texts. Texts are inserted as text. */
 export function make(name, given = {}, ...content) {
     const element = document.createElement(name);
     for (const [key, value] of Object.entries(given)) {
@@ -18,8 +18,8 @@ export function make(name, given = {}, ...content) {
 
 export const button = (text, onclick, given = {}) => make('button', { type: 'button', onclick, ...given }, text);
 
-// What is not seen, or changes how others are seen: control and format characters, separators, lone halves (which stand for bytes
-// that are no text), spaces that look like others.
+// Characters that are invisible or change how others look: control and format characters, separators, lone surrogates (which stand for
+// bytes that are not UTF-8), and spaces that look like others.
 const UNSEEN = /[\p{Cc}\p{Cf}\p{Zl}\p{Zp}\p{Cs}\p{Co}\p{Cn}]|(?! )\p{Zs}/gu;
 
 function shown(sign) {
@@ -28,10 +28,10 @@ function shown(sign) {
     return `U+${code.toString(16).toUpperCase().padStart(4, '0')}`;
 }
 
-/** A text with what is not seen made visible, for where there are no elements. */
+/** Returns a text with invisible characters made visible, for use outside of elements. */
 export const visible = (text) => text.replace(UNSEEN, shown);
 
-/** Puts a text of a file into an element, in place of all that it has. */
+/** Replaces the content of an element by a text of a file. */
 export function put_text(element, text) {
     if (!text.match(UNSEEN)) {
         element.textContent = text;
@@ -48,7 +48,7 @@ export function put_text(element, text) {
 }
 
 let said;
-/** Says for a while what was done, in the corner of the page. */
+/** Shows a message in the corner of the page for a while. */
 export function say(text) {
     const box = get('said');
     box.textContent = text;
@@ -56,7 +56,7 @@ export function say(text) {
     said = setTimeout(() => { box.textContent = ''; }, 4000);
 }
 
-/** Copies a text, and says so. */
+/** Copies a text, and shows a message. */
 export async function copy(text, what) {
     try {
         await navigator.clipboard.writeText(text);

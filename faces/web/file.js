@@ -1,4 +1,4 @@
-// The file that the worker reads, and what is asked of it in many places: sizes, names of sections, and refusals in words.
+// The file that the worker reads, with what several modules need of it: sizes, names of sections, and texts of refusals.
 import * as goblin from './goblin.js';
 import { count, hex, name_of, NAME } from './text.js';
 
@@ -8,7 +8,7 @@ export const file = { elf: undefined, content: new Uint8Array(0) };
 
 export const is_wide = () => file.elf.is_64();
 
-// How many bytes an entry of each table has, in files of 32 and 64 bits.
+// The size of an entry of each table, in 32-bit and 64-bit files.
 const SIZES = { header: [52, 64], segment: [32, 56], section: [40, 64], symbol: [16, 24], rel: [8, 16], rela: [12, 24] };
 export const size_of = (kind) => SIZES[kind][Number(is_wide())];
 
@@ -24,7 +24,7 @@ export const RELOCATION_TYPES = [goblin.SHT_REL, goblin.SHT_RELA];
 
 // ---- refusals ----
 
-/** What a part tells, or that it is refused. */
+/** Returns the result of reading a part, or its refusal. */
 export function part(told, refused) {
     try {
         return told();
@@ -34,7 +34,7 @@ export function part(told, refused) {
     }
 }
 
-/** What a part tells, or something else where it is refused. */
+/** Returns the result of reading a part, or a default if it is refused. */
 export function told_or(other, told) {
     try {
         return told();
@@ -44,7 +44,7 @@ export function told_or(other, told) {
     }
 }
 
-/** A refusal in words: the library's, what was being read, and which bytes say where it is. */
+/** Returns a refusal for the page: the library's text, what was being read, and the bytes that hold its offset. */
 export function refusal(error, what, marks) {
     if (!(error instanceof GoblinError)) throw error;
     return { text: error.message, kind: error.kind, what, marks };
@@ -56,7 +56,7 @@ export function header_refusal(error) {
     return refusal(error, 'the file header, at 0x0', [mark ?? { at: 0, size: Math.min(64, file.content.length) }]);
 }
 
-// Where the header has a field, by the class: its offset and size.
+// The offset and size of fields of the header, by the class.
 const FIELDS = {
     e_phoff: [[0x1c, 4], [0x20, 8]], e_shoff: [[0x20, 4], [0x28, 8]], e_phnum: [[0x2c, 2], [0x38, 2]], e_shnum: [[0x30, 2], [0x3c, 2]],
 };
@@ -87,32 +87,32 @@ export function segment_refusal(error, index) {
 
 export const section_at = (index) => file.elf.section_header(index);
 
-/** All sections with their indices: none where they are refused. */
+/** Returns all sections with their indices, or none if they are refused. */
 export function* sections() {
     const list = told_or(undefined, () => file.elf.section_headers());
     if (!list) return;
     for (const [index, section] of list.entries()) yield { index, section };
 }
 
-/** All segments with their indices: none where they are refused. */
+/** Returns all segments with their indices, or none if they are refused. */
 export function* segments() {
     const list = told_or(undefined, () => file.elf.program_headers());
     if (!list) return;
     for (const [index, segment] of list.entries()) yield { index, segment };
 }
 
-/** The name at an offset of a table: cut where it is long, empty where there is none. A table that is refused has no names. */
+/** Returns the name at an offset of a table, cut if it is long, or an empty text if there is none or the table is refused. */
 export function name_at(strtab, offset) {
     const bytes = told_or(undefined, () => strtab.get_start(offset, NAME + 1));
     return bytes ? name_of(bytes) : '';
 }
 
 let section_names;
-/** The name of a section header. */
+/** Returns the name of a section header. */
 export function name_of_section({ sh_name }) {
     section_names ??= file.elf.shdr_strtab();
     return name_at(section_names, sh_name);
 }
 
-/** What a section is called: its name, or its index where it has none. */
+/** Returns the title of a section: its name, or its index if it has none. */
 export const called = (index, section = section_at(index)) => name_of_section(section) || `section ${index}`;

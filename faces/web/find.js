@@ -1,4 +1,4 @@
-// Where a text leads: an offset, an address, or names. Each place that is found is { title, detail, to }.
+// Finds what a text means: an offset, an address, or names. Each result is { title, detail, to }.
 import { file, name_of_section, sections, SYMBOL_TYPES, told_or } from './file.js';
 import { address_details, header_fields, is_address, offset_details } from './details.js';
 import { go_over, open_source } from './lists.js';
@@ -8,7 +8,7 @@ import { hex } from './text.js';
 
 const MOST = 40;
 
-// The number that a text is, in hexadecimal or decimal digits, or nothing.
+// Returns the number in a text of hexadecimal or decimal digits, or nothing.
 function number_of(text) {
     if (!/^(0x[0-9a-f]{1,16}|\d{1,19})$/i.test(text)) return undefined;
     return BigInt(text);
@@ -22,11 +22,11 @@ function places_of_number(value) {
     if (is_address(value)) {
         found.push({ title: `address ${hex(value)}`, detail: address_details(value).what, to: `address/${hex(value)}` });
     }
-    // (an offset in a gap is hardly what is meant)
+    // (an offset in a gap is hardly ever meant)
     return found.length === 2 && offset_details(Number(value)).what === 'in a gap' ? found.reverse() : found;
 }
 
-// Collects places by how well their name fits: the whole, its start, a part.
+// Collects results by how the text matches their name: the whole name, its start, or a part.
 class Found {
     ranks = [[], [], []];
     #wanted;
@@ -54,7 +54,7 @@ function add_small(found) {
     }
 }
 
-/** The places that a text leads to, the best first; nothing where it is no longer wanted. */
+/** Returns the results for a text, the best first, or nothing if it is no longer wanted. */
 export async function find(text, is_wanted) {
     const value = number_of(text), found = new Found(text);
     const numbers = value === undefined ? [] : places_of_number(value);

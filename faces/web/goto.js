@@ -1,4 +1,4 @@
-// The field that leads anywhere: an offset, an address, a name. What is found stands below it, the best first.
+// The field for an offset, an address or a name. The results are below it, the best first.
 import { get, make, put_text } from './dom.js';
 import { ask } from './reader.js';
 import { go } from './route.js';
@@ -34,7 +34,7 @@ function close() {
     asked = '';
 }
 
-// Looks for what the field has; returns whether that is shown.
+// Searches for the text in the field, and returns whether the results are shown.
 async function look() {
     const text = get('goto').value.trim();
     if (text === asked) return true;

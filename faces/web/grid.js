@@ -1,13 +1,14 @@
-// Lists of any length, of which only what is seen is drawn.
+// Lists of any length, of which only the visible rows are drawn.
 import { make, put_text, visible } from './dom.js';
 
-// The most that an element may be high in every engine: a longer list is scrolled by parts of its length.
+// The greatest height of an element in all engines. A longer list is scrolled in proportion.
 const HIGHEST = 6e6, BLOCK = 128, KEPT = 64;
 let ids = 0;
 
 /**
  * A list: columns { title, wide, least, is_right, is_dim, sorts, hint }, and rows(from, size), which promises the cells of some rows.
- * `chosen` is called with a row's place once it is chosen, `opened` once it is opened, and `sorted` with a column and an order.
+ * `chosen` is called with the position of a row that is chosen, `opened` with that of one that is opened, and `sorted` with a column and an
+ * order.
  */
 export class Grid {
     constructor(label, columns, { rows, chosen = () => {}, opened = () => {}, sorted, high = 24, kind = '' }) {
@@ -22,7 +23,7 @@ export class Grid {
             class: 'grid', role: 'grid', tabindex: '0', 'aria-label': label, 'aria-colcount': columns.length,
             'aria-owns': has_heads && `${this.id}-head`,
         }, this.body);
-        // (the heads stand before the list that they belong to, also in the order of the keyboard)
+        // (the column heads are before the list, for the keyboard, too)
         this.box = make('div', { class: `list-box ${kind}` }, ...(has_heads ? [this.heads] : []), this.scroller);
         const least = columns.reduce((all, { least: own = 70 }) => all + own + 12, 12);
         this.box.style.setProperty('--least', kind === 'hex' ? '0' : `${least}px`);
@@ -58,12 +59,12 @@ export class Grid {
         this.sorted(now === 'none' ? 0 : column, now === 'descending');
     }
 
-    /** Shows by which column the rows are sorted, and how: `ascending`, `descending` or `none`. */
+    /** Marks the column that the rows are sorted by, and the order: `ascending`, `descending` or `none`. */
     show_order(column, order) {
         [...this.head.children].forEach((cell, i) => cell.setAttribute('aria-sort', i === column ? order : 'none'));
     }
 
-    /** Shows a list of so many items anew. */
+    /** Shows a list with a number of items. */
     show(length) {
         this.length = length;
         this.active = -1;
@@ -78,7 +79,7 @@ export class Grid {
     get room() { return this.scroller.clientHeight; }
     get is_long() { return this.length * this.high > HIGHEST; }
 
-    // The index of the first row that is seen, with its place.
+    // Returns the index and the position of the first visible row.
     first() {
         const { scrollTop } = this.scroller;
         if (!this.is_long) return { index: Math.floor(scrollTop / this.high), top: Math.floor(scrollTop / this.high) * this.high };
@@ -123,7 +124,7 @@ export class Grid {
         const row = this.block(Math.floor(at / BLOCK))?.[at % BLOCK];
         if (line.row === row && row) return;
         line.row = row;
-        // (after the cells of an item whose bytes are refused stands a word)
+        // (an item whose bytes are refused has a word after its cells)
         const mark = row?.[this.columns.length];
         line.classList.toggle('bad', Boolean(mark));
         this.columns.forEach((column, i) => {
@@ -131,12 +132,12 @@ export class Grid {
             if (column.put) { column.put(cell, row?.[i]); return; }
             const text = row ? row[i] ?? '' : i === 0 ? '…' : '';
             put_text(cell, text);
-            // (what a cell cuts is seen whole beside the pointer)
+            // (the whole text of a cell is its tooltip)
             cell.title = mark ? `${visible(text)} (its bytes are ${mark})` : visible(text);
         });
     }
 
-    // The rows of a block, once the worker has told them.
+    // Draws the rows of a block, once the worker has sent them.
     block(place) {
         const found = this.blocks.get(place);
         if (found) return found.rows;
@@ -180,7 +181,7 @@ export class Grid {
         this.scroller.scrollTop = first / Math.max(this.length - seen, 1) * (HIGHEST - this.room);
     }
 
-    /** The active row's cells, as texts. */
+    /** Returns the texts of the active row's cells. */
     get active_cells() {
         const row = this.active < 0 ? undefined : this.blocks.get(Math.floor(this.active / BLOCK))?.rows?.[this.active % BLOCK];
         return row?.slice(0, this.columns.length);

@@ -1,4 +1,4 @@
-// Bytes of the file: a view of any number of them, and those that a refusal is about.
+// Bytes of the file: a view of any number of them, and the bytes of a refusal.
 import { copy, make, plural, put_text } from './dom.js';
 import { Grid } from './grid.js';
 import { ask } from './reader.js';
@@ -8,7 +8,7 @@ const two = (byte) => byte.toString(16).padStart(2, '0');
 const place = (at) => at.toString(16).padStart(8, '0');
 const printed = (byte) => (byte > 0x1f && byte < 0x7f ? String.fromCharCode(byte) : '·');
 
-/** A view of bytes of the file, so many of them, from a place on. */
+/** Returns a view of a number of bytes of the file, from an offset on. */
 export function hex_view(at, size) {
     const first = Math.floor(at / EACH) * EACH;
     const put = (of) => (cell, row) => {
@@ -40,7 +40,7 @@ export async function copy_hex(at, size) {
     await copy(Array.from(bytes, two).join(' '), size > MOST_COPIED ? `the first ${what}` : what);
 }
 
-/** Some bytes in lines, so many in each, those that `is_marked` says marked. */
+/** Returns bytes in lines of a number of bytes. Those for which `is_marked` returns true are marked. */
 export function lines_of(bytes, first, each, is_marked) {
     const lines = make('pre', { 'aria-label': 'The bytes that say so', tabindex: '0' });
     for (let line = 0; line < bytes.length; line += each) {
@@ -53,7 +53,7 @@ export function lines_of(bytes, first, each, is_marked) {
     return lines;
 }
 
-/** Why something is refused: the library's words, what was being read, and the bytes that say where it is. */
+/** Returns a refusal: the library's text, what was being read, and the bytes that hold its offset. */
 export async function refusal_of({ text, kind, what, marks }, reader_ask = ask, each = innerWidth < 600 ? 8 : 16) {
     const box = make('div', { class: 'refused', role: 'group', 'aria-label': 'Refusal' },
         make('h3', {}, 'Refused: ', put_text(make('span'), text)),

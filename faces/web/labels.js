@@ -1,17 +1,17 @@
-// What numbers are called: by the library's names, which are goblin's, where they fit the file's machine and system; else by the
-// page's own; else by the number.
+// Names of numbers: the library's, which are goblin's, if they are right for the file's machine and system; else the page's own; else the
+// number.
 import * as goblin from './goblin.js';
 import { file } from './file.js';
 import * as own from './names.js';
 import { hex } from './text.js';
 
-// The library's names for the ends of ranges, which name no number.
+// The library's names for ends of ranges, which are not names of numbers.
 const ENDS = /^(SHT_|PT_)?(NUM|LO|HI|LOOS|HIOS|LOPROC|HIPROC|LOUSER|HIUSER)$/;
 const SOLARIS = 6, X86_64 = 62, ARM = 40;
 
 const without = (prefix, name) => (name.startsWith(prefix) ? name.slice(prefix.length) : name);
 
-// The library's name where it fits the file.
+// Returns the library's name if it is right for the file.
 function fitting(name) {
     const { e_machine, ei_osabi } = file.elf.header;
     if (name.includes('UNKNOWN') || ENDS.test(name)) return undefined;
@@ -21,7 +21,7 @@ function fitting(name) {
     return name;
 }
 
-// A function of a number that finds each name once.
+// Returns a function of a number that computes each name once.
 function once(find) {
     const found = new Map();
     return (number) => {
@@ -33,7 +33,7 @@ function once(find) {
 const label = (prefix, own_name, library, shown = hex) => once((number) =>
     own_name?.(number, file.elf.header.e_machine) ?? without(prefix, fitting(library(number)) ?? shown(number)));
 
-/** Names without their prefix, or the number. */
+/** Functions that return a name without its prefix, or the number. */
 export const section_type = label('SHT_', own.section_type, goblin.sht_to_str);
 export const segment_type = label('PT_', own.segment_type, goblin.pt_to_str);
 export const symbol_type = label('STT_', own.symbol_type, goblin.type_to_str, String);
@@ -44,14 +44,14 @@ export const machine = label('EM_', undefined, goblin.machine_to_str, String);
 export const file_class = label('', undefined, goblin.class_to_str, String);
 export const osabi = label('ELFOSABI_', own.osabi, () => 'UNKNOWN', String);
 
-/** The name with its prefix, or the number alone. */
+/** Returns a name with its prefix, or only the number. */
 export const prefixed = (prefix, name) => (/^(0x|\d+$)/.test(name) ? name : `${prefix}${name}`);
 
-/** The name of a relocation's type with its prefix, or the number. */
+/** Returns the name of a relocation's type with its prefix, or the number. */
 export const relocation_type = once((type) => own.relocation_type(type, file.elf.header.e_machine) ?? `${type}`);
 
 const BITS = Array.from({ length: 32 }, (_, bit) => bit);
-/** The names of a section's flags, those without a name as numbers. */
+/** Returns the names of a section's flags. Flags without a name are numbers. */
 export const section_flags = once((flags) => {
     const names = BITS.filter((bit) => flags >> BigInt(bit) & 1n).map((bit) => {
         const given = own.section_flag(bit, file.elf.header.e_machine) ?? fitting(goblin.shf_to_str(2 ** bit));
@@ -60,13 +60,13 @@ export const section_flags = once((flags) => {
     return (flags >> 32n ? [...names, hex(flags >> 32n << 32n)] : names).join(' ');
 });
 
-/** The flags of a segment, as `R W X`. */
+/** Returns the flags of a segment, such as `R W X`. */
 export const segment_flags = (flags) => {
     const letters = [[4, 'R'], [2, 'W'], [1, 'X']].map(([bit, letter]) => (flags & bit ? letter : '·')).join(' ');
     return flags & ~7 ? `${letters} ${hex((flags & ~7) >>> 0)}` : letters;
 };
 
-/** The name of a note's type, as its owner gives it one, or the number. */
+/** Returns the name of a note's type, which depends on its owner, or the number. */
 export function note_type(note) {
     const library = ['GNU', 'CORE'].includes(note.name) ? fitting(goblin.note_type_to_str(note)) : undefined;
     return library ? without('NT_', library) : own.note_type(note.name, note.n_type) ?? hex(note.n_type);

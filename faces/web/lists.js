@@ -1,5 +1,5 @@
-// The lists that the page shows, each a source: its items, what the cells of its columns say, what columns are sorted by where that
-// is no text, and whether an item holds an offset or address.
+// The lists of the page. Each is a source: its items, the cells of its columns, the values that columns without text are sorted by, and
+// whether an item holds an offset or address.
 import * as goblin from './goblin.js';
 import {
     called, file, name_of_section, part, refusal, RELOCATION_TYPES, section_at, section_refusal, SYMBOL_TYPES, told_or,
@@ -16,7 +16,7 @@ const number = (key, say = hex) => ({ text: (item) => say(item[key]), number: (i
 const within = (start, size, value) => start <= value && value < start + size;
 const is_refused = (range) => part(() => { range(); return {}; }, () => true).refused;
 
-/** What the section of a symbol is called. */
+/** Returns the title of a symbol's section. */
 export function section_word(table, index, symbol) {
     const of = section_of_symbol(table, index, symbol);
     if (of === undefined) return SPECIAL.get(symbol.st_shndx) ?? hex(symbol.st_shndx);
@@ -25,13 +25,13 @@ export function section_word(table, index, symbol) {
 
 export const addend = ({ r_addend }) => (r_addend === undefined ? 'in place' : r_addend < 0n ? `−${hex(-r_addend)}` : hex(r_addend));
 
-/** The name of a relocation's symbol. */
+/** Returns the name of a relocation's symbol. */
 export function symbol_of_relocation(table, { r_sym }) {
     const symbol = r_sym ? told_or(undefined, () => symtab_at(table)?.get(r_sym)) : undefined;
     return symbol ? name_of_symbol(table, r_sym, symbol) : r_sym ? `symbol ${r_sym}` : '';
 }
 
-// How many bytes of a descriptor are shown in a list.
+// How many bytes of a descriptor a list shows.
 const DESCRIPTOR = 64;
 function descriptor({ note }) {
     const { offset, size } = note.desc_range;
@@ -119,13 +119,13 @@ const sources = {
     },
 };
 
-// Whether there is such a list: one of symbols or relocations is a section of these.
+// Reports whether there is such a list. A list of symbols or relocations is a section of that type.
 function is_there(list, of) {
     const types = { symbols: SYMBOL_TYPES, relocations: RELOCATION_TYPES }[list];
     return types ? types.includes(section_at(of)?.sh_type) : Object.hasOwn(sources, list);
 }
 
-/** The source of a list, or why it is refused, or nothing where there is no such list. */
+/** Returns the source of a list, or its refusal, or nothing if there is no such list. */
 export function open_source(list, of) {
     try {
         if (!is_there(list, of)) return undefined;
@@ -136,16 +136,16 @@ export function open_source(list, of) {
     }
 }
 
-/** The cells of an item, the first its index. */
+/** Returns the cells of an item. The first is its index. */
 export const cells_of = ({ columns }, item, index) => [`${index}`, ...columns.map((column) => column.text(item, index))];
 
-// ---- views: what is searched for, in its order ----
+// ---- views: the items that a search finds, in their order ----
 
-// How long the worker goes on before it looks for messages.
+// How long the worker works before it reads messages.
 const SLICE = 25;
 const pause = () => new Promise((resume) => setTimeout(resume, 0));
 
-/** Goes over a source some at a time; returns whether it came to its end, which it doesn't where `is_wanted` says no meanwhile. */
+/** Iterates over a source in steps, while `is_wanted` returns true. Returns whether it reached the end. */
 export async function go_over(source, list, is_wanted, each) {
     let index = 0, last = performance.now();
     const { length } = source.list;
@@ -161,10 +161,10 @@ export async function go_over(source, list, is_wanted, each) {
     return true;
 }
 
-// The number that a search is for, if it is for one: an offset or address.
+// Returns the offset or address that a search is for, if it is for one.
 const number_in = (query) => (/^0x[0-9a-f]{1,16}$/i.test(query) ? BigInt(query) : undefined);
 
-/** The indices of those that are searched for, in their order; nothing where these are all in the list's own. */
+/** Returns the indices of the items that a search finds, in their order, or nothing if these are all items in the list's own order. */
 export async function arranged(source, { query, column, is_descending, list }, is_wanted) {
     const { length } = source.list;
     let order;
@@ -192,7 +192,7 @@ async function comparison(source, column, list, is_wanted) {
         await go_over(source, list, is_wanted, (item, index) => { texts[index] = column.text(item, index); });
         return (a, b) => (texts[a] < texts[b] ? -1 : texts[a] > texts[b] ? 1 : 0);
     }
-    // (as two halves, which are compared without making a BigInt of each)
+    // (as two halves, which are compared without making BigInts)
     const values = new BigUint64Array(length), halves = new Uint32Array(values.buffer);
     await go_over(source, list, is_wanted, (item, index) => { values[index] = BigInt(column.number(item)); });
     return (a, b) => halves[2 * a + 1] - halves[2 * b + 1] || halves[2 * a] - halves[2 * b];

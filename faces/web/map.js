@@ -1,9 +1,9 @@
-// The map: the file's parts drawn to scale, what is loaded of it, and what is chosen.
+// The map: the file's parts, drawn to scale, with what is loaded and what is chosen.
 import { get, hex, make, number, plural, put_text, visible } from './dom.js';
 import { ask, shown_file } from './reader.js';
 import { go } from './route.js';
 
-// In pixels: a row's bar, the way to the next one, and what is left free above; in rows: how many there are at most.
+// In pixels: the height of a row's bar, the distance to the next one, and the space above. In rows: their greatest number.
 const BAND = 15, STEP = 23, TOP = 8, MOST_ROWS = 16, SHARE = 1 / 3;
 const map = { part: -1, over: -1, chosen: undefined, rows: MOST_ROWS, view: { start: 0, each: 1 } };
 const KIND_WORDS = { header: 'ELF header', tables: 'header tables', names: 'symbols and names' };
@@ -37,7 +37,7 @@ function show_legend() {
     get('legend').replaceChildren(...items);
 }
 
-// As many rows as leave the map its share of the window, each with as many bytes as show the whole file, where it was shown.
+// Computes the number of rows, which gives the map its share of the window, and the bytes of a row. The whole file is shown if it was before.
 function fit() {
     const canvas = get('canvas'), was_whole = map.view.each === map.whole || !map.whole;
     const others = canvas.parentElement.offsetHeight - canvas.offsetHeight;
@@ -47,7 +47,7 @@ function fit() {
     draw_map();
 }
 
-/** Which part holds a byte. */
+/** Returns the part that holds a byte. */
 export function part_at(byte) {
     let low = 0, high = map.kinds.length - 1;
     while (low < high) {
@@ -59,7 +59,7 @@ export function part_at(byte) {
 
 const rows_of_view = () => Math.max(Math.min(map.rows, Math.ceil((map.size - map.view.start) / map.view.each)), 1);
 
-// Draws each piece of a range, cut at the rows' ends: to(x, width, y), in the canvas's own units.
+// Draws a range, cut at the ends of the rows, by to(x, width, y) for each piece, in units of the canvas.
 function over_rows(from, to, draw) {
     const { start, each } = map.view, wide = map.wide - map.left - 10;
     const first = Math.max(Math.floor((from - start) / each), 0), last = Math.min(Math.ceil((to - start) / each), rows_of_view());
@@ -94,11 +94,11 @@ function draw_map() {
     if (map.chosen) outline(pen, map.chosen.start, map.chosen.end, colour('ink'), 2);
 }
 
-// Draws the parts; returns those that have room for a name.
+// Draws the parts, and returns those that are wide enough for a name.
 function draw_parts(pen) {
     const shades = map.KINDS.map(colour), gap = colour('gap'), hatch = hatching(pen), line = colour('raised');
     const { start, each } = map.view, end = start + each * map.rows, named = [];
-    let seen = { x: 0, y: -1 }; // (of parts within half a point one is drawn)
+    let seen = { x: 0, y: -1 }; // (of several parts within half a pixel one is drawn)
     for (let part = Math.max(part_at(start), 0); part < map.kinds.length && map.starts[part] < end; part++) {
         over_rows(map.starts[part], map.starts[part + 1], (x, width, y) => {
             if (y === seen.y && x + width < seen.x + 0.5) return;
@@ -114,7 +114,7 @@ function draw_parts(pen) {
     return named;
 }
 
-// A gap is hollow, with an edge that stands off from the ground: full where there is no room for a hollow.
+// Draws a gap: hollow, with an edge that differs from the background, or full if it is too narrow.
 function draw_gap(pen, shade, x, width, y) {
     if (width < 5) {
         pen.fillStyle = shade;
@@ -126,7 +126,7 @@ function draw_gap(pen, shade, x, width, y) {
     pen.strokeRect(Math.round(x) + 1.5, y + 0.5, Math.round(width) - 3, BAND - 1);
 }
 
-// The offsets of the rows.
+// Writes the offsets of the rows.
 function draw_offsets(pen) {
     pen.font = `11px ${colour('mono')}`;
     pen.textBaseline = 'middle';
@@ -150,7 +150,7 @@ function hatching(pen) {
     return pen.createPattern(tile, 'repeat');
 }
 
-// What is loaded when the program runs: a line below, of the colour of code, data or constants.
+// Draws a line below what is loaded, in the colour of code, data or constants.
 function draw_segments(pen) {
     for (const [from, to, flags] of map.segments) {
         pen.fillStyle = colour(flags & 1 ? 'code' : flags & 2 ? 'data' : 'constants');
@@ -158,10 +158,10 @@ function draw_segments(pen) {
     }
 }
 
-// How many names are asked for at once.
+// How many names are read at once.
 const MOST_NAMES = 400;
 
-// The names of the pieces that have room for them, once the worker has told them.
+// Writes the names of the pieces that are wide enough, once the worker has sent them.
 function draw_names(pen, named) {
     ask_names([...new Set(named.map(({ part }) => part))].filter((part) => !map.titles.has(part)).slice(0, MOST_NAMES));
     pen.font = `11px ${colour('text')}`;
@@ -196,7 +196,7 @@ function outline(pen, from, to, shade, width) {
 
 const name_of = ({ title, kind }) => `${title ?? 'gap'} · ${kind ? words_of(kind) : 'in no section or segment'}`;
 
-// Tells what a part is, in the line above the map: of none, how the map is drawn.
+// Describes a part in the line above the map, or how the map is drawn if there is none.
 async function tell_part(part) {
     const readout = get('readout');
     if (part < 0) {
@@ -211,7 +211,7 @@ async function tell_part(part) {
     readout.title = readout.textContent;
 }
 
-/** Outlines a range as what is chosen, or nothing, and shows its first byte. */
+/** Outlines the chosen range, or nothing, and scrolls to its first byte. */
 export function mark_range(range, title = '') {
     map.chosen = range && range.size > 0 && range.at < map.size ? { start: range.at, end: range.at + range.size } : undefined;
     if (map.chosen) {
@@ -229,7 +229,7 @@ function choose_part(part, is_replaced = false) {
     if (map.kinds.length) go(`part/${Math.min(Math.max(part, 0), map.kinds.length - 1)}`, is_replaced);
 }
 
-// Shows rows of so many bytes, with a byte among them.
+// Shows rows of a number of bytes, with a byte among them.
 function look(byte, each) {
     each = Math.min(Math.max(each, 16), map.whole);
     const last = Math.max(Math.ceil(map.size / each) - map.rows, 0) * each;

@@ -1,10 +1,9 @@
-// Names of numbers that are the page's own: goblin's tables, which the library has, don't hold them. They are the names of the
-// public ABIs (the generic ABI, GNU's and LLVM's additions, Linux's core files, and the supplements of the processors), without
-// a proof. What a table doesn't hold has no name here.
+// The page's own names of numbers, which goblin and the library don't have. They are the names of the public ABIs: the generic ABI, GNU's and
+// LLVM's additions, Linux's core files, and the processor supplements. They are not proved.
 
 const EM = { 386: 3, MIPS: 8, PPC: 20, PPC64: 21, S390: 22, ARM: 40, X86_64: 62, AARCH64: 183, RISCV: 243 };
 
-// Numbers with names in a row: `@7` says that the next name is that of 7.
+// Returns a table from names in a text: `@7` gives the next name the number 7, and other names count up.
 function row(text) {
     const names = new Map();
     let next = 0;
@@ -15,13 +14,13 @@ function row(text) {
     return names;
 }
 
-// ---- what a header says ----
+// ---- the header ----
 
 const OSABI = row('SYSV HPUX NETBSD GNU @6 SOLARIS AIX IRIX FREEBSD TRU64 MODESTO OPENBSD OPENVMS NSK AROS FENIXOS CLOUDABI OPENVOS'
     + ' @97 ARM @255 STANDALONE');
 const OSABI_OF = { [EM.ARM]: row('@64 ARM_AEABI @65 ARM_FDPIC'), 224: row('@64 AMDGPU_HSA AMDGPU_PAL AMDGPU_MESA3D') };
 
-/** The name of an `ei_osabi`. */
+/** Returns the name of an `ei_osabi`. */
 export const osabi = (number, machine) => OSABI.get(number) ?? OSABI_OF[machine]?.get(number);
 
 // ---- sections ----
@@ -41,7 +40,7 @@ const SECTIONS_OF = {
         + ' @30 MIPS_DWARF @42 MIPS_ABIFLAGS MIPS_XHASH'),
 };
 
-/** The name of a section's type, without its prefix. */
+/** Returns the name of a section's type, without its prefix. */
 export const section_type = (type, machine) => SECTIONS.get(type) ?? SECTIONS_OF[machine]?.get(type - PROCESSOR);
 
 const FLAGS = { 21: 'GNU_RETAIN', 24: 'GNU_MBIND', 31: 'EXCLUDE' };
@@ -51,7 +50,7 @@ const FLAGS_OF = {
         30: 'MIPS_ADDR', 31: 'MIPS_STRINGS' },
 };
 
-/** The name of a section's flag, by its bit, without its prefix. */
+/** Returns the name of a section's flag, by its bit, without its prefix. */
 export const section_flag = (bit, machine) => FLAGS_OF[machine]?.[bit] ?? FLAGS[bit];
 
 // ---- segments ----
@@ -63,14 +62,14 @@ const SEGMENTS_OF = {
     [EM.RISCV]: row('@3 RISCV_ATTRIBUTES'), [EM.MIPS]: row('MIPS_REGINFO MIPS_RTPROC MIPS_OPTIONS MIPS_ABIFLAGS'),
 };
 
-/** The name of a segment's type, without its prefix. */
+/** Returns the name of a segment's type, without its prefix. */
 export const segment_type = (type, machine) => SEGMENTS.get(type) ?? SEGMENTS_OF[machine]?.get(type - PROCESSOR);
 
 // ---- symbols ----
 
 const SYMBOLS_OF = { [EM.ARM]: row('@13 ARM_TFUNC @15 ARM_16BIT') };
 
-/** The name of a symbol's type, without its prefix. */
+/** Returns the name of a symbol's type, without its prefix. */
 export const symbol_type = (type, machine) => SYMBOLS_OF[machine]?.get(type);
 
 // ---- notes ----
@@ -95,7 +94,7 @@ const NOTES = {
     OpenBSD: row('@1 OPENBSD_IDENT'),
 };
 
-/** The name of a note's type, as its owner gives it one, without its prefix. */
+/** Returns the name of a note's type, which depends on its owner, without its prefix. */
 export const note_type = (owner, type) => (Object.hasOwn(NOTES, owner) ? NOTES[owner].get(type) : undefined);
 
 // ---- relocations ----
@@ -150,7 +149,7 @@ const RELOCATIONS = {
         PLT32 SET_ULEB128 SUB_ULEB128 TLSDESC_HI20 TLSDESC_LOAD_LO12 TLSDESC_ADD_LO12 TLSDESC_CALL @191 VENDOR`)],
 };
 
-/** The name of a relocation's type, with its prefix. */
+/** Returns the name of a relocation's type, with its prefix. */
 export function relocation_type(type, machine) {
     const [prefix, names] = RELOCATIONS[machine] ?? [];
     return names?.has(type) ? prefix + names.get(type) : undefined;

@@ -1,4 +1,4 @@
-// The notes of the sections, or of the segments.
+// The notes of sections or segments.
 import * as goblin from './goblin.js';
 import { called, ET_CORE, file, is_wide, refusal, sections, segments, told_or } from './file.js';
 import { note_type } from './labels.js';
@@ -21,7 +21,7 @@ function* holders(by) {
 }
 
 const found = {};
-/** The notes of each holder up to the first that is refused, at most so many: each with its type's name and where it starts. */
+/** Returns the notes of each section or segment up to the first refused one, at most a number: each with its type's name and offset. */
 export function notes_of(by) {
     if (found[by]) return found[by];
     const items = [], refusals = [];
@@ -43,8 +43,8 @@ export function notes_of(by) {
     return (found[by] = { items, refusals, is_cut });
 }
 
-// Gives each note of a core the thread that it is about: PRSTATUS, which starts with the signal's number and two sets of signals,
-// holds the thread's number, and the notes up to the next one are of the same thread.
+// Adds to each note of a core file its thread. A note of type PRSTATUS has the thread's number, after the signal's number and two sets of
+// signals. The notes up to the next PRSTATUS are of the same thread.
 function name_threads(items) {
     if (file.elf.header.e_type !== ET_CORE) return;
     let thread;
@@ -58,7 +58,7 @@ function name_threads(items) {
 }
 const OF_PROCESS = new Set(['PRPSINFO', 'AUXV', 'FILE', 'SIGINFO', 'PLATFORM', 'UTSNAME']);
 
-/** What a note is called. */
+/** Returns the title of a note. */
 export function title_of({ note, thread }) {
     const title = `${note.name} ${note_type(note)}`.trim();
     return thread === undefined ? title : `${title}, thread ${thread}`;

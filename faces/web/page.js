@@ -1,4 +1,4 @@
-// The page: opens files, each by a worker of its own, and shows the places that the address bar names.
+// The page: opens files, each in its own worker, and shows the location that the address bar has.
 import { button, get, make, number, plural, put_text, visible } from './dom.js';
 import { set_up_goto } from './goto.js';
 import { lines_of, refusal_of } from './hex.js';
@@ -9,25 +9,25 @@ import { show_side } from './side.js';
 import { activate, choose_field, is_list, open_tab, set_up_tabs, show_tabs } from './tabs.js';
 
 const MAGIC = [0x7f, 0x45, 0x4c, 0x46];
-// The largest file that is read: not every browser has longer arrays.
+// The largest file that is read. Some browsers have no longer arrays.
 const LIMIT = 2 ** 31, LIMIT_WORDS = '2 GiB (2,147,483,648 bytes)';
-// After so many milliseconds a file that is being read is said to be.
+// After how many milliseconds the page shows that a file is being read.
 const SOON = 200;
 
-// ---- places ----
+// ---- locations ----
 
-// A whole number of a place, or nothing.
+// Returns a whole number of a location, or nothing.
 const whole = (text) => (/^\d{1,10}$/.test(text ?? '') ? Number(text) : undefined);
 const from_hex = (text) => (/^0x[0-9a-f]{1,16}$/i.test(text ?? '') ? BigInt(text) : undefined);
 
-// What is said of a place beside the lists: a part of the map, an offset, an address.
+// Returns what is shown of a location outside the lists: a part of the map, an offset, an address.
 const PLACES = {
     part: (text) => (whole(text) === undefined ? undefined : ask('item', { list: 'layout', index: whole(text) })),
     offset: (text) => (from_hex(text) === undefined ? undefined : ask('offset', Number(from_hex(text)))),
     address: (text) => (from_hex(text) === undefined ? undefined : ask('address', from_hex(text))),
 };
 
-// The tab of a place, of which section or by what, and the index of an item, as far as the place says so.
+// Returns the tab of a location, its section or kind, and the index of an item, if the location has them.
 function tab_of(place) {
     const [name, first, second] = place.split('/');
     if (name === 'header') return { name, field: first };
@@ -39,7 +39,7 @@ function tab_of(place) {
 
 const first_tab = () => (shown_file.told.sections.refused || shown_file.told.sections.length === 0 ? 'header' : 'sections');
 
-// What is said of the item of a tab.
+// Returns what is shown of an item of a tab.
 async function item_of({ name, of, field, index }) {
     if (name === 'header') return choose_field(field);
     if (index === undefined) return undefined;
@@ -62,7 +62,7 @@ async function show_place(place) {
         details = await item_of(tab);
     }
     if (mine !== shown_places) return;
-    // (where there is room for one alone, the side is seen while something is chosen, and else the list)
+    // (in a narrow window the side is visible while something is chosen, else the list)
     document.body.classList.toggle('chosen', Boolean(details));
     if (details) await show_details(details);
 }
@@ -75,7 +75,7 @@ async function show_details(details) {
 
 // ---- files ----
 
-// Why a file isn't read, or nothing.
+// Returns why a file is not read, or nothing.
 function why_unread({ size }) {
     if (size === 0) return 'The file is empty: it has 0 bytes.';
     return size > LIMIT ? `The file has ${number(size)} bytes. This page reads files of at most ${LIMIT_WORDS}.` : undefined;
@@ -98,7 +98,7 @@ async function open(file) {
     }
 }
 
-// Says that a file is being read, with what is left, unless that is done soon. The one before stays, dimmed.
+// Shows that a file is being read, and how much is left, if that takes long. The previous file stays, dimmed.
 function show_loading(file, reader) {
     const box = get('loading');
     const megabytes = (size) => `${number(Math.ceil(size / 1e6))} MB`;
@@ -120,7 +120,7 @@ function show_loading(file, reader) {
     };
 }
 
-// Shows one of the page's parts alone, and names the file that it is about in the bar.
+// Shows only one of the page's parts, and the name of its file in the bar.
 function show_part(part, file, ...words) {
     for (const name of ['start', 'refused', 'told']) get(name).hidden = name !== part;
     get('search').hidden = part !== 'told';
@@ -131,7 +131,7 @@ function show_part(part, file, ...words) {
         ...words.map((word) => make('span', {}, word)));
 }
 
-// Takes the place of the file before, whose worker ends.
+// Replaces the previous file, whose worker ends.
 function replace(reader, file, told) {
     shown_file.reader?.end();
     Object.assign(shown_file, { reader, told, size: file.size, title: file.name });
@@ -167,7 +167,7 @@ async function show_refusal(file, reader, { refused, start }) {
 let is_first = true;
 async function show_file(file, reader, told) {
     replace(reader, file, told);
-    // (the place that the page is opened at is one of the first file)
+    // (the location that the page is opened with belongs to the first file)
     if (!is_first) note_place('');
     is_first = false;
     show_part('told', file, ...told.words);
@@ -194,7 +194,7 @@ function set_up_files() {
 }
 
 function start() {
-    if (!get('worker')) return; // (the page as it stands in the repository, which says what makes it)
+    if (!get('worker')) return; // (the page in the repository, which says how it is made)
     get('unmade').hidden = true;
     if (!is_supported()) { get('unsupported').hidden = false; return; }
     get('drop').hidden = false;

@@ -1,4 +1,4 @@
-// The pieces of the file, and the parts that their ends cut it into.
+// The pieces of the file, and the parts that the ends of pieces divide it into.
 import * as goblin from './goblin.js';
 import { called, file, RELOCATION_TYPES, section_at, sections, segments, size_of, STRTAB, SYMBOL_TYPES, told_or } from './file.js';
 import { segment_type } from './labels.js';
@@ -23,7 +23,7 @@ export function kind_of_segment({ p_type, p_flags }) {
 
 export const title_of_segment = (index, { p_type }) => `segment ${index}, ${segment_type(p_type)}`;
 
-// Collects pieces that lie in the file; each is cut at the file's end.
+// Collects pieces inside the file. Each is cut at the end of the file.
 function collector() {
     const found = [];
     const add = (start, size, given) => {
@@ -33,8 +33,8 @@ function collector() {
     return { found, add };
 }
 
-// The pieces that are drawn first: header, program headers, section headers, and each section's bytes. (What passes the end is
-// refused, and drawn nowhere.)
+// Returns the pieces that are drawn first: header, program headers, section headers, and the bytes of sections. Those that end past the end
+// of the file are refused, and not drawn.
 function pieces_of_sections() {
     const { found, add } = collector();
     const { e_phoff, e_phnum, e_shoff } = file.elf.header;
@@ -49,7 +49,7 @@ function pieces_of_sections() {
     return found;
 }
 
-// The pieces that are drawn where none of those lies: segments, and over them their notes.
+// Returns the pieces that are drawn elsewhere: segments, and their notes above them.
 function pieces_of_segments() {
     const { found, add } = collector();
     for (const { index, segment } of segments()) {
@@ -62,7 +62,7 @@ function pieces_of_segments() {
     return found;
 }
 
-// Heap of pieces, that with the last start on top, and of those with the same start the shortest.
+// A heap of pieces. The one with the last start is on top, and of those with the same start the shortest.
 class Heap {
     items = [];
     before(a, b) { return a.start > b.start || (a.start === b.start && a.end < b.end); }
@@ -87,7 +87,7 @@ class Heap {
     }
 }
 
-// The pieces that lie over a byte, for bytes that ascend.
+// The pieces that hold a byte, for ascending bytes.
 class Cover {
     #by_start; #ends; #heap = new Heap(); #opened = 0; #closed = 0;
 
@@ -96,7 +96,7 @@ class Cover {
         this.#ends = Float64Array.from(pieces, ({ end }) => end).sort();
     }
 
-    // Goes on to a byte: that piece which starts last, if any, and how many there are.
+    // Moves to a byte, and returns the piece there that starts last, if any, and the number of pieces there.
     go_to(byte) {
         const { items } = this.#heap;
         while (this.#opened < this.#by_start.length && this.#by_start[this.#opened].start <= byte) {
@@ -112,8 +112,8 @@ const ends_of = (pieces) => pieces.flatMap(({ start, end }) => [start, end]);
 
 let known;
 /**
- * The file's parts: where each starts, which piece is drawn there, or none in a gap, and how many pieces of sections lie there.
- * Parts end where a piece of sections does, and where another piece of segments is drawn.
+ * Returns the file's parts: the start of each, the piece that is drawn there, or none in a gap, and the number of pieces of sections there.
+ * A part ends where a piece of sections ends, and where another piece of segments is drawn.
  */
 export function parts() {
     if (known) return known;
@@ -134,13 +134,13 @@ export function parts() {
     return (known = { starts, tops, depths, first, second });
 }
 
-/** A piece with its title. */
+/** Returns a piece with its title. */
 export const titled = ({ section, title, ...piece }) => ({ ...piece, title: title ?? called(section, section_at(section)) });
 
-// How many pieces of a part are named.
+// How many pieces of a part are named at most.
 const MOST_NAMED = 8;
 
-/** The pieces that lie over a part: that which is drawn first, then others of its kind, at most so many. */
+/** Returns the pieces of a part, at most a number: the one that is drawn, then others of its kind. */
 export function pieces_at(index) {
     const { starts, tops, first, second, depths } = parts(), top = tops[index];
     const [start, end] = [starts[index], starts[index + 1]];
@@ -152,7 +152,7 @@ export function pieces_at(index) {
     return found;
 }
 
-/** Which part holds a byte. */
+/** Returns the part that holds a byte. */
 export function part_at(byte) {
     const { starts } = parts();
     let low = 0, high = starts.length - 2;

@@ -1,9 +1,9 @@
-// The workers, each of which reads one file. The page shows what the current one tells; another takes its place once its file is read.
+// The workers, each of which reads one file. The page shows what the current one sends. A new one replaces it once its file is read.
 import { get } from './dom.js';
 
-// A module with a memory of 64 bits and nothing else.
+// A module with only a 64-bit memory.
 const WITH_MEMORY = new Uint8Array([0, 0x61, 0x73, 0x6d, 1, 0, 0, 0, 5, 3, 1, 4, 0]);
-/** Whether the engine has what the library needs. */
+/** Reports whether the engine has what the library needs. */
 export const is_supported = () => typeof WebAssembly === 'object' && WebAssembly.validate(WITH_MEMORY);
 
 let source, module;
@@ -15,7 +15,7 @@ function prepare() {
 export class Reader {
     #waiting = new Map();
     #asked = 0;
-    /** Called with how far something has come: `{ progress, done }`. */
+    /** Called with the progress of a call: `{ progress, done }`. */
     on_progress = () => {};
 
     constructor() {
@@ -44,14 +44,14 @@ export class Reader {
         });
     }
 
-    /** Reads a file; returns what there is to show of it first. */
+    /** Reads a file, and returns what the page shows of it first. */
     open(file) { return this.ask('open', { module, given: file }); }
 
     end() { this.worker.terminate(); }
 }
 
-/** The file that is shown: its reader, its size, and what it told first. */
+/** The file that is shown: its reader, its size, and the worker's first result. */
 export const shown_file = { reader: undefined, size: 0, told: undefined };
 
-/** Asks the worker of the file that is shown. */
+/** Calls the worker of the file that is shown. */
 export const ask = (call, given) => shown_file.reader.ask(call, given);

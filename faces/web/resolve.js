@@ -1,4 +1,4 @@
-// Where symbols, relocations and addresses lead: to sections, segments, symbols and bytes of the file.
+// Resolves symbols, relocations and addresses: to sections, segments, symbols and bytes of the file.
 import * as goblin from './goblin.js';
 import { called, EM_ARM, ET_REL, file, name_at, section_at, sections, segments, SYMBOL_TYPES, SYMTAB_SHNDX, told_or } from './file.js';
 import { hex } from './text.js';
@@ -6,13 +6,13 @@ import { hex } from './text.js';
 const STT_SECTION = 3, STT_FUNC = 2, STT_TLS = 6, PT_LOAD = 1, PT_TLS = 7, SHF_ALLOC = 2n, SHF_TLS = 0x400n;
 const SHN_LORESERVE = 0xff00n, SHN_XINDEX = 0xffffn;
 
-/** Whether numbers of the file are addresses: in an object file they are offsets in sections. */
+/** Reports whether the file has addresses. In an object file they are offsets in sections. */
 export const has_addresses = () => file.elf.header.e_type !== ET_REL;
 
 // ---- symbols ----
 
 const tables = new Map();
-/** The table of symbols that a section is, or nothing where it is none. Refused as the table is. */
+/** Returns the symbol table of a section, or nothing if it has another type. Throws if the table is refused. */
 export function symtab_at(index) {
     if (!tables.has(index)) {
         const section = index ? section_at(index) : undefined;
@@ -22,7 +22,7 @@ export function symtab_at(index) {
 }
 
 const extended = new Map();
-// The table of the indices past 65,280 of the sections of a table's symbols.
+// Returns the section with the indices of sections from 65,280 on, for the symbols of a table.
 function extended_of(table) {
     if (!extended.has(table)) {
         const of = ({ section }) => section.sh_type === SYMTAB_SHNDX && section.sh_link === table;
@@ -31,7 +31,7 @@ function extended_of(table) {
     return extended.get(table);
 }
 
-/** The index of the section that a symbol is of, or nothing. */
+/** Returns the index of a symbol's section, or nothing. */
 export function section_of_symbol(table, index, { st_shndx }) {
     if (st_shndx === SHN_XINDEX) {
         const indices = extended_of(table);
@@ -41,7 +41,7 @@ export function section_of_symbol(table, index, { st_shndx }) {
     return st_shndx === 0n || st_shndx >= SHN_LORESERVE ? undefined : Number(st_shndx);
 }
 
-/** A symbol's name: that of its section, where it stands for one. */
+/** Returns a symbol's name. The symbol of a section has the section's name. */
 export function name_of_symbol(table, index, symbol) {
     const name = symbol.st_name ? name_at(symtab_at(table).strtab, symbol.st_name) : '';
     if (name || goblin.st_type(symbol.st_info) !== STT_SECTION) return name;
@@ -49,7 +49,7 @@ export function name_of_symbol(table, index, symbol) {
     return of !== undefined && section_at(of) ? called(of) : '';
 }
 
-/** The address of a symbol. (The lowest bit of a function's of ARM says that it is Thumb code, and those of threads start anew.) */
+/** Returns the address of a symbol. (For ARM the lowest bit marks a function in Thumb code. Thread-local symbols have offsets instead.) */
 export function address_of_symbol({ st_value, st_info }) {
     const type = goblin.st_type(st_info);
     if (file.elf.header.e_machine === EM_ARM && type === STT_FUNC) return st_value & ~1n;
@@ -58,18 +58,17 @@ export function address_of_symbol({ st_value, st_info }) {
     return threads ? threads.segment.p_vaddr + st_value : st_value;
 }
 
-// How many bytes are shown of a symbol whose size isn't known, and from the place of a relocation on: how many that changes is its
-// type's matter.
+// How many bytes are shown of a symbol of unknown size, and of a relocation, whose number of bytes depends on its type.
 const UNSIZED = 16n, PLACE = 8n;
 
-/** The bytes of the file that a symbol stands for, or some where its size isn't known, or nothing where it has none there. */
+/** Returns the bytes of a symbol in the file, or some if its size is unknown, or nothing if it has none there. */
 export function bytes_of_symbol(table, index, symbol) {
     const of = section_of_symbol(table, index, symbol), section = of === undefined ? undefined : section_at(of);
     if (!section || section.sh_type === goblin.SHT_NOBITS) return undefined;
     return bytes_in(section, of, address_of_symbol(symbol) - (has_addresses() ? section.sh_addr : 0n), symbol.st_size || UNSIZED);
 }
 
-// So many bytes from a place of a section on, as far as these lie in it.
+// Returns a number of bytes from an offset of a section on, cut at its end.
 function bytes_in(section, index, from, size) {
     if (from < 0n || from >= section.sh_size) return undefined;
     const left = section.sh_size - from;
@@ -78,7 +77,7 @@ function bytes_in(section, index, from, size) {
 
 // ---- relocations ----
 
-/** The bytes at the place that a relocation changes, or nothing where it has none in the file. */
+/** Returns the bytes that a relocation changes, or nothing if they are not in the file. */
 export function place_of_relocation({ sh_info }, { r_offset }) {
     if (!has_addresses()) {
         const section = sh_info ? section_at(sh_info) : undefined;
@@ -97,11 +96,11 @@ export function place_of_relocation({ sh_info }, { r_offset }) {
 
 const holds = (start, size, address) => start <= address && address < start + size;
 
-/** The segments that an address lies in, as they are loaded. */
+/** Returns the loaded segments that hold an address. */
 export const segments_of_address = (address) => (has_addresses()
     ? [...segments()].filter(({ segment }) => segment.p_type === PT_LOAD && holds(segment.p_vaddr, segment.p_memsz, address)) : []);
 
-/** The index of the section that an address lies in, or nothing. */
+/** Returns the index of the section that holds an address, or nothing. */
 export function section_of_address(address) {
     if (!has_addresses()) return undefined;
     for (const { index, section } of sections()) {
@@ -112,7 +111,7 @@ export function section_of_address(address) {
     return undefined;
 }
 
-/** The offset of the byte that is loaded at an address, or nothing. */
+/** Returns the offset of the byte that is loaded at an address, or nothing. */
 export function offset_of_address(address) {
     const segment = segments_of_address(address).find(({ segment: { p_vaddr, p_filesz } }) => holds(p_vaddr, p_filesz, address))?.segment;
     let at;
@@ -125,7 +124,7 @@ export function offset_of_address(address) {
     return at !== undefined && at < BigInt(file.content.length) ? Number(at) : undefined;
 }
 
-/** The address at which a byte of the file is loaded, or nothing. */
+/** Returns the address at which a byte of the file is loaded, or nothing. */
 export function address_of_offset(offset) {
     if (!has_addresses()) return undefined;
     const at = BigInt(offset);
@@ -133,7 +132,7 @@ export function address_of_offset(offset) {
     return of && of.p_vaddr + at - of.p_offset;
 }
 
-/** The symbol that an address lies in, as its table, index, name and the distance from its start; or nothing. */
+/** Returns the symbol for an address: its table, index and name, and the distance from its start; or nothing. */
 export function symbol_of_address(address) {
     if (!has_addresses()) return undefined;
     for (const { index: table, section } of sections()) {
@@ -150,7 +149,7 @@ export function symbol_of_address(address) {
 
 // ---- links ----
 
-/** A name with how far behind its start something lies. */
+/** Returns a name with a distance from its start. */
 export const behind = (name, from) => (from > 0n ? `${name} + ${hex(from)}` : name);
 
 export const to_section = (index) => ({ text: called(index), to: `sections/${index}` });

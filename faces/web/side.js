@@ -1,4 +1,4 @@
-// The side: what is chosen, with fields that lead on, and its bytes.
+// The side: what is chosen, with its fields, links and bytes.
 import { button, get, hex, make, plural, put_text, visible } from './dom.js';
 import { copy_hex, hex_view, refusal_of } from './hex.js';
 import { colour } from './map.js';
@@ -6,10 +6,10 @@ import { ask } from './reader.js';
 
 const SIDE_BYTES = 8;
 
-/** A link to a place. */
+/** Returns a link to a location. */
 export const link_to = ({ text, to }) => put_text(make('a', { href: `#${to}` }), text);
 
-/** The cell of a field: its value, what that means, and links to what it leads to. */
+/** Returns the cell of a field: its value, its meaning and its links. */
 export function value_of({ value, meaning, links }) {
     const cell = make('td');
     if (value) cell.append(put_text(make('span'), value));
@@ -24,7 +24,7 @@ async function content_of({ at, size, refused }) {
     return [make('p', { class: 'lies' }, lies), ...(size > 0 ? [hex_view(at, size)] : [])];
 }
 
-// The bytes of that block which is chosen among some, the first to begin with.
+// Returns the view of the chosen block of bytes, at first the first one.
 async function bytes_box(blocks) {
     let current;
     const content = make('div', { class: 'content' });
@@ -42,7 +42,7 @@ async function bytes_box(blocks) {
 }
 
 let asked = 0;
-/** Shows what the worker says of something. */
+/** Shows the worker's description of what is chosen. */
 export async function show_side({ title, what, kind, fields = [], blocks = [] }) {
     const mine = ++asked;
     const bytes = blocks.length ? [await bytes_box(blocks)] : [];

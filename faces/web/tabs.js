@@ -1,4 +1,4 @@
-// The tabs: the header's fields, and the lists with what is searched for in them.
+// The tabs: the header's fields, and the lists with their searches.
 import { button, copy, get, hex, make, number, plural, say, visible } from './dom.js';
 import { Grid } from './grid.js';
 import { refusal_of } from './hex.js';
@@ -6,13 +6,13 @@ import { ask, shown_file } from './reader.js';
 import { go } from './route.js';
 import { link_to, value_of } from './side.js';
 
-// Columns: their titles, how wide they are at least, with a share of what is left or without, and the standard's name of the field.
+// Columns: the title, the least width, whether the column shares the rest of the width, and the standard's name of the field.
 const wide = (least, share) => (share ? `minmax(${least}px, ${share}fr)` : `${least}px`);
 const left = (title, hint, least, share) => ({ title, hint, least, wide: wide(least, share) });
 const right = (...given) => ({ ...left(...given), is_right: true });
 const place = (least) => ({ ...right('#', 'index', least), is_dim: true });
 
-// The columns of each list, where numbers of some kinds are so wide.
+// Returns the columns of each list, for the widths of some kinds of numbers.
 const COLUMNS = {
     sections: ({ address, offset, align, index }) => [
         place(30), left('Name', 'sh_name', 110, 2), left('Type', 'sh_type', 92, 1), right('Address', 'sh_addr', address, 0.4),
@@ -44,7 +44,7 @@ const COLUMNS = {
 };
 export const is_list = (name) => Object.hasOwn(COLUMNS, name);
 
-// The columns of a list of the file that is shown: no number of it is cut, but of damaged files some.
+// Returns the columns of a list of the file that is shown. Numbers fit in their columns, but for some of damaged files.
 function columns_of(name) {
     const { address, offset, align, index } = shown_file.told.signs;
     const room = (signs, least) => Math.max(Math.ceil(7.6 * signs) + 1, least);
@@ -52,26 +52,26 @@ function columns_of(name) {
     return COLUMNS[name](rooms);
 }
 
-// The list that is open: its tab, of which section or by what, and its grid; and the header's rows.
+// The open list: its tab, its section or kind, and its grid. And the header's rows.
 let open = { name: undefined };
 
 // ---- tabs ----
 
-// How many items the tables hold, as far as that is known.
+// Returns the number of items in the tables as text, with `+` if there are more, or `refused`.
 function sum_of({ refused, found, all, others = [] }) {
     if (refused || (found.length > 0 && found.every(({ length }) => length === undefined))) return 'refused';
     const known = found.reduce((total, { length = 0 }) => total + length, 0);
     return all > found.length || others.length ? `${number(known)}+` : number(known);
 }
 
-// Those of sections, or of segments where these have more: not all where some are refused or not read.
+// Returns the number of notes of sections, or of segments if these have more, as text, with `+` if there are more, or `refused`.
 function notes_sum({ sections, segments }) {
     if (sections.length === undefined && !segments.length) return 'refused';
     const { length, refusals, is_cut } = (segments.length ?? 0) > (sections.length ?? 0) ? segments : sections;
     return refusals.length || is_cut ? `${number(length)}+` : number(length);
 }
 
-/** Shows the tabs with how many items each has; those that are refused say so. */
+/** Shows the tabs, each with its number of items or as refused. */
 export function show_tabs() {
     const { told } = shown_file, length = ({ refused, length: count }) => (refused ? 'refused' : number(count));
     open = { name: undefined };
@@ -113,7 +113,7 @@ function select_tab(name) {
     get('panel').setAttribute('aria-labelledby', `tab-${name}`);
 }
 
-/** Opens a tab, of which section or by what; returns once it is shown, with whether it still is. */
+/** Opens a tab with a section or kind. Returns, once it is shown, whether it still is. */
 export async function open_tab(name, of) {
     if (open.name === name && (of === undefined || open.of === of)) {
         await open.ready;
@@ -148,7 +148,7 @@ function header_panel() {
     return [make('div', { class: 'scroll' }, table)];
 }
 
-/** Marks a field of the header as the chosen one; returns what there is to say of it, or nothing where there is no such field. */
+/** Marks a field of the header as chosen, and returns what is shown of it, or nothing if there is no such field. */
 export function choose_field(wanted) {
     for (const row of get('panel').querySelectorAll('[data-field]')) row.setAttribute('aria-selected', row.dataset.field === wanted);
     const field = shown_file.told.header.find(({ name }) => name === wanted);
@@ -160,7 +160,7 @@ export function choose_field(wanted) {
 
 // ---- lists ----
 
-// Which tables of symbols, relocations or notes there are to choose from.
+// Returns the tables of symbols, relocations or notes to choose from.
 function choices(name) {
     const { told } = shown_file;
     const choice = (of, title, length) => ({ of, length, text: `${title} (${length === undefined ? 'refused' : number(length)})` });
@@ -179,7 +179,7 @@ async function list_panel(mine, wanted) {
     let list = Object.hasOwn(NONE, name) || name === 'notes' ? choices(name) : [{ of: undefined }];
     if (wanted !== undefined && !list.some(({ of }) => of === wanted)) list = [{ of: wanted, text: `section ${wanted}` }, ...list];
     if (list.length === 0) return [make('p', { class: 'empty' }, NONE[name]), ...others_of(name)];
-    // (what is refused comes before what is empty)
+    // (a refusal is shown before an empty list)
     const weight = ({ length }) => length ?? 0.5;
     const longest = list.reduce((best, item) => (weight(item) > weight(best) ? item : best));
     mine.of = wanted ?? longest.of;
@@ -195,7 +195,7 @@ async function list_panel(mine, wanted) {
     return [bar, mine.below, mine.grid.box];
 }
 
-// Shows the list anew, as it is searched and sorted.
+// Shows the list again, for its search and order.
 async function refresh(mine) {
     const { name, of, query, column, is_descending, output, below, grid } = mine;
     output.textContent = 'reading …';
@@ -213,14 +213,14 @@ async function refresh(mine) {
 
 const count_of = ({ length, all }, query) => (query ? `${number(length)} of ${number(all)}` : number(all));
 
-// What is said of a list that is refused, or isn't there, or lacks items.
+// Returns the message for a list that is refused, missing or incomplete.
 async function notices_of({ name, of }, { refused, is_none }) {
     if (name === 'notes') return note_refusals(of);
     if (is_none) return [make('p', { class: 'empty' }, `Section ${of} holds no ${name}.`)];
     return refused ? [await refusal_of(refused)] : others_of(name);
 }
 
-// What is said of the sections of relocations that are not listed.
+// Returns the message for relocation sections that are not listed.
 function others_of(name) {
     const { others = [] } = shown_file.told[name] ?? {};
     if (!others.length) return [];
@@ -241,7 +241,7 @@ async function go_to_row(mine, at, is_step) {
     if (open === mine) go(place_of(mine, index), is_step);
 }
 
-// Goes to a row, and into what is said of it.
+// Goes to a row, and to what is shown of it.
 async function open_row(mine, at) {
     const index = await ask('index', { list: mine.name, at });
     if (open !== mine) return;
@@ -249,7 +249,7 @@ async function open_row(mine, at) {
     get('chosen').querySelector('h2')?.focus();
 }
 
-/** Makes the item of an index the active row of the list that is open: where it isn't among those that are shown, all are. */
+/** Makes the item with an index the active row of the open list. If the search hides it, the search ends. */
 export async function activate(index) {
     const mine = open, { name, grid } = mine;
     if (!grid || grid.box.hidden) return;
@@ -305,7 +305,7 @@ function search_field(mine) {
     return search;
 }
 
-// Copies what a function makes of the active row's cells, whose signs that are not seen are made visible.
+// Copies the result of a function for the active row's cells, whose invisible characters are made visible.
 function copy_active(grid, of, what) {
     const cells = grid.active_cells;
     if (cells) copy(of(cells.map(visible)), what); else say('Choose a row first');

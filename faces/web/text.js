@@ -1,11 +1,11 @@
-// Texts of bytes that may be none, for the worker.
+// Texts of bytes that may not be UTF-8, for the worker.
 
-/** How many bytes of a name are shown, searched and sorted by. */
+/** How many bytes of a name are shown, searched and sorted by at most. */
 export const NAME = 1024;
 
 const strict = new TextDecoder('utf-8', { fatal: true, ignoreBOM: true });
 
-// A text of bytes that may be none: each byte that is no text is U+DC00 and the byte, which no text holds.
+// Returns the text of bytes that may not be UTF-8. Each byte that is not UTF-8 is the character U+DC00 plus the byte, which UTF-8 doesn't have.
 function text_of(bytes) {
     try {
         return strict.decode(bytes);
@@ -20,7 +20,7 @@ function text_of(bytes) {
     }
 }
 
-// The sign at a place, or U+DC00 and the byte that stands there.
+// Returns the character at an offset, or U+DC00 plus the byte there.
 function sign_at(bytes, at) {
     const first = bytes[at], size = first < 0x80 ? 1 : first < 0xe0 ? 2 : first < 0xf0 ? 3 : 4;
     let code = size === 1 ? first : first & (0x7f >> size);
@@ -34,7 +34,7 @@ function sign_at(bytes, at) {
     return is_text ? { code, size } : { code: 0xdc00 + first, size: 1 };
 }
 
-/** The text of a name's first bytes, of which there may be one more than are shown: cut where it is long. */
+/** Returns the text of a name's first bytes, of which there may be one more than is shown. A long text is cut. */
 export function name_of(bytes) {
     if (bytes.length <= NAME) return text_of(bytes);
     let end = NAME;

@@ -1,6 +1,6 @@
-// Reads a file for the page, so that the page keeps answering. A worker reads one file: a message { id, call, given } is answered
-// by { id, told }, or by { id, failed }; what the library refuses is told as { refused }. What takes long is done some at a time,
-// and ends where it is asked for anew.
+// Reads a file for the page, so that the page stays responsive. A worker reads one file. It answers a message { id, call, given } by
+// { id, told } or { id, failed }. A refusal of the library is { refused } in `told`. What takes long is done in steps, and ends if the same is
+// requested again.
 import init, * as goblin from './goblin.js';
 import { address_details, header_fields, is_address, item_details, offset_details } from './details.js';
 import {
@@ -16,10 +16,10 @@ import { hex } from './text.js';
 
 // ---- opening ----
 
-// How many bytes are read before it is said how many there are still.
+// How many bytes are read before the progress is sent.
 const CHUNK = 1 << 24;
 
-// The bytes of a file, read some at a time.
+// Returns the bytes of a file, which are read in steps.
 async function bytes_of(given) {
     const bytes = new Uint8Array(given.size);
     for (let at = 0; at < given.size; at += CHUNK) {
@@ -30,20 +30,20 @@ async function bytes_of(given) {
     return bytes;
 }
 
-// Sections that hold a list: of so many at most their index, name and count, of those behind only how many.
+// Returns the sections that hold a list: the index, name and number of items of the first ones, and the number of the others.
 const MOST_TABLES = 200;
 function tables(types, list_of) {
     const found = [];
     let all = 0;
     for (const { index, section } of sections()) {
         if (!types.includes(section.sh_type) || ++all > MOST_TABLES) continue;
-        // (what is refused says why where it is chosen)
+        // (a refusal is shown once the section is chosen)
         found.push({ index, name: called(index, section), length: told_or(undefined, () => list_of(section, index).length) });
     }
     return { found, all };
 }
 
-// The sections of relocations without types, packed as bits, which the library doesn't read.
+// Returns the sections of type SHT_RELR, whose relocations are packed as bits. The library doesn't read them.
 const packed_relocations = () => [...sections()].filter(({ section }) => section.sh_type === RELR).slice(0, MOST_TABLES)
     .map(({ index, section }) => ({ text: called(index, section), to: `sections/${index}` }));
 
@@ -63,7 +63,7 @@ function map() {
     return { starts: Float64Array.from(starts), kinds, depths: Uint32Array.from(depths), segments: loaded, KINDS };
 }
 
-// How many signs the longest number of some kinds has.
+// Returns the number of characters of the longest number of some kinds.
 function signs() {
     let address = 0n, align = 0n, index = 0;
     const raise = (end) => { if (end > address && end < 1n << 64n) address = end; };
@@ -96,10 +96,10 @@ function overview() {
     };
 }
 
-// ---- what the page asks for ----
+// ---- the page's calls ----
 
-// What the page's lists show, by the list's name: its source, and the indices in their order, where it is another one. And which
-// run over a list, or over all for a text, was asked for last.
+// What the page's lists show, by the list's name: the source, and the indices in their order if it isn't the list's own. And the last
+// request of each list, and of the search over all.
 const views = {}, runs = {};
 
 function begin(name) {
@@ -108,7 +108,7 @@ function begin(name) {
 }
 
 const CSV_QUOTED = /[",\r\n]/, CSV_FORMULA = /^[=+\-@\t\r]/;
-// (a spreadsheet would run what starts as a formula)
+// (a spreadsheet would run a text that starts like a formula)
 function csv_cell(text) {
     const safe = CSV_FORMULA.test(text) ? `'${text}` : text;
     return CSV_QUOTED.test(safe) ? `"${safe.replaceAll('"', '""')}"` : safe;
@@ -127,7 +127,7 @@ const calls = {
         return overview();
     },
 
-    // The names of parts of the map.
+    // Returns the names of parts of the map.
     titles(indices) {
         const { tops } = parts();
         return indices.map((index) => (tops[index] ? titled(tops[index]).title : ''));
@@ -135,7 +135,7 @@ const calls = {
 
     bytes([at, size]) { return file.content.slice(at, at + size); },
 
-    // Makes a list ready: of a source, those that a text is found in, sorted by a column.
+    // Prepares a list: the items of a source that have a text, sorted by a column.
     async view({ list, of, query = '', column = 0, is_descending = false }) {
         const is_wanted = begin(list), before = views[list];
         const source = before && before.of === of ? before.source : open_source(list, of);
@@ -156,7 +156,7 @@ const calls = {
         return rows;
     },
 
-    // Where an item stands in the list that is shown, or -1.
+    // Returns the position of an item in the list that is shown, or -1.
     position({ list, index }) {
         const { order, length } = views[list];
         return order ? order.indexOf(index) : index < length ? index : -1;
@@ -167,7 +167,7 @@ const calls = {
         return order ? order[at] : at;
     },
 
-    // The list that is shown, as lines of values with commas between them.
+    // Returns the list that is shown, as lines of values separated by commas.
     async csv({ list, titles }) {
         const { source, order } = views[list], lines = [csv_line(titles)];
         if (order) {
