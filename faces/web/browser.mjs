@@ -1,7 +1,7 @@
-// Whether the page shows files in a browser as readelf and C report them, and leads from each thing to the next: browser.mjs NAME
-// BROWSER PAGE DUMP MADE FILE.., where NAME is chromium or firefox, DUMP is made of faces/c/dump.c with its symbols, and MADE is the
-// folder of the files that faces/c/made.c makes; the last FILE is a program for x86-64. The test picks each file as a person does. No
-// request may leave, no script may fail, and no name may be markup.
+// Tests the page in a browser, beside readelf and C: browser.mjs NAME BROWSER PAGE DUMP MADE FILE..
+// NAME is chromium or firefox, DUMP is the program of faces/c/dump.c with its symbols, and MADE is the folder of the files that faces/c/made.c
+// makes. The last FILE is a program for x86-64. The test picks each file as a person does, and follows the page's links. The page may send no
+// request, no script may fail, and no name may be markup.
 import assert from 'node:assert/strict';
 import { spawnSync } from 'node:child_process';
 import { mkdtempSync, readdirSync, readFileSync, rmSync, truncateSync, writeFileSync } from 'node:fs';
@@ -25,7 +25,7 @@ const quoted = JSON.stringify;
 const text_of = (selector) => evaluate(`document.querySelector(${quoted(selector)})?.textContent ?? null`);
 const is_busy = `document.body.ariaBusy === 'true'`;
 
-// Picks a file, whose name the bar then has.
+// Picks a file, and waits until the bar has its name.
 async function pick(path) {
     await evaluate(`document.getElementById('file').replaceChildren()`);
     await browser.pick('#pick', path);
@@ -47,7 +47,7 @@ async function open_tab(name) {
     await until(`document.querySelector('#panel .grid[aria-label=${name}]') && (${drawn})`);
 }
 
-// Goes to a place, and waits until a text stands in the title of what is chosen.
+// Goes to a location, and waits until the title of what is chosen has a text.
 async function go(place, title) {
     await evaluate(`void (location.hash = ${quoted(place)})`);
     await until_chosen(title);
@@ -63,7 +63,7 @@ const press_button = (text) =>
 const field_of = (name) =>
     evaluate(`[...document.querySelectorAll('#chosen tr')].find((row) => row.firstChild.textContent === ${quoted(name)})?.lastChild.innerText`);
 
-// The bytes that the side shows first, as many as its lines have that are drawn.
+// Returns the first bytes that the side shows, in the lines that are drawn.
 async function bytes_shown() {
     await until(`document.querySelector('#chosen .hex .row')?.row`);
     const lines = await evaluate(`[...document.querySelectorAll('#chosen .hex .row')].map((row) => [...row.children[1].childNodes]
@@ -86,7 +86,7 @@ async function go_by_field(text) {
     await browser.press('Enter');
 }
 
-// ---- what others report ----
+// ---- what readelf and C report ----
 
 function run(command, ...words) {
     const { stdout, error } = spawnSync(command, words, { encoding: 'utf8', env: { ...process.env, LC_ALL: 'C' }, maxBuffer: 1 << 28 });
@@ -105,7 +105,7 @@ function counts_of(path) {
     };
 }
 
-// The sections of a file, by their names: index, type, address, offset and size.
+// Returns the sections of a file by their names: index, type, address, offset and size.
 function sections_of(path) {
     const pattern = /^ {2}\[ *(\d+)\] (\S+) +([A-Z_]+) +([0-9a-f]+) ([0-9a-f]+) ([0-9a-f]+)/gm;
     return Object.fromEntries([...run('readelf', '-W', '-S', path).matchAll(pattern)].map(([, index, name, type, ...numbers]) => {
@@ -114,7 +114,7 @@ function sections_of(path) {
     }));
 }
 
-// The symbols of the table of a file that has all: index, value, size, type, section and name.
+// Returns the symbols of a file's symbol table: index, value, size, type, section and name.
 function symbols_of(path) {
     const [, table] = run('readelf', '-W', '-s', path).split("'.symtab'");
     return [...table.matchAll(/^ *(\d+): ([0-9a-f]+) +(\d+|0x[0-9a-f]+) (\w+) +\w+ +\w+ +(\S+) ?(\S*)$/gm)]
@@ -122,7 +122,7 @@ function symbols_of(path) {
             ({ index: Number(index), value: parseInt(value, 16), size: Number(size), type, section, name }));
 }
 
-// ---- what is shown of files ----
+// ---- what the page shows of files ----
 
 async function check_counts(path) {
     await pick(path);
@@ -150,7 +150,7 @@ async function check_refusal(content, what, ...words) {
     assert.equal(await evaluate(`document.getElementById('told').hidden`), true);
 }
 
-// A file of which nothing is read: the page says why in its own words, in place of the file before.
+// A file that is not read: the page shows why, instead of the previous file.
 async function check_trouble(content) {
     await pick(made);
     await pick_written('empty', '');
@@ -167,7 +167,7 @@ async function check_trouble(content) {
     assert.match(await text_of('#start .drop'), /at most 2 GiB/);
 }
 
-// Where the section headers are refused, no list that is made of them says that there is nothing.
+// If the section headers are refused, no list that is made from them is shown as empty.
 async function check_unknown(content) {
     const cut = Buffer.from(content);
     cut.writeBigUInt64LE(BigInt(content.length), 0x28);
@@ -188,17 +188,17 @@ async function check_unknown(content) {
     await evaluate(`document.getElementById('tab-relocations').click()`);
     await until(`document.getElementById('panel').textContent.endsWith('Not listed are the packed relocations (SHT_RELR) of .relr.dyn')`);
     assert.equal(await text_of('#tab-relocations span'), '0+');
-    // (a place may name a section that is no such list, in which nothing is found)
+    // (a location may name a section that is not such a list; then nothing is found)
     await evaluate(`void (location.hash = 'symbols/1')`);
     await until(`document.querySelector('#panel .notice')?.textContent === 'Section 1 holds no symbols.'`);
     await search('a', 'none');
-    // (a note whose owner is no text is refused, and those after it are not read)
+    // (a note whose owner is not UTF-8 is refused, and those after it are not read)
     await open_tab('notes');
     assert.equal(await text_of('#tab-notes span'), '1+');
     assert.match(await text_of('#panel .refused'), /^Refused: /);
 }
 
-// The legend's percentages, by its words.
+// Returns the legend's percentages by their names.
 async function shares() {
     const items = await evaluate(`[...document.querySelectorAll('#legend li')].map((item) => item.textContent)`);
     const found = items.flatMap((item) => [...item.matchAll(/^(.+) ([\d.]+) %$/g)]);
@@ -212,7 +212,7 @@ const core_notes = [
     ['LINUX', 0x7777, '0x7777', 72],
 ];
 
-// A core's memory and notes are pieces, each thread's by its number, and so are the segments of a program without section headers.
+// The memory and notes of a core file are pieces, with the number of each thread. So are the segments of a program without section headers.
 async function check_segments() {
     const notes = core_notes.map(([owner, type, name, thread]) => note(owner, type, name === 'PRSTATUS' ? status(thread) : Buffer.alloc(64)));
     const segments = [{ type: 4, bytes: Buffer.concat(notes) }, { flags: 5, vaddr: 0x400000, bytes: Buffer.alloc(4096, 1) },
@@ -240,7 +240,7 @@ async function check_segments() {
     assert.ok(covered > 0 && Math.abs(gap - 100 * (stripped.length - covered) / stripped.length) < 0.1, `gap ${gap} %`);
 }
 
-// Names where they fit machine and owner, and numbers where there is none.
+// Names depend on the machine and the owner. Numbers without a name are shown as numbers.
 async function check_labels() {
     const bytes = Buffer.alloc(8), text = (name, type, flags = 0) => ({ name, type, flags, bytes });
     const notes = { name: '.note', type: 7, bytes: Buffer.concat([note('stapsdt', 3, bytes), note('GNU', 3, bytes), note('other', 3, bytes)]) };
@@ -263,7 +263,7 @@ async function check_labels() {
     assert.match(await field_of('st_other'), /STV_DEFAULT \(0\)/);
 }
 
-// While a large file is read, the one before stays, named and usable; that it is read is said, with what is left.
+// While a large file is read, the previous one stays, with its name, and can be used. The page shows how much is left.
 async function check_loading(content) {
     await pick(dump);
     await open_tab('sections');
@@ -290,7 +290,7 @@ async function check_loading(content) {
     rmSync(large);
 }
 
-// ---- where things lead ----
+// ---- links ----
 
 const bytes_of = (path, at, size) => readFileSync(path).subarray(at, at + size).toString('hex');
 
@@ -301,7 +301,7 @@ async function check_symbol_links() {
     await go(`symbols/${sections['.symtab'].index}/${main.index}`, 'main');
     const at = main.value - text[1].address + text[1].offset, shown = await bytes_shown();
     assert.ok(shown.length > 40 && bytes_of(dump, at, main.size).startsWith(shown), shown);
-    // (one without a size has those from its place on)
+    // (a symbol without a size has the bytes from its offset on)
     const label = symbols_of(dump).find(({ type, size, section }) => type === 'NOTYPE' && size === 0 && section === `${sections['.data'].index}`);
     await go(`symbols/${sections['.symtab'].index}/${label.index}`, label.name);
     const from = label.value - sections['.data'].address + sections['.data'].offset;
@@ -327,7 +327,7 @@ async function check_symbol_links() {
     await until_chosen('main');
 }
 
-// A link to a place leads there once the file is picked.
+// A link to a location leads there once the file is picked.
 async function check_kept_link() {
     const { index } = sections_of(dump)['.dynstr'];
     await browser.open(`${url}#sections/${index}`);
@@ -350,7 +350,7 @@ async function check_section_links() {
     }
 }
 
-// One goes back from row to row, and over the steps of the arrow keys at once.
+// Back goes from row to row. The steps of the arrow keys count as one.
 async function check_history() {
     await pick(dump);
     await open_tab('sections');
@@ -366,7 +366,7 @@ async function check_history() {
     await evaluate('history.back()');
     await until_chosen(first);
     assert.equal(await evaluate(`document.querySelector('#panel .row[aria-selected=true]').children[1].textContent`), first);
-    // (what names no place leaves a tab open; that no script fails at it is seen at the end)
+    // (what is not a location leaves a tab open; a failing script would be reported at the end)
     for (const wrong of ['%', 'sections/x', 'offset/0xffffffffffffffff', 'address/0x', 'symbols/99999/1', '__proto__/1']) {
         await evaluate(`void (location.hash = ${quoted(wrong)})`);
         await new Promise((resume) => setTimeout(resume, 50));
@@ -392,7 +392,7 @@ async function check_relocation_links() {
     await follow(all[at][3]);
     await until(`location.hash.startsWith('#symbols/${sections['.dynsym'].index}/')`);
     await until(`[...document.querySelectorAll('#chosen th')].some((cell) => cell.textContent === 'st_info')`);
-    // of an object file, whose relocations have offsets in the section at sh_info
+    // an object file, whose relocations have offsets in the section at sh_info
     const bytes = Buffer.from('0011223344556677', 'hex'), table = { name: '.rela.text', type: 4, link: 0, info: 1, entsize: 24 };
     const object = elf_file({ sections: [{ name: '.text', type: 1, flags: 6, bytes }, { ...table, bytes: rela({ offset: 3, type: 2 }) }] });
     await pick_written('object', object);
@@ -431,7 +431,7 @@ async function check_search() {
     assert.ok(kinds > 0);
     const files_of = symbols.filter(({ type, name }) => type === 'FILE' || /file/i.test(name));
     await search('FILE', `${files_of.length} of ${all}`);
-    // Enter opens the first row that is found, and one of the list, whose heads stand before it.
+    // Enter opens the first result, and a row of the list, whose column heads are before it.
     await search('main', `${symbols.filter(({ name }) => name.includes('main')).length} of ${all}`);
     await evaluate(`document.querySelector('#panel input').focus()`);
     await browser.press('Enter');
@@ -445,10 +445,10 @@ async function check_search() {
     await until(`document.activeElement === document.querySelector('#chosen h2')`);
 }
 
-// Types that readelf calls by other names than the ABI.
+// Types that have other names in readelf than in the ABI.
 const NAMED_OTHERWISE = { 40: [32, 33, 34, 35, 36, 37, 129, 135], 183: [1028, 1029, 1030] };
 
-// The types of relocations of five machines have the names that readelf has for them.
+// The types of relocations of five machines have readelf's names.
 async function check_relocation_names() {
     for (const [machine, least] of [[62, 43], [3, 42], [183, 117], [40, 117], [243, 53]]) {
         const bytes = Buffer.concat(Array.from({ length: 1040 }, (_, type) => rela({ type })));
@@ -465,7 +465,7 @@ async function check_relocation_names() {
     }
 }
 
-// Saves the list that is open; returns what the file has.
+// Saves the open list, and returns the content of the file.
 async function saved(name) {
     const before = new Set(readdirSync(browser.downloads)), is_done = (file) => file.endsWith('.csv') && !before.has(file);
     await press_button('Save CSV');
@@ -480,7 +480,7 @@ async function saved(name) {
     throw new Error('nothing is saved');
 }
 
-// An index of a section that has no room in its symbol, and the symbol that stands for a section.
+// A section's index that does not fit in its symbol, and the symbol of a section.
 async function check_section_indices() {
     const names = Buffer.from('\0past\0'), at = (index) => ({ name: `.s${index}`, type: 1, bytes: Buffer.alloc(0) });
     const symbols = Buffer.concat([symbol({}), symbol({ info: 3, shndx: 5 }), symbol({ name: 1, info: 0x12, shndx: 0xffff })]);
@@ -524,11 +524,11 @@ async function check_copies() {
     assert.equal((await copied('Copy hex')).replaceAll(' ', ''), bytes_of(dump, at, main.size));
     const lines = (await saved('symbols')).trim().split('\r\n').map((line) => line.split(','));
     assert.deepEqual(lines[0], ['#', 'Name', 'Value', 'Size', 'Type', 'Binding', 'Visibility', 'Section']);
-    // (names have commas too)
+    // (names may have commas)
     assert.deepEqual(lines.slice(1).map(([number, ...others]) => [number, ...others.slice(-6, -4)].map(Number)),
         symbols.map((item) => [item.index, item.value, item.size]));
     assert.equal(lines[1 + main.index][1], 'main');
-    // (what a spreadsheet would run, and what ends a cell)
+    // (a text that a spreadsheet would run, and one that would end a cell)
     await check_formula();
 }
 
@@ -541,7 +541,7 @@ async function check_formula() {
     assert.ok(lines[2].startsWith("1,'=1+1,0x0,") && lines[3].startsWith('2,"a,""b""",0x0,'), lines.join('\n'));
 }
 
-// ---- what one reads ----
+// ---- layout ----
 
 async function check_words() {
     await pick(made);
@@ -553,7 +553,7 @@ async function check_words() {
     assert.deepEqual(heads.slice(3, 7), [['Offset', 'p_offset'], ['File size', 'p_filesz'], ['Address', 'p_vaddr'], ['Memory size', 'p_memsz']]);
 }
 
-// What a list cuts has the whole beside the pointer, and segments' cells are cut nowhere.
+// A cut cell has its whole text as a tooltip, and cells of segments are not cut.
 async function check_cells() {
     await browser.resize(1280, 900);
     await pick(files.at(-1));
@@ -575,8 +575,7 @@ async function check_cells() {
 
 const sizes = [[1280, 900], [800, 900], [400, 800]];
 
-// In windows of three widths: the map takes a third at most, nothing is broken in the middle of words, and the page has no scroll
-// bar beside that of the list.
+// In windows of three widths: the map takes at most a third, no word is broken, and the page has no scroll bar but that of the list.
 async function check_widths() {
     await pick(files.at(-1));
     for (const [width, height] of sizes) {
@@ -599,7 +598,7 @@ async function check_widths() {
                 && !['visible', 'hidden'].includes(getComputedStyle(box).overflowY)).map((box) => box.className || box.tagName)`);
         assert.ok(bars.length <= 1 && bars.every((name) => name === 'grid'), `${width}: ${bars}`);
         assert.ok(await evaluate(`document.documentElement.scrollWidth <= innerWidth`), `${width}`);
-        // The side is seen beside the list, or in its place until one goes back.
+        // The side is beside the list, or replaces it until the user goes back.
         await evaluate(`document.querySelectorAll('#panel .body .row')[1].children[1].click()`);
         await until(`document.querySelector('#chosen').offsetParent !== null && document.querySelector('#chosen h2').textContent !== 'ei_data'`);
         assert.equal(await evaluate(`document.getElementById('panel').offsetParent !== null`), width > 1000);
@@ -609,7 +608,7 @@ async function check_widths() {
     await browser.resize(1400, 1600);
 }
 
-// The colours that the map has where a row of it starts, and how they stand off.
+// Returns the colours at the start of a row of the map, and their contrast.
 const PIXELS = `(() => {
     const canvas = document.getElementById('canvas'), pen = canvas.getContext('2d');
     const probe = (colour) => {
@@ -628,7 +627,7 @@ async function check_map() {
     await pick(path);
     const each = Number(/each row has ([\d,]+) bytes/.exec(await text_of('#readout'))[1].replaceAll(',', ''));
     await check_gap();
-    // A segment is outlined in each row that it lies in.
+    // A segment is outlined in each of its rows.
     const index = [...run('readelf', '-W', '-l', path).matchAll(/^ {2}[A-Z_]+ +(0x\S+)/gm)].findIndex(([, offset]) => Number(offset) === start);
     await go(`segments/${index}`, `segment ${index}, LOAD`);
     const rows = await evaluate(`(() => {
@@ -645,7 +644,7 @@ async function check_map() {
     const first = Math.floor(start / each), last = Math.floor((start + size - 1) / each);
     assert.ok(last > first);
     assert.deepEqual(rows, Array.from({ length: last - first + 1 }, (_, i) => first + i));
-    // The line above the map says what is below the pointer, and nothing of it once the pointer is elsewhere.
+    // The line above the map describes what is below the pointer, until the pointer leaves.
     const { left, top, width } = await evaluate(`document.getElementById('canvas').getBoundingClientRect().toJSON()`);
     await browser.point(left + width / 2, top + 10);
     await until(`/ · 0x[0-9a-f]+ to 0x/.test(document.getElementById('readout').textContent)`);
@@ -653,7 +652,7 @@ async function check_map() {
     await until(`/^\\d+ parts, drawn to scale/.test(document.getElementById('readout').textContent)`);
 }
 
-// The edge of a gap stands off from the ground and what is in it by 3 to 1.
+// The contrast of a gap's edge with the background and with its inside is at least 3 to 1.
 async function check_gap() {
     const { edge, ground, count } = await evaluate(`(() => {
         const { pen, canvas, style } = ${PIXELS}, edge = style('gap'), wanted = edge.join();
@@ -678,7 +677,7 @@ async function check_themes() {
     }
 }
 
-// The made file with other bytes in the place of a name.
+// Returns the made file with other bytes instead of a name.
 function renamed(content, name, bytes) {
     const at = content.indexOf(`\0${name}\0`) + 1;
     assert.ok(at > 0 && bytes.length === Buffer.byteLength(name), name);
@@ -703,7 +702,7 @@ async function check_names() {
     assert.equal(await evaluate(`document.querySelectorAll('img').length`), 0);
 }
 
-// By the keyboard: the map's parts, in words too, a row of a list, and the next tab.
+// The keyboard reaches the map's parts, which are also described in words, a row of a list, and the next tab.
 async function check_keys() {
     await pick(made);
     await open_tab('sections');
@@ -720,7 +719,7 @@ async function check_keys() {
     await until(`document.activeElement.id === 'tab-segments' && document.activeElement.ariaSelected === 'true'`);
 }
 
-// Where the engine lacks what the library needs, the page says so, and takes no file.
+// If the engine lacks what the library needs, the page says so, and reads no file.
 async function check_unsupported() {
     for (const hidden of ['WebAssembly.validate = () => false;', 'delete globalThis.WebAssembly;']) {
         const show = await browser.before_pages(hidden);
@@ -734,7 +733,7 @@ async function check_unsupported() {
     assert.equal(await evaluate(`document.getElementById('unsupported').hidden && !document.getElementById('drop').hidden`), true);
 }
 
-// Whether requests of an empty page are heard of: without that none would be missed.
+// Tests that the test sees the requests of an empty page. Else it would miss the page's.
 async function check_hearing() {
     const asked = 'http://127.0.0.1:4999/heard';
     await evaluate(`fetch(${quoted(asked)}, { mode: 'no-cors' }).catch(() => null).then(() => null)`);
@@ -772,7 +771,7 @@ const checks = {
     map: check_map, themes: check_themes, names: check_names, keys: check_keys, requests: check_requests, unsupported: check_unsupported,
 };
 
-// Whether the browser has what the library needs, by its own word: a memory of 64 bits.
+// Reports whether the browser has 64-bit memories, which the library needs.
 const is_able = `WebAssembly.validate(new Uint8Array([0, 97, 115, 109, 1, 0, 0, 0, 5, 3, 1, 4, 0]))`;
 
 async function run_checks() {

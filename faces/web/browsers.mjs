@@ -1,15 +1,15 @@
-// Headless browsers for the page's test, each with the same calls: Chromium, spoken to by its pipe, and Firefox, by its socket.
-// Both hear of every request and of every fault of a script, pick files as a person does, and press keys.
+// Headless browsers for the page's test, with the same methods: Chromium, by its pipe, and Firefox, by its socket.
+// Both report every request and every failure of a script, pick files as a person does, and press keys.
 import { spawn } from 'node:child_process';
 import { randomBytes } from 'node:crypto';
 import { mkdirSync, writeFileSync } from 'node:fs';
 import { request } from 'node:http';
 import { join } from 'node:path';
 
-/** How many milliseconds are waited for what is to come, on a machine that may be busy with proofs. */
+/** How many milliseconds the test waits for a result, on a machine that may be busy with proofs. */
 export const PATIENCE = 120_000;
 
-// Answers to what was asked, by the numbers of what was asked.
+// Requests and their answers, by number.
 class Calls {
     #waiting = new Map();
     #asked = 0;
@@ -30,8 +30,7 @@ class Calls {
     }
 }
 
-// A WebSocket that sends and receives texts (RFC 6455). Node 20 has none without an option, and with it one that stops after 4,096
-// messages.
+// A WebSocket for texts (RFC 6455). Node 20 has none without an option, and with the option one that stops after 4,096 messages.
 class Socket {
     #rest = Buffer.alloc(0);
     #parts = [];
@@ -52,7 +51,7 @@ class Socket {
         });
     }
 
-    // A text in one frame, masked as those of clients are.
+    // Returns a text in one frame, masked as a client's must be.
     send(text) {
         const content = Buffer.from(text), { length } = content, mask = randomBytes(4);
         const head = length < 126 ? Buffer.from([0x81, 0x80 | length]) : Buffer.alloc(length < 0x10000 ? 4 : 10);
@@ -62,7 +61,7 @@ class Socket {
         this.stream.write(Buffer.concat([head, mask, content]));
     }
 
-    // Takes the frames that have come whole, which a server doesn't mask.
+    // Reads the complete frames, which a server doesn't mask.
     #read(data) {
         this.#rest = Buffer.concat([this.#rest, data]);
         for (;;) {
@@ -75,7 +74,7 @@ class Socket {
         }
     }
 
-    // A frame: the start of a text or more of it, where it is no ping or the like.
+    // Reads a frame: a text or a part of it, unless it is a control frame such as a ping.
     #take(first, content) {
         if ((first & 0x0f) > 1) return;
         this.#parts.push(content);
@@ -88,7 +87,7 @@ class Socket {
 class Browser {
     requests = [];
     faults = [];
-    /** What the browser says that a page's policy refuses, and in Chromium other messages of its own. */
+    /** The messages of the browser on what the page's policy blocks. In Chromium also its other messages. */
     refusals = [];
 
     constructor(folder) {
@@ -98,7 +97,7 @@ class Browser {
         mkdirSync(this.profile);
     }
 
-    /** What an expression, which may be a promise, is. */
+    /** Returns the value of an expression, which may be a promise. */
     async evaluate(expression) {
         const told = await this.run(`(async () => JSON.stringify(await (${expression})) ?? 'null')()`);
         return JSON.parse(told);
@@ -149,12 +148,12 @@ export class Chromium extends Browser {
         if (id) this.calls.answer(message);
         if (method === 'Network.requestWillBeSent') this.requests.push(params.request.url);
         if (method === 'Runtime.exceptionThrown') this.faults.push(params.exceptionDetails.exception?.description ?? params.exceptionDetails.text);
-        // (but hints on how a page draws)
+        // (without hints on rendering)
         if (method === 'Log.entryAdded' && params.entry.source !== 'rendering') this.refusals.push(params.entry.text);
         if (method === 'Target.attachedToTarget') this.#watch(params.sessionId);
     }
 
-    // Hears of the requests and faults of a page, and of its workers before they start.
+    // Subscribes to the requests and failures of a page, and to its workers before they start.
     async #watch(session) {
         await Promise.all([
             this.#ask('Network.enable', {}, session), this.#ask('Runtime.enable', {}, session), this.#ask('Log.enable', {}, session),
@@ -163,7 +162,7 @@ export class Chromium extends Browser {
         await this.#ask('Runtime.runIfWaitingForDebugger', {}, session);
     }
 
-    /** Runs a script before each page's own. */
+    /** Runs a script before the scripts of each page. */
     async before_pages(script) {
         const { identifier } = await this.#ask('Page.addScriptToEvaluateOnNewDocument', { source: script });
         return () => this.#ask('Page.removeScriptToEvaluateOnNewDocument', { identifier });
@@ -229,7 +228,7 @@ export class Firefox extends Browser {
         this.tab = (await this.#ask('browsingContext.getTree')).contexts[0].context;
     }
 
-    // Where the browser listens, which it says once it does.
+    // Returns the address at which the browser listens, which it prints.
     #address() {
         return new Promise((resolve, reject) => {
             let text = '';
