@@ -108,13 +108,14 @@ bench-faces:
 	$(has_rt)
 	@sh checks/bench_faces.sh
 
-# Installs the library with its header, pkg-config file and Rust crate: make install PREFIX=/usr/local [DESTDIR=/tmp/root]
-# [LIBDIR=lib/x86_64-linux-gnu] [CPU=x86-64-v2] [TARGET=aarch64-unknown-linux-gnu]; or puts the same into an archive, whose name has
-# the version and the target: make dist [TARGET=aarch64-unknown-linux-gnu]. TARGET=wasm64-unknown-unknown makes the module, its
-# JavaScript and the page. What an earlier version installed below PREFIX is removed first; `uninstall` only removes it.
+# Installs the library with its header, pkg-config file, examples and Rust crate, and the program if it is proved and built: make install
+# PREFIX=/usr/local [DESTDIR=/tmp/root] [LIBDIR=lib/x86_64-linux-gnu] [CPU=x86-64-v2] [SHARED=1] [TARGET=aarch64-unknown-linux-gnu];
+# or puts the same into an archive, whose name has the version and the target: make dist [TARGET=aarch64-unknown-linux-gnu].
+# TARGET=wasm64-unknown-unknown makes the module, its JavaScript and the page. faces/install.sh says what each variable does. What an
+# earlier version installed below PREFIX is removed first; `uninstall` only removes it.
 PREFIX ?= /usr/local
 LIBDIR ?= lib
-export CPU TARGET
+export CPU TARGET SHARED
 install:
 	@LIBDIR='$(patsubst $(PREFIX)/%,%,$(LIBDIR))' sh faces/install.sh "$(DESTDIR)$(PREFIX)"
 
