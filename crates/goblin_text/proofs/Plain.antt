@@ -16,6 +16,7 @@ use Rattle.goblin.specs.TextLaws.{texts-join}
 use Rattle.goblin_text.proofs.Blocks.{edge_bounds}
 use Rattle.goblin_text.specs.declared.runs.Kind.{Kind}
 use Rattle.goblin_text.specs.declared.runs.Kind.TheVariants.{Plain, Text}
+use Rattle.goblin_text.specs.declared.runs.TheConstants.{BLOCK}
 use Rattle.goblin_text.specs.Runs.{IsBlock, IsOf, IsPlain, IsRun, LacksText, edge, past, up_to_zero}
 
 -- ---- up to a zero byte
@@ -255,21 +256,21 @@ kinds-join Text bytes i j k l m p q = texts-join bytes i j k l m p q
 kinds-join Plain bytes i j k l m p q = subst IsPlain (sym (split bytes i j k l m)) (plain-join _ _ p q)
 
 -- what is of a kind up to a run of blocks, and the run
-pub of_up_to : (kind : Kind) (bytes : List ℕ) (i a b : ℕ) → i ≤ a * 512 → a ≤ b → IsOf kind (slice_range bytes i (edge bytes (a * 512))) → IsRun kind bytes a b → IsOf kind (slice_range bytes i (edge bytes (b * 512)))
+pub of_up_to : (kind : Kind) (bytes : List ℕ) (i a b : ℕ) → i ≤ a * BLOCK → a ≤ b → IsOf kind (slice_range bytes i (edge bytes (a * BLOCK))) → IsRun kind bytes a b → IsOf kind (slice_range bytes i (edge bytes (b * BLOCK)))
 unfolding IsBlock
 of_up_to kind bytes i a b l m p run =
     let e : a + (b - a) ≡ b = omega arith in
-    subst (λ x. IsOf kind (slice_range bytes i (edge bytes (x * 512)))) e (by (b - a) (λ j from to. run j from (omega arith)))
+    subst (λ x. IsOf kind (slice_range bytes i (edge bytes (x * BLOCK)))) e (by (b - a) (λ j from to. run j from (omega arith)))
   where
-    by : (n : ℕ) → IsRun kind bytes a (a + n) → IsOf kind (slice_range bytes i (edge bytes ((a + n) * 512)))
-    by zero run = let e : a ≡ a + 0 = omega arith in subst (λ x. IsOf kind (slice_range bytes i (edge bytes (x * 512)))) e p
+    by : (n : ℕ) → IsRun kind bytes a (a + n) → IsOf kind (slice_range bytes i (edge bytes ((a + n) * BLOCK)))
+    by zero run = let e : a ≡ a + 0 = omega arith in subst (λ x. IsOf kind (slice_range bytes i (edge bytes (x * BLOCK)))) e p
     by (suc n) run =
         let k = a + n in
-        let here = edge_bounds bytes (k * 512) in
-        let next = edge_bounds bytes ((k + 1) * 512) in
+        let here = edge_bounds bytes (k * BLOCK) in
+        let next = edge_bounds bytes ((k + 1) * BLOCK) in
         let e : k + 1 ≡ a + suc n = omega arith in
-        subst (λ x. IsOf kind (slice_range bytes i (edge bytes (x * 512)))) e
-        (kinds-join kind bytes i (edge bytes (k * 512)) (edge bytes ((k + 1) * 512)) (omega arith) (omega arith) (by n (λ j from to. run j from (omega arith))) (run k (omega arith) (omega arith)))
+        subst (λ x. IsOf kind (slice_range bytes i (edge bytes (x * BLOCK)))) e
+        (kinds-join kind bytes i (edge bytes (k * BLOCK)) (edge bytes ((k + 1) * BLOCK)) (omega arith) (omega arith) (by n (λ j from to. run j from (omega arith))) (run k (omega arith) (omega arith)))
 
 -- ---- text that is cut at the edge of a block
 -- a text may be cut where a block's characters begin
@@ -286,12 +287,12 @@ text-edge bytes i p k l m h u =
     )
 
 -- so its blocks are text
-pub block_of_text : (bytes : List ℕ) (i k e : ℕ) → i ≤ e * 512 → (e + 1) * 512 + 3 ≤ k → k ≤ length bytes → IsUtf8 (slice_range bytes i k) → IsBlock Text bytes e
+pub block_of_text : (bytes : List ℕ) (i k e : ℕ) → i ≤ e * BLOCK → (e + 1) * BLOCK + 3 ≤ k → k ≤ length bytes → IsUtf8 (slice_range bytes i k) → IsBlock Text bytes e
 unfolding IsBlock
 block_of_text bytes i k e l m h u =
-    let bounds = edge_bounds bytes (e * 512) in
-    let behind = (text-edge bytes i (e * 512) k l (omega arith) h u).1 in
-    (text-edge bytes (edge bytes (e * 512)) ((e + 1) * 512) k (omega arith) m h behind).0
+    let bounds = edge_bounds bytes (e * BLOCK) in
+    let behind = (text-edge bytes i (e * BLOCK) k l (omega arith) h u).1 in
+    (text-edge bytes (edge bytes (e * BLOCK)) ((e + 1) * BLOCK) k (omega arith) m h behind).0
 
 -- ---- zero bytes
 -- bytes of which none is zero
@@ -336,14 +337,14 @@ string-within bytes i s j k l m n h is =
 
 -- ---- a string over some blocks
 -- what stands before the end of a run is text with no zero byte
-pub long_plain : (bytes : List ℕ) (place run : ℕ) → place / 512 + 1 ≤ run → (place / 512 + 1) * 512 + 3 ≤ length bytes → place + 512 ≤ length bytes
-    → up_to_zero (slice_range bytes place (place + 512)) ≡ slice_range bytes place (place + 512)
-    → IsUtf8 (slice_range bytes place (edge bytes ((place / 512 + 1) * 512))) → IsRun Plain bytes (place / 512 + 1) run
-    → IsPlain (slice_range bytes place (edge bytes (run * 512)))
+pub long_plain : (bytes : List ℕ) (place run : ℕ) → place / BLOCK + 1 ≤ run → (place / BLOCK + 1) * BLOCK + 3 ≤ length bytes → place + BLOCK ≤ length bytes
+    → up_to_zero (slice_range bytes place (place + BLOCK)) ≡ slice_range bytes place (place + BLOCK)
+    → IsUtf8 (slice_range bytes place (edge bytes ((place / BLOCK + 1) * BLOCK))) → IsRun Plain bytes (place / BLOCK + 1) run
+    → IsPlain (slice_range bytes place (edge bytes (run * BLOCK)))
 long_plain bytes place run l m n near text run_is =
-    let first = place / 512 + 1 in
-    let bounds = edge_bounds bytes (first * 512) in
-    let whole_is = whole-edge bytes place (first * 512) (place + 512) (omega arith) (omega arith) n (omega arith) near in
+    let first = place / BLOCK + 1 in
+    let bounds = edge_bounds bytes (first * BLOCK) in
+    let whole_is = whole-edge bytes place (first * BLOCK) (place + BLOCK) (omega arith) (omega arith) n (omega arith) near in
     of_up_to Plain bytes place first run (omega arith) l (record { text = text; whole = whole_is }) run_is
 
 -- where a string ends behind text with no zero byte
@@ -354,14 +355,14 @@ abbrev pub IsTextIn : List ℕ → ℕ → Option ℕ → Type 0
 IsTextIn bytes from r = IfSome r (λ stop. IsUtf8 (slice_range bytes from stop))
 
 -- where a string ends in a block that isn't text with no zero byte, it ends there of more bytes too
-pub ends_on : (bytes : List ℕ) (block end : ℕ) (r : Option ℕ) → edge bytes ((block + 1) * 512) ≤ end → end ≤ length bytes → ¬ (IsBlock Plain bytes block) → EndsIn bytes (edge bytes (block * 512)) (edge bytes ((block + 1) * 512)) r → IsTextIn bytes (edge bytes (block * 512)) r → EndsIn bytes (edge bytes (block * 512)) end r
+pub ends_on : (bytes : List ℕ) (block end : ℕ) (r : Option ℕ) → edge bytes ((block + 1) * BLOCK) ≤ end → end ≤ length bytes → ¬ (IsBlock Plain bytes block) → EndsIn bytes (edge bytes (block * BLOCK)) (edge bytes ((block + 1) * BLOCK)) r → IsTextIn bytes (edge bytes (block * BLOCK)) r → EndsIn bytes (edge bytes (block * BLOCK)) end r
 unfolding IsBlock
 ends_on bytes block end None room h other e t =
-    let bounds = edge_bounds bytes (block * 512) in
-    lacks-on bytes (edge bytes (block * 512)) ((block + 1) * 512) end (omega arith) room h e
+    let bounds = edge_bounds bytes (block * BLOCK) in
+    lacks-on bytes (edge bytes (block * BLOCK)) ((block + 1) * BLOCK) end (omega arith) room h e
 ends_on bytes block end (Some stop) room h other e t =
-    let from = edge bytes (block * 512) in
-    let to = edge bytes ((block + 1) * 512) in
+    let from = edge bytes (block * BLOCK) in
+    let to = edge bytes ((block + 1) * BLOCK) in
     ⊎_elim
     (λ (l : stop < to). (e.0, omega (arith, l, room), string-within bytes from stop to end e.0 l room (omega (arith, room, h)) e.2))
     (λ (l : to ≤ stop).

@@ -17,7 +17,7 @@ use Rattle.goblin_text.specs.Known.{strings_in}
 use Rattle.goblin_text.specs.Shown.{name_at, section_lines, shown}
 use Rattle.goblin_text.specs.declared.accept.Parts.{Parts}
 use Rattle.goblin_text.specs.Lines.{header_line, newline, printable, printed, section_line, symbol_line}
-use Rattle.goblin_text.specs.Looks.{Named, Spends, lines_in, name_looks, names_looks, section_count, shown_looks, table_looks, tables_looks}
+use Rattle.goblin_text.specs.Looks.{Named, Spends, line_looks, lines_in, name_looks, names_looks, section_count, shown_looks, table_looks, tables_looks}
 
 -- of a text the looks so far were taken, and those of the rest are left
 abbrev pub SpentSoFar : Named → Named → List ℕ → List ℕ → Type 0
@@ -107,13 +107,13 @@ lines_most bytes header sections parts =
     omega (arith, header-line header, section-count names 0 sections, lines-append (header_line header) (lines & rest), lines-append lines rest)
 
 -- the tables and the names of a file that is shown
-pub shown_spend : (old mid new : Named) (bytes : List ℕ) (header : Header) (sections : List SectionHeader) (parts : Parts) (text : List ℕ) → text ≡ parts_text bytes header sections parts → Spends old mid (table_looks * (length sections + 1)) → Spends mid new (names_looks (parts_text bytes header sections parts)) → Spends old new (length text + 4096 * lines_in text)
+pub shown_spend : (old mid new : Named) (bytes : List ℕ) (header : Header) (sections : List SectionHeader) (parts : Parts) (text : List ℕ) → text ≡ parts_text bytes header sections parts → Spends old mid (table_looks * (length sections + 1)) → Spends mid new (names_looks (parts_text bytes header sections parts)) → Spends old new (length text + line_looks * lines_in text)
 unfolding names_looks
 shown_spend old mid new bytes header sections parts text is s t =
     let all = parts_text bytes header sections parts in
-    subst (λ x. Spends old new (length x + 4096 * lines_in x)) (sym is) (by all (lines_most bytes header sections parts) t)
+    subst (λ x. Spends old new (length x + line_looks * lines_in x)) (sym is) (by all (lines_most bytes header sections parts) t)
   where
-    by : (x : List ℕ) → length sections + 1 ≤ lines_in x → Spends mid new (length x + name_looks * lines_in x) → Spends old new (length x + 4096 * lines_in x)
+    by : (x : List ℕ) → length sections + 1 ≤ lines_in x → Spends mid new (length x + name_looks * lines_in x) → Spends old new (length x + line_looks * lines_in x)
     by x l p = omega (arith, s, l, p)
 
 -- and in any case

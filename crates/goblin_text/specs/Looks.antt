@@ -5,6 +5,8 @@ use Rattle.goblin.specs.declared.options.ParseMode.{ParseMode}
 use Rattle.goblin.specs.ReadHeader.{read_header}
 use Rattle.goblin.specs.Refusal.{refusal_of}
 use Rattle.goblin.specs.Steps.{◌>>=◌, refuse_as}
+use Rattle.goblin_text.specs.declared.input.TheConstants.{INPUT_LIMIT}
+use Rattle.goblin_text.specs.declared.runs.TheConstants.{BLOCK}
 use Rattle.goblin_text.specs.Shown.{ctx_of, sections_of, shown}
 
 -- the bytes of a file, and how many looks at them were taken
@@ -31,7 +33,7 @@ CountsAtLeast before looks after = min (before + looks) (2 ^ 128 - 1) ≤ after
 
 -- the file is no longer than the program takes
 abbrev pub IsShort : List ℕ → Type 0
-IsShort bytes = length bytes ≤ 16777216
+IsShort bytes = length bytes ≤ INPUT_LIMIT
 
 -- so many looks were taken at most, beside those that blocks took which weren't read before
 abbrev pub Spends : (old new : Named) (most : ℕ) → Type 0
@@ -42,17 +44,21 @@ abbrev pub Spent : {T E : Type 0} → (old new : Named) → Result T E → (most
 Spent old new (Ok done) most = Spends old new most
 Spent old new (Err e) most = Spends old new (most + 2 * length old.bytes)
 
--- how many looks a block takes, which is read once: two at each of its bytes, and six at its edges
+-- how many looks a block takes, which is read once: two at each of its bytes and of three more, and six at its edges
 abbrev pub block_looks : ℕ
-block_looks = 1036
+block_looks = 2 * (BLOCK + 3) + 6
 
 -- how many looks a string table takes: at its two ends, which are shorter than a block and a character
 abbrev pub table_looks : ℕ
-table_looks = 1040
+table_looks = 2 * BLOCK + 16
 
 -- how many looks a name takes beside its own length: at no more than five blocks
 abbrev pub name_looks : ℕ
-name_looks = 2600
+name_looks = 5 * BLOCK + 40
+
+-- how many looks a line takes beside its length: its name, and the table of a section
+abbrev pub line_looks : ℕ
+line_looks = 8 * BLOCK
 
 -- how many section headers a file has, or 0 where they are refused
 unfoldable pub section_count : ParseMode → List ℕ → ℕ

@@ -1,5 +1,5 @@
 -- What a run read and wrote.
-use Rattle.std.specs.Prelude.{◌≡◌, ◌≢◌, ℕ, ◌+◌, ◌-◌, ◌^◌, ◌<◌, ◌≤◌, ◌⊎◌, min, IsTrue, List, length, codes, Option, Ok, Err, vec_items}
+use Rattle.std.specs.Prelude.{◌≡◌, ◌≢◌, ℕ, ◌+◌, ◌-◌, ◌*◌, ◌^◌, ◌<◌, ◌≤◌, ◌⊎◌, min, IsTrue, List, length, codes, decimal, Option, Ok, Err, vec_items}
 use Rattle.std.specs.Io.KnownBytes.{Appends, Consumes, IsAtEnd}
 use Rattle.goblin.specs.Refusal.{Refusal, out_of_memory, refusal_of}
 use Rattle.goblin.specs.Texts.{◌&◌, refusal_text}
@@ -8,34 +8,31 @@ use Rattle.goblin.specs.declared.options.ParseMode.{ParseMode}
 use Rattle.goblin_text.specs.Lines.{newline}
 use Rattle.goblin_text.specs.Marks.{Marks}
 use Rattle.goblin_text.specs.Shown.{shown}
+use Rattle.goblin_text.specs.declared.input.TheConstants.{INPUT_LIMIT}
 use Rattle.goblin_text.specs.declared.input.Input.{Input}
 use Rattle.goblin_text.specs.declared.input.Input.TheVariants as inputs
 use Rattle.goblin_text.specs.declared.run.Outcome.{Outcome}
 use Rattle.goblin_text.specs.declared.run.Outcome.TheVariants as outcomes
 
--- how many bytes of input the program takes
-abbrev pub input_limit : ℕ
-input_limit = 16777216
-
 -- how many times the reader is asked
 abbrev pub read_limit : ℕ
-read_limit = 33554432
+read_limit = 2 * INPUT_LIMIT
 
 -- The reader gave these bytes, which are no more than the program takes, and told its end: none is left.
 pub record ReadsAll (old new : Option (List ℕ)) (marks : Marks) (bytes : List ℕ) : Type 0 where
   pub taken : Consumes old new bytes
   pub all : IsAtEnd new
-  pub short : length bytes ≤ input_limit
+  pub short : length bytes ≤ INPUT_LIMIT
   pub end : IsTrue marks.told_end
 
 -- The reader gave these bytes, which are more than the program takes.
 pub record ReadsTooMuch (old new : Option (List ℕ)) (bytes : List ℕ) : Type 0 where
   pub taken : Consumes old new bytes
-  pub long : input_limit < length bytes
+  pub long : INPUT_LIMIT < length bytes
 
 -- the reader gave no more than one byte past those that the program takes
 abbrev pub ReadsAtMostOneMore : Option (List ℕ) → Option (List ℕ) → Type 0
-ReadsAtMostOneMore old new = (bytes : List ℕ) × Consumes old new bytes × (length bytes ≤ input_limit + 1)
+ReadsAtMostOneMore old new = (bytes : List ℕ) × Consumes old new bytes × (length bytes ≤ INPUT_LIMIT + 1)
 
 -- The reader was asked this often, and told no end.
 pub record ReadsInVain (limit : ℕ) (before after : Marks) : Type 0 where
@@ -60,7 +57,7 @@ IsInputWithin limit (inputs.Whole v) old new before after = ReadsAll old new aft
 IsInputWithin limit inputs.TooLong old new before after = (bytes : List ℕ) × ReadsTooMuch old new bytes
 IsInputWithin limit inputs.OutOfMemory old new before after = after.read_calls < before.read_calls + limit
 IsInputWithin limit inputs.Failed old new before after =
-    (IsTrue after.told_failure ⊎ ReadsInVain limit before after) × (input_limit < limit → IsTrue after.told_error)
+    (IsTrue after.told_failure ⊎ ReadsInVain limit before after) × (INPUT_LIMIT < limit → IsTrue after.told_error)
 
 -- the writer holds the text of all bytes more, and no other
 abbrev pub IsShown : ParseMode → (old new : Option (List ℕ)) → Marks → (held holds : Option (List ℕ)) → Type 0
@@ -85,11 +82,15 @@ abbrev pub TellsError : Error → List ℕ → Type 0
 TellsError e line =
     ((refusal_of e ≢ out_of_memory) × (line ≡ refusal_text (refusal_of e))) ⊎ (line ≡ codes "Out of memory")
 
+-- what is said of an input that is longer than the program takes
+abbrev pub too_long : List ℕ
+too_long = codes "input is longer than " & decimal INPUT_LIMIT & codes " bytes"
+
 -- why a line is written in place of a text: all bytes were read and are refused, or they are too many, or memory ran out
 abbrev pub IsReason : ParseMode → (old new : Option (List ℕ)) → Marks → List ℕ → Type 0
 IsReason mode old new marks line =
     ((bytes : List ℕ) × ReadsAll old new marks bytes × (r : Refusal) × (shown mode bytes ≡ Err r) × (line ≡ refusal_text r))
-    ⊎ (((bytes : List ℕ) × ReadsTooMuch old new bytes × (line ≡ codes "input is longer than 16777216 bytes"))
+    ⊎ (((bytes : List ℕ) × ReadsTooMuch old new bytes × (line ≡ too_long))
     ⊎ (line ≡ codes "Out of memory"))
 
 -- why a line is written in place of the text of these bytes: they are refused, or memory ran out

@@ -2,6 +2,7 @@
 use Rattle.std.specs.Prelude.{◌≡◌, ℕ, zero, suc, ◌+◌, ◌*◌, ◌/◌, ◌<◌, ◌≤◌, ◌==◌, ◌&&◌, nat_lt, nat_le, min, if◌then◌else◌, List, [], ◌∷◌, length, slice_index, slice_range}
 use Rattle.std.specs.List.{before_first}
 use Rattle.std.specs.Str.{IsUtf8}
+use Rattle.goblin_text.specs.declared.runs.TheConstants.{BLOCK, BLOCKS}
 use Rattle.goblin_text.specs.declared.runs.Kind.{Kind}
 use Rattle.goblin_text.specs.declared.runs.Kind.TheVariants.{Text, Plain}
 
@@ -32,9 +33,9 @@ abbrev pub IsOf : Kind → List ℕ → Type 0
 IsOf Text bytes = IsUtf8 bytes
 IsOf Plain bytes = IsPlain bytes
 
--- the block of 512 bytes with a number is of a kind, from where its characters begin to where those of the next one do
+-- the block with a number is of a kind, from where its characters begin to where those of the next one do
 unfoldable pub IsBlock : Kind → List ℕ → ℕ → Type 0
-IsBlock kind bytes block = IsOf kind (slice_range bytes (edge bytes (block * 512)) (edge bytes ((block + 1) * 512)))
+IsBlock kind bytes block = IsOf kind (slice_range bytes (edge bytes (block * BLOCK)) (edge bytes ((block + 1) * BLOCK)))
 
 -- the blocks from one up to another are of a kind
 abbrev pub IsRun : Kind → List ℕ → ℕ → ℕ → Type 0
@@ -42,7 +43,7 @@ IsRun kind bytes first next = (j : ℕ) → first ≤ j → j < next → IsBlock
 
 -- how many blocks are kept in mind: those that are whole, of the longest file that the program takes
 abbrev pub blocks : List ℕ → ℕ
-blocks bytes = min (length bytes / 512) 32768
+blocks bytes = min (length bytes / BLOCK) BLOCKS
 
 -- the run of a kind from a block on ends before another block, which is not of the kind, or at the last
 pub record IsEnd (kind : Kind) (bytes : List ℕ) (first end : ℕ) : Type 0 where

@@ -9,11 +9,14 @@ use crate::streams::{Source, is_interruption};
 use std::alloc::{AllocError, Global};
 use std::io;
 
-// How many bytes of input the program takes.
-const INPUT_LIMIT: usize = 16_777_216;
+/// How many bytes of input the program takes.
+pub const INPUT_LIMIT: usize = 16_777_216;
+
+/// The line for an input that is longer.
+pub const TOO_LONG: &str = "input is longer than 16777216 bytes";
 
 // How many times the reader is asked.
-const READ_LIMIT: u64 = 33_554_432;
+const READ_LIMIT: u64 = 2 * INPUT_LIMIT as u64;
 
 // For how many bytes room is made at once.
 const ROOM: usize = 65_536;

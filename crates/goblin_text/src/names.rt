@@ -1,6 +1,6 @@
 //! The string tables of a file and their names, read where they stand: so that no byte is read again and again, it is
 //! kept in mind of the file's blocks how far from each one text goes on.
-ghost use Rattle.std.specs.Prelude.{◌≡◌, ◌↔◌, ◌+◌, ◌*◌, ◌<◌, ◌≤◌, ◌⊎◌, ◌-◌, ◌/◌, IfSome, IsErr, IsTrue, MatchOption, OnErr, OnOk, length, min, slice_range};
+ghost use Rattle.std.specs.Prelude.{◌≡◌, ◌↔◌, ◌+◌, ◌*◌, ◌<◌, ◌≤◌, ◌⊎◌, ◌-◌, ◌/◌, IfSome, IsTrue, MatchOption, OnErr, OnOk, length, min, slice_range};
 ghost use Rattle.std.specs.Str.{IsUtf8};
 ghost use Rattle.goblin.specs.declared.options.ParseMode.{ParseMode};
 ghost use Rattle.goblin.specs.Refusal.{Answers};
@@ -202,8 +202,8 @@ impl<'a> Names<'a> {
         }
     }
 
-    // Where the string from a place on ends, up to another, unless it is long and no text. It is a look at each of 512
-    // bytes, and then at 515 more of a table that ends there, or those of a long name.
+    // Where the string from a place on ends, up to another, unless it is long and no text. It is a look at each byte
+    // of a block, and then at those of a table that ends in the next one, or those of a long name.
     fn end_of_name(&mut self, place: usize, end: usize) -> Option<usize>
         requires ordered { place ≤ end }
         requires within { end ≤ length self.old.bytes }
@@ -213,9 +213,10 @@ impl<'a> Names<'a> {
         ensures unchanged { self.new.bytes ≡ self.old.bytes }
         ensures kept { IsKept self.new self.old.text_start self.old.text_end }
         ensures looks { IsShort self.old.bytes → MatchOption result
-            (Spends self.old self.new 2080)
-            (λ stop. ((stop ≤ place + 1027) × Spends self.old self.new 1570)
-            ⊎ (IsUtf8 (slice_range self.old.bytes place stop) × Spends self.old self.new 2080)) }
+            (Spends self.old self.new (4 * BLOCK + 32))
+            (λ stop. ((stop ≤ place + (2 * BLOCK + 3)) × Spends self.old self.new (3 * BLOCK + 34))
+            ⊎ (IsUtf8 (slice_range self.old.bytes place stop)
+            × Spends self.old self.new (4 * BLOCK + 32))) }
         ensures looks_least { CountsAtLeast self.old.count 0 self.new.count }
     {
         let near = end.min(place.saturating_add(BLOCK));
@@ -232,9 +233,9 @@ impl<'a> Names<'a> {
     // Where the string from a place on ends, up to another that lies some blocks behind it, unless it is no text. It is
     // nine looks at edges of blocks, one at each byte up to the first edge, and two in the block that the string ends in.
     fn end_of_long_name(&mut self, place: usize, end: usize) -> Option<usize>
-        requires long { place / 512 + 1 < min ((end - 3) / 512) 32768 }
+        requires long { place / BLOCK + 1 < min ((end - 3) / BLOCK) BLOCKS }
         requires within { end ≤ length self.old.bytes }
-        requires near { let near = slice_range self.old.bytes place (place + 512) in
+        requires near { let near = slice_range self.old.bytes place (place + BLOCK) in
             up_to_zero near ≡ near }
         ensures stop { let string = slice_range self.old.bytes place end in
             MatchOption result (LacksText string) (λ stop. (place ≤ stop) × (stop ≤ end)
@@ -242,7 +243,7 @@ impl<'a> Names<'a> {
         ensures text { IfSome result (λ stop. IsUtf8 (slice_range self.old.bytes place stop)) }
         ensures unchanged { self.new.bytes ≡ self.old.bytes }
         ensures kept { IsKept self.new self.old.text_start self.old.text_end }
-        ensures looks { IsShort self.old.bytes → Spends self.old self.new 1560 }
+        ensures looks { IsShort self.old.bytes → Spends self.old self.new (3 * BLOCK + 24) }
         ensures looks_least { CountsAtLeast self.old.count 0 self.new.count }
     {
         let first = place / BLOCK + 1;
@@ -284,7 +285,7 @@ impl<'a> Names<'a> {
 
 // The block that bytes up to a place end in, or before which their last character begins.
 fn last_block(end: usize) -> usize
-    ensures { result ≡ min ((end - 3) / 512) 32768 }
+    ensures { result ≡ min ((end - 3) / BLOCK) BLOCKS }
 {
     (end.saturating_sub(3) / BLOCK).min(BLOCKS)
 }

@@ -1,13 +1,13 @@
 //! A run: from the bytes that a reader gives to the text that a writer holds.
 ghost use Rattle.std.specs.Prelude.{◌≡◌, ◌≢◌, ℕ, ◌+◌, ◌*◌, ◌≤◌, ◌⊎◌, List, IsTrue, OnOk, OnErr, length};
 ghost use Rattle.std.specs.Io.KnownBytes.{Appends};
-ghost use Rattle.goblin_text.specs.Looks.{CountsAtLeast, IsShort, Spends, lines_in, shown_looks, tables_looks};
+ghost use Rattle.goblin_text.specs.Looks.{CountsAtLeast, IsShort, Spends, line_looks, lines_in, shown_looks, tables_looks};
 ghost use Rattle.goblin_text.specs.Ran.{FailsToRead, IsReason, IsShown, ReadsAtMostOneMore, TellsError, TellsWhy, WritesRefusal, read_limit, status_of};
 ghost use Rattle.goblin_text.specs.Shown.{shown};
 
 use crate::accept::accept;
 use crate::file_bytes::FileBytes;
-use crate::input::{Input, input_of};
+use crate::input::{Input, TOO_LONG, input_of};
 use crate::streams::{Sink, Source};
 use crate::text::write_text;
 use goblin::error::Error;
@@ -40,8 +40,6 @@ impl Outcome {
 }
 
 const OUT_OF_MEMORY: &str = "Out of memory";
-
-const TOO_LONG: &str = "input is longer than 16777216 bytes";
 
 fn write_refusal<W: Sink>(writer: &mut W, line: &str) -> io::Result<()>
     ensures ok { OnOk result
@@ -117,7 +115,7 @@ pub fn show_file<W: Sink>(
     // What was looked at for names, where the text was written, and however it ended.
     ensures looks_shown { IsShort file.old.bytes → (text : List ℕ) → result ≡ Outcome.Shown
         → shown opts.now.parse_mode file.old.bytes ≡ Ok text
-        → Spends file.old file.new (length text + 4096 * lines_in text) }
+        → Spends file.old file.new (length text + line_looks * lines_in text) }
     ensures looks_refused { IsShort file.old.bytes → result ≡ Outcome.Refused
         → Spends file.old file.new (tables_looks opts.now.parse_mode file.old.bytes) }
     ensures looks { IsShort file.old.bytes → Spends file.old file.new

@@ -3,13 +3,14 @@ ghost use Rattle.std.specs.Prelude.{◌≡◌, ◌↔◌, ◌+◌, ◌-◌, ◌*
 ghost use Rattle.goblin_text.specs.Looks.{CountsAtLeast, block_looks};
 ghost use Rattle.goblin_text.specs.Runs.{AreEnds, IsBlock, IsEnd, IsOf, blocks, unknown};
 
+use crate::input::INPUT_LIMIT;
 use crate::seen::Seen;
 
 /// How many bytes a block has.
 pub const BLOCK: usize = 512;
 
 /// How many blocks are kept in mind: those of the longest file that the program takes.
-pub const BLOCKS: usize = 32_768;
+pub const BLOCKS: usize = INPUT_LIMIT / BLOCK;
 
 /// What the blocks of a run are.
 #[derive(Clone, Copy)]
@@ -54,8 +55,8 @@ fn is_of(seen: &mut Seen<'_>, kind: Kind, from: usize, to: usize) -> bool
 
 // Whether the block with a number is of a kind.
 fn is_block_of(seen: &mut Seen<'_>, kind: Kind, block: usize) -> bool
-    requires bound { block < 32768 }
-    requires within { (block + 1) * 512 ≤ length seen.old.bytes }
+    requires bound { block < BLOCKS }
+    requires within { (block + 1) * BLOCK ≤ length seen.old.bytes }
     ensures value { IsTrue result ↔ IsBlock kind seen.old.bytes block }
     ensures unchanged { seen.new.bytes ≡ seen.old.bytes }
     ensures looks { seen.new.count ≤ seen.old.count + block_looks }

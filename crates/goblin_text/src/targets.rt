@@ -68,14 +68,14 @@ impl<'a, W: Sink> Buffered<'a, W> {
 
     // Whether the buffer has room for so many bytes more.
     fn has_room(&self, len: usize) -> bool
-        ensures { IsTrue result ↔ self.now.filled + len ≤ 32768 }
+        ensures { IsTrue result ↔ self.now.filled + len ≤ ROOM }
     {
         self.filled <= ROOM && len <= ROOM - self.filled
     }
 
     // Adds bytes that the buffer has room for.
     fn add(&mut self, bytes: &[u8])
-        requires { self.old.filled + length bytes.now ≤ 32768 }
+        requires { self.old.filled + length bytes.now ≤ ROOM }
         ensures kept { self.new.writer.ghost_name ≡ self.old.writer.ghost_name }
         ensures writer { self.new.writer.now ≡ self.old.writer.now }
         ensures added { take self.new.filled self.new.room

@@ -1,6 +1,6 @@
 use Rattle.std.proofs.Common.{◌≡◌, ◌+◌, ◌-◌, ◌^◌, ◌≤◌, min, false, take, vec_len}
 use Rattle.std.specs.Io.KnownBytes.{Consumes}
-use Rattle.goblin_text.specs.Ran.{input_limit}
+use Rattle.goblin_text.specs.declared.input.TheConstants.{INPUT_LIMIT}
 use Rattle.goblin_text.proofs.input.input_within.Given as goal
 
 -- The filled bytes are those that were taken. Where no error was told, each call gave a byte.
@@ -9,9 +9,9 @@ invariant-loop g l =
     let source = g.R.Source in
     record {
       taken : Consumes (source.remaining l.initial.reader) (source.remaining l.reader) (take l.filled l.bytes.items);
-      short : l.filled ≤ input_limit;
+      short : l.filled ≤ INPUT_LIMIT;
       room : l.filled ≤ vec_len l.bytes;
-      most : vec_len l.bytes ≤ input_limit + 1;
+      most : vec_len l.bytes ≤ INPUT_LIMIT + 1;
       calls : (source.marks l.reader).read_calls ≤ (source.marks l.initial.reader).read_calls + l.counter;
       each : min ((source.marks l.initial.reader).read_calls + l.counter) (2 ^ 64 - 1) ≤ (source.marks l.reader).read_calls;
       endless : (source.marks l.reader).told_end ≡ (source.marks l.initial.reader).told_end;

@@ -1,8 +1,9 @@
 use Rattle.goblin_text.proofs.Blocks.{none_known, unknown_most}
+use Rattle.goblin_text.specs.declared.runs.TheConstants.{BLOCKS}
 use Rattle.goblin_text.proofs.runs.none_known.Goals as goal
 
 pub returns-clause-known : goal.returns-clause-known
-returns-clause-known c = λ kind bytes. none_known kind bytes 32768
+returns-clause-known c = λ kind bytes. none_known kind bytes BLOCKS
 
 pub returns-clause-unknown : goal.returns-clause-unknown
 returns-clause-unknown c = λ n. unknown_most n _

@@ -1,6 +1,7 @@
 use Rattle.std.proofs.Common.{arith, subst, take}
 use Rattle.std.specs.Io.KnownBytes.{Appends}
 use Rattle.goblin_text.proofs.Puts.{passed_on}
+use Rattle.goblin_text.specs.declared.targets.TheConstants.{ROOM}
 use Rattle.goblin_text.proofs.targets.Buffered.pass_on.Goals as goal
 
 pub returns-clause-bytes : goal.returns-clause-bytes
@@ -8,5 +9,5 @@ returns-clause-bytes g c =
     let before = g.W.Sink.contents c.args.self.now.writer.now in
     let after = g.W.Sink.contents c.write_all.new.self in
     let room = c.args.self.now.room in
-    passed_on before after room c.args.self.now.filled 32768 (omega arith)
+    passed_on before after room c.args.self.now.filled ROOM (omega arith)
     (subst (λ n. Appends before after (take n room)) c.min.ensures c.in_ok-write_all.ensures.bytes)
