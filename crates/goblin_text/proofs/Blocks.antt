@@ -1,22 +1,10 @@
 -- What is kept of blocks of a file.
-use Rattle.std.proofs.Common.{◌≡◌, ◌∙◌, ℕ, zero, suc, eqb, [], ◌∷◌, refl, ◌+◌, ◌<◌, ◌≤◌, ◌≢◌, ◌&&◌, set, replicate, length-set, get_or-set_other, get_or-set_same, ltb, leb, true, false, cond, List, length, get_or, sym, ap, subst, ⊎_elim, arith}
+use Rattle.std.proofs.Common.{◌≡◌, ◌∙◌, ℕ, zero, suc, eqb, [], ◌∷◌, refl, ◌+◌, ◌<◌, ◌≤◌, ◌≢◌, set, replicate, length-set, get_or-set_other, get_or-set_same, true, false, cond, List, length, get_or, sym, ap, subst, ⊎_elim, arith}
 use Rattle.std.proofs.lemmas.Bool.{cases_eq, cases_lt}
 use Rattle.std.proofs.lemmas.Bool.Decides.{nat_tests}
 use Rattle.std.proofs.lemmas.List.{get_or-replicate, length-replicate}
 use Rattle.goblin_text.specs.declared.runs.Kind.{Kind}
-use Rattle.goblin_text.specs.Runs.{AreEnds, IsEnd, IsRun, edge, past, unknown}
-
-past_bounds : (bytes : List ℕ) (p : ℕ) → (p ≤ past bytes p) × (past bytes p ≤ p + 1)
-unfolding past
-past_bounds bytes p = elim (leb 128 (get_or bytes p 0) && ltb (get_or bytes p 0) 192) as (λ b. (p ≤ cond b (p + 1) p) × (cond b (p + 1) p ≤ p + 1)) [ true ↦ (omega arith, omega arith) | false ↦ (omega arith, omega arith) ]
-
-pub edge_bounds : (bytes : List ℕ) (place : ℕ) → (place ≤ edge bytes place) × (edge bytes place ≤ place + 3)
-unfolding edge
-edge_bounds bytes place =
-    let p = past_bounds bytes place in
-    let q = past_bounds bytes (past bytes place) in
-    let r = past_bounds bytes (past bytes (past bytes place)) in
-    (omega arith, omega arith)
+use Rattle.goblin_text.specs.Runs.{AreEnds, IsEnd, IsRun, unknown}
 
 -- of a block of which nothing is known nothing is kept
 pub none_known : (kind : Kind) (bytes : List ℕ) (n : ℕ) → AreEnds kind bytes (replicate n 0)

@@ -1,11 +1,16 @@
 mod Blocks
+mod Edges
 mod Faults
+mod Joins
+mod LongNames
 mod Looks
 mod Modes
-mod Plain
 mod Printed
 mod Puts
+mod Ranges
 mod Reading
 mod Shows
 mod Spent
+mod Strings
 mod Tables
+mod TextBlocks

@@ -10,8 +10,10 @@ use Rattle.std.specs.Str.{is_utf8}
 use Rattle.goblin.specs.Pieces.{piece}
 use Rattle.goblin.specs.TextLaws.{name-later, name-past, names_are_plain}
 use Rattle.goblin.specs.Utf8.{invalid_utf8}
-use Rattle.goblin_text.proofs.Plain.{get_range, goes_on_with, length-range, past_is, rest_of_range}
+use Rattle.goblin_text.proofs.Edges.{past_is}
+use Rattle.goblin_text.proofs.Edges.Past.{over, stays}
 use Rattle.goblin_text.proofs.Puts.{take-most}
+use Rattle.goblin_text.proofs.Ranges.{get_range, length-range, rest_of_range}
 use Rattle.goblin_text.specs.Known.{text_table}
 use Rattle.goblin_text.specs.Runs.{LacksText, past, up_to_zero}
 use Rattle.goblin_text.specs.Shown.{name_at}
@@ -40,13 +42,13 @@ name_in_range bytes i j o l m h =
 
 -- a byte that goes on with a character begins no name
 pub name_later : (bytes : List ℕ) (i j o : ℕ) → i ≤ j → j ≤ length bytes → o < j - i → i + o < past bytes (i + o) → [] ≡ name_at (text_table (slice_range bytes i j)) o
-name_later bytes i j o l m h on = ⊎_elim
-    (λ (g : (past bytes (i + o) ≡ i + o + 1) × goes_on_with (get_or bytes (i + o) 0)).
+name_later bytes i j o l m h on =
     let size : length (slice_range bytes i j) ≡ j - i = length-range bytes i j l m in
     let byte : get_or (slice_range bytes i j) o 0 ≡ get_or bytes (i + o) 0 = get_range bytes i j o h in
-    sym (name-later (slice_range bytes i j) 0 o (lit< tt) (omega arith) (omega (arith, byte, g.1.0)) (omega (arith, byte, g.1.1))))
-    (λ (g : (past bytes (i + o) ≡ i + o) × ¬ (goes_on_with (get_or bytes (i + o) 0))). absurd (omega (arith, on, g.0)))
-    (past_is bytes (i + o))
+    elim (past_is bytes (i + o)) [
+      | over e g ↦ sym (name-later (slice_range bytes i j) 0 o (lit< tt) (omega arith) (omega (arith, byte, g.0)) (omega (arith, byte, g.1)))
+      | stays e none ↦ absurd (omega (arith, on, e))
+    ]
 
 -- bytes that are text are all of it
 pub text_length : (bytes text : List ℕ) → IsUtf8 bytes → text ≡ text_or_nothing bytes → length text ≡ length bytes

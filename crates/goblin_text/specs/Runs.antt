@@ -1,6 +1,8 @@
 -- Runs of a file's blocks that are text, or text with no zero byte.
-use Rattle.std.specs.Prelude.{◌≡◌, ℕ, zero, suc, ◌+◌, ◌*◌, ◌/◌, ◌<◌, ◌≤◌, ◌==◌, ◌&&◌, nat_lt, nat_le, min, if◌then◌else◌, List, [], ◌∷◌, length, slice_index, slice_range}
+use Rattle.std.specs.Prelude.{◌≡◌, ℕ, zero, suc, ◌+◌, ◌-◌, ◌*◌, ◌/◌, ◌<◌, ◌≤◌, ◌==◌, ◌&&◌, nat_lt, nat_le, min}
+use Rattle.std.specs.Prelude.{if◌then◌else◌, List, [], ◌∷◌, length, slice_index, slice_range, Option}
 use Rattle.std.specs.List.{before_first}
+use Rattle.std.specs.Option.{IfSome, MatchOption}
 use Rattle.std.specs.Str.{IsUtf8}
 use Rattle.goblin_text.specs.declared.runs.TheConstants.{BLOCK, BLOCKS}
 use Rattle.goblin_text.specs.declared.runs.Kind.{Kind}
@@ -23,6 +25,20 @@ up_to_zero bytes = before_first (λ b. b == 0) bytes
 abbrev pub LacksText : List ℕ → Type 0
 LacksText bytes = ¬ (IsUtf8 (up_to_zero bytes))
 
+-- the string from one place on ends at a stop, up to another place
+pub record IsStringEnd (bytes : List ℕ) (from to stop : ℕ) : Type 0 where
+  pub order : from ≤ stop
+  pub within : stop ≤ to
+  pub is : slice_range bytes from stop ≡ up_to_zero (slice_range bytes from to)
+
+-- where the string from one place on ends, up to another, or none that is no text
+abbrev pub EndsAt : List ℕ → (from to : ℕ) → Option ℕ → Type 0
+EndsAt bytes from to found = MatchOption found (LacksText (slice_range bytes from to)) (IsStringEnd bytes from to)
+
+-- the string from a place on is text up to where it ends
+abbrev pub IsTextUpTo : List ℕ → ℕ → Option ℕ → Type 0
+IsTextUpTo bytes from found = IfSome found (λ stop. IsUtf8 (slice_range bytes from stop))
+
 -- the bytes are text with no zero byte
 pub record IsPlain (bytes : List ℕ) : Type 0 where
   pub text : IsUtf8 bytes
@@ -33,9 +49,28 @@ abbrev pub IsOf : Kind → List ℕ → Type 0
 IsOf Text bytes = IsUtf8 bytes
 IsOf Plain bytes = IsPlain bytes
 
+-- the block after the one that a place lies in
+abbrev pub next_block : ℕ → ℕ
+next_block place = place / BLOCK + 1
+
+-- the block that bytes up to a place end in, or before which their last character begins
+abbrev pub last_block : ℕ → ℕ
+last_block end = min ((end - 3) / BLOCK) BLOCKS
+
+-- where the characters of the block with a number begin
+abbrev pub block_start : List ℕ → ℕ → ℕ
+block_start bytes block = edge bytes (block * BLOCK)
+
+-- a string goes on through blocks: no zero byte stands in as many bytes as a block has, and it may go on past the next
+-- block
+pub record IsLong (bytes : List ℕ) (place end : ℕ) : Type 0 where
+  pub blocks : next_block place < last_block end
+  pub within : end ≤ length bytes
+  pub whole : up_to_zero (slice_range bytes place (place + BLOCK)) ≡ slice_range bytes place (place + BLOCK)
+
 -- the block with a number is of a kind, from where its characters begin to where those of the next one do
 unfoldable pub IsBlock : Kind → List ℕ → ℕ → Type 0
-IsBlock kind bytes block = IsOf kind (slice_range bytes (edge bytes (block * BLOCK)) (edge bytes ((block + 1) * BLOCK)))
+IsBlock kind bytes block = IsOf kind (slice_range bytes (block_start bytes block) (block_start bytes (block + 1)))
 
 -- the blocks from one up to another are of a kind
 abbrev pub IsRun : Kind → List ℕ → ℕ → ℕ → Type 0

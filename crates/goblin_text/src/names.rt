@@ -1,13 +1,13 @@
 //! The string tables of a file and their names, read where they stand: so that no byte is read again and again, it is
 //! kept in mind of the file's blocks how far from each one text goes on.
-ghost use Rattle.std.specs.Prelude.{◌≡◌, ◌↔◌, ◌+◌, ◌*◌, ◌<◌, ◌≤◌, ◌⊎◌, ◌-◌, ◌/◌, IfSome, IsTrue, MatchOption, OnErr, OnOk, length, min, slice_range};
+ghost use Rattle.std.specs.Prelude.{◌≡◌, ◌↔◌, ◌+◌, ◌*◌, ◌<◌, ◌≤◌, ◌⊎◌, ◌-◌, ◌/◌, IsTrue, MatchOption, OnErr, OnOk, length, min, slice_range};
 ghost use Rattle.std.specs.Str.{IsUtf8};
 ghost use Rattle.goblin.specs.declared.options.ParseMode.{ParseMode};
 ghost use Rattle.goblin.specs.Refusal.{Answers};
 ghost use Rattle.goblin.specs.Strtab.{strtab_of, table_of};
 ghost use Rattle.goblin_text.specs.Known.{strings_in, text_table};
 ghost use Rattle.goblin_text.specs.Looks.{CountsAtLeast, IsKept, IsShort, Spends, Spent, name_looks, table_looks};
-ghost use Rattle.goblin_text.specs.Runs.{LacksText, up_to_zero};
+ghost use Rattle.goblin_text.specs.Runs.{EndsAt, IsLong, IsTextUpTo, last_block};
 ghost use Rattle.goblin_text.specs.Shown.{name_at};
 
 use crate::runs::{BLOCK, BLOCKS, Kind, end_of, none_known};
@@ -133,8 +133,14 @@ impl<'a> Names<'a> {
         Ok(())
     }
 
-    // Whether a range is text: its two ends are read, with six looks at edges of blocks, and what is between them where
-    // it isn't known.
+    // Reports whether a range is text. Its two ends are read, and of the blocks between them those of which it isn't known
+    // how far text goes on. Six looks find the edges:
+    //
+    //     start       begin                               rest       end
+    //       |-- read ---|-- block --| .. |-- block --|------|-- read --|
+    //              first * BLOCK                      last * BLOCK
+    //
+    // begin and rest are where characters begin, up to three bytes after a multiple of BLOCK.
     fn reads_as_text(&mut self, start: usize, end: usize) -> bool
         requires ordered { start ≤ end }
         requires within { end ≤ length self.old.bytes }
@@ -202,14 +208,21 @@ impl<'a> Names<'a> {
         }
     }
 
-    // Where the string from a place on ends, up to another, unless it is long and no text. It is a look at each byte
-    // of a block, and then at those of a table that ends in the next one, or those of a long name.
+    // Returns where the string from a place on ends, up to another, or `None` for a long one that is no text. It is a look
+    // at each of BLOCK bytes. If they hold no zero byte, the table ends soon, or the string is a long one:
+    //
+    //     place            near                  end          place / BLOCK + 1 >= last_block(end)
+    //       |-- BLOCK bytes --|-- up to BLOCK + 3 --|
+    //
+    //     place       begin                  from       to    end
+    //       |-- text ---|-- block --| .. |-----|-- read --| .. |
+    //              first * BLOCK          run * BLOCK
+    //
+    // from is where the run of blocks ends that are text with no zero byte.
     fn end_of_name(&mut self, place: usize, end: usize) -> Option<usize>
         requires ordered { place ≤ end }
         requires within { end ≤ length self.old.bytes }
-        ensures stop { let string = slice_range self.old.bytes place end in
-            MatchOption result (LacksText string) (λ stop. (place ≤ stop) × (stop ≤ end)
-            × (slice_range self.old.bytes place stop ≡ up_to_zero string)) }
+        ensures stop { EndsAt self.old.bytes place end result }
         ensures unchanged { self.new.bytes ≡ self.old.bytes }
         ensures kept { IsKept self.new self.old.text_start self.old.text_end }
         ensures looks { IsShort self.old.bytes → MatchOption result
@@ -230,17 +243,12 @@ impl<'a> Names<'a> {
         self.end_of_long_name(place, end)
     }
 
-    // Where the string from a place on ends, up to another that lies some blocks behind it, unless it is no text. It is
-    // nine looks at edges of blocks, one at each byte up to the first edge, and two in the block that the string ends in.
+    // Returns where the string from a place on ends, up to another that lies some blocks after it, or `None` if it is no
+    // text. It is nine looks at edges, one at each byte up to the first edge, and two in the block that the string ends in.
     fn end_of_long_name(&mut self, place: usize, end: usize) -> Option<usize>
-        requires long { place / BLOCK + 1 < min ((end - 3) / BLOCK) BLOCKS }
-        requires within { end ≤ length self.old.bytes }
-        requires near { let near = slice_range self.old.bytes place (place + BLOCK) in
-            up_to_zero near ≡ near }
-        ensures stop { let string = slice_range self.old.bytes place end in
-            MatchOption result (LacksText string) (λ stop. (place ≤ stop) × (stop ≤ end)
-            × (slice_range self.old.bytes place stop ≡ up_to_zero string)) }
-        ensures text { IfSome result (λ stop. IsUtf8 (slice_range self.old.bytes place stop)) }
+        requires { IsLong self.old.bytes place end }
+        ensures stop { EndsAt self.old.bytes place end result }
+        ensures text { IsTextUpTo self.old.bytes place result }
         ensures unchanged { self.new.bytes ≡ self.old.bytes }
         ensures kept { IsKept self.new self.old.text_start self.old.text_end }
         ensures looks { IsShort self.old.bytes → Spends self.old self.new (3 * BLOCK + 24) }
@@ -266,10 +274,8 @@ impl<'a> Names<'a> {
     fn end_of_text(&mut self, from: usize, to: usize) -> Option<usize>
         requires ordered { from ≤ to }
         requires within { to ≤ length self.old.bytes }
-        ensures stop { let string = slice_range self.old.bytes from to in
-            MatchOption result (LacksText string) (λ stop. (from ≤ stop) × (stop ≤ to)
-            × (slice_range self.old.bytes from stop ≡ up_to_zero string)) }
-        ensures text { IfSome result (λ stop. IsUtf8 (slice_range self.old.bytes from stop)) }
+        ensures stop { EndsAt self.old.bytes from to result }
+        ensures text { IsTextUpTo self.old.bytes from result }
         ensures unchanged { self.new.bytes ≡ self.old.bytes }
         ensures kept { IsKept self.new self.old.text_start self.old.text_end }
         ensures looks { Spends self.old self.new (2 * (to - from)) }
@@ -285,7 +291,7 @@ impl<'a> Names<'a> {
 
 // The block that bytes up to a place end in, or before which their last character begins.
 fn last_block(end: usize) -> usize
-    ensures { result ≡ min ((end - 3) / BLOCK) BLOCKS }
+    ensures { result ≡ last_block end }
 {
     (end.saturating_sub(3) / BLOCK).min(BLOCKS)
 }

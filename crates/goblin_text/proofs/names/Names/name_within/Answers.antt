@@ -1,7 +1,7 @@
 use Rattle.std.proofs.Common.{◌≡◌, ◌∙◌, ◌+◌, ◌-◌, ap, arith, inl, inr, length, slice_range}
 use Rattle.std.proofs.lemmas.Grind.{common_steps}
 use Rattle.goblin_text.proofs.Looks.{name_in_range, name_later, nothing, past_name, text_length, text_or_nothing}
-use Rattle.goblin_text.proofs.Plain.{length-range}
+use Rattle.goblin_text.proofs.Ranges.{length-range}
 use Rattle.goblin_text.proofs.names.Names.name_within.Goals as goal
 
 pub returns-then-offset-end-clause-name : goal.returns-then-offset-end-clause-name
@@ -10,24 +10,29 @@ returns-then-offset-end-clause-name c =
     past_name (slice_range c.args.self.now.bytes c.args.start c.args.end) c.args.offset (omega arith)
 
 pub returns-then-past-place-clause-name : goal.returns-then-past-place-clause-name
-returns-then-past-place-clause-name c = name_later c.args.self.now.bytes c.args.start c.args.end c.args.offset c.requires.ordered c.requires.within c.if-offset-end.false (grind (arith, common_steps))
+returns-then-past-place-clause-name c =
+    name_later c.args.self.now.bytes c.args.start c.args.end c.args.offset c.requires.ordered c.requires.within
+    c.if-offset-end.false (grind (arith, common_steps))
 
 pub returns-in-Some-clause-name : goal.returns-in-Some-clause-name
 returns-in-Some-clause-name c =
-    grind (arith, common_steps, ap text_or_nothing c.in-Some.ensures.stop.2)
-    ∙ name_in_range c.args.self.now.bytes c.args.start c.args.end c.args.offset c.requires.ordered c.requires.within c.if-offset-end.false
+    grind (arith, common_steps, ap text_or_nothing c.in-Some.ensures.stop.is)
+    ∙ name_in_range c.args.self.now.bytes c.args.start c.args.end c.args.offset c.requires.ordered c.requires.within
+    c.if-offset-end.false
 
 pub returns-in-None-clause-name : goal.returns-in-None-clause-name
 returns-in-None-clause-name c =
     nothing _ (grind (arith, common_steps))
-    ∙ name_in_range c.args.self.now.bytes c.args.start c.args.end c.args.offset c.requires.ordered c.requires.within c.if-offset-end.false
+    ∙ name_in_range c.args.self.now.bytes c.args.start c.args.end c.args.offset c.requires.ordered c.requires.within
+    c.if-offset-end.false
 
 pub returns-in-Some-clause-looks : goal.returns-in-Some-clause-looks
 returns-in-Some-clause-looks c = λ short.
     let bytes = c.args.self.now.bytes in
     let place = c.args.start + c.args.offset in
     let stop = c.in-Some.stop in
-    let size : length (slice_range c.end_of_name.new.self.bytes place stop) ≡ stop - place = length-range c.end_of_name.new.self.bytes place stop c.in-Some.ensures.stop.0 (grind (arith, common_steps)) in
+    let size : length (slice_range c.end_of_name.new.self.bytes place stop) ≡ stop - place =
+    length-range c.end_of_name.new.self.bytes place stop c.in-Some.ensures.stop.order (grind (arith, common_steps)) in
     elim (c.in-Some.ensures.looks (grind (arith, common_steps))) [
       | inl near ↦ grind (arith, common_steps, near)
       | inr text ↦ grind (arith, common_steps, text, size, text_length)

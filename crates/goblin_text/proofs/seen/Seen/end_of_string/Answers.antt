@@ -1,6 +1,6 @@
 use Rattle.std.proofs.Common.{◌≡◌, ◌+◌, ap, arith, length, slice_range, subst, sym}
 use Rattle.goblin_text.specs.Runs.{up_to_zero}
-use Rattle.goblin_text.proofs.Plain.{up_to_place}
+use Rattle.goblin_text.proofs.Strings.{up_to_place}
 use Rattle.goblin_text.proofs.seen.Seen.end_of_string.Goals as goal
 
 pub returns-clause-is : goal.returns-clause-is

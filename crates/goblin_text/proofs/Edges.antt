@@ -1,0 +1,240 @@
+-- Edges: where the characters from a place on begin.
+--
+-- A character that began before a place p has up to three more bytes from p on. Each of them goes on with a character:
+-- it is from 0x80 on, and below 0xC0. They are passed over, so a text that holds the bytes round p may be cut at the
+-- edge.
+--
+--     .. c1  c2 | c3  c4 | d1  d2 ..      c, d: two characters of a text, of four bytes and of two
+--               p        edge
+--
+-- In bytes that are no text more than three may go on. Then the edge is p + 3, and no text holds the four bytes from p
+-- on.
+use Rattle.std.proofs.Common.{◌≡◌, ◌∙◌, ℕ, ◌+◌, ◌-◌, ◌<◌, ◌≤◌, ◌&&◌, Bool, true, false, cond, ltb, leb, List, [], ◌∷◌}
+use Rattle.std.proofs.Common.{◌++◌, length, get_or, take, drop, refl, sym, ap, subst, ⊎_elim, arith, length-append}
+use Rattle.std.proofs.Common.{slice_range}
+use Rattle.std.proofs.Math.Seq.{take-append_seam, drop-append_seam}
+use Rattle.std.proofs.lemmas.Bool.{cases_lt}
+use Rattle.std.proofs.lemmas.Bool.Decides.{nat_tests}
+use Rattle.std.proofs.lemmas.List.{take-take}
+use Rattle.std.proofs.lemmas.Str.{IsCharBoundary-at_seam, IsCharBoundary-from_rest, IsCharBoundary-start, IsUtf8-drop}
+use Rattle.std.proofs.lemmas.Str.{IsUtf8-take, len_utf8_bounds, length-encode}
+use Rattle.std.specs.Str.{IsUtf8, IsCharBoundary}
+use lib.Utf8.{encode, encodes, scalar, scalars}
+use Rattle.goblin_text.proofs.Ranges.{get_range, length-range, rest_of_range, split}
+use Rattle.goblin_text.proofs.Strings.{get_up, goes_on, no_zero_whole, stops, whole, whole_no_zero}
+use Rattle.goblin_text.specs.Runs.{LacksText, edge, past, up_to_zero}
+
+-- ---- the place behind a byte that goes on with a character
+abbrev pub goes_on_with : ℕ → Type 0
+goes_on_with b = (128 ≤ b) × (b < 192)
+
+-- a byte that goes on with a character is passed over, and another one isn't
+pub data Past (bytes : List ℕ) (p : ℕ) : Type 0 where
+  over : past bytes p ≡ p + 1 → goes_on_with (get_or bytes p 0) → Past bytes p
+  stays : past bytes p ≡ p → ¬ (goes_on_with (get_or bytes p 0)) → Past bytes p
+
+pub past_is : (bytes : List ℕ) (p : ℕ) → Past bytes p
+unfolding past
+past_is bytes p = tested (leb 128 (get_or bytes p 0)) (ltb (get_or bytes p 0) 192) refl refl refl
+  where
+    tested : (a b : Bool) → leb 128 (get_or bytes p 0) ≡ a → ltb (get_or bytes p 0) 192 ≡ b
+        → past bytes p ≡ cond (a && b) (p + 1) p → Past bytes p
+    tested true true e f is = over is (grind (arith, nat_tests), grind (arith, nat_tests))
+    tested true false e f is =
+        stays is (λ h. let x : 192 ≤ get_or bytes p 0 = grind (arith, nat_tests) in omega (arith, h.1))
+    tested false b e f is =
+        stays is (λ h. let x : get_or bytes p 0 < 128 = grind (arith, nat_tests) in omega (arith, h.0))
+
+past_bounds : (bytes : List ℕ) (p : ℕ) → (p ≤ past bytes p) × (past bytes p ≤ p + 1)
+past_bounds bytes p = elim (past_is bytes p) [
+  | over e on ↦ (omega (arith, e), omega (arith, e))
+  | stays e off ↦ (omega (arith, e), omega (arith, e))
+]
+
+-- what is passed over goes on with a character
+passed : (bytes : List ℕ) (p q : ℕ) → p ≤ q → q < past bytes p → goes_on_with (get_or bytes q 0)
+passed bytes p q l h = elim (past_is bytes p) [
+  | over e on ↦ (let same : p ≡ q = omega (arith, e) in subst (λ k. goes_on_with (get_or bytes k 0)) same on)
+  | stays e off ↦ absurd (omega (arith, e))
+]
+
+-- where the byte behind a place goes on with a character, the byte there does
+passed_before : (bytes : List ℕ) (p : ℕ) → goes_on_with (get_or bytes (past bytes p) 0)
+    → (past bytes p ≡ p + 1) × goes_on_with (get_or bytes p 0)
+passed_before bytes p h = elim (past_is bytes p) [
+  | over e on ↦ (e, on)
+  | stays e off ↦ absurd (off (subst (λ k. goes_on_with (get_or bytes k 0)) e h))
+]
+
+-- ---- the edge
+pub edge_bounds : (bytes : List ℕ) (place : ℕ) → (place ≤ edge bytes place) × (edge bytes place ≤ place + 3)
+unfolding edge
+edge_bounds bytes place =
+    let p = past_bounds bytes place in
+    let q = past_bounds bytes (past bytes place) in
+    let r = past_bounds bytes (past bytes (past bytes place)) in
+    (omega arith, omega arith)
+
+-- what stands between a place and its edge goes on with a character
+passed_to_edge : (bytes : List ℕ) (p q : ℕ) → p ≤ q → q < edge bytes p → goes_on_with (get_or bytes q 0)
+unfolding edge
+passed_to_edge bytes p q l h =
+    let a = past bytes p in
+    let b = past bytes a in
+    ⊎_elim
+    (λ (s : q < a). passed bytes p q l s)
+    (λ (s : a ≤ q). ⊎_elim (λ (t : q < b). passed bytes a q s t) (λ (t : b ≤ q). passed bytes b q t h) (cases_lt q b))
+    (cases_lt q a)
+
+-- if the byte at the edge goes on with a character, the three before it do too
+four_go_on : (bytes : List ℕ) (p : ℕ) → goes_on_with (get_or bytes (edge bytes p) 0)
+    → (edge bytes p ≡ p + 3) × ((j : ℕ) → p ≤ j → j ≤ p + 3 → goes_on_with (get_or bytes j 0))
+unfolding edge
+four_go_on bytes p h =
+    let z = passed_before bytes (past bytes (past bytes p)) h in
+    let y = passed_before bytes (past bytes p) z.1 in
+    let x = passed_before bytes p y.1 in
+    let there : edge bytes p ≡ p + 3 = omega (arith, x.0, y.0, z.0) in (
+      there,
+      λ j l m. ⊎_elim
+          (λ (s : j < edge bytes p). passed_to_edge bytes p j l s)
+          (λ (s : edge bytes p ≤ j).
+          let same : edge bytes p ≡ j = omega arith in
+          subst (λ k. goes_on_with (get_or bytes k 0)) same h)
+          (cases_lt j (edge bytes p)),
+    )
+
+-- ---- text is cut at an edge
+-- a place where a text may be cut, among four from a place on
+record Cut (text : List ℕ) (i : ℕ) : Type 0 where
+  place : ℕ
+  from : i ≤ place
+  to : place ≤ i + 3
+  boundary : IsCharBoundary text place
+
+cut_of_chars : (cs : List ℕ) (i : ℕ) → scalars cs ≡ true → i ≤ length (encodes cs) → Cut (encodes cs) i
+cut_of_chars [] i s l = record {
+  place = 0;
+  from = omega arith;
+  to = omega arith;
+  boundary = (omega arith, λ m. absurd (omega arith));
+}
+cut_of_chars (c ∷ cs) i s l =
+    let n = length (encode c) in
+    let bounds = len_utf8_bounds c in
+    let size = length-encode c in
+    let all = length-append (encode c) (encodes cs) in
+    let rest : scalars cs ≡ true = rest_of (scalar c) s in
+    let text : IsUtf8 (encodes cs) = (cs, (rest, refl)) in
+    ⊎_elim
+    (λ (z : i < 1). record {
+      place = 0;
+      from = omega arith;
+      to = omega arith;
+      boundary = IsCharBoundary-start (encode c ++ encodes cs) (c ∷ cs, (s, refl));
+    })
+    (λ (z : 1 ≤ i). ⊎_elim
+    (λ (x : i < n). record {
+      place = n;
+      from = omega arith;
+      to = omega arith;
+      boundary = IsCharBoundary-at_seam (encode c ++ encodes cs) (encode c) (encodes cs) refl text;
+    })
+    (λ (x : n ≤ i).
+    let cut = cut_of_chars cs (i - n) rest (omega arith) in
+    let there : IsCharBoundary (drop n (encode c ++ encodes cs)) cut.place =
+    subst (λ t. IsCharBoundary t cut.place) (sym (drop-append_seam (encode c) (encodes cs))) cut.boundary in
+    record {
+      place = n + cut.place;
+      from = omega (arith, cut.from);
+      to = omega (arith, cut.to);
+      boundary = IsCharBoundary-from_rest (encode c ++ encodes cs) n cut.place (omega arith) there;
+    })
+    (cases_lt i n))
+    (cases_lt i 1)
+  where
+    rest_of : (b : Bool) → (b && scalars cs) ≡ true → scalars cs ≡ true
+    rest_of true e = e
+    rest_of false e = cc
+
+cut_near : (text : List ℕ) (i : ℕ) → IsUtf8 text → i ≤ length text → Cut text i
+cut_near text i u l = subst (λ x. Cut x i) u.1.1 (cut_of_chars u.0 i u.1.0 (omega (arith, ap length u.1.1)))
+
+-- a text that holds the bytes from a place on may be cut at an edge
+edge-boundary : (bytes text : List ℕ) (i p : ℕ) → i ≤ p → edge bytes p - i ≤ length text → IsUtf8 text
+    → ((m : ℕ) → m < length text → get_or text m 0 ≡ get_or bytes (i + m) 0) → IsCharBoundary text (edge bytes p - i)
+edge-boundary bytes text i p l size u holds =
+    let bounds = edge_bounds bytes p in
+    let n = edge bytes p - i in (
+      size,
+      λ some from. ⊎_elim
+          (λ (low : get_or text n 0 < 192).
+          let there : i + n ≡ edge bytes p = omega arith in
+          let byte : get_or text n 0 ≡ get_or bytes (edge bytes p) 0 =
+          holds n some ∙ ap (λ q. get_or bytes q 0) there in
+          let four = four_go_on bytes p (omega arith, omega arith) in
+          let cut = cut_near text (n - 3) u (omega arith) in
+          let short : cut.place < length text = omega (arith, cut.to, four.0) in
+          let same : get_or text cut.place 0 ≡ get_or bytes (i + cut.place) 0 = holds cut.place short in
+          let on = four.1 (i + cut.place) (omega (arith, cut.from, four.0)) (omega (arith, cut.to, four.0)) in
+          absurd (omega (arith, cut.boundary.1 short (omega (arith, on.0)), on.1)))
+          (λ (high : 192 ≤ get_or text n 0). high)
+          (cases_lt (get_or text n 0) 192),
+    )
+
+-- a text is text on either side of an edge
+pub text-edge : (bytes : List ℕ) (i p k : ℕ) → i ≤ p → p + 3 ≤ k → k ≤ length bytes → IsUtf8 (slice_range bytes i k)
+    → IsUtf8 (slice_range bytes i (edge bytes p)) × IsUtf8 (slice_range bytes (edge bytes p) k)
+text-edge bytes i p k l m h u =
+    let bounds = edge_bounds bytes p in
+    let n = edge bytes p - i in
+    let text = slice_range bytes i k in
+    let size : length text ≡ k - i = length-range bytes i k (omega arith) h in
+    let there : i + n ≡ edge bytes p = omega arith in
+    let boundary = edge-boundary bytes text i p l (omega arith) u (λ q short. get_range bytes i k q (omega arith)) in (
+      subst IsUtf8 (take-take n (k - i) (drop i bytes) (omega arith)) (IsUtf8-take text n u boundary),
+      subst IsUtf8 (rest_of_range bytes i k n (omega arith) ∙ ap (λ c. slice_range bytes c k) there)
+          (IsUtf8-drop text n u boundary),
+    )
+
+-- a string that is no text up to an edge is none where more follows
+pub lacks-on : (bytes : List ℕ) (i p e : ℕ) → i ≤ p → edge bytes p ≤ e → e ≤ length bytes
+    → LacksText (slice_range bytes i (edge bytes p)) → LacksText (slice_range bytes i e)
+lacks-on bytes i p e l m h lacks = λ u.
+    let bounds = edge_bounds bytes p in
+    let a = slice_range bytes i (edge bytes p) in
+    let r = slice_range bytes (edge bytes p) e in
+    let is : slice_range bytes i e ≡ a ++ r = split bytes i (edge bytes p) e (omega arith) m in
+    let size : length a ≡ edge bytes p - i = length-range bytes i (edge bytes p) (omega arith) (omega arith) in
+    ⊎_elim
+    (λ (short : length (up_to_zero a) < length a). lacks (subst IsUtf8 (ap up_to_zero is ∙ stops a r short) u))
+    (λ (all : length a ≤ length (up_to_zero a)).
+    let string = up_to_zero (slice_range bytes i e) in
+    let joined : string ≡ a ++ up_to_zero r = ap up_to_zero is ∙ goes_on a r all in
+    let long : length string ≡ length a + length (up_to_zero r) = ap length joined ∙ length-append a (up_to_zero r) in
+    let boundary = edge-boundary bytes string i p l (omega arith) u (get_up bytes i e) in
+    let front : take (edge bytes p - i) string ≡ up_to_zero a =
+    ap (λ n. take n string) (sym size) ∙ ap (take (length a)) joined ∙ take-append_seam a (up_to_zero r)
+    ∙ sym (whole a all) in
+    lacks (subst IsUtf8 front (IsUtf8-take string (edge bytes p - i) u boundary)))
+    (cases_lt (length (up_to_zero a)) (length a))
+
+-- no zero byte stands up to an edge, where none stands up to a place that isn't before the edge's
+pub whole-edge : (bytes : List ℕ) (i p k : ℕ) → i ≤ p → p ≤ k → k ≤ length bytes → edge bytes p ≤ length bytes
+    → up_to_zero (slice_range bytes i k) ≡ slice_range bytes i k
+    → up_to_zero (slice_range bytes i (edge bytes p)) ≡ slice_range bytes i (edge bytes p)
+whole-edge bytes i p k l m h short is =
+    let bounds = edge_bounds bytes p in
+    let size : length (slice_range bytes i k) ≡ k - i = length-range bytes i k (omega arith) h in
+    let front = slice_range bytes i (edge bytes p) in
+    let length-front : length front ≡ edge bytes p - i = length-range bytes i (edge bytes p) (omega arith) short in
+    no_zero_whole front (λ q n z.
+    let byte : get_or bytes (i + q) 0 ≡ 0 =
+    sym (get_range bytes i (edge bytes p) q (omega (arith, n, length-front))) ∙ z in
+    ⊎_elim
+    (λ (s : i + q < k).
+    whole_no_zero (slice_range bytes i k) q is (omega (arith, size)) (get_range bytes i k q (omega arith) ∙ byte))
+    (λ (s : k ≤ i + q).
+    let on = passed_to_edge bytes p (i + q) (omega arith) (omega (arith, n, length-front)) in
+    absurd (omega (arith, on.0, byte)))
+    (cases_lt (i + q) k))

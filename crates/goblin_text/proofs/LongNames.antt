@@ -1,0 +1,83 @@
+-- Names that go on through blocks.
+use Rattle.std.proofs.Common.{◌≡◌, ℕ, ◌+◌, ◌-◌, ◌*◌, ◌<◌, ◌≤◌, List, length, sym, subst, ⊎_elim, arith, slice_range}
+use Rattle.std.proofs.Common.{Option, None, Some}
+use Rattle.std.proofs.lemmas.Bool.{cases_lt}
+use Rattle.std.specs.Str.{IsUtf8}
+use Rattle.goblin.specs.TextLaws.{texts-join}
+use Rattle.goblin_text.proofs.Edges.{edge_bounds, lacks-on, whole-edge}
+use Rattle.goblin_text.proofs.Joins.{lacks-after, of_up_to}
+use Rattle.goblin_text.proofs.Strings.{string-after, string-within}
+use Rattle.goblin_text.specs.declared.runs.Kind.TheVariants.{Plain}
+use Rattle.goblin_text.specs.declared.runs.TheConstants.{BLOCK}
+use Rattle.goblin_text.specs.Runs.{EndsAt, IsBlock, IsLong, IsPlain, IsRun, IsTextUpTo, LacksText, block_start}
+use Rattle.goblin_text.specs.Runs.{next_block, up_to_zero}
+
+-- text with no zero byte goes on from a place up to a block
+pub record RunsTo (bytes : List ℕ) (place run : ℕ) : Type 0 where
+  pub order : next_block place ≤ run
+  pub head : IsUtf8 (slice_range bytes place (block_start bytes (next_block place)))
+  pub blocks : IsRun Plain bytes (next_block place) run
+
+module _ (bytes : List ℕ) (place end : ℕ) (long : IsLong bytes place end) where
+  -- no zero byte stands up to the next block
+  whole_head : up_to_zero (slice_range bytes place (block_start bytes (next_block place)))
+      ≡ slice_range bytes place (block_start bytes (next_block place))
+  whole_head =
+      let bounds = edge_bounds bytes (next_block place * BLOCK) in
+      whole-edge bytes place (next_block place * BLOCK) (place + BLOCK) (omega arith) (omega arith)
+      (omega (arith, long.blocks, long.within)) (omega (arith, long.blocks, long.within)) long.whole
+
+  -- bytes up to the next block that are no text
+  pub lacks_at_head : ¬ (IsUtf8 (slice_range bytes place (block_start bytes (next_block place))))
+      → LacksText (slice_range bytes place end)
+  lacks_at_head other =
+      let bounds = edge_bounds bytes (next_block place * BLOCK) in
+      lacks-on bytes place (next_block place * BLOCK) end (omega arith) (omega (arith, long.blocks)) long.within
+      (λ u. other (subst IsUtf8 whole_head u))
+
+  pub plain_to_run : (run : ℕ) → RunsTo bytes place run → IsPlain (slice_range bytes place (block_start bytes run))
+  plain_to_run run to =
+      of_up_to Plain bytes place (next_block place) run (omega arith) to.order
+      (record { text = to.head; whole = whole_head }) to.blocks
+
+-- a string ends in a block that isn't text with no zero byte, and ends there of more bytes too
+pub ends_in_block : (bytes : List ℕ) (block end : ℕ) (found : Option ℕ) → block_start bytes (block + 1) ≤ end
+    → end ≤ length bytes → ¬ (IsBlock Plain bytes block)
+    → EndsAt bytes (block_start bytes block) (block_start bytes (block + 1)) found
+    → IsTextUpTo bytes (block_start bytes block) found → EndsAt bytes (block_start bytes block) end found
+unfolding IsBlock
+ends_in_block bytes block end None short h other e t =
+    let bounds = edge_bounds bytes (block * BLOCK) in
+    lacks-on bytes (block_start bytes block) ((block + 1) * BLOCK) end (omega arith) short h e
+ends_in_block bytes block end (Some stop) short h other e t =
+    let from = block_start bytes block in
+    let to = block_start bytes (block + 1) in
+    ⊎_elim
+    (λ (l : stop < to). record {
+      order = e.order;
+      within = omega (arith, l, short);
+      is = string-within bytes from stop to end e.order l short (omega (arith, short, h)) e.is;
+    })
+    (λ (l : to ≤ stop).
+    let all : stop ≡ to = omega (arith, l, e.within) in
+    absurd (other (record {
+      text = subst (λ s. IsUtf8 (slice_range bytes from s)) all t;
+      whole = sym (subst (λ s. slice_range bytes from s ≡ up_to_zero (slice_range bytes from to)) all e.is);
+    })))
+    (cases_lt stop to)
+
+-- a string goes on after text with no zero byte
+pub ends_after : (bytes : List ℕ) (place from end : ℕ) (found : Option ℕ) → place ≤ from → from ≤ end
+    → IsPlain (slice_range bytes place from) → EndsAt bytes from end found → EndsAt bytes place end found
+ends_after bytes place from end None l m plain e = lacks-after bytes place from end l m plain e
+ends_after bytes place from end (Some stop) l m plain e = record {
+  order = omega (arith, l, e.order);
+  within = e.within;
+  is = string-after bytes place from stop end l e.order e.within plain.whole e.is;
+}
+
+pub text_after : (bytes : List ℕ) (place from end : ℕ) (found : Option ℕ) → place ≤ from
+    → IsPlain (slice_range bytes place from) → EndsAt bytes from end found → IsTextUpTo bytes from found
+    → IsTextUpTo bytes place found
+text_after bytes place from end None l plain e t = tt
+text_after bytes place from end (Some stop) l plain e t = texts-join bytes place from stop l e.order plain.text t

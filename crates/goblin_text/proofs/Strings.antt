@@ -1,0 +1,127 @@
+-- Strings: the bytes before the first zero byte.
+use Rattle.std.proofs.Common.{◌≡◌, ◌≢◌, ◌∙◌, ℕ, ◌+◌, ◌-◌, ◌<◌, ◌≤◌, ◌==◌, Bool, false, cond, not, eqb, List, ◌++◌}
+use Rattle.std.proofs.Common.{length, get_or, take, drop, sym, ap, ⊎_elim, arith, slice_range, Option}
+use Rattle.std.proofs.Math.Seq.{take-append-add}
+use Rattle.std.proofs.lemmas.Bool.{both_ways, cases_lt, cond-true, cond-false, eq-eqb, lt-ltb, le-ltb}
+use Rattle.std.proofs.lemmas.Bool.Decides.{nat_tests}
+use Rattle.std.proofs.lemmas.List.{get_or-take, length-take, length-take-le, take-append-le, take-take, take_all}
+use Rattle.std.proofs.lemmas.List.Folds.{prefix_len-append}
+use Rattle.std.proofs.lemmas.List.Sums.{fails_before_first, passes_at_first, prefix_len-le-length}
+use Rattle.std.specs.List.{position, position_or_len}
+use Rattle.std.specs.Option.{unwrap_or}
+use Rattle.goblin_text.proofs.Ranges.{get_range, length-range, split}
+use Rattle.goblin_text.specs.Runs.{up_to_zero}
+
+abbrev no_zero : ℕ → Bool
+no_zero b = not (b == 0)
+
+-- where the first zero byte stands, or the length
+abbrev first_zero : List ℕ → ℕ
+first_zero a = position_or_len (λ b. b == 0) a
+
+within : (a : List ℕ) → first_zero a ≤ length a
+within a = prefix_len-le-length no_zero a
+
+length-up : (a : List ℕ) → length (up_to_zero a) ≡ first_zero a
+unfolding up_to_zero
+length-up a = length-take-le (first_zero a) a (within a)
+
+first_zero-append : (a b : List ℕ)
+    → first_zero (a ++ b) ≡ cond (eqb (first_zero a) (length a)) (length a + first_zero b) (first_zero a)
+first_zero-append a b = prefix_len-append no_zero a b
+
+-- a zero byte ends the string, whatever follows
+pub stops : (a b : List ℕ) → length (up_to_zero a) < length a → up_to_zero (a ++ b) ≡ up_to_zero a
+unfolding up_to_zero
+stops a b h =
+    let short : first_zero a < length a = omega (arith, length-up a) in
+    let differs : eqb (first_zero a) (length a) ≡ false = grind (arith, nat_tests) in
+    let len : first_zero (a ++ b) ≡ first_zero a =
+    first_zero-append a b ∙ ap (λ t. cond t (length a + first_zero b) (first_zero a)) differs in
+    ap (λ n. take n (a ++ b)) len ∙ take-append-le (first_zero a) a b (within a)
+
+-- with no zero byte it goes on
+pub goes_on : (a b : List ℕ) → length a ≤ length (up_to_zero a) → up_to_zero (a ++ b) ≡ a ++ up_to_zero b
+unfolding up_to_zero
+goes_on a b h =
+    let same : first_zero a ≡ length a = omega (arith, length-up a, within a) in
+    let len : first_zero (a ++ b) ≡ length a + first_zero b =
+    first_zero-append a b ∙ ap (λ t. cond t (length a + first_zero b) (first_zero a)) (eq-eqb _ _ same) in
+    ap (λ n. take n (a ++ b)) len ∙ take-append-add a b (first_zero b)
+
+pub whole : (a : List ℕ) → length a ≤ length (up_to_zero a) → up_to_zero a ≡ a
+unfolding up_to_zero
+whole a h = take_all (first_zero a) a (omega (arith, length-up a))
+
+-- ---- zero bytes
+pub no_zero_whole : (a : List ℕ) → ((m : ℕ) → m < length a → get_or a m 0 ≢ 0) → up_to_zero a ≡ a
+no_zero_whole a none = ⊎_elim
+    (λ (l : first_zero a < length a).
+    let z : get_or a (first_zero a) 0 ≡ 0 = grind (arith, nat_tests, passes_at_first (λ b. b == 0) a 0 l) in
+    absurd (none (first_zero a) l z))
+    (λ (l : length a ≤ first_zero a). whole a (omega (arith, length-up a)))
+    (cases_lt (first_zero a) (length a))
+
+pub whole_no_zero : (a : List ℕ) (m : ℕ) → up_to_zero a ≡ a → m < length a → get_or a m 0 ≢ 0
+whole_no_zero a m is l = λ z.
+    let before : m < first_zero a = omega (arith, ap length is, length-up a) in
+    let f : eqb (get_or a m 0) 0 ≡ false = fails_before_first (λ b. b == 0) a m 0 before in
+    absurd (both_ways _ f (eq-eqb _ _ z))
+
+-- ---- strings in a range
+-- a byte of a string
+pub get_up : (bytes : List ℕ) (i e m : ℕ) → m < length (up_to_zero (slice_range bytes i e))
+    → get_or (up_to_zero (slice_range bytes i e)) m 0 ≡ get_or bytes (i + m) 0
+unfolding up_to_zero
+get_up bytes i e m l =
+    let s = slice_range bytes i e in
+    let n : m < first_zero s = omega (arith, length-up s) in
+    let short : m < e - i = omega (arith, within s, length-take (e - i) (drop i bytes)) in
+    get_or-take (first_zero s) s m 0 n ∙ get_range bytes i e m short
+
+first_or_length : (t : ℕ → Bool) (xs : List ℕ) → unwrap_or (position t xs) (length xs) ≡ position_or_len t xs
+first_or_length t xs =
+    let n = position_or_len t xs in
+    let most : n ≤ length xs = prefix_len-le-length (λ b. not (t b)) xs in
+    ⊎_elim
+    (λ (l : n < length xs). ap (λ r. unwrap_or r (length xs)) (cond-true _ _ _ (lt-ltb n (length xs) l)))
+    (λ (l : length xs ≤ n).
+    let same : length xs ≡ n = omega arith in
+    ap (λ r. unwrap_or r (length xs)) (cond-false _ _ _ (le-ltb n (length xs) l)) ∙ same)
+    (cases_lt n (length xs))
+
+-- a string ends where a zero byte stands first, or where the range does
+pub up_to_place : (bytes : List ℕ) (i j : ℕ) (r : Option ℕ) (n : ℕ) → i ≤ j → j ≤ length bytes
+    → r ≡ position (λ b. b == 0) (slice_range bytes i j) → n ≡ unwrap_or r (j - i)
+    → slice_range bytes i (i + n) ≡ up_to_zero (slice_range bytes i j)
+unfolding up_to_zero
+up_to_place bytes i j r n l m e f =
+    let s = slice_range bytes i j in
+    let size : length s ≡ j - i = length-range bytes i j l m in
+    let k : n ≡ first_zero s =
+    f ∙ ap (unwrap_or r) (sym size) ∙ ap (λ x. unwrap_or x (length s)) e ∙ first_or_length (λ b. b == 0) s in
+    let short : n ≤ j - i = omega (arith, k, within s, size) in
+    let len : i + n - i ≡ n = omega arith in
+    ap (λ x. take x (drop i bytes)) len ∙ sym (take-take n (j - i) (drop i bytes) short) ∙ ap (λ x. take x s) k
+
+-- a string goes on after bytes with no zero byte
+pub string-after : (bytes : List ℕ) (i j s k : ℕ) → i ≤ j → j ≤ s → s ≤ k
+    → up_to_zero (slice_range bytes i j) ≡ slice_range bytes i j
+    → slice_range bytes j s ≡ up_to_zero (slice_range bytes j k)
+    → slice_range bytes i s ≡ up_to_zero (slice_range bytes i k)
+string-after bytes i j s k l m n front rest =
+    let a = slice_range bytes i j in
+    split bytes i j s l m ∙ ap (λ r. a ++ r) rest
+    ∙ sym (ap up_to_zero (split bytes i j k l (omega arith))
+    ∙ goes_on a (slice_range bytes j k) (omega (arith, ap length front)))
+
+-- a string that ends in a range ends there in a longer one
+pub string-within : (bytes : List ℕ) (i s j k : ℕ) → i ≤ s → s < j → j ≤ k → j ≤ length bytes
+    → slice_range bytes i s ≡ up_to_zero (slice_range bytes i j)
+    → slice_range bytes i s ≡ up_to_zero (slice_range bytes i k)
+string-within bytes i s j k l m n h is =
+    let a = slice_range bytes i j in
+    let size : length a ≡ j - i = length-range bytes i j (omega arith) h in
+    let short : length (slice_range bytes i s) ≡ s - i = length-range bytes i s l (omega arith) in
+    is ∙ sym (ap up_to_zero (split bytes i j k (omega arith) n)
+    ∙ stops a (slice_range bytes j k) (omega (arith, ap length is)))
