@@ -1,22 +1,19 @@
 -- What names took, and what is left to them.
 use Rattle.std.proofs.Common.{◌≡◌, ℕ, ◌+◌, ◌*◌, ◌≤◌, eqb, cond, true, false, List, [], ◌∷◌, ◌++◌, ap, arith, length, length-append, Ok, subst, sym}
 use Rattle.std.proofs.lemmas.List.{length-map}
-use Rattle.goblin.specs.SectionNames.{section_name}
-use Rattle.goblin.specs.SymParts.{bind_of, type_of, visibility_of, bind_name, type_name, visibility_name}
-use Rattle.goblin.specs.Texts.{◌&◌, hexadecimal}
+use Rattle.goblin.specs.Texts.{◌&◌}
 use Rattle.goblin.specs.Strtab.{StringTable}
 use Rattle.goblin.specs.declared.options.ParseMode.{ParseMode}
-use Rattle.std.specs.Prelude.{codes, decimal, vec_items}
+use Rattle.std.specs.Prelude.{vec_items}
 use Rattle.std.specs.Option.{unwrap_or}
 use Rattle.std.specs.Result.{result_ok}
 use Rattle.goblin.specs.declared.elf.header.Header.{Header}
 use Rattle.goblin.specs.declared.elf.section_header.SectionHeader.{SectionHeader}
-use Rattle.goblin.specs.declared.elf.sym.Sym.{Sym}
 use Rattle.goblin_text.specs.Accepted.{parts_text, relocs_text, symbols_text}
 use Rattle.goblin_text.specs.Known.{strings_in}
 use Rattle.goblin_text.specs.Shown.{name_at, section_lines, shown}
 use Rattle.goblin_text.specs.declared.accept.Parts.{Parts}
-use Rattle.goblin_text.specs.Lines.{header_line, newline, printable, printed, section_line, symbol_line}
+use Rattle.goblin_text.specs.Lines.{header_line, named_line, newline, printable, printed, section_head, section_line}
 use Rattle.goblin_text.specs.Looks.{Named, Spends, line_looks, lines_in, name_looks, names_looks, section_count, shown_looks, table_looks, tables_looks}
 
 -- of a text the looks so far were taken, and those of the rest are left
@@ -35,29 +32,20 @@ pub looks-none : names_looks [] ≡ 0
 unfolding names_looks
 looks-none = omega arith
 
--- a name with the rest of its line
-pub looks-line : (head name : List ℕ) → name_looks + length name ≤ names_looks (head & printed name & newline)
+-- a line that ends with a name
+pub named_line_looks : (head name : List ℕ) → name_looks + length name ≤ names_looks (named_line head name)
 unfolding names_looks
-looks-line head name =
+named_line_looks head name =
     let tail = printed name ++ newline in
-    let size = length-append head tail in
-    let more = length-append (printed name) newline in
-    let same : length (printed name) ≡ length name = length-map name printable in
-    let lines = lines-append head tail in
-    let last = lines-append (printed name) newline in
-    omega (arith, size, more, same, lines, last)
-
--- and with what stands before that
-behind : {n : ℕ} (a b : List ℕ) → n ≤ names_looks b → n ≤ names_looks (a & b)
-behind a b l = omega (arith, looks-append a b, l)
-
-pub section_looks : (number : ℕ) (s : SectionHeader) (name : List ℕ) → name_looks + length name ≤ names_looks (section_line number s name)
-section_looks number s name =
-    behind (codes "section ") _ (behind (decimal number) _ (behind (codes " ") _ (behind (section_name s.sh_type) _ (behind (codes " offset 0x") _ (behind (hexadecimal s.sh_offset) _ (behind (codes " size ") _ (behind (decimal s.sh_size) _ (looks-line (codes " name=") name))))))))
-
-pub symbol_looks : (section number : ℕ) (s : Sym) (name : List ℕ) → name_looks + length name ≤ names_looks (symbol_line section number s name)
-symbol_looks section number s name =
-    behind (codes "symbol ") _ (behind (decimal section) _ (behind (codes " ") _ (behind (decimal number) _ (behind (codes " ") _ (behind (type_name (type_of s.st_info)) _ (behind (codes " ") _ (behind (bind_name (bind_of s.st_info)) _ (behind (codes " ") _ (behind (visibility_name (visibility_of s.st_other)) _ (behind (codes " value 0x") _ (behind (hexadecimal s.st_value) _ (behind (codes " size ") _ (behind (decimal s.st_size) _ (looks-line (codes " name=") name))))))))))))))
+    let size : length (printed name) ≡ length name = length-map name printable in
+    omega (
+      arith,
+      size,
+      length-append head tail,
+      length-append (printed name) newline,
+      lines-append head tail,
+      lines-append (printed name) newline,
+    )
 
 -- before the first line
 pub none_spent : (s : Named) (all : List ℕ) → SpentSoFar s s all all
@@ -89,15 +77,15 @@ parts_spend old mid new bytes header sections parts s t = omega (arith, s, t, pa
 header-line : (h : Header) → 1 ≤ lines_in (header_line h)
 header-line h = simp lines-append (omega arith)
 
-section-line : (number : ℕ) (s : SectionHeader) (name : List ℕ) → 1 ≤ lines_in (section_line number s name)
-section-line number s name = simp lines-append (omega arith)
+named-line : (head name : List ℕ) → 1 ≤ lines_in (named_line head name)
+named-line head name = simp lines-append (omega arith)
 
 -- each section has a line
 section-count : (names : StringTable) (number : ℕ) (sections : List SectionHeader) → length sections ≤ lines_in (section_lines names number sections)
 section-count names number [] = omega arith
 section-count names number (s ∷ sections) =
     let line = section_line number s (name_at names s.sh_name) in
-    omega (arith, section-line number s (name_at names s.sh_name), section-count names (number + 1) sections, lines-append line (section_lines names (number + 1) sections))
+    omega (arith, named-line (section_head number s) (name_at names s.sh_name), section-count names (number + 1) sections, lines-append line (section_lines names (number + 1) sections))
 
 lines_most : (bytes : List ℕ) (header : Header) (sections : List SectionHeader) (parts : Parts) → length sections + 1 ≤ lines_in (parts_text bytes header sections parts)
 lines_most bytes header sections parts =

@@ -38,18 +38,30 @@ header_line h =
     & file_type_name h.e_type & codes " " & machine_name h.e_machine & codes " entry 0x" & hexadecimal h.e_entry
     & codes " phnum " & decimal h.e_phnum & codes " shnum " & decimal h.e_shnum & newline
 
+-- a line that ends with a name
+abbrev pub named_line : (head name : List ℕ) → List ℕ
+named_line head name = head & printed name & newline
+
+-- the line of the section with a number, up to its name
+unfoldable pub section_head : ℕ → SectionHeader → List ℕ
+section_head number s =
+    codes "section " & decimal number & codes " " & section_name s.sh_type & codes " offset 0x" & hexadecimal s.sh_offset
+    & codes " size " & decimal s.sh_size & codes " name="
+
 -- the line of the section with a number and a name
 abbrev pub section_line : ℕ → SectionHeader → List ℕ → List ℕ
-section_line number s name =
-    codes "section " & decimal number & codes " " & section_name s.sh_type & codes " offset 0x" & hexadecimal s.sh_offset
-    & codes " size " & decimal s.sh_size & codes " name=" & printed name & newline
+section_line number s name = named_line (section_head number s) name
+
+-- the line of the symbol with a number, of the section with a number, up to its name
+unfoldable pub symbol_head : ℕ → ℕ → Sym → List ℕ
+symbol_head section number s =
+    codes "symbol " & decimal section & codes " " & decimal number & codes " " & type_name (type_of s.st_info) & codes " "
+    & bind_name (bind_of s.st_info) & codes " " & visibility_name (visibility_of s.st_other) & codes " value 0x"
+    & hexadecimal s.st_value & codes " size " & decimal s.st_size & codes " name="
 
 -- the line of the symbol with a number and a name, of the section with a number
 abbrev pub symbol_line : ℕ → ℕ → Sym → List ℕ → List ℕ
-symbol_line section number s name =
-    codes "symbol " & decimal section & codes " " & decimal number & codes " " & type_name (type_of s.st_info) & codes " "
-    & bind_name (bind_of s.st_info) & codes " " & visibility_name (visibility_of s.st_other) & codes " value 0x"
-    & hexadecimal s.st_value & codes " size " & decimal s.st_size & codes " name=" & printed name & newline
+symbol_line section number s name = named_line (symbol_head section number s) name
 
 -- an addend in decimal, or a dash where there is none
 abbrev pub addend_text : Option ℤ → List ℕ

@@ -109,6 +109,7 @@ pub fn put_header<T: Target>(target: &mut T, header: &Header) -> Result<(), T::E
 }
 
 /// Puts the line of the section with a number and a name.
+#[tactic(auto, unfolding(crate::specs::Lines::section_head))]
 pub fn put_section<T: Target>(
     target: &mut T,
     number: usize,
@@ -138,6 +139,7 @@ pub fn put_section<T: Target>(
 }
 
 /// Puts the line of the symbol with a number and a name, of the section with a number.
+#[tactic(auto, unfolding(crate::specs::Lines::symbol_head))]
 pub fn put_symbol<T: Target>(
     target: &mut T,
     section: usize,

@@ -24,7 +24,7 @@ use std::alloc::Global;
 use std::io;
 
 // Puts the line of the section with a number.
-#[tactic(auto, using(crate::proofs::Spent::section_looks))]
+#[tactic(auto, using(crate::proofs::Spent::named_line_looks))]
 fn put_named_section<T: Target>(
     target: &mut T,
     names: &mut Names<'_>,
@@ -70,7 +70,7 @@ fn put_sections<T: Target>(
 }
 
 // Puts the line of the symbol with a number, of a part.
-#[tactic(auto, using(crate::proofs::Spent::symbol_looks))]
+#[tactic(auto, using(crate::proofs::Spent::named_line_looks))]
 fn put_named_symbol<T: Target>(
     target: &mut T,
     names: &mut Names<'_>,
