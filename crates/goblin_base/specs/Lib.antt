@@ -8,6 +8,7 @@ pub mod Fields
 pub mod Layout
 pub mod LayoutLaws
 pub mod Lines
+pub mod Marks
 pub mod Names
 pub mod Number
 pub mod NumberLaws

@@ -50,7 +50,7 @@ fn run_in(bytes: &[u8], at: usize, delim: u8) -> usize
 
 // Returns the index of the lowest bit that is set, or `other` if none is.
 #[inline(always)]
-fn lowest_set(mask: u64, other: usize) -> usize
+pub(crate) fn lowest_set(mask: u64, other: usize) -> usize
     ensures { result ≡ lowest_set mask other }
 {
     if mask == 0 {

@@ -6,12 +6,14 @@ ghost use Rattle.std.specs.Prelude.{◌≡◌, ◌↔◌, ◌+◌, ◌-◌, ◌*
 ghost use Rattle.std.specs.Option.{unwrap_or};
 ghost use Rattle.std.specs.Str.{IsUtf8, IsValidUpTo, valid_up_to};
 ghost use Rattle.goblin_base.specs.Entries.{AreKept, IsKeptEntry, entries_between, places_of, text_of};
+ghost use Rattle.goblin_base.specs.Marks.{AreMarks};
 ghost use Rattle.goblin_base.specs.Refusal.{Answers, malformed};
 ghost use Rattle.goblin_base.specs.Search.{IsRising};
 ghost use Rattle.goblin_base.specs.Steps.{refuse_as};
 ghost use Rattle.goblin_base.specs.Strtab.{IsRange, range_in};
 
 use crate::error::Result;
+use crate::marks::{LANES, Marks};
 use crate::options::ParseMode;
 use crate::strtab::{bytes_in_range, position};
 use std::alloc::Global;
@@ -182,6 +184,19 @@ impl<'a> Looked<'a> {
     {
         self.count.add((to - from) as u64);
         std::str::from_utf8(&self.bytes[from..to])
+    }
+
+    /// Returns the marks of the sixteen bytes from a place on. It is a look at each of them.
+    pub(crate) fn marks(&mut self, at: usize, delim: u8) -> Marks
+        requires { at + LANES ≤ length self.old.bytes }
+        ensures until { result.until ≡ at + LANES }
+        ensures marked { AreMarks self.old.bytes delim result }
+        ensures counted { self.new ≡ record self.old { count = min (self.old.count + LANES) u128.MAX } }
+        ensures unchanged { self.new.bytes ≡ self.old.bytes }
+        ensures rising { self.old.count ≤ self.new.count }
+    {
+        self.count.add(LANES as u64);
+        Marks::of(self.bytes, at, delim)
     }
 
     /// Whether the bytes from one place up to another are text. It is a look at each of them.

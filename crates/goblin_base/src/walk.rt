@@ -9,6 +9,7 @@ ghost use Rattle.goblin_base.specs.Utf8.{invalid_utf8};
 
 use crate::entries::{Entries, Looked};
 use crate::error::Result;
+use crate::marks::{Marks, is_text, next_end};
 use crate::options::ParseMode;
 use crate::utf8::{Awaited, invalid_utf8};
 use std::alloc::{AllocError, Global};
@@ -63,10 +64,11 @@ pub fn walk<'a>(
     ensures none { (view.old.bytes ≡ []) → IsOk result }
 {
     let mut places = Vec::new(alloc);
+    let mut marks = Marks::none();
     let mut i = 0;
     while i < view.len() {
-        let end = end_of_piece(view, delim, i);
-        if view.text(i, end) {
+        let (end, is_ascii) = next_end(view, &mut marks, delim, i);
+        if is_text(view, i, end, is_ascii) {
             places.push(i)?;
             i = end + 1;
         } else if mode.is_permissive() {
@@ -79,7 +81,7 @@ pub fn walk<'a>(
 }
 
 // Returns the offset at which the piece at an offset ends.
-fn end_of_piece(view: &mut Looked<'_>, delim: u8, from: usize) -> usize
+pub(crate) fn end_of_piece(view: &mut Looked<'_>, delim: u8, from: usize) -> usize
     requires { from ≤ length view.old.bytes }
     ensures value { result ≡ piece_end view.old.bytes delim from }
     ensures ordered { from ≤ result }

@@ -4,6 +4,7 @@ use Rattle.std.proofs.lemmas.Bool.{both_ways, false≢true}
 use Rattle.std.specs.Str.{IsUtf8}
 use Rattle.std.specs.List.{slice_range}
 use Rattle.goblin_base.specs.Entries.{entries_between}
+use Rattle.goblin_base.specs.Marks.{HaveMarks}
 use Rattle.goblin_base.specs.Pieces.{piece_end, is_readable}
 use Rattle.goblin_base.specs.Strtab.{walked}
 use Rattle.goblin_base.specs.Utf8.{invalid_utf8}
@@ -27,43 +28,58 @@ loop-i-init c = record {
   within = omega arith;
   walked = rw c.new-places.ensures.items (walked_none c.args.view.now.bytes c.args.delim);
   strict = λ _. text_so_far_none c.args.view.now.bytes c.args.delim;
-  looks = omega arith;
+  near = omega (arith, c.none-marks.ensures);
+  marked = λ h. absurd (omega (arith, h, c.none-marks.ensures));
+  looks = omega (arith, c.none-marks.ensures);
   rising = omega arith;
-  least = omega arith;
+  least = omega (arith, c.none-marks.ensures);
 }
 
 pub returns-in_err-push-clause-first : goal.returns-in_err-push-clause-first
 returns-in_err-push-clause-first c = λ m r.
     let s = c.loop-i.invariant in
-    let e = c.end_of_piece-end.ensures in
+    let e = c.next_end-end.ensures in
     let here = readable_here c.args.view.now.bytes _ _ c.args.delim c.loop-i.i _ s.same e.unchanged e.value
-    (c.if-text.ensures.value.0 refl) in
+    (c.if-is_text.ensures.value.0 refl) in
     let none = nothing_passed c.args.view.now.bytes c.args.delim c.loop-i.i r (s.strict m) in
     absurd (both_ways _ r (ap (is_readable c.args.view.now.bytes c.args.delim) (sym none.0) ∙ here.1))
 
-pub loop-i-preserved-then-text : goal.loop-i-preserved-then-text
-loop-i-preserved-then-text c =
+pub loop-i-preserved-then-is_text : goal.loop-i-preserved-then-is_text
+loop-i-preserved-then-is_text c =
     let s = c.loop-i.invariant in
     let bytes = c.args.view.now.bytes in
     let d = c.args.delim in
     let i = c.loop-i.i in
-    let e = c.end_of_piece-end.ensures in
-    let here = readable_here bytes _ _ d i _ s.same e.unchanged e.value (c.if-text.ensures.value.0 refl) in
+    let e = c.next_end-end.ensures in
+    let here = readable_here bytes _ _ d i _ s.same e.unchanged e.value (c.if-is_text.ensures.value.0 refl) in
     let in_range : i < length bytes = omega (arith, ap length s.same, c.len.ensures.value, c.loop-i-test.true) in
     record {
-      same = ap (λ v. v.bytes) c.text.ensures.counted ∙ e.unchanged ∙ s.same;
+      same = c.is_text.ensures.unchanged ∙ e.unchanged ∙ s.same;
       within = omega (arith, e.within, ap length s.same);
-      walked = walked_text bytes d _ _ i c.end_of_piece-end.result in_range e.ordered
+      walked = walked_text bytes d _ _ i c.next_end-end.result.0 in_range e.ordered
           (omega (arith, e.within, ap length s.same)) here.0 here.1 c.in_ok-push.ensures.items s.walked;
       strict = λ m.
           subst (λ k. IsTextSoFar bytes d (k + 1)) (sym here.0)
           (text_so_far_more bytes d i in_range here.1 (s.strict m));
-      looks = omega
-          (arith, ap (λ v. v.count) c.text.ensures.counted, e.looks, e.within, e.ordered, s.looks, ap length s.same);
-      rising = omega (arith, c.text.ensures.rising, e.rising, s.rising);
+      near = omega (arith, e.near);
+      marked = subst (λ bs. HaveMarks bs d c.next_end-end.new.marks) s.same e.marked;
+      looks = omega (
+        arith,
+        c.is_text.ensures.looks,
+        c.is_text.ensures.rising,
+        e.grows,
+        e.looks,
+        e.within,
+        e.ordered,
+        s.looks,
+        ap length s.same,
+      );
+      rising = omega (arith, c.is_text.ensures.rising, e.rising, s.rising);
       least = omega (
         arith,
-        ap (λ v. v.count) c.text.ensures.counted,
+        c.is_text.ensures.looks,
+        c.is_text.ensures.rising,
+        e.grows,
         e.looks_least,
         e.within,
         e.ordered,
@@ -78,15 +94,14 @@ returns-else-is_permissive c =
     let bytes = c.args.view.now.bytes in
     let d = c.args.delim in
     let i = c.loop-i.i in
-    let e = c.end_of_piece-end.ensures in
-    let end : c.end_of_piece-end.result ≡ piece_end bytes d i = e.value ∙ ap (λ bs. piece_end bs d i) s.same in
-    let text = ap (λ bs. slice_range bs i c.end_of_piece-end.result) (e.unchanged ∙ s.same) in
+    let e = c.next_end-end.ensures in
+    let end : c.next_end-end.result.0 ≡ piece_end bytes d i = e.value ∙ ap (λ bs. piece_end bs d i) s.same in
+    let text = ap (λ bs. slice_range bs i c.next_end-end.result.0) (e.unchanged ∙ s.same) in
     let bad = bad_from_fault bytes d i _ end
-    (λ u. false≢true (c.if-text.ensures.value.1 (subst IsUtf8 (sym text) u))) in
+    (λ u. false≢true (c.if-is_text.ensures.value.1 (subst IsUtf8 (sym text) u))) in
     let in_range : i < length bytes = omega (arith, ap length s.same, c.len.ensures.value, c.loop-i-test.true) in
     let left : c.len-else-is_permissive.result ≡ length bytes =
-    c.len-else-is_permissive.ensures.value
-    ∙ ap length (ap (λ v. v.bytes) c.text.ensures.counted ∙ e.unchanged ∙ s.same) in
+    c.len-else-is_permissive.ensures.value ∙ ap length (c.is_text.ensures.unchanged ∙ e.unchanged ∙ s.same) in
     let strict = strict_if_not_permissive c.args.mode c.if-is_permissive.ensures.1 in
     let so_far = s.strict strict in
     record {
@@ -103,7 +118,9 @@ returns-else-is_permissive c =
           omega (
             arith,
             here,
-            ap (λ v. v.count) c.text.ensures.counted,
+            c.is_text.ensures.looks,
+            c.is_text.ensures.rising,
+            e.grows,
             e.looks_least,
             e.within,
             e.ordered,

@@ -1,5 +1,6 @@
-use Rattle.std.proofs.Common.{◌≡◌, ◌+◌, ◌-◌, ◌*◌, ◌≤◌, length, min}
+use Rattle.std.proofs.Common.{◌≡◌, ◌+◌, ◌-◌, ◌*◌, ◌≤◌, length, max, min}
 use Rattle.goblin_base.specs.Entries.{CountsAtLeast}
+use Rattle.goblin_base.specs.Marks.{HaveMarks}
 use Rattle.goblin_base.specs.Scan.{IsWalkedTo}
 use Rattle.goblin_base.specs.declared.options.ParseMode.TheVariants.{Strict}
 use Rattle.goblin_base.proofs.SoFarLemmas.{IsTextSoFar}
@@ -11,11 +12,14 @@ invariant-loop-i l = record {
   within : l.i ≤ length l.fn.view.bytes + 1;
   walked : IsWalkedTo l.fn.view.bytes l.delim l.places.items l.i;
   strict : l.mode ≡ Strict → IsTextSoFar l.fn.view.bytes l.delim l.i;
-  -- at most five looks for each byte before i
-  looks : l.view.count ≤ l.fn.view.count + 5 * min l.i (length l.fn.view.bytes);
+  near : l.marks.until ≤ l.i + 16;
+  marked : HaveMarks l.fn.view.bytes l.delim l.marks;
+  -- a look for each byte that is marked or before i, and four more for each before i
+  looks : l.view.count
+      ≤ l.fn.view.count + max l.marks.until (min l.i (length l.fn.view.bytes)) + 4 * min l.i (length l.fn.view.bytes);
   rising : l.fn.view.count ≤ l.view.count;
-  -- and at least one for each
-  least : CountsAtLeast l.fn.view.count (min l.i (length l.fn.view.bytes)) l.view.count;
+  -- and as many at least as bytes were marked or passed
+  least : CountsAtLeast l.fn.view.count (max l.marks.until (min l.i (length l.fn.view.bytes))) l.view.count;
 }
 
 abbrev pub decreases-loop-i : goal.decreases-loop-i
