@@ -1,5 +1,6 @@
 -- Texts in parts.
-use Rattle.std.proofs.Common.{◌≡◌, ◌+◌, ◌<◌, ℕ, List, [], ◌∷◌, ◌++◌, length, get_or, take, refl, sym, ap, ◌∙◌, append_assoc}
+use Rattle.std.proofs.Common.{◌≡◌, ◌+◌, ◌<◌, ℕ, List, [], ◌∷◌, ◌++◌, length, get_or, take, refl, sym, ap, ◌∙◌}
+use Rattle.std.proofs.Common.{append_assoc}
 use Rattle.std.proofs.lemmas.List.{take_more}
 use Rattle.goblin_base.specs.declared.texts.Part.{Part}
 use Rattle.goblin_base.specs.Texts.{Facts, joined, part_text}
@@ -8,8 +9,10 @@ joined_push : (e : Facts) (ps : List Part) (p : Part) → joined e (ps ++ p ∷ 
 joined_push e [] p = refl
 joined_push e (q ∷ []) p = refl
 joined_push e (q ∷ r ∷ rest) p =
-    ap (λ text. part_text e q ++ text) (joined_push e (r ∷ rest) p) ∙ sym (append_assoc (part_text e q) (joined e (r ∷ rest)) (part_text e p))
+    ap (λ text. part_text e q ++ text) (joined_push e (r ∷ rest) p)
+    ∙ sym (append_assoc (part_text e q) (joined e (r ∷ rest)) (part_text e p))
 
 -- the text of one part more
-pub joined_more : (e : Facts) (ps : List Part) (i : ℕ) (d : Part) → i < length ps → joined e (take (i + 1) ps) ≡ joined e (take i ps) ++ part_text e (get_or ps i d)
+pub joined_more : (e : Facts) (ps : List Part) (i : ℕ) (d : Part)
+    → i < length ps → joined e (take (i + 1) ps) ≡ joined e (take i ps) ++ part_text e (get_or ps i d)
 joined_more e ps i d h = ap (joined e) (take_more ps i d h) ∙ joined_push e (take i ps) (get_or ps i d)

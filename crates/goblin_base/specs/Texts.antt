@@ -1,16 +1,22 @@
 -- The texts of the errors.
-use Rattle.std.specs.Prelude.{◌≡◌, ℕ, Bool, true, false, ◌&&◌, ◌==◌, nat_le, nat_lt, if◌then◌else◌, List, [], ◌∷◌, ◌++◌, codes, length, Option, Some}
+use Rattle.std.specs.Prelude.{◌≡◌, ℕ, Bool, true, false, ◌&&◌, ◌==◌, nat_le, nat_lt, if◌then◌else◌, List, [], ◌∷◌, ◌++◌}
+use Rattle.std.specs.Prelude.{codes, length, Option, Some}
 use Rattle.std.specs.Fmt.{decimal, digits}
 use Rattle.std.specs.List.{find}
 use Rattle.goblin_base.specs.declared.error.Fault.{Fault}
 use Rattle.goblin_base.specs.declared.error.Fault.TheVariants as fault
 use Rattle.goblin_base.specs.declared.texts.Kind.{Kind}
-use Rattle.goblin_base.specs.declared.texts.Kind.TheVariants.{BadMagic, TooBig, BadOffset, BadInput, BufferTooShort, OutOfMemory, InvalidClass, InvalidEndianness, TooSmall, ElfClass, DataType, Data, NoteAlign, SymtabOffset, TooManySymbols, SymtabPast, StrtabOffset, StrtabRange, SectionOffset, SectionAddr, IntegerFit}
+use Rattle.goblin_base.specs.declared.texts.Kind.TheVariants.{BadMagic, TooBig, BadOffset, BadInput, BufferTooShort}
+use Rattle.goblin_base.specs.declared.texts.Kind.TheVariants.{OutOfMemory, InvalidClass, InvalidEndianness, TooSmall}
+use Rattle.goblin_base.specs.declared.texts.Kind.TheVariants.{ElfClass, DataType, Data, NoteAlign, SymtabOffset}
+use Rattle.goblin_base.specs.declared.texts.Kind.TheVariants.{TooManySymbols, SymtabPast, StrtabOffset, StrtabRange}
+use Rattle.goblin_base.specs.declared.texts.Kind.TheVariants.{SectionOffset, SectionAddr, IntegerFit}
 use Rattle.goblin_base.specs.declared.texts.Part.{Part}
 use Rattle.goblin_base.specs.declared.texts.Part.TheVariants as part
 use Rattle.goblin_base.specs.declared.texts.Report.{Report}
 use Rattle.goblin_base.specs.declared.texts.TheConstants.{KINDS}
-use Rattle.goblin_base.specs.Refusal.{Refusal, malformed, bad_magic, too_big, bad_offset, bad_input, buffer_too_short, out_of_memory}
+use Rattle.goblin_base.specs.Refusal.{Refusal, malformed, bad_magic, too_big, bad_offset, bad_input, buffer_too_short}
+use Rattle.goblin_base.specs.Refusal.{out_of_memory}
 
 -- one text after another
 infixr 6 ◌&◌
@@ -147,7 +153,8 @@ kind_text SymtabPast e =
 kind_text StrtabOffset e =
     codes "String table offset (" & decimal e.first & codes ") is beyond file boundary (" & decimal e.second & codes ")"
 kind_text StrtabRange e =
-    codes "Strtable size (" & decimal e.first & codes ") + offset (" & decimal e.second & codes ") is out of bounds for "
+    codes "Strtable size (" & decimal e.first & codes ") + offset (" & decimal e.second & codes
+    ") is out of bounds for "
     & decimal e.third & codes " #bytes. Overflowed: " & word_of e.overflow
 kind_text SectionOffset e =
     codes "Section " & decimal e.first & codes " size (" & decimal e.second & codes ") + offset (" & decimal e.third

@@ -10,5 +10,6 @@ loop-part-preserved g c p =
     let before = c.loop-part.invariant p in
     let ok : IsOk c.write_part.result = search rules in
     has_written_of_eq _ _ _ _ _
-    (sym (joined_more (facts_of c.args.self.now) c.parts-parts.result.now c.loop-part.part-index _ c.loop-part-test.true))
+    (sym (joined_more
+    (facts_of c.args.self.now) c.parts-parts.result.now c.loop-part.part-index _ c.loop-part-test.true))
     (has_written_append _ _ _ _ _ _ before (c.write_part.ensures before.plain ok))

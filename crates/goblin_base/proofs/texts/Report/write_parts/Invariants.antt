@@ -5,4 +5,5 @@ use Rattle.goblin_base.proofs.texts.Report.write_parts.Given as goal
 
 abbrev pub invariant-loop-part : goal.invariant-loop-part
 invariant-loop-part g l =
-    IsPlainFormatter l.fn.f → HasWritten g.W.Write.write_str_gives l.fn.f (joined (facts_of l.self) (take l.part-index l.parts)) l.f
+    IsPlainFormatter l.fn.f
+    → HasWritten g.W.Write.write_str_gives l.fn.f (joined (facts_of l.self) (take l.part-index l.parts)) l.f
