@@ -1,5 +1,7 @@
 -- Items by index are those of the library's lists, in the context that a file's header names.
-use Rattle.std.proofs.Common.{◌≡◌, ◌+◌, ◌<◌, ◌≤◌, ◌==◌, ℕ, zero, suc, Bool, true, false, nat_le, if◌then◌else◌, List, [], ◌∷◌, length, drop, map, slice_get, slice_index, Some, None, Result, Ok, Err, refl, sym, ap, subst, ◌∙◌, arith}
+use Rattle.std.proofs.Common.{◌≡◌, ◌+◌, ◌<◌, ◌≤◌, ◌==◌, ℕ, zero, suc, Bool, true, false, nat_le, if◌then◌else◌, List}
+use Rattle.std.proofs.Common.{[], ◌∷◌, length, drop, map, slice_get, slice_index, Some, None, Result, Ok, Err, refl}
+use Rattle.std.proofs.Common.{sym, ap, subst, ◌∙◌, arith}
 use Rattle.std.proofs.lemmas.Bool.{leb-false, leb-true}
 use Rattle.std.proofs.lemmas.Bool.Decides.{nat_tests}
 use Rattle.std.proofs.lemmas.List.{length-drop, length-map}
@@ -18,11 +20,20 @@ use Rattle.goblin.specs.SectionHeaders.{link_of, names_index}
 use Rattle.goblin_headers.proofs.HeaderLemmas.{header_laws}
 use Rattle.goblin_headers.proofs.RawTrips.{ident_byte}
 use Rattle.goblin_headers.proofs.ReadHeaderLemmas.{read_header-is}
-use Rattle.goblin_c.specs.Answers.{count_of, ctx_of, each_converted, header_converted, item_of, items_from, reloc_count_expected, reloc_expected, reloc_converted, relocs_expected, relocs_converted, section_converted, sections_expected, sections_converted, segment_converted, segments_expected, symbol_converted, symbols_expected, symbols_converted, table_at}
-use Rattle.goblin_c.specs.Laws.{ContextIsTheHeaders, FilledByIndex, GivenFrom, HasHeader, NamesByIndex, NamesContext, RelocsByIndex, SectionsByIndex, SegmentsByIndex, SymbolsByIndex, TablesByIndex, ReturnsCount, ReturnsEach, table_converted}
+use Rattle.goblin_c.specs.Answers.{count_of, ctx_of, each_converted, header_converted, item_of, items_from}
+use Rattle.goblin_c.specs.Answers.{reloc_count_expected, reloc_expected, reloc_converted, relocs_expected}
+use Rattle.goblin_c.specs.Answers.{relocs_converted, section_converted, sections_expected, sections_converted}
+use Rattle.goblin_c.specs.Answers.{segment_converted, segments_expected, symbol_converted, symbols_expected}
+use Rattle.goblin_c.specs.Answers.{symbols_converted, table_at}
+use Rattle.goblin_c.specs.Laws.{ContextIsTheHeaders, FilledByIndex, GivenFrom, HasHeader, NamesByIndex, NamesContext}
+use Rattle.goblin_c.specs.Laws.{RelocsByIndex, SectionsByIndex, SegmentsByIndex, SymbolsByIndex, TablesByIndex}
+use Rattle.goblin_c.specs.Laws.{ReturnsCount, ReturnsEach, table_converted}
 
 -- what a file's header tells of its class and its byte order
-named : (bytes : List ℕ) (h : Header) → HasHeader bytes h → (class : Container) × (order : Endian) × (class_named (slice_index h.e_ident 4) ≡ Some class) × (order_named (slice_index h.e_ident 5) ≡ Some order)
+named : (bytes : List ℕ) (h : Header)
+    → HasHeader bytes h
+    → (class : Container) × (order : Endian) × (class_named (slice_index h.e_ident 4) ≡ Some class)
+    × (order_named (slice_index h.e_ident 5) ≡ Some order)
 named bytes h has =
     let found = read_header-is bytes h has.0 has.1 in
     let ident = ap (λ (header : Header). header.e_ident) found.6 ∙ (header_laws found.0).ident_read found.1 bytes in (
@@ -51,7 +62,8 @@ same : {A E : Type 0} (x y : A) → ◌≡◌ {A = Result A E} (Ok x) (Ok y) →
 same x y is = cc
 
 -- a header names one context
-one_context : (bytes : List ℕ) (h : Header) (ctx : Ctx) → HasHeader bytes h → NamesContext h ctx → ctx_of (header_converted h) ≡ ctx
+one_context : (bytes : List ℕ) (h : Header) (ctx : Ctx)
+    → HasHeader bytes h → NamesContext h ctx → ctx_of (header_converted h) ≡ ctx
 one_context bytes h ctx has named =
     let own = context bytes h has in
     let handed = ctx_of (header_converted h) in
@@ -60,25 +72,37 @@ one_context bytes h ctx has named =
     λ j. record { container = classes j; le = orders j }
 
 -- what is told of a list by index, and how many items it has
-listed : {X Y : Type 0} (convert : X → Y) (all : Result (List X) Refusal) → ReturnsEach convert all (item_of (each_converted convert all)) × ReturnsCount all (count_of (each_converted convert all))
-listed convert (Ok items) = (λ index. ap Ok (slice_get-map convert items index), ap (λ (n : ℕ). Ok (Some n)) (length-map items convert))
+listed : {X Y : Type 0} (convert : X → Y) (all : Result (List X) Refusal)
+    → ReturnsEach convert all (item_of (each_converted convert all))
+    × ReturnsCount all (count_of (each_converted convert all))
+listed convert (Ok items) =
+    (λ index. ap Ok (slice_get-map convert items index), ap (λ (n : ℕ). Ok (Some n)) (length-map items convert))
 listed convert (Err refusal) = (λ index. refl, refl)
 
 pub sections_by_index : SectionsByIndex
-sections_by_index bytes h ctx has named = rw (← one_context bytes h ctx has named) (listed section_converted (sections_expected bytes (header_converted h)))
+sections_by_index bytes h ctx has named =
+    rw (← one_context bytes h ctx has named) (listed section_converted (sections_expected bytes (header_converted h)))
 
 pub segments_by_index : SegmentsByIndex
-segments_by_index bytes h ctx has named = rw (← one_context bytes h ctx has named) (listed segment_converted (segments_expected bytes (header_converted h)))
+segments_by_index bytes h ctx has named =
+    rw (← one_context bytes h ctx has named) (listed segment_converted (segments_expected bytes (header_converted h)))
 
 pub symbols_by_index : SymbolsByIndex
-symbols_by_index bytes h ctx range has named = rw (← one_context bytes h ctx has named) (listed symbol_converted (symbols_expected bytes (header_converted h) range))
+symbols_by_index bytes h ctx range has named =
+    rw (← one_context bytes h ctx has named)
+    (listed symbol_converted (symbols_expected bytes (header_converted h) range))
 
 pub relocs_by_index : RelocsByIndex
 relocs_by_index bytes h ctx range is_rela has named =
-    let of_pair = λ (pair : Bool). refuse_as refusal_of (relocs_of bytes range.offset range.size is_rela (ctx_of (header_converted h)) pair) in
+    let of_pair =
+    λ (pair : Bool).
+    refuse_as refusal_of (relocs_of bytes range.offset range.size is_rela (ctx_of (header_converted h)) pair) in
     rw (← one_context bytes h ctx has named)
-    (subst (λ (pair : Bool). ReturnsEach reloc_converted (of_pair pair) (reloc_expected bytes (header_converted h) range is_rela) × ReturnsCount (of_pair pair) (reloc_count_expected bytes (header_converted h) range is_rela))
-    (context_is_the_headers bytes h has).1 (listed reloc_converted (relocs_expected bytes (header_converted h) range is_rela)))
+    (subst (λ (pair : Bool).
+    ReturnsEach reloc_converted (of_pair pair) (reloc_expected bytes (header_converted h) range is_rela)
+    × ReturnsCount (of_pair pair) (reloc_count_expected bytes (header_converted h) range is_rela))
+    (context_is_the_headers bytes h has).1
+    (listed reloc_converted (relocs_expected bytes (header_converted h) range is_rela)))
 
 -- the item at an index behind those that are left out
 pub behind : {X : Type 0} (xs : List X) (n k : ℕ) → slice_get xs (n + k) ≡ slice_get (drop n xs) k
@@ -89,7 +113,10 @@ behind (x ∷ xs) (suc n) k =
     ap (slice_get (x ∷ xs)) more ∙ behind xs n k
 
 -- what is told from an index on
-given : {X : Type 0} (items : List X) (first : ℕ) (past : Bool) → nat_le (length items) first ≡ past → GivenFrom {Y = X} first (λ index. Ok (slice_get items index)) (Ok (if past then None else Some (drop first items)))
+given : {X : Type 0} (items : List X) (first : ℕ) (past : Bool)
+    → nat_le (length items) first ≡ past
+    → GivenFrom {Y = X} first
+    (λ index. Ok (slice_get items index)) (Ok (if past then None else Some (drop first items)))
 given items first true is =
     let there : length items ≤ first = leb-true (length items) first is in
     λ k. ap Ok (slice_get_past items (first + k) (omega arith))
@@ -97,7 +124,8 @@ given items first false is =
     let some : first < length items = leb-false (length items) first is in
     (omega (arith, length-drop first items), λ k. ap Ok (behind items first k))
 
-from : {X : Type 0} (all : Result (List X) Refusal) (first : ℕ) → GivenFrom {Y = X} first (item_of all) (items_from all first)
+from : {X : Type 0} (all : Result (List X) Refusal) (first : ℕ)
+    → GivenFrom {Y = X} first (item_of all) (items_from all first)
 from (Ok items) first = given items first (nat_le (length items) first) refl
 from (Err refusal) first = λ index. refl
 
@@ -109,7 +137,8 @@ filled_by_index = record {
 }
 
 -- the table at an index is the section that is told there
-table_there : (all : Result (List GoblinSection) Refusal) (index : ℕ) → (all >>= λ items. Ok (table_at items index)) ≡ table_converted index (item_of all index)
+table_there : (all : Result (List GoblinSection) Refusal) (index : ℕ)
+    → (all >>= λ items. Ok (table_at items index)) ≡ table_converted index (item_of all index)
 table_there (Ok items) index = refl
 table_there (Err refusal) index = refl
 
@@ -117,11 +146,17 @@ pub tables_by_index : TablesByIndex
 tables_by_index bytes h index = table_there (sections_converted bytes h) index
 
 -- the table with the index in the header, or the one that the first section links to
-in_header : (all : Result (List SectionHeader) Refusal) (index : ℕ) → (index == 0xffff) ≡ false → (all >>= λ items. Ok (table_at (map section_converted items) (names_index index (slice_get items 0)))) ≡ (each_converted section_converted all >>= λ items. Ok (table_at items index))
+in_header : (all : Result (List SectionHeader) Refusal) (index : ℕ)
+    → (index == 0xffff) ≡ false
+    → (all >>= λ items. Ok (table_at (map section_converted items) (names_index index (slice_get items 0))))
+    ≡ (each_converted section_converted all >>= λ items. Ok (table_at items index))
 in_header (Ok items) index other = rw other refl
 in_header (Err refusal) index other = refl
 
-in_first : (all : Result (List SectionHeader) Refusal) (first : GoblinSection) → item_of (each_converted section_converted all) 0 ≡ Ok (Some first) → (all >>= λ items. Ok (table_at (map section_converted items) (link_of (slice_get items 0)))) ≡ (each_converted section_converted all >>= λ items. Ok (table_at items first.sh_link))
+in_first : (all : Result (List SectionHeader) Refusal) (first : GoblinSection)
+    → item_of (each_converted section_converted all) 0 ≡ Ok (Some first)
+    → (all >>= λ items. Ok (table_at (map section_converted items) (link_of (slice_get items 0))))
+    ≡ (each_converted section_converted all >>= λ items. Ok (table_at items first.sh_link))
 in_first (Ok []) first is = absurd (cc)
 in_first (Ok (s ∷ items)) first is =
     let link : link_of (Some s) ≡ first.sh_link = cc in

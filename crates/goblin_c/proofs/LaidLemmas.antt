@@ -1,5 +1,6 @@
 -- Room that is filled item by item.
-use Rattle.std.proofs.Common.{◌≡◌, ◌<◌, ◌≤◌, ◌+◌, ◌-◌, min, ℕ, zero, suc, List, [], ◌∷◌, ◌++◌, length, take, drop, get_or, Some, None, slice_get, take_all, refl, sym, ap, ◌∙◌, arith}
+use Rattle.std.proofs.Common.{◌≡◌, ◌<◌, ◌≤◌, ◌+◌, ◌-◌, min, ℕ, zero, suc, List, [], ◌∷◌, ◌++◌, length, take, drop}
+use Rattle.std.proofs.Common.{get_or, Some, None, slice_get, take_all, refl, sym, ap, ◌∙◌, arith}
 use Rattle.std.proofs.Math.ListN.{set}
 use Rattle.std.proofs.lemmas.List.{length-take-le, take_more, length-drop, get_or-drop}
 use Rattle.std.proofs.lemmas.Option.{slice_get_within, get_or_from_slice_get}
@@ -11,14 +12,16 @@ use Rattle.goblin_c.specs.Laid.{laid}
 use Rattle.goblin_c.specs.Laws.{IsFilled, BufferIsFilled}
 
 -- one item more
-pub laid-more : {X : Type 0} (xs old : List X) (x : X) → length xs < length old → set (laid xs old) (length xs) x ≡ laid (xs ++ x ∷ []) old
+pub laid-more : {X : Type 0} (xs old : List X) (x : X)
+    → length xs < length old → set (laid xs old) (length xs) x ≡ laid (xs ++ x ∷ []) old
 laid-more [] [] x h = absurd (omega arith)
 laid-more [] (o ∷ os) x h = refl
 laid-more (y ∷ ys) [] x h = absurd (omega arith)
 laid-more (y ∷ ys) (o ∷ os) x h = ap (λ rest. y ∷ rest) (laid-more ys os x (omega arith))
 
 -- as many items as there is room for are all that count
-pub laid-enough : {X : Type 0} (i : ℕ) (xs old : List X) → min (length xs) (length old) ≤ i → laid (take i xs) old ≡ laid xs old
+pub laid-enough : {X : Type 0} (i : ℕ) (xs old : List X)
+    → min (length xs) (length old) ≤ i → laid (take i xs) old ≡ laid xs old
 laid-enough zero [] old h = refl
 laid-enough zero (x ∷ xs) [] h = refl
 laid-enough zero (x ∷ xs) (o ∷ os) h = absurd (omega arith)
@@ -27,23 +30,30 @@ laid-enough (suc i) (x ∷ xs) [] h = refl
 laid-enough (suc i) (x ∷ xs) (o ∷ os) h = ap (λ rest. x ∷ rest) (laid-enough i xs os (omega arith))
 
 -- the item at an index, behind those before it
-pub laid-next : {X : Type 0} (i : ℕ) (xs old : List X) (x : X) (more : List X) → i ≤ length xs → i < length old → more ≡ take i xs ++ x ∷ [] → set (laid (take i xs) old) i x ≡ laid more old
+pub laid-next : {X : Type 0} (i : ℕ) (xs old : List X) (x : X) (more : List X)
+    → i ≤ length xs → i < length old → more ≡ take i xs ++ x ∷ [] → set (laid (take i xs) old) i x ≡ laid more old
 laid-next i xs old x more within room is =
     let long : length (take i xs) ≡ i = length-take-le i xs within in
     rw is (rw long at (laid-more (take i xs) old x (omega arith)))
 
 -- the step of a loop that writes a list from its start on
-pub laid-step : {X : Type 0} (i : ℕ) (xs old now : List X) (d : X) → now ≡ laid (take i xs) old → i < length xs → i < length old → set now i (get_or xs i d) ≡ laid (take (i + 1) xs) old
+pub laid-step : {X : Type 0} (i : ℕ) (xs old now : List X) (d : X)
+    → now ≡ laid (take i xs) old → i < length xs → i < length old
+    → set now i (get_or xs i d) ≡ laid (take (i + 1) xs) old
 laid-step {X = X} i xs old now d is within room =
     ap (λ (buffer : List X). set buffer i (get_or xs i d)) is
     ∙ laid-next i xs old (get_or xs i d) (take (i + 1) xs) (omega arith) room (take_more xs i d within)
 
 -- the step of a loop that writes the items from an index on
-pub laid-item : {X : Type 0} (all : List X) (first i : ℕ) (old now : List X) (x : X) → slice_get all (first + i) ≡ Some x → now ≡ laid (take i (drop first all)) old → i < length old → set now i x ≡ laid (take (i + 1) (drop first all)) old
+pub laid-item : {X : Type 0} (all : List X) (first i : ℕ) (old now : List X) (x : X)
+    → slice_get all (first + i) ≡ Some x → now ≡ laid (take i (drop first all)) old → i < length old
+    → set now i x ≡ laid (take (i + 1) (drop first all)) old
 laid-item {X = X} all first i old now x found is room =
     let inside : first + i < length all = slice_get_within all (first + i) x found in
-    let same : get_or (drop first all) i x ≡ x = get_or-drop first all i x ∙ get_or_from_slice_get all (first + i) x x found in
-    ap (λ (v : X). set now i v) (sym same) ∙ laid-step i (drop first all) old now x is (omega (arith, length-drop first all)) room
+    let same : get_or (drop first all) i x ≡ x =
+    get_or-drop first all i x ∙ get_or_from_slice_get all (first + i) x x found in
+    ap (λ (v : X). set now i v) (sym same)
+    ∙ laid-step i (drop first all) old now x is (omega (arith, length-drop first all)) room
 
 -- a list ends before an index at which it has no item
 ends-before : {X : Type 0} (items : List X) (i : ℕ) → slice_get items i ≡ None → length items ≤ i
@@ -52,7 +62,8 @@ ends-before (x ∷ items) zero none = absurd (some-within (x ∷ items) zero (om
 ends-before (x ∷ items) (suc i) none = omega (arith, ends-before items i none)
 
 -- where there is no item left, all of them were written
-pub laid-ended : {X : Type 0} (all : List X) (first i : ℕ) (old now : List X) → slice_get all (first + i) ≡ None → now ≡ laid (take i (drop first all)) old → now ≡ laid (drop first all) old
+pub laid-ended : {X : Type 0} (all : List X) (first i : ℕ) (old now : List X)
+    → slice_get all (first + i) ≡ None → now ≡ laid (take i (drop first all)) old → now ≡ laid (drop first all) old
 laid-ended all first i old now none is =
     is ∙ laid-enough i (drop first all) old (omega (arith, ends-before all (first + i) none, length-drop first all))
 
@@ -61,7 +72,8 @@ laid-nowhere [] = refl
 laid-nowhere (x ∷ xs) = refl
 
 -- what is cut behind as much as was cut before
-pub laid-appended : {X : Type 0} (xs ys old : List X) → take (length xs) (laid xs old) ++ laid ys (drop (length xs) (laid xs old)) ≡ laid (xs ++ ys) old
+pub laid-appended : {X : Type 0} (xs ys old : List X)
+    → take (length xs) (laid xs old) ++ laid ys (drop (length xs) (laid xs old)) ≡ laid (xs ++ ys) old
 laid-appended [] ys old = refl
 laid-appended (x ∷ xs) ys [] = laid-nowhere ys
 laid-appended (x ∷ xs) ys (o ∷ os) = ap (λ rest. x ∷ rest) (laid-appended xs ys os)
@@ -74,10 +86,15 @@ laid-past (suc n) xs [] h = laid-nowhere xs
 laid-past (suc n) xs (o ∷ os) h = ap (λ rest. o ∷ rest) (laid-past n xs os (omega arith))
 
 -- what is cut into the room from an index on
-pub laid-into : (n : ℕ) (part old new all : List ℕ) → n < length old → length all ≡ length old → length new ≡ length old - n → new ≡ laid part (take (length old - n) (drop n old)) → all ≡ put_mid n (length old - n) old new → all ≡ take n old ++ laid part (drop n old)
+pub laid-into : (n : ℕ) (part old new all : List ℕ)
+    → n < length old → length all ≡ length old → length new ≡ length old - n
+    → new ≡ laid part (take (length old - n) (drop n old)) → all ≡ put_mid n (length old - n) old new
+    → all ≡ take n old ++ laid part (drop n old)
 laid-into n part old new all inside long same is put =
     let whole : take (length old) all ≡ all = take_all (length old) all (omega arith) in
-    sym whole ∙ ap (λ (xs : List ℕ). take (length old) xs) put ∙ take-put_mid n (length old - n) old new (length old) (omega arith) (omega arith)
+    sym whole
+    ∙ ap (λ (xs : List ℕ). take (length old) xs) put
+    ∙ take-put_mid n (length old - n) old new (length old) (omega arith) (omega arith)
     ∙ ap (λ (xs : List ℕ). take n old ++ xs) (is ∙ ap (λ (xs : List ℕ). laid part xs) (take_rest old n))
 
 -- room that was cut into: how long it is, and what it holds before and behind the end of what was cut
@@ -86,13 +103,15 @@ laid-length [] old = refl
 laid-length (x ∷ items) [] = refl
 laid-length (x ∷ items) (o ∷ old) = omega (arith, laid-length items old)
 
-laid-before : {X : Type 0} (items old : List X) (k : ℕ) → k < min (length items) (length old) → slice_get (laid items old) k ≡ slice_get items k
+laid-before : {X : Type 0} (items old : List X) (k : ℕ)
+    → k < min (length items) (length old) → slice_get (laid items old) k ≡ slice_get items k
 laid-before [] old k h = absurd (omega arith)
 laid-before (x ∷ items) [] k h = absurd (omega arith)
 laid-before (x ∷ items) (o ∷ old) zero h = refl
 laid-before (x ∷ items) (o ∷ old) (suc k) h = laid-before items old k (omega arith)
 
-laid-after : {X : Type 0} (items old : List X) (k : ℕ) → min (length items) (length old) ≤ k → slice_get (laid items old) k ≡ slice_get old k
+laid-after : {X : Type 0} (items old : List X) (k : ℕ)
+    → min (length items) (length old) ≤ k → slice_get (laid items old) k ≡ slice_get old k
 laid-after [] old k h = refl
 laid-after (x ∷ items) [] k h = refl
 laid-after (x ∷ items) (o ∷ old) zero h = absurd (omega arith)

@@ -1,5 +1,6 @@
 -- Notes one by one are the items of their range.
-use Rattle.std.proofs.Common.{◌≡◌, ◌+◌, ◌≤◌, ℕ, zero, suc, Bool, true, false, nat_le, if◌then◌else◌, List, [], ◌∷◌, take, drop, Option, Some, None, Result, Ok, Err, refl, sym, ap, subst, ◌∙◌, arith}
+use Rattle.std.proofs.Common.{◌≡◌, ◌+◌, ◌≤◌, ℕ, zero, suc, Bool, true, false, nat_le, if◌then◌else◌, List, [], ◌∷◌}
+use Rattle.std.proofs.Common.{take, drop, Option, Some, None, Result, Ok, Err, refl, sym, ap, subst, ◌∙◌, arith}
 use Rattle.std.proofs.Math.Seq.{drop-drop, take-nil}
 use Rattle.goblin_base.specs.declared.container.Ctx.{Ctx}
 use Rattle.goblin_base.specs.Refusal.{Refusal}
@@ -13,11 +14,13 @@ use Rattle.goblin_c.specs.declared.types.GoblinNote.{GoblinNote}
 use Rattle.goblin_c.specs.declared.types.GoblinRange.{GoblinRange}
 use Rattle.goblin_c.specs.Answers.{ctx_of}
 use Rattle.goblin_c.specs.Notes.{note_expected, note_converted}
-use Rattle.goblin_c.specs.Laws.{LiesIn, NotesAreItems, NotesInARow, NotesLieInFile, items_reported, note_in, notes_reported}
+use Rattle.goblin_c.specs.Laws.{LiesIn, NotesAreItems, NotesInARow, NotesLieInFile, items_reported, note_in}
+use Rattle.goblin_c.specs.Laws.{notes_reported}
 use Rattle.goblin_c.proofs.StepLemmas.{one_converted}
 
 -- the note that a file has at the places told is the one that its bytes from the offset on have at theirs
-note_same : (bytes : List ℕ) (offset : ℕ) (places : NotePlaces) → note_there (drop offset bytes) places ≡ note_in bytes (note_converted offset places)
+note_same : (bytes : List ℕ) (offset : ℕ) (places : NotePlaces)
+    → note_there (drop offset bytes) places ≡ note_in bytes (note_converted offset places)
 note_same bytes offset places =
     λ j. record {
       n_type = places.n_type;
@@ -26,12 +29,21 @@ note_same bytes offset places =
     }
 
 -- what is told of an answer, before the range's end and from there on
-items_of : (past : Bool) (bytes : List ℕ) (answer : Result NotePlaces Refusal) (offset : ℕ) (rest : ℕ → List (Result NoteParts Refusal)) → (if past then [] else item_and_rest (answer >>= λ places. Ok (note_there (drop offset bytes) places, places.next)) (λ len. rest (offset + len))) ≡ items_reported bytes (if past then Ok None else (answer >>= λ places. Ok (Some (note_converted offset places)))) rest
+items_of : (past : Bool) (bytes : List ℕ) (answer : Result NotePlaces Refusal) (offset : ℕ)
+    (rest : ℕ → List (Result NoteParts Refusal))
+    → (if past then []
+    else item_and_rest (answer >>= λ places. Ok (note_there (drop offset bytes) places, places.next))
+    (λ len. rest (offset + len)))
+    ≡ items_reported bytes
+    (if past then Ok None else (answer >>= λ places. Ok (Some (note_converted offset places)))) rest
 items_of true bytes answer offset rest = refl
 items_of false bytes (Ok places) offset rest = λ j. Ok (note_same bytes offset places j) ∷ rest (offset + places.next)
 items_of false bytes (Err refusal) offset rest = refl
 
-items_there : (bytes : List ℕ) (h : GoblinHeader) (range : GoblinRange) (alignment offset : ℕ) → note_items bytes (range.offset + range.size) offset (alignment, ctx_of h) ≡ items_reported bytes (note_expected bytes h range alignment offset) (λ next. note_items bytes (range.offset + range.size) next (alignment, ctx_of h))
+items_there : (bytes : List ℕ) (h : GoblinHeader) (range : GoblinRange) (alignment offset : ℕ)
+    → note_items bytes (range.offset + range.size) offset (alignment, ctx_of h)
+    ≡ items_reported bytes (note_expected bytes h range alignment offset)
+    (λ next. note_items bytes (range.offset + range.size) next (alignment, ctx_of h))
 unfolding note_at
 items_there bytes h range alignment offset =
     let ctx : ℕ × Ctx = (alignment, ctx_of h) in
@@ -44,15 +56,22 @@ notes_are_items notes h range alignment over =
     rw (over.0, over.1) (items_there notes.bytes.now h range alignment notes.offset)
 
 -- a call more tells an item more
-one_more : (bytes : List ℕ) (answer : Result (Option GoblinNote) Refusal) (calls : ℕ) (f g : ℕ → List (Result NoteParts Refusal)) → ((next : ℕ) → f next ≡ take calls (g next)) → items_reported bytes answer f ≡ take (suc calls) (items_reported bytes answer g)
+one_more : (bytes : List ℕ) (answer : Result (Option GoblinNote) Refusal) (calls : ℕ)
+    (f g : ℕ → List (Result NoteParts Refusal))
+    → ((next : ℕ) → f next ≡ take calls (g next))
+    → items_reported bytes answer f ≡ take (suc calls) (items_reported bytes answer g)
 one_more bytes (Ok None) calls f g same = refl
 one_more bytes (Ok (Some note)) calls f g same = ap (λ rest. Ok (note_in bytes note) ∷ rest) (same note.next)
 one_more bytes (Err refusal) calls f g same = ap (λ rest. Err refusal ∷ rest) (sym (take-nil calls))
 
-in_a_row : (calls : ℕ) (bytes : List ℕ) (h : GoblinHeader) (range : GoblinRange) (alignment offset : ℕ) → notes_reported calls bytes h range alignment offset ≡ take calls (note_items bytes (range.offset + range.size) offset (alignment, ctx_of h))
+in_a_row : (calls : ℕ) (bytes : List ℕ) (h : GoblinHeader) (range : GoblinRange) (alignment offset : ℕ)
+    → notes_reported calls bytes h range alignment offset
+    ≡ take calls (note_items bytes (range.offset + range.size) offset (alignment, ctx_of h))
 in_a_row zero bytes h range alignment offset = refl
 in_a_row (suc calls) bytes h range alignment offset =
-    one_more bytes (note_expected bytes h range alignment offset) calls (notes_reported calls bytes h range alignment) (λ next. note_items bytes (range.offset + range.size) next (alignment, ctx_of h)) (in_a_row calls bytes h range alignment)
+    one_more bytes (note_expected bytes h range alignment offset) calls (notes_reported calls bytes h range alignment)
+    (λ next. note_items bytes (range.offset + range.size) next (alignment, ctx_of h))
+    (in_a_row calls bytes h range alignment)
     ∙ ap (take (suc calls)) (sym (items_there bytes h range alignment offset))
 
 pub notes_in_a_row : NotesInARow
@@ -62,6 +81,9 @@ notes_in_a_row calls notes h range alignment over =
 pub notes_lie_in_file : NotesLieInFile
 notes_lie_in_file bytes h range alignment offset note is =
     let ctx : ℕ × Ctx = (alignment, ctx_of h) in
-    let steps = one_converted (nat_le (range.offset + range.size) offset) (places_at bytes offset ctx) (note_converted offset) note is in
+    let steps = one_converted (nat_le (range.offset + range.size) offset) (places_at bytes offset ctx)
+    (note_converted offset) note is in
     let within = at_ok (places_at bytes offset ctx) steps.0 _ steps.2 (places_lie_within bytes offset ctx) in
-    subst (λ (n : GoblinNote). LiesIn bytes n.name × LiesIn bytes n.desc × (offset + nhdr32_size ≤ n.next)) (sym steps.3) (within.name, within.desc, omega (arith, within.least))
+    subst (λ (n : GoblinNote). LiesIn bytes n.name × LiesIn bytes n.desc × (offset + nhdr32_size ≤ n.next))
+    (sym steps.3)
+    (within.name, within.desc, omega (arith, within.least))

@@ -12,8 +12,16 @@ first_or_length : (test : ℕ → Bool) (xs : List ℕ) → unwrap_or (position 
 first_or_length test xs = grind (arith, nat_tests, prefix_len-le-length (λ b. not (test b)) xs)
 
 -- the length of the piece at a place, by what is left from there on
-pub piece_long : (bytes : List ℕ) (o : ℕ) (rest : List ℕ) (found : Option ℕ) (n : ℕ) → rest ≡ drop o bytes → found ≡ position (λ b. b == 0) rest → n ≡ unwrap_or found (length rest) → n ≡ length (piece bytes 0 o)
+pub piece_long : (bytes : List ℕ) (o : ℕ) (rest : List ℕ) (found : Option ℕ) (n : ℕ)
+    → rest ≡ drop o bytes → found ≡ position (λ b. b == 0) rest → n ≡ unwrap_or found (length rest)
+    → n ≡ length (piece bytes 0 o)
 unfolding piece
 piece_long bytes o rest found n is first long =
     let test : ℕ → Bool = λ b. b == 0 in
-    grind (arith, nat_tests, first_or_length test rest, prefix_len-le-length (λ b. not (test b)) rest, length-take (position_or_len test rest) rest)
+    grind (
+      arith,
+      nat_tests,
+      first_or_length test rest,
+      prefix_len-le-length (λ b. not (test b)) rest,
+      length-take (position_or_len test rest) rest,
+    )

@@ -11,7 +11,8 @@ use Rattle.goblin_c.specs.Laws.{BytesLieInFile, LiesIn, StringsAreBytes, Strings
 use Rattle.goblin_c.proofs.StringLemmas.{in_range, plain_is}
 
 -- a range that is told lies in the file
-range_lies : (bytes : List ℕ) (range found : GoblinRange) → range_expected bytes range ≡ Ok (Some found) → LiesIn bytes found
+range_lies : (bytes : List ℕ) (range found : GoblinRange)
+    → range_expected bytes range ≡ Ok (Some found) → LiesIn bytes found
 range_lies bytes range found is = grind (arith, fits-room_of (length bytes) range.offset range.size)
 
 -- a piece is no longer than the strings from its offset on
@@ -25,7 +26,8 @@ pub bytes_lie_in_file : BytesLieInFile
 bytes_lie_in_file = record {
   section = λ bytes s found is. grind (arith, range_lies bytes s.file found);
   segment = λ bytes s found is. grind (arith, range_lies bytes s.file found);
-  string = λ bytes range offset found is. grind (arith, nat_tests, in_range bytes range, piece_short, length-take, length-drop);
+  string = λ bytes range offset found is.
+      grind (arith, nat_tests, in_range bytes range, piece_short, length-take, length-drop);
 }
 
 -- a string that is text lies where its bytes do
@@ -33,4 +35,5 @@ pub strings_are_bytes : StringsAreBytes
 strings_are_bytes bytes range offset found is = grind (arith, nat_tests, plain_is)
 
 pub strings_lie_in_file : StringsLieInFile
-strings_lie_in_file bytes range offset found is = bytes_lie_in_file.string bytes range offset found (strings_are_bytes bytes range offset found is)
+strings_lie_in_file bytes range offset found is =
+    bytes_lie_in_file.string bytes range offset found (strings_are_bytes bytes range offset found is)

@@ -1,5 +1,7 @@
 -- Looking for the first item that passes a test, from an index on.
-use Rattle.std.proofs.Common.{◌≡◌, ◌≤◌, ◌<◌, ◌+◌, ◌-◌, ◌==◌, ℕ, zero, suc, Bool, true, false, true≢false, List, [], ◌∷◌, length, map, drop, get_or, slice_get, Option, Some, None, Result, Ok, Err, position, refl, sym, ap, subst, ◌∙◌, arith}
+use Rattle.std.proofs.Common.{◌≡◌, ◌≤◌, ◌<◌, ◌+◌, ◌-◌, ◌==◌, ℕ, zero, suc, Bool, true, false, true≢false, List, [], ◌∷◌}
+use Rattle.std.proofs.Common.{length, map, drop, get_or, slice_get, Option, Some, None, Result, Ok, Err, position, refl}
+use Rattle.std.proofs.Common.{sym, ap, subst, ◌∙◌, arith}
 use Rattle.std.proofs.lemmas.Bool.Decides.{nat_tests}
 use Rattle.std.proofs.lemmas.List.Quantifiers.{position-Some}
 use Rattle.std.proofs.lemmas.List.Sums.{fails_before_first}
@@ -14,31 +16,39 @@ use Rattle.goblin_c.specs.Laws.{FindsFrom, RefusesAll, SectionsByType}
 use Rattle.goblin_c.proofs.IndexLemmas.{behind}
 
 -- the first item that passes a test, and that none does
-first_passes : {X : Type 0} (test : X → Bool) (items : List X) (i : ℕ) → position test items ≡ Some i → (x : X) × (slice_get items i ≡ Some x) × (test x ≡ true)
+first_passes : {X : Type 0} (test : X → Bool) (items : List X) (i : ℕ)
+    → position test items ≡ Some i → (x : X) × (slice_get items i ≡ Some x) × (test x ≡ true)
 first_passes test [] i is = absurd (cc)
 first_passes test (x ∷ items) i is =
     let found = position-Some test (x ∷ items) i x is in
     (get_or (x ∷ items) i x, slice_get-get_or (x ∷ items) i x found.0, found.1)
 
-fails_at : {X : Type 0} (test : X → Bool) (items : List X) (k : ℕ) (x : X) → slice_get items k ≡ Some x → test (get_or items k x) ≡ false → test x ≡ false
+fails_at : {X : Type 0} (test : X → Bool) (items : List X) (k : ℕ) (x : X)
+    → slice_get items k ≡ Some x → test (get_or items k x) ≡ false → test x ≡ false
 fails_at test items k x found fails = ap test (sym (get_or_from_slice_get items k x x found)) ∙ fails
 
-earlier_fail : {X : Type 0} (test : X → Bool) (items : List X) (i k : ℕ) (x : X) → position test items ≡ Some i → k < i → slice_get items k ≡ Some x → test x ≡ false
-earlier_fail test items i k x is before found = fails_at test items k x found ((position-Some test items i x is).2 k before)
+earlier_fail : {X : Type 0} (test : X → Bool) (items : List X) (i k : ℕ) (x : X)
+    → position test items ≡ Some i → k < i → slice_get items k ≡ Some x → test x ≡ false
+earlier_fail test items i k x is before found =
+    fails_at test items k x found ((position-Some test items i x is).2 k before)
 
-all_fail : {X : Type 0} (test : X → Bool) (items : List X) (k : ℕ) (x : X) → position test items ≡ None → slice_get items k ≡ Some x → test x ≡ false
+all_fail : {X : Type 0} (test : X → Bool) (items : List X) (k : ℕ) (x : X)
+    → position test items ≡ None → slice_get items k ≡ Some x → test x ≡ false
 all_fail test items k x none found =
     let inside : k < length items = slice_get_within items k x found in
     fails_at test items k x found (fails_before_first test items k x (grind (arith, nat_tests)))
 
 -- the item of which an item was told
-converted_one : {X Y : Type 0} (convert : X → Y) (items : List X) (k : ℕ) (y : Y) → ◌≡◌ {A = Result (Option Y) Refusal} (Ok (slice_get (map convert items) k)) (Ok (Some y)) → (x : X) × (slice_get items k ≡ Some x) × (y ≡ convert x)
+converted_one : {X Y : Type 0} (convert : X → Y) (items : List X) (k : ℕ) (y : Y)
+    → ◌≡◌ {A = Result (Option Y) Refusal} (Ok (slice_get (map convert items) k)) (Ok (Some y))
+    → (x : X) × (slice_get items k ≡ Some x) × (y ≡ convert x)
 converted_one convert [] k y is = absurd (cc)
 converted_one convert (x ∷ items) zero y is = (x, refl, cc)
 converted_one convert (x ∷ items) (suc k) y is = converted_one convert items k y is
 
 -- it is among those from the first index on
-there : {X : Type 0} (items : List X) (first i : ℕ) (x : X) → first ≤ i → slice_get items i ≡ Some x → slice_get (drop first items) (i - first) ≡ Some x
+there : {X : Type 0} (items : List X) (first i : ℕ) (x : X)
+    → first ≤ i → slice_get items i ≡ Some x → slice_get (drop first items) (i - first) ≡ Some x
 there items first i x after found =
     let place : i ≡ first + (i - first) = omega (arith, after) in
     sym (behind items first (i - first)) ∙ ap (slice_get items) (sym place) ∙ found
@@ -49,24 +59,42 @@ from_none (Some place) = ap Some (omega arith)
 from_none None = refl
 
 -- what is told of the items from an index on that pass a test
-module _ {X Y : Type 0} (convert : X → Y) (IsSo : Y → Type 0) (test : X → Bool) (decides : (x : X) → Decides (test x) (IsSo (convert x))) where
-  not_so : (items : List X) (first k : ℕ) (y : Y) → first ≤ k → ◌≡◌ {A = Result (Option Y) Refusal} (Ok (slice_get (map convert items) k)) (Ok (Some y)) → ((x : X) → slice_get (drop first items) (k - first) ≡ Some x → test x ≡ false) → ¬ (IsSo y)
+module _ {X Y : Type 0} (convert : X → Y) (IsSo : Y → Type 0) (test : X → Bool)
+    (decides : (x : X) → Decides (test x) (IsSo (convert x))) where
+  not_so : (items : List X) (first k : ℕ) (y : Y)
+      → first ≤ k → ◌≡◌ {A = Result (Option Y) Refusal} (Ok (slice_get (map convert items) k)) (Ok (Some y))
+      → ((x : X) → slice_get (drop first items) (k - first) ≡ Some x → test x ≡ false)
+      → ¬ (IsSo y)
   not_so items first k y after stored fails so =
       let one = converted_one convert items k y stored in
       true≢false (sym ((decides one.0).1 (subst IsSo one.2 so)) ∙ fails one.0 (there items first k one.0 after one.1))
 
-  pub finds : (Refuses : Refusal → Type 0) (items : List X) (first : ℕ) (found : Option ℕ) → position test (drop first items) ≡ found → FindsFrom first (λ index. Ok (slice_get (map convert items) index)) IsSo Refuses (Ok (option_map (λ place. first + place) found))
+  pub finds : (Refuses : Refusal → Type 0) (items : List X) (first : ℕ) (found : Option ℕ)
+      → position test (drop first items) ≡ found
+      → FindsFrom first
+      (λ index. Ok (slice_get (map convert items) index)) IsSo Refuses (Ok (option_map (λ place. first + place) found))
   finds Refuses items first (Some i) is =
       let one = first_passes test (drop first items) i is in (
         omega arith,
-        (convert one.0, ap Ok (slice_get-map convert items (first + i) ∙ ap (option_map convert) (behind items first i ∙ one.1)), (decides one.0).0 one.2),
-        λ k y after before stored. not_so items first k y after stored (λ x found. earlier_fail test (drop first items) i (k - first) x is (omega (arith, after, before)) found),
+        (
+          convert one.0,
+          ap Ok (slice_get-map convert items (first + i) ∙ ap (option_map convert) (behind items first i ∙ one.1)),
+          (decides one.0).0 one.2,
+        ),
+        λ k y after before stored.
+            not_so items first k y after stored
+            (λ x found. earlier_fail test (drop first items) i (k - first) x is (omega (arith, after, before)) found),
       )
   finds Refuses items first None is =
-      λ k y after stored. not_so items first k y after stored (λ x found. all_fail test (drop first items) (k - first) x is found)
+      λ k y after stored.
+      not_so items first k y after stored (λ x found. all_fail test (drop first items) (k - first) x is found)
 
-  from_list : (all : Result (List X) Refusal) (first : ℕ) → let call = item_of (each_converted convert all) in FindsFrom first call IsSo (RefusesAll call) (all >>= λ items. Ok (option_map (λ place. first + place) (position test (drop first items))))
-  from_list (Ok items) first = finds (RefusesAll (item_of (each_converted convert (Ok items)))) items first (position test (drop first items)) refl
+  from_list : (all : Result (List X) Refusal) (first : ℕ) → let call = item_of (each_converted convert all) in
+      FindsFrom first call IsSo (RefusesAll call)
+      (all >>= λ items. Ok (option_map (λ place. first + place) (position test (drop first items))))
+  from_list (Ok items) first =
+      finds (RefusesAll (item_of (each_converted convert (Ok items)))) items first
+      (position test (drop first items)) refl
   from_list (Err e) first = λ index. refl
 
 -- a number equals another, or not, by its test
@@ -75,5 +103,6 @@ equal-Decides a b = (λ is. grind (arith, nat_tests), λ is. grind (arith, nat_t
 
 pub sections_by_type : SectionsByType
 sections_by_type bytes h sh_type first =
-    from_list section_converted (λ (section : GoblinSection). section.sh_type ≡ sh_type) (λ section. section.sh_type == sh_type)
+    from_list section_converted (λ (section : GoblinSection). section.sh_type ≡ sh_type)
+    (λ section. section.sh_type == sh_type)
     (λ section. equal-Decides section.sh_type sh_type) (sections_expected bytes h) first

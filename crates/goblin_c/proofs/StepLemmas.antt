@@ -4,7 +4,9 @@ use Rattle.goblin_base.specs.Refusal.{Refusal}
 use Rattle.goblin_base.specs.Steps.{◌>>=◌}
 
 -- an item that is told was read, and what is told of it is this
-pub one_converted : {X Y : Type 0} (past : Bool) (answer : Result X Refusal) (convert : X → Y) (found : Y) → (if past then Ok None else (answer >>= λ x. Ok (Some (convert x)))) ≡ Ok (Some found) → (x : X) × (past ≡ false) × (answer ≡ Ok x) × (found ≡ convert x)
+pub one_converted : {X Y : Type 0} (past : Bool) (answer : Result X Refusal) (convert : X → Y) (found : Y)
+    → (if past then Ok None else (answer >>= λ x. Ok (Some (convert x)))) ≡ Ok (Some found)
+    → (x : X) × (past ≡ false) × (answer ≡ Ok x) × (found ≡ convert x)
 one_converted true answer convert found is = absurd (cc)
 one_converted false (Ok x) convert found is = (x, refl, refl, cc)
 one_converted false (Err e) convert found is = absurd (cc)

@@ -1,5 +1,7 @@
 -- Strings at the places told, and what is found by its name.
-use Rattle.std.proofs.Common.{◌≡◌, ◌+◌, ◌-◌, ◌<◌, ◌≤◌, ◌==◌, ℕ, Bool, true, nat_le, nat_lt, List, length, take, drop, min, map, position, slice_get, Option, Some, Result, Ok, Err, inl, inr, refl, sym, ap, subst, ◌∙◌, arith}
+use Rattle.std.proofs.Common.{◌≡◌, ◌+◌, ◌-◌, ◌<◌, ◌≤◌, ◌==◌, ℕ, Bool, true, nat_le, nat_lt, List, length, take, drop}
+use Rattle.std.proofs.Common.{min, map, position, slice_get, Option, Some, Result, Ok, Err, inl, inr, refl, sym, ap}
+use Rattle.std.proofs.Common.{subst, ◌∙◌, arith}
 use Rattle.std.proofs.lemmas.Bool.{and_parts}
 use Rattle.std.proofs.lemmas.Bool.Decides.{nat_tests}
 use Rattle.std.proofs.lemmas.List.{drop-take, length-take, take_min}
@@ -12,18 +14,23 @@ use Rattle.goblin_base.specs.Refusal.{Refusal}
 use Rattle.goblin_base.specs.Steps.{◌>>=◌}
 use Rattle.goblin_base.specs.Strtab.{has_name, is_text_of, plain, range_in}
 use Rattle.goblin_c.specs.declared.types.GoblinRange.{GoblinRange}
-use Rattle.goblin_c.specs.Answers.{each_converted, is_named, item_of, section_converted, sections_expected, string_expected, strings_expected, symbol_converted, symbols_expected}
-use Rattle.goblin_c.specs.Laws.{FindsFirst, IsNameAt, RefusesAll, RefusesEither, SectionsByName, StringsAreThere, SymbolsByName, bytes_in}
+use Rattle.goblin_c.specs.Answers.{each_converted, is_named, item_of, section_converted, sections_expected}
+use Rattle.goblin_c.specs.Answers.{string_expected, strings_expected, symbol_converted, symbols_expected}
+use Rattle.goblin_c.specs.Laws.{FindsFirst, IsNameAt, RefusesAll, RefusesEither, SectionsByName, StringsAreThere}
+use Rattle.goblin_c.specs.Laws.{SymbolsByName, bytes_in}
 use Rattle.goblin_c.proofs.SearchLemmas.{finds, from_none}
 use Rattle.goblin_c.proofs.StepLemmas.{one_converted}
 
 -- the strings of a range are its bytes, and lie in the file
-pub in_range : (bytes : List ℕ) (range : GoblinRange) (found : List ℕ) → strings_expected bytes range ≡ Ok found → (found ≡ bytes_in bytes range) × (range.offset + range.size ≤ length bytes)
+pub in_range : (bytes : List ℕ) (range : GoblinRange) (found : List ℕ)
+    → strings_expected bytes range ≡ Ok found
+    → (found ≡ bytes_in bytes range) × (range.offset + range.size ≤ length bytes)
 unfolding range_in
 in_range bytes range found is = (grind (arith, nat_tests), grind (arith, nat_tests))
 
 -- what stands before the first byte that passes a test, among the first bytes, stands in front of all
-in_front : (test : ℕ → Bool) (n : ℕ) (all : List ℕ) → take (length (before_first test (take n all))) all ≡ before_first test (take n all)
+in_front : (test : ℕ → Bool) (n : ℕ) (all : List ℕ)
+    → take (length (before_first test (take n all))) all ≡ before_first test (take n all)
 in_front test n all =
     let part = take n all in
     let end = position_or_len test part in
@@ -32,7 +39,10 @@ in_front test n all =
     sym (take-take (length (take end part)) n all few) ∙ ap (λ (k : ℕ). take k part) long ∙ take_min end part
 
 -- so does the piece at an offset of a range, at its place in the file
-piece_there : (bytes : List ℕ) (range : GoblinRange) (offset : ℕ) → offset < length (bytes_in bytes range) → take (length (piece (bytes_in bytes range) 0 offset)) (drop (range.offset + offset) bytes) ≡ piece (bytes_in bytes range) 0 offset
+piece_there : (bytes : List ℕ) (range : GoblinRange) (offset : ℕ)
+    → offset < length (bytes_in bytes range)
+    → take (length (piece (bytes_in bytes range) 0 offset)) (drop (range.offset + offset) bytes)
+    ≡ piece (bytes_in bytes range) 0 offset
 unfolding piece
 piece_there bytes range offset before =
     let all = drop range.offset bytes in
@@ -44,52 +54,73 @@ piece_there bytes range offset before =
     rw (rest, place) (in_front (λ b. b == 0) n (drop offset all))
 
 -- the string that is read at an offset of strings is the piece there
-pub plain_is : (strings : List ℕ) (offset : ℕ) (text : List ℕ) → plain strings 0 offset ≡ Ok text → text ≡ piece strings 0 offset
+pub plain_is : (strings : List ℕ) (offset : ℕ) (text : List ℕ)
+    → plain strings 0 offset ≡ Ok text → text ≡ piece strings 0 offset
 plain_is strings offset text is = grind arith
 
 -- where a string lies that was read
 abbrev pub place_of : GoblinRange → ℕ → List ℕ → GoblinRange
 place_of range offset text = record { offset = range.offset + offset; size = length text }
 
-text_there : (bytes : List ℕ) (range : GoblinRange) (offset : ℕ) (strings text : List ℕ) → strings_expected bytes range ≡ Ok strings → offset < length strings → plain strings 0 offset ≡ Ok text → bytes_in bytes (place_of range offset text) ≡ text
+text_there : (bytes : List ℕ) (range : GoblinRange) (offset : ℕ) (strings text : List ℕ)
+    → strings_expected bytes range ≡ Ok strings → offset < length strings → plain strings 0 offset ≡ Ok text
+    → bytes_in bytes (place_of range offset text) ≡ text
 text_there bytes range offset strings text found before is =
     let of_range = (in_range bytes range strings found).0 in
-    let same_text : text ≡ piece (bytes_in bytes range) 0 offset = plain_is strings offset text is ∙ ap (λ xs. piece xs 0 offset) of_range in
+    let same_text : text ≡ piece (bytes_in bytes range) 0 offset =
+    plain_is strings offset text is ∙ ap (λ xs. piece xs 0 offset) of_range in
     rw same_text (piece_there bytes range offset (subst (λ (xs : List ℕ). offset < length xs) of_range before))
 
 -- a string that is told was read among the strings of the range, and lies at its place
-string_is : (bytes : List ℕ) (range : GoblinRange) (offset : ℕ) (strings : List ℕ) (place : GoblinRange) → strings_expected bytes range ≡ Ok strings → string_expected bytes range offset ≡ Ok (Some place) → (text : List ℕ) × (offset < length strings) × (plain strings 0 offset ≡ Ok text) × (bytes_in bytes place ≡ text)
+string_is : (bytes : List ℕ) (range : GoblinRange) (offset : ℕ) (strings : List ℕ) (place : GoblinRange)
+    → strings_expected bytes range ≡ Ok strings → string_expected bytes range offset ≡ Ok (Some place)
+    → (text : List ℕ) × (offset < length strings) × (plain strings 0 offset ≡ Ok text) × (bytes_in bytes place ≡ text)
 string_is bytes range offset strings place found is =
-    let steps = one_converted (nat_le (length strings) offset) (plain strings 0 offset) (place_of range offset) place (rw found at is) in
-    let before : offset < length strings = (let test = steps.1 in grind (arith, nat_tests)) in
-    (steps.0, before, steps.2, ap (bytes_in bytes) steps.3 ∙ text_there bytes range offset strings steps.0 found before steps.2)
+    let steps = one_converted (nat_le (length strings) offset) (plain strings 0 offset) (place_of range offset) place
+    (rw found at is) in
+    let before : offset < length strings = (let test = steps.1 in grind (arith, nat_tests)) in (
+      steps.0,
+      before,
+      steps.2,
+      ap (bytes_in bytes) steps.3 ∙ text_there bytes range offset strings steps.0 found before steps.2,
+    )
 
 -- the strings are given where one of them is
-strings_there : (bytes : List ℕ) (range : GoblinRange) (offset : ℕ) (place : GoblinRange) (answer : Result (List ℕ) Refusal) → strings_expected bytes range ≡ answer → string_expected bytes range offset ≡ Ok (Some place) → (answer >>= λ strings. plain strings 0 offset) ≡ Ok (bytes_in bytes place)
+strings_there : (bytes : List ℕ) (range : GoblinRange) (offset : ℕ) (place : GoblinRange)
+    (answer : Result (List ℕ) Refusal)
+    → strings_expected bytes range ≡ answer → string_expected bytes range offset ≡ Ok (Some place)
+    → (answer >>= λ strings. plain strings 0 offset) ≡ Ok (bytes_in bytes place)
 strings_there bytes range offset place (Ok strings) found is =
     let there = string_is bytes range offset strings place found is in
     there.2 ∙ ap Ok (sym there.3)
 strings_there bytes range offset place (Err e) found is = let refused = rw found at is in absurd (cc)
 
 pub strings_are_there : StringsAreThere
-strings_are_there bytes range offset place is = strings_there bytes range offset place (strings_expected bytes range) refl is
+strings_are_there bytes range offset place is =
+    strings_there bytes range offset place (strings_expected bytes range) refl is
 
 -- a string has a name where the library's look-up says so: its test, taken apart
-named_is : (strings name : List ℕ) (offset : ℕ) → is_named strings name offset ≡ true → (offset < length strings) × (plain strings 0 offset ≡ Ok name)
+named_is : (strings name : List ℕ) (offset : ℕ)
+    → is_named strings name offset ≡ true → (offset < length strings) × (plain strings 0 offset ≡ Ok name)
 unfolding has_name
 named_is strings name offset is =
     let parts = and_parts (nat_lt offset (length strings)) (is_text_of name (plain strings 0 offset)) is in
     (grind (arith, nat_tests), grind (arith, parts.1, bytes_eq-Decides))
 
-is_named-from : (strings name : List ℕ) (offset : ℕ) → offset < length strings → plain strings 0 offset ≡ Ok name → is_named strings name offset ≡ true
+is_named-from : (strings name : List ℕ) (offset : ℕ)
+    → offset < length strings → plain strings 0 offset ≡ Ok name → is_named strings name offset ≡ true
 unfolding has_name
 is_named-from strings name offset before is = grind (arith, nat_tests, bytes_eq-Decides name name)
 
 -- and where a call tells a string with these bytes
-string_from : (bytes : List ℕ) (range : GoblinRange) (offset : ℕ) (strings text : List ℕ) → strings_expected bytes range ≡ Ok strings → offset < length strings → plain strings 0 offset ≡ Ok text → string_expected bytes range offset ≡ Ok (Some (place_of range offset text))
+string_from : (bytes : List ℕ) (range : GoblinRange) (offset : ℕ) (strings text : List ℕ)
+    → strings_expected bytes range ≡ Ok strings → offset < length strings → plain strings 0 offset ≡ Ok text
+    → string_expected bytes range offset ≡ Ok (Some (place_of range offset text))
 string_from bytes range offset strings text found before is = grind (arith, nat_tests)
 
-named-Decides : (bytes : List ℕ) (names : GoblinRange) (name strings : List ℕ) (offset : ℕ) → strings_expected bytes names ≡ Ok strings → Decides (is_named strings name offset) (IsNameAt bytes names offset name)
+named-Decides : (bytes : List ℕ) (names : GoblinRange) (name strings : List ℕ) (offset : ℕ)
+    → strings_expected bytes names ≡ Ok strings
+    → Decides (is_named strings name offset) (IsNameAt bytes names offset name)
 named-Decides bytes names name strings offset found = (
   λ is. let read = named_is strings name offset is in (
     place_of names offset name,
@@ -101,25 +132,40 @@ named-Decides bytes names name strings offset found = (
 )
 
 -- without the strings of a range none of them is told
-no_strings : (bytes : List ℕ) (range : GoblinRange) (e : Refusal) → strings_expected bytes range ≡ Err e → RefusesAll (string_expected bytes range) e
+no_strings : (bytes : List ℕ) (range : GoblinRange) (e : Refusal)
+    → strings_expected bytes range ≡ Err e → RefusesAll (string_expected bytes range) e
 no_strings bytes range e refused offset = rw refused refl
 
 -- what is found by a name, in the strings of a range
-module _ {X Y : Type 0} (convert : X → Y) (bytes : List ℕ) (names : GoblinRange) (HasTheName : Y → Type 0) (test : List ℕ → X → Bool) where
-  by_name : (all : Result (List X) Refusal) (strings : Result (List ℕ) Refusal) → strings_expected bytes names ≡ strings → ((read : List ℕ) → strings_expected bytes names ≡ Ok read → (x : X) → Decides (test read x) (HasTheName (convert x))) → FindsFirst (item_of (each_converted convert all)) (string_expected bytes names) HasTheName (all >>= λ items. strings >>= λ read. Ok (position (test read) items))
+module _ {X Y : Type 0} (convert : X → Y) (bytes : List ℕ) (names : GoblinRange) (HasTheName : Y → Type 0)
+    (test : List ℕ → X → Bool) where
+  by_name : (all : Result (List X) Refusal) (strings : Result (List ℕ) Refusal)
+      → strings_expected bytes names ≡ strings
+      → ((read : List ℕ) → strings_expected bytes names ≡ Ok read → (x : X)
+      → Decides (test read x) (HasTheName (convert x)))
+      → FindsFirst (item_of (each_converted convert all)) (string_expected bytes names) HasTheName
+      (all >>= λ items. strings >>= λ read. Ok (position (test read) items))
   by_name (Ok items) (Ok read) found decides =
-      subst (λ (place : Option ℕ). FindsFirst (λ index. Ok (slice_get (map convert items) index)) (string_expected bytes names) HasTheName (Ok place))
+      subst (λ (place : Option ℕ).
+      FindsFirst (λ index. Ok (slice_get (map convert items) index)) (string_expected bytes names) HasTheName
+      (Ok place))
       (from_none (position (test read) items))
-      (finds convert HasTheName (test read) (decides read found) (RefusesEither (item_of (each_converted convert (Ok items))) (string_expected bytes names)) items 0 (position (test read) items) refl)
+      (finds convert HasTheName (test read) (decides read found)
+      (RefusesEither (item_of (each_converted convert (Ok items))) (string_expected bytes names)) items 0
+      (position (test read) items) refl)
   by_name (Ok items) (Err e) found decides = inr (no_strings bytes names e found)
   by_name (Err e) strings found decides = inl (λ index. refl)
 
 pub sections_by_name : SectionsByName
 sections_by_name bytes h names name =
-    by_name section_converted bytes names (λ section. IsNameAt bytes names section.sh_name name) (λ strings section. is_named strings name section.sh_name) (sections_expected bytes h) (strings_expected bytes names) refl
+    by_name section_converted bytes names (λ section. IsNameAt bytes names section.sh_name name)
+    (λ strings section. is_named strings name section.sh_name) (sections_expected bytes h)
+    (strings_expected bytes names) refl
     (λ strings found section. named-Decides bytes names name strings section.sh_name found)
 
 pub symbols_by_name : SymbolsByName
 symbols_by_name bytes h range names name =
-    by_name symbol_converted bytes names (λ symbol. IsNameAt bytes names symbol.st_name name) (λ strings symbol. is_named strings name symbol.st_name) (symbols_expected bytes h range) (strings_expected bytes names) refl
+    by_name symbol_converted bytes names (λ symbol. IsNameAt bytes names symbol.st_name name)
+    (λ strings symbol. is_named strings name symbol.st_name) (symbols_expected bytes h range)
+    (strings_expected bytes names) refl
     (λ strings found symbol. named-Decides bytes names name strings symbol.st_name found)

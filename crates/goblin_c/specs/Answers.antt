@@ -1,5 +1,6 @@
 -- What is right of a file, in the terms of the library: an item, none past the last one, or why there is none.
-use Rattle.std.specs.Prelude.{ℕ, ◌+◌, ◌/◌, ◌==◌, ◌||◌, nat_le, if◌then◌else◌, List, length, drop, map, position, slice_get, slice_index, Bool, pos, unwrap_or, Option, Some, None, Result, Ok}
+use Rattle.std.specs.Prelude.{ℕ, ◌+◌, ◌/◌, ◌==◌, ◌||◌, nat_le, if◌then◌else◌, List, length, drop, map, position}
+use Rattle.std.specs.Prelude.{slice_get, slice_index, Bool, pos, unwrap_or, Option, Some, None, Result, Ok}
 use Rattle.std.specs.Option.{option_map, is_some}
 use Rattle.goblin_base.specs.declared.container.Ctx.{Ctx}
 use Rattle.goblin_base.specs.declared.container.Container.TheVariants as class
@@ -207,7 +208,8 @@ relocs_converted bytes h range is_rela = each_converted reloc_converted (relocs_
 abbrev pub reloc_expected : List ℕ → GoblinHeader → GoblinRange → Bool → ℕ → Result (Option GoblinReloc) Refusal
 reloc_expected bytes h range is_rela index = item_of (relocs_converted bytes h range is_rela) index
 
-abbrev pub relocs_from_expected : List ℕ → GoblinHeader → GoblinRange → Bool → ℕ → Result (Option (List GoblinReloc)) Refusal
+abbrev pub relocs_from_expected : List ℕ
+    → GoblinHeader → GoblinRange → Bool → ℕ → Result (Option (List GoblinReloc)) Refusal
 relocs_from_expected bytes h range is_rela first = items_from (relocs_converted bytes h range is_rela) first
 
 abbrev pub reloc_count_expected : List ℕ → GoblinHeader → GoblinRange → Bool → Result (Option ℕ) Refusal
@@ -238,7 +240,8 @@ section_by_name_expected bytes h names name = do
   strings ← strings_expected bytes names
   Ok (position (λ section. is_named strings name section.sh_name) sections)
 
-abbrev pub symbol_by_name_expected : List ℕ → GoblinHeader → GoblinRange → GoblinRange → List ℕ → Result (Option ℕ) Refusal
+abbrev pub symbol_by_name_expected : List ℕ
+    → GoblinHeader → GoblinRange → GoblinRange → List ℕ → Result (Option ℕ) Refusal
 symbol_by_name_expected bytes h range names name = do
   symbols ← symbols_expected bytes h range
   strings ← strings_expected bytes names

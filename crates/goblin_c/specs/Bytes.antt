@@ -1,5 +1,6 @@
 -- What is right of bytes: those of a section, of a segment and of a string, and the number that some stand for.
-use Rattle.std.specs.Prelude.{ℕ, ◌+◌, ◌==◌, ◌||◌, not, nat_le, if◌then◌else◌, Bool, List, length, Option, Some, None, Result, Ok}
+use Rattle.std.specs.Prelude.{ℕ, ◌+◌, ◌==◌, ◌||◌, not, nat_le, if◌then◌else◌, Bool, List, length, Option, Some, None}
+use Rattle.std.specs.Prelude.{Result, Ok}
 use Rattle.goblin_base.specs.Number.{number_at}
 use Rattle.goblin_base.specs.Pieces.{piece}
 use Rattle.goblin_base.specs.Refusal.{Refusal, misplaced}
@@ -33,8 +34,8 @@ section_bytes_expected bytes s = if section_has_bytes s then range_expected byte
 abbrev pub segment_bytes_expected : List ℕ → GoblinSegment → Result (Option GoblinRange) Refusal
 segment_bytes_expected bytes s = if segment_has_bytes s then range_expected bytes s.file else Ok None
 
--- where the string at an offset of the strings of a range lies in the file, text or not: up to the next zero byte or the
--- range's end
+-- where the string at an offset of the strings of a range lies in the file, text or not: up to the next zero byte or
+-- the range's end
 abbrev pub string_bytes_expected : List ℕ → GoblinRange → ℕ → Result (Option GoblinRange) Refusal
 string_bytes_expected bytes range offset = do
   strings ← strings_expected bytes range

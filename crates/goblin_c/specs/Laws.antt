@@ -1,5 +1,6 @@
 -- Laws of the calls: what they tell one by one is what the library has at once.
-use Rattle.std.specs.Prelude.{◌≡◌, ◌≢◌, ◌⊎◌, ◌+◌, ◌/◌, ◌<◌, ◌≤◌, ℕ, zero, suc, min, Bool, List, [], ◌∷◌, length, take, drop, slice_get, Option, Some, None, Result, Ok, Err}
+use Rattle.std.specs.Prelude.{◌≡◌, ◌≢◌, ◌⊎◌, ◌+◌, ◌/◌, ◌<◌, ◌≤◌, ℕ, zero, suc, min, Bool, List, [], ◌∷◌, length, take}
+use Rattle.std.specs.Prelude.{drop, slice_get, Option, Some, None, Result, Ok, Err}
 use Rattle.std.specs.Option.{option_map}
 use Rattle.goblin_base.specs.declared.container.Ctx.{Ctx}
 use Rattle.goblin_base.specs.declared.error.Fault.TheVariants.{InvalidClass, InvalidEndianness}
@@ -19,7 +20,13 @@ use Rattle.goblin.specs.SectionHeaders.{section_headers_of}
 use Rattle.goblin.specs.declared.elf.sym.Sym.{Sym}
 use Rattle.goblin.specs.Sym.{sym_size}
 use Rattle.goblin.specs.Symtab.{symtab_of}
-use Rattle.goblin_c.specs.Answers.{ctx_of, header_converted, is_mips64el, reloc_converted, section_converted, segment_converted, symbol_converted, section_by_type_expected, section_count_expected, section_expected, segment_count_expected, segment_expected, symbol_expected, reloc_expected, string_expected, symbol_count_expected, reloc_count_expected, sections_from_expected, symbols_from_expected, relocs_from_expected, section_names_expected, section_by_name_expected, symbol_by_name_expected, strings_expected, table_of, table_expected}
+use Rattle.goblin_c.specs.Answers.{ctx_of, header_converted, is_mips64el, reloc_converted, section_converted}
+use Rattle.goblin_c.specs.Answers.{segment_converted, symbol_converted, section_by_type_expected}
+use Rattle.goblin_c.specs.Answers.{section_count_expected, section_expected, segment_count_expected, segment_expected}
+use Rattle.goblin_c.specs.Answers.{symbol_expected, reloc_expected, string_expected, symbol_count_expected}
+use Rattle.goblin_c.specs.Answers.{reloc_count_expected, sections_from_expected, symbols_from_expected}
+use Rattle.goblin_c.specs.Answers.{relocs_from_expected, section_names_expected, section_by_name_expected}
+use Rattle.goblin_c.specs.Answers.{symbol_by_name_expected, strings_expected, table_of, table_expected}
 use Rattle.goblin_c.specs.Bytes.{section_bytes_expected, segment_bytes_expected, string_bytes_expected}
 use Rattle.goblin_c.specs.Laid.{laid}
 use Rattle.goblin_c.specs.Notes.{note_expected}
@@ -43,7 +50,8 @@ note_in bytes found =
 
 -- the items of which a call tells the first: none; the note told and those from the next offset on; or a refusal alone
 abbrev pub items_reported :
-    List ℕ → Result (Option GoblinNote) Refusal → (ℕ → List (Result NoteParts Refusal)) → List (Result NoteParts Refusal)
+    List ℕ
+    → Result (Option GoblinNote) Refusal → (ℕ → List (Result NoteParts Refusal)) → List (Result NoteParts Refusal)
 items_reported bytes (Ok None) rest = []
 items_reported bytes (Ok (Some found)) rest = Ok (note_in bytes found) ∷ rest found.next
 items_reported bytes (Err refusal) rest = Err refusal ∷ []
@@ -99,8 +107,8 @@ abbrev pub NamesContext : Header → Ctx → Type 0
 NamesContext h ctx =
     (class_of InvalidClass h.e_ident ≡ Ok ctx.container) × (order_of InvalidEndianness h.e_ident ≡ Ok ctx.le)
 
--- what C hands back of a file's header has the class and the byte order that the library names by the header itself, and
--- is of MIPS64 in little order where the header is
+-- what C hands back of a file's header has the class and the byte order that the library names by the header itself,
+-- and is of MIPS64 in little order where the header is
 abbrev pub ContextIsTheHeaders : Type 0
 ContextIsTheHeaders =
     (bytes : List ℕ) (h : Header) → HasHeader bytes h
@@ -237,7 +245,8 @@ IsNameAt bytes names offset name =
 -- an answer is the index of the first item from an index on that a call tells and that is so; or none is so from there
 -- on; or it is a refusal of this kind
 abbrev pub FindsFrom :
-    {Y : Type 0} → ℕ → (ℕ → Result (Option Y) Refusal) → (Y → Type 0) → (Refusal → Type 0) → Result (Option ℕ) Refusal → Type 0
+    {Y : Type 0}
+    → ℕ → (ℕ → Result (Option Y) Refusal) → (Y → Type 0) → (Refusal → Type 0) → Result (Option ℕ) Refusal → Type 0
 FindsFrom {Y} first call IsSo Refuses (Ok (Some index)) =
     (first ≤ index) × ((item : Y) × (call index ≡ Ok (Some item)) × IsSo item)
     × ((k : ℕ) (item : Y) → first ≤ k → k < index → call k ≡ Ok (Some item) → ¬ IsSo item)
@@ -261,7 +270,8 @@ abbrev pub SectionsByName : Type 0
 SectionsByName =
     (bytes : List ℕ) (h : GoblinHeader) (names : GoblinRange) (name : List ℕ)
     → let HasTheName = λ (section : GoblinSection). IsNameAt bytes names section.sh_name name in
-    FindsFirst (section_expected bytes h) (string_expected bytes names) HasTheName (section_by_name_expected bytes h names name)
+    FindsFirst (section_expected bytes h) (string_expected bytes names) HasTheName
+    (section_by_name_expected bytes h names name)
 
 abbrev pub SymbolsByName : Type 0
 SymbolsByName =

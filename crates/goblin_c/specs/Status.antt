@@ -1,5 +1,6 @@
 -- What a call of the C face answers: a number, and what it leaves where its caller points.
-use Rattle.std.specs.Prelude.{◌≡◌, ℕ, Bool, List, length, min, codes, if◌then◌else◌, Option, Some, None, Result, Ok, Err}
+use Rattle.std.specs.Prelude.{◌≡◌, ℕ, Bool, List, length, min, codes, if◌then◌else◌, Option, Some, None, Result, Ok}
+use Rattle.std.specs.Prelude.{Err}
 use Rattle.std.specs.Str.{bytes_eq}
 use Rattle.goblin_base.specs.declared.error.Error.{Error}
 use Rattle.goblin_base.specs.Refusal.{Refusal, refusal_of}
@@ -50,7 +51,8 @@ Stores (Err refusal) old was status new why =
 -- What a call that fills room with the items from an index on answers, and what it leaves: where there are items, 0, as
 -- many as there is room for, and how many those are; past the last item 1; or the kind of the refusal, and what is told
 -- of it. All else is as it was.
-abbrev pub Fills : {X : Type 0} → Result (Option (List X)) Refusal → List X → ℕ → GoblinRefusal → ℕ → List X → ℕ → GoblinRefusal → Type 0
+abbrev pub Fills : {X : Type 0}
+    → Result (Option (List X)) Refusal → List X → ℕ → GoblinRefusal → ℕ → List X → ℕ → GoblinRefusal → Type 0
 Fills (Ok (Some xs)) old count was status new filled why =
     (status ≡ OK) × (new ≡ laid xs old) × (filled ≡ min (length xs) (length old)) × (why ≡ was)
 Fills (Ok None) old count was status new filled why = (status ≡ END) × (new ≡ old) × (filled ≡ count) × (why ≡ was)

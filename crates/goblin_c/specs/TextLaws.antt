@@ -16,12 +16,17 @@ use Rattle.goblin_c.specs.declared.types.GoblinHeader.{GoblinHeader}
 use Rattle.goblin_c.specs.declared.types.GoblinRange.{GoblinRange}
 use Rattle.goblin_c.specs.declared.types.GoblinSection.{GoblinSection}
 use Rattle.goblin_c.specs.declared.types.GoblinSegment.{GoblinSegment}
-use Rattle.goblin_c.specs.Answers.{ctx_of, header_expected, reloc_count_expected, reloc_expected, relocs_from_expected, relocs_expected}
-use Rattle.goblin_c.specs.Answers.{section_by_name_expected, section_by_type_expected, section_count_expected, section_names_expected}
-use Rattle.goblin_c.specs.Answers.{section_expected, sections_from_expected, sections_expected, segment_count_expected, segment_expected}
+use Rattle.goblin_c.specs.Answers.{ctx_of, header_expected, reloc_count_expected, reloc_expected, relocs_from_expected}
+use Rattle.goblin_c.specs.Answers.{relocs_expected}
+use Rattle.goblin_c.specs.Answers.{section_by_name_expected, section_by_type_expected, section_count_expected}
+use Rattle.goblin_c.specs.Answers.{section_names_expected}
+use Rattle.goblin_c.specs.Answers.{section_expected, sections_from_expected, sections_expected, segment_count_expected}
+use Rattle.goblin_c.specs.Answers.{segment_expected}
 use Rattle.goblin_c.specs.Answers.{segments_expected, string_expected, strings_expected, symbol_by_address_expected}
-use Rattle.goblin_c.specs.Answers.{symbol_by_name_expected, symbol_count_expected, symbol_expected, symbols_from_expected, symbols_expected}
-use Rattle.goblin_c.specs.Answers.{count_of, each_converted, item_of, items_from, reloc_converted, section_converted, segment_converted, symbol_converted, table_expected}
+use Rattle.goblin_c.specs.Answers.{symbol_by_name_expected, symbol_count_expected, symbol_expected}
+use Rattle.goblin_c.specs.Answers.{symbols_from_expected, symbols_expected}
+use Rattle.goblin_c.specs.Answers.{count_of, each_converted, item_of, items_from, reloc_converted, section_converted}
+use Rattle.goblin_c.specs.Answers.{segment_converted, symbol_converted, table_expected}
 use Rattle.goblin_c.specs.Bytes.{number_expected, section_bytes_expected, segment_bytes_expected, string_bytes_expected}
 use Rattle.goblin_c.specs.Notes.{note_expected}
 use Rattle.goblin_c.specs.Status.{refusal_converted}
@@ -75,7 +80,8 @@ known_symbols : (bytes : List ℕ) (h : GoblinHeader) (range : GoblinRange) → 
 known_symbols bytes h range = grind arith
 
 known_relocs :
-    (bytes : List ℕ) (h : GoblinHeader) (range : GoblinRange) (is_rela : Bool) → Known (relocs_expected bytes h range is_rela)
+    (bytes : List ℕ) (h : GoblinHeader) (range : GoblinRange) (is_rela : Bool)
+    → Known (relocs_expected bytes h range is_rela)
 known_relocs bytes h range is_rela = grind (arith, known_room)
 
 -- strings, and notes
@@ -101,12 +107,14 @@ module _ {X Y : Type 0} (convert : X → Y) where
   counted (Ok items) same = tt
   counted (Err refusal) same = same
 
-  one : (list : Result (List X) Refusal) (index : ℕ) → HasSameText list → HasSameText (item_of (each_converted convert list) index)
+  one : (list : Result (List X) Refusal) (index : ℕ)
+      → HasSameText list → HasSameText (item_of (each_converted convert list) index)
   one (Ok items) index same = tt
   one (Err refusal) index same = same
 
   many :
-      (list : Result (List X) Refusal) (first : ℕ) → HasSameText list → HasSameText (items_from (each_converted convert list) first)
+      (list : Result (List X) Refusal) (first : ℕ)
+      → HasSameText list → HasSameText (items_from (each_converted convert list) first)
   many (Ok items) first same = grind arith
   many (Err refusal) first same = same
 
@@ -168,7 +176,8 @@ refusals_have_same_text bytes h range names name is_rela index offset address al
       reloc = one reloc_converted (relocs_expected bytes h range is_rela) index relocs;
       relocs = many reloc_converted (relocs_expected bytes h range is_rela) index relocs;
       string = same_text (string_expected bytes range offset) (known_string bytes range offset);
-      note = same_text (note_expected bytes h range alignment offset) (grind (arith, known_note bytes offset (alignment, ctx_of h)));
+      note = same_text (note_expected bytes h range alignment offset)
+          (grind (arith, known_note bytes offset (alignment, ctx_of h)));
       section_by_name = same_text (section_by_name_expected bytes h names name) (grind (arith, sections, strings));
       symbol_by_name = same_text (symbol_by_name_expected bytes h range names name) (grind (arith, symbols, strings));
       segment_count = counted segment_converted (segments_expected bytes h) segments;

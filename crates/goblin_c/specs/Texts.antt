@@ -1,7 +1,8 @@
 -- The text of a refusal, from what C has of it.
 use Rattle.std.specs.Prelude.{◌≡◌, ◌⊎◌, ⊤, ℕ, ◌==◌, not, if◌then◌else◌, List, [], codes, Option, Some, None}
 use Rattle.goblin_base.specs.declared.texts.Kind.{Kind}
-use Rattle.goblin_base.specs.Refusal.{Refusal, malformed, bad_magic, too_big, bad_offset, bad_input, buffer_too_short, out_of_memory}
+use Rattle.goblin_base.specs.Refusal.{Refusal, malformed, bad_magic, too_big, bad_offset, bad_input, buffer_too_short}
+use Rattle.goblin_base.specs.Refusal.{out_of_memory}
 use Rattle.goblin_base.specs.Texts.{Facts, facts_text, kind_with, refusal_text}
 use Rattle.goblin_c.specs.declared.kinds.TheConstants.{INVALID_UTF8, SECTION_HEADERS, PROGRAM_HEADERS}
 use Rattle.goblin_c.specs.declared.types.GoblinRefusal.{GoblinRefusal}
@@ -46,4 +47,5 @@ NamesKnown out_of_memory = ⊤
 
 -- a refusal converted for C has the text of the refusal
 abbrev pub TextIsSame : Type 0
-TextIsSame = (refusal : Refusal) → NamesKnown refusal → converted_text (refusal_converted refusal) ≡ refusal_text refusal
+TextIsSame =
+    (refusal : Refusal) → NamesKnown refusal → converted_text (refusal_converted refusal) ≡ refusal_text refusal

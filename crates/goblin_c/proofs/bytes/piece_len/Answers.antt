@@ -7,5 +7,8 @@ pub returns : goal.returns
 returns c =
     let bytes = c.args.strings.now in
     let o = c.args.offset in
-    let rest : take (length bytes - o) (drop o bytes) ≡ drop o bytes = take_all (length bytes - o) (drop o bytes) (omega (arith, length-drop o bytes)) in
-    piece_long bytes o (take (length bytes - o) (drop o bytes)) c.zero_place.result c.unwrap_or.result rest c.zero_place.ensures c.unwrap_or.ensures
+    let rest : take (length bytes - o) (drop o bytes) ≡ drop o bytes =
+    take_all (length bytes - o) (drop o bytes) (omega (arith, length-drop o bytes)) in
+    piece_long bytes o
+    (take (length bytes - o) (drop o bytes)) c.zero_place.result c.unwrap_or.result rest c.zero_place.ensures
+    c.unwrap_or.ensures

@@ -6,5 +6,9 @@ use Rattle.goblin_c.proofs.headers.find_type.Goals as goal
 
 pub returns-clause-place : goal.returns-clause-place
 returns-clause-place c =
-    let rest = YieldsList-from_skip c.args.first (YieldsList-from_first (λ x. x) (λ left. left) c.args.sections.now (c.skip.ensures.source ∙ c.iter.ensures.exact)) c.skip.ensures.count in
-    position_from_yields_List (λ section. section.sh_type == c.args.sh_type) _ _ c.position.result c.position.ensures.ran rest (λ x b q k. search rules)
+    let rest = YieldsList-from_skip c.args.first
+    (YieldsList-from_first (λ x. x) (λ left. left) c.args.sections.now (c.skip.ensures.source ∙ c.iter.ensures.exact))
+    c.skip.ensures.count in
+    position_from_yields_List
+    (λ section. section.sh_type == c.args.sh_type) _ _ c.position.result c.position.ensures.ran rest
+    (λ x b q k. search rules)

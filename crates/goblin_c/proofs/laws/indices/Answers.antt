@@ -2,4 +2,9 @@ use Rattle.goblin_c.proofs.IndexLemmas.{sections_by_index, segments_by_index, sy
 use Rattle.goblin_c.proofs.laws.indices.Goals as goal
 
 pub returns : goal.returns
-returns c = record { sections = sections_by_index; segments = segments_by_index; symbols = symbols_by_index; relocs = relocs_by_index }
+returns c = record {
+  sections = sections_by_index;
+  segments = segments_by_index;
+  symbols = symbols_by_index;
+  relocs = relocs_by_index;
+}

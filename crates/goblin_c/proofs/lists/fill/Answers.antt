@@ -8,10 +8,14 @@ pub loop-i-preserved : goal.loop-i-preserved
 loop-i-preserved g c =
     let all = g.L.Listed.listed c.args.all.now in
     let found = sym c.converted.ensures ∙ c.in-Some.is in
-    let inside = slice_get_within all (c.args.first + c.loop-i.i) c.in-Some.item found in
-    (omega arith, laid-item all c.args.first c.loop-i.i c.args.buffer.now c.loop-i.buffer c.in-Some.item found c.loop-i.invariant.1 c.loop-i-test.true)
+    let inside = slice_get_within all (c.args.first + c.loop-i.i) c.in-Some.item found in (
+      omega arith,
+      laid-item all c.args.first c.loop-i.i c.args.buffer.now c.loop-i.buffer c.in-Some.item found c.loop-i.invariant.1
+          c.loop-i-test.true,
+    )
 
 pub returns-in-None-clause-filled : goal.returns-in-None-clause-filled
 returns-in-None-clause-filled g c =
     set-get_or c.loop-i.buffer c.loop-i.i _
-    ∙ laid-ended (g.L.Listed.listed c.args.all.now) c.args.first c.loop-i.i c.args.buffer.now c.loop-i.buffer (sym c.converted.ensures ∙ c.in-None.is) c.loop-i.invariant.1
+    ∙ laid-ended (g.L.Listed.listed c.args.all.now) c.args.first c.loop-i.i c.args.buffer.now c.loop-i.buffer
+    (sym c.converted.ensures ∙ c.in-None.is) c.loop-i.invariant.1

@@ -8,7 +8,8 @@ pub loop-i-init : goal.loop-i-init
 loop-i-init c = (
   omega arith,
   c.told-buffer,
-  ap (digits_onto 64 c.args.base false c.args.n) (drop_all 64 c.args.buffer.now (omega (arith, c.told-buffer))) ∙ digits_onto-nil _ _ _,
+  ap (digits_onto 64 c.args.base false c.args.n) (drop_all 64 c.args.buffer.now (omega (arith, c.told-buffer)))
+      ∙ digits_onto-nil _ _ _,
 )
 
 pub loop-i-preserved : goal.loop-i-preserved
@@ -16,12 +17,24 @@ loop-i-preserved c =
     let l = c.loop-i in
     let a = c.args in
     let unchanged = length-set l.buffer (l.i - 1) c.digit.result ∙ l.invariant.1 in
-    let written = ap (digits_onto (l.i - 1) a.base false (l.rest / a.base)) (drop-set-before l.buffer l.i _ _ c.loop-i-test.true (omega arith) c.digit.ensures) in
-    (omega arith, unchanged, written ∙ sym (digits_onto_step a.base false l.rest (drop l.i l.buffer) l.i c.loop-i-test.true c.if-rest-eq0.false) ∙ l.invariant.2)
+    let written =
+    ap (digits_onto (l.i - 1) a.base false (l.rest / a.base))
+    (drop-set-before l.buffer l.i _ _ c.loop-i-test.true (omega arith) c.digit.ensures) in (
+      omega arith,
+      unchanged,
+      written
+          ∙ sym (digits_onto_step a.base false l.rest (drop l.i l.buffer) l.i c.loop-i-test.true c.if-rest-eq0.false)
+          ∙ l.invariant.2,
+    )
 
 pub returns-then-rest-eq0 : goal.returns-then-rest-eq0
 returns-then-rest-eq0 c =
     let l = c.loop-i in
     let a = c.args in
     let written = drop-set-before l.buffer l.i _ _ c.loop-i-test.true (omega arith) c.digit.ensures in
-    record { bound = omega arith; value = written ∙ sym (digits_onto_last a.base false l.rest (drop l.i l.buffer) l.i c.loop-i-test.true c.if-rest-eq0.true) ∙ l.invariant.2 }
+    record {
+      bound = omega arith;
+      value = written
+          ∙ sym (digits_onto_last a.base false l.rest (drop l.i l.buffer) l.i c.loop-i-test.true c.if-rest-eq0.true)
+          ∙ l.invariant.2;
+    }

@@ -18,7 +18,10 @@ loop-part-preserved c =
     let more =
     ap (λ rest. prefix c.args.report.now.kind ++ rest) (joined_more facts parts l.part-index _ c.loop-part-test.true)
     ∙ sym (append_assoc (prefix c.args.report.now.kind) (joined facts (take l.part-index parts)) _) in (
-      laid-part (text l.part-index) (text (l.part-index + 1)) _ c.args.buffer.now l.buffer c.write_part-len.new.buffer l.len more l.invariant.0 l.invariant.1 done.written,
-      long-part (text l.part-index) (text (l.part-index + 1)) _ c.write_part-len.result l.len more l.invariant.1 done.whole,
+      laid-part (text l.part-index)
+          (text (l.part-index + 1)) _ c.args.buffer.now l.buffer c.write_part-len.new.buffer l.len more l.invariant.0
+          l.invariant.1 done.written,
+      long-part (text l.part-index)
+          (text (l.part-index + 1)) _ c.write_part-len.result l.len more l.invariant.1 done.whole,
       omega arith,
     )
