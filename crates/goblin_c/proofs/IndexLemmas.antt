@@ -29,7 +29,7 @@ use Rattle.goblin_c.specs.Laws.{ContextIsTheHeaders, FilledByIndex, GivenFrom, H
 use Rattle.goblin_c.specs.Laws.{RelocsByIndex, SectionsByIndex, SegmentsByIndex, SymbolsByIndex, TablesByIndex}
 use Rattle.goblin_c.specs.Laws.{ReturnsCount, ReturnsEach, table_converted}
 
--- what a file's header tells of its class and its byte order
+-- the class and the byte order of a file's header
 named : (bytes : List ℕ) (h : Header)
     → HasHeader bytes h
     → (class : Container) × (order : Endian) × (class_named (slice_index h.e_ident 4) ≡ Some class)
@@ -71,7 +71,7 @@ one_context bytes h ctx has named =
     let orders = same handed.le ctx.le (sym own.1 ∙ named.1) in
     λ j. record { container = classes j; le = orders j }
 
--- what is told of a list by index, and how many items it has
+-- the items of a list for C by index, and how many they are
 listed : {X Y : Type 0} (convert : X → Y) (all : Result (List X) Refusal)
     → ReturnsEach convert all (item_of (each_converted convert all))
     × ReturnsCount all (count_of (each_converted convert all))
@@ -104,7 +104,7 @@ relocs_by_index bytes h ctx range is_rela has named =
     (context_is_the_headers bytes h has).1
     (listed reloc_converted (relocs_expected bytes (header_converted h) range is_rela)))
 
--- the item at an index behind those that are left out
+-- the item at an index after those that are dropped
 pub behind : {X : Type 0} (xs : List X) (n k : ℕ) → slice_get xs (n + k) ≡ slice_get (drop n xs) k
 behind xs zero k = ap (slice_get xs) (omega arith)
 behind [] (suc n) k = refl
@@ -112,7 +112,7 @@ behind (x ∷ xs) (suc n) k =
     let more : suc n + k ≡ suc (n + k) = omega arith in
     ap (slice_get (x ∷ xs)) more ∙ behind xs n k
 
--- what is told from an index on
+-- the items for C from an index on
 given : {X : Type 0} (items : List X) (first : ℕ) (past : Bool)
     → nat_le (length items) first ≡ past
     → GivenFrom {Y = X} first
@@ -136,7 +136,7 @@ filled_by_index = record {
   relocs = λ bytes h range is_rela first. from (relocs_converted bytes h range is_rela) first;
 }
 
--- the table at an index is the section that is told there
+-- the table at an index is the section that is stored there
 table_there : (all : Result (List GoblinSection) Refusal) (index : ℕ)
     → (all >>= λ items. Ok (table_at items index)) ≡ table_converted index (item_of all index)
 table_there (Ok items) index = refl

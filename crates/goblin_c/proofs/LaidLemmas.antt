@@ -1,4 +1,4 @@
--- Room that is filled item by item.
+-- A buffer that is filled item by item.
 use Rattle.std.proofs.Common.{◌≡◌, ◌<◌, ◌≤◌, ◌+◌, ◌-◌, min, ℕ, zero, suc, List, [], ◌∷◌, ◌++◌, length, take, drop}
 use Rattle.std.proofs.Common.{get_or, Some, None, slice_get, take_all, refl, sym, ap, ◌∙◌, arith}
 use Rattle.std.proofs.Math.ListN.{set}
@@ -19,7 +19,7 @@ laid-more [] (o ∷ os) x h = refl
 laid-more (y ∷ ys) [] x h = absurd (omega arith)
 laid-more (y ∷ ys) (o ∷ os) x h = ap (λ rest. y ∷ rest) (laid-more ys os x (omega arith))
 
--- as many items as there is room for are all that count
+-- only as many items as the buffer holds count
 pub laid-enough : {X : Type 0} (i : ℕ) (xs old : List X)
     → min (length xs) (length old) ≤ i → laid (take i xs) old ≡ laid xs old
 laid-enough zero [] old h = refl
@@ -29,7 +29,7 @@ laid-enough (suc i) [] old h = refl
 laid-enough (suc i) (x ∷ xs) [] h = refl
 laid-enough (suc i) (x ∷ xs) (o ∷ os) h = ap (λ rest. x ∷ rest) (laid-enough i xs os (omega arith))
 
--- the item at an index, behind those before it
+-- the item at an index, after those before it
 pub laid-next : {X : Type 0} (i : ℕ) (xs old : List X) (x : X) (more : List X)
     → i ≤ length xs → i < length old → more ≡ take i xs ++ x ∷ [] → set (laid (take i xs) old) i x ≡ laid more old
 laid-next i xs old x more within room is =
@@ -71,21 +71,21 @@ pub laid-nowhere : {X : Type 0} (xs : List X) → laid xs [] ≡ []
 laid-nowhere [] = refl
 laid-nowhere (x ∷ xs) = refl
 
--- what is cut behind as much as was cut before
+-- what is written after what was written before
 pub laid-appended : {X : Type 0} (xs ys old : List X)
     → take (length xs) (laid xs old) ++ laid ys (drop (length xs) (laid xs old)) ≡ laid (xs ++ ys) old
 laid-appended [] ys old = refl
 laid-appended (x ∷ xs) ys [] = laid-nowhere ys
 laid-appended (x ∷ xs) ys (o ∷ os) = ap (λ rest. x ∷ rest) (laid-appended xs ys os)
 
--- nothing is written behind the room's end
+-- nothing is written past the buffer's end
 pub laid-past : {X : Type 0} (n : ℕ) (xs old : List X) → length old ≤ n → take n old ++ laid xs (drop n old) ≡ old
 laid-past zero xs [] h = laid-nowhere xs
 laid-past zero xs (o ∷ os) h = absurd (omega arith)
 laid-past (suc n) xs [] h = laid-nowhere xs
 laid-past (suc n) xs (o ∷ os) h = ap (λ rest. o ∷ rest) (laid-past n xs os (omega arith))
 
--- what is cut into the room from an index on
+-- what is written into the buffer from an index on
 pub laid-into : (n : ℕ) (part old new all : List ℕ)
     → n < length old → length all ≡ length old → length new ≡ length old - n
     → new ≡ laid part (take (length old - n) (drop n old)) → all ≡ put_mid n (length old - n) old new
@@ -97,7 +97,7 @@ laid-into n part old new all inside long same is put =
     ∙ take-put_mid n (length old - n) old new (length old) (omega arith) (omega arith)
     ∙ ap (λ (xs : List ℕ). take n old ++ xs) (is ∙ ap (λ (xs : List ℕ). laid part xs) (take_rest old n))
 
--- room that was cut into: how long it is, and what it holds before and behind the end of what was cut
+-- a buffer that was written into: its length, and what it holds before and after the end of what was written
 laid-length : {X : Type 0} (items old : List X) → length (laid items old) ≡ length old
 laid-length [] old = refl
 laid-length (x ∷ items) [] = refl

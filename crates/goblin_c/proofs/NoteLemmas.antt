@@ -18,7 +18,7 @@ use Rattle.goblin_c.specs.Laws.{LiesIn, NotesAreItems, NotesInARow, NotesLieInFi
 use Rattle.goblin_c.specs.Laws.{notes_reported}
 use Rattle.goblin_c.proofs.StepLemmas.{one_converted}
 
--- the note that a file has at the places told is the one that its bytes from the offset on have at theirs
+-- the note that a file has at the ranges of a stored one is the one that its bytes from the offset on have at theirs
 note_same : (bytes : List ℕ) (offset : ℕ) (places : NotePlaces)
     → note_there (drop offset bytes) places ≡ note_in bytes (note_converted offset places)
 note_same bytes offset places =
@@ -28,7 +28,7 @@ note_same bytes offset places =
       desc = take places.desc_size (drop-drop places.desc offset bytes j);
     }
 
--- what is told of an answer, before the range's end and from there on
+-- the items of a result, before the range's end and from there on
 items_of : (past : Bool) (bytes : List ℕ) (answer : Result NotePlaces Refusal) (offset : ℕ)
     (rest : ℕ → List (Result NoteParts Refusal))
     → (if past then []
@@ -55,7 +55,7 @@ pub notes_are_items : NotesAreItems
 notes_are_items notes h range alignment over =
     rw (over.0, over.1) (items_there notes.bytes.now h range alignment notes.offset)
 
--- a call more tells an item more
+-- one more call stores one more item
 one_more : (bytes : List ℕ) (answer : Result (Option GoblinNote) Refusal) (calls : ℕ)
     (f g : ℕ → List (Result NoteParts Refusal))
     → ((next : ℕ) → f next ≡ take calls (g next))

@@ -1,4 +1,4 @@
--- How long the piece at a place is.
+-- How long the piece at an offset is.
 use Rattle.std.proofs.Common.{◌≡◌, ◌==◌, ℕ, Bool, not, drop, length, List, Option, position, arith}
 use Rattle.std.proofs.lemmas.Bool.Decides.{nat_tests}
 use Rattle.std.proofs.lemmas.List.{length-take}
@@ -11,7 +11,7 @@ use Rattle.goblin_base.specs.Pieces.{piece}
 first_or_length : (test : ℕ → Bool) (xs : List ℕ) → unwrap_or (position test xs) (length xs) ≡ position_or_len test xs
 first_or_length test xs = grind (arith, nat_tests, prefix_len-le-length (λ b. not (test b)) xs)
 
--- the length of the piece at a place, by what is left from there on
+-- the length of the piece at an offset, by the bytes from there on
 pub piece_long : (bytes : List ℕ) (o : ℕ) (rest : List ℕ) (found : Option ℕ) (n : ℕ)
     → rest ≡ drop o bytes → found ≡ position (λ b. b == 0) rest → n ≡ unwrap_or found (length rest)
     → n ≡ length (piece bytes 0 o)

@@ -1,4 +1,4 @@
--- Where bytes lie that are told.
+-- Where the bytes of stored ranges lie.
 use Rattle.std.proofs.Common.{◌≡◌, ◌≤◌, ◌-◌, ◌==◌, ℕ, List, length, drop, Some, Ok, arith}
 use Rattle.std.proofs.lemmas.Bool.Decides.{nat_tests}
 use Rattle.std.proofs.lemmas.List.{length-drop, length-take}
@@ -10,7 +10,7 @@ use Rattle.goblin_c.specs.Bytes.{range_expected}
 use Rattle.goblin_c.specs.Laws.{BytesLieInFile, LiesIn, StringsAreBytes, StringsLieInFile}
 use Rattle.goblin_c.proofs.StringLemmas.{in_range, plain_is}
 
--- a range that is told lies in the file
+-- a range that is stored lies in the file
 range_lies : (bytes : List ℕ) (range found : GoblinRange)
     → range_expected bytes range ≡ Ok (Some found) → LiesIn bytes found
 range_lies bytes range found is = grind (arith, fits-room_of (length bytes) range.offset range.size)

@@ -38,7 +38,7 @@ all_fail test items k x none found =
     let inside : k < length items = slice_get_within items k x found in
     fails_at test items k x found (fails_before_first test items k x (grind (arith, nat_tests)))
 
--- the item of which an item was told
+-- the item that an item for C was converted from
 converted_one : {X Y : Type 0} (convert : X → Y) (items : List X) (k : ℕ) (y : Y)
     → ◌≡◌ {A = Result (Option Y) Refusal} (Ok (slice_get (map convert items) k)) (Ok (Some y))
     → (x : X) × (slice_get items k ≡ Some x) × (y ≡ convert x)
@@ -58,7 +58,7 @@ pub from_none : (found : Option ℕ) → option_map (λ place. 0 + place) found 
 from_none (Some place) = ap Some (omega arith)
 from_none None = refl
 
--- what is told of the items from an index on that pass a test
+-- the items for C from an index on that pass a test
 module _ {X Y : Type 0} (convert : X → Y) (IsSo : Y → Type 0) (test : X → Bool)
     (decides : (x : X) → Decides (test x) (IsSo (convert x))) where
   not_so : (items : List X) (first k : ℕ) (y : Y)

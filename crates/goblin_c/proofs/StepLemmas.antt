@@ -1,9 +1,9 @@
--- Values that steps answer.
+-- Values of steps.
 use Rattle.std.proofs.Common.{◌≡◌, Bool, true, false, if◌then◌else◌, Some, None, Result, Ok, Err, refl}
 use Rattle.goblin_base.specs.Refusal.{Refusal}
 use Rattle.goblin_base.specs.Steps.{◌>>=◌}
 
--- an item that is told was read, and what is told of it is this
+-- an item for C was read, and is this item converted
 pub one_converted : {X Y : Type 0} (past : Bool) (answer : Result X Refusal) (convert : X → Y) (found : Y)
     → (if past then Ok None else (answer >>= λ x. Ok (Some (convert x)))) ≡ Ok (Some found)
     → (x : X) × (past ≡ false) × (answer ≡ Ok x) × (found ≡ convert x)

@@ -1,4 +1,4 @@
--- Strings at the places told, and what is found by its name.
+-- Strings at the ranges that calls store, and what is found by its name.
 use Rattle.std.proofs.Common.{◌≡◌, ◌+◌, ◌-◌, ◌<◌, ◌≤◌, ◌==◌, ℕ, Bool, true, nat_le, nat_lt, List, length, take, drop}
 use Rattle.std.proofs.Common.{min, map, position, slice_get, Option, Some, Result, Ok, Err, inl, inr, refl, sym, ap}
 use Rattle.std.proofs.Common.{subst, ◌∙◌, arith}
@@ -38,7 +38,7 @@ in_front test n all =
     let few : length (take end part) ≤ n = omega (arith, long, length-take n all) in
     sym (take-take (length (take end part)) n all few) ∙ ap (λ (k : ℕ). take k part) long ∙ take_min end part
 
--- so does the piece at an offset of a range, at its place in the file
+-- so does the piece at an offset of a range, at its offset in the file
 piece_there : (bytes : List ℕ) (range : GoblinRange) (offset : ℕ)
     → offset < length (bytes_in bytes range)
     → take (length (piece (bytes_in bytes range) 0 offset)) (drop (range.offset + offset) bytes)
@@ -71,7 +71,7 @@ text_there bytes range offset strings text found before is =
     plain_is strings offset text is ∙ ap (λ xs. piece xs 0 offset) of_range in
     rw same_text (piece_there bytes range offset (subst (λ (xs : List ℕ). offset < length xs) of_range before))
 
--- a string that is told was read among the strings of the range, and lies at its place
+-- a string whose range is stored was read in the string table, and lies at that range
 string_is : (bytes : List ℕ) (range : GoblinRange) (offset : ℕ) (strings : List ℕ) (place : GoblinRange)
     → strings_expected bytes range ≡ Ok strings → string_expected bytes range offset ≡ Ok (Some place)
     → (text : List ℕ) × (offset < length strings) × (plain strings 0 offset ≡ Ok text) × (bytes_in bytes place ≡ text)
@@ -85,7 +85,7 @@ string_is bytes range offset strings place found is =
       ap (bytes_in bytes) steps.3 ∙ text_there bytes range offset strings steps.0 found before steps.2,
     )
 
--- the strings are given where one of them is
+-- there is a string table if there is one of its strings
 strings_there : (bytes : List ℕ) (range : GoblinRange) (offset : ℕ) (place : GoblinRange)
     (answer : Result (List ℕ) Refusal)
     → strings_expected bytes range ≡ answer → string_expected bytes range offset ≡ Ok (Some place)
@@ -112,7 +112,7 @@ is_named-from : (strings name : List ℕ) (offset : ℕ)
 unfolding has_name
 is_named-from strings name offset before is = grind (arith, nat_tests, bytes_eq-Decides name name)
 
--- and where a call tells a string with these bytes
+-- and if a call stores the range of a string with these bytes
 string_from : (bytes : List ℕ) (range : GoblinRange) (offset : ℕ) (strings text : List ℕ)
     → strings_expected bytes range ≡ Ok strings → offset < length strings → plain strings 0 offset ≡ Ok text
     → string_expected bytes range offset ≡ Ok (Some (place_of range offset text))
@@ -131,7 +131,7 @@ named-Decides bytes names name strings offset found = (
       is_named-from strings name offset there.1 (there.2 ∙ ap Ok (sym there.3 ∙ place.2)),
 )
 
--- without the strings of a range none of them is told
+-- without a string table no string has a range
 no_strings : (bytes : List ℕ) (range : GoblinRange) (e : Refusal)
     → strings_expected bytes range ≡ Err e → RefusesAll (string_expected bytes range) e
 no_strings bytes range e refused offset = rw refused refl

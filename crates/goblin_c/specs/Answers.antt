@@ -1,4 +1,4 @@
--- What is right of a file, in the terms of the library: an item, none past the last one, or why there is none.
+-- The expected results of calls, by the library's definitions: an item, none past the last one, or a refusal.
 use Rattle.std.specs.Prelude.{ℕ, ◌+◌, ◌/◌, ◌==◌, ◌||◌, nat_le, if◌then◌else◌, List, length, drop, map, position}
 use Rattle.std.specs.Prelude.{slice_get, slice_index, Bool, pos, unwrap_or, Option, Some, None, Result, Ok}
 use Rattle.std.specs.Option.{option_map, is_some}
@@ -29,7 +29,7 @@ use Rattle.goblin_c.specs.declared.types.GoblinReloc.{GoblinReloc}
 use Rattle.goblin_c.specs.declared.types.GoblinSymbol.{GoblinSymbol}
 use Rattle.goblin_c.specs.Status.{number_of_bool}
 
--- what C is told of a header
+-- a header for C
 abbrev pub header_converted : Header → GoblinHeader
 header_converted h = record {
   e_entry = h.e_entry;
@@ -116,7 +116,7 @@ header_expected bytes = do
 abbrev pub sections_expected : List ℕ → GoblinHeader → Result (List SectionHeader) Refusal
 sections_expected bytes h = section_headers_of bytes h.e_shoff h.e_shnum (ctx_of h)
 
--- what C is told of the items of a list
+-- the items of a list for C
 abbrev pub each_converted : {X Y : Type 0} → (X → Y) → Result (List X) Refusal → Result (List Y) Refusal
 each_converted convert list = do
   items ← list
@@ -140,7 +140,7 @@ items_from list first = do
   items ← list
   Ok (if nat_le (length items) first then None else Some (drop first items))
 
--- what C is told of the section headers, by index, from an index on, and how many there are
+-- the section headers for C, one by its index, from an index on, and how many there are
 abbrev pub sections_converted : List ℕ → GoblinHeader → Result (List GoblinSection) Refusal
 sections_converted bytes h = each_converted section_converted (sections_expected bytes h)
 
@@ -157,7 +157,7 @@ section_count_expected bytes h = count_of (sections_converted bytes h)
 abbrev pub segments_expected : List ℕ → GoblinHeader → Result (List ProgramHeader) Refusal
 segments_expected bytes h = program_headers_from bytes h.e_phoff h.e_phnum (ctx_of h)
 
--- what C is told of them, by index, and how many there are
+-- they for C, one by its index, and how many there are
 abbrev pub segments_converted : List ℕ → GoblinHeader → Result (List GoblinSegment) Refusal
 segments_converted bytes h = each_converted segment_converted (segments_expected bytes h)
 
@@ -179,7 +179,7 @@ symbols_expected bytes h range = do
   table ← refuse_as refusal_of (symtab_of bytes range.offset (range.size / sym_size (ctx_of h).container) (ctx_of h))
   Ok table.symbols
 
--- what C is told of them, by index, from an index on, and how many there are
+-- they for C, one by its index, from an index on, and how many there are
 abbrev pub symbols_converted : List ℕ → GoblinHeader → GoblinRange → Result (List GoblinSymbol) Refusal
 symbols_converted bytes h range = each_converted symbol_converted (symbols_expected bytes h range)
 
@@ -201,7 +201,7 @@ abbrev pub relocs_expected : List ℕ → GoblinHeader → GoblinRange → Bool 
 relocs_expected bytes h range is_rela =
     refuse_as refusal_of (relocs_of bytes range.offset range.size is_rela (ctx_of h) (is_mips64el h))
 
--- what C is told of them, by index, from an index on, and how many there are
+-- they for C, one by its index, from an index on, and how many there are
 abbrev pub relocs_converted : List ℕ → GoblinHeader → GoblinRange → Bool → Result (List GoblinReloc) Refusal
 relocs_converted bytes h range is_rela = each_converted reloc_converted (relocs_expected bytes h range is_rela)
 
@@ -229,7 +229,7 @@ string_expected bytes range offset = do
         text ← plain strings 0 offset
         Ok (Some (record { offset = range.offset + offset; size = length text }))
 
--- whether the plain reading at an offset of some strings gives a name
+-- whether the plain reading at an offset of some strings is a name
 abbrev pub is_named : List ℕ → List ℕ → ℕ → Bool
 is_named strings name offset = has_name (unparsed strings 0) offset name
 
@@ -267,7 +267,7 @@ table_expected bytes h index = do
   sections ← sections_converted bytes h
   Ok (table_at sections index)
 
--- the section that holds the sections' names, where it is a table
+-- the section that holds the sections' names, if it is a table
 abbrev pub section_names_expected : List ℕ → GoblinHeader → Result (Option GoblinSection) Refusal
 section_names_expected bytes h = do
   sections ← sections_expected bytes h

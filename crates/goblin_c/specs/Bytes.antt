@@ -1,4 +1,4 @@
--- What is right of bytes: those of a section, of a segment and of a string, and the number that some stand for.
+-- The expected ranges of bytes of a section, a segment and a string, and the number of some bytes.
 use Rattle.std.specs.Prelude.{ℕ, ◌+◌, ◌==◌, ◌||◌, not, nat_le, if◌then◌else◌, Bool, List, length, Option, Some, None}
 use Rattle.std.specs.Prelude.{Result, Ok}
 use Rattle.goblin_base.specs.Number.{number_at}
@@ -21,13 +21,13 @@ section_has_bytes s = not (s.sh_type == 0 || s.sh_type == 8 || s.file.size == 0)
 abbrev pub segment_has_bytes : GoblinSegment → Bool
 segment_has_bytes s = not (s.p_type == 0 || s.file.size == 0)
 
--- a range, where there must be room for it in the file
+-- a range, which must lie in the file
 abbrev pub range_expected : List ℕ → GoblinRange → Result (Option GoblinRange) Refusal
 range_expected bytes range = do
   _ ← refuse_as misplaced (room_of (length bytes) range.offset range.size)
   Ok (Some range)
 
--- the bytes of a section, and of a segment: none where it has none
+-- the bytes of a section, and of a segment, if it has some
 abbrev pub section_bytes_expected : List ℕ → GoblinSection → Result (Option GoblinRange) Refusal
 section_bytes_expected bytes s = if section_has_bytes s then range_expected bytes s.file else Ok None
 

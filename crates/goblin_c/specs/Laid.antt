@@ -1,7 +1,7 @@
--- What is written into room that a caller has.
+-- What is written into a buffer.
 use Rattle.std.specs.Prelude.{List, [], ◌∷◌}
 
--- as many items of a list as there is room for, over what was there, which stays behind them
+-- a buffer with as many items of a list as it holds, unchanged after them
 abbrev pub laid : {X : Type 0} → List X → List X → List X
 laid [] old = old
 laid (x ∷ xs) [] = []

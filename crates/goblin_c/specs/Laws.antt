@@ -1,4 +1,4 @@
--- Laws of the calls: what they tell one by one is what the library has at once.
+-- Laws of the calls: the items that they store one by one are those that the library reads at once.
 use Rattle.std.specs.Prelude.{◌≡◌, ◌≢◌, ◌⊎◌, ◌+◌, ◌/◌, ◌<◌, ◌≤◌, ℕ, zero, suc, min, Bool, List, [], ◌∷◌, length, take}
 use Rattle.std.specs.Prelude.{drop, slice_get, Option, Some, None, Result, Ok, Err}
 use Rattle.std.specs.Option.{option_map}
@@ -43,12 +43,12 @@ use Rattle.goblin_c.specs.declared.types.GoblinSymbol.{GoblinSymbol}
 abbrev pub bytes_in : List ℕ → GoblinRange → List ℕ
 bytes_in bytes range = take range.size (drop range.offset bytes)
 
--- the note that a file has at the places told
+-- the note that a file has at the ranges of a stored one
 abbrev pub note_in : List ℕ → GoblinNote → NoteParts
 note_in bytes found =
     record { n_type = found.n_type; name = bytes_in bytes found.name; desc = bytes_in bytes found.desc }
 
--- the items of which a call tells the first: none; the note told and those from the next offset on; or a refusal alone
+-- the items of which a call stores the first: none; this note and those from the next offset on; or a refusal alone
 abbrev pub items_reported :
     List ℕ
     → Result (Option GoblinNote) Refusal → (ℕ → List (Result NoteParts Refusal)) → List (Result NoteParts Refusal)
@@ -60,7 +60,7 @@ items_reported bytes (Err refusal) rest = Err refusal ∷ []
 abbrev pub IsOver : NoteDataIterator → GoblinHeader → GoblinRange → ℕ → Type 0
 IsOver notes h range alignment = (notes.size ≡ range.offset + range.size) × (notes.ctx ≡ (alignment, ctx_of h))
 
--- the items that the iterator has left are those of which the call at its offset tells the first, and the next offset
+-- the items that the iterator has left are those of which the call at its offset stores the first, and the next offset
 -- is where the iterator goes on
 abbrev pub NotesAreItems : Type 0
 NotesAreItems =
@@ -69,13 +69,13 @@ NotesAreItems =
     → let found = note_expected notes.bytes.now h range alignment notes.offset in
     items_left notes ≡ items_reported notes.bytes.now found (λ next. items_left (record notes { offset = next }))
 
--- the items of which so many calls tell: the first at an offset, and each other at the next offset of the one before
+-- the items that so many calls store: the first at an offset, and each other at the next offset of the one before
 abbrev pub notes_reported : ℕ → List ℕ → GoblinHeader → GoblinRange → ℕ → ℕ → List (Result NoteParts Refusal)
 notes_reported zero bytes h range alignment offset = []
 notes_reported (suc calls) bytes h range alignment offset =
     items_reported bytes (note_expected bytes h range alignment offset) (notes_reported calls bytes h range alignment)
 
--- so many calls, one after another from the iterator's offset on, tell the first so many items that it has left
+-- so many calls, one after another from the iterator's offset on, store the first so many items that it has left
 abbrev pub NotesInARow : Type 0
 NotesInARow =
     (calls : ℕ) (notes : NoteDataIterator) (h : GoblinHeader) (range : GoblinRange) (alignment : ℕ)
@@ -86,7 +86,7 @@ NotesInARow =
 abbrev pub LiesIn : List ℕ → GoblinRange → Type 0
 LiesIn bytes range = range.offset + range.size ≤ length bytes
 
--- the name and the descriptor of a note that a call tells lie in the file, and the next offset is behind the header of
+-- the name and the descriptor of a note that a call stores lie in the file, and the next offset is past the header of
 -- this note
 abbrev pub NotesLieInFile : Type 0
 NotesLieInFile =
@@ -94,7 +94,7 @@ NotesLieInFile =
     → note_expected bytes h range alignment offset ≡ Ok (Some found)
     → LiesIn bytes found.name × LiesIn bytes found.desc × (offset + nhdr32_size ≤ found.next)
 
--- the kind of a refusal, which a call answers, is neither 0 nor 1
+-- the number of a refusal's kind, which a call returns, is neither 0 nor 1
 abbrev pub KindsAreAnswers : Type 0
 KindsAreAnswers = (refusal : Refusal) → 2 ≤ (refusal_converted refusal).kind
 
@@ -114,18 +114,17 @@ ContextIsTheHeaders =
     (bytes : List ℕ) (h : Header) → HasHeader bytes h
     → NamesContext h (ctx_of (header_converted h)) × (is_mips64el (header_converted h) ≡ is_of_mips64el h)
 
--- a call answers this refusal at each index
+-- a call has this refusal at each index
 abbrev pub RefusesAll : {Y : Type 0} → (ℕ → Result (Option Y) Refusal) → Refusal → Type 0
 RefusesAll call refusal = (index : ℕ) → call index ≡ Err refusal
 
--- a call tells each item of a list at its index, and none behind them; or at each index the refusal that there is in
--- place of a list
+-- a call stores each item of a list at its index, and none after them; or at each index it has the refusal of the list
 abbrev pub ReturnsEach :
     {X Y : Type 0} → (X → Y) → Result (List X) Refusal → (ℕ → Result (Option Y) Refusal) → Type 0
 ReturnsEach convert (Ok items) call = (index : ℕ) → call index ≡ Ok (option_map convert (slice_get items index))
 ReturnsEach convert (Err refusal) call = RefusesAll call refusal
 
--- a call tells how many items a list has, or the refusal that there is in its place
+-- a call stores how many items a list has, or has the refusal of the list
 abbrev pub ReturnsCount : {X : Type 0} → Result (List X) Refusal → Result (Option ℕ) Refusal → Type 0
 ReturnsCount (Ok items) answer = answer ≡ Ok (Some (length items))
 ReturnsCount (Err refusal) answer = answer ≡ Err refusal
@@ -168,15 +167,15 @@ RelocsByIndex =
     ReturnsEach reloc_converted relocs (reloc_expected bytes (header_converted h) range is_rela)
     × ReturnsCount relocs (reloc_count_expected bytes (header_converted h) range is_rela)
 
--- the items that are given from an index on, one at least, are those that a call tells there one by one, and none
--- behind them; or the call tells none there, or the same refusal at each index
+-- the items from an index on, one at least, are those that a call stores there one by one, and it stores none after
+-- them; or the call stores none there, or has the same refusal at each index
 abbrev pub GivenFrom :
     {Y : Type 0} → ℕ → (ℕ → Result (Option Y) Refusal) → Result (Option (List Y)) Refusal → Type 0
 GivenFrom first call (Ok (Some items)) = (0 < length items) × ((k : ℕ) → call (first + k) ≡ Ok (slice_get items k))
 GivenFrom first call (Ok None) = (k : ℕ) → call (first + k) ≡ Ok None
 GivenFrom first call (Err refusal) = RefusesAll call refusal
 
--- the calls that fill room give from each index on what the calls by index tell
+-- the calls that fill a buffer store from each index on what the calls by index store
 pub record FilledByIndex : Type 0 where
   pub sections :
       (bytes : List ℕ) (h : GoblinHeader) (first : ℕ)
@@ -188,7 +187,7 @@ pub record FilledByIndex : Type 0 where
       (bytes : List ℕ) (h : GoblinHeader) (range : GoblinRange) (is_rela : Bool) (first : ℕ)
       → GivenFrom first (reloc_expected bytes h range is_rela) (relocs_from_expected bytes h range is_rela first)
 
--- room is as long as it was: it holds these items as far as both go, and from there on what it held
+-- a buffer is as long as it was: it holds as many of these items as fit, and is unchanged after them
 abbrev pub IsFilled : {X : Type 0} → List X → List X → List X → Type 0
 IsFilled items old new =
     let filled = min (length items) (length old) in
@@ -196,27 +195,27 @@ IsFilled items old new =
     × ((k : ℕ) → k < filled → slice_get new k ≡ slice_get items k)
     × ((k : ℕ) → filled ≤ k → slice_get new k ≡ slice_get old k)
 
--- so is the room that calls fill with bytes, sections, symbols and relocations
+-- so is the buffer that calls fill with bytes, sections, symbols and relocations
 pub record BufferIsFilled : Type 0 where
   pub bytes : (text old : List ℕ) → IsFilled text old (laid text old)
   pub sections : (sections old : List GoblinSection) → IsFilled sections old (laid sections old)
   pub symbols : (symbols old : List GoblinSymbol) → IsFilled symbols old (laid symbols old)
   pub relocs : (relocs old : List GoblinReloc) → IsFilled relocs old (laid relocs old)
 
--- the bytes at the place that a call tells of a string are the string that the library reads among the strings there
+-- the bytes of the range that a call stores for a string are the string that the library reads in the string table
 abbrev pub StringsAreThere : Type 0
 StringsAreThere =
     (bytes : List ℕ) (range : GoblinRange) (offset : ℕ) (found : GoblinRange)
     → string_expected bytes range offset ≡ Ok (Some found)
     → (strings_expected bytes range >>= λ strings. plain strings 0 offset) ≡ Ok (bytes_in bytes found)
 
--- the place that a call tells of a string lies in the file
+-- the range that a call stores for a string lies in the file
 abbrev pub StringsLieInFile : Type 0
 StringsLieInFile =
     (bytes : List ℕ) (range : GoblinRange) (offset : ℕ) (found : GoblinRange)
     → string_expected bytes range offset ≡ Ok (Some found) → LiesIn bytes found
 
--- what is told of the section at an index, where it is a table by that index
+-- the section at an index, if it is a table by that index
 abbrev pub table_converted : ℕ → Result (Option GoblinSection) Refusal → Result (Option GoblinSection) Refusal
 table_converted index found = do
   section ← found
@@ -237,13 +236,13 @@ NamesByIndex =
     × ((first : GoblinSection) → h.e_shstrndx ≡ 0xffff → section_expected bytes h 0 ≡ Ok (Some first)
     → section_names_expected bytes h ≡ table_expected bytes h first.sh_link)
 
--- a call tells of a string at an offset, and its bytes are this name
+-- a call stores a range for the string at an offset, whose bytes are this name
 abbrev pub IsNameAt : List ℕ → GoblinRange → ℕ → List ℕ → Type 0
 IsNameAt bytes names offset name =
     (found : GoblinRange) × (string_expected bytes names offset ≡ Ok (Some found)) × (bytes_in bytes found ≡ name)
 
--- an answer is the index of the first item from an index on that a call tells and that is so; or none is so from there
--- on; or it is a refusal of this kind
+-- a result is the index of the first item from an index on that a call stores and that is so; or none is so from there
+-- on; or it is one of these refusals
 abbrev pub FindsFrom :
     {Y : Type 0}
     → ℕ → (ℕ → Result (Option Y) Refusal) → (Y → Type 0) → (Refusal → Type 0) → Result (Option ℕ) Refusal → Type 0
@@ -254,7 +253,7 @@ FindsFrom {Y} first call IsSo Refuses (Ok None) =
     (k : ℕ) (item : Y) → first ≤ k → call k ≡ Ok (Some item) → ¬ IsSo item
 FindsFrom first call IsSo Refuses (Err refusal) = Refuses refusal
 
--- a refusal is the one that all items have in their place, or all strings
+-- a refusal is that of all items, or of all strings
 abbrev pub RefusesEither :
     {Y Z : Type 0} → (ℕ → Result (Option Y) Refusal) → (ℕ → Result (Option Z) Refusal) → Refusal → Type 0
 RefusesEither call strings refusal = RefusesAll call refusal ⊎ RefusesAll strings refusal
@@ -265,7 +264,7 @@ abbrev pub FindsFirst :
     → Result (Option ℕ) Refusal → Type 0
 FindsFirst call strings HasTheName answer = FindsFrom 0 call HasTheName (RefusesEither call strings) answer
 
--- what is found by a name is the first section, and the first symbol, whose name the calls tell so
+-- what is found by a name is the first section, and the first symbol, whose name by the calls is this
 abbrev pub SectionsByName : Type 0
 SectionsByName =
     (bytes : List ℕ) (h : GoblinHeader) (names : GoblinRange) (name : List ℕ)
@@ -288,7 +287,7 @@ SectionsByType =
     let found = section_by_type_expected bytes h sh_type first in
     FindsFrom first (section_expected bytes h) IsOfType (RefusesAll (section_expected bytes h)) found
 
--- the places that are told of bytes lie in the file
+-- the ranges that are stored for bytes lie in the file
 pub record BytesLieInFile : Type 0 where
   pub section :
       (bytes : List ℕ) (s : GoblinSection) (found : GoblinRange)
@@ -300,7 +299,7 @@ pub record BytesLieInFile : Type 0 where
       (bytes : List ℕ) (range : GoblinRange) (offset : ℕ) (found : GoblinRange)
       → string_bytes_expected bytes range offset ≡ Ok (Some found) → LiesIn bytes found
 
--- the place that a call tells of a string is the one that is told of it, text or not
+-- the range that a call stores for a string is the one that is stored for it, UTF-8 or not
 abbrev pub StringsAreBytes : Type 0
 StringsAreBytes =
     (bytes : List ℕ) (range : GoblinRange) (offset : ℕ) (found : GoblinRange)

@@ -1,4 +1,4 @@
--- One of each struct that crosses, with numbers from which C can tell each field.
+-- One of each struct that calls share with C, with numbers by which C can check the place of each field.
 use Rattle.std.specs.Prelude.{ℕ, ◌+◌, ◌-◌, ◌*◌, ◌/◌, ◌^◌, pos}
 use Rattle.goblin_c.specs.declared.types.GoblinRange.{GoblinRange}
 use Rattle.goblin_c.specs.declared.layout.GoblinLayout.{GoblinLayout}

@@ -1,4 +1,4 @@
--- What is right of a note.
+-- The note that a call stores.
 use Rattle.std.specs.Prelude.{ℕ, ◌+◌, nat_le, if◌then◌else◌, List, Option, Some, None, Result, Ok}
 use Rattle.goblin_base.specs.Refusal.{Refusal}
 use Rattle.goblin_base.specs.Steps.{◌>>=◌}
@@ -9,7 +9,7 @@ use Rattle.goblin_c.specs.declared.types.GoblinHeader.{GoblinHeader}
 use Rattle.goblin_c.specs.declared.types.GoblinNote.{GoblinNote}
 use Rattle.goblin_c.specs.declared.types.GoblinRange.{GoblinRange}
 
--- what C is told of the note at an offset whose parts lie at these places, counted from the offset
+-- the note at an offset for C, whose parts lie at these places, counted from the offset
 abbrev pub note_converted : ℕ → NotePlaces → GoblinNote
 note_converted offset places = record {
   name = record { offset = offset + places.name; size = places.name_size };

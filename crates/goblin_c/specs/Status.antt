@@ -1,4 +1,4 @@
--- What a call of the C face answers: a number, and what it leaves where its caller points.
+-- What a call for C returns, a number, and what it stores where its caller points.
 use Rattle.std.specs.Prelude.{◌≡◌, ℕ, Bool, List, length, min, codes, if◌then◌else◌, Option, Some, None, Result, Ok}
 use Rattle.std.specs.Prelude.{Err}
 use Rattle.std.specs.Str.{bytes_eq}
@@ -35,22 +35,22 @@ converted e = record {
 abbrev pub refusal_converted : Refusal → GoblinRefusal
 refusal_converted refusal = converted (refusal_facts refusal)
 
--- what C is told of the items of a list that was answered
+-- the items for C of a list that a call returned
 abbrev pub converted_list : {X Y : Type 0} → (X → List Y) → Result X Error → Result (List Y) Refusal
 converted_list listed (Ok all) = Ok (listed all)
 converted_list listed (Err e) = Err (refusal_of e)
 
--- What a call that finds `right` answers, and what it leaves where an item and a refusal stood: 0 and the item; 1 past
--- the last item; or the kind of the refusal, and what is told of it. All else is as it was.
+-- What a call returns and stores whose expected result is this: 0 and the item; 1 if there is none; or the number of
+-- the kind, and the refusal. All else is unchanged.
 abbrev pub Stores : {X : Type 0} → Result (Option X) Refusal → X → GoblinRefusal → ℕ → X → GoblinRefusal → Type 0
 Stores (Ok (Some x)) old was status new why = (status ≡ OK) × (new ≡ x) × (why ≡ was)
 Stores (Ok None) old was status new why = (status ≡ END) × (new ≡ old) × (why ≡ was)
 Stores (Err refusal) old was status new why =
     (status ≡ (refusal_converted refusal).kind) × (new ≡ old) × (why ≡ refusal_converted refusal)
 
--- What a call that fills room with the items from an index on answers, and what it leaves: where there are items, 0, as
--- many as there is room for, and how many those are; past the last item 1; or the kind of the refusal, and what is told
--- of it. All else is as it was.
+-- What a call returns and stores that fills a buffer with the items from an index on: 0, as many items as the buffer
+-- holds, and how many those are; 1 past the last item; or the number of the kind, and the refusal. All else is
+-- unchanged.
 abbrev pub Fills : {X : Type 0}
     → Result (Option (List X)) Refusal → List X → ℕ → GoblinRefusal → ℕ → List X → ℕ → GoblinRefusal → Type 0
 Fills (Ok (Some xs)) old count was status new filled why =

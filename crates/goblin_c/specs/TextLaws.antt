@@ -35,12 +35,12 @@ use Rattle.goblin_c.specs.Texts.{NamesKnown, TextIsSame, converted_text}
 pub text-same : TextIsSame
 text-same refusal known = grind arith
 
--- a refusal that is an answer keeps its text on its way through C
+-- the refusal of a result, converted for C, has the library's text
 abbrev pub HasSameText : {X : Type 0} → Result X Refusal → Type 0
 HasSameText (Ok x) = ⊤
 HasSameText (Err refusal) = converted_text (refusal_converted refusal) ≡ refusal_text refusal
 
--- an answer's refusal names no item, or one that has a number
+-- the refusal of a result names no item, or one that has a number
 abbrev Known : {X : Type 0} → Result X Refusal → Type 0
 Known (Ok x) = ⊤
 Known (Err refusal) = NamesKnown refusal
@@ -118,7 +118,7 @@ module _ {X Y : Type 0} (convert : X → Y) where
   many (Ok items) first same = grind arith
   many (Err refusal) first same = same
 
--- so does every refusal of every call that is asked this
+-- so does the refusal of each call with these arguments
 pub record HaveSameText
     (bytes : List ℕ) (h : GoblinHeader) (range names : GoblinRange) (name : List ℕ) (is_rela : Bool)
     (index offset address alignment width sh_type : ℕ) (s : GoblinSection) (p : GoblinSegment) : Type 0 where
@@ -147,7 +147,7 @@ pub record HaveSameText
   pub string_bytes : HasSameText (string_bytes_expected bytes range offset)
   pub number : HasSameText (number_expected bytes h offset width)
 
--- so does every refusal of every call
+-- so does each refusal of each call
 abbrev pub RefusalsHaveSameText : Type 0
 RefusalsHaveSameText =
     (bytes : List ℕ) (h : GoblinHeader) (range names : GoblinRange) (name : List ℕ) (is_rela : Bool)

@@ -1,4 +1,4 @@
--- The text of a refusal, from what C has of it.
+-- The text of a refusal that C has.
 use Rattle.std.specs.Prelude.{◌≡◌, ◌⊎◌, ⊤, ℕ, ◌==◌, not, if◌then◌else◌, List, [], codes, Option, Some, None}
 use Rattle.goblin_base.specs.declared.texts.Kind.{Kind}
 use Rattle.goblin_base.specs.Refusal.{Refusal, malformed, bad_magic, too_big, bad_offset, bad_input, buffer_too_short}
@@ -16,7 +16,7 @@ item_text item =
     else if item == PROGRAM_HEADERS then codes "program headers"
     else []
 
--- what C has of an error of a kind, as the library's kind, numbers and item
+-- a refusal of a kind that C has, as the library's kind, numbers and item
 abbrev pub facts_from : GoblinRefusal → Kind → Facts
 facts_from why kind = record {
   kind = kind;
@@ -27,7 +27,7 @@ facts_from why kind = record {
   overflow = not (why.fourth == 0);
 }
 
--- the text of what C has: of a number that is no kind's it is empty
+-- the text of a refusal that C has: it is empty if the number is no kind's
 abbrev pub text_from : GoblinRefusal → Option Kind → List ℕ
 text_from why (Some kind) = facts_text (facts_from why kind)
 text_from why None = []

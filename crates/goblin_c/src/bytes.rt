@@ -1,4 +1,4 @@
-//! Bytes of the file: those of a section, of a segment and of a string, and the number that some stand for.
+//! Bytes of the file: those of a section, of a segment and of a string, and numbers at an offset.
 ghost use Rattle.std.specs.Prelude.{◌≡◌, ◌≤◌, ◌==◌, length, position};
 ghost use Rattle.goblin.specs.Refusal.{Answers};
 ghost use Rattle.goblin_base.specs.Pieces.{piece};
@@ -13,7 +13,7 @@ use goblin::error::Result;
 use goblin_base::number::{get_u8, get_u16, get_u32, get_u64};
 use goblin_base::room::room;
 
-// A range, where there is room for it in the file.
+// Returns a range that lies in the file.
 fn range_in(bytes: &[u8], range: &GoblinRange) -> Result<Option<GoblinRange>>
     ensures { Answers (λ found. found) result (range_expected bytes.now range.now) }
 {
@@ -21,7 +21,7 @@ fn range_in(bytes: &[u8], range: &GoblinRange) -> Result<Option<GoblinRange>>
     Ok(Some(*range))
 }
 
-/// Where the bytes of a section lie in the file.
+/// Returns the range of a section's bytes in the file.
 pub fn section_bytes(bytes: &[u8], section: &GoblinSection) -> Result<Option<GoblinRange>>
     ensures { Answers (λ found. found) result (section_bytes_expected bytes.now section.now) }
 {
@@ -32,7 +32,7 @@ pub fn section_bytes(bytes: &[u8], section: &GoblinSection) -> Result<Option<Gob
     range_in(bytes, &section.file)
 }
 
-/// Where the bytes of a segment lie in the file.
+/// Returns the range of a segment's bytes in the file.
 pub fn segment_bytes(bytes: &[u8], segment: &GoblinSegment) -> Result<Option<GoblinRange>>
     ensures { Answers (λ found. found) result (segment_bytes_expected bytes.now segment.now) }
 {
@@ -42,14 +42,14 @@ pub fn segment_bytes(bytes: &[u8], segment: &GoblinSegment) -> Result<Option<Gob
     range_in(bytes, &segment.file)
 }
 
-// Where a zero byte stands first.
+// Returns the index of the first zero byte.
 fn zero_place(bytes: &[u8]) -> Option<usize>
     ensures { result ≡ position (λ b. b == 0) bytes.now }
 {
     bytes.iter().position(|b| *b == 0)
 }
 
-// How many bytes stand before the next zero byte, or the end.
+// Returns the number of bytes before the next zero byte, or before the end.
 fn piece_len(strings: &[u8], offset: usize) -> usize
     requires { offset ≤ length strings.now }
     ensures { result ≡ length (piece strings.now 0 offset) }
@@ -58,7 +58,7 @@ fn piece_len(strings: &[u8], offset: usize) -> usize
     zero_place(rest).unwrap_or(rest.len())
 }
 
-/// Where the string at an offset of a range of strings lies in the file, text or not.
+/// Returns the range in the file of the string at an offset of a string table, which need not be UTF-8.
 pub fn string_bytes(bytes: &[u8], range: &GoblinRange, offset: u64) -> Result<Option<GoblinRange>>
     ensures { Answers (λ found. found) result
         (string_bytes_expected bytes.now range.now offset) }
@@ -74,7 +74,7 @@ pub fn string_bytes(bytes: &[u8], range: &GoblinRange, offset: u64) -> Result<Op
     }))
 }
 
-/// The number that so many bytes at an offset stand for, in the file's order.
+/// Returns the number of some width in bytes at an offset, in the file's byte order.
 pub fn number(bytes: &[u8], header: &GoblinHeader, offset: u64, width: u64) -> Result<Option<u64>>
     ensures { Answers (λ found. found) result (number_expected bytes.now header.now offset width) }
 {

@@ -1,4 +1,4 @@
-//! The header, the section headers and the program headers, as the library gives them.
+//! The header, the section headers and the program headers, as the library reads them.
 ghost use Rattle.std.specs.Prelude.{◌≡◌, ◌+◌, ◌<◌, ◌==◌, ◌^◌, IfSome, drop, map, position};
 ghost use Rattle.goblin.specs.Refusal.{Answers};
 ghost use Rattle.goblin_c.specs.Answers.{ctx_of, header_expected, header_converted, section_by_type_expected, section_names_expected, section_converted, sections_expected, segment_converted, segments_expected, table_at, table_expected};
@@ -15,7 +15,7 @@ use goblin::error::Result;
 use goblin::scroll::{LE, TryFromCtx};
 use goblin_base::table::Table;
 
-/// The class and the byte order of a header.
+/// Returns the class and the byte order of a header.
 pub fn ctx_of(header: &GoblinHeader) -> Ctx
     ensures { result ≡ ctx_of header.now }
 {
@@ -93,7 +93,7 @@ fn convert_segment(s: &ProgramHeader) -> GoblinSegment
     }
 }
 
-/// The header at the file's start.
+/// Returns the header at the file's start.
 pub fn header_at(bytes: &[u8]) -> Result<Option<GoblinHeader>>
     ensures { Answers (λ found. found) result (header_expected bytes.now) }
 {
@@ -101,7 +101,7 @@ pub fn header_at(bytes: &[u8]) -> Result<Option<GoblinHeader>>
     Ok(Some(convert_header(&header)))
 }
 
-/// The section headers.
+/// Returns the section headers.
 pub fn sections_of<'a>(
     bytes: &'a [u8],
     header: &GoblinHeader,
@@ -130,7 +130,7 @@ impl Listed for Table<'_, SectionHeader, Ctx> {
     }
 }
 
-// Where the first section of a type stands among those from an index on.
+// Returns the position of the first section of a type among those from an index on.
 fn find_type(sections: &Table<'_, SectionHeader, Ctx>, sh_type: u32, first: usize) -> Option<usize>
     ensures place { result
         ≡ position (λ section. section.sh_type == sh_type) (drop first sections.now) }
@@ -142,7 +142,7 @@ fn find_type(sections: &Table<'_, SectionHeader, Ctx>, sh_type: u32, first: usiz
         .position(|section| section.sh_type == sh_type)
 }
 
-/// The index of the first section of a type, from an index on.
+/// Returns the index of the first section of a type, from an index on.
 pub fn section_by_type(
     bytes: &[u8],
     header: &GoblinHeader,
@@ -160,7 +160,7 @@ pub fn section_by_type(
     }
 }
 
-// What C is told of the section that is a table by its index.
+// Returns the section at an index for C, if it is a table by that index.
 fn converted_table(sections: &Table<'_, SectionHeader, Ctx>, index: usize) -> Option<GoblinSection>
     ensures { result ≡ table_at (map section_converted sections.now) index }
 {
@@ -173,7 +173,7 @@ fn converted_table(sections: &Table<'_, SectionHeader, Ctx>, index: usize) -> Op
     }
 }
 
-/// The section at an index, where it is a table.
+/// Returns the section at an index for C, if it is a table.
 pub fn table_section(
     bytes: &[u8],
     header: &GoblinHeader,
@@ -184,7 +184,7 @@ pub fn table_section(
     Ok(converted_table(&sections_of(bytes, header)?, index as usize))
 }
 
-/// The section that holds the sections' names.
+/// Returns the section that holds the sections' names for C, if it is a table.
 pub fn section_names(bytes: &[u8], header: &GoblinHeader) -> Result<Option<GoblinSection>>
     ensures { Answers (λ found. found) result (section_names_expected bytes.now header.now) }
 {
@@ -194,7 +194,7 @@ pub fn section_names(bytes: &[u8], header: &GoblinHeader) -> Result<Option<Gobli
     Ok(converted_table(&sections, index))
 }
 
-/// The program headers.
+/// Returns the program headers.
 pub fn segments_of<'a>(
     bytes: &'a [u8],
     header: &GoblinHeader,

@@ -1,9 +1,10 @@
-//! The numbers that C is told, under the names of `goblin.h`: what calls answer, and which text a refusal names.
+//! Numbers with names in `goblin.h`: the status of a call that is not refused, and the items that
+//! refusals name. The numbers of refusals are those of `goblin_base::texts::Kind`.
 ghost use Rattle.std.specs.Prelude.{◌≡◌, [], ◌∷◌};
 
-/// What was asked for is there.
+/// The item was stored.
 pub const OK: u32 = 0;
-/// The index or the offset is past the last item, or nothing has that name.
+/// The index or the offset is past the last item, or nothing has the name.
 pub const END: u32 = 1;
 
 /// The text "invalid utf8".
@@ -13,7 +14,7 @@ pub const SECTION_HEADERS: u32 = 2;
 /// The text "program headers".
 pub const PROGRAM_HEADERS: u32 = 3;
 
-/// Laws: what number each constant is.
+/// Laws: the number of each constant.
 pub fn constants()
     ensures answers { OK ∷ END ∷ []
         ≡ 0 ∷ 1 ∷ [] }

@@ -1,4 +1,4 @@
-//! One of each struct that crosses, with numbers from which C can tell each field.
+//! One of each struct that calls share with C, with numbers by which C can check the place of each field.
 ghost use Rattle.std.specs.Prelude.{◌≡◌, ◌<◌, ◌^◌};
 ghost use Rattle.goblin_c.specs.Layout.{each_byte, layout, range_marked};
 
@@ -48,7 +48,7 @@ fn half(mark: u8) -> u16
     mark as u16 * 0x0101
 }
 
-// A range whose fields have a mark and the next one.
+// Returns a range whose fields have a mark and the next one.
 fn marked_range(mark: u8) -> GoblinRange
     requires { mark < 2 ^ 7 }
     ensures { result ≡ range_marked mark }
@@ -163,7 +163,7 @@ fn marked_note() -> GoblinNote
     }
 }
 
-/// The sizes, and one of each.
+/// Returns the sizes, and one of each struct.
 pub fn marked_layout() -> GoblinLayout
     ensures { result ≡ layout }
 {

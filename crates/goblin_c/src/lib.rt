@@ -1,5 +1,5 @@
-//! goblin for C: the items of an ELF file, over the file's bytes. No memory is taken, and nothing is
-//! kept from call to call. `faces/c/goblin.h` declares what is here, and says what each call answers.
+//! goblin for C: the items of an ELF file, over the file's bytes. No call allocates, and none depends on
+//! an earlier one. `faces/c/goblin.h` declares each call, and says what it returns and stores.
 #![tactic(auto)]
 
 ghost use Rattle.std.specs.Prelude.{◌≡◌, length};
@@ -54,10 +54,10 @@ use types::{
 };
 use writer::write_text;
 
-/// The version of these calls and of what crosses.
+/// The version of these calls and of their structs.
 pub const VERSION: u32 = 3;
 
-/// The version of the library.
+/// Returns the version of the library.
 #[unsafe(no_mangle)]
 pub extern "C" fn goblin_version() -> u32
     ensures { result ≡ 3 }
@@ -65,7 +65,7 @@ pub extern "C" fn goblin_version() -> u32
     VERSION
 }
 
-/// The sizes of what crosses, and one of each struct, whose fields are numbered.
+/// Stores the sizes of the structs, and one of each, whose fields are numbered.
 #[unsafe(no_mangle)]
 pub extern "C" fn goblin_layout(marks: &mut GoblinLayout)
     ensures { marks.new ≡ layout }
@@ -73,7 +73,7 @@ pub extern "C" fn goblin_layout(marks: &mut GoblinLayout)
     *marks = marked_layout();
 }
 
-/// The header at the file's start.
+/// Stores the header at the file's start.
 #[unsafe(no_mangle)]
 pub extern "C" fn goblin_header(
     bytes: &[u8],
@@ -85,7 +85,7 @@ pub extern "C" fn goblin_header(
     store(header_at(bytes), header, why)
 }
 
-/// How many section headers there are.
+/// Stores the number of section headers.
 #[unsafe(no_mangle)]
 pub extern "C" fn goblin_section_count(
     bytes: &[u8],
@@ -99,7 +99,7 @@ pub extern "C" fn goblin_section_count(
     store(count_of(sections_of(bytes, header)), count, why)
 }
 
-/// The section header at an index.
+/// Stores the section header at an index.
 #[unsafe(no_mangle)]
 pub extern "C" fn goblin_section(
     bytes: &[u8],
@@ -114,7 +114,7 @@ pub extern "C" fn goblin_section(
     store(item_of(sections_of(bytes, header), index), section, why)
 }
 
-/// The program header at an index.
+/// Stores the program header at an index.
 #[unsafe(no_mangle)]
 pub extern "C" fn goblin_segment(
     bytes: &[u8],
@@ -129,7 +129,7 @@ pub extern "C" fn goblin_segment(
     store(item_of(segments_of(bytes, header), index), segment, why)
 }
 
-/// The symbol at an index of the table that lies in a range.
+/// Stores the symbol at an index of the table that lies in a range.
 #[unsafe(no_mangle)]
 pub extern "C" fn goblin_symbol(
     bytes: &[u8],
@@ -146,7 +146,7 @@ pub extern "C" fn goblin_symbol(
     store(found, symbol, why)
 }
 
-/// The relocation at an index of those that lie in a range, with addends or without.
+/// Stores the relocation at an index of those that lie in a range, with addends or without.
 #[unsafe(no_mangle)]
 pub extern "C" fn goblin_reloc(
     bytes: &[u8],
@@ -164,7 +164,7 @@ pub extern "C" fn goblin_reloc(
     store(found, reloc, why)
 }
 
-/// Where the string at an offset of a range of strings lies in the file.
+/// Stores the range in the file of the string at an offset of a string table.
 #[unsafe(no_mangle)]
 pub extern "C" fn goblin_string(
     bytes: &[u8],
@@ -179,8 +179,8 @@ pub extern "C" fn goblin_string(
     store(string_at(bytes, strings, offset), string, why)
 }
 
-/// The note at an offset of the file, among those of a range. The first one is at the range's start,
-/// and each tells where the next one is.
+/// Stores the note at an offset of the file, among those of a range. The first one is at the range's
+/// start, and each has the offset of the next one.
 #[unsafe(no_mangle)]
 pub extern "C" fn goblin_note(
     bytes: &[u8],
@@ -198,7 +198,7 @@ pub extern "C" fn goblin_note(
     store(found, note, why)
 }
 
-/// The name of a class.
+/// Writes the name of a class.
 #[unsafe(no_mangle)]
 pub extern "C" fn goblin_class_to_str(ei_class: u8, text: &mut [u8]) -> u64
     ensures written { text.new ≡ laid (class_name ei_class) text.old }
@@ -207,7 +207,7 @@ pub extern "C" fn goblin_class_to_str(ei_class: u8, text: &mut [u8]) -> u64
     write_text(class_to_str(ei_class), text)
 }
 
-/// The name of a file's type.
+/// Writes the name of a file's type.
 #[unsafe(no_mangle)]
 pub extern "C" fn goblin_et_to_str(e_type: u16, text: &mut [u8]) -> u64
     ensures written { text.new ≡ laid (file_type_name e_type) text.old }
@@ -216,7 +216,7 @@ pub extern "C" fn goblin_et_to_str(e_type: u16, text: &mut [u8]) -> u64
     write_text(et_to_str(e_type), text)
 }
 
-/// The name of a machine.
+/// Writes the name of a machine.
 #[unsafe(no_mangle)]
 pub extern "C" fn goblin_machine_to_str(e_machine: u16, text: &mut [u8]) -> u64
     ensures written { text.new ≡ laid (machine_name e_machine) text.old }
@@ -225,7 +225,7 @@ pub extern "C" fn goblin_machine_to_str(e_machine: u16, text: &mut [u8]) -> u64
     write_text(machine_to_str(e_machine), text)
 }
 
-/// The name of a segment's type.
+/// Writes the name of a segment's type.
 #[unsafe(no_mangle)]
 pub extern "C" fn goblin_pt_to_str(p_type: u32, text: &mut [u8]) -> u64
     ensures written { text.new ≡ laid (segment_name p_type) text.old }
@@ -234,7 +234,7 @@ pub extern "C" fn goblin_pt_to_str(p_type: u32, text: &mut [u8]) -> u64
     write_text(pt_to_str(p_type), text)
 }
 
-/// The name of a section's type.
+/// Writes the name of a section's type.
 #[unsafe(no_mangle)]
 pub extern "C" fn goblin_sht_to_str(sh_type: u32, text: &mut [u8]) -> u64
     ensures written { text.new ≡ laid (section_name sh_type) text.old }
@@ -243,7 +243,7 @@ pub extern "C" fn goblin_sht_to_str(sh_type: u32, text: &mut [u8]) -> u64
     write_text(sht_to_str(sh_type), text)
 }
 
-/// The name of one flag of a section.
+/// Writes the name of one flag of a section.
 #[unsafe(no_mangle)]
 pub extern "C" fn goblin_shf_to_str(flag: u32, text: &mut [u8]) -> u64
     ensures written { text.new ≡ laid (section_flag_name flag) text.old }
@@ -252,7 +252,7 @@ pub extern "C" fn goblin_shf_to_str(flag: u32, text: &mut [u8]) -> u64
     write_text(shf_to_str(flag), text)
 }
 
-/// The name of a symbol's binding.
+/// Writes the name of a symbol's binding.
 #[unsafe(no_mangle)]
 pub extern "C" fn goblin_bind_to_str(binding: u8, text: &mut [u8]) -> u64
     ensures written { text.new ≡ laid (bind_name binding) text.old }
@@ -261,7 +261,7 @@ pub extern "C" fn goblin_bind_to_str(binding: u8, text: &mut [u8]) -> u64
     write_text(bind_to_str(binding), text)
 }
 
-/// The name of a symbol's type.
+/// Writes the name of a symbol's type.
 #[unsafe(no_mangle)]
 pub extern "C" fn goblin_type_to_str(typ: u8, text: &mut [u8]) -> u64
     ensures written { text.new ≡ laid (type_name typ) text.old }
@@ -270,7 +270,7 @@ pub extern "C" fn goblin_type_to_str(typ: u8, text: &mut [u8]) -> u64
     write_text(type_to_str(typ), text)
 }
 
-/// The name of a symbol's visibility.
+/// Writes the name of a symbol's visibility.
 #[unsafe(no_mangle)]
 pub extern "C" fn goblin_visibility_to_str(visibility: u8, text: &mut [u8]) -> u64
     ensures written { text.new ≡ laid (visibility_name visibility) text.old }
@@ -279,7 +279,7 @@ pub extern "C" fn goblin_visibility_to_str(visibility: u8, text: &mut [u8]) -> u
     write_text(visibility_to_str(visibility), text)
 }
 
-/// The name of a note's type, which the note's name gives its meaning.
+/// Writes the name of a note's type, whose meaning depends on the note's name.
 #[unsafe(no_mangle)]
 pub extern "C" fn goblin_note_type_to_str(name: &[u8], n_type: u32, text: &mut [u8]) -> u64
     ensures written { text.new ≡ laid (note_type_name name.now n_type) text.old }
@@ -288,7 +288,7 @@ pub extern "C" fn goblin_note_type_to_str(name: &[u8], n_type: u32, text: &mut [
     write_text(note_type(name, n_type), text)
 }
 
-/// The text of a refusal.
+/// Writes the text of a refusal.
 #[unsafe(no_mangle)]
 pub extern "C" fn goblin_refusal_text(why: &GoblinRefusal, text: &mut [u8]) -> u64
     ensures written { text.new ≡ laid (converted_text why.now) text.old }
@@ -297,7 +297,7 @@ pub extern "C" fn goblin_refusal_text(why: &GoblinRefusal, text: &mut [u8]) -> u
     write_refusal(why, text)
 }
 
-/// The section headers from an index on, as many as there is room for.
+/// Stores the section headers from an index on, as many as the buffer holds.
 #[unsafe(no_mangle)]
 pub extern "C" fn goblin_sections(
     bytes: &[u8],
@@ -313,7 +313,7 @@ pub extern "C" fn goblin_sections(
     store_from(sections_of(bytes, header), first, sections, filled, why)
 }
 
-/// The symbols from an index on, as many as there is room for.
+/// Stores the symbols from an index on, as many as the buffer holds.
 #[unsafe(no_mangle)]
 pub extern "C" fn goblin_symbols(
     bytes: &[u8],
@@ -331,7 +331,7 @@ pub extern "C" fn goblin_symbols(
     store_from(list, first, symbols, filled, why)
 }
 
-/// The relocations from an index on, as many as there is room for.
+/// Stores the relocations from an index on, as many as the buffer holds.
 #[unsafe(no_mangle)]
 pub extern "C" fn goblin_relocs(
     bytes: &[u8],
@@ -350,8 +350,8 @@ pub extern "C" fn goblin_relocs(
     store_from(list, first, items, filled, why)
 }
 
-/// The section at an index, where it is a table that something names by this index: not at index 0, and
-/// not where its type is that of a section without bytes in the file.
+/// Stores the section at an index if it can be a table that something names by this index: not index 0,
+/// and not a section of the type without bytes in the file.
 #[unsafe(no_mangle)]
 pub extern "C" fn goblin_table(
     bytes: &[u8],
@@ -366,7 +366,7 @@ pub extern "C" fn goblin_table(
     store(table_section(bytes, header, index), section, why)
 }
 
-/// The section that holds the sections' names, where it is such a table.
+/// Stores the section that holds the sections' names, if it is such a table.
 #[unsafe(no_mangle)]
 pub extern "C" fn goblin_section_names(
     bytes: &[u8],
@@ -380,7 +380,7 @@ pub extern "C" fn goblin_section_names(
     store(section_names(bytes, header), section, why)
 }
 
-/// The index of the first section with a name.
+/// Stores the index of the first section with a name.
 #[unsafe(no_mangle)]
 pub extern "C" fn goblin_section_by_name(
     bytes: &[u8],
@@ -396,7 +396,7 @@ pub extern "C" fn goblin_section_by_name(
     store(section_by_name(bytes, header, names, name), index, why)
 }
 
-/// The index of the first symbol with a name.
+/// Stores the index of the first symbol with a name.
 #[unsafe(no_mangle)]
 pub extern "C" fn goblin_symbol_by_name(
     bytes: &[u8],
@@ -414,7 +414,7 @@ pub extern "C" fn goblin_symbol_by_name(
     store(found, index, why)
 }
 
-/// How many program headers there are.
+/// Stores the number of program headers.
 #[unsafe(no_mangle)]
 pub extern "C" fn goblin_segment_count(
     bytes: &[u8],
@@ -428,7 +428,7 @@ pub extern "C" fn goblin_segment_count(
     store(count_of(segments_of(bytes, header)), count, why)
 }
 
-/// How many symbols there are in a range, as many as lie in it whole.
+/// Stores the number of symbols in a range, without a last one that is cut.
 #[unsafe(no_mangle)]
 pub extern "C" fn goblin_symbol_count(
     bytes: &[u8],
@@ -443,7 +443,7 @@ pub extern "C" fn goblin_symbol_count(
     store(count_of(symbols_of(bytes, header, table)), count, why)
 }
 
-/// How many relocations there are in a range, with addends or without.
+/// Stores the number of relocations in a range, with addends or without.
 #[unsafe(no_mangle)]
 pub extern "C" fn goblin_reloc_count(
     bytes: &[u8],
@@ -460,7 +460,7 @@ pub extern "C" fn goblin_reloc_count(
     store(found, count, why)
 }
 
-/// The index of the first section of a type, from an index on.
+/// Stores the index of the first section of a type, from an index on.
 #[unsafe(no_mangle)]
 pub extern "C" fn goblin_section_by_type(
     bytes: &[u8],
@@ -476,7 +476,7 @@ pub extern "C" fn goblin_section_by_type(
     store(section_by_type(bytes, header, sh_type, first), index, why)
 }
 
-/// Where the bytes of a section lie in the file.
+/// Stores the range of a section's bytes in the file.
 #[unsafe(no_mangle)]
 pub extern "C" fn goblin_section_bytes(
     bytes: &[u8],
@@ -490,7 +490,7 @@ pub extern "C" fn goblin_section_bytes(
     store(section_bytes(bytes, section), range, why)
 }
 
-/// Where the bytes of a segment lie in the file.
+/// Stores the range of a segment's bytes in the file.
 #[unsafe(no_mangle)]
 pub extern "C" fn goblin_segment_bytes(
     bytes: &[u8],
@@ -504,7 +504,7 @@ pub extern "C" fn goblin_segment_bytes(
     store(segment_bytes(bytes, segment), range, why)
 }
 
-/// Where the string at an offset of a range of strings lies in the file, text or not.
+/// Stores the range in the file of the string at an offset of a string table, which need not be UTF-8.
 #[unsafe(no_mangle)]
 pub extern "C" fn goblin_string_bytes(
     bytes: &[u8],
@@ -519,7 +519,7 @@ pub extern "C" fn goblin_string_bytes(
     store(string_bytes(bytes, strings, offset), string, why)
 }
 
-/// The number that 1, 2, 4 or 8 bytes at an offset stand for, in the file's order.
+/// Stores the number of 1, 2, 4 or 8 bytes at an offset, in the file's byte order.
 #[unsafe(no_mangle)]
 pub extern "C" fn goblin_number(
     bytes: &[u8],
@@ -535,7 +535,7 @@ pub extern "C" fn goblin_number(
     store(number(bytes, header, offset, width), value, why)
 }
 
-/// The index of the symbol that an address lies in.
+/// Stores the index of the symbol that an address lies in.
 #[unsafe(no_mangle)]
 pub extern "C" fn goblin_symbol_by_address(
     bytes: &[u8],

@@ -1,5 +1,5 @@
-//! Lists whose items C is told of: how many there are, one at an index, and many at once, into room
-//! that the caller has.
+//! Lists whose items are converted for C: how many there are, one at an index, and many at once, into a
+//! buffer of the caller's.
 ghost use Rattle.std.specs.Prelude.{◌≡◌, ◌-◌, ◌<◌, List, drop, length, min, slice_get};
 ghost use Rattle.goblin.specs.Refusal.{Answers};
 ghost use Rattle.goblin_c.specs.Answers.{count_of, item_of, items_from};
@@ -11,38 +11,38 @@ use crate::status::refuse;
 use crate::types::GoblinRefusal;
 use goblin::error::Result;
 
-/// A list whose items C is told of.
+/// A list whose items can be converted for C.
 pub trait Listed: Drop {
-    /// What C is told of an item.
+    /// An item for C.
     type Converted: Copy;
 
-    // what C is told of each item, in their order
+    // the items for C, in their order
     ghost listed: { Self → List Self.Converted };
 
-    /// How many items there are.
+    /// Returns the number of items.
     fn count(&self) -> usize
         ensures { result ≡ length (listed self.now) };
 
-    /// What C is told of the item at an index, or `None` from `count()` on.
+    /// Returns the item at an index for C, or `None` from `count()` on.
     fn converted(&self, index: usize) -> Option<Self::Converted>
         ensures { result ≡ slice_get (listed self.now) index };
 }
 
-/// How many items a list has.
+/// Returns the number of items of a list.
 pub fn count_of<L: Listed>(list: Result<L>) -> Result<Option<u64>>
     ensures { Answers (λ found. found) result (count_of (converted_list L.listed list)) }
 {
     Ok(Some(list?.count() as u64))
 }
 
-/// The item of a list at an index.
+/// Returns the item of a list at an index.
 pub fn item_of<L: Listed>(list: Result<L>, index: u64) -> Result<Option<L::Converted>>
     ensures { Answers (λ found. found) result (item_of (converted_list L.listed list) index) }
 {
     Ok(list?.converted(index as usize))
 }
 
-// Fills room with the items from an index on, and answers how many there was room for.
+// Fills a buffer with the items from an index on. Returns how many it holds.
 #[tactic(auto, using(crate::proofs::LaidLemmas::laid_steps))]
 fn fill<L: Listed>(all: &L, first: usize, buffer: &mut [L::Converted]) -> usize
     requires { first < length (L.listed all.now) }
@@ -59,8 +59,8 @@ fn fill<L: Listed>(all: &L, first: usize, buffer: &mut [L::Converted]) -> usize
     count
 }
 
-/// Stores the items of a list from an index on: 0, as many as there is room for, and how many those
-/// are; 1; or the kind of a refusal, which is told.
+/// Stores the items of a list from an index on, as many as the buffer holds, and their number, or the
+/// refusal. Returns 0 if there are items, 1 if there are none, or the number of the kind.
 pub fn store_from<L: Listed>(
     list: Result<L>,
     first: u64,

@@ -1,4 +1,4 @@
-//! Notes, as the library gives them, and the names of their types.
+//! Notes, as the library reads them, and the names of their types.
 ghost use Rattle.std.specs.Prelude.{◌≡◌};
 ghost use Rattle.goblin.specs.NoteType.{note_type_name};
 ghost use Rattle.goblin.specs.Refusal.{Answers};
@@ -9,7 +9,7 @@ use crate::types::{GoblinHeader, GoblinNote, GoblinRange};
 use goblin::elf::note::Note;
 use goblin::error::Result;
 
-/// The note at an offset, among those of a range.
+/// Returns the note at an offset, among those of a range.
 pub fn note_from(
     bytes: &[u8],
     header: &GoblinHeader,
@@ -39,7 +39,7 @@ pub fn note_from(
     }))
 }
 
-// The name of the type of a note with a name that is text.
+// Returns the name of the type of a note, whose own name is UTF-8.
 fn type_of(name: &str, n_type: u32) -> &'static str
     ensures { result.now ≡ note_type_name name.now n_type }
 {
@@ -47,7 +47,7 @@ fn type_of(name: &str, n_type: u32) -> &'static str
     Note { n_type, name, desc }.type_to_str()
 }
 
-/// The name of the type of a note with this name, where all that counts is whether that is `CORE`.
+/// Returns the name of the type of a note with a name. All that counts of the name is whether it is `CORE`.
 #[tactic(auto, unfolding(goblin::specs::NoteType::note_type_name))]
 pub fn note_type(name: &[u8], n_type: u32) -> &'static str
     ensures { result.now ≡ note_type_name name.now n_type }

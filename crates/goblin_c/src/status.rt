@@ -1,4 +1,4 @@
-//! What calls answer, and what they tell of a refusal.
+//! The status that a call returns, and what it stores.
 ghost use Rattle.std.specs.Prelude.{◌≡◌};
 ghost use Rattle.goblin.specs.Refusal.{refusal_of};
 ghost use Rattle.goblin.specs.Steps.{refuse_as};
@@ -35,7 +35,7 @@ fn converted(e: &Error) -> GoblinRefusal
     }
 }
 
-/// Stores a refusal, and answers its kind.
+/// Stores an error as a refusal. Returns the number of its kind.
 pub fn refuse(e: &Error, why: &mut GoblinRefusal) -> u32
     ensures written { why.new ≡ refusal_converted (refusal_of e.now) }
     ensures exact { result ≡ (refusal_converted (refusal_of e.now)).kind }
@@ -44,7 +44,7 @@ pub fn refuse(e: &Error, why: &mut GoblinRefusal) -> u32
     why.kind
 }
 
-/// Stores an answer: 0 and the item, 1, or the kind of a refusal, which is told.
+/// Stores the item or the refusal of a result. Returns 0 for an item, 1 for none, or the number of the kind.
 pub fn store<T: Copy>(answer: Result<Option<T>>, place: &mut T, why: &mut GoblinRefusal) -> u32
     ensures { Stores (refuse_as refusal_of answer) place.old why.old result place.new why.new }
 {

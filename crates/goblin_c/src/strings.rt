@@ -9,7 +9,7 @@ use goblin::options::ParseMode;
 use goblin::strtab;
 use goblin::strtab::bytes_in_range;
 
-/// The strings of a range.
+/// Returns the bytes of a string table.
 #[tactic(auto, unfolding(goblin_base::specs::Strtab::range_in))]
 pub fn strings_of<'a>(bytes: &'a [u8], range: &GoblinRange) -> Result<&'a [u8]>
     ensures given { Answers (λ strings. strings.now) result
@@ -24,7 +24,7 @@ pub fn strings_of<'a>(bytes: &'a [u8], range: &GoblinRange) -> Result<&'a [u8]>
     )
 }
 
-/// Where the string at an offset of a range of strings lies in the file.
+/// Returns the range in the file of the string at an offset of a string table.
 pub fn string_at(bytes: &[u8], range: &GoblinRange, offset: u64) -> Result<Option<GoblinRange>>
     ensures { Answers (λ found. found) result (string_expected bytes.now range.now offset) }
 {

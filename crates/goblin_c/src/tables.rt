@@ -1,4 +1,4 @@
-//! Symbols, relocations and what is found by its name, as the library gives them.
+//! Symbols, relocations and what is found by its name, as the library reads them.
 ghost use Rattle.std.specs.Prelude.{◌≡◌, length, map, position};
 ghost use Rattle.goblin.specs.Refusal.{Answers};
 ghost use Rattle.goblin_c.specs.Answers.{reloc_converted, relocs_expected, section_by_name_expected, symbol_by_address_expected, symbol_by_name_expected, is_named, symbol_converted, symbols_expected};
@@ -37,7 +37,7 @@ fn convert_reloc(r: &Reloc) -> GoblinReloc
     }
 }
 
-/// The symbols of a range, as many as lie in it whole.
+/// Returns the symbols of a range, without a last one that is cut.
 pub fn symbols_of<'a>(
     bytes: &'a [u8],
     header: &GoblinHeader,
@@ -65,7 +65,7 @@ impl Listed for Symtab<'_> {
     }
 }
 
-/// The relocations of a range.
+/// Returns the relocations of a range.
 pub fn relocs_of<'a>(
     bytes: &'a [u8],
     header: &GoblinHeader,
@@ -100,7 +100,7 @@ impl Listed for RelocSection<'_> {
     }
 }
 
-/// The index of the first section with a name.
+/// Returns the index of the first section with a name.
 pub fn section_by_name(
     bytes: &[u8],
     header: &GoblinHeader,
@@ -116,7 +116,7 @@ pub fn section_by_name(
     Ok(found.map(|index| index as u64))
 }
 
-/// The index of the first symbol with a name.
+/// Returns the index of the first symbol with a name.
 pub fn symbol_by_name(
     bytes: &[u8],
     header: &GoblinHeader,
@@ -133,7 +133,7 @@ pub fn symbol_by_name(
     Ok(found.map(|index| index as u64))
 }
 
-/// The index of the symbol that an address lies in.
+/// Returns the index of the symbol that an address lies in.
 pub fn symbol_by_address(
     bytes: &[u8],
     header: &GoblinHeader,

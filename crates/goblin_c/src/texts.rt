@@ -1,4 +1,4 @@
-//! The text of a refusal, written into bytes of the caller's.
+//! The text of a refusal, written into a buffer of the caller's.
 ghost use Rattle.std.specs.Prelude.{◌≡◌, ◌+◌, ◌≤◌, ◌<◌, ◌^◌, ◌++◌, IsTrue, false, drop, length, take};
 ghost use Rattle.std.specs.Fmt.{digit_glyph, digits};
 ghost use Rattle.goblin_base.specs.Texts.{facts_of, is_short, facts_text, part_text, word_of};
@@ -10,7 +10,8 @@ use crate::types::GoblinRefusal;
 use crate::writer::write_bytes;
 use goblin_base::texts::{Kind, Part, Report};
 
-// Writes as much as there is room for behind the bytes so far, and answers how many they are then.
+// Writes as much of a text after the bytes so far as the buffer holds. Returns how many bytes there are
+// then, if none is cut.
 #[tactic(auto, using(crate::proofs::LaidLemmas::laid_steps))]
 fn write_after(text: &[u8], len: u64, buffer: &mut [u8]) -> u64
     requires { len + length text.now < 2 ^ 64 }
@@ -23,7 +24,7 @@ fn write_after(text: &[u8], len: u64, buffer: &mut [u8]) -> u64
     len + text.len() as u64
 }
 
-// The digit of a number below 16.
+// Returns the digit of a number below 16.
 fn digit(n: u64) -> u8
     requires { n < 16 }
     ensures { result ≡ digit_glyph false n }
@@ -35,7 +36,7 @@ fn digit(n: u64) -> u8
     }
 }
 
-// Writes the digits of a number at the end of the bytes, and answers where they start.
+// Writes the digits of a number at the end of a buffer. Returns the index of the first digit.
 fn write_digits(n: u64, base: u64, buffer: &mut [u8; 64]) -> usize
     requires base { (2 ≤ base) × (base ≤ 16) }
     ensures bound { result ≤ 64 }
@@ -54,7 +55,7 @@ fn write_digits(n: u64, base: u64, buffer: &mut [u8; 64]) -> usize
     i
 }
 
-// Writes a number behind the bytes so far, and answers how many they are then.
+// Writes a number after the bytes so far. Returns how many bytes there are then, if none is cut.
 fn write_number(n: u64, base: u64, len: u64, buffer: &mut [u8]) -> u64
     requires base { (2 ≤ base) × (base ≤ 16) }
     requires few { len ≤ 1000000 }
@@ -88,7 +89,7 @@ fn item_of(item: u32) -> &'static str
     }
 }
 
-// Writes a part after the bytes so far. Returns how many bytes there are then.
+// Writes a part after the bytes so far. Returns how many bytes there are then, if none is cut.
 fn write_part(report: &Report, part: &Part, len: u64, buffer: &mut [u8]) -> u64
     requires short { IsTrue (is_short part.now) }
     requires item { length report.now.item.now ≤ 15 }
@@ -122,7 +123,7 @@ fn write_report(report: &Report, buffer: &mut [u8]) -> u64
     len
 }
 
-// Returns what C has of an error of a kind, as the library's kind, numbers and item.
+// Returns a refusal of a kind that C has, as the library's kind, numbers and item.
 fn report_from(why: &GoblinRefusal, kind: Kind) -> Report
     ensures exact { facts_of result ≡ facts_from why.now kind }
     ensures short { length result.item.now ≤ 15 }

@@ -1,27 +1,27 @@
-//! What crosses to C: structs of numbers, as `goblin.h` declares them.
+//! The structs that calls share with C, as `goblin.h` declares them. Each field is a number.
 
 /// Why a file is refused.
 #[repr(C)]
 #[derive(Clone, Copy, Debug)]
 pub struct GoblinRefusal {
-    /// What the call answers: a number of the kind of refusal.
+    /// The number of the kind of refusal, which the call returns.
     pub kind: u32,
-    /// Which items or which text the refusal is about, where its text names one, or else 0.
+    /// The number of the items or the text that the refusal names, or 0 if it names none.
     pub item: u32,
-    /// The numbers that belong to the kind, and behind them 0.
+    /// The numbers that belong to the kind, followed by zeros.
     pub first: u64,
     pub second: u64,
     pub third: u64,
     pub fourth: u64,
 }
 
-/// Some bytes of the file.
+/// A range of bytes of the file.
 #[repr(C)]
 #[derive(Clone, Copy, Debug)]
 pub struct GoblinRange {
-    /// Where they start, in bytes from the file's start.
+    /// The offset of the first byte from the start of the file.
     pub offset: u64,
-    /// How many they are.
+    /// The number of bytes.
     pub size: u64,
 }
 
@@ -44,7 +44,7 @@ pub struct GoblinHeader {
     pub e_shstrndx: u16,
     /// 2 for the 64-bit class, and any other number for the 32-bit one.
     pub ei_class: u8,
-    /// 2 where the highest byte of a number comes first, and any other number where the lowest does.
+    /// 2 for big endian, and any other number for little endian.
     pub ei_data: u8,
     pub ei_version: u8,
     pub ei_osabi: u8,
@@ -99,10 +99,10 @@ pub struct GoblinSymbol {
 pub struct GoblinReloc {
     pub r_offset: u64,
     pub r_sym: u64,
-    /// What is added, or 0 where the place itself holds it.
+    /// The addend, or 0 if the relocated bytes hold it.
     pub r_addend: i64,
     pub r_type: u32,
-    /// 1 where the addend was read, or 0.
+    /// 1 if the entry has an addend, or 0.
     pub has_addend: u32,
 }
 
@@ -110,11 +110,11 @@ pub struct GoblinReloc {
 #[repr(C)]
 #[derive(Clone, Copy, Debug)]
 pub struct GoblinNote {
-    /// Its name, without the zero byte that closes it.
+    /// Its name, without the zero byte at the end.
     pub name: GoblinRange,
     /// Its descriptor.
     pub desc: GoblinRange,
-    /// Where the next note is to be asked for.
+    /// The offset of the next note.
     pub next: u64,
     pub n_type: u32,
 }

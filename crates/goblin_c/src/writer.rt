@@ -1,8 +1,8 @@
-//! Bytes and texts, written into bytes of the caller's as far as there is room.
+//! Bytes and texts, written into a buffer of the caller's and cut at its end.
 ghost use Rattle.std.specs.Prelude.{◌≡◌, length};
 ghost use Rattle.goblin_c.specs.Laid.{laid};
 
-/// Writes as much of a text as there is room for, and answers how long the whole text is.
+/// Writes as much of a text as the buffer holds. Returns the length of the whole text.
 pub fn write_text(text: &str, buffer: &mut [u8]) -> u64
     ensures written { buffer.new ≡ laid text.now buffer.old }
     ensures whole { result ≡ length text.now }
@@ -10,7 +10,7 @@ pub fn write_text(text: &str, buffer: &mut [u8]) -> u64
     write_bytes(text.as_bytes(), buffer)
 }
 
-/// The same of bytes.
+/// Writes as many bytes as the buffer holds. Returns the number of all bytes.
 #[tactic(auto, using(crate::proofs::LaidLemmas::laid_steps))]
 pub fn write_bytes(bytes: &[u8], buffer: &mut [u8]) -> u64
     ensures written { buffer.new ≡ laid bytes.now buffer.old }
