@@ -16,13 +16,13 @@ pub data Refusal : Type 0 where
   buffer_too_short : ℕ → List ℕ → Refusal
   out_of_memory : Refusal
 
--- the refusal of a place
+-- the refusal of bytes at an offset
 abbrev pub misplaced : Misplaced → Refusal
 misplaced (TooBig size len) = too_big size len
 misplaced (BadOffset offset) = bad_offset offset
 misplaced (BadInput size msg) = bad_input size msg.now
 
--- the refusal that an error tells
+-- the refusal of an error
 abbrev pub refusal_of : Error → Refusal
 refusal_of (Malformed fault) = malformed fault
 refusal_of (BadMagic magic) = bad_magic magic
@@ -30,17 +30,17 @@ refusal_of (Scroll e) = misplaced e
 refusal_of (BufferTooShort count item) = buffer_too_short count item.now
 refusal_of (Memory e) = out_of_memory
 
--- what was answered, seen by `view`, is what is right, unless memory ran out
+-- a result, seen by `view`, is the expected one, unless memory ran out
 abbrev pub Gives : {X Y : Type 0} → (X → Y) → Result X Error → Result Y Refusal → Type 0
-Gives view (Ok x) right = right ≡ Ok (view x)
-Gives view (Err e) right = refusal_of e ≢ out_of_memory → right ≡ Err (refusal_of e)
+Gives view (Ok x) expected = expected ≡ Ok (view x)
+Gives view (Err e) expected = refusal_of e ≢ out_of_memory → expected ≡ Err (refusal_of e)
 
--- what was answered, seen by `view`, is what is right, an error too
+-- a result, seen by `view`, is the expected one, an error too
 abbrev pub Answers : {X Y : Type 0} → (X → Y) → Result X Error → Result Y Refusal → Type 0
-Answers view (Ok x) right = right ≡ Ok (view x)
-Answers view (Err e) right = right ≡ Err (refusal_of e)
+Answers view (Ok x) expected = expected ≡ Ok (view x)
+Answers view (Err e) expected = expected ≡ Err (refusal_of e)
 
--- the answer is an error that tells this refusal
+-- a result is an error with this refusal
 abbrev pub Refuses : {X : Type 0} → Result X Error → Refusal → Type 0
 Refuses (Ok x) refusal = ⊥
 Refuses (Err e) refusal = refusal_of e ≡ refusal

@@ -191,7 +191,7 @@ joined e [] = []
 joined e (p ∷ []) = part_text e p
 joined e (p ∷ q ∷ rest) = part_text e p & joined e (q ∷ rest)
 
--- a part that isn't a text of over 100 bytes
+-- a part is no text of over 100 bytes
 abbrev pub is_short : Part → Bool
 is_short (part.Text text) = nat_le (length text.now) 100
 is_short part.First = true
@@ -201,7 +201,7 @@ is_short part.Hexadecimal = true
 is_short part.Item = true
 is_short part.Overflow = true
 
--- at most 16 parts, none of which is such a text
+-- there are at most 16 parts, and none is such a text
 abbrev pub each_short : List Part → Bool
 each_short [] = true
 each_short (p ∷ rest) = is_short p && each_short rest

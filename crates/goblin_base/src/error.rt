@@ -1,4 +1,4 @@
-//! Why reading or writing is refused.
+//! The errors of reading and writing.
 ghost use Rattle.std.specs.Prelude.{◌≡◌, IfOk, Some, string_bytes};
 ghost use Rattle.goblin_base.specs.Refusal.{misplaced, refusal_of};
 ghost use Rattle.goblin_base.specs.Texts.{facts_of, fault_facts, fault_text, numbers, refusal_facts, refusal_text, with_item};
@@ -12,21 +12,21 @@ use thiserror::Error;
 
 /// What is wrong with a file, or with a record that is to be written.
 ///
-/// Offsets, lengths and sizes count bytes; `len` is the length of all bytes that were handed in,
-/// and `overflow` says whether a sum passed the type of its numbers.
+/// Offsets, lengths and sizes are in bytes. `len` is the length of the whole slice, and `overflow` is
+/// whether a sum overflowed the type of its numbers.
 #[derive(Debug, Drop, Error)]
 pub enum Fault {
-    /// The class byte of a header is neither 1 nor 2, where a header is asked or written.
+    /// The class byte of a header is neither 1 nor 2. The header is asked for it, or written.
     InvalidClass(u8),
-    /// The data byte of a header is neither 1 nor 2, where a header is asked.
+    /// The data byte of a header is neither 1 nor 2. The header is asked for it.
     InvalidEndianness(u8),
     /// The bytes are fewer than a header's identification takes.
     TooSmall,
-    /// The class byte is neither 1 nor 2, where a header is read.
+    /// The class byte of a file is neither 1 nor 2. Its header is read.
     ElfClass(u8),
-    /// The data byte is neither 1 nor 2, where a header is read.
+    /// The data byte of a file is neither 1 nor 2. Its header is read.
     DataType(u8),
-    /// The data byte is neither 1 nor 2, where a raw header is parsed, or a header is written.
+    /// The data byte is neither 1 nor 2. A raw header is parsed, or a header is written.
     Data(u8),
     /// Notes are aligned to neither 4 nor 8 bytes.
     NoteAlign(usize),
@@ -37,7 +37,7 @@ pub enum Fault {
         /// The file's length.
         len: usize,
     },
-    /// The size of a symbol table passes `usize`.
+    /// The size of a symbol table overflows `usize`.
     TooManySymbols {
         /// Where it starts.
         offset: usize,
@@ -66,7 +66,7 @@ pub enum Fault {
         offset: usize,
         /// The file's length.
         len: usize,
-        /// Whether size and offset together pass `usize`.
+        /// Whether the sum of size and offset overflows `usize`.
         overflow: bool,
     },
     /// The bytes of a section end past the file's end.
@@ -77,10 +77,10 @@ pub enum Fault {
         size: u64,
         /// Where it starts in the file.
         offset: u64,
-        /// Whether size and offset together pass `u64`.
+        /// Whether the sum of size and offset overflows `u64`.
         overflow: bool,
     },
-    /// The addresses of a section end at the greatest one or past it.
+    /// The addresses of a section end at the greatest address or past it.
     SectionAddr {
         /// Where the section's name lies in the string table.
         name: usize,
@@ -88,10 +88,10 @@ pub enum Fault {
         size: u64,
         /// Its first address.
         addr: u64,
-        /// Whether size and address together pass `u64`.
+        /// Whether the sum of size and address overflows `u64`.
         overflow: bool,
     },
-    /// A number does not fit the type that it is wanted in.
+    /// A number does not fit the type that it is converted to.
     IntegerFit(TryFromIntError),
 }
 
@@ -102,15 +102,16 @@ pub enum Error {
     Malformed(Fault),
     /// The first eight bytes, read in little order, do not begin with the magic number of ELF.
     BadMagic(u64),
-    /// A place has no room for what is asked of it, or no value of the type.
+    /// The bytes at an offset are too few for what is read or written there, or they are no value of the
+    /// type.
     Scroll(scroll::Error),
-    /// The bytes are too few for so many of these items, wherever they start.
+    /// The bytes are too few for so many of these items, at any offset.
     BufferTooShort(usize, &'static str),
-    /// There was no memory.
+    /// Out of memory.
     Memory(AllocError),
 }
 
-/// What reading and writing answer.
+/// The result of reading or writing.
 pub type Result<T> = result::Result<T, Error>;
 
 impl From<TryFromIntError> for Error {
@@ -144,7 +145,7 @@ impl From<AllocError> for Error {
     }
 }
 
-/// The value that found no memory is let go.
+/// Drops the value that there was no memory for.
 impl<T: Drop> From<AllocFailed<T>> for Error {
     ghost use Rattle.std.specs.Prelude.{alloc_error};
     ghost use Rattle.goblin_base.specs.declared.error.Error.TheVariants.{Memory};
@@ -156,7 +157,7 @@ impl<T: Drop> From<AllocFailed<T>> for Error {
     }
 }
 
-// The report of an error of a kind, with its numbers.
+// Returns the report of an error of a kind with numbers.
 fn numbers(kind: Kind, first: u64, second: u64, third: u64, overflow: bool) -> Report
     ensures { facts_of result ≡ numbers kind first second third overflow }
 {
@@ -170,7 +171,7 @@ fn numbers(kind: Kind, first: u64, second: u64, third: u64, overflow: bool) -> R
     }
 }
 
-// The report of an error of a kind, with its number and its item.
+// Returns the report of an error of a kind with a number and an item.
 fn with_item(kind: Kind, first: usize, item: &'static str) -> Report
     ensures { facts_of result ≡ with_item kind first item.now }
 {
