@@ -220,8 +220,8 @@ impl Kind {
 
     /// Returns the parts of the text of an error, without its prefix.
     pub fn parts(self) -> &'static [Part]
-        ensures text { (facts : Facts) → joined facts result.now ≡ kind_text self facts }
-        ensures short { IsTrue (are_short result.now) }
+        ensures exact { (facts : Facts) → joined facts result.now ≡ kind_text self facts }
+        ensures bound { IsTrue (are_short result.now) }
     {
         match self {
             Kind::BadMagic => &[Text("Invalid magic number: 0x"), Hexadecimal],

@@ -202,7 +202,7 @@ pub extern "C" fn goblin_note(
 #[unsafe(no_mangle)]
 pub extern "C" fn goblin_class_to_str(ei_class: u8, text: &mut [u8]) -> u64
     ensures written { text.new ≡ laid (class_name ei_class) text.old }
-    ensures whole { result ≡ length (class_name ei_class) }
+    ensures exact { result ≡ length (class_name ei_class) }
 {
     write_text(class_to_str(ei_class), text)
 }
@@ -211,7 +211,7 @@ pub extern "C" fn goblin_class_to_str(ei_class: u8, text: &mut [u8]) -> u64
 #[unsafe(no_mangle)]
 pub extern "C" fn goblin_et_to_str(e_type: u16, text: &mut [u8]) -> u64
     ensures written { text.new ≡ laid (file_type_name e_type) text.old }
-    ensures whole { result ≡ length (file_type_name e_type) }
+    ensures exact { result ≡ length (file_type_name e_type) }
 {
     write_text(et_to_str(e_type), text)
 }
@@ -220,7 +220,7 @@ pub extern "C" fn goblin_et_to_str(e_type: u16, text: &mut [u8]) -> u64
 #[unsafe(no_mangle)]
 pub extern "C" fn goblin_machine_to_str(e_machine: u16, text: &mut [u8]) -> u64
     ensures written { text.new ≡ laid (machine_name e_machine) text.old }
-    ensures whole { result ≡ length (machine_name e_machine) }
+    ensures exact { result ≡ length (machine_name e_machine) }
 {
     write_text(machine_to_str(e_machine), text)
 }
@@ -229,7 +229,7 @@ pub extern "C" fn goblin_machine_to_str(e_machine: u16, text: &mut [u8]) -> u64
 #[unsafe(no_mangle)]
 pub extern "C" fn goblin_pt_to_str(p_type: u32, text: &mut [u8]) -> u64
     ensures written { text.new ≡ laid (segment_name p_type) text.old }
-    ensures whole { result ≡ length (segment_name p_type) }
+    ensures exact { result ≡ length (segment_name p_type) }
 {
     write_text(pt_to_str(p_type), text)
 }
@@ -238,7 +238,7 @@ pub extern "C" fn goblin_pt_to_str(p_type: u32, text: &mut [u8]) -> u64
 #[unsafe(no_mangle)]
 pub extern "C" fn goblin_sht_to_str(sh_type: u32, text: &mut [u8]) -> u64
     ensures written { text.new ≡ laid (section_name sh_type) text.old }
-    ensures whole { result ≡ length (section_name sh_type) }
+    ensures exact { result ≡ length (section_name sh_type) }
 {
     write_text(sht_to_str(sh_type), text)
 }
@@ -247,7 +247,7 @@ pub extern "C" fn goblin_sht_to_str(sh_type: u32, text: &mut [u8]) -> u64
 #[unsafe(no_mangle)]
 pub extern "C" fn goblin_shf_to_str(flag: u32, text: &mut [u8]) -> u64
     ensures written { text.new ≡ laid (section_flag_name flag) text.old }
-    ensures whole { result ≡ length (section_flag_name flag) }
+    ensures exact { result ≡ length (section_flag_name flag) }
 {
     write_text(shf_to_str(flag), text)
 }
@@ -256,7 +256,7 @@ pub extern "C" fn goblin_shf_to_str(flag: u32, text: &mut [u8]) -> u64
 #[unsafe(no_mangle)]
 pub extern "C" fn goblin_bind_to_str(binding: u8, text: &mut [u8]) -> u64
     ensures written { text.new ≡ laid (bind_name binding) text.old }
-    ensures whole { result ≡ length (bind_name binding) }
+    ensures exact { result ≡ length (bind_name binding) }
 {
     write_text(bind_to_str(binding), text)
 }
@@ -265,7 +265,7 @@ pub extern "C" fn goblin_bind_to_str(binding: u8, text: &mut [u8]) -> u64
 #[unsafe(no_mangle)]
 pub extern "C" fn goblin_type_to_str(typ: u8, text: &mut [u8]) -> u64
     ensures written { text.new ≡ laid (type_name typ) text.old }
-    ensures whole { result ≡ length (type_name typ) }
+    ensures exact { result ≡ length (type_name typ) }
 {
     write_text(type_to_str(typ), text)
 }
@@ -274,7 +274,7 @@ pub extern "C" fn goblin_type_to_str(typ: u8, text: &mut [u8]) -> u64
 #[unsafe(no_mangle)]
 pub extern "C" fn goblin_visibility_to_str(visibility: u8, text: &mut [u8]) -> u64
     ensures written { text.new ≡ laid (visibility_name visibility) text.old }
-    ensures whole { result ≡ length (visibility_name visibility) }
+    ensures exact { result ≡ length (visibility_name visibility) }
 {
     write_text(visibility_to_str(visibility), text)
 }
@@ -283,7 +283,7 @@ pub extern "C" fn goblin_visibility_to_str(visibility: u8, text: &mut [u8]) -> u
 #[unsafe(no_mangle)]
 pub extern "C" fn goblin_note_type_to_str(name: &[u8], n_type: u32, text: &mut [u8]) -> u64
     ensures written { text.new ≡ laid (note_type_name name.now n_type) text.old }
-    ensures whole { result ≡ length (note_type_name name.now n_type) }
+    ensures exact { result ≡ length (note_type_name name.now n_type) }
 {
     write_text(note_type(name, n_type), text)
 }
@@ -292,7 +292,7 @@ pub extern "C" fn goblin_note_type_to_str(name: &[u8], n_type: u32, text: &mut [
 #[unsafe(no_mangle)]
 pub extern "C" fn goblin_refusal_text(why: &GoblinRefusal, text: &mut [u8]) -> u64
     ensures written { text.new ≡ laid (converted_text why.now) text.old }
-    ensures whole { result ≡ length (converted_text why.now) }
+    ensures exact { result ≡ length (converted_text why.now) }
 {
     write_refusal(why, text)
 }

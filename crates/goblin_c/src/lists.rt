@@ -46,8 +46,8 @@ pub fn item_of<L: Listed>(list: Result<L>, index: u64) -> Result<Option<L::Conve
 #[tactic(auto, using(crate::proofs::LaidLemmas::laid_steps))]
 fn fill<L: Listed>(all: &L, first: usize, buffer: &mut [L::Converted]) -> usize
     requires { first < length (L.listed all.now) }
-    ensures filled { buffer.new ≡ laid (drop first (L.listed all.now)) buffer.old }
-    ensures count { result ≡ min (length (L.listed all.now) - first) (length buffer.old) }
+    ensures written { buffer.new ≡ laid (drop first (L.listed all.now)) buffer.old }
+    ensures exact { result ≡ min (length (L.listed all.now) - first) (length buffer.old) }
 {
     let count = buffer.len().min(all.count() - first);
     for (i, place) in buffer.iter_mut().enumerate() {

@@ -14,7 +14,7 @@ use goblin::strtab::bytes_in_range;
 pub fn strings_of<'a>(bytes: &'a [u8], range: &GoblinRange) -> Result<&'a [u8]>
     ensures given { Answers (λ strings. strings.now) result
         (strings_expected bytes.now range.now) }
-    ensures within { IfOk result (λ strings. range.now.offset + length strings.now ≤ length bytes.now) }
+    ensures fits { IfOk result (λ strings. range.now.offset + length strings.now ≤ length bytes.now) }
 {
     bytes_in_range(
         bytes,

@@ -16,7 +16,7 @@ use goblin_base::texts::{Kind, Part, Report};
 fn write_after(text: &[u8], len: u64, buffer: &mut [u8]) -> u64
     requires { len + length text.now < 2 ^ 64 }
     ensures written { buffer.new ≡ take len buffer.old ++ laid text.now (drop len buffer.old) }
-    ensures whole { result ≡ len + length text.now }
+    ensures exact { result ≡ len + length text.now }
 {
     if len < buffer.len() as u64 {
         write_bytes(text, &mut buffer[len as usize..]);
@@ -40,7 +40,7 @@ fn digit(n: u64) -> u8
 fn write_digits(n: u64, base: u64, buffer: &mut [u8; 64]) -> usize
     requires base { (2 ≤ base) × (base ≤ 16) }
     ensures bound { result ≤ 64 }
-    ensures value { drop result buffer.new ≡ digits base false n }
+    ensures written { drop result buffer.new ≡ digits base false n }
 {
     let mut i = 64;
     let mut rest = n;
@@ -58,10 +58,10 @@ fn write_digits(n: u64, base: u64, buffer: &mut [u8; 64]) -> usize
 // Writes a number after the bytes so far. Returns how many bytes there are then, if none is cut.
 fn write_number(n: u64, base: u64, len: u64, buffer: &mut [u8]) -> u64
     requires base { (2 ≤ base) × (base ≤ 16) }
-    requires few { len ≤ 1000000 }
+    requires len { len ≤ 1000000 }
     ensures written { buffer.new ≡ take len buffer.old ++ laid (digits base false n) (drop len buffer.old) }
-    ensures whole { result ≡ len + length (digits base false n) }
-    ensures near { result ≤ len + 64 }
+    ensures exact { result ≡ len + length (digits base false n) }
+    ensures bound { result ≤ len + 64 }
 {
     let mut spelled = [0; 64];
     let start = write_digits(n, base, &mut spelled);
@@ -70,16 +70,16 @@ fn write_number(n: u64, base: u64, len: u64, buffer: &mut [u8]) -> u64
 
 // Returns a truth value as a word.
 fn word_of(b: bool) -> &'static str
-    ensures word { result.now ≡ word_of b }
-    ensures short { length result.now ≤ 5 }
+    ensures exact { result.now ≡ word_of b }
+    ensures bound { length result.now ≤ 5 }
 {
     if b { "true" } else { "false" }
 }
 
 // Returns the item with a number, or the empty text if no item has it.
 fn item_of(item: u32) -> &'static str
-    ensures text { result.now ≡ item_text item }
-    ensures short { length result.now ≤ 15 }
+    ensures exact { result.now ≡ item_text item }
+    ensures bound { length result.now ≤ 15 }
 {
     match item {
         kinds::INVALID_UTF8 => "invalid utf8",
@@ -91,12 +91,12 @@ fn item_of(item: u32) -> &'static str
 
 // Writes a part after the bytes so far. Returns how many bytes there are then, if none is cut.
 fn write_part(report: &Report, part: &Part, len: u64, buffer: &mut [u8]) -> u64
-    requires short { IsTrue (is_short part.now) }
+    requires part { IsTrue (is_short part.now) }
     requires item { length report.now.item.now ≤ 15 }
-    requires few { len ≤ 1000000 }
+    requires len { len ≤ 1000000 }
     ensures written { buffer.new ≡ take len buffer.old ++ laid (part_text (facts_of report.now) part.now) (drop len buffer.old) }
-    ensures whole { result ≡ len + length (part_text (facts_of report.now) part.now) }
-    ensures near { result ≤ len + 100 }
+    ensures exact { result ≡ len + length (part_text (facts_of report.now) part.now) }
+    ensures bound { result ≤ len + 100 }
 {
     match part {
         Part::Text(text) => write_after(text.as_bytes(), len, buffer),
@@ -113,7 +113,7 @@ fn write_part(report: &Report, part: &Part, len: u64, buffer: &mut [u8]) -> u64
 fn write_report(report: &Report, buffer: &mut [u8]) -> u64
     requires item { length report.now.item.now ≤ 15 }
     ensures written { buffer.new ≡ laid (facts_text (facts_of report.now)) buffer.old }
-    ensures whole { result ≡ length (facts_text (facts_of report.now)) }
+    ensures exact { result ≡ length (facts_text (facts_of report.now)) }
 {
     let mut len = write_after(report.kind.prefix().as_bytes(), 0, buffer);
     let parts = report.kind.parts();
@@ -126,7 +126,7 @@ fn write_report(report: &Report, buffer: &mut [u8]) -> u64
 // Returns a refusal of a kind that C has, as the library's kind, numbers and item.
 fn report_from(why: &GoblinRefusal, kind: Kind) -> Report
     ensures exact { facts_of result ≡ facts_from why.now kind }
-    ensures short { length result.item.now ≤ 15 }
+    ensures bound { length result.item.now ≤ 15 }
 {
     Report {
         kind,
@@ -141,7 +141,7 @@ fn report_from(why: &GoblinRefusal, kind: Kind) -> Report
 /// Writes as much of the text of a refusal as the buffer holds. Returns the length of the whole text.
 pub fn write_refusal(why: &GoblinRefusal, text: &mut [u8]) -> u64
     ensures written { text.new ≡ laid (converted_text why.now) text.old }
-    ensures whole { result ≡ length (converted_text why.now) }
+    ensures exact { result ≡ length (converted_text why.now) }
 {
     match Kind::with_number(why.kind) {
         Some(kind) => write_report(&report_from(why, kind), text),

@@ -5,7 +5,7 @@ ghost use Rattle.goblin_c.specs.Laid.{laid};
 /// Writes as much of a text as the buffer holds. Returns the length of the whole text.
 pub fn write_text(text: &str, buffer: &mut [u8]) -> u64
     ensures written { buffer.new ≡ laid text.now buffer.old }
-    ensures whole { result ≡ length text.now }
+    ensures exact { result ≡ length text.now }
 {
     write_bytes(text.as_bytes(), buffer)
 }
@@ -14,7 +14,7 @@ pub fn write_text(text: &str, buffer: &mut [u8]) -> u64
 #[tactic(auto, using(crate::proofs::LaidLemmas::laid_steps))]
 pub fn write_bytes(bytes: &[u8], buffer: &mut [u8]) -> u64
     ensures written { buffer.new ≡ laid bytes.now buffer.old }
-    ensures whole { result ≡ length bytes.now }
+    ensures exact { result ≡ length bytes.now }
 {
     let count = bytes.len().min(buffer.len());
     for i in 0..count {

@@ -14,8 +14,8 @@ loop-i-preserved g c =
           c.loop-i-test.true,
     )
 
-pub returns-in-None-clause-filled : goal.returns-in-None-clause-filled
-returns-in-None-clause-filled g c =
+pub returns-in-None-clause-written : goal.returns-in-None-clause-written
+returns-in-None-clause-written g c =
     set-get_or c.loop-i.buffer c.loop-i.i _
     ∙ laid-ended (g.L.Listed.listed c.args.all.now) c.args.first c.loop-i.i c.args.buffer.now c.loop-i.buffer
     (sym c.converted.ensures ∙ c.in-None.is) c.loop-i.invariant.1

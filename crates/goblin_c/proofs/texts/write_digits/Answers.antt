@@ -34,7 +34,7 @@ returns-then-rest-eq0 c =
     let written = drop-set-before l.buffer l.i _ _ c.loop-i-test.true (omega arith) c.digit.ensures in
     record {
       bound = omega arith;
-      value = written
+      written = written
           ∙ sym (digits_onto_last a.base false l.rest (drop l.i l.buffer) l.i c.loop-i-test.true c.if-rest-eq0.true)
           ∙ l.invariant.2;
     }

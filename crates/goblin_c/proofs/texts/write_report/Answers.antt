@@ -4,9 +4,9 @@ use Rattle.goblin_base.proofs.PartsLemmas.{joined_more}
 use Rattle.goblin_c.proofs.TextLemmas.{laid-part, long-part, short_parts}
 use Rattle.goblin_c.proofs.texts.write_report.Goals as goal
 
-pub write_part-len-requires-clause-short : goal.write_part-len-requires-clause-short
-write_part-len-requires-clause-short c =
-    (short_parts c.parts-parts.result.now c.parts-parts.ensures.short).1 c.loop-part.part-index _ c.loop-part-test.true
+pub write_part-len-requires-clause-part : goal.write_part-len-requires-clause-part
+write_part-len-requires-clause-part c =
+    (short_parts c.parts-parts.result.now c.parts-parts.ensures.bound).1 c.loop-part.part-index _ c.loop-part-test.true
 
 pub loop-part-preserved : goal.loop-part-preserved
 loop-part-preserved c =
@@ -22,6 +22,6 @@ loop-part-preserved c =
           (text (l.part-index + 1)) _ c.args.buffer.now l.buffer c.write_part-len.new.buffer l.len more l.invariant.0
           l.invariant.1 done.written,
       long-part (text l.part-index)
-          (text (l.part-index + 1)) _ c.write_part-len.result l.len more l.invariant.1 done.whole,
+          (text (l.part-index + 1)) _ c.write_part-len.result l.len more l.invariant.1 done.exact,
       omega arith,
     )
