@@ -234,6 +234,26 @@ function check_moved_sections() {
     return `${moved} sections that pass the end`;
 }
 
+// A section links to the one at its sh_link, unless that is 0, past the end or without bytes in the file.
+function check_linked_sections() {
+    let linked = 0;
+    for (const content of files) {
+        const elf = Elf.parse(content), sections = [...elf.section_headers()];
+        for (const section of sections) {
+            const found = elf.linked_section(section), wanted = section.sh_link ? sections[section.sh_link] : undefined;
+            assert.deepEqual(found, wanted?.sh_type === goblin.SHT_NOBITS ? undefined : wanted);
+            if (found) linked++;
+        }
+        const without_bytes = sections.findIndex(({ sh_type }) => sh_type === goblin.SHT_NOBITS);
+        for (const sh_link of [0, sections.length, without_bytes < 0 ? 0 : without_bytes]) {
+            assert.equal(elf.linked_section({ ...sections[0], sh_link }), undefined);
+        }
+        assert.equal(elf.strtab(elf.linked_section(sections[0])).get(0), undefined);
+    }
+    assert.ok(linked > files.length, `${linked} sections`);
+    return `${linked} linked sections`;
+}
+
 function check_types_of_sections() {
     let found = 0;
     for (const content of files) {
@@ -486,7 +506,7 @@ function check_package() {
 await check_missing_memories();
 await goblin.default();
 const tested = [
-    check_bytes(), check_lists(), check_moved_sections(), check_types_of_sections(), check_notes(), check_json(), await check_constants(),
+    check_bytes(), check_lists(), check_moved_sections(), check_linked_sections(), check_types_of_sections(), check_notes(), check_json(), await check_constants(),
     check_declarations(),
 ];
 check_arguments();

@@ -563,22 +563,29 @@ export class Elf {
     shdr_strtab() { return new Strtab(this.#memory, range_of(this.#call('goblin_section_names', 'section'))); }
 
     /**
-     * Returns a section as a string table. It is empty if the section has no bytes in the file.
-     * @param {SectionHeader} section
+     * Returns a section as a string table. It is empty if there is no section, or if it has no bytes in the file.
+     * @param {SectionHeader | undefined} section
      * @returns {Strtab}
      */
     strtab(section) { return new Strtab(this.#memory, range_of(section)); }
 
     /**
-     * Returns the symbols of a section of type SHT_SYMTAB or SHT_DYNSYM. Their names are in the section at its `sh_link`; if there is no
-     * such section, the string table is empty. Throws if the section has another type.
+     * Returns the section that a section links to by its `sh_link`, such as the string table of a symbol table. Returns `undefined` if
+     * `sh_link` is 0 or past the end, or that section has no bytes in the file (SHT_NOBITS).
+     * @param {SectionHeader} section
+     * @returns {SectionHeader | undefined}
+     */
+    linked_section(section) { return this.#call('goblin_table', 'section', unsigned(section.sh_link, 64)); }
+
+    /**
+     * Returns the symbols of a section of type SHT_SYMTAB or SHT_DYNSYM. Their names are in the linked section (`linked_section`). If there
+     * is none, the string table is empty. Throws if the section has another type.
      * @param {SectionHeader} section
      * @returns {Symtab}
      */
     symtab(section) {
         if (![SHT_SYMTAB, SHT_DYNSYM].includes(section.sh_type)) throw GoblinError.of_type(section, 'symbols');
-        const names = this.#call('goblin_table', 'section', unsigned(section.sh_link, 64));
-        return new Symtab(this.#memory, range_of(section), new Strtab(this.#memory, range_of(names)));
+        return new Symtab(this.#memory, range_of(section), this.strtab(this.linked_section(section)));
     }
 
     /**

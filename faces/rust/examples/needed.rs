@@ -30,7 +30,7 @@ fn strings<'a>(elf: &Elf<'a>) -> Result<Vec<(&'static str, &'a [u8])>> {
     let mut all = Vec::new();
     let width = if elf.is_64() { 8 } else { 4 };
     for section in elf.section_headers()?.iter().filter(|section| section.sh_type == SHT_DYNAMIC).take(1) {
-        let strings = elf.strtab(&elf.section_header(section.sh_link as usize)?.unwrap_or_default());
+        let strings = elf.strtab(&elf.linked_section(&section)?.unwrap_or_default());
         for entry in 0..section.sh_size / (2 * width) {
             let offset = section.sh_offset + entry * 2 * width;
             let tag = elf.number(offset, width as usize)?.unwrap_or(DT_NULL);

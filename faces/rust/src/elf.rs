@@ -193,8 +193,17 @@ impl<'a> Elf<'a> {
         Strtab { file: self.file, range: section.range() }
     }
 
-    /// Returns the symbols of a section of type `SHT_SYMTAB` or `SHT_DYNSYM`. Their names are in the section at its `sh_link`. The
-    /// string table is empty if `sh_link` is 0 or past the end, or that section has no bytes in the file.
+    /// Returns the section that a section links to by its `sh_link`, such as the string table of a symbol table. Returns `None` if
+    /// `sh_link` is 0 or past the end, or that section has no bytes in the file (`SHT_NOBITS`).
+    ///
+    /// # Errors
+    /// If the section headers are not inside the file.
+    pub fn linked_section(&self, section: &SectionHeader) -> Result<Option<SectionHeader>> {
+        sys::goblin_table(&self.file, &self.header, section.sh_link.into())
+    }
+
+    /// Returns the symbols of a section of type `SHT_SYMTAB` or `SHT_DYNSYM`. Their names are in the linked section
+    /// ([`Elf::linked_section`]). If there is none, the string table is empty.
     ///
     /// # Errors
     /// If the section has another type, or the section headers or the symbols are not inside the file.
@@ -202,7 +211,7 @@ impl<'a> Elf<'a> {
         if ![SHT_SYMTAB, SHT_DYNSYM].contains(&section.sh_type) {
             return Err(Error::section_type(section.sh_type, SYMBOLS));
         }
-        let names = sys::goblin_table(&self.file, &self.header, section.sh_link.into())?.unwrap_or_default();
+        let names = self.linked_section(section)?.unwrap_or_default();
         Symtab::of(self, section.range(), self.strtab(&names))
     }
 

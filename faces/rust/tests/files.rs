@@ -5,7 +5,7 @@ use goblin_rs::program_header::{
 };
 use goblin_rs::reloc::Reloc;
 use goblin_rs::section_header::{
-    SectionHeader, SHF_ALLOC, SHF_TLS, SHT_NOBITS, SHT_NOTE, SHT_PROGBITS, SHT_REL, SHT_RELA, SHT_SYMTAB,
+    SectionHeader, SHF_ALLOC, SHF_TLS, SHT_NOBITS, SHT_NOTE, SHT_PROGBITS, SHT_REL, SHT_RELA, SHT_STRTAB, SHT_SYMTAB,
 };
 use goblin_rs::sym::Sym;
 use goblin_rs::{header, program_header, section_header, sym, Elf, Result};
@@ -211,6 +211,13 @@ fn first_section(file: &[u8]) -> Named {
     (elf.shdr_strtab().unwrap().get(1).map(|name| name.map(String::from)), elf.section_by_name(".note"))
 }
 
+/// Returns the type of the section that the symbol table links to, and its name.
+fn linked(file: &[u8]) -> Result<Option<(u32, String)>> {
+    let elf = Elf::parse(file).unwrap();
+    let linked = elf.linked_section(&elf.section_header(2).unwrap().unwrap())?;
+    Ok(linked.map(|section| (section.sh_type, elf.section_name(&section).unwrap().unwrap().to_string())))
+}
+
 fn first_symbol(file: &[u8]) -> Named {
     let symbols = Elf::parse(file).unwrap().syms().unwrap().unwrap();
     let symbol = symbols.get(1).unwrap();
@@ -227,9 +234,11 @@ fn no_section_is_no_table() {
         assert_eq!(first_section(&with_names_at(form, 0xffff)), none);
         assert_eq!(first_section(&with_section(form, 6, SH_TYPE, SHT_NOBITS.into())), none);
         assert_eq!(first_symbol(&made(form, 0)), (Ok(Some("first".to_string())), Ok(Some(1))));
-        assert_eq!(first_symbol(&with_section(form, 2, SH_LINK, 0)), none);
-        assert_eq!(first_symbol(&with_section(form, 2, SH_LINK, 7)), none);
-        assert_eq!(first_symbol(&with_section(form, 3, SH_TYPE, SHT_NOBITS.into())), none);
+        assert_eq!(linked(&made(form, 0)), Ok(Some((SHT_STRTAB, ".strtab".to_string()))));
+        for unlinked in [with_section(form, 2, SH_LINK, 0), with_section(form, 2, SH_LINK, 7), with_section(form, 3, SH_TYPE, SHT_NOBITS.into())] {
+            assert_eq!(first_symbol(&unlinked), none);
+            assert_eq!(linked(&unlinked), Ok(None));
+        }
     }
 }
 
