@@ -15,7 +15,7 @@ enum { PAGE = 0x10000, ROOM = 16 * PAGE, BATCH = 5 };
 
 static const uint8_t *bytes;
 static size_t len;
-static unsigned long answers[3], broken;
+static unsigned long statuses[3], broken;
 static uint64_t sum = 0xcbf29ce484222325;
 static goblin_refusal_t why;
 
@@ -56,8 +56,8 @@ static goblin_range_t odd_range(void) {
     return range;
 }
 
-static void wrong(const char *what, uint32_t answer) {
-    if (broken++ < 10) printf("%s, answer %u\n", what, (unsigned)answer);
+static void wrong(const char *what, uint32_t status) {
+    if (broken++ < 10) printf("%s, status %u\n", what, (unsigned)status);
 }
 
 /* Returns whether blank() has written all these bytes. */
@@ -73,38 +73,38 @@ static void *blank(void *item, size_t size) {
 }
 
 /* Reads the text of a refusal, and checks that no byte after the buffer is changed. */
-static void text_of_refusal(uint32_t answer) {
+static void text_of_refusal(uint32_t status) {
     uint8_t text[64];
-    size_t room = (size_t)any(60);
+    size_t capacity = (size_t)any(60);
     memset(text, 0x5a, sizeof text);
-    if (goblin_refusal_text(&why, text, room) < strlen("bad offset 0")) wrong("a text's size", answer);
-    if (!is_blank(text + room, sizeof text - room)) wrong("a text", answer);
-    add(&why, sizeof why), add(text, room);
+    if (goblin_refusal_text(&why, text, capacity) < strlen("bad offset 0")) wrong("a text's size", status);
+    if (!is_blank(text + capacity, sizeof text - capacity)) wrong("a text", status);
+    add(&why, sizeof why), add(text, capacity);
 }
 
-static bool check(const char *what, uint32_t answer, const void *item, size_t size) {
-    answers[answer > GOBLIN_END ? 2 : answer]++;
-    if (answer != GOBLIN_OK && !is_blank(item, size)) wrong(what, answer);
-    if (answer <= GOBLIN_END ? !is_blank(&why, sizeof why) : why.kind != answer) wrong("goblin_refusal_t", answer);
-    if (answer > GOBLIN_END) text_of_refusal(answer);
-    add(&answer, sizeof answer);
+static bool check(const char *what, uint32_t status, const void *item, size_t size) {
+    statuses[status > GOBLIN_END ? 2 : status]++;
+    if (status != GOBLIN_OK && !is_blank(item, size)) wrong(what, status);
+    if (status <= GOBLIN_END ? !is_blank(&why, sizeof why) : why.kind != status) wrong("goblin_refusal_t", status);
+    if (status > GOBLIN_END) text_of_refusal(status);
+    add(&status, sizeof status);
     /* (the last word of a struct may have padding) */
-    if (answer == GOBLIN_OK) add(item, size > sizeof(goblin_range_t) ? size - 8 : size);
-    return answer == GOBLIN_OK;
+    if (status == GOBLIN_OK) add(item, size > sizeof(goblin_range_t) ? size - 8 : size);
+    return status == GOBLIN_OK;
 }
 
 /* Reads names of numbers, and checks that no byte after the buffer is changed. */
 static void names_of_numbers(void) {
     uint8_t text[64], number = (uint8_t)any(256);
-    size_t room = (size_t)any(30);
+    size_t capacity = (size_t)any(30);
     blank(text, sizeof text);
-    uint64_t sizes = goblin_class_to_str(number % 4, text, room) * goblin_et_to_str(number % 6, text, room)
-        * goblin_machine_to_str(number, text, room) * goblin_pt_to_str(number % 9, text, room)
-        * goblin_sht_to_str(number % 20, text, room) * goblin_shf_to_str(1U << number % 12, text, room)
-        * goblin_bind_to_str(number % 12, text, room) * goblin_type_to_str(number % 12, text, room)
-        * goblin_visibility_to_str(number % 8, text, room);
-    if (sizes == 0 || goblin_note_type_to_str(bytes, len, number, text, room) == 0) wrong("a name's size", number);
-    if (!is_blank(text + room, sizeof text - room)) wrong("a name", number);
+    uint64_t sizes = goblin_class_to_str(number % 4, text, capacity) * goblin_et_to_str(number % 6, text, capacity)
+        * goblin_machine_to_str(number, text, capacity) * goblin_pt_to_str(number % 9, text, capacity)
+        * goblin_sht_to_str(number % 20, text, capacity) * goblin_shf_to_str(1U << number % 12, text, capacity)
+        * goblin_bind_to_str(number % 12, text, capacity) * goblin_type_to_str(number % 12, text, capacity)
+        * goblin_visibility_to_str(number % 8, text, capacity);
+    if (sizes == 0 || goblin_note_type_to_str(bytes, len, number, text, capacity) == 0) wrong("a name's size", number);
+    if (!is_blank(text + capacity, sizeof text - capacity)) wrong("a name", number);
 }
 
 /* Makes a call, whose last arguments are the result and `why`, and returns whether it has a result. */
@@ -131,16 +131,16 @@ static void notes(const goblin_header_t *h, goblin_range_t range) {
     do { \
         type items[BATCH], single; \
         uint64_t first = any(2) ? any(9) : odd(), filled = 0; \
-        size_t room = (size_t)any(BATCH + 1), size = offsetof(type, last) + sizeof single.last; \
+        size_t capacity = (size_t)any(BATCH + 1), size = offsetof(type, last) + sizeof single.last; \
         blank(items, sizeof items); \
-        uint32_t answer = all(bytes, len, __VA_ARGS__, first, items, room, &filled, &why); \
-        if (filled > room || (answer != GOBLIN_OK && filled != 0)) wrong(#all, answer), filled = 0; \
-        check(#all, answer, items, answer == GOBLIN_OK ? 0 : sizeof items); \
-        if (!is_blank(items + filled, sizeof *items * (BATCH - filled))) wrong(#all ": after the items", answer); \
+        uint32_t status = all(bytes, len, __VA_ARGS__, first, items, capacity, &filled, &why); \
+        if (filled > capacity || (status != GOBLIN_OK && filled != 0)) wrong(#all, status), filled = 0; \
+        check(#all, status, items, status == GOBLIN_OK ? 0 : sizeof items); \
+        if (!is_blank(items + filled, sizeof *items * (BATCH - filled))) wrong(#all ": after the items", status); \
         for (uint64_t i = 0; i < filled; i++) add(items + i, size); \
         for (uint64_t i = 0; i < filled; i++) \
-            if (!READS(one, single, __VA_ARGS__, first + i) || memcmp(&single, items + i, size)) wrong(#all " item", answer); \
-        if (answer == GOBLIN_OK && filled < room && READS(one, single, __VA_ARGS__, first + filled)) wrong(#all, answer); \
+            if (!READS(one, single, __VA_ARGS__, first + i) || memcmp(&single, items + i, size)) wrong(#all " item", status); \
+        if (status == GOBLIN_OK && filled < capacity && READS(one, single, __VA_ARGS__, first + filled)) wrong(#all, status); \
     } while (0)
 
 /* Reads a range as symbols, as relocations and as notes, and searches for the names. */
@@ -270,7 +270,7 @@ int main(int argc, char **argv) {
         }
     }
     free(whole);
-    printf("%lu damaged copies: %lu answers, %lu past the last, %lu refusals, %lu of them wrong; their sum is %08lx%08lx\n",
-           copies, answers[0], answers[1], answers[2], broken, (unsigned long)(sum >> 32), (unsigned long)(sum & 0xffffffff));
-    return broken == 0 && answers[0] > copies && answers[1] > copies && answers[2] > copies ? EXIT_SUCCESS : EXIT_FAILURE;
+    printf("%lu damaged copies: %lu results, %lu past the end, %lu refusals, %lu calls wrong; the sum is %08lx%08lx\n",
+           copies, statuses[0], statuses[1], statuses[2], broken, (unsigned long)(sum >> 32), (unsigned long)(sum & 0xffffffff));
+    return broken == 0 && statuses[0] > copies && statuses[1] > copies && statuses[2] > copies ? EXIT_SUCCESS : EXIT_FAILURE;
 }

@@ -38,15 +38,15 @@ static void put_bytes(goblin_range_t range) {
 }
 
 /* Prints the name of a call, and GOBLIN_END or the refusal if it returned one. Returns whether it has a result. */
-static bool put_status(const char *what, uint32_t answer) {
+static bool put_status(const char *what, uint32_t status) {
     printf("%s", what);
-    if (answer == GOBLIN_END) puts(" none");
-    if (answer > GOBLIN_END) {
+    if (status == GOBLIN_END) puts(" none");
+    if (status > GOBLIN_END) {
         put_refusal(&why);
         TEXT(goblin_refusal_text, &why);
         putchar('\n');
     }
-    return answer == GOBLIN_OK;
+    return status == GOBLIN_OK;
 }
 
 #define ASK(call, item, ...) put_status(#call, call(bytes, len, __VA_ARGS__, &(item), &why))
@@ -59,10 +59,10 @@ static goblin_range_t range_of(const goblin_section_t *section) {
 }
 
 /* Finds and prints the range of the strings in a section that a call returned. It is empty if there is no section. */
-static bool put_strings(const char *what, uint32_t answer, const goblin_section_t *section, goblin_range_t *strings) {
-    if (answer > GOBLIN_END) return put_status(what, answer);
+static bool put_strings(const char *what, uint32_t status, const goblin_section_t *section, goblin_range_t *strings) {
+    if (status > GOBLIN_END) return put_status(what, status);
     goblin_range_t none = {0, 0};
-    *strings = answer == GOBLIN_OK ? range_of(section) : none;
+    *strings = status == GOBLIN_OK ? range_of(section) : none;
     printf("%s", what);
     PUT(range, *strings);
     return true;
@@ -95,8 +95,8 @@ static void symbols(const goblin_section_t *section) {
     goblin_section_t strings;
     goblin_range_t table = range_of(section), names;
     uint64_t count;
-    uint32_t answer = goblin_table(bytes, len, &h, section->sh_link, &strings, &why);
-    if (!put_strings("goblin_table", answer, &strings, &names)) return;
+    uint32_t status = goblin_table(bytes, len, &h, section->sh_link, &strings, &why);
+    if (!put_strings("goblin_table", status, &strings, &names)) return;
     if (!SHOW(goblin_symbol_count, number, count, &h, &table)) return;
     bool is_table = section->sh_type == SHT_SYMTAB || section->sh_type == SHT_DYNSYM;
     for (uint64_t i = 0; i < count && (is_table || i < FEW); i++) one_symbol(table, names, i);
@@ -148,8 +148,8 @@ static void sections(void) {
     goblin_section_t names, section;
     goblin_range_t strings, range, name;
     if (!SHOW(goblin_section_count, number, count, &h)) return;
-    uint32_t answer = goblin_section_names(bytes, len, &h, &names, &why);
-    if (!put_strings("goblin_section_names", answer, &names, &strings)) return;
+    uint32_t status = goblin_section_names(bytes, len, &h, &names, &why);
+    if (!put_strings("goblin_section_names", status, &names, &strings)) return;
     for (uint64_t i = 0; i <= count; i++) {
         if (!ASK(goblin_section, section, &h, i)) return;
         put_section(&section);

@@ -22,35 +22,35 @@ static uint32_t print(const uint8_t *bytes, size_t len, const char *name, const 
 
 static uint32_t list_interpreter(const uint8_t *bytes, size_t len, const goblin_header_t *header) {
     goblin_segment_t segment;
-    uint32_t answer;
-    for (uint64_t i = 0; (answer = goblin_segment(bytes, len, header, i, &segment, &why)) == GOBLIN_OK; i++)
+    uint32_t status;
+    for (uint64_t i = 0; (status = goblin_segment(bytes, len, header, i, &segment, &why)) == GOBLIN_OK; i++)
         if (segment.p_type == GOBLIN_PT_INTERP) return print(bytes, len, "interpreter", &segment.file, 0);
-    return answer;
+    return status;
 }
 
 static uint32_t list_dynamic(const uint8_t *bytes, size_t len, const goblin_header_t *header) {
     const char *const names[] = {[DT_NEEDED] = "needed", [DT_SONAME] = "soname", [DT_RPATH] = "rpath", [DT_RUNPATH] = "runpath"};
     uint64_t width = header->ei_class == GOBLIN_ELFCLASS64 ? 8 : 4, index, tag, value;
     goblin_section_t dynamic, strings = {.sh_type = GOBLIN_SHT_NULL};
-    uint32_t answer = goblin_section_by_type(bytes, len, header, GOBLIN_SHT_DYNAMIC, 0, &index, &why);
-    if (answer == GOBLIN_OK) answer = goblin_section(bytes, len, header, index, &dynamic, &why);
-    if (answer != GOBLIN_OK) return answer;
+    uint32_t status = goblin_section_by_type(bytes, len, header, GOBLIN_SHT_DYNAMIC, 0, &index, &why);
+    if (status == GOBLIN_OK) status = goblin_section(bytes, len, header, index, &dynamic, &why);
+    if (status != GOBLIN_OK) return status;
     if (goblin_table(bytes, len, header, dynamic.sh_link, &strings, &why) > GOBLIN_END) return why.kind;
-    for (uint64_t entry = 0; answer == GOBLIN_OK && dynamic.file.size - entry >= 2 * width; entry += 2 * width) {
-        if ((answer = goblin_number(bytes, len, header, dynamic.file.offset + entry, width, &tag, &why)) != GOBLIN_OK) break;
-        if ((answer = goblin_number(bytes, len, header, dynamic.file.offset + entry + width, width, &value, &why)) != GOBLIN_OK) break;
+    for (uint64_t entry = 0; status == GOBLIN_OK && dynamic.file.size - entry >= 2 * width; entry += 2 * width) {
+        if ((status = goblin_number(bytes, len, header, dynamic.file.offset + entry, width, &tag, &why)) != GOBLIN_OK) break;
+        if ((status = goblin_number(bytes, len, header, dynamic.file.offset + entry + width, width, &value, &why)) != GOBLIN_OK) break;
         if (tag == DT_NULL) break;
-        if (tag < sizeof names / sizeof *names && names[tag]) answer = print(bytes, len, names[tag], &strings.file, value);
+        if (tag < sizeof names / sizeof *names && names[tag]) status = print(bytes, len, names[tag], &strings.file, value);
     }
-    return answer;
+    return status;
 }
 
 static int list(const uint8_t *bytes, size_t len) {
     goblin_header_t header;
-    uint32_t answer = goblin_header(bytes, len, &header, &why);
-    if (answer == GOBLIN_OK) answer = list_interpreter(bytes, len, &header);
-    if (answer <= GOBLIN_END) answer = list_dynamic(bytes, len, &header);
-    if (answer <= GOBLIN_END) return 0;
+    uint32_t status = goblin_header(bytes, len, &header, &why);
+    if (status == GOBLIN_OK) status = list_interpreter(bytes, len, &header);
+    if (status <= GOBLIN_END) status = list_dynamic(bytes, len, &header);
+    if (status <= GOBLIN_END) return 0;
     char text[160] = {0};
     goblin_refusal_text(&why, text, sizeof text - 1);
     fprintf(stderr, "needed: %s\n", text);

@@ -70,8 +70,8 @@ static int list(uint64_t index_of_table, const goblin_section_t *table) {
     goblin_section_t names = {.sh_type = GOBLIN_SHT_NULL};
     if (goblin_table(bytes, len, &header, table->sh_link, &names, &why) > GOBLIN_END) return refused("string table");
     goblin_symbol_t symbol;
-    uint32_t answer;
-    for (uint64_t i = 1; (answer = goblin_symbol(bytes, len, &header, &table->file, i, &symbol, &why)) == GOBLIN_OK; i++) {
+    uint32_t status;
+    for (uint64_t i = 1; (status = goblin_symbol(bytes, len, &header, &table->file, i, &symbol, &why)) == GOBLIN_OK; i++) {
         goblin_section_t section;
         uint64_t index = symbol.st_shndx;
         bool is_index = index < GOBLIN_SHN_LORESERVE || (index == GOBLIN_SHN_XINDEX && has_indices
@@ -86,7 +86,7 @@ static int list(uint64_t index_of_table, const goblin_section_t *table) {
         fwrite(bytes + name.offset, 1, name.size, stdout);
         putchar('\n');
     }
-    return answer == GOBLIN_END ? 0 : refused("symbols");
+    return status == GOBLIN_END ? 0 : refused("symbols");
 }
 
 static uint8_t *load(const char *path) {

@@ -34,17 +34,17 @@ static int add_up(const char *path, const uint8_t *bytes, size_t len) {
     goblin_refusal_t why;
     goblin_section_t sections[BATCH];
     uint64_t text = 0, data = 0, bss = 0, filled;
-    uint32_t answer = goblin_header(bytes, len, &header, &why);
-    if (answer != GOBLIN_OK) return refused(path, &why);
+    uint32_t status = goblin_header(bytes, len, &header, &why);
+    if (status != GOBLIN_OK) return refused(path, &why);
     for (uint64_t first = 0;
-         (answer = goblin_sections(bytes, len, &header, first, sections, BATCH, &filled, &why)) == GOBLIN_OK; first += filled)
+         (status = goblin_sections(bytes, len, &header, first, sections, BATCH, &filled, &why)) == GOBLIN_OK; first += filled)
         for (uint64_t i = 0; i < filled; i++) {
             const goblin_section_t *section = &sections[i];
             if (section->sh_type == GOBLIN_SHT_NULL || !(section->sh_flags & GOBLIN_SHF_ALLOC)) continue;
             bool is_text = (section->sh_flags & GOBLIN_SHF_EXECINSTR) || !(section->sh_flags & GOBLIN_SHF_WRITE);
             *(is_text ? &text : section->sh_type == GOBLIN_SHT_NOBITS ? &bss : &data) += section->file.size;
         }
-    if (answer != GOBLIN_END) return refused(path, &why);
+    if (status != GOBLIN_END) return refused(path, &why);
     printf("%7" PRIu64 "\t%7" PRIu64 "\t%7" PRIu64 "\t%7" PRIu64 "\t%7" PRIx64 "\t%s\n", text, data, bss,
            text + data + bss, text + data + bss, path);
     return 0;

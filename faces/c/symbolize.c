@@ -28,10 +28,10 @@ static uint8_t *load(const char *path) {
 /* Finds the symbol table, or the dynamic one if there is none, and its strings. */
 static uint32_t find_table(goblin_section_t *table, goblin_section_t *names) {
     uint64_t index;
-    uint32_t answer = goblin_section_by_type(bytes, len, &header, GOBLIN_SHT_SYMTAB, 0, &index, &why);
-    if (answer == GOBLIN_END) answer = goblin_section_by_type(bytes, len, &header, GOBLIN_SHT_DYNSYM, 0, &index, &why);
-    if (answer == GOBLIN_OK) answer = goblin_section(bytes, len, &header, index, table, &why);
-    return answer == GOBLIN_OK ? goblin_table(bytes, len, &header, table->sh_link, names, &why) : answer;
+    uint32_t status = goblin_section_by_type(bytes, len, &header, GOBLIN_SHT_SYMTAB, 0, &index, &why);
+    if (status == GOBLIN_END) status = goblin_section_by_type(bytes, len, &header, GOBLIN_SHT_DYNSYM, 0, &index, &why);
+    if (status == GOBLIN_OK) status = goblin_section(bytes, len, &header, index, table, &why);
+    return status == GOBLIN_OK ? goblin_table(bytes, len, &header, table->sh_link, names, &why) : status;
 }
 
 int main(int argc, char **argv) {
@@ -42,15 +42,15 @@ int main(int argc, char **argv) {
     if (found > GOBLIN_END) return refused("symbols");
     for (int i = 2; i < argc; i++) {
         uint64_t address = strtoull(argv[i], NULL, 16), index;
-        uint32_t answer = found;
+        uint32_t status = found;
         goblin_symbol_t symbol;
         goblin_range_t name;
-        if (answer == GOBLIN_OK)
-            answer = goblin_symbol_by_address(bytes, len, &header, &table.file, address, &index, &why);
-        if (answer == GOBLIN_OK) answer = goblin_symbol(bytes, len, &header, &table.file, index, &symbol, &why);
-        if (answer == GOBLIN_OK) answer = goblin_string_bytes(bytes, len, &names.file, symbol.st_name, &name, &why);
-        if (answer > GOBLIN_END) return refused("symbols");
-        if (answer == GOBLIN_OK) printf("%.*s\n??:0\n", (int)name.size, (const char *)bytes + name.offset);
+        if (status == GOBLIN_OK)
+            status = goblin_symbol_by_address(bytes, len, &header, &table.file, address, &index, &why);
+        if (status == GOBLIN_OK) status = goblin_symbol(bytes, len, &header, &table.file, index, &symbol, &why);
+        if (status == GOBLIN_OK) status = goblin_string_bytes(bytes, len, &names.file, symbol.st_name, &name, &why);
+        if (status > GOBLIN_END) return refused("symbols");
+        if (status == GOBLIN_OK) printf("%.*s\n??:0\n", (int)name.size, (const char *)bytes + name.offset);
         else printf("??\n??:0\n");
     }
     return 0;

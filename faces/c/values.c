@@ -16,20 +16,20 @@ static int list(const uint8_t *bytes, size_t len) {
     goblin_header_t header;
     goblin_section_t table;
     goblin_symbol_t symbol;
-    uint32_t answer;
+    uint32_t status;
     if (goblin_header(bytes, len, &header, &why) != GOBLIN_OK) return refused();
-    for (uint64_t i = 0; (answer = goblin_section(bytes, len, &header, i, &table, &why)) == GOBLIN_OK; i++) {
+    for (uint64_t i = 0; (status = goblin_section(bytes, len, &header, i, &table, &why)) == GOBLIN_OK; i++) {
         if (table.sh_type != GOBLIN_SHT_SYMTAB && table.sh_type != GOBLIN_SHT_DYNSYM) continue;
         goblin_section_t strings = {.sh_type = GOBLIN_SHT_NULL};
         if (goblin_table(bytes, len, &header, table.sh_link, &strings, &why) > GOBLIN_END) return refused();
-        for (uint64_t k = 0; (answer = goblin_symbol(bytes, len, &header, &table.file, k, &symbol, &why)) == GOBLIN_OK; k++) {
+        for (uint64_t k = 0; (status = goblin_symbol(bytes, len, &header, &table.file, k, &symbol, &why)) == GOBLIN_OK; k++) {
             goblin_range_t name = {0, 0};
             if (goblin_string(bytes, len, &strings.file, symbol.st_name, &name, &why) > GOBLIN_END) return refused();
             printf("%" PRIx64 " %.*s\n", symbol.st_value, (int)name.size, (const char *)bytes + name.offset);
         }
-        if (answer != GOBLIN_END) return refused();
+        if (status != GOBLIN_END) return refused();
     }
-    return answer == GOBLIN_END ? 0 : refused();
+    return status == GOBLIN_END ? 0 : refused();
 }
 
 int main(int argc, char **argv) {
