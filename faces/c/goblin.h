@@ -1,4 +1,4 @@
-/* goblin for C and C++: reads the ELF records of a file that lies in memory. Each call is proved.
+/* goblin for C and C++: reads the ELF records of a file in memory. Each call is proved.
 
    The calls allocate nothing, keep nothing from call to call, and return on every input.
 
@@ -13,7 +13,7 @@
        GOBLIN_END (1)  There is no such item: the index or the offset is past the end, or no item has that name, type or address.
        2 or more       The file is refused. The number is one of the GOBLIN_ numbers below. The call has written the same number to
                        `*why`, with the numbers that belong to it.
-     The result is the argument before `why`. A call that fills an array writes that, too. It writes the result only at GOBLIN_OK,
+     The result is the argument before `why`, and the array of a call that fills one. A call writes its result only at GOBLIN_OK,
      `*why` only at a refusal, and nothing else. So a result that is zero before the call is still zero at GOBLIN_END, and one
      goblin_refusal_t serves all calls of a program.
      Refusals come before GOBLIN_END, if a call does not say otherwise: a table that is refused is refused past its end, too.
