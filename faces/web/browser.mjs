@@ -725,7 +725,7 @@ async function check_unsupported() {
         const show = await browser.before_pages(hidden);
         await browser.open(`${url}?${hidden.length}`);
         await until(`!document.getElementById('unsupported')?.hidden`);
-        assert.match(await text_of('#unsupported'), /no WebAssembly memories of 64 bits/);
+        assert.match(await text_of('#unsupported'), /no 64-bit WebAssembly memories/);
         assert.equal(await evaluate(`document.getElementById('drop').hidden`), true);
         await show();
     }
@@ -777,7 +777,7 @@ const is_able = `WebAssembly.validate(new Uint8Array([0, 97, 115, 109, 1, 0, 0, 
 async function run_checks() {
     await check_hearing();
     if (!await evaluate(is_able)) {
-        console.log(`${browser.constructor.title} has no memories of 64 bits here: the page is not tried in it`);
+        console.log(`${browser.constructor.title} has no 64-bit memories here: the page is not tested in it`);
         return;
     }
     await browser.resize(1400, 1600);
