@@ -88,7 +88,7 @@ static int bench(const char *path) {
     for (uint64_t i = 0; !goblin_section(bytes, len, &header, i, &section, &why); i++)
         if ((section.sh_type == SHT_SYMTAB || section.sh_type == SHT_DYNSYM) && section.file.size > table.file.size)
             table = section, index = i;
-    if (goblin_table(bytes, len, &header, table.sh_link, &strings, &why)) return 1;
+    if (goblin_linked_section(bytes, len, &header, table.sh_link, &strings, &why)) return 1;
     if (goblin_symbol_count(bytes, len, &header, &table.file, &count, &why)) return 1;
     if (!(offsets = malloc((count + 1) * sizeof *offsets))) return 1;
     for (uint64_t i = 0; i < count && !goblin_symbol(bytes, len, &header, &table.file, i, symbols, &why); i++)

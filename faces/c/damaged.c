@@ -214,7 +214,7 @@ static void file(void) {
         bool is_there = READS(goblin_section, section, &h, at);
         if (is_there != (is_counted && at < count)) wrong("goblin_section_count", GOBLIN_OK);
         bool is_table = is_there && at > 0 && section.sh_type != 8;
-        if (READS(goblin_table, found, &h, at) != is_table) wrong("goblin_table", GOBLIN_OK);
+        if (READS(goblin_linked_section, found, &h, at) != is_table) wrong("goblin_linked_section", GOBLIN_OK);
         goblin_range_t name;
         table(&h, is_there ? section.file : odd_range(), names.file);
         if (is_there && READS(goblin_string, name, &names.file, section.sh_name)

@@ -95,8 +95,8 @@ static void symbols(const goblin_section_t *section) {
     goblin_section_t strings;
     goblin_range_t table = range_of(section), names;
     uint64_t count;
-    uint32_t status = goblin_table(bytes, len, &h, section->sh_link, &strings, &why);
-    if (!put_strings("goblin_table", status, &strings, &names)) return;
+    uint32_t status = goblin_linked_section(bytes, len, &h, section->sh_link, &strings, &why);
+    if (!put_strings("goblin_linked_section", status, &strings, &names)) return;
     if (!SHOW(goblin_symbol_count, number, count, &h, &table)) return;
     bool is_table = section->sh_type == SHT_SYMTAB || section->sh_type == SHT_DYNSYM;
     for (uint64_t i = 0; i < count && (is_table || i < FEW); i++) one_symbol(table, names, i);

@@ -57,9 +57,9 @@ extern "C" {
 
 /* The number of the interface. It goes up if a call or a struct changes. goblin_version() returns the library's, which must be the
    same. */
-#define GOBLIN_VERSION 3
+#define GOBLIN_VERSION 4
 /* The version of the package that this file is part of. */
-#define GOBLIN_VERSION_STRING "0.4.0"
+#define GOBLIN_VERSION_STRING "0.5.0"
 
 /* What calls return. The comment of each refusal lists the numbers that goblin_refusal_t has for it, from `first` on. */
 enum {
@@ -279,12 +279,14 @@ uint32_t goblin_sections(const uint8_t *bytes, size_t len, const goblin_header_t
 /* Reads the section that a section header links to by its sh_link, such as the string table of a symbol table.
    GOBLIN_END if the index is 0, which means no section, if it is not below the number of sections, or if the section is of type
    GOBLIN_SHT_NOBITS, which has no bytes in the file. `*section` is unchanged then. Refused as goblin_section_count is.
-   Example: if (goblin_table(bytes, len, &header, table.sh_link, &names, &why) > GOBLIN_END) return 1; */
-uint32_t goblin_table(const uint8_t *bytes, size_t len, const goblin_header_t *header, uint64_t index,
-                      goblin_section_t *section, goblin_refusal_t *why);
+   Example: if (goblin_linked_section(bytes, len, &header, table.sh_link, &names, &why) > GOBLIN_END) return 1; */
+uint32_t goblin_linked_section(const uint8_t *bytes, size_t len, const goblin_header_t *header, uint64_t index,
+                               goblin_section_t *section, goblin_refusal_t *why);
+/* Its name up to interface 3. */
+#define goblin_table goblin_linked_section
 
 /* Reads the section that holds the section names. Its index is e_shstrndx, or sh_link of section 0 if e_shstrndx is 0xffff
-   (GOBLIN_SHN_XINDEX). GOBLIN_END if goblin_table returns that for this index, or if there is no section 0. Refused as
+   (GOBLIN_SHN_XINDEX). GOBLIN_END if goblin_linked_section returns that for this index, or if there is no section 0. Refused as
    goblin_section_count is.
    Example: if (goblin_section_names(bytes, len, &header, &names, &why) > GOBLIN_END) return 1; */
 uint32_t goblin_section_names(const uint8_t *bytes, size_t len, const goblin_header_t *header, goblin_section_t *section,
@@ -505,30 +507,30 @@ uint64_t goblin_refusal_text(const goblin_refusal_t *why, void *text, size_t cap
 #define GOBLIN_ET_EXEC 2 /* An executable file. */
 #define GOBLIN_ET_DYN 3 /* A shared object file. */
 #define GOBLIN_ET_CORE 4 /* A core file. */
-#define GOBLIN_ET_NUM 5 /* One more than the greatest type that the standard gives out. */
-#define GOBLIN_ET_LOOS 0xfe00 /* The first type that is left to operating systems. */
-#define GOBLIN_ET_HIOS 0xfeff /* The last type that is left to operating systems. */
-#define GOBLIN_ET_LOPROC 0xff00 /* The first type that is left to processors. */
-#define GOBLIN_ET_HIPROC 0xffff /* The last type that is left to processors. */
+#define GOBLIN_ET_NUM 5 /* One more than the greatest type that the standard defines. */
+#define GOBLIN_ET_LOOS 0xfe00 /* The first OS-specific type. */
+#define GOBLIN_ET_HIOS 0xfeff /* The last OS-specific type. */
+#define GOBLIN_ET_LOPROC 0xff00 /* The first processor-specific type. */
+#define GOBLIN_ET_HIPROC 0xffff /* The last processor-specific type. */
 
 #define GOBLIN_ELFMAG "\177ELF" /* The first four bytes of every ELF file. */
-#define GOBLIN_SELFMAG 4 /* How many bytes GOBLIN_ELFMAG has. */
+#define GOBLIN_SELFMAG 4 /* The size of GOBLIN_ELFMAG in bytes. */
 
-#define GOBLIN_EI_CLASS 4 /* The place of the class byte in the identification. */
+#define GOBLIN_EI_CLASS 4 /* The offset of the class byte in the identification. */
 #define GOBLIN_ELFCLASSNONE 0 /* No class: not valid in a file. */
 #define GOBLIN_ELFCLASS32 1 /* The 32-bit class. */
 #define GOBLIN_ELFCLASS64 2 /* The 64-bit class. */
 #define GOBLIN_ELFCLASSNUM 3 /* One more than the greatest class. */
 
-#define GOBLIN_EI_DATA 5 /* The place of the data byte, which tells the byte order, in the identification. */
+#define GOBLIN_EI_DATA 5 /* The offset of the data byte, which names the byte order, in the identification. */
 #define GOBLIN_ELFDATANONE 0 /* No byte order: not valid in a file. */
-#define GOBLIN_ELFDATA2LSB 1 /* Two's complement numbers, the lowest byte first. */
-#define GOBLIN_ELFDATA2MSB 2 /* Two's complement numbers, the highest byte first. */
+#define GOBLIN_ELFDATA2LSB 1 /* Little endian, in two's complement. */
+#define GOBLIN_ELFDATA2MSB 2 /* Big endian, in two's complement. */
 
-#define GOBLIN_EI_VERSION 6 /* The place of the version byte in the identification. */
-#define GOBLIN_EV_CURRENT 1 /* The version of the format, the only one there is. */
+#define GOBLIN_EI_VERSION 6 /* The offset of the version byte in the identification. */
+#define GOBLIN_EV_CURRENT 1 /* The current version of the format. */
 
-#define GOBLIN_EI_OSABI 7 /* The place of the byte that names the operating system or ABI in the identification. */
+#define GOBLIN_EI_OSABI 7 /* The offset of the OS/ABI byte in the identification. */
 #define GOBLIN_ELFOSABI_NONE 0 /* System V, or none. */
 #define GOBLIN_ELFOSABI_SYSV GOBLIN_ELFOSABI_NONE /* System V: the same as GOBLIN_ELFOSABI_NONE. */
 #define GOBLIN_ELFOSABI_HPUX 1 /* Hewlett-Packard HP-UX. */
@@ -544,11 +546,11 @@ uint64_t goblin_refusal_text(const goblin_refusal_t *why, void *text, size_t cap
 #define GOBLIN_ELFOSABI_OPENBSD 12 /* OpenBSD. */
 #define GOBLIN_ELFOSABI_ARM_AEABI 64 /* ARM, by its embedded ABI. */
 #define GOBLIN_ELFOSABI_ARM 97 /* ARM. */
-#define GOBLIN_ELFOSABI_STANDALONE 255 /* An embedded program, with no system below it. */
+#define GOBLIN_ELFOSABI_STANDALONE 255 /* A standalone (embedded) program. */
 
-#define GOBLIN_EI_ABIVERSION 8 /* The place of the ABI's version in the identification. */
+#define GOBLIN_EI_ABIVERSION 8 /* The offset of the ABI version in the identification. */
 
-#define GOBLIN_SIZEOF_IDENT 16 /* How many bytes the identification has. */
+#define GOBLIN_SIZEOF_IDENT 16 /* The size of the identification in bytes. */
 
 #define GOBLIN_EM_NONE 0 /* No machine. */
 #define GOBLIN_EM_M32 1 /* AT&T WE 32100. */
@@ -574,7 +576,7 @@ uint64_t goblin_refusal_text(const goblin_refusal_t *why, void *text, size_t cap
 #define GOBLIN_EM_RH32 38 /* TRW RH-32. */
 #define GOBLIN_EM_RCE 39 /* Motorola RCE. */
 #define GOBLIN_EM_ARM 40 /* ARM, 32 bits. */
-#define GOBLIN_EM_FAKE_ALPHA 41 /* Digital Alpha, by the number that the registry gives it. */
+#define GOBLIN_EM_FAKE_ALPHA 41 /* Digital Alpha, by its registered number. */
 #define GOBLIN_EM_SH 42 /* Hitachi SuperH. */
 #define GOBLIN_EM_SPARCV9 43 /* SPARC version 9, 64 bits. */
 #define GOBLIN_EM_TRICORE 44 /* Siemens TriCore. */
@@ -729,132 +731,134 @@ uint64_t goblin_refusal_text(const goblin_refusal_t *why, void *text, size_t cap
 #define GOBLIN_EM_AMDGPU 224 /* AMD graphics processors. */
 #define GOBLIN_EM_RISCV 243 /* RISC-V. */
 #define GOBLIN_EM_BPF 247 /* Linux BPF, a machine inside the kernel. */
-#define GOBLIN_EM_NUM 248 /* One more than the greatest number that was given out when the list was made. */
+#define GOBLIN_EM_NUM 248 /* One more than the greatest number that was assigned when the list was made. */
 #define GOBLIN_EM_CSKY 252 /* C-SKY. */
 #define GOBLIN_EM_LOONGARCH 258 /* LoongArch. */
 
 /* What the 32-bit class has of its own. */
-#define GOBLIN_SIZEOF_EHDR32 52 /* How many bytes a header has. */
+#define GOBLIN_SIZEOF_EHDR32 52 /* The size of a header in bytes. */
 
 /* What the 64-bit class has of its own. */
-#define GOBLIN_SIZEOF_EHDR64 64 /* How many bytes a header has. */
+#define GOBLIN_SIZEOF_EHDR64 64 /* The size of a header in bytes. */
 
 /* -- program headers -- */
 
-/* What a segment is. */
+/* Segment types. */
 
 #define GOBLIN_PT_NULL 0u /* No segment. */
-#define GOBLIN_PT_LOAD 1u /* A segment that is loaded. */
-#define GOBLIN_PT_DYNAMIC 2u /* What dynamic linking needs. */
-#define GOBLIN_PT_INTERP 3u /* The path of the interpreter. */
+#define GOBLIN_PT_LOAD 1u /* A loadable segment. */
+#define GOBLIN_PT_DYNAMIC 2u /* Information for dynamic linking. */
+#define GOBLIN_PT_INTERP 3u /* The path of the program interpreter. */
 #define GOBLIN_PT_NOTE 4u /* Notes. */
-#define GOBLIN_PT_SHLIB 5u /* Left without a meaning by the standard. */
-#define GOBLIN_PT_PHDR 6u /* The table of program headers itself. */
-#define GOBLIN_PT_TLS 7u /* The storage that each thread has its own copy of. */
-#define GOBLIN_PT_NUM 8u /* One more than the greatest type that the standard gives out. */
-#define GOBLIN_PT_LOOS 0x60000000u /* The first type that is left to operating systems. */
-#define GOBLIN_PT_GNU_EH_FRAME 0x6474e550u /* The table that unwinding looks frames up in (GNU). */
+#define GOBLIN_PT_SHLIB 5u /* Reserved, with unspecified semantics. */
+#define GOBLIN_PT_PHDR 6u /* The program header table itself. */
+#define GOBLIN_PT_TLS 7u /* Thread-local storage. */
+#define GOBLIN_PT_NUM 8u /* One more than the greatest type that the standard defines. */
+#define GOBLIN_PT_LOOS 0x60000000u /* The first OS-specific type. */
+#define GOBLIN_PT_GNU_EH_FRAME 0x6474e550u /* The table of unwind information (GNU). */
 #define GOBLIN_PT_GNU_PROPERTY 0x6474e553u /* Notes on properties, for the linker and the loader (GNU). */
 #define GOBLIN_PT_GNU_STACK 0x6474e551u /* Whether the stack may be executed (GNU). */
-#define GOBLIN_PT_GNU_RELRO 0x6474e552u /* What becomes read-only once it is relocated (GNU). */
+#define GOBLIN_PT_GNU_RELRO 0x6474e552u /* Data that is made read-only after relocation (GNU). */
 #define GOBLIN_PT_LOSUNW 0x6ffffffau /* The first type of Sun. */
-#define GOBLIN_PT_SUNWBSS 0x6ffffffau /* Data that begins as zeros (Sun). */
+#define GOBLIN_PT_SUNWBSS 0x6ffffffau /* Zero-initialized data (Sun). */
 #define GOBLIN_PT_SUNWSTACK 0x6ffffffbu /* The stack (Sun). */
 #define GOBLIN_PT_HISUNW 0x6fffffffu /* The last type of Sun. */
-#define GOBLIN_PT_HIOS 0x6fffffffu /* The last type that is left to operating systems. */
-#define GOBLIN_PT_LOPROC 0x70000000u /* The first type that is left to processors. */
-#define GOBLIN_PT_ARM_EXIDX 0x70000001u /* The table that unwinding looks functions up in (ARM). */
-#define GOBLIN_PT_HIPROC 0x7fffffffu /* The last type that is left to processors. */
+#define GOBLIN_PT_HIOS 0x6fffffffu /* The last OS-specific type. */
+#define GOBLIN_PT_LOPROC 0x70000000u /* The first processor-specific type. */
+#define GOBLIN_PT_ARM_EXIDX 0x70000001u /* The table of unwind information (ARM). */
+#define GOBLIN_PT_HIPROC 0x7fffffffu /* The last processor-specific type. */
 
-/* What may be done with a segment. */
+/* Segment permissions. */
 
 #define GOBLIN_PF_X 1u /* The segment may be executed. */
 #define GOBLIN_PF_W (1u << 1) /* The segment may be written. */
 #define GOBLIN_PF_R (1u << 2) /* The segment may be read. */
-#define GOBLIN_PF_MASKOS 0x0ff00000u /* The flags that are left to operating systems. */
-#define GOBLIN_PF_MASKPROC 0xf0000000u /* The flags that are left to processors. */
+#define GOBLIN_PF_MASKOS 0x0ff00000u /* The OS-specific flags. */
+#define GOBLIN_PF_MASKPROC 0xf0000000u /* The processor-specific flags. */
 
 /* What the 32-bit class has of its own. */
-#define GOBLIN_SIZEOF_PHDR32 32 /* How many bytes a program header has. */
+#define GOBLIN_SIZEOF_PHDR32 32 /* The size of a program header in bytes. */
 
 /* What the 64-bit class has of its own. */
-#define GOBLIN_SIZEOF_PHDR64 56 /* How many bytes a program header has. */
+#define GOBLIN_SIZEOF_PHDR64 56 /* The size of a program header in bytes. */
 
 /* -- section headers -- */
 
-/* Indices of sections with a meaning of their own. */
+/* Special section indices. */
 
 #define GOBLIN_SHN_UNDEF UINT64_C(0) /* No section. */
-#define GOBLIN_SHN_LORESERVE UINT64_C(0xff00) /* The first index with a meaning of its own. */
-#define GOBLIN_SHN_LOPROC UINT64_C(0xff00) /* The first index that is left to processors. */
+#define GOBLIN_SHN_LORESERVE UINT64_C(0xff00) /* The first special index. */
+#define GOBLIN_SHN_LOPROC UINT64_C(0xff00) /* The first processor-specific index. */
 #define GOBLIN_SHN_BEFORE UINT64_C(0xff00) /* Before all other sections (Solaris). */
 #define GOBLIN_SHN_AFTER UINT64_C(0xff01) /* After all other sections (Solaris). */
-#define GOBLIN_SHN_HIPROC UINT64_C(0xff1f) /* The last index that is left to processors. */
-#define GOBLIN_SHN_LOOS UINT64_C(0xff20) /* The first index that is left to operating systems. */
-#define GOBLIN_SHN_HIOS UINT64_C(0xff3f) /* The last index that is left to operating systems. */
-#define GOBLIN_SHN_ABS UINT64_C(0xfff1) /* What has no section: its value is absolute. */
-#define GOBLIN_SHN_COMMON UINT64_C(0xfff2) /* What is still to be placed in a section. */
-#define GOBLIN_SHN_XINDEX UINT64_C(0xffff) /* The index stands elsewhere, since it is too great for its field. */
-#define GOBLIN_SHN_HIRESERVE UINT64_C(0xffff) /* The last index with a meaning of its own. */
+#define GOBLIN_SHN_HIPROC UINT64_C(0xff1f) /* The last processor-specific index. */
+#define GOBLIN_SHN_LOOS UINT64_C(0xff20) /* The first OS-specific index. */
+#define GOBLIN_SHN_HIOS UINT64_C(0xff3f) /* The last OS-specific index. */
+#define GOBLIN_SHN_ABS UINT64_C(0xfff1) /* The index of symbols with an absolute value. */
+#define GOBLIN_SHN_COMMON UINT64_C(0xfff2) /* The index of common symbols, which aren't allocated yet. */
+/* An escape: the index is stored elsewhere, since it doesn't fit its field. */
+#define GOBLIN_SHN_XINDEX UINT64_C(0xffff)
+#define GOBLIN_SHN_HIRESERVE UINT64_C(0xffff) /* The last special index. */
 
-/* What a section holds. */
+/* Section types. */
 
 #define GOBLIN_SHT_NULL 0u /* No section. */
-#define GOBLIN_SHT_PROGBITS 1u /* What the program defines. */
+#define GOBLIN_SHT_PROGBITS 1u /* Data that the program defines. */
 #define GOBLIN_SHT_SYMTAB 2u /* A symbol table. */
 #define GOBLIN_SHT_STRTAB 3u /* A string table. */
 #define GOBLIN_SHT_RELA 4u /* Relocations with addends. */
 #define GOBLIN_SHT_HASH 5u /* A hash table of symbols. */
-#define GOBLIN_SHT_DYNAMIC 6u /* What dynamic linking needs. */
+#define GOBLIN_SHT_DYNAMIC 6u /* Information for dynamic linking. */
 #define GOBLIN_SHT_NOTE 7u /* Notes. */
 #define GOBLIN_SHT_NOBITS 8u /* A section without bytes in the file. */
 #define GOBLIN_SHT_REL 9u /* Relocations without addends. */
-#define GOBLIN_SHT_SHLIB 10u /* Left without a meaning by the standard. */
-#define GOBLIN_SHT_DYNSYM 11u /* The symbol table of dynamic linking. */
-#define GOBLIN_SHT_INIT_ARRAY 14u /* Addresses of functions that are called at the start. */
-#define GOBLIN_SHT_FINI_ARRAY 15u /* Addresses of functions that are called at the end. */
-#define GOBLIN_SHT_PREINIT_ARRAY 16u /* Addresses of functions that are called before all others. */
+#define GOBLIN_SHT_SHLIB 10u /* Reserved, with unspecified semantics. */
+#define GOBLIN_SHT_DYNSYM 11u /* A symbol table for dynamic linking. */
+#define GOBLIN_SHT_INIT_ARRAY 14u /* Pointers to initialization functions. */
+#define GOBLIN_SHT_FINI_ARRAY 15u /* Pointers to termination functions. */
+/* Pointers to functions that are called before all other initialization functions. */
+#define GOBLIN_SHT_PREINIT_ARRAY 16u
 #define GOBLIN_SHT_GROUP 17u /* A group of sections. */
-#define GOBLIN_SHT_SYMTAB_SHNDX 18u /* Section indices that are too great for a symbol. */
-#define GOBLIN_SHT_NUM 19u /* One more than the greatest type that this table knows. */
-#define GOBLIN_SHT_LOOS 0x60000000u /* The first type that is left to operating systems. */
+#define GOBLIN_SHT_SYMTAB_SHNDX 18u /* Section indices that don't fit a symbol's field. */
+#define GOBLIN_SHT_NUM 19u /* One more than the greatest type before it. */
+#define GOBLIN_SHT_LOOS 0x60000000u /* The first OS-specific type. */
 #define GOBLIN_SHT_GNU_ATTRIBUTES 0x6ffffff5u /* Attributes of the object (GNU). */
 #define GOBLIN_SHT_GNU_HASH 0x6ffffff6u /* A hash table of symbols (GNU). */
-#define GOBLIN_SHT_GNU_LIBLIST 0x6ffffff7u /* Libraries that were linked before (GNU). */
+#define GOBLIN_SHT_GNU_LIBLIST 0x6ffffff7u /* The libraries of a prelinked file (GNU). */
 #define GOBLIN_SHT_CHECKSUM 0x6ffffff8u /* A checksum of the contents. */
 #define GOBLIN_SHT_LOSUNW 0x6ffffffau /* The first type of Sun. */
-#define GOBLIN_SHT_SUNW_MOVE 0x6ffffffau /* What is moved at the start (Sun). */
-#define GOBLIN_SHT_SUNW_COMDAT 0x6ffffffbu /* Contents that are kept once (Sun). */
-#define GOBLIN_SHT_SUNW_SYMINFO 0x6ffffffcu /* More about symbols (Sun). */
+#define GOBLIN_SHT_SUNW_MOVE 0x6ffffffau /* Data to move at startup (Sun). */
+#define GOBLIN_SHT_SUNW_COMDAT 0x6ffffffbu /* Contents of which one copy is kept (Sun). */
+#define GOBLIN_SHT_SUNW_SYMINFO 0x6ffffffcu /* More information on symbols (Sun). */
 #define GOBLIN_SHT_GNU_VERDEF 0x6ffffffdu /* Versions that the file defines (GNU). */
 #define GOBLIN_SHT_GNU_VERNEED 0x6ffffffeu /* Versions that the file needs (GNU). */
 #define GOBLIN_SHT_GNU_VERSYM 0x6fffffffu /* The version of each symbol (GNU). */
 #define GOBLIN_SHT_HISUNW 0x6fffffffu /* The last type of Sun. */
-#define GOBLIN_SHT_HIOS 0x6fffffffu /* The last type that is left to operating systems. */
-#define GOBLIN_SHT_LOPROC 0x70000000u /* The first type that is left to processors. */
-#define GOBLIN_SHT_X86_64_UNWIND 0x70000001u /* What unwinding needs (x86-64). */
-#define GOBLIN_SHT_HIPROC 0x7fffffffu /* The last type that is left to processors. */
-#define GOBLIN_SHT_LOUSER 0x80000000u /* The first type that is left to applications. */
-#define GOBLIN_SHT_HIUSER 0x8fffffffu /* The last type that is left to applications. */
+#define GOBLIN_SHT_HIOS 0x6fffffffu /* The last OS-specific type. */
+#define GOBLIN_SHT_LOPROC 0x70000000u /* The first processor-specific type. */
+#define GOBLIN_SHT_X86_64_UNWIND 0x70000001u /* Unwind information (x86-64). */
+#define GOBLIN_SHT_HIPROC 0x7fffffffu /* The last processor-specific type. */
+#define GOBLIN_SHT_LOUSER 0x80000000u /* The first type for applications. */
+#define GOBLIN_SHT_HIUSER 0x8fffffffu /* The last type for applications. */
 
-/* What may be done with a section. */
+/* Section attributes. */
 
 #define GOBLIN_SHF_WRITE UINT64_C(0x1) /* The section may be written. */
 #define GOBLIN_SHF_ALLOC UINT64_C(0x2) /* The section is in memory while the program runs. */
 #define GOBLIN_SHF_EXECINSTR UINT64_C(0x4) /* The section may be executed. */
-#define GOBLIN_SHF_MERGE UINT64_C(0x10) /* Equal entries may be made one. */
-#define GOBLIN_SHF_STRINGS UINT64_C(0x20) /* The entries are texts that end with a zero. */
-#define GOBLIN_SHF_INFO_LINK UINT64_C(0x40) /* The index of a section stands in sh_info. */
-#define GOBLIN_SHF_LINK_ORDER UINT64_C(0x80) /* The order of sections is to be kept. */
-#define GOBLIN_SHF_OS_NONCONFORMING UINT64_C(0x100) /* The operating system has to treat the section in its own way. */
+#define GOBLIN_SHF_MERGE UINT64_C(0x10) /* Equal entries may be merged. */
+#define GOBLIN_SHF_STRINGS UINT64_C(0x20) /* The entries are zero-terminated strings. */
+#define GOBLIN_SHF_INFO_LINK UINT64_C(0x40) /* sh_info is the index of a section. */
+#define GOBLIN_SHF_LINK_ORDER UINT64_C(0x80) /* The section needs a special order when sections are combined. */
+#define GOBLIN_SHF_OS_NONCONFORMING UINT64_C(0x100) /* The section needs OS-specific processing. */
 #define GOBLIN_SHF_GROUP UINT64_C(0x200) /* The section belongs to a group. */
-#define GOBLIN_SHF_TLS UINT64_C(0x400) /* The section is storage that each thread has its own copy of. */
+#define GOBLIN_SHF_TLS UINT64_C(0x400) /* The section holds thread-local storage. */
 #define GOBLIN_SHF_COMPRESSED UINT64_C(0x800) /* The contents are compressed. */
-#define GOBLIN_SHF_MASKOS UINT64_C(0x0ff00000) /* The flags that are left to operating systems. */
-#define GOBLIN_SHF_MASKPROC UINT64_C(0xf0000000) /* The flags that are left to processors. */
-#define GOBLIN_SHF_ORDERED (UINT64_C(1) << 30) /* The section is to be ordered (Solaris). */
-#define GOBLIN_SHF_NUM_REGULAR_FLAGS 12 /* How many flags GOBLIN_SHF_FLAGS has. */
-#define GOBLIN_SHF_EXCLUDE UINT64_C(0x80000000) /* The section is left out where nothing refers to it (Solaris). */
+#define GOBLIN_SHF_MASKOS UINT64_C(0x0ff00000) /* The OS-specific flags. */
+#define GOBLIN_SHF_MASKPROC UINT64_C(0xf0000000) /* The processor-specific flags. */
+#define GOBLIN_SHF_ORDERED (UINT64_C(1) << 30) /* The section needs a special order (Solaris). */
+#define GOBLIN_SHF_NUM_REGULAR_FLAGS 12 /* The number of flags in GOBLIN_SHF_FLAGS. */
+#define GOBLIN_SHF_EXCLUDE UINT64_C(0x80000000) /* The section is dropped if nothing refers to it (Solaris). */
 
 /* The flags that have a name. */
 #define GOBLIN_SHF_FLAGS { \
@@ -864,66 +868,66 @@ uint64_t goblin_refusal_text(const goblin_refusal_t *why, void *text, size_t cap
 }
 
 /* What the 32-bit class has of its own. */
-#define GOBLIN_SIZEOF_SHDR32 40 /* How many bytes a section header has. */
+#define GOBLIN_SIZEOF_SHDR32 40 /* The size of a section header in bytes. */
 
 /* What the 64-bit class has of its own. */
-#define GOBLIN_SIZEOF_SHDR64 64 /* How many bytes a section header has. */
+#define GOBLIN_SIZEOF_SHDR64 64 /* The size of a section header in bytes. */
 
 /* -- symbols -- */
 
 /* Bindings. */
 
-#define GOBLIN_STB_LOCAL 0 /* A symbol that other files do not see. */
-#define GOBLIN_STB_GLOBAL 1 /* A symbol that all files see. */
-#define GOBLIN_STB_WEAK 2 /* A global symbol that gives way to another definition. */
-#define GOBLIN_STB_NUM 3 /* How many bindings the standard defines. */
-#define GOBLIN_STB_LOOS 10 /* The first binding of operating systems. */
-#define GOBLIN_STB_GNU_UNIQUE 10 /* A symbol of which a process has one (GNU). */
-#define GOBLIN_STB_HIOS 12 /* The last binding of operating systems. */
-#define GOBLIN_STB_LOPROC 13 /* The first binding of processors. */
-#define GOBLIN_STB_HIPROC 15 /* The last binding of processors. */
+#define GOBLIN_STB_LOCAL 0 /* A local symbol, not visible outside its object file. */
+#define GOBLIN_STB_GLOBAL 1 /* A global symbol, visible to all object files. */
+#define GOBLIN_STB_WEAK 2 /* A weak symbol: global, with lower precedence than other definitions. */
+#define GOBLIN_STB_NUM 3 /* The number of bindings that the standard defines. */
+#define GOBLIN_STB_LOOS 10 /* The first OS-specific binding. */
+#define GOBLIN_STB_GNU_UNIQUE 10 /* A symbol that is unique in a process (GNU). */
+#define GOBLIN_STB_HIOS 12 /* The last OS-specific binding. */
+#define GOBLIN_STB_LOPROC 13 /* The first processor-specific binding. */
+#define GOBLIN_STB_HIPROC 15 /* The last processor-specific binding. */
 
 /* Types. */
 
-#define GOBLIN_STT_NOTYPE 0 /* No type is given. */
+#define GOBLIN_STT_NOTYPE 0 /* An unspecified type. */
 #define GOBLIN_STT_OBJECT 1 /* Data. */
 #define GOBLIN_STT_FUNC 2 /* Code. */
 #define GOBLIN_STT_SECTION 3 /* A section. */
 #define GOBLIN_STT_FILE 4 /* The name of a source file. */
-#define GOBLIN_STT_COMMON 5 /* A block of data that is still to be placed. */
-#define GOBLIN_STT_TLS 6 /* Data of which each thread has its own. */
-#define GOBLIN_STT_NUM 7 /* How many types the standard defines. */
-#define GOBLIN_STT_LOOS 10 /* The first type of operating systems. */
-#define GOBLIN_STT_GNU_IFUNC 10 /* Code that finds the function to call (GNU). */
-#define GOBLIN_STT_HIOS 12 /* The last type of operating systems. */
-#define GOBLIN_STT_LOPROC 13 /* The first type of processors. */
-#define GOBLIN_STT_HIPROC 15 /* The last type of processors. */
+#define GOBLIN_STT_COMMON 5 /* A common block: data that isn't allocated yet. */
+#define GOBLIN_STT_TLS 6 /* Thread-local data. */
+#define GOBLIN_STT_NUM 7 /* The number of types that the standard defines. */
+#define GOBLIN_STT_LOOS 10 /* The first OS-specific type. */
+#define GOBLIN_STT_GNU_IFUNC 10 /* An indirect function: code that returns the function to call (GNU). */
+#define GOBLIN_STT_HIOS 12 /* The last OS-specific type. */
+#define GOBLIN_STT_LOPROC 13 /* The first processor-specific type. */
+#define GOBLIN_STT_HIPROC 15 /* The last processor-specific type. */
 
 /* Visibilities. */
 
-#define GOBLIN_STV_DEFAULT 0 /* As the binding says. */
-#define GOBLIN_STV_INTERNAL 1 /* Hidden, with a meaning that processors may add. */
-#define GOBLIN_STV_HIDDEN 2 /* Not seen by other components. */
-#define GOBLIN_STV_PROTECTED 3 /* Seen by other components, which cannot replace it. */
-#define GOBLIN_STV_EXPORTED 4 /* Stays global whatever else is asked for. */
-#define GOBLIN_STV_SINGLETON 5 /* Stays global, and a process has one of it. */
-#define GOBLIN_STV_ELIMINATE 6 /* Hidden, and written to no symbol table. */
+#define GOBLIN_STV_DEFAULT 0 /* Visible as the binding specifies. */
+#define GOBLIN_STV_INTERNAL 1 /* Hidden, with a processor-specific meaning. */
+#define GOBLIN_STV_HIDDEN 2 /* Hidden: not visible to other components. */
+#define GOBLIN_STV_PROTECTED 3 /* Protected: visible to other components, but not preemptable. */
+#define GOBLIN_STV_EXPORTED 4 /* Stays global whatever else is requested. */
+#define GOBLIN_STV_SINGLETON 5 /* Stays global, and is unique in a process. */
+#define GOBLIN_STV_ELIMINATE 6 /* Hidden, and not written to any symbol table. */
 
 /* What the 32-bit class has of its own. */
-#define GOBLIN_SIZEOF_SYM32 (4 + 4 + 4 + 1 + 1 + 2) /* How many bytes a symbol takes. */
+#define GOBLIN_SIZEOF_SYM32 (4 + 4 + 4 + 1 + 1 + 2) /* The size of a symbol in bytes. */
 
 /* What the 64-bit class has of its own. */
-#define GOBLIN_SIZEOF_SYM64 (4 + 1 + 1 + 2 + 8 + 8) /* How many bytes a symbol takes. */
+#define GOBLIN_SIZEOF_SYM64 (4 + 1 + 1 + 2 + 8 + 8) /* The size of a symbol in bytes. */
 
 /* -- relocations -- */
 
 /* What the 32-bit class has of its own. */
-#define GOBLIN_SIZEOF_RELA32 (4 + 4 + 4) /* How many bytes a relocation with an addend takes. */
-#define GOBLIN_SIZEOF_REL32 (4 + 4) /* How many bytes a relocation without an addend takes. */
+#define GOBLIN_SIZEOF_RELA32 (4 + 4 + 4) /* The size of a relocation with an addend, in bytes. */
+#define GOBLIN_SIZEOF_REL32 (4 + 4) /* The size of a relocation without an addend, in bytes. */
 
 /* What the 64-bit class has of its own. */
-#define GOBLIN_SIZEOF_RELA64 (8 + 8 + 8) /* How many bytes a relocation with an addend takes. */
-#define GOBLIN_SIZEOF_REL64 (8 + 8) /* How many bytes a relocation without an addend takes. */
+#define GOBLIN_SIZEOF_RELA64 (8 + 8 + 8) /* The size of a relocation with an addend, in bytes. */
+#define GOBLIN_SIZEOF_REL64 (8 + 8) /* The size of a relocation without an addend, in bytes. */
 
 /* -- notes -- */
 
@@ -938,15 +942,15 @@ uint64_t goblin_refusal_text(const goblin_refusal_t *why, void *text, size_t cap
 #define GOBLIN_ELF_NOTE_OS_SOLARIS2 2u /* Solaris. */
 #define GOBLIN_ELF_NOTE_OS_FREEBSD 3u /* FreeBSD. */
 
-/* Made-up capabilities of the hardware: how many there are, a mask of those that are on, and for each the number of its
-   bit and its name. */
+/* Synthetic hardware capabilities: their number, a mask of those that are enabled, and for each the number of its bit
+   and its name. */
 #define GOBLIN_NT_GNU_HWCAP 2u
-#define GOBLIN_NT_GNU_BUILD_ID 3u /* The bytes that tell one build from another, as linkers make them. */
+#define GOBLIN_NT_GNU_BUILD_ID 3u /* The build ID, as linkers make it. */
 #define GOBLIN_NT_GNU_GOLD_VERSION 4u /* The version of the linker gold, as text. */
 #define GOBLIN_NT_GNU_PROPERTY_TYPE_0 5u /* Properties of the program. */
 
 #define GOBLIN_NT_PRSTATUS 1u /* In a core file: the state of a thread. */
-#define GOBLIN_NT_PRPSINFO 3u /* In a core file: what is known of the process. */
+#define GOBLIN_NT_PRPSINFO 3u /* In a core file: information on the process. */
 #define GOBLIN_NT_SIGINFO 0x53494749u /* In a core file: the signal that ended the process. */
 #define GOBLIN_NT_FILE 0x46494c45u /* In a core file: which files were mapped where. */
 

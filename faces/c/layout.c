@@ -244,7 +244,7 @@ static void call_with_nulls(void) {
         same("null: sections", goblin_section_count(NULL, 0, &h, &number, &why), i ? GOBLIN_BAD_OFFSET : GOBLIN_OK);
         same("null: section", goblin_section(NULL, 0, &h, 0, &s, &why), end);
         same("null: section names", goblin_section_names(NULL, 0, &h, &s, &why), end);
-        same("null: table", goblin_table(NULL, 0, &h, 1, &s, &why), end);
+        same("null: table", goblin_linked_section(NULL, 0, &h, 1, &s, &why), end);
         same("null: section by name", goblin_section_by_name(NULL, 0, &h, &none, NULL, 0, &number, &why), end);
         same("null: section by type", goblin_section_by_type(NULL, 0, &h, 3, 0, &number, &why), end);
         same("null: sections", goblin_sections(NULL, 0, &h, 0, NULL, 0, &number, &why), end);

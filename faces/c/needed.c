@@ -35,7 +35,7 @@ static uint32_t list_dynamic(const uint8_t *bytes, size_t len, const goblin_head
     uint32_t status = goblin_section_by_type(bytes, len, header, GOBLIN_SHT_DYNAMIC, 0, &index, &why);
     if (status == GOBLIN_OK) status = goblin_section(bytes, len, header, index, &dynamic, &why);
     if (status != GOBLIN_OK) return status;
-    if (goblin_table(bytes, len, header, dynamic.sh_link, &strings, &why) > GOBLIN_END) return why.kind;
+    if (goblin_linked_section(bytes, len, header, dynamic.sh_link, &strings, &why) > GOBLIN_END) return why.kind;
     for (uint64_t entry = 0; status == GOBLIN_OK && dynamic.file.size - entry >= 2 * width; entry += 2 * width) {
         if ((status = goblin_number(bytes, len, header, dynamic.file.offset + entry, width, &tag, &why)) != GOBLIN_OK) break;
         if ((status = goblin_number(bytes, len, header, dynamic.file.offset + entry + width, width, &value, &why)) != GOBLIN_OK) break;

@@ -68,7 +68,7 @@ static int list(uint64_t index_of_table, const goblin_section_t *table) {
     goblin_section_t indices;
     bool has_indices = find_indices(index_of_table, &indices);
     goblin_section_t names = {.sh_type = GOBLIN_SHT_NULL};
-    if (goblin_table(bytes, len, &header, table->sh_link, &names, &why) > GOBLIN_END) return refused("string table");
+    if (goblin_linked_section(bytes, len, &header, table->sh_link, &names, &why) > GOBLIN_END) return refused("string table");
     goblin_symbol_t symbol;
     uint32_t status;
     for (uint64_t i = 1; (status = goblin_symbol(bytes, len, &header, &table->file, i, &symbol, &why)) == GOBLIN_OK; i++) {

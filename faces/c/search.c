@@ -65,7 +65,7 @@ static int time_search(const uint8_t *bytes, size_t len) {
     if (goblin_header(bytes, len, &header, &why) != GOBLIN_OK) return 1;
     for (uint64_t i = 0; goblin_section(bytes, len, &header, i, &table, &why) == GOBLIN_OK; i++)
         if ((table.sh_type == SHT_SYMTAB || table.sh_type == SHT_DYNSYM) && table.file.size > longest.file.size) longest = table;
-    if (goblin_table(bytes, len, &header, longest.sh_link, &strings, &why) != GOBLIN_OK) return 1;
+    if (goblin_linked_section(bytes, len, &header, longest.sh_link, &strings, &why) != GOBLIN_OK) return 1;
     count = longest.file.size / sizeof(Elf64_Sym);
     for (int run = 0; run < 9; run++) {
         clock_t start = clock();

@@ -31,7 +31,7 @@ static uint32_t find_table(goblin_section_t *table, goblin_section_t *names) {
     uint32_t status = goblin_section_by_type(bytes, len, &header, GOBLIN_SHT_SYMTAB, 0, &index, &why);
     if (status == GOBLIN_END) status = goblin_section_by_type(bytes, len, &header, GOBLIN_SHT_DYNSYM, 0, &index, &why);
     if (status == GOBLIN_OK) status = goblin_section(bytes, len, &header, index, table, &why);
-    return status == GOBLIN_OK ? goblin_table(bytes, len, &header, table->sh_link, names, &why) : status;
+    return status == GOBLIN_OK ? goblin_linked_section(bytes, len, &header, table->sh_link, names, &why) : status;
 }
 
 int main(int argc, char **argv) {

@@ -21,7 +21,7 @@ static int list(const uint8_t *bytes, size_t len) {
     for (uint64_t i = 0; (status = goblin_section(bytes, len, &header, i, &table, &why)) == GOBLIN_OK; i++) {
         if (table.sh_type != GOBLIN_SHT_SYMTAB && table.sh_type != GOBLIN_SHT_DYNSYM) continue;
         goblin_section_t strings = {.sh_type = GOBLIN_SHT_NULL};
-        if (goblin_table(bytes, len, &header, table.sh_link, &strings, &why) > GOBLIN_END) return refused();
+        if (goblin_linked_section(bytes, len, &header, table.sh_link, &strings, &why) > GOBLIN_END) return refused();
         for (uint64_t k = 0; (status = goblin_symbol(bytes, len, &header, &table.file, k, &symbol, &why)) == GOBLIN_OK; k++) {
             goblin_range_t name = {0, 0};
             if (goblin_string(bytes, len, &strings.file, symbol.st_name, &name, &why) > GOBLIN_END) return refused();

@@ -3,7 +3,7 @@
 // Made by faces/constants.py of the library's constants: do not edit.
 
 /** The number of the interface: `GOBLIN_VERSION` of `goblin.h`. */
-export const VERSION = 3;
+export const VERSION = 4;
 
 // ---- file headers ----
 
@@ -17,23 +17,23 @@ export const ET_EXEC = 2;
 export const ET_DYN = 3;
 /** A core file. */
 export const ET_CORE = 4;
-/** One more than the greatest type that the standard gives out. */
+/** One more than the greatest type that the standard defines. */
 export const ET_NUM = 5;
-/** The first type that is left to operating systems. */
+/** The first OS-specific type. */
 export const ET_LOOS = 0xfe00;
-/** The last type that is left to operating systems. */
+/** The last OS-specific type. */
 export const ET_HIOS = 0xfeff;
-/** The first type that is left to processors. */
+/** The first processor-specific type. */
 export const ET_LOPROC = 0xff00;
-/** The last type that is left to processors. */
+/** The last processor-specific type. */
 export const ET_HIPROC = 0xffff;
 
 /** The first four bytes of every ELF file. */
 export const ELFMAG = Object.freeze([0x7f, 0x45, 0x4c, 0x46]);
-/** How many bytes `ELFMAG` has. */
+/** The size of `ELFMAG` in bytes. */
 export const SELFMAG = 4;
 
-/** The place of the class byte in the identification. */
+/** The offset of the class byte in the identification. */
 export const EI_CLASS = 4;
 /** No class: not valid in a file. */
 export const ELFCLASSNONE = 0;
@@ -44,21 +44,21 @@ export const ELFCLASS64 = 2;
 /** One more than the greatest class. */
 export const ELFCLASSNUM = 3;
 
-/** The place of the data byte, which tells the byte order, in the identification. */
+/** The offset of the data byte, which names the byte order, in the identification. */
 export const EI_DATA = 5;
 /** No byte order: not valid in a file. */
 export const ELFDATANONE = 0;
-/** Two's complement numbers, the lowest byte first. */
+/** Little endian, in two's complement. */
 export const ELFDATA2LSB = 1;
-/** Two's complement numbers, the highest byte first. */
+/** Big endian, in two's complement. */
 export const ELFDATA2MSB = 2;
 
-/** The place of the version byte in the identification. */
+/** The offset of the version byte in the identification. */
 export const EI_VERSION = 6;
-/** The version of the format, the only one there is. */
+/** The current version of the format. */
 export const EV_CURRENT = 1;
 
-/** The place of the byte that names the operating system or ABI in the identification. */
+/** The offset of the OS/ABI byte in the identification. */
 export const EI_OSABI = 7;
 /** System V, or none. */
 export const ELFOSABI_NONE = 0;
@@ -90,13 +90,13 @@ export const ELFOSABI_OPENBSD = 12;
 export const ELFOSABI_ARM_AEABI = 64;
 /** ARM. */
 export const ELFOSABI_ARM = 97;
-/** An embedded program, with no system below it. */
+/** A standalone (embedded) program. */
 export const ELFOSABI_STANDALONE = 255;
 
-/** The place of the ABI's version in the identification. */
+/** The offset of the ABI version in the identification. */
 export const EI_ABIVERSION = 8;
 
-/** How many bytes the identification has. */
+/** The size of the identification in bytes. */
 export const SIZEOF_IDENT = 16;
 
 /** No machine. */
@@ -147,7 +147,7 @@ export const EM_RH32 = 38;
 export const EM_RCE = 39;
 /** ARM, 32 bits. */
 export const EM_ARM = 40;
-/** Digital Alpha, by the number that the registry gives it. */
+/** Digital Alpha, by its registered number. */
 export const EM_FAKE_ALPHA = 41;
 /** Hitachi SuperH. */
 export const EM_SH = 42;
@@ -457,7 +457,7 @@ export const EM_AMDGPU = 224;
 export const EM_RISCV = 243;
 /** Linux BPF, a machine inside the kernel. */
 export const EM_BPF = 247;
-/** One more than the greatest number that was given out when the list was made. */
+/** One more than the greatest number that was assigned when the list was made. */
 export const EM_NUM = 248;
 /** C-SKY. */
 export const EM_CSKY = 252;
@@ -466,7 +466,7 @@ export const EM_LOONGARCH = 258;
 
 /** What the 32-bit class has of its own. */
 export const header32 = Object.freeze({
-    /** How many bytes a header has. */
+    /** The size of a header in bytes. */
     SIZEOF_EHDR: 52,
     /** The class byte of a 32-bit file. */
     ELFCLASS: ELFCLASS32,
@@ -474,7 +474,7 @@ export const header32 = Object.freeze({
 
 /** What the 64-bit class has of its own. */
 export const header64 = Object.freeze({
-    /** How many bytes a header has. */
+    /** The size of a header in bytes. */
     SIZEOF_EHDR: 64,
     /** The class byte of a 64-bit file. */
     ELFCLASS: ELFCLASS64,
@@ -482,54 +482,54 @@ export const header64 = Object.freeze({
 
 // ---- program headers ----
 
-// What a segment is.
+// Segment types.
 
 /** No segment. */
 export const PT_NULL = 0;
-/** A segment that is loaded. */
+/** A loadable segment. */
 export const PT_LOAD = 1;
-/** What dynamic linking needs. */
+/** Information for dynamic linking. */
 export const PT_DYNAMIC = 2;
-/** The path of the interpreter. */
+/** The path of the program interpreter. */
 export const PT_INTERP = 3;
 /** Notes. */
 export const PT_NOTE = 4;
-/** Left without a meaning by the standard. */
+/** Reserved, with unspecified semantics. */
 export const PT_SHLIB = 5;
-/** The table of program headers itself. */
+/** The program header table itself. */
 export const PT_PHDR = 6;
-/** The storage that each thread has its own copy of. */
+/** Thread-local storage. */
 export const PT_TLS = 7;
-/** One more than the greatest type that the standard gives out. */
+/** One more than the greatest type that the standard defines. */
 export const PT_NUM = 8;
-/** The first type that is left to operating systems. */
+/** The first OS-specific type. */
 export const PT_LOOS = 0x60000000;
-/** The table that unwinding looks frames up in (GNU). */
+/** The table of unwind information (GNU). */
 export const PT_GNU_EH_FRAME = 0x6474e550;
 /** Notes on properties, for the linker and the loader (GNU). */
 export const PT_GNU_PROPERTY = 0x6474e553;
 /** Whether the stack may be executed (GNU). */
 export const PT_GNU_STACK = 0x6474e551;
-/** What becomes read-only once it is relocated (GNU). */
+/** Data that is made read-only after relocation (GNU). */
 export const PT_GNU_RELRO = 0x6474e552;
 /** The first type of Sun. */
 export const PT_LOSUNW = 0x6ffffffa;
-/** Data that begins as zeros (Sun). */
+/** Zero-initialized data (Sun). */
 export const PT_SUNWBSS = 0x6ffffffa;
 /** The stack (Sun). */
 export const PT_SUNWSTACK = 0x6ffffffb;
 /** The last type of Sun. */
 export const PT_HISUNW = 0x6fffffff;
-/** The last type that is left to operating systems. */
+/** The last OS-specific type. */
 export const PT_HIOS = 0x6fffffff;
-/** The first type that is left to processors. */
+/** The first processor-specific type. */
 export const PT_LOPROC = 0x70000000;
-/** The table that unwinding looks functions up in (ARM). */
+/** The table of unwind information (ARM). */
 export const PT_ARM_EXIDX = 0x70000001;
-/** The last type that is left to processors. */
+/** The last processor-specific type. */
 export const PT_HIPROC = 0x7fffffff;
 
-// What may be done with a segment.
+// Segment permissions.
 
 /** The segment may be executed. */
 export const PF_X = 1;
@@ -537,57 +537,57 @@ export const PF_X = 1;
 export const PF_W = 1 << 1;
 /** The segment may be read. */
 export const PF_R = 1 << 2;
-/** The flags that are left to operating systems. */
+/** The OS-specific flags. */
 export const PF_MASKOS = 0x0ff00000;
-/** The flags that are left to processors. */
+/** The processor-specific flags. */
 export const PF_MASKPROC = 0xf0000000;
 
 /** What the 32-bit class has of its own. */
 export const program_header32 = Object.freeze({
-    /** How many bytes a program header has. */
+    /** The size of a program header in bytes. */
     SIZEOF_PHDR: 32,
 });
 
 /** What the 64-bit class has of its own. */
 export const program_header64 = Object.freeze({
-    /** How many bytes a program header has. */
+    /** The size of a program header in bytes. */
     SIZEOF_PHDR: 56,
 });
 
 // ---- section headers ----
 
-// Indices of sections with a meaning of their own.
+// Special section indices.
 
 /** No section. */
 export const SHN_UNDEF = 0n;
-/** The first index with a meaning of its own. */
+/** The first special index. */
 export const SHN_LORESERVE = 0xff00n;
-/** The first index that is left to processors. */
+/** The first processor-specific index. */
 export const SHN_LOPROC = 0xff00n;
 /** Before all other sections (Solaris). */
 export const SHN_BEFORE = 0xff00n;
 /** After all other sections (Solaris). */
 export const SHN_AFTER = 0xff01n;
-/** The last index that is left to processors. */
+/** The last processor-specific index. */
 export const SHN_HIPROC = 0xff1fn;
-/** The first index that is left to operating systems. */
+/** The first OS-specific index. */
 export const SHN_LOOS = 0xff20n;
-/** The last index that is left to operating systems. */
+/** The last OS-specific index. */
 export const SHN_HIOS = 0xff3fn;
-/** What has no section: its value is absolute. */
+/** The index of symbols with an absolute value. */
 export const SHN_ABS = 0xfff1n;
-/** What is still to be placed in a section. */
+/** The index of common symbols, which aren't allocated yet. */
 export const SHN_COMMON = 0xfff2n;
-/** The index stands elsewhere, since it is too great for its field. */
+/** An escape: the index is stored elsewhere, since it doesn't fit its field. */
 export const SHN_XINDEX = 0xffffn;
-/** The last index with a meaning of its own. */
+/** The last special index. */
 export const SHN_HIRESERVE = 0xffffn;
 
-// What a section holds.
+// Section types.
 
 /** No section. */
 export const SHT_NULL = 0;
-/** What the program defines. */
+/** Data that the program defines. */
 export const SHT_PROGBITS = 1;
 /** A symbol table. */
 export const SHT_SYMTAB = 2;
@@ -597,7 +597,7 @@ export const SHT_STRTAB = 3;
 export const SHT_RELA = 4;
 /** A hash table of symbols. */
 export const SHT_HASH = 5;
-/** What dynamic linking needs. */
+/** Information for dynamic linking. */
 export const SHT_DYNAMIC = 6;
 /** Notes. */
 export const SHT_NOTE = 7;
@@ -605,39 +605,39 @@ export const SHT_NOTE = 7;
 export const SHT_NOBITS = 8;
 /** Relocations without addends. */
 export const SHT_REL = 9;
-/** Left without a meaning by the standard. */
+/** Reserved, with unspecified semantics. */
 export const SHT_SHLIB = 10;
-/** The symbol table of dynamic linking. */
+/** A symbol table for dynamic linking. */
 export const SHT_DYNSYM = 11;
-/** Addresses of functions that are called at the start. */
+/** Pointers to initialization functions. */
 export const SHT_INIT_ARRAY = 14;
-/** Addresses of functions that are called at the end. */
+/** Pointers to termination functions. */
 export const SHT_FINI_ARRAY = 15;
-/** Addresses of functions that are called before all others. */
+/** Pointers to functions that are called before all other initialization functions. */
 export const SHT_PREINIT_ARRAY = 16;
 /** A group of sections. */
 export const SHT_GROUP = 17;
-/** Section indices that are too great for a symbol. */
+/** Section indices that don't fit a symbol's field. */
 export const SHT_SYMTAB_SHNDX = 18;
-/** One more than the greatest type that this table knows. */
+/** One more than the greatest type before it. */
 export const SHT_NUM = 19;
-/** The first type that is left to operating systems. */
+/** The first OS-specific type. */
 export const SHT_LOOS = 0x60000000;
 /** Attributes of the object (GNU). */
 export const SHT_GNU_ATTRIBUTES = 0x6ffffff5;
 /** A hash table of symbols (GNU). */
 export const SHT_GNU_HASH = 0x6ffffff6;
-/** Libraries that were linked before (GNU). */
+/** The libraries of a prelinked file (GNU). */
 export const SHT_GNU_LIBLIST = 0x6ffffff7;
 /** A checksum of the contents. */
 export const SHT_CHECKSUM = 0x6ffffff8;
 /** The first type of Sun. */
 export const SHT_LOSUNW = 0x6ffffffa;
-/** What is moved at the start (Sun). */
+/** Data to move at startup (Sun). */
 export const SHT_SUNW_MOVE = 0x6ffffffa;
-/** Contents that are kept once (Sun). */
+/** Contents of which one copy is kept (Sun). */
 export const SHT_SUNW_COMDAT = 0x6ffffffb;
-/** More about symbols (Sun). */
+/** More information on symbols (Sun). */
 export const SHT_SUNW_SYMINFO = 0x6ffffffc;
 /** Versions that the file defines (GNU). */
 export const SHT_GNU_VERDEF = 0x6ffffffd;
@@ -647,20 +647,20 @@ export const SHT_GNU_VERNEED = 0x6ffffffe;
 export const SHT_GNU_VERSYM = 0x6fffffff;
 /** The last type of Sun. */
 export const SHT_HISUNW = 0x6fffffff;
-/** The last type that is left to operating systems. */
+/** The last OS-specific type. */
 export const SHT_HIOS = 0x6fffffff;
-/** The first type that is left to processors. */
+/** The first processor-specific type. */
 export const SHT_LOPROC = 0x70000000;
-/** What unwinding needs (x86-64). */
+/** Unwind information (x86-64). */
 export const SHT_X86_64_UNWIND = 0x70000001;
-/** The last type that is left to processors. */
+/** The last processor-specific type. */
 export const SHT_HIPROC = 0x7fffffff;
-/** The first type that is left to applications. */
+/** The first type for applications. */
 export const SHT_LOUSER = 0x80000000;
-/** The last type that is left to applications. */
+/** The last type for applications. */
 export const SHT_HIUSER = 0x8fffffff;
 
-// What may be done with a section.
+// Section attributes.
 
 /** The section may be written. */
 export const SHF_WRITE = 0x1n;
@@ -668,31 +668,31 @@ export const SHF_WRITE = 0x1n;
 export const SHF_ALLOC = 0x2n;
 /** The section may be executed. */
 export const SHF_EXECINSTR = 0x4n;
-/** Equal entries may be made one. */
+/** Equal entries may be merged. */
 export const SHF_MERGE = 0x10n;
-/** The entries are texts that end with a zero. */
+/** The entries are zero-terminated strings. */
 export const SHF_STRINGS = 0x20n;
-/** The index of a section stands in `sh_info`. */
+/** `sh_info` is the index of a section. */
 export const SHF_INFO_LINK = 0x40n;
-/** The order of sections is to be kept. */
+/** The section needs a special order when sections are combined. */
 export const SHF_LINK_ORDER = 0x80n;
-/** The operating system has to treat the section in its own way. */
+/** The section needs OS-specific processing. */
 export const SHF_OS_NONCONFORMING = 0x100n;
 /** The section belongs to a group. */
 export const SHF_GROUP = 0x200n;
-/** The section is storage that each thread has its own copy of. */
+/** The section holds thread-local storage. */
 export const SHF_TLS = 0x400n;
 /** The contents are compressed. */
 export const SHF_COMPRESSED = 0x800n;
-/** The flags that are left to operating systems. */
+/** The OS-specific flags. */
 export const SHF_MASKOS = 0x0ff00000n;
-/** The flags that are left to processors. */
+/** The processor-specific flags. */
 export const SHF_MASKPROC = 0xf0000000n;
-/** The section is to be ordered (Solaris). */
+/** The section needs a special order (Solaris). */
 export const SHF_ORDERED = 1n << 30n;
-/** How many flags `SHF_FLAGS` has. */
+/** The number of flags in `SHF_FLAGS`. */
 export const SHF_NUM_REGULAR_FLAGS = 12;
-/** The section is left out where nothing refers to it (Solaris). */
+/** The section is dropped if nothing refers to it (Solaris). */
 export const SHF_EXCLUDE = 0x80000000n;
 
 /** The flags that have a name. */
@@ -703,13 +703,13 @@ export const SHF_FLAGS = Object.freeze([
 
 /** What the 32-bit class has of its own. */
 export const section_header32 = Object.freeze({
-    /** How many bytes a section header has. */
+    /** The size of a section header in bytes. */
     SIZEOF_SHDR: 40,
 });
 
 /** What the 64-bit class has of its own. */
 export const section_header64 = Object.freeze({
-    /** How many bytes a section header has. */
+    /** The size of a section header in bytes. */
     SIZEOF_SHDR: 64,
 });
 
@@ -717,28 +717,28 @@ export const section_header64 = Object.freeze({
 
 // Bindings.
 
-/** A symbol that other files do not see. */
+/** A local symbol, not visible outside its object file. */
 export const STB_LOCAL = 0;
-/** A symbol that all files see. */
+/** A global symbol, visible to all object files. */
 export const STB_GLOBAL = 1;
-/** A global symbol that gives way to another definition. */
+/** A weak symbol: global, with lower precedence than other definitions. */
 export const STB_WEAK = 2;
-/** How many bindings the standard defines. */
+/** The number of bindings that the standard defines. */
 export const STB_NUM = 3;
-/** The first binding of operating systems. */
+/** The first OS-specific binding. */
 export const STB_LOOS = 10;
-/** A symbol of which a process has one (GNU). */
+/** A symbol that is unique in a process (GNU). */
 export const STB_GNU_UNIQUE = 10;
-/** The last binding of operating systems. */
+/** The last OS-specific binding. */
 export const STB_HIOS = 12;
-/** The first binding of processors. */
+/** The first processor-specific binding. */
 export const STB_LOPROC = 13;
-/** The last binding of processors. */
+/** The last processor-specific binding. */
 export const STB_HIPROC = 15;
 
 // Types.
 
-/** No type is given. */
+/** An unspecified type. */
 export const STT_NOTYPE = 0;
 /** Data. */
 export const STT_OBJECT = 1;
@@ -748,49 +748,49 @@ export const STT_FUNC = 2;
 export const STT_SECTION = 3;
 /** The name of a source file. */
 export const STT_FILE = 4;
-/** A block of data that is still to be placed. */
+/** A common block: data that isn't allocated yet. */
 export const STT_COMMON = 5;
-/** Data of which each thread has its own. */
+/** Thread-local data. */
 export const STT_TLS = 6;
-/** How many types the standard defines. */
+/** The number of types that the standard defines. */
 export const STT_NUM = 7;
-/** The first type of operating systems. */
+/** The first OS-specific type. */
 export const STT_LOOS = 10;
-/** Code that finds the function to call (GNU). */
+/** An indirect function: code that returns the function to call (GNU). */
 export const STT_GNU_IFUNC = 10;
-/** The last type of operating systems. */
+/** The last OS-specific type. */
 export const STT_HIOS = 12;
-/** The first type of processors. */
+/** The first processor-specific type. */
 export const STT_LOPROC = 13;
-/** The last type of processors. */
+/** The last processor-specific type. */
 export const STT_HIPROC = 15;
 
 // Visibilities.
 
-/** As the binding says. */
+/** Visible as the binding specifies. */
 export const STV_DEFAULT = 0;
-/** Hidden, with a meaning that processors may add. */
+/** Hidden, with a processor-specific meaning. */
 export const STV_INTERNAL = 1;
-/** Not seen by other components. */
+/** Hidden: not visible to other components. */
 export const STV_HIDDEN = 2;
-/** Seen by other components, which cannot replace it. */
+/** Protected: visible to other components, but not preemptable. */
 export const STV_PROTECTED = 3;
-/** Stays global whatever else is asked for. */
+/** Stays global whatever else is requested. */
 export const STV_EXPORTED = 4;
-/** Stays global, and a process has one of it. */
+/** Stays global, and is unique in a process. */
 export const STV_SINGLETON = 5;
-/** Hidden, and written to no symbol table. */
+/** Hidden, and not written to any symbol table. */
 export const STV_ELIMINATE = 6;
 
 /** What the 32-bit class has of its own. */
 export const sym32 = Object.freeze({
-    /** How many bytes a symbol takes. */
+    /** The size of a symbol in bytes. */
     SIZEOF_SYM: 4 + 4 + 4 + 1 + 1 + 2,
 });
 
 /** What the 64-bit class has of its own. */
 export const sym64 = Object.freeze({
-    /** How many bytes a symbol takes. */
+    /** The size of a symbol in bytes. */
     SIZEOF_SYM: 4 + 1 + 1 + 2 + 8 + 8,
 });
 
@@ -798,17 +798,17 @@ export const sym64 = Object.freeze({
 
 /** What the 32-bit class has of its own. */
 export const reloc32 = Object.freeze({
-    /** How many bytes a relocation with an addend takes. */
+    /** The size of a relocation with an addend, in bytes. */
     SIZEOF_RELA: 4 + 4 + 4,
-    /** How many bytes a relocation without an addend takes. */
+    /** The size of a relocation without an addend, in bytes. */
     SIZEOF_REL: 4 + 4,
 });
 
 /** What the 64-bit class has of its own. */
 export const reloc64 = Object.freeze({
-    /** How many bytes a relocation with an addend takes. */
+    /** The size of a relocation with an addend, in bytes. */
     SIZEOF_RELA: 8 + 8 + 8,
-    /** How many bytes a relocation without an addend takes. */
+    /** The size of a relocation without an addend, in bytes. */
     SIZEOF_REL: 8 + 8,
 });
 
@@ -832,11 +832,11 @@ export const ELF_NOTE_OS_SOLARIS2 = 2;
 export const ELF_NOTE_OS_FREEBSD = 3;
 
 /**
- * Made-up capabilities of the hardware: how many there are, a mask of those that are on, and for each the number of its bit and
- * its name.
+ * Synthetic hardware capabilities: their number, a mask of those that are enabled, and for each the number of its bit and its
+ * name.
  */
 export const NT_GNU_HWCAP = 2;
-/** The bytes that tell one build from another, as linkers make them. */
+/** The build ID, as linkers make it. */
 export const NT_GNU_BUILD_ID = 3;
 /** The version of the linker `gold`, as text. */
 export const NT_GNU_GOLD_VERSION = 4;
@@ -845,7 +845,7 @@ export const NT_GNU_PROPERTY_TYPE_0 = 5;
 
 /** In a core file: the state of a thread. */
 export const NT_PRSTATUS = 1;
-/** In a core file: what is known of the process. */
+/** In a core file: information on the process. */
 export const NT_PRPSINFO = 3;
 /** In a core file: the signal that ended the process. */
 export const NT_SIGINFO = 0x53494749;

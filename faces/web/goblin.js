@@ -575,7 +575,7 @@ export class Elf {
      * @param {SectionHeader} section
      * @returns {SectionHeader | undefined}
      */
-    linked_section(section) { return this.#call('goblin_table', 'section', unsigned(section.sh_link, 64)); }
+    linked_section(section) { return this.#call('goblin_linked_section', 'section', unsigned(section.sh_link, 64)); }
 
     /**
      * Returns the symbols of a section of type SHT_SYMTAB or SHT_DYNSYM. Their names are in the linked section (`linked_section`). If there

@@ -118,7 +118,7 @@ class Dump {
         const table = is_table ? section : as_type(section, goblin.SHT_SYMTAB);
         // (dump.c prints these names for a refused table, too)
         const without = { ...table, sh_offset: 0n, sh_size: 0n };
-        if (!this.ask('goblin_table', () => elf.symtab(without), ({ strtab }) => fields(strtab.range))) return;
+        if (!this.ask('goblin_linked_section', () => elf.symtab(without), ({ strtab }) => fields(strtab.range))) return;
         const symtab = this.ask('goblin_symbol_count', () => elf.symtab(table), length);
         if (!symtab) return;
         const count = symtab.length;

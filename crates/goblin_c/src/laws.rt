@@ -40,7 +40,7 @@ pub fn indices()
     ensures relocs { RelocsByIndex }
 {}
 
-/// Laws: `goblin_table` stores what `goblin_section` stores at an index, but nothing at index 0 or of a
+/// Laws: `goblin_linked_section` stores what `goblin_section` stores at an index, but nothing at index 0 or of a
 /// section without bytes in the file. `goblin_section_names` stores the table at the index in the header,
 /// or if that is 0xffff at the index that the first section links to.
 pub fn names()

@@ -55,12 +55,12 @@ use types::{
 use writer::write_text;
 
 /// The version of these calls and of their structs.
-pub const VERSION: u32 = 3;
+pub const VERSION: u32 = 4;
 
 /// Returns the version of the library.
 #[unsafe(no_mangle)]
 pub extern "C" fn goblin_version() -> u32
-    ensures { result ≡ 3 }
+    ensures { result ≡ 4 }
 {
     VERSION
 }
@@ -353,7 +353,7 @@ pub extern "C" fn goblin_relocs(
 /// Stores the section at an index if it can be a table that something names by this index: not index 0,
 /// and not a section of the type without bytes in the file.
 #[unsafe(no_mangle)]
-pub extern "C" fn goblin_table(
+pub extern "C" fn goblin_linked_section(
     bytes: &[u8],
     header: &GoblinHeader,
     index: u64,

@@ -168,7 +168,7 @@ fn changed(place: usize, byte: u8) -> [u8; 208] {
 // What the table at an index is: its answer and its type, which is a mark where there is none.
 fn table(bytes: &[u8], index: u64) -> (u32, u32) {
     let mark = marked_layout().section;
-    let (status, found, _) = called!(goblin_table(bytes, &header(), index), mark);
+    let (status, found, _) = called!(goblin_linked_section(bytes, &header(), index), mark);
     (status, found.sh_type)
 }
 
@@ -425,7 +425,7 @@ fn writes_names(rt: HostRuntime) {
     assert!(rt; machine(62) == (*b"X86_64", 6));
     assert!(rt; machine(258) == (*b"LOONGA", 9));
     assert!(rt; note_type_name(b"CORE", 3) == 11 && note_type_name(b"GNU", 3) == 15);
-    assert!(rt; goblin_version() == 3);
+    assert!(rt; goblin_version() == 4);
 }
 
 // Whether this is the text of a refusal of a kind with these numbers.

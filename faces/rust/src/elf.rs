@@ -199,7 +199,7 @@ impl<'a> Elf<'a> {
     /// # Errors
     /// If the section headers are not inside the file.
     pub fn linked_section(&self, section: &SectionHeader) -> Result<Option<SectionHeader>> {
-        sys::goblin_table(&self.file, &self.header, section.sh_link.into())
+        sys::goblin_linked_section(&self.file, &self.header, section.sh_link.into())
     }
 
     /// Returns the symbols of a section of type `SHT_SYMTAB` or `SHT_DYNSYM`. Their names are in the linked section

@@ -38,7 +38,7 @@ calls! {
     fn goblin_section_count(header: &Header) -> u64;
     fn goblin_section(header: &Header, index: u64) -> SectionHeader;
     fn goblin_sections(header: &Header, first: u64) into [SectionHeader] -> u64;
-    fn goblin_table(header: &Header, index: u64) -> SectionHeader;
+    fn goblin_linked_section(header: &Header, index: u64) -> SectionHeader;
     fn goblin_section_names(header: &Header) -> SectionHeader;
     fn goblin_section_by_name(header: &Header, names: &Range) by name -> u64;
     fn goblin_segment(header: &Header, index: u64) -> ProgramHeader;

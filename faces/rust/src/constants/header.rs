@@ -11,23 +11,23 @@ pub const ET_EXEC: u16 = 2;
 pub const ET_DYN: u16 = 3;
 /// A core file.
 pub const ET_CORE: u16 = 4;
-/// One more than the greatest type that the standard gives out.
+/// One more than the greatest type that the standard defines.
 pub const ET_NUM: u16 = 5;
-/// The first type that is left to operating systems.
+/// The first OS-specific type.
 pub const ET_LOOS: u16 = 0xfe00;
-/// The last type that is left to operating systems.
+/// The last OS-specific type.
 pub const ET_HIOS: u16 = 0xfeff;
-/// The first type that is left to processors.
+/// The first processor-specific type.
 pub const ET_LOPROC: u16 = 0xff00;
-/// The last type that is left to processors.
+/// The last processor-specific type.
 pub const ET_HIPROC: u16 = 0xffff;
 
 /// The first four bytes of every ELF file.
 pub const ELFMAG: &[u8; 4] = b"\x7FELF";
-/// How many bytes [`ELFMAG`] has.
+/// The size of [`ELFMAG`] in bytes.
 pub const SELFMAG: usize = 4;
 
-/// The place of the class byte in the identification.
+/// The offset of the class byte in the identification.
 pub const EI_CLASS: usize = 4;
 /// No class: not valid in a file.
 pub const ELFCLASSNONE: u8 = 0;
@@ -38,21 +38,21 @@ pub const ELFCLASS64: u8 = 2;
 /// One more than the greatest class.
 pub const ELFCLASSNUM: u8 = 3;
 
-/// The place of the data byte, which tells the byte order, in the identification.
+/// The offset of the data byte, which names the byte order, in the identification.
 pub const EI_DATA: usize = 5;
 /// No byte order: not valid in a file.
 pub const ELFDATANONE: u8 = 0;
-/// Two's complement numbers, the lowest byte first.
+/// Little endian, in two's complement.
 pub const ELFDATA2LSB: u8 = 1;
-/// Two's complement numbers, the highest byte first.
+/// Big endian, in two's complement.
 pub const ELFDATA2MSB: u8 = 2;
 
-/// The place of the version byte in the identification.
+/// The offset of the version byte in the identification.
 pub const EI_VERSION: usize = 6;
-/// The version of the format, the only one there is.
+/// The current version of the format.
 pub const EV_CURRENT: u8 = 1;
 
-/// The place of the byte that names the operating system or ABI in the identification.
+/// The offset of the OS/ABI byte in the identification.
 pub const EI_OSABI: usize = 7;
 /// System V, or none.
 pub const ELFOSABI_NONE: u8 = 0;
@@ -84,13 +84,13 @@ pub const ELFOSABI_OPENBSD: u8 = 12;
 pub const ELFOSABI_ARM_AEABI: u8 = 64;
 /// ARM.
 pub const ELFOSABI_ARM: u8 = 97;
-/// An embedded program, with no system below it.
+/// A standalone (embedded) program.
 pub const ELFOSABI_STANDALONE: u8 = 255;
 
-/// The place of the ABI's version in the identification.
+/// The offset of the ABI version in the identification.
 pub const EI_ABIVERSION: usize = 8;
 
-/// How many bytes the identification has.
+/// The size of the identification in bytes.
 pub const SIZEOF_IDENT: usize = 16;
 
 /// No machine.
@@ -141,7 +141,7 @@ pub const EM_RH32: u16 = 38;
 pub const EM_RCE: u16 = 39;
 /// ARM, 32 bits.
 pub const EM_ARM: u16 = 40;
-/// Digital Alpha, by the number that the registry gives it.
+/// Digital Alpha, by its registered number.
 pub const EM_FAKE_ALPHA: u16 = 41;
 /// Hitachi SuperH.
 pub const EM_SH: u16 = 42;
@@ -451,7 +451,7 @@ pub const EM_AMDGPU: u16 = 224;
 pub const EM_RISCV: u16 = 243;
 /// Linux BPF, a machine inside the kernel.
 pub const EM_BPF: u16 = 247;
-/// One more than the greatest number that was given out when the list was made.
+/// One more than the greatest number that was assigned when the list was made.
 pub const EM_NUM: u16 = 248;
 /// C-SKY.
 pub const EM_CSKY: u16 = 252;
@@ -462,7 +462,7 @@ pub const EM_LOONGARCH: u16 = 258;
 pub mod header32 {
     use super::ELFCLASS32;
 
-    /// How many bytes a header has.
+    /// The size of a header in bytes.
     pub const SIZEOF_EHDR: usize = 52;
     /// The class byte of a 32-bit file.
     pub const ELFCLASS: u8 = ELFCLASS32;
@@ -472,7 +472,7 @@ pub mod header32 {
 pub mod header64 {
     use super::ELFCLASS64;
 
-    /// How many bytes a header has.
+    /// The size of a header in bytes.
     pub const SIZEOF_EHDR: usize = 64;
     /// The class byte of a 64-bit file.
     pub const ELFCLASS: u8 = ELFCLASS64;

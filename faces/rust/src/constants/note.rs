@@ -16,10 +16,10 @@ pub const ELF_NOTE_OS_SOLARIS2: u32 = 2;
 /// FreeBSD.
 pub const ELF_NOTE_OS_FREEBSD: u32 = 3;
 
-/// Made-up capabilities of the hardware: how many there are, a mask of those that are on, and for each
+/// Synthetic hardware capabilities: their number, a mask of those that are enabled, and for each
 /// the number of its bit and its name.
 pub const NT_GNU_HWCAP: u32 = 2;
-/// The bytes that tell one build from another, as linkers make them.
+/// The build ID, as linkers make it.
 pub const NT_GNU_BUILD_ID: u32 = 3;
 /// The version of the linker `gold`, as text.
 pub const NT_GNU_GOLD_VERSION: u32 = 4;
@@ -28,7 +28,7 @@ pub const NT_GNU_PROPERTY_TYPE_0: u32 = 5;
 
 /// In a core file: the state of a thread.
 pub const NT_PRSTATUS: u32 = 1;
-/// In a core file: what is known of the process.
+/// In a core file: information on the process.
 pub const NT_PRPSINFO: u32 = 3;
 /// In a core file: the signal that ended the process.
 pub const NT_SIGINFO: u32 = 0x5349_4749;

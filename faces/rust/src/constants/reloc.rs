@@ -3,16 +3,16 @@
 
 /// What the 32-bit class has of its own.
 pub mod reloc32 {
-    /// How many bytes a relocation with an addend takes.
+    /// The size of a relocation with an addend, in bytes.
     pub const SIZEOF_RELA: usize = 4 + 4 + 4;
-    /// How many bytes a relocation without an addend takes.
+    /// The size of a relocation without an addend, in bytes.
     pub const SIZEOF_REL: usize = 4 + 4;
 }
 
 /// What the 64-bit class has of its own.
 pub mod reloc64 {
-    /// How many bytes a relocation with an addend takes.
+    /// The size of a relocation with an addend, in bytes.
     pub const SIZEOF_RELA: usize = 8 + 8 + 8;
-    /// How many bytes a relocation without an addend takes.
+    /// The size of a relocation without an addend, in bytes.
     pub const SIZEOF_REL: usize = 8 + 8;
 }

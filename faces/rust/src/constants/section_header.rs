@@ -1,38 +1,38 @@
 //! The constants of section headers, as the library has them.
 // Made by faces/constants.py of the library's constants: do not edit.
 
-// Indices of sections with a meaning of their own.
+// Special section indices.
 
 /// No section.
 pub const SHN_UNDEF: usize = 0;
-/// The first index with a meaning of its own.
+/// The first special index.
 pub const SHN_LORESERVE: usize = 0xff00;
-/// The first index that is left to processors.
+/// The first processor-specific index.
 pub const SHN_LOPROC: usize = 0xff00;
 /// Before all other sections (Solaris).
 pub const SHN_BEFORE: usize = 0xff00;
 /// After all other sections (Solaris).
 pub const SHN_AFTER: usize = 0xff01;
-/// The last index that is left to processors.
+/// The last processor-specific index.
 pub const SHN_HIPROC: usize = 0xff1f;
-/// The first index that is left to operating systems.
+/// The first OS-specific index.
 pub const SHN_LOOS: usize = 0xff20;
-/// The last index that is left to operating systems.
+/// The last OS-specific index.
 pub const SHN_HIOS: usize = 0xff3f;
-/// What has no section: its value is absolute.
+/// The index of symbols with an absolute value.
 pub const SHN_ABS: usize = 0xfff1;
-/// What is still to be placed in a section.
+/// The index of common symbols, which aren't allocated yet.
 pub const SHN_COMMON: usize = 0xfff2;
-/// The index stands elsewhere, since it is too great for its field.
+/// An escape: the index is stored elsewhere, since it doesn't fit its field.
 pub const SHN_XINDEX: usize = 0xffff;
-/// The last index with a meaning of its own.
+/// The last special index.
 pub const SHN_HIRESERVE: usize = 0xffff;
 
-// What a section holds.
+// Section types.
 
 /// No section.
 pub const SHT_NULL: u32 = 0;
-/// What the program defines.
+/// Data that the program defines.
 pub const SHT_PROGBITS: u32 = 1;
 /// A symbol table.
 pub const SHT_SYMTAB: u32 = 2;
@@ -42,7 +42,7 @@ pub const SHT_STRTAB: u32 = 3;
 pub const SHT_RELA: u32 = 4;
 /// A hash table of symbols.
 pub const SHT_HASH: u32 = 5;
-/// What dynamic linking needs.
+/// Information for dynamic linking.
 pub const SHT_DYNAMIC: u32 = 6;
 /// Notes.
 pub const SHT_NOTE: u32 = 7;
@@ -50,39 +50,39 @@ pub const SHT_NOTE: u32 = 7;
 pub const SHT_NOBITS: u32 = 8;
 /// Relocations without addends.
 pub const SHT_REL: u32 = 9;
-/// Left without a meaning by the standard.
+/// Reserved, with unspecified semantics.
 pub const SHT_SHLIB: u32 = 10;
-/// The symbol table of dynamic linking.
+/// A symbol table for dynamic linking.
 pub const SHT_DYNSYM: u32 = 11;
-/// Addresses of functions that are called at the start.
+/// Pointers to initialization functions.
 pub const SHT_INIT_ARRAY: u32 = 14;
-/// Addresses of functions that are called at the end.
+/// Pointers to termination functions.
 pub const SHT_FINI_ARRAY: u32 = 15;
-/// Addresses of functions that are called before all others.
+/// Pointers to functions that are called before all other initialization functions.
 pub const SHT_PREINIT_ARRAY: u32 = 16;
 /// A group of sections.
 pub const SHT_GROUP: u32 = 17;
-/// Section indices that are too great for a symbol.
+/// Section indices that don't fit a symbol's field.
 pub const SHT_SYMTAB_SHNDX: u32 = 18;
-/// One more than the greatest type that this table knows.
+/// One more than the greatest type before it.
 pub const SHT_NUM: u32 = 19;
-/// The first type that is left to operating systems.
+/// The first OS-specific type.
 pub const SHT_LOOS: u32 = 0x6000_0000;
 /// Attributes of the object (GNU).
 pub const SHT_GNU_ATTRIBUTES: u32 = 0x6fff_fff5;
 /// A hash table of symbols (GNU).
 pub const SHT_GNU_HASH: u32 = 0x6fff_fff6;
-/// Libraries that were linked before (GNU).
+/// The libraries of a prelinked file (GNU).
 pub const SHT_GNU_LIBLIST: u32 = 0x6fff_fff7;
 /// A checksum of the contents.
 pub const SHT_CHECKSUM: u32 = 0x6fff_fff8;
 /// The first type of Sun.
 pub const SHT_LOSUNW: u32 = 0x6fff_fffa;
-/// What is moved at the start (Sun).
+/// Data to move at startup (Sun).
 pub const SHT_SUNW_MOVE: u32 = 0x6fff_fffa;
-/// Contents that are kept once (Sun).
+/// Contents of which one copy is kept (Sun).
 pub const SHT_SUNW_COMDAT: u32 = 0x6fff_fffb;
-/// More about symbols (Sun).
+/// More information on symbols (Sun).
 pub const SHT_SUNW_SYMINFO: u32 = 0x6fff_fffc;
 /// Versions that the file defines (GNU).
 pub const SHT_GNU_VERDEF: u32 = 0x6fff_fffd;
@@ -92,20 +92,20 @@ pub const SHT_GNU_VERNEED: u32 = 0x6fff_fffe;
 pub const SHT_GNU_VERSYM: u32 = 0x6fff_ffff;
 /// The last type of Sun.
 pub const SHT_HISUNW: u32 = 0x6fff_ffff;
-/// The last type that is left to operating systems.
+/// The last OS-specific type.
 pub const SHT_HIOS: u32 = 0x6fff_ffff;
-/// The first type that is left to processors.
+/// The first processor-specific type.
 pub const SHT_LOPROC: u32 = 0x7000_0000;
-/// What unwinding needs (x86-64).
+/// Unwind information (x86-64).
 pub const SHT_X86_64_UNWIND: u32 = 0x7000_0001;
-/// The last type that is left to processors.
+/// The last processor-specific type.
 pub const SHT_HIPROC: u32 = 0x7fff_ffff;
-/// The first type that is left to applications.
+/// The first type for applications.
 pub const SHT_LOUSER: u32 = 0x8000_0000;
-/// The last type that is left to applications.
+/// The last type for applications.
 pub const SHT_HIUSER: u32 = 0x8fff_ffff;
 
-// What may be done with a section.
+// Section attributes.
 
 /// The section may be written.
 pub const SHF_WRITE: u64 = 0x1;
@@ -113,31 +113,31 @@ pub const SHF_WRITE: u64 = 0x1;
 pub const SHF_ALLOC: u64 = 0x2;
 /// The section may be executed.
 pub const SHF_EXECINSTR: u64 = 0x4;
-/// Equal entries may be made one.
+/// Equal entries may be merged.
 pub const SHF_MERGE: u64 = 0x10;
-/// The entries are texts that end with a zero.
+/// The entries are zero-terminated strings.
 pub const SHF_STRINGS: u64 = 0x20;
-/// The index of a section stands in `sh_info`.
+/// `sh_info` is the index of a section.
 pub const SHF_INFO_LINK: u64 = 0x40;
-/// The order of sections is to be kept.
+/// The section needs a special order when sections are combined.
 pub const SHF_LINK_ORDER: u64 = 0x80;
-/// The operating system has to treat the section in its own way.
+/// The section needs OS-specific processing.
 pub const SHF_OS_NONCONFORMING: u64 = 0x100;
 /// The section belongs to a group.
 pub const SHF_GROUP: u64 = 0x200;
-/// The section is storage that each thread has its own copy of.
+/// The section holds thread-local storage.
 pub const SHF_TLS: u64 = 0x400;
 /// The contents are compressed.
 pub const SHF_COMPRESSED: u64 = 0x800;
-/// The flags that are left to operating systems.
+/// The OS-specific flags.
 pub const SHF_MASKOS: u64 = 0x0ff0_0000;
-/// The flags that are left to processors.
+/// The processor-specific flags.
 pub const SHF_MASKPROC: u64 = 0xf000_0000;
-/// The section is to be ordered (Solaris).
+/// The section needs a special order (Solaris).
 pub const SHF_ORDERED: u64 = 1 << 30;
-/// How many flags [`SHF_FLAGS`] has.
+/// The number of flags in [`SHF_FLAGS`].
 pub const SHF_NUM_REGULAR_FLAGS: usize = 12;
-/// The section is left out where nothing refers to it (Solaris).
+/// The section is dropped if nothing refers to it (Solaris).
 pub const SHF_EXCLUDE: u64 = 0x8000_0000;
 
 /// The flags that have a name.
@@ -158,12 +158,12 @@ pub const SHF_FLAGS: [u64; SHF_NUM_REGULAR_FLAGS] = [
 
 /// What the 32-bit class has of its own.
 pub mod section_header32 {
-    /// How many bytes a section header has.
+    /// The size of a section header in bytes.
     pub const SIZEOF_SHDR: usize = 40;
 }
 
 /// What the 64-bit class has of its own.
 pub mod section_header64 {
-    /// How many bytes a section header has.
+    /// The size of a section header in bytes.
     pub const SIZEOF_SHDR: usize = 64;
 }
