@@ -44,9 +44,9 @@ tested:
 	python3 checks/edits --fits
 	@$(MAKE) --no-print-directory -j4 words files limits called refused unit
 
-# Every edit, and whether edits that test nothing are told from those that do.
+# Every edit, and the test of the script that tries them.
 tried:
-	@$(MAKE) --no-print-directory -j2 edited planted
+	@$(MAKE) --no-print-directory -j2 edited self_tested
 
 # The library as it was made in the copy for each target, for later commands.
 left:
@@ -79,8 +79,8 @@ unit:
 edited:
 	$(part) edits python3 checks/edits
 
-planted:
-	$(part) planted python3 checks/edits/planted.py
+self_tested:
+	$(part) self_test python3 checks/edits/self_test.py
 
 # The library for C called from C, Rust and JavaScript, by itself.
 faces:
@@ -125,5 +125,5 @@ uninstall:
 dist:
 	@sh faces/install.sh --archive
 
-.PHONY: help try show test gate tested tried left proved words files limits called refused unit edited planted faces edits margin \
+.PHONY: help try show test gate tested tried left proved words files limits called refused unit edited self_tested faces edits margin \
     bench bench-faces install uninstall dist

@@ -7,7 +7,7 @@ set -eu
 export LC_ALL=C
 runs=${RUNS:-15}
 show=crates/goblin_show/out/goblin_show
-test -x "$show" || { echo "$show is not built: make show FILE=/bin/true builds it" >&2; exit 2; }
+test -x "$show" || { echo "make bench: $show is not built. To build it: make show FILE=/bin/true" >&2; exit 2; }
 folder=$(mktemp -d)
 trap 'rm -rf "$folder"' EXIT
 trap 'exit 1' HUP INT TERM
@@ -34,8 +34,8 @@ least() {
     if [ "$before" -eq 0 ] || [ "$took" -lt "$before" ]; then echo "$took"; else echo "$before"; fi
 }
 
-echo "each time is the least of $runs runs, in milliseconds; times: readelf's time divided by the strict one"
-printf '%-20s %10s %10s %10s %8s\n' file strict permissive readelf times
+echo "times in milliseconds, best of $runs runs; the last column is readelf's time divided by the strict time"
+printf '%-20s %10s %10s %10s %8s\n' file strict permissive readelf ratio
 for file in "$folder"/*; do
     s=0 p=0 r=0 run=0
     while [ "$run" -lt "$runs" ]; do

@@ -4,7 +4,7 @@
 # for the processors that CPU names, by default every x86-64. Run from the repository's root.
 set -eu
 if ! echo '#include <gelf.h>' | cc -E - > /dev/null 2>&1; then
-    echo "no header of libelf here (gelf.h): nothing is compared with it"
+    echo "make bench-faces: nothing is timed, because the header of libelf (gelf.h) is not installed"
     exit 0
 fi
 folder=$(mktemp -d)

@@ -85,8 +85,8 @@ def main():
                 ran = subprocess.run([program], stdin=file, capture_output=True, text=True)
             if ran.returncode or ran.stdout != wanted:
                 wrong += 1
-                print(f'{program} of {path}: status {ran.returncode}\n{ran.stdout}\nand readelf:\n{wanted}')
-    print(f'files: {len(FILES)} of both classes and byte orders, {lines} lines as readelf lists them, {wrong} wrong')
+                print(f'files: {program} < {path}: exit status {ran.returncode} (expected 0). Its output:\n{ran.stdout}\nExpected, from readelf:\n{wanted}')
+    print(f'files: {len(FILES)} files, {lines} lines compared with readelf, {wrong} files differ')
     return 1 if wrong else 0
 
 

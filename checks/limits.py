@@ -74,14 +74,14 @@ def main():
     with tempfile.TemporaryDirectory(prefix='limits-') as folder:
         subprocess.run([sys.executable, 'checks/hostile.py', folder], check=True)
         if sorted(os.listdir(folder)) != sorted(LIMITS):
-            print(f'limits: checks/hostile.py makes other files than have a limit: {sorted(os.listdir(folder))}')
+            print(f'limits: LIMITS must name the files that checks/hostile.py makes: {sorted(os.listdir(folder))}')
             return 1
         for name, limits in LIMITS.items():
             for mode, limit in zip(('strict', 'permissive'), limits):
                 well, seconds, memory = took(f'{folder}/{name}', ['permissive'] * (mode == 'permissive'), limit)
                 wrong += not well
-                print(f'{name}, {mode}: {seconds:.2f} of {limit} seconds, {memory >> 20} MB{"" if well else ": NOT WITHIN ITS LIMIT"}')
-    print(f'limits: {2 * len(LIMITS)} runs, {wrong} beyond their limits')
+                print(f'{name}, {mode}: {seconds:.2f} of {limit} seconds, {memory >> 20} MB{"" if well else ": OVER THE LIMIT, or it failed"}')
+    print(f'limits: {2 * len(LIMITS)} runs, {wrong} over a limit or failed')
     return 1 if wrong else 0
 
 

@@ -2,8 +2,8 @@
 # What shellcheck says of this repository's shell scripts: nothing, where it is there. Run from the repository's root.
 set -eu
 if ! command -v shellcheck > /dev/null; then
-    echo "no shellcheck here: the shell scripts are not linted"
+    echo "lint: skipped, because shellcheck is not installed"
     exit 0
 fi
 git ls-files '*.sh' .ci/run | tr '\n' '\0' | xargs -0 shellcheck -x
-echo "shellcheck finds nothing in $(git ls-files '*.sh' .ci/run | wc -l) scripts"
+echo "lint: shellcheck reports nothing for $(git ls-files '*.sh' .ci/run | wc -l) scripts"

@@ -67,15 +67,15 @@ def main():
         for crate in crates:
             said, seconds = check(crate, f'{room}/crates/{crate}')
             found = open_in(said)
-            print(f'{crate}: {len(said.functions)} functions, {len(found)} open at half the limits', flush=True)
+            print(f'{crate}: {len(found)} of {len(said.functions)} functions are not proved at half the limits', flush=True)
             for path in found:
-                print(f'  open: {path}')
+                print(f'  not proved: {path}')
             for path in sorted(seconds, key=seconds.get, reverse=True)[:SLOWEST]:
                 print(f'  {seconds[path]:.1f} seconds: {path}')
             if not said.is_proved():
                 failed.append(crate)
                 print(f'{"" if found else said.text[-2000:]}{crate}: NOT PROVED at half the limits', flush=True)
-    print(f'margin: {len(crates)} crates, {len(failed)} not proved at half the limits')
+    print(f'margin: {len(failed)} of {len(crates)} crates are not proved at half the limits')
     return 1 if failed else 0
 
 

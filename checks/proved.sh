@@ -12,5 +12,5 @@ trap 'exit 1' HUP INT TERM
 [ -e "$said.passed" ] || exit 1
 edits=$(find crates/*/must-fail -name '*.edit' | wc -l)
 refused=$(grep -cE 'must-fail [^ ]+\.edit: refused, as it must be(: |$)' "$said" || :)
-echo "must-fail: $refused of $edits edits are refused by a contract"
+echo "must-fail: a contract refused $refused of $edits edits"
 [ "$refused" -eq "$edits" ]

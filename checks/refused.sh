@@ -11,8 +11,8 @@ mkdir "$folder/calls" "$folder/runs"
 
 # Which allocation of a program is refused. The instruments take so many before a call that it is one of the call's growths.
 refused=1000
-well='as it should be'
-more='it asks for more growths than were refused'
+well='as expected'
+more='it makes more allocations than were refused'
 
 # The cases of a call in a folder: its line and its file, with the growths from one number to another refused, one a case; and
 # before the first what it writes where none is, if that is known.
@@ -59,7 +59,7 @@ try_growths() {
         if [ "$rounds" -eq 0 ]; then
             if [ "$told" -eq 0 ] || ! grep -q -x too_few "$2/names"; then
                 cat "$folder/out"
-                echo "refused: rt try speaks in other words now of output that is expected, or that differs"
+                echo "refused: this script does not understand the output of rt try, which is above; its wording may have changed"
                 exit 1
             fi
             sed -i '/^too_few$/d' "$2/names"
@@ -104,4 +104,4 @@ echo 'refused: Invalid magic number: 0x3736353433323130' | add_run longest 8 'st
 add_run text 20 'text 0' checks/files/symbols < checks/files/symbols.shown
 echo refused | add_run text_damaged 20 'text 0' "$folder/damaged"
 try_growths "$folder/crates/goblin_runs" "$folder/runs" symbols
-echo 'each growth that is refused is answered by want of memory, or as with ample memory'
+echo 'refused: with each allocation refused, every call reported out of memory or the same result as without'

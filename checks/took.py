@@ -46,7 +46,7 @@ def unit():
             if os.path.isfile(said):
                 with open(said, encoding='utf-8') as text:
                     print(text.read())
-            print('took: the proof of one unit failed')
+            print('took: the small proof that measures one unit failed')
     return status
 
 
@@ -71,8 +71,8 @@ def whole(command):
         units = f'{seconds / proof:.1f}' if proof else '-'
         print(f'{name:<12} {(begun - start) / 60:6.1f} {(ended - start) / 60:6.1f} {seconds / 60:18.1f} {units:>7}')
     if proof:
-        print(f'one unit, a small proof made beside the others, took {proof:.1f} processor seconds')
-    print('all passed' if status == 0 else 'FAILED, as said above', flush=True)
+        print(f'one unit is {proof:.1f} processor seconds, the time of a small proof')
+    print('PASSED' if status == 0 else 'FAILED: the messages are above this table', flush=True)
     return status
 
 

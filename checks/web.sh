@@ -47,7 +47,7 @@ open_page() {
         browser=
     done
     if [ -z "$browser" ] || ! command -v readelf > "$folder/output" 2>&1; then
-        echo "no $name and readelf here: the page is not opened in $name"
+        echo "web: the page is not opened in $name, because $name or readelf is not installed"
     else
         node faces/web/browser.mjs "$name" "$browser" "$web/index.html" "$dump" "$made" /bin/true
     fi

@@ -84,7 +84,7 @@ class Run:
         ran = subprocess.run(verb, text=True, errors='replace', **how)
         self.said[crate] = Said(ran.stdout, crate)
         if ran.returncode:
-            self.wrong.append(f'{crate}: it is not proved as it stands')
+            self.wrong.append(f'{crate}: the crate is not proved without edits')
             say(f'{ran.stdout[-3000:]}\n{self.wrong[-1]}')
         return not ran.returncode
 
@@ -168,7 +168,7 @@ def main():
     for misfit in misfits:
         say(misfit)
     if misfits or not count:
-        say('edits: none tried' if count else 'edits: none found')
+        say('edits: none was tried, because the edits above do not fit the code' if count else 'edits: no edit was found')
         return 1
     if words.fits:
         say(f'{count} edits fit the code')
@@ -178,10 +178,10 @@ def main():
         run.all()
     is_whole = not (words.crates or words.edit or words.folder)
     if is_whole and run.ways != set(WAYS):
-        run.wrong.append('not every way of refusing was seen: the prover speaks of it in other words now')
+        run.wrong.append('some ways of refusing never occurred; the wording of the prover may have changed')
     for line in run.wrong:
         say(f'edits: {line}')
-    say(f'edits: {count} tried, {len(run.wrong)} wrong')
+    say(f'edits: {count} tried, {len(run.wrong)} not refused or not tried')
     return 1 if run.wrong else 0
 
 

@@ -35,7 +35,7 @@ class Trial:
         # a library whose proof was kept says nothing of its functions
         before = self.before if self.before.functions else self.check([])
         if not before.is_proved():
-            return self.fail(f'it is not proved as it stands\n{before.text[-2000:]}')
+            return self.fail(f'the crate is not proved without edits\n{before.text[-2000:]}')
         edits = [edit for edit in (it.among(before.functions) for it in self.edits) if self.place(edit, before)]
         for kind in (BODY, LIST):
             pending = [edit for edit in edits if edit.stands_in(kind)]
@@ -45,7 +45,7 @@ class Trial:
             if not edit.stands_in(BODY) and not edit.stands_in(LIST):
                 self.try_alone(edit)
         if self.edits and not self.ways:
-            self.fail('not one edit was refused')
+            self.fail('no edit was refused')
 
     def fail(self, why):
         self.wrong.append(f'{self.crate}: {why}')
@@ -55,7 +55,7 @@ class Trial:
         paths = {path_among(it, said.functions) for it in edit.functions()}
         self.functions[edit.name] = frozenset(paths - {None})
         if None in paths:
-            self.tell_wrong(edit, 'its function is none that the prover names')
+            self.tell_wrong(edit, 'the prover names no function of this name')
         return None not in paths
 
     def check(self, edits):
@@ -123,7 +123,7 @@ class Trial:
         """Tries the edits of a group that can't be read one by one: those that can't be are told, and the others stay."""
         unread = [edit for edit in group if not self.reads(edit)]
         for edit in unread:
-            self.tell_wrong(edit, 'it can not be read, so no contract was tried')
+            self.tell_wrong(edit, 'the edited code is no valid Rattle, so no contract was tried')
         if not unread:
             self.try_alone(group[0])
             unread = group[:1]
@@ -155,7 +155,7 @@ class Trial:
         refused = said.refused()
         self.groups.append(1)
         if not said.is_whole():
-            self.tell_wrong(edit, 'it can not be read, so no contract was tried')
+            self.tell_wrong(edit, 'the edited code is no valid Rattle, so no contract was tried')
         elif said.is_proved():
             self.tell_wrong(edit, 'the crate is still proved with it')
         elif any(it and it.refused for it in own.values()):

@@ -92,7 +92,7 @@ check_bench() {
         quietly "$folder/bench" "$folder/nm"
         echo "bench.c reads what libelf reads"
     else
-        echo "no header of libelf here: bench.c is not compiled"
+        echo "c: bench.c is not compiled, because the header of libelf is not installed"
     fi
 }
 
@@ -135,9 +135,9 @@ check_examples
 check_constants
 for program in nm size symbolize values made search cost needed; do build $program -std=c99; done
 quietly "$folder/search"
-echo "search.c: $(wc -l < "$folder/output") searches among long names stay within their limit"
+echo "c: $(wc -l < "$folder/output") searches among long names take less than their limit (search.c)"
 quietly "$folder/cost"
-echo "cost.c: $(wc -l < "$folder/output") lists of many items stay within their limit"
+echo "c: $(wc -l < "$folder/output") lists of many items take less than their limit (cost.c)"
 check_bench
 check_programs
 check_damaged

@@ -51,7 +51,7 @@ compare_sizes() {
     quietly awk -v least="$1" 'NR == FNR { theirs[$6] = $0; next } ($6 in theirs) && theirs[$6] != $0 { print theirs[$6] "\n" $0; wrong++ }
         ($6 in theirs) && FNR > 1 { same++ } END { print same; exit wrong > 0 || same < least * 0.9 }' \
         "$folder/size.text" "$folder/ours"
-    echo "size.c adds up $(tail -n 1 "$folder/output") files as size does"
+    echo "comparison: size.c prints the same sizes as size for $(tail -n 1 "$folder/output") files"
 }
 
 # Compares the names of functions at some addresses: at the start of each function that nm lists with a size, and after its start.
@@ -68,7 +68,7 @@ compare_addresses() {
     awk 'FNR % 2' "$folder/ours.at" > "$folder/ours"
     awk 'FNR % 2' "$folder/theirs.at" > "$folder/theirs"
     quietly diff "$folder/theirs" "$folder/ours"
-    echo "symbolize.c names the functions at $(wc -l < "$folder/ours") addresses as addr2line does"
+    echo "comparison: symbolize.c prints the same functions as addr2line for $(wc -l < "$folder/ours") addresses"
 }
 
 compare_relocations() {
@@ -137,7 +137,7 @@ compare_needed() {
     { cat "$folder/list"; echo "$folder/nm"; make_shared; } > "$folder/some"
     for_each list_needed > "$folder/theirs"
     for name in interpreter needed soname rpath runpath; do
-        grep -q "^$name " "$folder/theirs" || { echo "no file has a $name"; exit 1; }
+        grep -q "^$name " "$folder/theirs" || { echo "comparison: no compared file has a $name, so it is not tested"; exit 1; }
     done
     for_each "$folder/needed" > "$folder/ours"
     compare_needed_by needed.c
@@ -154,7 +154,7 @@ compare_needed() {
 compare_segments_by() {
     without_types < "$folder/typed" > "$folder/ours"
     quietly diff "$folder/theirs" "$folder/ours"
-    echo "$1 lists the sections of $(grep -vc '^file: ' "$folder/theirs") segments as readelf does"
+    echo "comparison: $1 lists the same sections as readelf for $(grep -vc '^file: ' "$folder/theirs") segments"
 }
 
 compare_segments() {
@@ -171,7 +171,7 @@ compare_segments() {
 }
 
 if ! has nm || ! has readelf; then
-    echo "no nm and readelf here: no lists are compared"
+    echo "comparison: skipped, because nm or readelf is not installed"
     exit 0
 fi
 if [ $# -gt 0 ]; then printf '%s\n' "$@"; else
@@ -182,8 +182,8 @@ find "$root/checks/files/made" -type f ! -name '*.readelf' | sort >> "$folder/li
 if [ $# -eq 0 ]; then make_many >> "$folder/list"; fi
 count=$(wc -l < "$folder/list")
 compare_symbols "$count"
-if has size; then compare_sizes "$count"; else echo "no size here: no sizes are compared"; fi
-if has addr2line; then compare_addresses; else echo "no addr2line here: no addresses are compared"; fi
+if has size; then compare_sizes "$count"; else echo "comparison: sizes are skipped, because size is not installed"; fi
+if has addr2line; then compare_addresses; else echo "comparison: addresses are skipped, because addr2line is not installed"; fi
 if [ -x "$examples/relocations" ]; then compare_relocations "$count"; fi
 in_js=
 find_web || echo "no node with 64-bit memories here: no examples in JavaScript are compared"

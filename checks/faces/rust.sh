@@ -23,7 +23,7 @@ done
 quietly cargo package --offline --allow-dirty --manifest-path $crate
 if cargo clippy --version > "$folder/output" 2>&1; then
     quietly cargo clippy --offline --all-targets --manifest-path $crate -- -D warnings
-    echo "clippy finds nothing in the Rust crate"
+    echo "rust: clippy reports nothing"
 else
-    echo "no clippy here: the Rust crate is not linted"
+    echo "rust: clippy is skipped, because it is not installed"
 fi

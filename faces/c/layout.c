@@ -17,7 +17,7 @@ static int compared, wrong;
 static void same(const char *what, uint64_t is, uint64_t should) {
     compared++;
     if (is == should) return;
-    printf("%s is 0x%llx, and should be 0x%llx\n", what, (unsigned long long)is, (unsigned long long)should);
+    printf("%s is 0x%llx (expected 0x%llx)\n", what, (unsigned long long)is, (unsigned long long)should);
     wrong++;
 }
 

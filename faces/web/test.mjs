@@ -35,7 +35,7 @@ function check_module() {
     const exported = WebAssembly.Module.exports(module).map(({ name }) => name).filter((name) => name.startsWith('goblin_'));
     const declared = [...header.matchAll(/^uint\d+_t (goblin_\w+)\(|^void (goblin_\w+)\(/gm)].map(([, call, other]) => call ?? other);
     assert.deepEqual(exported.sort(), declared.sort());
-    console.log(`goblin_c.wasm needs nothing from outside, and has the ${declared.length} calls of goblin.h`);
+    console.log(`goblin_c.wasm has no imports, and exports the ${declared.length} calls of goblin.h`);
 }
 
 function check_kinds() {
@@ -259,7 +259,7 @@ try {
         refusals += told.filter((line) => line.includes(' kind=')).length;
     }
     assert.ok(copies >= 4 * COPIES && refusals > copies && lines > 100 * copies, 'too little was compared');
-    console.log(`goblin.js tells what C does of ${files.length} files and ${copies} damaged copies: ${lines} lines, ${refusals} refusals`);
+    console.log(`goblin.js returns the same as C for ${files.length} files and ${copies} damaged copies: ${lines} lines, ${refusals} refusals`);
 } finally {
     rmSync(folder, { recursive: true });
 }

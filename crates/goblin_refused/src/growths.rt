@@ -57,16 +57,16 @@ pub struct Tried {
 /// What is said of a call that does this where its first growth is refused.
 pub(crate) fn judged(first: First, tried: &Tried) -> &'static str {
     if tried.growth == 1 && tried.is_met != (first != First::TakesNone) {
-        return "whether it asks for a first growth is not as it should be";
+        return "it should make a first allocation and does not, or the other way round";
     }
     if tried.growth == 1 && first == First::Wants && !tried.is_want {
-        return "no want of memory, though the first growth was refused";
+        return "the first allocation was refused, and it did not report out of memory";
     }
     if tried.is_last && tried.is_met {
-        return "it asks for more growths than were refused";
+        return "it makes more allocations than were refused";
     }
     if tried.is_ample || (tried.is_met && tried.is_want) {
-        return "as it should be";
+        return "as expected";
     }
-    "neither want of memory, nor the answer with ample memory"
+    "neither out of memory nor the result with ample memory"
 }

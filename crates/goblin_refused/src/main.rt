@@ -58,7 +58,7 @@ fn tried(alloc: Global, name: &str, numbers: &str) -> Result<&'static str> {
         return Ok("there is no such call");
     };
     if !takes_all {
-        return Ok("a growth before the call was refused");
+        return Ok("an allocation before the call was refused");
     }
     let text = text_of(alloc, &answer)?;
     let tried = Tried {

@@ -1,8 +1,8 @@
 #!/usr/bin/env python3
-"""Whether checks/edits tells wrong bodies from what only looks like one: python3 checks/edits/planted.py
+"""Tests that checks/edits judges edits right: python3 checks/edits/self_test.py
 
-A small crate is made, in which edits are planted whose judgement is known; what is said of each is compared. One of must-fail/
-isn't tried, and where it doesn't fit the code that is told.
+It makes a small crate with edits whose judgement is known, and compares what checks/edits prints of each. An edit of must-fail/
+is not tried, and must be reported if it does not fit the code.
 """
 import os
 import subprocess
@@ -148,13 +148,13 @@ def main():
     lines = ran.stdout.split('\n')
     lacking = [name for name in wanted if not any(line.startswith(f'planted/{name}: {wanted[name]}') for line in lines)]
     wrong = sum(said.startswith('NOT REFUSED') for said in wanted.values())
-    if lacking or ran.returncode != 1 or f'edits: {len(wanted)} tried, {wrong} wrong' not in lines:
-        print(f'{ran.stdout}{ran.stderr}\nplanted: judged otherwise than they are: {lacking or "their number"}')
+    if lacking or ran.returncode != 1 or f'edits: {len(wanted)} tried, {wrong} not refused or not tried' not in lines:
+        print(f'{ran.stdout}{ran.stderr}\nself_test: checks/edits judged these edits wrong: {lacking or "their number"}')
         return 1
     if fits.returncode != 1 or not fits.stdout.startswith(MISFIT[2]):
-        print(f'{fits.stdout}{fits.stderr}\nplanted: it is not told that an edit of must-fail/ does not fit')
+        print(f'{fits.stdout}{fits.stderr}\nself_test: checks/edits --fits did not report the edit that does not fit')
         return 1
-    print(f'planted: {len(wanted)} edits are told as what they are, {wrong} of which test nothing')
+    print(f'self_test: checks/edits judged {len(wanted)} edits right, {wrong} of which test nothing')
     return 0
 
 
