@@ -181,9 +181,9 @@ pub fn is_mips64el_in(machine: u16, ctx: Ctx) -> bool
 pub fn is_mips64el(header: &Header) -> bool
     ensures { result ≡ is_of_mips64el header.now }
 {
-    match (header.container(), header.endianness()) {
-        (Ok(container), Ok(order)) => is_mips64el_in(header.e_machine, Ctx::new(container, order)),
-        _ => false,
+    match header.ctx() {
+        Ok(ctx) => is_mips64el_in(header.e_machine, ctx),
+        Err(_) => false,
     }
 }
 
