@@ -254,8 +254,8 @@ uint32_t goblin_header(const uint8_t *bytes, size_t len, goblin_header_t *header
 
 /* ---- sections and segments ---- */
 
-/* Returns the number of section headers. It is 0 if e_shoff is 0. Else it is e_shnum. If that is 0, too, it is sh_size of the first
-   section, but at least 1.
+/* Counts the section headers. Their number is 0 if e_shoff is 0. Else it is e_shnum, or if that is 0, sh_size of the first section, but
+   at least 1.
    The table is checked in this order. GOBLIN_BAD_OFFSET or GOBLIN_TOO_BIG: the first header is not inside the file.
    GOBLIN_BUFFER_TOO_SHORT: there are more headers than the file could hold. GOBLIN_BAD_OFFSET or GOBLIN_TOO_BIG: a later header is
    not inside the file. Never returns GOBLIN_END.
@@ -292,7 +292,7 @@ uint32_t goblin_linked_section(const uint8_t *bytes, size_t len, const goblin_he
 uint32_t goblin_section_names(const uint8_t *bytes, size_t len, const goblin_header_t *header, goblin_section_t *section,
                               goblin_refusal_t *why);
 
-/* Returns the index of the first section with a name. `names` is the range of the section names in the file. A section has no name
+/* Finds the index of the first section with a name. `names` is the range of the section names in the file. A section has no name
    if its name is not UTF-8 or lies past the names. The empty name is a name, which section 0 has in most files. No section has a
    name with a zero byte in it, so leave out the zero byte at the end of `name`. GOBLIN_END if no section has the name.
    Refused as goblin_section_count is, and then as goblin_string is for the range `names`, but never by GOBLIN_BAD_INPUT.
@@ -301,25 +301,25 @@ uint32_t goblin_section_by_name(const uint8_t *bytes, size_t len, const goblin_h
                                 const goblin_range_t *names, const void *name, size_t name_len, uint64_t *index,
                                 goblin_refusal_t *why);
 
-/* Returns the index of the first section of a type, a GOBLIN_SHT_ number, from the index `first` on. GOBLIN_END if there is none.
+/* Finds the index of the first section of a type, a GOBLIN_SHT_ number, from the index `first` on. GOBLIN_END if there is none.
    Refused as goblin_section_count is.
    Example: goblin_section_by_type(bytes, len, &header, GOBLIN_SHT_SYMTAB, 0, &index, &why); */
 uint32_t goblin_section_by_type(const uint8_t *bytes, size_t len, const goblin_header_t *header, uint32_t sh_type,
                                 uint64_t first, uint64_t *index, goblin_refusal_t *why);
 
-/* Returns the range of a section's bytes, which is its `file`, if it is inside the file. GOBLIN_END if the section has no bytes in
+/* Finds the range of a section's bytes, which is its `file`, if it is inside the file. GOBLIN_END if the section has no bytes in
    the file: its type is GOBLIN_SHT_NULL or GOBLIN_SHT_NOBITS, or its size is 0. This is tested before any refusal.
    GOBLIN_BAD_OFFSET or GOBLIN_TOO_BIG: the bytes are not inside the file.
    Example: goblin_section_bytes(bytes, len, &section, &range, &why); */
 uint32_t goblin_section_bytes(const uint8_t *bytes, size_t len, const goblin_section_t *section, goblin_range_t *range,
                               goblin_refusal_t *why);
 
-/* Returns the number of program headers, which is e_phnum. Refused as goblin_segment is. Never returns GOBLIN_END.
+/* Counts the program headers, of which there are e_phnum. Refused as goblin_segment is. Never returns GOBLIN_END.
    Example: if (goblin_segment_count(bytes, len, &header, &count, &why) != GOBLIN_OK) return 1; */
 uint32_t goblin_segment_count(const uint8_t *bytes, size_t len, const goblin_header_t *header, uint64_t *count,
                               goblin_refusal_t *why);
 
-/* Returns the range of a segment's bytes in the file. GOBLIN_END if it has none: its type is GOBLIN_PT_NULL, or its size in the
+/* Finds the range of a segment's bytes in the file. GOBLIN_END if it has none: its type is GOBLIN_PT_NULL, or its size in the
    file is 0. This is tested before any refusal. Refused as goblin_section_bytes is.
    Example: goblin_segment_bytes(bytes, len, &segment, &range, &why); */
 uint32_t goblin_segment_bytes(const uint8_t *bytes, size_t len, const goblin_segment_t *segment, goblin_range_t *range,
@@ -342,7 +342,7 @@ uint32_t goblin_segment(const uint8_t *bytes, size_t len, const goblin_header_t 
 uint32_t goblin_symbol(const uint8_t *bytes, size_t len, const goblin_header_t *header, const goblin_range_t *table,
                        uint64_t index, goblin_symbol_t *symbol, goblin_refusal_t *why);
 
-/* Returns the number of symbols that lie in a range whole. Refused as goblin_symbol is. Never returns GOBLIN_END.
+/* Counts the symbols that lie in a range whole. Refused as goblin_symbol is. Never returns GOBLIN_END.
    Example: goblin_symbol_count(bytes, len, &header, &table.file, &count, &why); */
 uint32_t goblin_symbol_count(const uint8_t *bytes, size_t len, const goblin_header_t *header, const goblin_range_t *table,
                              uint64_t *count, goblin_refusal_t *why);
@@ -352,7 +352,7 @@ uint32_t goblin_symbol_count(const uint8_t *bytes, size_t len, const goblin_head
 uint32_t goblin_symbols(const uint8_t *bytes, size_t len, const goblin_header_t *header, const goblin_range_t *table,
                         uint64_t first, goblin_symbol_t *symbols, size_t capacity, uint64_t *filled, goblin_refusal_t *why);
 
-/* Returns the index of the first symbol with a name. `names` is the range of the table's strings. A symbol has no name if its name
+/* Finds the index of the first symbol with a name. `names` is the range of the table's strings. A symbol has no name if its name
    is not UTF-8 or lies past the strings. The empty name and names with zero bytes are as for goblin_section_by_name; symbol 0 has
    the empty name in most files. GOBLIN_END if no symbol has the name.
    Refused as goblin_symbol is, and then as goblin_string is for the range `names`, but never by GOBLIN_BAD_INPUT.
@@ -361,7 +361,7 @@ uint32_t goblin_symbol_by_name(const uint8_t *bytes, size_t len, const goblin_he
                                const goblin_range_t *table, const goblin_range_t *names, const void *name,
                                size_t name_len, uint64_t *index, goblin_refusal_t *why);
 
-/* Returns the index of the symbol for an address: the symbol with the highest st_value that is not above the address. Of those with
+/* Finds the index of the symbol for an address: the symbol with the highest st_value that is not above the address. Of those with
    the same st_value it is the first whose st_size reaches the address, or the first if none does. Only symbols of a section
    (st_shndx from 1 to 0xfeff, or 0xffff) and of type GOBLIN_STT_NOTYPE, _OBJECT, _FUNC or _GNU_IFUNC count. GOBLIN_END if none is
    at the address or below it. Each call reads all symbols. Refused as goblin_symbol is.
@@ -388,7 +388,7 @@ uint32_t goblin_symbol_by_address(const uint8_t *bytes, size_t len, const goblin
 uint32_t goblin_reloc(const uint8_t *bytes, size_t len, const goblin_header_t *header, const goblin_range_t *table,
                       bool is_rela, uint64_t index, goblin_reloc_t *reloc, goblin_refusal_t *why);
 
-/* Returns the number of relocations that lie in a range whole. Refused as goblin_reloc is. Never returns GOBLIN_END.
+/* Counts the relocations that lie in a range whole. Refused as goblin_reloc is. Never returns GOBLIN_END.
    Example: goblin_reloc_count(bytes, len, &header, &table.file, true, &count, &why); */
 uint32_t goblin_reloc_count(const uint8_t *bytes, size_t len, const goblin_header_t *header, const goblin_range_t *table,
                             bool is_rela, uint64_t *count, goblin_refusal_t *why);
@@ -420,7 +420,7 @@ uint32_t goblin_note(const uint8_t *bytes, size_t len, const goblin_header_t *he
 
 /* ---- strings ---- */
 
-/* Returns the range of the string at an offset of a string table, without the zero byte at its end. `strings` is the range of the
+/* Finds the range of the string at an offset of a string table, without the zero byte at its end. `strings` is the range of the
    table, and the offset counts from its start. The string ends at the next zero byte or at the end of the table, and is UTF-8.
    GOBLIN_END if the offset is not below the size of the table.
    GOBLIN_STRTAB_OFFSET: the table starts past the end of the file. GOBLIN_STRTAB_RANGE: it ends past the end of the file.
@@ -429,8 +429,8 @@ uint32_t goblin_note(const uint8_t *bytes, size_t len, const goblin_header_t *he
 uint32_t goblin_string(const uint8_t *bytes, size_t len, const goblin_range_t *strings, uint64_t offset,
                        goblin_range_t *string, goblin_refusal_t *why);
 
-/* As goblin_string, for a string that need not be UTF-8: never returns GOBLIN_BAD_INPUT. If goblin_string returns a string, this
-   call returns the same range.
+/* As goblin_string, for a string that need not be UTF-8: never returns GOBLIN_BAD_INPUT. If goblin_string finds a string, this
+   call finds the same range.
    Example: goblin_string_bytes(bytes, len, &names.file, symbol.st_name, &string, &why); */
 uint32_t goblin_string_bytes(const uint8_t *bytes, size_t len, const goblin_range_t *strings, uint64_t offset,
                              goblin_range_t *string, goblin_refusal_t *why);
