@@ -30,6 +30,13 @@ if flag=$(sh checks/node_flag.sh); then
     wanted=$(readelf -hW "$dump" 2> "$folder/output" | awk '/Number of section headers/ { print $5 }')
     counted=$(call "$folder/app/app.mjs" "$dump")
     [ "$counted" = "${wanted:-$counted}" ] || { echo "imported by the package's name, goblin.js reads $counted sections, not $wanted"; exit 1; }
+    if command -v tsc > "$folder/output" 2>&1; then
+        cp faces/web/use.ts "$folder/app/"
+        tsc --noEmit --strict --target es2020 --module es2022 --moduleResolution node --lib es2020,dom "$folder/app/use.ts"
+        echo "TypeScript accepts a program over goblin.d.ts"
+    else
+        echo "no tsc here: goblin.d.ts is not compiled"
+    fi
 else
     echo "node has no 64-bit memories here: the module for WebAssembly is not called"
 fi

@@ -1,0 +1,33 @@
+// A program in TypeScript over goblin.d.ts: checks/web.sh compiles it where there is tsc, and does not run it. Each comment
+// @ts-expect-error fails if the next line has no error.
+import init, { Elf, GoblinError, Kind, List, Range, SectionHeader, SHF_ALLOC, SHT_SYMTAB, Symtab, json, machine_to_str } from 'goblin_c';
+
+export async function main(bytes: ArrayBuffer, view: Uint16Array): Promise<string[]> {
+    await init();
+    const elf: Elf = Elf.parse(bytes), lines: string[] = [Elf.parse(view).is_64() ? '64' : '32'];
+    const sections: List<SectionHeader> = elf.section_headers();
+    const names: (string | undefined)[] = sections.map((section) => elf.section_name(section));
+    const loaded: SectionHeader[] = sections.filter(({ sh_flags }) => (sh_flags & SHF_ALLOC) !== 0n);
+    for (const [index, { sh_size }] of sections.entries()) lines.push(`${names[index]} ${sh_size + 1n}`);
+    const index: number | undefined = elf.section_by_type(SHT_SYMTAB), range: Range | undefined = elf.section_range(loaded[0]);
+    lines.push(`${index} ${range?.offset} ${machine_to_str(elf.header.e_machine)}`, JSON.stringify({ ...loaded[0] }, json));
+    const symbols: Symtab | undefined = elf.syms();
+    for (const symbol of symbols ?? []) lines.push(`${symbols?.name(symbol)} ${symbol.st_value}`);
+    for (const [section, relocs] of elf.shdr_relocs()) lines.push(`${section.sh_info} ${relocs.at(-1)?.r_addend ?? 0n}`);
+    for (const { name, desc } of elf.iter_note_headers()) lines.push(`${name} ${desc.length}`);
+    for (const section of sections) lines.push(`${elf.strtab(elf.linked_section(section)).get(1)}`);
+    try {
+        elf.number(0n, 4);
+    } catch (error) {
+        if (error instanceof GoblinError && error.kind === Kind.TOO_BIG) lines.push(`${error.numbers[0]}`);
+    }
+    // @ts-expect-error
+    elf.number(0n, 3);
+    // @ts-expect-error
+    Elf.parse('ELF');
+    // @ts-expect-error
+    new Elf(bytes);
+    // @ts-expect-error
+    loaded[0].sh_size + 1;
+    return lines;
+}
