@@ -1,8 +1,8 @@
 -- Marks of sixteen bytes: what they say of the bytes from a place on.
-use Rattle.std.proofs.Common.{◌≡◌, ℕ, zero, suc, ◌+◌, ◌-◌, ◌/◌, ◌^◌, ◌<◌, ◌≤◌, eqb, leb, Bool, true, false}
+use Rattle.std.proofs.Common.{◌≡◌, ℕ, zero, suc, ◌+◌, ◌-◌, ◌/◌, ◌^◌, ◌<◌, ◌≤◌, ◌↔◌, eqb, leb, Bool, true, false}
 use Rattle.std.proofs.Common.{not, ◌&&◌, List, [], ◌∷◌, map, take, drop, length, get_or, shr-shr, refl, sym, ap, ◌∙◌}
 use Rattle.std.proofs.Common.{⊎_elim, arith}
-use Rattle.std.proofs.lemmas.Bool.{cases_lt, both_ways, and_parts, leb-true, leb-false}
+use Rattle.std.proofs.lemmas.Bool.{cases_lt, both_ways, and_parts, and_from, le-leb, leb-true, leb-false}
 use Rattle.std.proofs.lemmas.List.{drop-drop, drop-map, drop-take, get_or-take, get_or-drop, get_or_past, length-take}
 use Rattle.std.proofs.lemmas.Simd.{first_set_mask_l, length-chunk, run_in_chunk_le, run_in_chunk_fails}
 use Rattle.std.proofs.lemmas.Simd.{run_in_chunk_stops}
@@ -13,7 +13,7 @@ use Rattle.std.specs.Simd.Lanes.{mask_l}
 use lib.Lanes.{chunk}
 use Rattle.goblin_base.specs.Ascii.{lowest_set}
 use Rattle.goblin_base.specs.declared.marks.Marks.{Marks}
-use Rattle.goblin_base.specs.Marks.{AreMarks, marks_before}
+use Rattle.goblin_base.specs.Marks.{AreAscii, AreMarks, marks_before}
 use Rattle.goblin_base.specs.Pieces.{piece_end}
 use Rattle.goblin_base.proofs.PiecesLemmas.{at_end, end_from, end_same}
 
@@ -89,20 +89,34 @@ module _ (bytes : List ℕ) (d : ℕ) (m : Marks) (at n h : ℕ) (marks : AreMar
   no_delim from none k l r =
       ⊎_elim (λ (x : k < at). none k l x) (λ (x : at ≤ k). next_delim.fails k x r) (cases_lt k at)
 
-  pub all_low : (from : ℕ) (so_far : Bool) → h ≡ lowest_set (m.highs / 2 ^ (16 - (m.until - at))) (m.until - at)
-      → (so_far ≡ true → (k : ℕ) → from ≤ k → k < at → get_or bytes k 0 < 128)
-      → (so_far && leb n h) ≡ true → (k : ℕ) → from ≤ k → k < at + n → get_or bytes k 0 < 128
-  all_low from so_far high low both k l r =
-      let parts = and_parts _ _ both in
+  -- the bytes up to there are ASCII if those before the place are, and no byte is marked before the delimiter
+  pub ascii_more : (from : ℕ) (so_far : Bool)
+      → from ≤ at
+      → h ≡ lowest_set (m.highs / 2 ^ (16 - (m.until - at))) (m.until - at)
+      → (so_far ≡ true) ↔ AreAscii bytes from at
+      → ((so_far && leb n h) ≡ true) ↔ AreAscii bytes from (at + n)
+  ascii_more from so_far ordered high low =
       let next = next_is (leb 128) bytes m.until at m.highs h marks.room marks.within before near marks.highs high in
-      ⊎_elim
-      (λ (x : k < at). low parts.0 k l x)
-      (λ (x : at ≤ k). leb-false 128 (get_or bytes k 0) (next.fails k x (omega (arith, leb-true n h parts.1))))
-      (cases_lt k at)
+      let within = next_delim.within in (
+        λ both k l r.
+            let parts = and_parts _ _ both in
+            ⊎_elim
+            (λ (x : k < at). low.0 parts.0 k l x)
+            (λ (x : at ≤ k). leb-false 128 (get_or bytes k 0) (next.fails k x (omega (arith, leb-true n h parts.1))))
+            (cases_lt k at),
+        λ all.
+            and_from _ _ (low.1 (λ k l r. all k l (omega arith)))
+            (⊎_elim
+            (λ (x : h < n).
+            let there = leb-true 128 (get_or bytes (at + h) 0) (next.stops (omega arith)) in
+            absurd (omega (arith, there, all (at + h) (omega arith) (omega arith))))
+            (λ (x : n ≤ h). le-leb n h x)
+            (cases_lt h n)),
+      )
 
 module _ (bytes : List ℕ) (from to : ℕ) where
   -- bytes below 128 are text
-  pub low_is_text : ((k : ℕ) → from ≤ k → k < to → get_or bytes k 0 < 128) → IsUtf8 (slice_range bytes from to)
+  pub low_is_text : AreAscii bytes from to → IsUtf8 (slice_range bytes from to)
   low_is_text low = IsUtf8-from_ascii (slice_range bytes from to) (λ i. ⊎_elim
       (λ (l : i < to - from).
       omega (

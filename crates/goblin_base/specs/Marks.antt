@@ -1,5 +1,5 @@
 -- Marks of sixteen bytes that are read at once: a bit for each.
-use Rattle.std.specs.Prelude.{◌≡◌, ℕ, ◌-◌, ◌<◌, ◌≤◌, ◌==◌, Bool, List, length, map, take, drop, nat_le}
+use Rattle.std.specs.Prelude.{◌≡◌, ℕ, ◌-◌, ◌<◌, ◌≤◌, ◌==◌, Bool, List, length, map, take, drop, nat_le, slice_index}
 use Rattle.std.specs.Simd.Lanes.{mask_l}
 use Rattle.goblin_base.specs.declared.marks.Marks.{Marks}
 
@@ -17,3 +17,7 @@ pub record AreMarks (bytes : List ℕ) (delim : ℕ) (m : Marks) : Type 0 where
 -- and where none were read yet, `until` is 0
 abbrev pub HaveMarks : List ℕ → ℕ → Marks → Type 0
 HaveMarks bytes delim m = 0 < m.until → AreMarks bytes delim m
+
+-- the bytes from one place up to another are ASCII
+abbrev pub AreAscii : List ℕ → ℕ → ℕ → Type 0
+AreAscii bytes from to = (k : ℕ) → from ≤ k → k < to → slice_index bytes k < 128

@@ -186,7 +186,7 @@ impl<'a> Looked<'a> {
         std::str::from_utf8(&self.bytes[from..to])
     }
 
-    /// Returns the marks of the sixteen bytes from a place on. It is a look at each of them.
+    /// Reads the marks of the sixteen bytes from an offset on. It is a look at each of them.
     pub(crate) fn marks(&mut self, at: usize, delim: u8) -> Marks
         requires { at + LANES ≤ length self.old.bytes }
         ensures until { result.until ≡ at + LANES }

@@ -1,20 +1,19 @@
-//! Where pieces end, by marks of sixteen bytes that are read at once.
+//! Finds the ends of pieces by marks of sixteen bytes that are read at once.
 ghost use Rattle.std.specs.Prelude.{◌≡◌, ◌+◌, ◌-◌, ◌/◌, ◌^◌, ◌<◌, ◌≤◌, ◌↔◌, max, min, length, IsTrue, slice_range};
 ghost use Rattle.std.specs.Str.{IsUtf8};
 ghost use Rattle.goblin_base.specs.Ascii.{lowest_set};
 ghost use Rattle.goblin_base.specs.Entries.{CountsAtLeast};
-ghost use Rattle.goblin_base.specs.Marks.{AreMarks, HaveMarks};
+ghost use Rattle.goblin_base.specs.Marks.{AreAscii, AreMarks, HaveMarks};
 ghost use Rattle.goblin_base.specs.Pieces.{piece_end};
 
 use crate::ascii::lowest_set;
 use crate::entries::Looked;
-use crate::walk::end_of_piece;
 use std::simd::prelude::*;
 
 /// How many bytes are read at once.
 pub(crate) const LANES: usize = 16;
 
-/// Marks of the sixteen bytes before a place: a bit for each that is the delimiter, and for each that isn't ASCII.
+/// Which of the sixteen bytes before an offset are the delimiter, and which aren't ASCII: a bit for each.
 #[derive(Clone, Copy)]
 pub(crate) struct Marks {
     until: usize,
@@ -23,7 +22,7 @@ pub(crate) struct Marks {
 }
 
 impl Marks {
-    /// No marks.
+    /// Returns marks of no bytes.
     pub(crate) fn none() -> Marks
         ensures { result.until ≡ 0 }
     {
@@ -34,7 +33,7 @@ impl Marks {
         }
     }
 
-    /// The marks of the sixteen bytes from a place on.
+    /// Reads the marks of the sixteen bytes from an offset on.
     #[inline(always)]
     pub(crate) fn of(bytes: &[u8], at: usize, delim: u8) -> Marks
         requires { at + LANES ≤ length bytes.now }
@@ -50,7 +49,7 @@ impl Marks {
     }
 }
 
-// Of the last bytes of sixteen, so many as are left, how many stand before the first that is marked.
+// Returns how many of the last `left` bytes stand before the first that is marked.
 #[inline(always)]
 fn next_marked(mask: u64, left: usize) -> usize
     requires { left ≤ LANES }
@@ -59,35 +58,9 @@ fn next_marked(mask: u64, left: usize) -> usize
     lowest_set(mask >> (LANES - left), left)
 }
 
-// Whether the marks reach beyond a place. Where they don't, the sixteen bytes from there on are read; fewer bytes aren't.
-#[inline(always)]
-fn cover(view: &mut Looked<'_>, marks: &mut Marks, delim: u8, at: usize) -> bool
-    requires within { at ≤ length view.old.bytes }
-    requires near { marks.old.until ≤ at + LANES }
-    requires marked { HaveMarks view.old.bytes delim marks.old }
-    ensures covered { IsTrue result ↔ (at < marks.new.until) }
-    ensures grows { marks.old.until ≤ marks.new.until }
-    ensures near { marks.new.until ≤ at + LANES }
-    ensures marked { HaveMarks view.old.bytes delim marks.new }
-    ensures unchanged { view.new.bytes ≡ view.old.bytes }
-    ensures looks { view.new.count ≤ view.old.count + (max marks.new.until at - max marks.old.until at) }
-    ensures rising { view.old.count ≤ view.new.count }
-    ensures looks_least { let least = max marks.new.until at - max marks.old.until at in
-        CountsAtLeast view.old.count least view.new.count }
-{
-    if at < marks.until {
-        return true;
-    }
-    if view.len() - at < LANES {
-        return false;
-    }
-    *marks = view.marks(at, delim);
-    true
-}
-
-/// Where the piece at a place ends, and whether its bytes were seen to be ASCII.
+/// Returns where the piece at an offset ends, and whether its bytes are ASCII.
 ///
-/// The marks are of the bytes read last. Each byte is read once, whether its piece is short or long.
+/// The marks are those of the bytes read last, so each byte is read once, whether its piece is short or long.
 #[inline(always)]
 pub(crate) fn next_end(
     view: &mut Looked<'_>,
@@ -101,7 +74,7 @@ pub(crate) fn next_end(
     ensures value { result.0 ≡ piece_end view.old.bytes delim from }
     ensures ordered { from ≤ result.0 }
     ensures within { result.0 ≤ length view.old.bytes }
-    ensures ascii { IsTrue result.1 → IsUtf8 (slice_range view.old.bytes from result.0) }
+    ensures ascii { IsTrue result.1 ↔ AreAscii view.old.bytes from result.0 }
     ensures near { marks.new.until ≤ result.0 + LANES }
     ensures grows { marks.old.until ≤ marks.new.until }
     ensures marked { HaveMarks view.old.bytes delim marks.new }
@@ -115,26 +88,63 @@ pub(crate) fn next_end(
 {
     let mut at = from;
     let mut is_ascii = true;
-    while cover(view, marks, delim, at) {
+    if at < marks.until {
         let left = marks.until - at;
         let len = next_marked(marks.delims, left);
-        is_ascii &= len <= next_marked(marks.highs, left);
-        at += len;
+        is_ascii = len <= next_marked(marks.highs, left);
         if len < left {
-            return (at, is_ascii);
+            return (at + len, is_ascii);
         }
+        at = marks.until;
     }
-    (end_of_piece(view, delim, at), false)
+    while LANES <= view.len() - at {
+        *marks = view.marks(at, delim);
+        let len = next_marked(marks.delims, LANES);
+        is_ascii &= len <= next_marked(marks.highs, LANES);
+        if len < LANES {
+            return (at + len, is_ascii);
+        }
+        at += LANES;
+    }
+    let (end, is_rest_ascii) = end_by_bytes(view, delim, at);
+    (end, is_ascii & is_rest_ascii)
 }
 
-/// Whether a piece is text. One that was seen to be ASCII isn't looked at again.
+// Returns the same of a piece that ends among the last bytes, which are read one by one.
+fn end_by_bytes(view: &mut Looked<'_>, delim: u8, from: usize) -> (usize, bool)
+    requires { from ≤ length view.old.bytes }
+    ensures value { result.0 ≡ piece_end view.old.bytes delim from }
+    ensures ordered { from ≤ result.0 }
+    ensures within { result.0 ≤ length view.old.bytes }
+    ensures ascii { IsTrue result.1 ↔ AreAscii view.old.bytes from result.0 }
+    ensures unchanged { view.new.bytes ≡ view.old.bytes }
+    ensures looks { view.new.count ≤ view.old.count + (min (result.0 + 1) (length view.old.bytes) - from) }
+    ensures rising { view.old.count ≤ view.new.count }
+    ensures looks_least { let least = min (result.0 + 1) (length view.old.bytes) - from in
+        CountsAtLeast view.old.count least view.new.count }
+{
+    let mut end = from;
+    let mut is_ascii = true;
+    while end < view.len() {
+        let byte = view.at(end);
+        if byte == delim {
+            return (end, is_ascii);
+        }
+        is_ascii &= byte < 0x80;
+        end += 1;
+    }
+    (end, is_ascii)
+}
+
+/// Reports whether a piece is text. One that is ASCII isn't looked at again.
 pub(crate) fn is_text(view: &mut Looked<'_>, from: usize, to: usize, is_ascii: bool) -> bool
     requires ordered { from ≤ to }
     requires within { to ≤ length view.old.bytes }
-    requires ascii { IsTrue is_ascii → IsUtf8 (slice_range view.old.bytes from to) }
+    requires ascii { IsTrue is_ascii → AreAscii view.old.bytes from to }
     ensures value { IsTrue result ↔ IsUtf8 (slice_range view.old.bytes from to) }
     ensures unchanged { view.new.bytes ≡ view.old.bytes }
     ensures looks { view.new.count ≤ view.old.count + (to - from) }
+    ensures looks_ascii { IsTrue is_ascii → view.new.count ≤ view.old.count }
     ensures rising { view.old.count ≤ view.new.count }
 {
     is_ascii || view.text(from, to)

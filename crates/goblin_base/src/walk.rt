@@ -1,5 +1,6 @@
 //! The walk that makes the entries of a string table. It looks at most five times at each byte, on average.
-ghost use Rattle.std.specs.Prelude.{◌≡◌, ◌+◌, ◌-◌, ◌*◌, ◌<◌, ◌≤◌, ◌≢◌, [], false, min, length, IfErr, IfOk, IsOk};
+ghost use Rattle.std.specs.Prelude.{◌≡◌, ◌+◌, ◌-◌, ◌*◌, ◌<◌, ◌≤◌, ◌≢◌, [], length, IfErr, IfOk, IsOk};
+ghost use Rattle.std.specs.Str.{IsAscii};
 ghost use Rattle.goblin_base.specs.Entries.{CountsAtLeast};
 ghost use Rattle.goblin_base.specs.Pieces.{first_bad, piece_end};
 ghost use Rattle.goblin_base.specs.Refusal.{Gives, out_of_memory, refusal_of};
@@ -49,6 +50,8 @@ pub fn walk<'a>(
     ensures given { Gives (λ entries. entries) result (walked mode view.old.bytes delim) }
     ensures unchanged { view.new.bytes ≡ view.old.bytes }
     ensures looks { view.new.count ≤ view.old.count + 5 * length view.old.bytes }
+    ensures looks_ascii { IsAscii view.old.bytes
+        → view.new.count ≤ view.old.count + length view.old.bytes }
     ensures rising { view.old.count ≤ view.new.count }
     ensures looks_least { let least = length view.old.bytes in
         IfOk result (λ _. CountsAtLeast view.old.count least view.new.count) }
@@ -78,28 +81,6 @@ pub fn walk<'a>(
         }
     }
     Ok(view.entries(places, i))
-}
-
-// Returns the offset at which the piece at an offset ends.
-pub(crate) fn end_of_piece(view: &mut Looked<'_>, delim: u8, from: usize) -> usize
-    requires { from ≤ length view.old.bytes }
-    ensures value { result ≡ piece_end view.old.bytes delim from }
-    ensures ordered { from ≤ result }
-    ensures within { result ≤ length view.old.bytes }
-    ensures unchanged { view.new.bytes ≡ view.old.bytes }
-    ensures looks { view.new.count ≤ view.old.count + (min (result + 1) (length view.old.bytes) - from) }
-    ensures rising { view.old.count ≤ view.new.count }
-    ensures looks_least { let least = min (result + 1) (length view.old.bytes) - from in
-        CountsAtLeast view.old.count least view.new.count }
-{
-    let mut end = from;
-    while end < view.len() {
-        if view.at(end) == delim {
-            return end;
-        }
-        end += 1;
-    }
-    end
 }
 
 // Adds the entries of a piece that isn't UTF-8 from its start on. Returns where the walk goes on: at the piece's

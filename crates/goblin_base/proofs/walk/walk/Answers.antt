@@ -1,7 +1,9 @@
-use Rattle.std.proofs.Common.{rules, ◌≡◌, ◌+◌, ◌-◌, ◌<◌, ◌≤◌, ℕ, List, true, length, refl, sym, ap, subst, ◌∙◌, Ok, Err}
+use Rattle.std.proofs.Common.{rules, ◌≡◌, ◌+◌, ◌-◌, ◌<◌, ◌≤◌, ℕ, List, false, true, length, slice_index, refl, sym, ap}
+use Rattle.std.proofs.Common.{subst, ◌∙◌, Ok, Err}
 use Rattle.std.proofs.Common.{arith}
 use Rattle.std.proofs.lemmas.Bool.{both_ways, false≢true}
-use Rattle.std.specs.Str.{IsUtf8}
+use Rattle.std.specs.Bool.{IsTrue}
+use Rattle.std.specs.Str.{IsAscii, IsUtf8}
 use Rattle.std.specs.List.{slice_range}
 use Rattle.goblin_base.specs.Entries.{entries_between}
 use Rattle.goblin_base.specs.Marks.{HaveMarks}
@@ -9,6 +11,7 @@ use Rattle.goblin_base.specs.Pieces.{piece_end, is_readable}
 use Rattle.goblin_base.specs.Strtab.{walked}
 use Rattle.goblin_base.specs.Utf8.{invalid_utf8}
 use Rattle.goblin_base.proofs.EntriesLemmas.{walked_none, walked_text}
+use Rattle.goblin_base.proofs.MarksLemmas.{low_is_text}
 use Rattle.goblin_base.proofs.SoFarLemmas.{IsTextSoFar, readable_from_text, bad_from_fault, bad_here, text_so_far_none}
 use Rattle.goblin_base.proofs.SoFarLemmas.{text_so_far_more, nothing_passed, walked_fault, walked_all}
 use Rattle.goblin_base.proofs.SoFarLemmas.{strict_if_not_permissive, found_all}
@@ -22,6 +25,13 @@ readable_here bytes seen then d i e same unchanged is u =
     let end : e ≡ piece_end bytes d i = is ∙ ap (λ bs. piece_end bs d i) same in
     (end, readable_from_text bytes d i e end (subst (λ bs. IsUtf8 (slice_range bs i e)) (unchanged ∙ same) u))
 
+-- a piece of ASCII is text
+no_fault : (bytes seen then : List ℕ) (i e : ℕ)
+    → seen ≡ bytes → then ≡ seen → (IsUtf8 (slice_range then i e) → IsTrue false) → IsAscii bytes → ⊥
+no_fault bytes seen then i e same unchanged bad low =
+    let text = low_is_text bytes i e (λ k l r. low k) in
+    false≢true (bad (subst (λ bs. IsUtf8 (slice_range bs i e)) (sym (unchanged ∙ same)) text))
+
 pub loop-i-init : goal.loop-i-init
 loop-i-init c = record {
   same = refl;
@@ -31,6 +41,7 @@ loop-i-init c = record {
   near = omega (arith, c.none-marks.ensures);
   marked = λ h. absurd (omega (arith, h, c.none-marks.ensures));
   looks = omega (arith, c.none-marks.ensures);
+  ascii = λ _. omega (arith, c.none-marks.ensures);
   rising = omega arith;
   least = omega (arith, c.none-marks.ensures);
 }
@@ -74,6 +85,18 @@ loop-i-preserved-then-is_text c =
         s.looks,
         ap length s.same,
       );
+      ascii = λ low.
+          let seen = e.ascii.1 (λ k l r. subst (λ bs. slice_index bs k < 128) (sym s.same) (low k)) in
+          omega (
+            arith,
+            c.is_text.ensures.looks_ascii seen,
+            e.grows,
+            e.looks,
+            e.within,
+            e.ordered,
+            s.ascii low,
+            ap length s.same,
+          );
       rising = omega (arith, c.is_text.ensures.rising, e.rising, s.rising);
       least = omega (
         arith,
@@ -87,6 +110,32 @@ loop-i-preserved-then-is_text c =
         ap length s.same,
       );
     }
+
+pub loop-i-preserved : goal.loop-i-preserved
+loop-i-preserved c =
+    let s = c.loop-i.invariant in
+    let e = c.next_end-end.ensures in
+    record {
+      same = search rules;
+      within = search rules;
+      walked = search rules;
+      strict = search rules;
+      near = search rules;
+      marked = search rules;
+      looks = search rules;
+      ascii = λ low.
+          absurd (no_fault c.args.view.now.bytes _ _ c.loop-i.i c.next_end-end.result.0 s.same e.unchanged
+          c.if-is_text.ensures.value.1 low);
+      rising = search rules;
+      least = search rules;
+    }
+
+pub returns-in_err-i-clause-looks_ascii : goal.returns-in_err-i-clause-looks_ascii
+returns-in_err-i-clause-looks_ascii c = λ low.
+    let s = c.loop-i.invariant in
+    let e = c.next_end-end.ensures in
+    absurd (no_fault c.args.view.now.bytes _ _ c.loop-i.i c.next_end-end.result.0 s.same e.unchanged
+    c.if-is_text.ensures.value.1 low)
 
 pub returns-else-is_permissive : goal.returns-else-is_permissive
 returns-else-is_permissive c =
@@ -111,6 +160,8 @@ returns-else-is_permissive c =
           ∙ ap Err (sym c.invalid_utf8.ensures);
       unchanged = search rules;
       looks = search rules;
+      looks_ascii = λ low.
+          absurd (no_fault bytes _ _ i c.next_end-end.result.0 s.same e.unchanged c.if-is_text.ensures.value.1 low);
       rising = search rules;
       looks_least = search rules;
       looks_least_refused = λ _.

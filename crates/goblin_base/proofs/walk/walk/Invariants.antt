@@ -1,4 +1,5 @@
 use Rattle.std.proofs.Common.{◌≡◌, ◌+◌, ◌-◌, ◌*◌, ◌≤◌, length, max, min}
+use Rattle.std.specs.Str.{IsAscii}
 use Rattle.goblin_base.specs.Entries.{CountsAtLeast}
 use Rattle.goblin_base.specs.Marks.{HaveMarks}
 use Rattle.goblin_base.specs.Scan.{IsWalkedTo}
@@ -17,6 +18,9 @@ invariant-loop-i l = record {
   -- a look for each byte that is marked or before i, and four more for each before i
   looks : l.view.count
       ≤ l.fn.view.count + max l.marks.until (min l.i (length l.fn.view.bytes)) + 4 * min l.i (length l.fn.view.bytes);
+  -- of ASCII, the marks and the last bytes alone
+  ascii : IsAscii l.fn.view.bytes
+      → l.view.count ≤ l.fn.view.count + max l.marks.until (min l.i (length l.fn.view.bytes));
   rising : l.fn.view.count ≤ l.view.count;
   -- and as many at least as bytes were marked or passed
   least : CountsAtLeast l.fn.view.count (max l.marks.until (min l.i (length l.fn.view.bytes))) l.view.count;
