@@ -19,7 +19,7 @@ use Rattle.goblin.specs.RelocSection.{relocs_of}
 use Rattle.goblin.specs.SectionHeaders.{link_of, names_index}
 use Rattle.goblin_headers.proofs.HeaderLemmas.{header_laws}
 use Rattle.goblin_headers.proofs.RawTrips.{ident_byte}
-use Rattle.goblin_headers.proofs.ReadHeaderLemmas.{read_header-is}
+use Rattle.goblin_headers.proofs.ReadHeaderLemmas.{was_read}
 use Rattle.goblin_c.specs.Answers.{count_of, ctx_of, each_converted, header_converted, item_of, items_from}
 use Rattle.goblin_c.specs.Answers.{reloc_count_expected, reloc_expected, reloc_converted, relocs_expected}
 use Rattle.goblin_c.specs.Answers.{relocs_converted, section_converted, sections_expected, sections_converted}
@@ -35,12 +35,13 @@ named : (bytes : List ℕ) (h : Header)
     → (class : Container) × (order : Endian) × (class_named (slice_index h.e_ident 4) ≡ Some class)
     × (order_named (slice_index h.e_ident 5) ≡ Some order)
 named bytes h has =
-    let found = read_header-is bytes h has.0 has.1 in
-    let ident = ap (λ (header : Header). header.e_ident) found.6 ∙ (header_laws found.0).ident_read found.1 bytes in (
-      found.0,
-      found.1,
-      ap class_named (ident_byte h.e_ident bytes 4 ident (omega arith)) ∙ found.3,
-      ap order_named (ident_byte h.e_ident bytes 5 ident (omega arith)) ∙ found.4,
+    let read = was_read bytes h has.0 has.1 in
+    let ident = ap (λ (header : Header). header.e_ident) read.header
+    ∙ (header_laws read.class).ident_read read.order bytes in (
+      read.class,
+      read.order,
+      ap class_named (ident_byte h.e_ident bytes 4 ident (omega arith)) ∙ read.named,
+      ap order_named (ident_byte h.e_ident bytes 5 ident (omega arith)) ∙ read.ordered,
     )
 
 -- the context of what C hands back is the one that the header names
