@@ -1,5 +1,5 @@
-// A program in TypeScript over goblin.d.ts: checks/web.sh compiles it where there is tsc, and does not run it. Each comment
-// @ts-expect-error fails if the next line has no error.
+// A program in TypeScript over goblin.d.ts. checks/web.sh compiles it if there is tsc, and does not run it. A line that must be an error
+// has a comment before it, at which the compiler fails if there is none.
 import init, { Elf, GoblinError, Kind, List, Range, SectionHeader, SHF_ALLOC, SHT_SYMTAB, Symtab, json, machine_to_str } from 'goblin_c';
 
 export async function main(bytes: ArrayBuffer, view: Uint16Array): Promise<string[]> {
