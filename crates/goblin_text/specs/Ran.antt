@@ -98,6 +98,22 @@ abbrev pub TellsWhy : ParseMode → List ℕ → List ℕ → Type 0
 TellsWhy mode bytes line =
     ((r : Refusal) × (shown mode bytes ≡ Err r) × (line ≡ refusal_text r)) ⊎ (line ≡ codes "Out of memory")
 
+-- How a run ended, and what it did: to the reader, of which are told what is left and the marks before and after, and to the
+-- writer, of which are told what it holds and the marks.
+pub record HasRun (mode : ParseMode) (outcome : Outcome) (old new : Option (List ℕ)) (before after : Marks) (held holds : Option (List ℕ)) (told tells : Marks) : Type 0 where
+  -- The reader told its end, and the text of all its bytes was written.
+  pub shown : outcome ≡ outcomes.Shown → IsShown mode old new after held holds
+  -- One line with the reason was written.
+  pub refused : outcome ≡ outcomes.Refused → (line : List ℕ) × IsReason mode old new after line × WritesRefusal held holds line
+  -- The reader told an error that was no interruption, or was asked as often as it is and told no end; or the writer told an error.
+  pub failed : outcome ≡ outcomes.Failed → FailsToRead before after ⊎ IsTrue tells.told_error
+  -- Where it did not, the reader told no error but interruptions, and the writer none.
+  pub heeds_reader : outcome ≢ outcomes.Failed → after.told_failure ≡ before.told_failure
+  pub heeds_writer : outcome ≢ outcomes.Failed → tells.told_error ≡ told.told_error
+  -- However it ended, the reader was not asked for more.
+  pub most : ReadsAtMostOneMore old new
+  pub calls : after.read_calls ≤ before.read_calls + read_limit
+
 -- the exit status of a run
 abbrev pub status_of : Outcome → ℕ
 status_of outcomes.Shown = 0

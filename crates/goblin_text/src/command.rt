@@ -1,31 +1,26 @@
 //! What the program does: from its words, a reader and a writer to its exit status.
-ghost use Rattle.std.specs.Prelude.{◌≡◌, ◌≢◌, ◌+◌, ◌<◌, ◌≤◌, ◌⊎◌, ℕ, List, IsTrue, None, Some, OnErr, OnOk};
+ghost use Rattle.std.specs.Prelude.{◌≡◌, ◌<◌, None, Some, OnErr, OnOk};
 ghost use Rattle.goblin.specs.declared.options.ParseOptions.{ParseOptions};
+ghost use Rattle.goblin_text.specs.declared.run.Outcome.{Outcome};
 ghost use Rattle.goblin_text.specs.Options.{wanted};
-ghost use Rattle.goblin_text.specs.Ran.{FailsToRead, IsReason, IsShown, ReadsAtMostOneMore, TellsUsage, WritesRefusal, read_limit};
+ghost use Rattle.goblin_text.specs.Ran.{HasRun, TellsUsage, status_of};
 
 use crate::options::options_of;
-use crate::run::run;
+use crate::run::{Outcome, run};
 use crate::streams::{Sink, Source};
 use std::alloc::Global;
 use std::io;
 
-// The exit status of a program that was not run, since its words can't be had, or ask for nothing
-// that it does.
-const NOT_RUN: u8 = 2;
-
 // How the program is called.
 const USAGE: &[u8; 32] = b"usage: goblin_show [permissive]\n";
 
-// Writes how the program is called, and answers the exit status of that.
-fn tell_usage<W: Sink>(writer: &mut W) -> u8
-    ensures status { result ≡ 2 }
-    ensures line { TellsUsage (W.contents writer.old) (W.contents writer.new) (W.marks writer.new) }
+// Writes how the program is called.
+fn tell_usage<W: Sink>(writer: &mut W)
+    ensures { TellsUsage (W.contents writer.old) (W.contents writer.new) (W.marks writer.new) }
 {
     if writer.write_all(USAGE).is_ok() {
         let _ = writer.flush();
     }
-    NOT_RUN
 }
 
 /// Does what the words ask for, which are the arguments after the program's name, and answers the
@@ -50,41 +45,21 @@ pub fn show<R: Source, W: Sink>(
         × (reader.new ≡ reader.old)
         × TellsUsage (W.contents writer.old) (W.contents writer.new) (W.marks writer.new)) }
 
-    // The reader told its end, and the text of all its bytes was written, by the options that the
-    // words ask for.
-    ensures shown { result ≡ 0 → (opts : ParseOptions)
-        × (wanted words ≡ Some opts)
-        × IsShown opts.parse_mode (R.remaining reader.old) (R.remaining reader.new)
-        (R.marks reader.new) (W.contents writer.old) (W.contents writer.new) }
-
-    // One line with the reason was written.
-    ensures refused { result ≡ 1 → (opts : ParseOptions) × (line : List ℕ)
-        × (wanted words ≡ Some opts)
-        × IsReason opts.parse_mode (R.remaining reader.old) (R.remaining reader.new)
-        (R.marks reader.new) line
-        × WritesRefusal (W.contents writer.old) (W.contents writer.new) line }
-
-    // The words can't be had or ask for nothing, or reading failed, or the writer told an error.
-    ensures failed { result ≡ 2 → (wanted words ≡ None)
-        ⊎ (FailsToRead (R.marks reader.old) (R.marks reader.new)
-        ⊎ IsTrue (W.marks writer.new).told_error) }
-
-    // Where it was shown or refused, the reader told no error but interruptions, and the writer
-    // none.
-    ensures heeds_reader { result ≢ 2 →
-        (R.marks reader.new).told_failure ≡ (R.marks reader.old).told_failure }
-    ensures heeds_writer { result ≢ 2 →
-        (W.marks writer.new).told_error ≡ (W.marks writer.old).told_error }
-
-    // However it ended, the reader was not asked for more.
-    ensures most { ReadsAtMostOneMore (R.remaining reader.old) (R.remaining reader.new) }
-    ensures calls { (R.marks reader.new).read_calls ≤ (R.marks reader.old).read_calls + read_limit }
+    // By the options that the words ask for there was a run, and this is its exit status.
+    ensures ran { (opts : ParseOptions) → wanted words ≡ Some opts → (outcome : Outcome)
+        × (result ≡ status_of outcome)
+        × HasRun opts.parse_mode outcome (R.remaining reader.old) (R.remaining reader.new)
+        (R.marks reader.old) (R.marks reader.new) (W.contents writer.old) (W.contents writer.new)
+        (W.marks writer.old) (W.marks writer.new) }
 {
     let Ok(words) = words else {
-        return NOT_RUN;
+        return Outcome::Failed.status();
     };
     match options_of(words.as_slice()) {
         Some(opts) => run(alloc, reader, writer, &opts).status(),
-        None => tell_usage(writer),
+        None => {
+            tell_usage(writer);
+            Outcome::Failed.status()
+        }
     }
 }

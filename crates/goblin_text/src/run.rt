@@ -1,8 +1,8 @@
 //! A run: from the bytes that a reader gives to the text that a writer holds.
-ghost use Rattle.std.specs.Prelude.{◌≡◌, ◌≢◌, ℕ, ◌+◌, ◌*◌, ◌≤◌, ◌⊎◌, List, IsTrue, OnOk, OnErr, length};
+ghost use Rattle.std.specs.Prelude.{◌≡◌, ◌≢◌, ℕ, ◌+◌, ◌*◌, List, IsTrue, OnOk, OnErr, length};
 ghost use Rattle.std.specs.Io.KnownBytes.{Appends};
 ghost use Rattle.goblin_text.specs.Looks.{CountsAtLeast, IsShort, Spends, line_looks, lines_in, shown_looks, tables_looks};
-ghost use Rattle.goblin_text.specs.Ran.{FailsToRead, IsReason, IsShown, ReadsAtMostOneMore, TellsError, TellsWhy, WritesRefusal, read_limit, status_of};
+ghost use Rattle.goblin_text.specs.Ran.{HasRun, TellsError, TellsWhy, WritesRefusal, status_of};
 ghost use Rattle.goblin_text.specs.Shown.{shown};
 
 use crate::accept::accept;
@@ -144,32 +144,9 @@ pub fn run<R: Source, W: Sink>(
     writer: &mut W,
     opts: &ParseOptions,
 ) -> Outcome
-    // The reader told its end, and the text of all its bytes was written.
-    ensures shown { result ≡ Outcome.Shown →
-        IsShown opts.now.parse_mode (R.remaining reader.old) (R.remaining reader.new) (R.marks reader.new)
-        (W.contents writer.old) (W.contents writer.new) }
-
-    // One line with the reason was written.
-    ensures refused { result ≡ Outcome.Refused → (line : List ℕ)
-        × IsReason opts.now.parse_mode (R.remaining reader.old) (R.remaining reader.new)
-        (R.marks reader.new) line
-        × WritesRefusal (W.contents writer.old) (W.contents writer.new) line }
-
-    // The reader told an error that was no interruption, or was asked as often as it is and told
-    // no end; or the writer told an error.
-    ensures failed { result ≡ Outcome.Failed →
-        FailsToRead (R.marks reader.old) (R.marks reader.new)
-        ⊎ IsTrue (W.marks writer.new).told_error }
-
-    // Where it did not, the reader told no error but interruptions, and the writer none.
-    ensures heeds_reader { result ≢ Outcome.Failed →
-        (R.marks reader.new).told_failure ≡ (R.marks reader.old).told_failure }
-    ensures heeds_writer { result ≢ Outcome.Failed →
-        (W.marks writer.new).told_error ≡ (W.marks writer.old).told_error }
-
-    // However it ended, the reader was not asked for more.
-    ensures most { ReadsAtMostOneMore (R.remaining reader.old) (R.remaining reader.new) }
-    ensures calls { (R.marks reader.new).read_calls ≤ (R.marks reader.old).read_calls + read_limit }
+    ensures { HasRun opts.now.parse_mode result (R.remaining reader.old) (R.remaining reader.new)
+        (R.marks reader.old) (R.marks reader.new) (W.contents writer.old) (W.contents writer.new)
+        (W.marks writer.old) (W.marks writer.new) }
 {
     let bytes = match input_of(alloc, reader) {
         Input::Whole(bytes) => bytes,

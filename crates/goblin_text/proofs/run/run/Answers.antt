@@ -1,9 +1,29 @@
-use Rattle.std.proofs.Common.{inl, inr, refl}
+use Rattle.std.proofs.Common.{arith, inl, inr, refl}
+use Rattle.std.proofs.lemmas.Grind.{common_steps}
+use Rattle.std.specs.Fmt.{digits}
 use Rattle.goblin_text.proofs.run.run.Goals as goal
 
-pub returns-in-TooLong-clause-refused : goal.returns-in-TooLong-clause-refused
-returns-in-TooLong-clause-refused g c = λ h.
-    (_, inr (inl (c.in-TooLong.ensures.input.0, c.in-TooLong.ensures.input.1, refl)), c.refuse.ensures.refused h)
+pub returns-in-TooLong : goal.returns-in-TooLong
+unfolding digits
+returns-in-TooLong g c = record {
+  shown = λ e. absurd (c.refuse.ensures.shown e);
+  refused = λ e.
+      let why = c.in-TooLong.ensures.input in
+      (_, inr (inl (why.0, why.1, refl)), c.refuse.ensures.refused e);
+  failed = λ e. inr (c.refuse.ensures.failed e);
+  heeds_reader = grind (arith, common_steps);
+  heeds_writer = grind (arith, common_steps);
+  most = grind (arith, common_steps);
+  calls = grind (arith, common_steps);
+}
 
-pub returns-in-OutOfMemory-clause-refused : goal.returns-in-OutOfMemory-clause-refused
-returns-in-OutOfMemory-clause-refused g c = λ h. (_, inr (inr refl), c.refuse-in-OutOfMemory.ensures.refused h)
+pub returns-in-OutOfMemory : goal.returns-in-OutOfMemory
+returns-in-OutOfMemory g c = record {
+  shown = λ e. absurd (c.refuse-in-OutOfMemory.ensures.shown e);
+  refused = λ e. (_, inr (inr refl), c.refuse-in-OutOfMemory.ensures.refused e);
+  failed = λ e. inr (c.refuse-in-OutOfMemory.ensures.failed e);
+  heeds_reader = grind (arith, common_steps);
+  heeds_writer = grind (arith, common_steps);
+  most = grind (arith, common_steps);
+  calls = grind (arith, common_steps);
+}
