@@ -1,9 +1,8 @@
 -- The names that look-ups find.
-use Rattle.std.proofs.Common.{◌≡◌, ◌∙◌, ℕ, ◌+◌, ◌-◌, ◌<◌, ◌≤◌, if◌then◌else◌, Bool, true, false, List, [], length, take, drop, min, refl, sym, ap, ⊎_elim, arith, slice_range, get_or, lit<, Ok, Err}
-use Rattle.std.proofs.lemmas.Bool.{cases_lt, false_from_ne_true}
+use Rattle.std.proofs.Common.{◌≡◌, ◌∙◌, ℕ, ◌+◌, ◌-◌, ◌<◌, ◌≤◌, if◌then◌else◌, Bool, true, false, List, [], length, drop, refl, sym, ap, arith, slice_range, get_or, lit<, Ok, Err}
+use Rattle.std.proofs.lemmas.Bool.{false_from_ne_true}
 use Rattle.std.proofs.lemmas.Str.{IsUtf8-from_is_utf8, is_utf8-from_IsUtf8}
 use Rattle.std.specs.Str.{IsUtf8}
-use Rattle.std.proofs.lemmas.List.{length-drop}
 use Rattle.std.specs.Option.{unwrap_or}
 use Rattle.std.specs.Result.{result_ok}
 use Rattle.std.specs.Str.{is_utf8}
@@ -12,7 +11,6 @@ use Rattle.goblin.specs.TextLaws.{name-later, name-past, names_are_plain}
 use Rattle.goblin.specs.Utf8.{invalid_utf8}
 use Rattle.goblin_text.proofs.Edges.{past_is}
 use Rattle.goblin_text.proofs.Edges.Past.{over, stays}
-use Rattle.goblin_text.proofs.Puts.{take-most}
 use Rattle.goblin_text.proofs.Ranges.{get_range, length-range, rest_of_range}
 use Rattle.goblin_text.specs.Known.{text_table}
 use Rattle.goblin_text.specs.Runs.{LacksText, past, up_to_zero}
@@ -59,13 +57,3 @@ pub nothing : (bytes : List ℕ) → LacksText bytes → [] ≡ text_or_nothing 
 nothing bytes lacks =
     let is : is_utf8 (up_to_zero bytes) ≡ false = false_from_ne_true (is_utf8 (up_to_zero bytes)) (λ t. lacks (IsUtf8-from_is_utf8 (up_to_zero bytes) t)) in
     sym (ap (λ b. if b then up_to_zero bytes else []) is)
-
--- a range is that of the places within the bytes
-pub clipped : (bytes : List ℕ) (i j s e : ℕ) → e ≡ min j (length bytes) → s ≡ min i e → slice_range bytes s e ≡ slice_range bytes i j
-clipped bytes i j s e is at =
-    let size : e - s ≡ min (j - i) (length bytes - i) = omega arith in
-    ⊎_elim
-    (λ (l : e < i). let none : e - s ≡ 0 = omega arith in ap (λ n. take n (drop s bytes)) none ∙ sym (ap (λ n. take n (drop i bytes)) none))
-    (λ (l : i ≤ e). let here : s ≡ i = omega arith in ap (λ k. take (e - s) (drop k bytes)) here)
-    (cases_lt e i)
-    ∙ ap (λ n. take n (drop i bytes)) size ∙ take-most (drop i bytes) (j - i) (length bytes - i) (length-drop i bytes)

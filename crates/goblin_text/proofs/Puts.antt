@@ -1,6 +1,6 @@
 -- What was put of a text, and what is left of it.
 use Rattle.std.proofs.Common.{◌≡◌, ◌∙◌, ◌++◌, ◌∷◌, ◌≤◌, ℕ, List, [], Option, None, Some, ap, append_assoc, get_or, set, append-nil, arith, length, min, refl, subst, sym, take, ⊎_elim, ◌<◌}
-use Rattle.std.proofs.KnownBytes.{Appends-kept, Appends-nil, Appends-trans, append_known-grown, append_known-moved}
+use Rattle.std.proofs.KnownBytes.{Appends-kept, Appends-trans, append_known-grown, append_known-moved}
 use Rattle.std.proofs.lemmas.Bool.{cases_lt}
 use Rattle.std.proofs.lemmas.List.{take_all}
 use Rattle.std.specs.Io.KnownBytes.{Appends, Keeps, append_known}
@@ -13,9 +13,6 @@ pub record PutSoFar (old new : State) (all rest : List ℕ) : Type 0 where
   pub are : all ≡ lines ++ rest
   pub heeded : new.told_error ≡ old.told_error
 
-pub none_put : (s : State) (all : List ℕ) → PutSoFar s s all all
-none_put s all = record { lines = []; appends = Appends-nil s.contents; are = refl; heeded = refl }
-
 pub more_put : (a b c : State) (all line rest next : List ℕ) → PutSoFar a b all rest → rest ≡ line ++ next → Appends b.contents c.contents line × (c.told_error ≡ b.told_error) → PutSoFar a c all next
 more_put a b c all line rest next w e p = record {
   lines = w.lines ++ line;
@@ -23,9 +20,6 @@ more_put a b c all line rest next w e p = record {
   are = w.are ∙ ap (λ r. w.lines ++ r) e ∙ sym (append_assoc w.lines line next);
   heeded = p.1 ∙ w.heeded;
 }
-
-pub all_put : (a b : State) (all rest : List ℕ) → PutSoFar a b all rest → rest ≡ [] → Appends a.contents b.contents all × (b.told_error ≡ a.told_error)
-all_put a b all rest w e = (subst (Appends a.contents b.contents) (sym (w.are ∙ ap (λ r. w.lines ++ r) e ∙ append-nil w.lines)) w.appends, w.heeded)
 
 -- an empty room before a writer
 pub held-none : (known : Option (List ℕ)) → append_known known [] ≡ known

@@ -1,20 +1,17 @@
 -- What names took, and what is left to them.
-use Rattle.std.proofs.Common.{◌≡◌, ℕ, ◌+◌, ◌*◌, ◌≤◌, eqb, cond, true, false, List, [], ◌∷◌, ◌++◌, ap, arith, length, length-append, Ok, subst, sym}
+use Rattle.std.proofs.Common.{◌≡◌, ℕ, ◌+◌, ◌*◌, ◌≤◌, eqb, cond, true, false, List, [], ◌∷◌, ◌++◌, ap, arith, length, length-append, subst, sym}
 use Rattle.std.proofs.lemmas.List.{length-map}
 use Rattle.goblin.specs.Texts.{◌&◌}
 use Rattle.goblin.specs.Strtab.{StringTable}
-use Rattle.goblin.specs.declared.options.ParseMode.{ParseMode}
 use Rattle.std.specs.Prelude.{vec_items}
-use Rattle.std.specs.Option.{unwrap_or}
-use Rattle.std.specs.Result.{result_ok}
 use Rattle.goblin.specs.declared.elf.header.Header.{Header}
 use Rattle.goblin.specs.declared.elf.section_header.SectionHeader.{SectionHeader}
 use Rattle.goblin_text.specs.Accepted.{parts_text, relocs_text, symbols_text}
 use Rattle.goblin_text.specs.Known.{strings_in}
-use Rattle.goblin_text.specs.Shown.{name_at, section_lines, shown}
+use Rattle.goblin_text.specs.Shown.{name_at, section_lines}
 use Rattle.goblin_text.specs.declared.accept.Parts.{Parts}
 use Rattle.goblin_text.specs.Lines.{header_line, named_line, newline, printable, printed, section_head, section_line}
-use Rattle.goblin_text.specs.Looks.{Named, Spends, line_looks, lines_in, name_looks, names_looks, section_count, shown_looks, table_looks, tables_looks}
+use Rattle.goblin_text.specs.Looks.{Named, Spends, line_looks, lines_in, name_looks, names_looks, table_looks}
 
 -- of a text the looks so far were taken, and those of the rest are left
 abbrev pub SpentSoFar : Named → Named → List ℕ → List ℕ → Type 0
@@ -27,10 +24,6 @@ lines-append (x ∷ a) b = elim (eqb x 10) as (λ t. cond t 1 0 + lines_in (a ++
 pub looks-append : (a b : List ℕ) → names_looks (a ++ b) ≡ names_looks a + names_looks b
 unfolding names_looks
 looks-append a b = omega (arith, length-append a b, lines-append a b)
-
-pub looks-none : names_looks [] ≡ 0
-unfolding names_looks
-looks-none = omega arith
 
 -- a line that ends with a name
 pub named_line_looks : (head name : List ℕ) → name_looks + length name ≤ names_looks (named_line head name)
@@ -46,10 +39,6 @@ named_line_looks head name =
       lines-append head tail,
       lines-append (printed name) newline,
     )
-
--- before the first line
-pub none_spent : (s : Named) (all : List ℕ) → SpentSoFar s s all all
-none_spent s all = omega arith
 
 -- with one line more
 pub more_spent : (old mid new : Named) (all rest line next : List ℕ) → SpentSoFar old mid all rest → rest ≡ line ++ next → Spends mid new (names_looks line) → SpentSoFar old new all next
@@ -103,9 +92,3 @@ shown_spend old mid new bytes header sections parts text is s t =
   where
     by : (x : List ℕ) → length sections + 1 ≤ lines_in x → Spends mid new (length x + name_looks * lines_in x) → Spends old new (length x + line_looks * lines_in x)
     by x l p = omega (arith, s, l, p)
-
--- and in any case
-pub any_spend : (old mid new : Named) (mode : ParseMode) (bytes : List ℕ) (count : ℕ) (text : List ℕ) → count ≡ section_count mode bytes → shown mode bytes ≡ Ok text → Spends old mid (table_looks * (count + 1)) → Spends mid new (names_looks text) → Spends old new (tables_looks mode bytes + shown_looks mode bytes)
-any_spend old mid new mode bytes count text e is s t =
-    let same : shown_looks mode bytes ≡ names_looks text = ap (λ r. names_looks (unwrap_or (result_ok r) [])) is in
-    omega (arith, e, same, s, t)

@@ -1,5 +1,5 @@
 use Rattle.std.proofs.Common.{◌≡◌, ◌++◌, ℕ, List, drop}
-use Rattle.goblin_text.proofs.Shows.{behind}
+use Rattle.goblin_text.proofs.Shows.{after}
 use Rattle.goblin_text.specs.Accepted.{relocs_text}
 use Rattle.goblin_text.specs.Shown.{each_shown, relocs_shown}
 use Rattle.goblin_text.proofs.accept.Context.accept_all_relocs.Given as goal
@@ -10,4 +10,4 @@ invariant-loop-number l =
     let context = l.self in
     let shows = relocs_shown l.file.bytes context.ctx l.is_mips64el in
     (lines : List ℕ) × (relocs_text l.parts.items ≡ relocs_text l.initial.parts.items ++ lines)
-    × (each_shown shows 0 context.sections.now ≡ behind lines (each_shown shows l.number (drop l.number context.sections.now)))
+    × (each_shown shows 0 context.sections.now ≡ after lines (each_shown shows l.number (drop l.number context.sections.now)))

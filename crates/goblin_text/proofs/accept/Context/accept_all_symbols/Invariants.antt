@@ -1,5 +1,5 @@
 use Rattle.std.proofs.Common.{◌≡◌, ◌++◌, ◌*◌, ℕ, List, drop}
-use Rattle.goblin_text.proofs.Shows.{behind}
+use Rattle.goblin_text.proofs.Shows.{after}
 use Rattle.goblin_text.specs.Accepted.{symbols_text}
 use Rattle.goblin_text.specs.Looks.{CountsAtLeast, IsShort, Spends, table_looks}
 use Rattle.goblin_text.specs.Shown.{each_shown, symbols_shown}
@@ -16,5 +16,5 @@ invariant-loop-number l =
       looks : IsShort bytes → Spends l.initial.file l.file (table_looks * l.number);
       least : CountsAtLeast l.initial.file.count 0 l.file.count;
       shown : (lines : List ℕ) × (symbols_text bytes l.parts.items ≡ symbols_text bytes l.initial.parts.items ++ lines)
-          × (each_shown shows 0 context.sections.now ≡ behind lines (each_shown shows l.number (drop l.number context.sections.now)));
+          × (each_shown shows 0 context.sections.now ≡ after lines (each_shown shows l.number (drop l.number context.sections.now)));
     }
