@@ -1,5 +1,5 @@
 -- What is looked at of a file for its names: the counted views, and what may be looked at.
-use Rattle.std.specs.Prelude.{◌≡◌, ℕ, ◌+◌, ◌-◌, ◌*◌, ◌^◌, ◌≤◌, ◌==◌, if◌then◌else◌, min, List, [], ◌∷◌, length, Result, Ok, Err, unwrap_or}
+use Rattle.std.specs.Prelude.{◌≡◌, ℕ, ◌+◌, ◌*◌, ◌≤◌, ◌==◌, if◌then◌else◌, List, [], ◌∷◌, length, Result, Ok, Err, unwrap_or}
 use Rattle.std.specs.Result.{result_ok}
 use Rattle.goblin.specs.declared.options.ParseMode.{ParseMode}
 use Rattle.goblin.specs.ReadHeader.{read_header}
@@ -8,11 +8,6 @@ use Rattle.goblin.specs.Steps.{◌>>=◌, refuse_as}
 use Rattle.goblin_text.specs.declared.input.TheConstants.{INPUT_LIMIT}
 use Rattle.goblin_text.specs.declared.runs.TheConstants.{BLOCK}
 use Rattle.goblin_text.specs.Shown.{ctx_of, sections_of, shown}
-
--- the bytes of a file, and how many looks at them were taken
-pub record Seen : Type 0 where
-  pub bytes : List ℕ
-  pub count : ℕ
 
 -- the bytes of a file, how many looks at them were taken, how many more the blocks may take that weren't read yet, and
 -- where the range stands that was last found to be text
@@ -26,10 +21,6 @@ pub record Named : Type 0 where
 -- the range that is kept as text is the one from one place to another
 abbrev pub IsKept : Named → (start end : ℕ) → Type 0
 IsKept names start end = (names.text_start ≡ start) × (names.text_end ≡ end)
-
--- at least so many looks were taken since: a count stays at the greatest number once it is there
-abbrev pub CountsAtLeast : (before looks after : ℕ) → Type 0
-CountsAtLeast before looks after = min (before + looks) (2 ^ 128 - 1) ≤ after
 
 -- the file is no longer than the program takes
 abbrev pub IsShort : List ℕ → Type 0

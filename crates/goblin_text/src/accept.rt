@@ -4,7 +4,8 @@ ghost use Rattle.goblin.specs.Refusal.{Answers, Gives, Refuses};
 ghost use Rattle.goblin.specs.SectionHeaders.{section_headers_of_tested};
 ghost use Rattle.goblin_text.specs.Accepted.{accepted_text, parts_text, relocs_text, symbols_text};
 ghost use Rattle.goblin_text.specs.Known.{strings_in};
-ghost use Rattle.goblin_text.specs.Looks.{CountsAtLeast, IsShort, Spends, Spent, section_count, table_looks, tables_looks};
+ghost use Rattle.goblin_base.specs.Entries.{CountsAtLeast};
+ghost use Rattle.goblin_text.specs.Looks.{IsShort, Spends, Spent, section_count, table_looks, tables_looks};
 ghost use Rattle.goblin_text.specs.Shown.{Adds, ctx_of, each_shown, file_shown, has_relocs, has_symbols, relocs_shown, sections_of, shown, sizes_checked, strings_at, strings_of, symbols_shown, tested};
 
 use crate::file_bytes::FileBytes;

@@ -6,7 +6,8 @@ ghost use Rattle.goblin.specs.declared.options.ParseMode.{ParseMode};
 ghost use Rattle.goblin.specs.Refusal.{Answers};
 ghost use Rattle.goblin.specs.Strtab.{strtab_of, table_of};
 ghost use Rattle.goblin_text.specs.Known.{strings_in, text_table};
-ghost use Rattle.goblin_text.specs.Looks.{CountsAtLeast, IsKept, IsShort, Spends, Spent, name_looks, table_looks};
+ghost use Rattle.goblin_base.specs.Entries.{CountsAtLeast};
+ghost use Rattle.goblin_text.specs.Looks.{IsKept, IsShort, Spends, Spent, name_looks, table_looks};
 ghost use Rattle.goblin_text.specs.Runs.{EndsAt, IsLong, IsTextUpTo, last_block};
 ghost use Rattle.goblin_text.specs.Shown.{name_at};
 

@@ -1,7 +1,8 @@
 //! A run: from the bytes that a reader gives to the text that a writer holds.
 ghost use Rattle.std.specs.Prelude.{◌≡◌, ◌≢◌, ℕ, ◌+◌, ◌*◌, List, IsTrue, OnOk, OnErr, length};
 ghost use Rattle.std.specs.Io.KnownBytes.{Appends};
-ghost use Rattle.goblin_text.specs.Looks.{CountsAtLeast, IsShort, Spends, line_looks, lines_in, shown_looks, tables_looks};
+ghost use Rattle.goblin_base.specs.Entries.{CountsAtLeast};
+ghost use Rattle.goblin_text.specs.Looks.{IsShort, Spends, line_looks, lines_in, shown_looks, tables_looks};
 ghost use Rattle.goblin_text.specs.Ran.{HasRun, TellsError, TellsWhy, WritesRefusal, status_of};
 ghost use Rattle.goblin_text.specs.Shown.{shown};
 

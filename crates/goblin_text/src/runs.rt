@@ -1,6 +1,7 @@
 //! Runs of a file's blocks that are text, or text with no zero byte. Each block is read once for either.
 ghost use Rattle.std.specs.Prelude.{◌≡◌, ◌↔◌, ◌+◌, ◌-◌, ◌*◌, ◌<◌, ◌≤◌, IsTrue, List, ℕ, length, slice_index, slice_range};
-ghost use Rattle.goblin_text.specs.Looks.{CountsAtLeast, block_looks};
+ghost use Rattle.goblin_base.specs.Entries.{CountsAtLeast};
+ghost use Rattle.goblin_text.specs.Looks.{block_looks};
 ghost use Rattle.goblin_text.specs.Runs.{AreEnds, IsBlock, IsEnd, IsOf, blocks, unknown};
 
 use crate::input::INPUT_LIMIT;

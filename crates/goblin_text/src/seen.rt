@@ -11,7 +11,7 @@ ghost use Rattle.goblin.specs.Pieces.{first_bad, piece_start};
 ghost use Rattle.goblin.specs.Refusal.{Answers, malformed};
 ghost use Rattle.goblin.specs.Steps.{refuse_as};
 ghost use Rattle.goblin.specs.Strtab.{range_in, table_of};
-ghost use Rattle.goblin_text.specs.Looks.{CountsAtLeast};
+ghost use Rattle.goblin_base.specs.Entries.{CountsAtLeast};
 ghost use Rattle.goblin_text.specs.Known.{IsRange, text_table};
 ghost use Rattle.goblin_text.specs.Runs.{edge, past, up_to_zero};
 
@@ -30,7 +30,7 @@ pub struct Seen<'a> {
 
 // They are seen as the bytes and the count.
 impl<'a> Model for Seen<'a> {
-    ghost use Rattle.goblin_text.specs.Looks.{Seen};
+    ghost use Rattle.goblin_base.specs.Entries.{Seen};
 
     ghost Value = { Seen };
 

@@ -5,7 +5,8 @@ ghost use Rattle.goblin.specs.Refusal.{Gives, Refuses};
 ghost use Rattle.goblin_text.specs.Accepted.{accepted_text, relocs_text, symbols_text};
 ghost use Rattle.goblin_text.specs.Known.{strings_in};
 ghost use Rattle.goblin_text.specs.Lines.{section_line, symbol_line};
-ghost use Rattle.goblin_text.specs.Looks.{CountsAtLeast, IsShort, Spends, names_looks};
+ghost use Rattle.goblin_base.specs.Entries.{CountsAtLeast};
+ghost use Rattle.goblin_text.specs.Looks.{IsShort, Spends, names_looks};
 ghost use Rattle.goblin_text.specs.Put.{Puts};
 ghost use Rattle.goblin_text.specs.Shown.{PermissiveShowsStrict, name_at, reloc_lines, section_lines, shown, symbol_lines, tested};
 

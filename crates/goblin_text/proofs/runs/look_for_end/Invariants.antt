@@ -1,5 +1,6 @@
 use Rattle.std.specs.Prelude.{◌≡◌, ℕ, ◌+◌, ◌-◌, ◌*◌, ◌<◌, ◌≤◌, slice_index}
-use Rattle.goblin_text.specs.Looks.{CountsAtLeast, block_looks}
+use Rattle.goblin_base.specs.Entries.{CountsAtLeast}
+use Rattle.goblin_text.specs.Looks.{block_looks}
 use Rattle.goblin_text.specs.Runs.{IsRun, blocks}
 use Rattle.goblin_text.proofs.runs.look_for_end.Given as goal
 

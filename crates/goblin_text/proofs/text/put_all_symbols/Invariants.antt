@@ -2,7 +2,8 @@ use Rattle.std.proofs.Common.{◌≡◌, drop}
 use Rattle.goblin_text.proofs.Puts.{PutSoFar}
 use Rattle.goblin_text.proofs.Spent.{SpentSoFar}
 use Rattle.goblin_text.specs.Accepted.{symbols_text}
-use Rattle.goblin_text.specs.Looks.{CountsAtLeast, IsShort}
+use Rattle.goblin_base.specs.Entries.{CountsAtLeast}
+use Rattle.goblin_text.specs.Looks.{IsShort}
 use Rattle.goblin_text.proofs.text.put_all_symbols.Given as goal
 
 -- the lines so far were put, and took no more looks than they may

@@ -2,7 +2,8 @@ use Rattle.std.proofs.Common.{◌≡◌, drop}
 use Rattle.goblin_text.proofs.Puts.{PutSoFar}
 use Rattle.goblin_text.specs.Known.{strings_in}
 use Rattle.goblin_text.proofs.Spent.{SpentSoFar}
-use Rattle.goblin_text.specs.Looks.{CountsAtLeast, IsShort}
+use Rattle.goblin_base.specs.Entries.{CountsAtLeast}
+use Rattle.goblin_text.specs.Looks.{IsShort}
 use Rattle.goblin_text.specs.Shown.{section_lines}
 use Rattle.goblin_text.proofs.text.put_sections.Given as goal
 

@@ -3,7 +3,8 @@ use Prim.Native.Nat.{◌^◌}
 use Rattle.goblin_text.proofs.Puts.{PutSoFar}
 use Rattle.goblin_text.proofs.Spent.{SpentSoFar}
 use Rattle.goblin_text.specs.Known.{strings_in}
-use Rattle.goblin_text.specs.Looks.{CountsAtLeast, IsShort}
+use Rattle.goblin_base.specs.Entries.{CountsAtLeast}
+use Rattle.goblin_text.specs.Looks.{IsShort}
 use Rattle.goblin_text.specs.Shown.{symbol_lines}
 use Rattle.goblin_text.proofs.text.put_symbols.Given as goal
 

@@ -1,7 +1,8 @@
 use Rattle.std.proofs.Common.{◌≡◌, ◌++◌, ◌*◌, ℕ, List, drop}
 use Rattle.goblin_text.proofs.Shows.{after}
 use Rattle.goblin_text.specs.Accepted.{symbols_text}
-use Rattle.goblin_text.specs.Looks.{CountsAtLeast, IsShort, Spends, table_looks}
+use Rattle.goblin_base.specs.Entries.{CountsAtLeast}
+use Rattle.goblin_text.specs.Looks.{IsShort, Spends, table_looks}
 use Rattle.goblin_text.specs.Shown.{each_shown, symbols_shown}
 use Rattle.goblin_text.proofs.accept.Context.accept_all_symbols.Given as goal
 
