@@ -1,5 +1,7 @@
 -- What is kept of blocks of a file.
-use Rattle.std.proofs.Common.{◌≡◌, ◌∙◌, ℕ, zero, suc, eqb, [], ◌∷◌, refl, ◌+◌, ◌<◌, ◌≤◌, ◌≢◌, set, replicate, length-set, get_or-set_other, get_or-set_same, true, false, cond, List, length, get_or, sym, ap, subst, ⊎_elim, arith}
+use Rattle.std.proofs.Common.{◌≡◌, ◌∙◌, ℕ, zero, suc, eqb, [], ◌∷◌, refl, ◌+◌, ◌<◌, ◌≤◌, ◌≢◌, set, replicate}
+use Rattle.std.proofs.Common.{length-set, get_or-set_other, get_or-set_same, true, false, cond, List, length, get_or}
+use Rattle.std.proofs.Common.{sym, ap, subst, ⊎_elim, arith}
 use Rattle.std.proofs.lemmas.Bool.{cases_eq, cases_lt}
 use Rattle.std.proofs.lemmas.Bool.Decides.{nat_tests}
 use Rattle.std.proofs.lemmas.List.{get_or-replicate, length-replicate}
@@ -20,15 +22,21 @@ pub unknown_most : (n : ℕ) (ends : List ℕ) → unknown n ends ≤ n
 unfolding unknown
 unknown_most zero ends = omega arith
 unknown_most (suc n) [] = omega arith
-unknown_most (suc n) (end ∷ ends) = elim (eqb end 0) as (λ b. cond b 1 0 + unknown n ends ≤ suc n) [ true ↦ omega (arith, unknown_most n ends) | false ↦ omega (arith, unknown_most n ends) ]
+unknown_most (suc n) (end ∷ ends) =
+    elim (eqb end 0) as (λ b. cond b 1 0 + unknown n ends ≤ suc n) [
+      | true ↦ omega (arith, unknown_most n ends)
+      | false ↦ omega (arith, unknown_most n ends)
+    ]
 
 -- what is kept of a block
-pub end_known : (kind : Kind) (bytes ends : List ℕ) (k : ℕ) → AreEnds kind bytes ends → k < length ends → 0 < get_or ends k 0 → IsEnd kind bytes k (get_or ends k 0)
+pub end_known : (kind : Kind) (bytes ends : List ℕ) (k : ℕ)
+    → AreEnds kind bytes ends → k < length ends → 0 < get_or ends k 0 → IsEnd kind bytes k (get_or ends k 0)
 unfolding AreEnds
 end_known kind bytes ends k h l some = h k l some
 
 -- one end more
-pub end_more : (kind : Kind) (bytes ends : List ℕ) (i n : ℕ) → AreEnds kind bytes ends → i < length ends → IsEnd kind bytes i n → AreEnds kind bytes (set ends i n)
+pub end_more : (kind : Kind) (bytes ends : List ℕ) (i n : ℕ)
+    → AreEnds kind bytes ends → i < length ends → IsEnd kind bytes i n → AreEnds kind bytes (set ends i n)
 unfolding AreEnds
 end_more kind bytes ends i n h m t = λ k l some. ⊎_elim
     (λ (s : k ≡ i).
@@ -40,7 +48,8 @@ end_more kind bytes ends i n h m t = λ k l some. ⊎_elim
     (cases_eq k i)
 
 -- and so one unknown less
-pub unknown_less : (n : ℕ) (ends : List ℕ) (i v : ℕ) → i < n → i < length ends → get_or ends i 0 ≡ 0 → 0 < v → unknown n (set ends i v) + 1 ≤ unknown n ends
+pub unknown_less : (n : ℕ) (ends : List ℕ) (i v : ℕ)
+    → i < n → i < length ends → get_or ends i 0 ≡ 0 → 0 < v → unknown n (set ends i v) + 1 ≤ unknown n ends
 unfolding unknown
 unknown_less zero ends i v l m z p = absurd (omega arith)
 unknown_less (suc n) [] i v l m z p = absurd (omega arith)
@@ -50,10 +59,14 @@ unknown_less (suc n) (end ∷ ends) zero v l m z p =
     rw (now, before) (omega arith)
 unknown_less (suc n) (end ∷ ends) (suc i) v l m z p =
     let rest = unknown_less n ends i v (omega arith) (omega arith) z p in
-    elim (eqb end 0) as (λ b. cond b 1 0 + unknown n (set ends i v) + 1 ≤ cond b 1 0 + unknown n ends) [ true ↦ omega (arith, rest) | false ↦ omega (arith, rest) ]
+    elim (eqb end 0) as (λ b. cond b 1 0 + unknown n (set ends i v) + 1 ≤ cond b 1 0 + unknown n ends) [
+      | true ↦ omega (arith, rest)
+      | false ↦ omega (arith, rest)
+    ]
 
 -- a run goes on to where the run ends that goes on from it
-pub end_behind : (kind : Kind) (bytes : List ℕ) (first k end : ℕ) → first ≤ k → IsRun kind bytes first k → IsEnd kind bytes k end → IsEnd kind bytes first end
+pub end_behind : (kind : Kind) (bytes : List ℕ) (first k end : ℕ)
+    → first ≤ k → IsRun kind bytes first k → IsEnd kind bytes k end → IsEnd kind bytes first end
 end_behind kind bytes first k end l run e = record {
   order = omega (arith, e.order);
   within = e.within;
@@ -62,7 +75,8 @@ end_behind kind bytes first k end l run e = record {
 }
 
 -- the end of a run is that of each run in it
-pub end_later : (kind : Kind) (bytes : List ℕ) (first k end : ℕ) → first ≤ k → k ≤ end → IsEnd kind bytes first end → IsEnd kind bytes k end
+pub end_later : (kind : Kind) (bytes : List ℕ) (first k end : ℕ)
+    → first ≤ k → k ≤ end → IsEnd kind bytes first end → IsEnd kind bytes k end
 end_later kind bytes first k end l m e = record {
   order = m;
   within = e.within;

@@ -1,8 +1,12 @@
 -- The first piece of a string table that is no text: the first fault lies in it.
-use Rattle.std.proofs.Common.{◌≡◌, ◌≢◌, ◌∙◌, ℕ, zero, suc, ◌+◌, ◌-◌, ◌<◌, ◌≤◌, true, false, List, [], ◌∷◌, length, get_or, take, drop, refl, sym, ap, subst, ⊎_elim, arith, slice_range, Ok, Err, Result, if◌then◌else◌, ltb}
-use Rattle.std.proofs.lemmas.Bool.{and_left, cases_eq, cases_lt, eq-eqb, eqb-true, false_from_ne_true, le-ltb, lt-ltb, ne_eqb}
+use Rattle.std.proofs.Common.{◌≡◌, ◌≢◌, ◌∙◌, ℕ, zero, suc, ◌+◌, ◌-◌, ◌<◌, ◌≤◌, true, false, List, [], ◌∷◌, length}
+use Rattle.std.proofs.Common.{get_or, take, drop, refl, sym, ap, subst, ⊎_elim, arith, slice_range, Ok, Err, Result}
+use Rattle.std.proofs.Common.{if◌then◌else◌, ltb}
+use Rattle.std.proofs.lemmas.Bool.{and_left, cases_eq, cases_lt, eq-eqb, eqb-true, false_from_ne_true, le-ltb, lt-ltb}
+use Rattle.std.proofs.lemmas.Bool.{ne_eqb}
 use Rattle.std.proofs.lemmas.List.{drop-take, drop_more, get_or-take, length-take-le, take-take, take_all}
-use Rattle.std.proofs.lemmas.Str.{IsCharBoundary-after_ascii, IsCharBoundary-start, IsUtf8-drop, IsUtf8-from_is_utf8, IsUtf8-take, is_utf8-from_IsUtf8}
+use Rattle.std.proofs.lemmas.Str.{IsCharBoundary-after_ascii, IsCharBoundary-start, IsUtf8-drop, IsUtf8-from_is_utf8}
+use Rattle.std.proofs.lemmas.Str.{IsUtf8-take, is_utf8-from_IsUtf8}
 use Rattle.std.specs.Str.{IsCharBoundary, IsUtf8, IsValidUpTo}
 use lib.Utf8.{encode}
 use Rattle.goblin.specs.Pieces.{entries, first_bad, is_bad_start, is_readable, piece, piece_end, piece_start}
@@ -12,25 +16,34 @@ use Rattle.goblin.specs.Strtab.{StringTable, table_of, walked}
 use Rattle.goblin.specs.TextLaws.{texts-join}
 use Rattle.goblin.specs.Utf8.{invalid_utf8}
 use Rattle.goblin.specs.declared.options.ParseMode.TheVariants.{Strict}
-use Rattle.goblin_base.proofs.PiecesLemmas.{at_end, delim_before, end_before, end_from, end_within, piece_is_range, start_after_delim, start_behind, start_of_front, start_of_start, start_same, start_to}
+use Rattle.goblin_base.proofs.PiecesLemmas.{at_end, delim_before, end_before, end_from, end_within, piece_is_range}
+use Rattle.goblin_base.proofs.PiecesLemmas.{start_after_delim, start_behind, start_of_front, start_of_start, start_same}
+use Rattle.goblin_base.proofs.PiecesLemmas.{start_to}
 use Rattle.goblin_base.proofs.WalkLemmas.{bad_start_from, first_bad_is, no_bad_start_readable}
 use Rattle.goblin_text.specs.Known.{text_table}
 
 module _ (bytes : List ℕ) where
-  zero_at_end : (o : ℕ) → o ≤ length bytes → piece_end bytes 0 o < length bytes → get_or bytes (piece_end bytes 0 o) 0 ≡ 0
+  zero_at_end : (o : ℕ)
+      → o ≤ length bytes → piece_end bytes 0 o < length bytes → get_or bytes (piece_end bytes 0 o) 0 ≡ 0
   zero_at_end o l m = let e = at_end bytes 0 o l m in grind (arith, e)
 
   -- where the last one begins, behind which no zero byte stands
-  start_of_last : (s : ℕ) → s ≤ length bytes → piece_start bytes 0 s ≡ s → ((i : ℕ) → s ≤ i → i < length bytes → get_or bytes i 0 ≢ 0) → s ≡ piece_start bytes 0 (length bytes)
+  start_of_last : (s : ℕ)
+      → s ≤ length bytes → piece_start bytes 0 s ≡ s → ((i : ℕ) → s ≤ i → i < length bytes → get_or bytes i 0 ≢ 0)
+      → s ≡ piece_start bytes 0 (length bytes)
   start_of_last s l h none = ⊎_elim
-      (λ (m : piece_end bytes 0 s < length bytes). absurd (none (piece_end bytes 0 s) (end_from bytes 0 s) m (zero_at_end s l m)))
+      (λ (m : piece_end bytes 0 s < length bytes).
+      absurd (none (piece_end bytes 0 s) (end_from bytes 0 s) m (zero_at_end s l m)))
       (λ (m : length bytes ≤ piece_end bytes 0 s). sym (start_same bytes 0 s (length bytes) l m ∙ h))
       (cases_lt (piece_end bytes 0 s) (length bytes))
 
-  pub start_behind_last : (k : ℕ) → k < length bytes → get_or bytes k 0 ≡ 0 → ((i : ℕ) → k < i → i < length bytes → get_or bytes i 0 ≢ 0) → k + 1 ≡ piece_start bytes 0 (length bytes)
+  pub start_behind_last : (k : ℕ)
+      → k < length bytes → get_or bytes k 0 ≡ 0 → ((i : ℕ) → k < i → i < length bytes → get_or bytes i 0 ≢ 0)
+      → k + 1 ≡ piece_start bytes 0 (length bytes)
   start_behind_last k l z none =
       let next : k + 1 ≡ suc k = omega arith in
-      let here : piece_start bytes 0 (k + 1) ≡ k + 1 = ap (piece_start bytes 0) next ∙ start_after_delim bytes 0 k (eq-eqb _ _ z) ∙ sym next in
+      let here : piece_start bytes 0 (k + 1) ≡ k + 1 =
+      ap (piece_start bytes 0) next ∙ start_after_delim bytes 0 k (eq-eqb _ _ z) ∙ sym next in
       start_of_last (k + 1) (omega arith) here (λ i from to. none i (omega arith) to)
 
   pub start_of_only : ((i : ℕ) → i < length bytes → get_or bytes i 0 ≢ 0) → 0 ≡ piece_start bytes 0 (length bytes)
@@ -39,43 +52,56 @@ module _ (bytes : List ℕ) where
 
   -- ---- pieces of a front that is text
   -- it may be cut where a piece begins
-  boundary_at_start : (p o : ℕ) → p ≤ length bytes → IsUtf8 (take p bytes) → o ≤ p → piece_start bytes 0 o ≡ o → IsCharBoundary (take p bytes) o
+  boundary_at_start : (p o : ℕ)
+      → p ≤ length bytes → IsUtf8 (take p bytes) → o ≤ p → piece_start bytes 0 o ≡ o → IsCharBoundary (take p bytes) o
   boundary_at_start p zero w front l h = IsCharBoundary-start (take p bytes) front
   boundary_at_start p (suc o) w front l h =
       let size = length-take-le p bytes w in
-      let z : get_or (take p bytes) o 0 ≡ 0 = get_or-take p bytes o 0 (omega arith) ∙ eqb-true _ _ (delim_before bytes 0 o h) in
+      let z : get_or (take p bytes) o 0 ≡ 0 =
+      get_or-take p bytes o 0 (omega arith) ∙ eqb-true _ _ (delim_before bytes 0 o h) in
       let next : o + 1 ≡ suc o = omega arith in
-      subst (IsCharBoundary (take p bytes)) next (IsCharBoundary-after_ascii (take p bytes) o front (omega (arith, size)) (omega (arith, z)))
+      subst (IsCharBoundary (take p bytes)) next
+      (IsCharBoundary-after_ascii (take p bytes) o front (omega (arith, size)) (omega (arith, z)))
 
-  up_to_start : (p o : ℕ) → p ≤ length bytes → IsUtf8 (take p bytes) → o ≤ p → piece_start bytes 0 o ≡ o → IsUtf8 (take o bytes)
-  up_to_start p o w front l h = subst IsUtf8 (take-take o p bytes l) (IsUtf8-take (take p bytes) o front (boundary_at_start p o w front l h))
+  up_to_start : (p o : ℕ)
+      → p ≤ length bytes → IsUtf8 (take p bytes) → o ≤ p → piece_start bytes 0 o ≡ o → IsUtf8 (take o bytes)
+  up_to_start p o w front l h =
+      subst IsUtf8 (take-take o p bytes l) (IsUtf8-take (take p bytes) o front (boundary_at_start p o w front l h))
 
   -- and where one ends
-  up_to_end : (p o : ℕ) → p ≤ length bytes → IsUtf8 (take p bytes) → o ≤ length bytes → piece_end bytes 0 o ≤ p → IsUtf8 (take (piece_end bytes 0 o) bytes)
+  up_to_end : (p o : ℕ)
+      → p ≤ length bytes → IsUtf8 (take p bytes) → o ≤ length bytes → piece_end bytes 0 o ≤ p
+      → IsUtf8 (take (piece_end bytes 0 o) bytes)
   up_to_end p o w front l m =
       let e = piece_end bytes 0 o in
       let size = length-take-le p bytes w in
       let at : IsCharBoundary (take p bytes) e = (
         omega (arith, size, m),
         λ short high.
-            let z : get_or (take p bytes) e 0 ≡ 0 = get_or-take p bytes e 0 (omega (arith, short, size)) ∙ zero_at_end o l (omega (arith, short, size, w)) in
+            let z : get_or (take p bytes) e 0 ≡ 0 =
+            get_or-take p bytes e 0 (omega (arith, short, size)) ∙ zero_at_end o l (omega (arith, short, size, w)) in
             absurd (omega (arith, z, high)),
       ) in
       subst IsUtf8 (take-take e p bytes m) (IsUtf8-take (take p bytes) e front at)
 
   -- so a piece that begins and ends in it is text
-  readable_within : (p o : ℕ) → p ≤ length bytes → IsUtf8 (take p bytes) → piece_start bytes 0 o ≡ o → piece_end bytes 0 o ≤ p → is_readable bytes 0 o ≡ true
+  readable_within : (p o : ℕ)
+      → p ≤ length bytes → IsUtf8 (take p bytes) → piece_start bytes 0 o ≡ o → piece_end bytes 0 o ≤ p
+      → is_readable bytes 0 o ≡ true
   unfolding is_readable
   readable_within p o w front h m =
       let e = piece_end bytes 0 o in
       let from : o ≤ e = end_from bytes 0 o in
       let head : IsUtf8 (take e bytes) = up_to_end p o w front (omega (arith, from, m, w)) m in
-      let rest : IsUtf8 (drop o (take e bytes)) = IsUtf8-drop (take e bytes) o head (boundary_at_start e o (omega (arith, m, w)) head from h) in
+      let rest : IsUtf8 (drop o (take e bytes)) =
+      IsUtf8-drop (take e bytes) o head (boundary_at_start e o (omega (arith, m, w)) head from h) in
       let len : e ≡ o + (e - o) = omega (arith, from) in
-      let is : drop o (take e bytes) ≡ piece bytes 0 o = ap (λ n. drop o (take n bytes)) len ∙ drop-take o (e - o) bytes ∙ sym (piece_is_range bytes 0 o) in
+      let is : drop o (take e bytes) ≡ piece bytes 0 o =
+      ap (λ n. drop o (take n bytes)) len ∙ drop-take o (e - o) bytes ∙ sym (piece_is_range bytes 0 o) in
       is_utf8-from_IsUtf8 _ (subst IsUtf8 is rest)
 
-  no_bad_start : (p k : ℕ) → p ≤ length bytes → IsUtf8 (take p bytes) → piece_end bytes 0 k ≤ p → is_bad_start bytes 0 k ≡ false
+  no_bad_start : (p k : ℕ)
+      → p ≤ length bytes → IsUtf8 (take p bytes) → piece_end bytes 0 k ≤ p → is_bad_start bytes 0 k ≡ false
   unfolding is_bad_start
   no_bad_start p k w front m = ⊎_elim
       (λ (e : piece_start bytes 0 k ≡ k). no_bad_start_readable bytes 0 k (readable_within p k w front e m))
@@ -86,13 +112,15 @@ module _ (bytes : List ℕ) where
   -- a front that is text and a range that is, right behind it
   front_more : (i j : ℕ) → i ≤ j → IsUtf8 (take i bytes) → IsUtf8 (slice_range bytes i j) → IsUtf8 (take j bytes)
   front_more i j l u v = let m : i - 0 ≡ i = omega arith in let n : j - 0 ≡ j = omega arith in
-      subst (λ x. IsUtf8 (take x bytes)) n (texts-join bytes 0 i j (omega arith) l (subst (λ x. IsUtf8 (take x bytes)) (sym m) u) v)
+      subst (λ x. IsUtf8 (take x bytes)) n
+      (texts-join bytes 0 i j (omega arith) l (subst (λ x. IsUtf8 (take x bytes)) (sym m) u) v)
 
   zero_is_text : (p : ℕ) → p < length bytes → get_or bytes p 0 ≡ 0 → IsUtf8 (slice_range bytes p (p + 1))
   unfolding encode
   zero_is_text p l z =
       let one : p + 1 - p ≡ 1 = omega arith in
-      let is : slice_range bytes p (p + 1) ≡ 0 ∷ [] = ap (λ n. take n (drop p bytes)) one ∙ ap (take 1) (drop_more bytes p 0 l) ∙ ap (λ b. b ∷ []) z in
+      let is : slice_range bytes p (p + 1) ≡ 0 ∷ [] =
+      ap (λ n. take n (drop p bytes)) one ∙ ap (take 1) (drop_more bytes p 0 l) ∙ ap (λ b. b ∷ []) z in
       subst IsUtf8 (sym is) (0 ∷ [], (refl, refl))
 
   -- the fault stands before the end of the piece that it lies in
@@ -102,14 +130,17 @@ module _ (bytes : List ℕ) where
       let e = piece_end bytes 0 s in
       let to = start_to bytes 0 p in
       let from = end_from bytes 0 s in
-      let z : e ≤ p → get_or bytes e 0 ≡ 0 = λ m. zero_at_end s (omega (arith, to, v.short)) (omega (arith, m, v.short)) in
+      let z : e ≤ p → get_or bytes e 0 ≡ 0 =
+      λ m. zero_at_end s (omega (arith, to, v.short)) (omega (arith, m, v.short)) in
       ⊎_elim
       (λ (l : p < e). l)
       (λ (m : e ≤ p). ⊎_elim
       (λ (l : e < p). absurd (omega (arith, from, start_behind bytes 0 e p l (eq-eqb _ _ (z m)))))
       (λ (l : p ≤ e).
       let same : e ≡ p = omega arith in
-      absurd (v.longest (p + 1) (omega arith) (front_more p (p + 1) (omega arith) v.front (zero_is_text p v.short (subst (λ x. get_or bytes x 0 ≡ 0) same (z m))))))
+      absurd (v.longest (p + 1) (omega arith)
+      (front_more p (p + 1) (omega arith) v.front
+      (zero_is_text p v.short (subst (λ x. get_or bytes x 0 ≡ 0) same (z m))))))
       (cases_lt e p))
       (cases_lt p e)
 
@@ -120,7 +151,8 @@ module _ (bytes : List ℕ) where
       let e = piece_end bytes 0 s in
       let inside : p < e = fault_inside p v in
       let to = start_to bytes 0 p in
-      let head : IsUtf8 (take s bytes) = up_to_start p s (omega (arith, v.short)) v.front to (start_of_start bytes 0 p) in
+      let head : IsUtf8 (take s bytes) =
+      up_to_start p s (omega (arith, v.short)) v.front to (start_of_start bytes 0 p) in
       false_from_ne_true _ (λ r.
       let text : IsUtf8 (slice_range bytes s e) = subst IsUtf8 (piece_is_range bytes 0 s) (IsUtf8-from_is_utf8 _ r) in
       v.longest e inside (front_more s e (end_from bytes 0 s) head text))
@@ -130,7 +162,8 @@ module _ (bytes : List ℕ) where
       let s = piece_start bytes 0 p in
       let to = start_to bytes 0 p in
       first_bad_is bytes 0 s (omega (arith, to, v.short))
-      (λ k l. no_bad_start p k (omega (arith, v.short)) v.front (omega (arith, to, end_before bytes 0 k s l (start_of_start bytes 0 p))))
+      (λ k l. no_bad_start p k (omega (arith, v.short)) v.front
+      (omega (arith, to, end_before bytes 0 k s l (start_of_start bytes 0 p))))
       (λ _. bad_start_from bytes 0 s (start_of_start bytes 0 p) (fault_unreadable p v))
 
   first_bad_of_text : IsUtf8 bytes → first_bad bytes 0 ≡ length bytes
@@ -142,7 +175,8 @@ module _ (bytes : List ℕ) where
       (λ l. absurd (omega arith))
 
   -- it begins where the last string of the front does
-  pub first_bad_of_front : (p : ℕ) → IsValidUpTo bytes p → first_bad bytes 0 ≡ piece_start (take p bytes) 0 (length (take p bytes))
+  pub first_bad_of_front : (p : ℕ)
+      → IsValidUpTo bytes p → first_bad bytes 0 ≡ piece_start (take p bytes) 0 (length (take p bytes))
   first_bad_of_front p v =
       let size : length (take p bytes) ≡ p = length-take-le p bytes (omega (arith, v.short)) in
       first_bad_at p v ∙ sym (ap (piece_start (take p bytes) 0) size ∙ start_of_front bytes 0 p p (omega arith))
@@ -151,9 +185,13 @@ module _ (bytes : List ℕ) where
   -- what a strict walk answers whose first bad piece begins there
   walk_to : ℕ → Result StringTable Refusal
   walk_to first =
-      (if ltb first (length bytes) then Err (invalid_utf8 (length bytes - first)) else Ok (entries bytes 0)) >>= (λ _. Ok (text_table bytes))
+      (if ltb first (length bytes) then Err (invalid_utf8 (length bytes - first)) else Ok (entries bytes 0))
+      >>= (λ _. Ok (text_table bytes))
 
-  pub table_refused : (p : ℕ) → IsValidUpTo bytes p → table_of Strict bytes 0 ≡ Err (invalid_utf8 (length bytes - piece_start (take p bytes) 0 (length (take p bytes))))
+  pub table_refused : (p : ℕ)
+      → IsValidUpTo bytes p
+      → table_of Strict bytes 0
+      ≡ Err (invalid_utf8 (length bytes - piece_start (take p bytes) 0 (length (take p bytes))))
   unfolding walked walk_to
   table_refused p v =
       let s = piece_start (take p bytes) 0 (length (take p bytes)) in

@@ -1,5 +1,6 @@
 -- The names that look-ups find.
-use Rattle.std.proofs.Common.{◌≡◌, ◌∙◌, ℕ, ◌+◌, ◌-◌, ◌<◌, ◌≤◌, if◌then◌else◌, Bool, true, false, List, [], length, drop, refl, sym, ap, arith, slice_range, get_or, lit<, Ok, Err}
+use Rattle.std.proofs.Common.{◌≡◌, ◌∙◌, ℕ, ◌+◌, ◌-◌, ◌<◌, ◌≤◌, if◌then◌else◌, Bool, true, false, List, [], length, drop}
+use Rattle.std.proofs.Common.{refl, sym, ap, arith, slice_range, get_or, lit<, Ok, Err}
 use Rattle.std.proofs.lemmas.Bool.{false_from_ne_true}
 use Rattle.std.proofs.lemmas.Str.{IsUtf8-from_is_utf8, is_utf8-from_IsUtf8}
 use Rattle.std.specs.Str.{IsUtf8}
@@ -24,27 +25,37 @@ abbrev pub text_or_nothing : List ℕ → List ℕ
 text_or_nothing bytes = if is_utf8 bytes then bytes else []
 
 -- a name is the bytes up to a zero byte, where these are text
-pub name_here : (bytes : List ℕ) (o : ℕ) → o < length bytes → text_or_nothing (up_to_zero (drop o bytes)) ≡ name_at (text_table bytes) o
+pub name_here : (bytes : List ℕ) (o : ℕ)
+    → o < length bytes → text_or_nothing (up_to_zero (drop o bytes)) ≡ name_at (text_table bytes) o
 unfolding piece up_to_zero
 name_here bytes o l = sym (names_are_plain (text_table bytes) o refl l ∙ by (is_utf8 (up_to_zero (drop o bytes))))
   where
-    by : (b : Bool) → unwrap_or (result_ok (if b then Ok (up_to_zero (drop o bytes)) else Err (invalid_utf8 (length bytes - o)))) [] ≡ (if b then up_to_zero (drop o bytes) else [])
+    by : (b : Bool)
+        → unwrap_or (result_ok (if b then Ok (up_to_zero (drop o bytes)) else Err (invalid_utf8 (length bytes - o)))) []
+        ≡ (if b then up_to_zero (drop o bytes) else [])
     by true = refl
     by false = refl
 
 -- a name in a range of a file
-pub name_in_range : (bytes : List ℕ) (i j o : ℕ) → i ≤ j → j ≤ length bytes → o < j - i → text_or_nothing (up_to_zero (slice_range bytes (i + o) j)) ≡ name_at (text_table (slice_range bytes i j)) o
+pub name_in_range : (bytes : List ℕ) (i j o : ℕ)
+    → i ≤ j → j ≤ length bytes → o < j - i
+    → text_or_nothing (up_to_zero (slice_range bytes (i + o) j)) ≡ name_at (text_table (slice_range bytes i j)) o
 name_in_range bytes i j o l m h =
     let size : length (slice_range bytes i j) ≡ j - i = length-range bytes i j l m in
-    ap (λ r. text_or_nothing (up_to_zero r)) (sym (rest_of_range bytes i j o (omega arith))) ∙ name_here (slice_range bytes i j) o (omega arith)
+    ap (λ r. text_or_nothing (up_to_zero r)) (sym (rest_of_range bytes i j o (omega arith)))
+    ∙ name_here (slice_range bytes i j) o (omega arith)
 
 -- a byte that goes on with a character begins no name
-pub name_later : (bytes : List ℕ) (i j o : ℕ) → i ≤ j → j ≤ length bytes → o < j - i → i + o < past bytes (i + o) → [] ≡ name_at (text_table (slice_range bytes i j)) o
+pub name_later : (bytes : List ℕ) (i j o : ℕ)
+    → i ≤ j → j ≤ length bytes → o < j - i → i + o < past bytes (i + o)
+    → [] ≡ name_at (text_table (slice_range bytes i j)) o
 name_later bytes i j o l m h on =
     let size : length (slice_range bytes i j) ≡ j - i = length-range bytes i j l m in
     let byte : get_or (slice_range bytes i j) o 0 ≡ get_or bytes (i + o) 0 = get_range bytes i j o h in
     elim (past_is bytes (i + o)) [
-      | over e g ↦ sym (name-later (slice_range bytes i j) 0 o (lit< tt) (omega arith) (omega (arith, byte, g.0)) (omega (arith, byte, g.1)))
+      | over e g ↦ sym
+          (name-later (slice_range bytes i j) 0 o (lit< tt) (omega arith) (omega (arith, byte, g.0))
+          (omega (arith, byte, g.1)))
       | stays e none ↦ absurd (omega (arith, on, e))
     ]
 
@@ -55,5 +66,6 @@ text_length bytes text u e = ap length e ∙ ap (λ b. length (if b then bytes e
 -- where a text is lacking there is no name
 pub nothing : (bytes : List ℕ) → LacksText bytes → [] ≡ text_or_nothing (up_to_zero bytes)
 nothing bytes lacks =
-    let is : is_utf8 (up_to_zero bytes) ≡ false = false_from_ne_true (is_utf8 (up_to_zero bytes)) (λ t. lacks (IsUtf8-from_is_utf8 (up_to_zero bytes) t)) in
+    let is : is_utf8 (up_to_zero bytes) ≡ false =
+    false_from_ne_true (is_utf8 (up_to_zero bytes)) (λ t. lacks (IsUtf8-from_is_utf8 (up_to_zero bytes) t)) in
     sym (ap (λ b. if b then up_to_zero bytes else []) is)

@@ -1,5 +1,6 @@
 -- The text in the two modes.
-use Rattle.std.proofs.Common.{◌≡◌, ◌+◌, ◌==◌, ◌/◌, ℕ, Bool, true, false, not, if◌then◌else◌, List, [], ◌∷◌, length, slice_get, Option, None, Some, Result, Ok, Err, refl}
+use Rattle.std.proofs.Common.{◌≡◌, ◌+◌, ◌==◌, ◌/◌, ℕ, Bool, true, false, not, if◌then◌else◌, List, [], ◌∷◌, length}
+use Rattle.std.proofs.Common.{slice_get, Option, None, Some, Result, Ok, Err, refl}
 use Rattle.goblin.specs.declared.container.Ctx.{Ctx}
 use Rattle.goblin.specs.declared.elf.header.Header.{Header}
 use Rattle.goblin.specs.declared.elf.section_header.SectionHeader.{SectionHeader}
@@ -14,7 +15,8 @@ use Rattle.goblin.specs.Symtab.{symtab_by}
 use Rattle.goblin.specs.SymtabLaws.{permissive_keeps_strict}
 use Rattle.goblin.specs.SectionHeaders.{names_index}
 use Rattle.std.specs.Prelude.{slice_get}
-use Rattle.goblin_text.specs.Shown.{ctx_of, each_shown, file_shown, has_symbols, sections_of, shown, sizes_checked, strings_at, strings_of, symbols_shown, PermissiveShowsStrict}
+use Rattle.goblin_text.specs.Shown.{ctx_of, each_shown, file_shown, has_symbols, sections_of, shown, sizes_checked}
+use Rattle.goblin_text.specs.Shown.{strings_at, strings_of, symbols_shown, PermissiveShowsStrict}
 
 -- the second answer is the first one, where that is a value
 abbrev pub Keeps : {A E : Type 0} → Result A E → Result A E → Type 0
@@ -24,15 +26,18 @@ same : {A E : Type 0} (r : Result A E) → Keeps r r
 same r a h = h
 
 -- steps keep values, where each of them does
-steps : {A B E : Type 0} (r s : Result A E) (f g : A → Result B E) → Keeps r s → ((a : A) → Keeps (f a) (g a)) → Keeps (r >>= f) (s >>= g)
+steps : {A B E : Type 0} (r s : Result A E) (f g : A → Result B E)
+    → Keeps r s → ((a : A) → Keeps (f a) (g a)) → Keeps (r >>= f) (s >>= g)
 steps (Ok a) s f g first next b h = rw (first a refl) (next a b h)
 steps (Err e) s f g first next b h = cc
 
-within : {A E F : Type 0} (inside : E → F) (r s : Result A E) → Keeps r s → Keeps (refuse_as inside r) (refuse_as inside s)
+within : {A E F : Type 0} (inside : E → F) (r s : Result A E)
+    → Keeps r s → Keeps (refuse_as inside r) (refuse_as inside s)
 within inside (Ok x) s first a h = rw (first x refl) h
 within inside (Err e) s first a h = cc
 
-otherwise : {A E : Type 0} (test : Bool) (x r s : Result A E) → Keeps r s → Keeps (if test then x else r) (if test then x else s)
+otherwise : {A E : Type 0} (test : Bool) (x r s : Result A E)
+    → Keeps r s → Keeps (if test then x else r) (if test then x else s)
 otherwise true x r s rest a h = h
 otherwise false x r s rest a h = rest a h
 
@@ -41,14 +46,16 @@ passes : (len : ℕ) (sections : List SectionHeader) → sizes_checked Permissiv
 passes len [] = refl
 passes len (s ∷ sections) = passes len sections
 
-sections : (bytes : List ℕ) (h : Header) (ctx : Ctx) → Keeps (sections_of Strict bytes h ctx) (sections_of Permissive bytes h ctx)
+sections : (bytes : List ℕ) (h : Header) (ctx : Ctx)
+    → Keeps (sections_of Strict bytes h ctx) (sections_of Permissive bytes h ctx)
 unfolding sections_of
 sections bytes h ctx =
     steps (section_headers_of bytes h.e_shoff h.e_shnum ctx) _ _ _ (same _) λ found.
     steps (refuse_as refusal_of (sizes_checked Strict (length bytes) found)) _ _ _
     (within refusal_of _ _ λ done h. passes (length bytes) found) λ done. same (Ok found)
 
-strings_here : StrictIsPermissive → (bytes : List ℕ) (s : Option SectionHeader) → Keeps (strings_of Strict bytes s) (strings_of Permissive bytes s)
+strings_here : StrictIsPermissive
+    → (bytes : List ℕ) (s : Option SectionHeader) → Keeps (strings_of Strict bytes s) (strings_of Permissive bytes s)
 strings_here strtabs bytes None = same _
 strings_here strtabs bytes (Some s) = otherwise (s.sh_type == 8) _ _ _ (strtabs bytes s.sh_offset s.sh_size 0)
 
@@ -57,7 +64,8 @@ strings : StrictIsPermissive → (bytes : List ℕ) (found : List SectionHeader)
 unfolding strings_at
 strings strtabs bytes found index = strings_here strtabs bytes (if index == 0 then None else slice_get found index)
 
-symbols : StrictIsPermissive → (bytes : List ℕ) (ctx : Ctx) (found : List SectionHeader) (number : ℕ) (s : SectionHeader)
+symbols : StrictIsPermissive
+    → (bytes : List ℕ) (ctx : Ctx) (found : List SectionHeader) (number : ℕ) (s : SectionHeader)
     → Keeps (symbols_shown Strict bytes ctx found number s) (symbols_shown Permissive bytes ctx found number s)
 unfolding symbols_shown
 symbols strtabs bytes ctx found number s =
@@ -67,7 +75,8 @@ symbols strtabs bytes ctx found number s =
     (within refusal_of _ _ (permissive_keeps_strict bytes s.sh_offset count ctx)) λ table.
     steps (strings_at Strict bytes found s.sh_link) _ _ _ (strings strtabs bytes found s.sh_link) λ names. same _)
 
-each : (f g : ℕ → SectionHeader → Result (List ℕ) Refusal) → ((number : ℕ) (s : SectionHeader) → Keeps (f number s) (g number s))
+each : (f g : ℕ → SectionHeader → Result (List ℕ) Refusal)
+    → ((number : ℕ) (s : SectionHeader) → Keeps (f number s) (g number s))
     → (number : ℕ) (found : List SectionHeader) → Keeps (each_shown f number found) (each_shown g number found)
 each f g keeps number [] = same _
 each f g keeps number (s ∷ found) =
@@ -78,7 +87,8 @@ file : StrictIsPermissive → (bytes : List ℕ) (h : Header) (ctx : Ctx) (found
     → Keeps (file_shown Strict bytes h ctx found) (file_shown Permissive bytes h ctx found)
 unfolding file_shown
 file strtabs bytes h ctx found =
-    steps (strings_at Strict bytes found (names_index h.e_shstrndx (slice_get found 0))) _ _ _ (strings strtabs bytes found (names_index h.e_shstrndx (slice_get found 0))) λ names.
+    steps (strings_at Strict bytes found (names_index h.e_shstrndx (slice_get found 0))) _ _ _
+    (strings strtabs bytes found (names_index h.e_shstrndx (slice_get found 0))) λ names.
     steps (each_shown (symbols_shown Strict bytes ctx found) 0 found) _ _ _
     (each _ _ (symbols strtabs bytes ctx found) 0 found) λ symbols. same _
 

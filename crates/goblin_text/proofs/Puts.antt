@@ -1,5 +1,6 @@
 -- What was put of a text, and what is left of it.
-use Rattle.std.proofs.Common.{◌≡◌, ◌∙◌, ◌++◌, ◌∷◌, ◌≤◌, ℕ, List, [], Option, None, Some, ap, append_assoc, get_or, set, append-nil, arith, length, min, refl, subst, sym, take, ⊎_elim, ◌<◌}
+use Rattle.std.proofs.Common.{◌≡◌, ◌∙◌, ◌++◌, ◌∷◌, ◌≤◌, ℕ, List, [], Option, None, Some, ap, append_assoc, get_or, set}
+use Rattle.std.proofs.Common.{append-nil, arith, length, min, refl, subst, sym, take, ⊎_elim, ◌<◌}
 use Rattle.std.proofs.KnownBytes.{Appends-kept, Appends-trans, append_known-grown, append_known-moved}
 use Rattle.std.proofs.lemmas.Bool.{cases_lt}
 use Rattle.std.proofs.lemmas.List.{take_all}
@@ -13,7 +14,9 @@ pub record PutSoFar (old new : State) (all rest : List ℕ) : Type 0 where
   pub are : all ≡ lines ++ rest
   pub heeded : new.told_error ≡ old.told_error
 
-pub more_put : (a b c : State) (all line rest next : List ℕ) → PutSoFar a b all rest → rest ≡ line ++ next → Appends b.contents c.contents line × (c.told_error ≡ b.told_error) → PutSoFar a c all next
+pub more_put : (a b c : State) (all line rest next : List ℕ)
+    → PutSoFar a b all rest → rest ≡ line ++ next → Appends b.contents c.contents line × (c.told_error ≡ b.told_error)
+    → PutSoFar a c all next
 more_put a b c all line rest next w e p = record {
   lines = w.lines ++ line;
   appends = Appends-trans a.contents b.contents c.contents _ _ w.appends p.0;
@@ -30,7 +33,9 @@ held-none (Some xs) = ap Some (append-nil xs)
 pub take-most : (xs : List ℕ) (n m : ℕ) → length xs ≡ m → take (min n m) xs ≡ take n xs
 take-most xs n m e = ⊎_elim
     (λ (l : n < m). ap (λ k. take k xs) (let s : min n m ≡ n = omega arith in s))
-    (λ (l : m ≤ n). ap (λ k. take k xs) (let s : min n m ≡ m = omega arith in s) ∙ take_all m xs (omega arith) ∙ sym (take_all n xs (omega arith)))
+    (λ (l : m ≤ n). ap (λ k. take k xs) (let s : min n m ≡ m = omega arith in s)
+    ∙ take_all m xs (omega arith)
+    ∙ sym (take_all n xs (omega arith)))
     (cases_lt n m)
 
 pub appends_kept : (a b c : Option (List ℕ)) (text : List ℕ) → Keeps a b → Appends b c text → Appends a c text
@@ -40,11 +45,13 @@ appends_kept (Some x) (Some y) None text p q = absurd q
 appends_kept (Some x) (Some y) (Some z) text p q = q ∙ ap (λ l. l ++ text) p
 
 -- what filled the room was written
-pub passed_on : (a b : Option (List ℕ)) (room : List ℕ) (filled m : ℕ) → length room ≡ m → Appends a b (take (min filled m) room) → Keeps (held a room filled) b
+pub passed_on : (a b : Option (List ℕ)) (room : List ℕ) (filled m : ℕ)
+    → length room ≡ m → Appends a b (take (min filled m) room) → Keeps (held a room filled) b
 unfolding held
 passed_on a b room filled m e p =
     subst (Keeps (append_known a (take filled room))) (held-none b)
-    (append_known-moved a b (take (min filled m) room) [] (take filled room) p (sym (take-most room filled m e) ∙ sym (append-nil (take (min filled m) room))))
+    (append_known-moved a b (take (min filled m) room) [] (take filled room) p
+    (sym (take-most room filled m e) ∙ sym (append-nil (take (min filled m) room))))
 
 -- nothing fills the room
 pub emptied : (b : Option (List ℕ)) (room : List ℕ) (filled : ℕ) → filled ≡ 0 → held b room filled ≡ b
@@ -52,13 +59,16 @@ unfolding held
 emptied b room filled e = ap (λ n. append_known b (take n room)) e ∙ held-none b
 
 -- a text fills more of the room
-pub added : (a b : Option (List ℕ)) (old new : List ℕ) (filled more : ℕ) (text : List ℕ) → Keeps a (held b old filled) → take more new ≡ take filled old ++ text → Appends a (held b new more) text
+pub added : (a b : Option (List ℕ)) (old new : List ℕ) (filled more : ℕ) (text : List ℕ)
+    → Keeps a (held b old filled) → take more new ≡ take filled old ++ text → Appends a (held b new more) text
 unfolding held
 added a b old new filled more text p e = append_known-grown a b (take filled old) (take more new) text p e
 
 -- a text went through a room that was empty, and is written
-pub through : (a b c d : Option (List ℕ)) (room : List ℕ) (filled : ℕ) (text : List ℕ) → b ≡ held a room filled → filled ≡ 0 → Appends b c text → Keeps c d → Appends a d text
-through a b c d room filled text is none p q = subst (λ k. Appends k d text) (is ∙ emptied a room filled none) (Appends-kept b c d text p q)
+pub through : (a b c d : Option (List ℕ)) (room : List ℕ) (filled : ℕ) (text : List ℕ)
+    → b ≡ held a room filled → filled ≡ 0 → Appends b c text → Keeps c d → Appends a d text
+through a b c d room filled text is none p q =
+    subst (λ k. Appends k d text) (is ∙ emptied a room filled none) (Appends-kept b c d text p q)
 
 -- a single byte in the place of another
 pub set_single : (xs ys : List ℕ) → length xs ≡ 1 → length ys ≡ 1 → set xs 0 (get_or ys 0 0) ≡ ys

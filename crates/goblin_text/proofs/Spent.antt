@@ -1,5 +1,6 @@
 -- What names took, and what is left to them.
-use Rattle.std.proofs.Common.{◌≡◌, ℕ, ◌+◌, ◌*◌, ◌≤◌, eqb, cond, true, false, List, [], ◌∷◌, ◌++◌, ap, arith, length, length-append, subst, sym}
+use Rattle.std.proofs.Common.{◌≡◌, ℕ, ◌+◌, ◌*◌, ◌≤◌, eqb, cond, true, false, List, [], ◌∷◌, ◌++◌, ap, arith, length}
+use Rattle.std.proofs.Common.{length-append, subst, sym}
 use Rattle.std.proofs.lemmas.List.{length-map}
 use Rattle.goblin.specs.Texts.{◌&◌}
 use Rattle.goblin.specs.Strtab.{StringTable}
@@ -19,7 +20,11 @@ SpentSoFar old new all rest = new.count + new.left + names_looks rest ≤ old.co
 
 pub lines-append : (a b : List ℕ) → lines_in (a ++ b) ≡ lines_in a + lines_in b
 lines-append [] b = omega arith
-lines-append (x ∷ a) b = elim (eqb x 10) as (λ t. cond t 1 0 + lines_in (a ++ b) ≡ cond t 1 0 + lines_in a + lines_in b) [ true ↦ omega (arith, lines-append a b) | false ↦ omega (arith, lines-append a b) ]
+lines-append (x ∷ a) b =
+    elim (eqb x 10) as (λ t. cond t 1 0 + lines_in (a ++ b) ≡ cond t 1 0 + lines_in a + lines_in b) [
+      | true ↦ omega (arith, lines-append a b)
+      | false ↦ omega (arith, lines-append a b)
+    ]
 
 pub looks-append : (a b : List ℕ) → names_looks (a ++ b) ≡ names_looks a + names_looks b
 unfolding names_looks
@@ -41,25 +46,44 @@ named_line_looks head name =
     )
 
 -- with one line more
-pub more_spent : (old mid new : Named) (all rest line next : List ℕ) → SpentSoFar old mid all rest → rest ≡ line ++ next → Spends mid new (names_looks line) → SpentSoFar old new all next
+pub more_spent : (old mid new : Named) (all rest line next : List ℕ)
+    → SpentSoFar old mid all rest → rest ≡ line ++ next → Spends mid new (names_looks line)
+    → SpentSoFar old new all next
 more_spent old mid new all rest line next s e p = omega (arith, s, ap names_looks e, looks-append line next, p)
 
 -- where a line failed
-pub failed_spent : (old mid new : Named) (all rest line next : List ℕ) → SpentSoFar old mid all rest → rest ≡ line ++ next → Spends mid new (names_looks line) → Spends old new (names_looks all)
+pub failed_spent : (old mid new : Named) (all rest line next : List ℕ)
+    → SpentSoFar old mid all rest → rest ≡ line ++ next → Spends mid new (names_looks line)
+    → Spends old new (names_looks all)
 failed_spent old mid new all rest line next s e p = omega (arith, s, ap names_looks e, looks-append line next, p)
 
 -- the parts of a file's text
-parts_looks : (bytes : List ℕ) (header : Header) (sections : List SectionHeader) (parts : Parts) → names_looks (section_lines (strings_in bytes parts.strings) 0 sections) + names_looks (symbols_text bytes (vec_items parts.symbols)) ≤ names_looks (parts_text bytes header sections parts)
+parts_looks : (bytes : List ℕ) (header : Header) (sections : List SectionHeader) (parts : Parts)
+    → names_looks (section_lines (strings_in bytes parts.strings) 0 sections)
+    + names_looks (symbols_text bytes (vec_items parts.symbols))
+    ≤ names_looks (parts_text bytes header sections parts)
 parts_looks bytes header sections parts =
     let lines = section_lines (strings_in bytes parts.strings) 0 sections in
     let symbols = symbols_text bytes (vec_items parts.symbols) in
     let relocs = relocs_text (vec_items parts.relocs) in
-    omega (arith, looks-append (header_line header) (lines & symbols & relocs), looks-append lines (symbols & relocs), looks-append symbols relocs)
+    omega (
+      arith,
+      looks-append (header_line header) (lines & symbols & relocs),
+      looks-append lines (symbols & relocs),
+      looks-append symbols relocs,
+    )
 
-pub sections_spend : (old new : Named) (bytes : List ℕ) (header : Header) (sections : List SectionHeader) (parts : Parts) → Spends old new (names_looks (section_lines (strings_in bytes parts.strings) 0 sections)) → Spends old new (names_looks (parts_text bytes header sections parts))
+pub sections_spend : (old new : Named) (bytes : List ℕ) (header : Header) (sections : List SectionHeader)
+    (parts : Parts)
+    → Spends old new (names_looks (section_lines (strings_in bytes parts.strings) 0 sections))
+    → Spends old new (names_looks (parts_text bytes header sections parts))
 sections_spend old new bytes header sections parts s = omega (arith, s, parts_looks bytes header sections parts)
 
-pub parts_spend : (old mid new : Named) (bytes : List ℕ) (header : Header) (sections : List SectionHeader) (parts : Parts) → Spends old mid (names_looks (section_lines (strings_in bytes parts.strings) 0 sections)) → Spends mid new (names_looks (symbols_text bytes (vec_items parts.symbols))) → Spends old new (names_looks (parts_text bytes header sections parts))
+pub parts_spend : (old mid new : Named) (bytes : List ℕ) (header : Header) (sections : List SectionHeader)
+    (parts : Parts)
+    → Spends old mid (names_looks (section_lines (strings_in bytes parts.strings) 0 sections))
+    → Spends mid new (names_looks (symbols_text bytes (vec_items parts.symbols)))
+    → Spends old new (names_looks (parts_text bytes header sections parts))
 parts_spend old mid new bytes header sections parts s t = omega (arith, s, t, parts_looks bytes header sections parts)
 
 -- ---- lines
@@ -70,25 +94,45 @@ named-line : (head name : List ℕ) → 1 ≤ lines_in (named_line head name)
 named-line head name = simp lines-append (omega arith)
 
 -- each section has a line
-section-count : (names : StringTable) (number : ℕ) (sections : List SectionHeader) → length sections ≤ lines_in (section_lines names number sections)
+section-count : (names : StringTable) (number : ℕ) (sections : List SectionHeader)
+    → length sections ≤ lines_in (section_lines names number sections)
 section-count names number [] = omega arith
 section-count names number (s ∷ sections) =
     let line = section_line number s (name_at names s.sh_name) in
-    omega (arith, named-line (section_head number s) (name_at names s.sh_name), section-count names (number + 1) sections, lines-append line (section_lines names (number + 1) sections))
+    omega (
+      arith,
+      named-line (section_head number s) (name_at names s.sh_name),
+      section-count names (number + 1) sections,
+      lines-append line (section_lines names (number + 1) sections),
+    )
 
-lines_most : (bytes : List ℕ) (header : Header) (sections : List SectionHeader) (parts : Parts) → length sections + 1 ≤ lines_in (parts_text bytes header sections parts)
+lines_most : (bytes : List ℕ) (header : Header) (sections : List SectionHeader) (parts : Parts)
+    → length sections + 1 ≤ lines_in (parts_text bytes header sections parts)
 lines_most bytes header sections parts =
     let names = strings_in bytes parts.strings in
     let lines = section_lines names 0 sections in
     let rest = symbols_text bytes (vec_items parts.symbols) & relocs_text (vec_items parts.relocs) in
-    omega (arith, header-line header, section-count names 0 sections, lines-append (header_line header) (lines & rest), lines-append lines rest)
+    omega (
+      arith,
+      header-line header,
+      section-count names 0 sections,
+      lines-append (header_line header) (lines & rest),
+      lines-append lines rest,
+    )
 
 -- the tables and the names of a file that is shown
-pub shown_spend : (old mid new : Named) (bytes : List ℕ) (header : Header) (sections : List SectionHeader) (parts : Parts) (text : List ℕ) → text ≡ parts_text bytes header sections parts → Spends old mid (table_looks * (length sections + 1)) → Spends mid new (names_looks (parts_text bytes header sections parts)) → Spends old new (length text + line_looks * lines_in text)
+pub shown_spend : (old mid new : Named) (bytes : List ℕ) (header : Header) (sections : List SectionHeader)
+    (parts : Parts) (text : List ℕ)
+    → text ≡ parts_text bytes header sections parts → Spends old mid (table_looks * (length sections + 1))
+    → Spends mid new (names_looks (parts_text bytes header sections parts))
+    → Spends old new (length text + line_looks * lines_in text)
 unfolding names_looks
 shown_spend old mid new bytes header sections parts text is s t =
     let all = parts_text bytes header sections parts in
-    subst (λ x. Spends old new (length x + line_looks * lines_in x)) (sym is) (by all (lines_most bytes header sections parts) t)
+    subst (λ x. Spends old new (length x + line_looks * lines_in x)) (sym is)
+    (by all (lines_most bytes header sections parts) t)
   where
-    by : (x : List ℕ) → length sections + 1 ≤ lines_in x → Spends mid new (length x + name_looks * lines_in x) → Spends old new (length x + line_looks * lines_in x)
+    by : (x : List ℕ)
+        → length sections + 1 ≤ lines_in x → Spends mid new (length x + name_looks * lines_in x)
+        → Spends old new (length x + line_looks * lines_in x)
     by x l p = omega (arith, s, l, p)

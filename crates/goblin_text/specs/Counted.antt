@@ -8,4 +8,10 @@ inner_of c = c.inner
 
 -- what it has told so far
 abbrev pub marks_of : {T : Type 0} → Counted T → Marks
-marks_of c = record { read_calls = c.read_calls; told_error = c.told_error; told_failure = c.told_failure; told_end = c.told_end }
+marks_of c =
+    record {
+      read_calls = c.read_calls;
+      told_error = c.told_error;
+      told_failure = c.told_failure;
+      told_end = c.told_end;
+    }

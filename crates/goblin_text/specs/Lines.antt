@@ -1,5 +1,6 @@
 -- The lines of the shown text.
-use Rattle.std.specs.Prelude.{ℕ, ◌==◌, ◌||◌, nat_lt, Bool, if◌then◌else◌, List, [], ◌∷◌, slice_index, codes, decimal, map, ℤ, Option, None, Some}
+use Rattle.std.specs.Prelude.{ℕ, ◌==◌, ◌||◌, nat_lt, Bool, if◌then◌else◌, List, [], ◌∷◌, slice_index, codes, decimal}
+use Rattle.std.specs.Prelude.{map, ℤ, Option, None, Some}
 use Rattle.std.specs.Fmt.{signed_decimal}
 use Rattle.goblin.specs.declared.elf.header.Header.{Header}
 use Rattle.goblin.specs.declared.elf.section_header.SectionHeader.{SectionHeader}
@@ -34,7 +35,8 @@ order_word byte = if byte == 1 then codes "little" else codes "big"
 -- the line of a header
 abbrev pub header_line : Header → List ℕ
 header_line h =
-    codes "header " & class_name (slice_index h.e_ident 4) & codes " " & order_word (slice_index h.e_ident 5) & codes " "
+    codes "header " & class_name (slice_index h.e_ident 4) & codes " " & order_word
+    (slice_index h.e_ident 5) & codes " "
     & file_type_name h.e_type & codes " " & machine_name h.e_machine & codes " entry 0x" & hexadecimal h.e_entry
     & codes " phnum " & decimal h.e_phnum & codes " shnum " & decimal h.e_shnum & newline
 
@@ -45,7 +47,8 @@ named_line head name = head & printed name & newline
 -- the line of the section with a number, up to its name
 unfoldable pub section_head : ℕ → SectionHeader → List ℕ
 section_head number s =
-    codes "section " & decimal number & codes " " & section_name s.sh_type & codes " offset 0x" & hexadecimal s.sh_offset
+    codes "section " & decimal number & codes " " & section_name s.sh_type & codes " offset 0x" & hexadecimal
+    s.sh_offset
     & codes " size " & decimal s.sh_size & codes " name="
 
 -- the line of the section with a number and a name
@@ -55,7 +58,8 @@ section_line number s name = named_line (section_head number s) name
 -- the line of the symbol with a number, of the section with a number, up to its name
 unfoldable pub symbol_head : ℕ → ℕ → Sym → List ℕ
 symbol_head section number s =
-    codes "symbol " & decimal section & codes " " & decimal number & codes " " & type_name (type_of s.st_info) & codes " "
+    codes "symbol " & decimal section & codes " " & decimal number & codes " " & type_name
+    (type_of s.st_info) & codes " "
     & bind_name (bind_of s.st_info) & codes " " & visibility_name (visibility_of s.st_other) & codes " value 0x"
     & hexadecimal s.st_value & codes " size " & decimal s.st_size & codes " name="
 
@@ -72,4 +76,5 @@ addend_text (Some addend) = signed_decimal addend
 abbrev pub reloc_line : ℕ → ℕ → Reloc → List ℕ
 reloc_line section number r =
     codes "reloc " & decimal section & codes " " & decimal number & codes " offset 0x" & hexadecimal r.r_offset
-    & codes " sym " & decimal r.r_sym & codes " type " & decimal r.r_type & codes " addend " & addend_text r.r_addend & newline
+    & codes " sym " & decimal r.r_sym & codes " type " & decimal r.r_type & codes " addend " & addend_text r.r_addend &
+    newline

@@ -1,5 +1,6 @@
 -- What a reader or a writer has told so far.
-use Rattle.std.specs.Prelude.{ℕ, ◌+◌, ◌-◌, ◌^◌, min, Bool, ◌||◌, ◌&&◌, ◌==◌, nat_lt, not, false, true, List, length, Result, Ok, Err, is_err}
+use Rattle.std.specs.Prelude.{ℕ, ◌+◌, ◌-◌, ◌^◌, min, Bool, ◌||◌, ◌&&◌, ◌==◌, nat_lt, not, false, true, List, length}
+use Rattle.std.specs.Prelude.{Result, Ok, Err, is_err}
 use Rattle.std.specs.IoError.{error_kind}
 use Rattle.std.specs.declared.io.Error.{Error}
 use Rattle.std.specs.declared.io.ErrorKind.{ErrorKind}

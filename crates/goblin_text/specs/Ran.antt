@@ -1,5 +1,6 @@
 -- What a run read and wrote.
-use Rattle.std.specs.Prelude.{◌≡◌, ◌≢◌, ℕ, ◌+◌, ◌-◌, ◌*◌, ◌^◌, ◌<◌, ◌≤◌, ◌⊎◌, min, IsTrue, List, length, codes, decimal, Option, Ok, Err, vec_items}
+use Rattle.std.specs.Prelude.{◌≡◌, ◌≢◌, ℕ, ◌+◌, ◌-◌, ◌*◌, ◌^◌, ◌<◌, ◌≤◌, ◌⊎◌, min, IsTrue, List, length, codes, decimal}
+use Rattle.std.specs.Prelude.{Option, Ok, Err, vec_items}
 use Rattle.std.specs.Io.KnownBytes.{Appends, Consumes, IsAtEnd}
 use Rattle.goblin.specs.Refusal.{Refusal, out_of_memory, refusal_of}
 use Rattle.goblin.specs.Texts.{◌&◌, refusal_text}
@@ -86,10 +87,12 @@ TellsError e line =
 abbrev pub too_long : List ℕ
 too_long = codes "input is longer than " & decimal INPUT_LIMIT & codes " bytes"
 
--- why a line is written in place of a text: all bytes were read and are refused, or they are too many, or memory ran out
+-- why a line is written in place of a text: all bytes were read and are refused, or they are too many, or memory ran
+-- out
 abbrev pub IsReason : ParseMode → (old new : Option (List ℕ)) → Marks → List ℕ → Type 0
 IsReason mode old new marks line =
-    ((bytes : List ℕ) × ReadsAll old new marks bytes × (r : Refusal) × (shown mode bytes ≡ Err r) × (line ≡ refusal_text r))
+    ((bytes : List ℕ) × ReadsAll old new marks bytes × (r : Refusal) × (shown mode bytes ≡ Err r)
+    × (line ≡ refusal_text r))
     ⊎ (((bytes : List ℕ) × ReadsTooMuch old new bytes × (line ≡ too_long))
     ⊎ (line ≡ codes "Out of memory"))
 
@@ -98,14 +101,17 @@ abbrev pub TellsWhy : ParseMode → List ℕ → List ℕ → Type 0
 TellsWhy mode bytes line =
     ((r : Refusal) × (shown mode bytes ≡ Err r) × (line ≡ refusal_text r)) ⊎ (line ≡ codes "Out of memory")
 
--- How a run ended, and what it did: to the reader, of which are told what is left and the marks before and after, and to the
--- writer, of which are told what it holds and the marks.
-pub record HasRun (mode : ParseMode) (outcome : Outcome) (old new : Option (List ℕ)) (before after : Marks) (held holds : Option (List ℕ)) (told tells : Marks) : Type 0 where
+-- How a run ended, and what it did: to the reader, of which are told what is left and the marks before and after, and
+-- to the writer, of which are told what it holds and the marks.
+pub record HasRun (mode : ParseMode) (outcome : Outcome) (old new : Option (List ℕ)) (before after : Marks)
+    (held holds : Option (List ℕ)) (told tells : Marks) : Type 0 where
   -- The reader told its end, and the text of all its bytes was written.
   pub shown : outcome ≡ outcomes.Shown → IsShown mode old new after held holds
   -- One line with the reason was written.
-  pub refused : outcome ≡ outcomes.Refused → (line : List ℕ) × IsReason mode old new after line × WritesRefusal held holds line
-  -- The reader told an error that was no interruption, or was asked as often as it is and told no end; or the writer told an error.
+  pub refused : outcome ≡ outcomes.Refused
+      → (line : List ℕ) × IsReason mode old new after line × WritesRefusal held holds line
+  -- The reader told an error that was no interruption, or was asked as often as it is and told no end; or the writer
+  -- told an error.
   pub failed : outcome ≡ outcomes.Failed → FailsToRead before after ⊎ IsTrue tells.told_error
   -- Where it did not, the reader told no error but interruptions, and the writer none.
   pub heeds_reader : outcome ≢ outcomes.Failed → after.told_failure ≡ before.told_failure

@@ -1,5 +1,6 @@
 -- What is shown of the bytes of a file.
-use Rattle.std.specs.Prelude.{◌≡◌, ◌≢◌, ℕ, ◌+◌, ◌++◌, ◌/◌, ◌==◌, ◌&&◌, ◌||◌, nat_lt, not, Bool, false, if◌then◌else◌, List, [], ◌∷◌, length, slice_get, Option, None, Some, Result, Ok, Err, unwrap_or}
+use Rattle.std.specs.Prelude.{◌≡◌, ◌≢◌, ℕ, ◌+◌, ◌++◌, ◌/◌, ◌==◌, ◌&&◌, ◌||◌, nat_lt, not, Bool, false, if◌then◌else◌}
+use Rattle.std.specs.Prelude.{List, [], ◌∷◌, length, slice_get, Option, None, Some, Result, Ok, Err, unwrap_or}
 use Rattle.goblin.specs.declared.container.Ctx.{Ctx}
 use Rattle.goblin.specs.declared.elf.header.Header.{Header}
 use Rattle.goblin.specs.declared.elf.section_header.SectionHeader.{SectionHeader}
@@ -32,7 +33,8 @@ ctx_of h = do
 -- each section lies in a file of so many bytes, or else in strict mode the fault of the first that doesn't
 abbrev pub sizes_checked : ParseMode → ℕ → List SectionHeader → Result (Unit {0}) Error
 sizes_checked mode len [] = Ok tt
-sizes_checked mode len (s ∷ sections) = size_checked_in (is_permissive mode) len s >>= λ _. sizes_checked mode len sections
+sizes_checked mode len (s ∷ sections) =
+    size_checked_in (is_permissive mode) len s >>= λ _. sizes_checked mode len sections
 
 -- the section headers of a file with this header, each of which is checked, or the first refusal
 unfoldable pub sections_of : ParseMode → List ℕ → Header → Ctx → Result (List SectionHeader) Refusal
@@ -77,7 +79,8 @@ abbrev pub has_symbols : SectionHeader → Bool
 has_symbols s = (s.sh_type == 2 || s.sh_type == 11) && nat_lt 0 s.sh_size
 
 -- the lines of the symbols of the section with a number: its symbols come first, then the strings that it links to
-unfoldable pub symbols_shown : ParseMode → List ℕ → Ctx → List SectionHeader → ℕ → SectionHeader → Result (List ℕ) Refusal
+unfoldable pub symbols_shown : ParseMode
+    → List ℕ → Ctx → List SectionHeader → ℕ → SectionHeader → Result (List ℕ) Refusal
 symbols_shown mode bytes ctx sections number s =
     if not (has_symbols s) then Ok []
     else do

@@ -8,6 +8,7 @@ abbrev pub invariant-loop-text : goal.invariant-loop-text
 invariant-loop-text g l =
     let target = g.T.Target in
     record {
-      put : PutSoFar (target.state l.initial.target) (target.state l.target) (concat (map (λ text. text.now) l.texts)) (concat (map (λ text. text.now) (drop l.text-index l.texts)));
+      put : PutSoFar (target.state l.initial.target) (target.state l.target) (concat (map (λ text. text.now) l.texts))
+          (concat (map (λ text. text.now) (drop l.text-index l.texts)));
       kept : target.kept l.target ≡ target.kept l.initial.target;
     }

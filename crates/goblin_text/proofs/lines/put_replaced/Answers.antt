@@ -11,7 +11,8 @@ use Rattle.goblin_text.proofs.lines.put_replaced.Goals as goal
 pub loop-c-preserved : goal.loop-c-preserved
 loop-c-preserved g c =
     let before = printed (encode_utf8_all c.loop-c.yielded) in
-    let is : before ++ c.encode_utf8.result.now ≡ printed (encode_utf8_all (c.loop-c.yielded ++ c.in-Some.c ∷ [])) = grind (arith, common_steps, encodes-append, encode-printable) in
+    let is : before ++ c.encode_utf8.result.now ≡ printed (encode_utf8_all (c.loop-c.yielded ++ c.in-Some.c ∷ [])) =
+    grind (arith, common_steps, encodes-append, encode-printable) in
     record {
       appends = subst (Appends _ _) is (Appends-trans _ _ _ _ _ c.loop-c.invariant.appends c.in_ok-put.ensures.put.0);
       heeded = grind (arith, common_steps);

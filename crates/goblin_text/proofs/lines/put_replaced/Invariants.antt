@@ -9,7 +9,8 @@ abbrev pub invariant-loop-c : goal.invariant-loop-c
 invariant-loop-c g l =
     let target = g.T.Target in
     record {
-      appends : Appends (target.state l.initial.target).contents (target.state l.target).contents (printed (encode_utf8_all l.yielded));
+      appends : Appends (target.state l.initial.target).contents (target.state l.target).contents
+          (printed (encode_utf8_all l.yielded));
       heeded : (target.state l.target).told_error ≡ (target.state l.initial.target).told_error;
       kept : target.kept l.target ≡ target.kept l.initial.target;
     }

@@ -9,10 +9,15 @@ pub returns-in-Ok-write_text-clause-looks_shown : goal.returns-in-Ok-write_text-
 returns-in-Ok-write_text-clause-looks_shown g c = λ short text done is.
     let old = c.args.file.now in
     let file = c.in-Ok.accepted in
-    let all : text ≡ parts_text old.bytes file.header file.sections.items file.parts = grind (arith, common_steps, is) in
-    let tables : Spends old c.accept.new.file (table_looks * (length file.sections.items + 1)) = c.in-Ok.ensures.looks short in
-    let names : Spends c.accept.new.file c.write_text.new.names (names_looks (parts_text old.bytes file.header file.sections.items file.parts)) = grind (arith, common_steps, short) in
-    shown_spend old c.accept.new.file c.write_text.new.names old.bytes file.header file.sections.items file.parts text all tables names
+    let all : text ≡ parts_text old.bytes file.header file.sections.items file.parts =
+    grind (arith, common_steps, is) in
+    let tables : Spends old c.accept.new.file (table_looks * (length file.sections.items + 1)) =
+    c.in-Ok.ensures.looks short in
+    let names : Spends c.accept.new.file c.write_text.new.names
+    (names_looks (parts_text old.bytes file.header file.sections.items file.parts)) =
+    grind (arith, common_steps, short) in
+    shown_spend old c.accept.new.file c.write_text.new.names old.bytes file.header file.sections.items file.parts text
+    all tables names
 
 -- a text that could not be written was not shown
 pub returns-in-Ok-clause-shown : goal.returns-in-Ok-clause-shown

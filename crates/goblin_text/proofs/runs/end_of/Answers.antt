@@ -13,9 +13,12 @@ loop-block-preserved c =
     let here : k < found.result.read = grind (arith, common_steps) in
     let there : k < length ends = grind (arith, common_steps) in
     let among : k < blocks bytes = omega (arith, here, found.ensures.within) in
-    let some : 0 < found.result.end = omega (arith, here, found.ensures.to, c.requires.some, c.loop-block.invariant.from) in
-    let is = end_later c.args.kind bytes c.args.first k found.result.end c.loop-block.invariant.from (omega (arith, here, found.ensures.to)) found.ensures.end in
-    let less = unknown_less (blocks bytes) ends k found.result.end among there (c.loop-block.invariant.rest k (omega arith) here) some in
+    let some : 0 < found.result.end =
+    omega (arith, here, found.ensures.to, c.requires.some, c.loop-block.invariant.from) in
+    let is = end_later c.args.kind bytes c.args.first k found.result.end c.loop-block.invariant.from
+    (omega (arith, here, found.ensures.to)) found.ensures.end in
+    let less = unknown_less (blocks bytes) ends k found.result.end among there
+    (c.loop-block.invariant.rest k (omega arith) here) some in
     record {
       from = omega (arith, c.loop-block.invariant.from);
       known = end_more c.args.kind bytes ends k found.result.end c.loop-block.invariant.known there is;

@@ -8,5 +8,8 @@ unfolding IsBlock
 returns-clause-value c =
     let bytes = c.args.seen.now.bytes in
     let k = c.args.block in
-    let is : slice_range c.edge-to.new.self.bytes c.edge-from.result c.edge-to.result ≡ slice_range bytes (block_start bytes k) (block_start bytes (k + 1)) = grind (arith, common_steps) in
-    (λ t. subst (IsOf c.args.kind) is (c.is_of.ensures.value.0 t), λ b. c.is_of.ensures.value.1 (subst (IsOf c.args.kind) (sym is) b))
+    let is : slice_range c.edge-to.new.self.bytes c.edge-from.result c.edge-to.result
+    ≡ slice_range bytes (block_start bytes k) (block_start bytes (k + 1)) = grind (arith, common_steps) in (
+      λ t. subst (IsOf c.args.kind) is (c.is_of.ensures.value.0 t),
+      λ b. c.is_of.ensures.value.1 (subst (IsOf c.args.kind) (sym is) b),
+    )

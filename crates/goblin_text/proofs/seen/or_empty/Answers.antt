@@ -13,5 +13,6 @@ returns-in-Ok c =
 pub returns-in-Err : goal.returns-in-Err
 returns-in-Err c =
     let bytes = c.args.bytes.now in
-    let is : is_utf8 bytes ≡ false = false_from_ne_true (is_utf8 bytes) (λ t. c.in-Err.ensures.cases.0 (IsUtf8-from_is_utf8 bytes t)) in
+    let is : is_utf8 bytes ≡ false =
+    false_from_ne_true (is_utf8 bytes) (λ t. c.in-Err.ensures.cases.0 (IsUtf8-from_is_utf8 bytes t)) in
     sym (ap (λ b. if b then bytes else []) is)

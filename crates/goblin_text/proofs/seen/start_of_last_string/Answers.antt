@@ -9,4 +9,5 @@ returns-in-Some-clause-is c =
     start_behind_last c.args.text.now c.in-Some.place last.0 last.1 last.2
 
 pub returns-in-None-clause-is : goal.returns-in-None-clause-is
-returns-in-None-clause-is c = start_of_only c.args.text.now (rfind_char 0 c.args.text.now None c.in-None.ensures.cases (lit< tt))
+returns-in-None-clause-is c =
+    start_of_only c.args.text.now (rfind_char 0 c.args.text.now None c.in-None.ensures.cases (lit< tt))

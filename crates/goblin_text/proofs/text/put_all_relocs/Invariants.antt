@@ -8,6 +8,7 @@ abbrev pub invariant-loop-part : goal.invariant-loop-part
 invariant-loop-part g l =
     let target = g.T.Target in
     record {
-      put : PutSoFar (target.state l.initial.target) (target.state l.target) (relocs_text l.parts) (relocs_text (drop l.part-index l.parts));
+      put : PutSoFar (target.state l.initial.target) (target.state l.target) (relocs_text l.parts)
+          (relocs_text (drop l.part-index l.parts));
       kept : target.kept l.target ≡ target.kept l.initial.target;
     }

@@ -9,5 +9,8 @@ returns-clause-ok g c =
     let contents = g.W.Sink.contents in
     let empty = c.args.target.now in
     let full = c.put_text.new.target in
-    through (contents empty.writer.now) (held (contents empty.writer.now) empty.room empty.filled) (held (contents full.writer.now) full.room full.filled) (contents c.finish.new.self.writer.now)
-    empty.room empty.filled (accepted_text c.args.names.now.bytes c.args.file.now) refl c.requires c.in_ok-put_text.ensures.put.0 c.in_ok-finish.ensures.bytes
+    through (contents empty.writer.now) (held (contents empty.writer.now) empty.room empty.filled)
+    (held (contents full.writer.now) full.room full.filled) (contents c.finish.new.self.writer.now)
+    empty.room empty.filled
+    (accepted_text c.args.names.now.bytes c.args.file.now) refl c.requires c.in_ok-put_text.ensures.put.0
+    c.in_ok-finish.ensures.bytes

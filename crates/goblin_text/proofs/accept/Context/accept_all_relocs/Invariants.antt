@@ -10,4 +10,5 @@ invariant-loop-number l =
     let context = l.self in
     let shows = relocs_shown l.file.bytes context.ctx l.is_mips64el in
     (lines : List ℕ) × (relocs_text l.parts.items ≡ relocs_text l.initial.parts.items ++ lines)
-    × (each_shown shows 0 context.sections.now ≡ after lines (each_shown shows l.number (drop l.number context.sections.now)))
+    × (each_shown shows 0 context.sections.now
+    ≡ after lines (each_shown shows l.number (drop l.number context.sections.now)))

@@ -17,5 +17,6 @@ invariant-loop-number l =
       looks : IsShort bytes → Spends l.initial.file l.file (table_looks * l.number);
       least : CountsAtLeast l.initial.file.count 0 l.file.count;
       shown : (lines : List ℕ) × (symbols_text bytes l.parts.items ≡ symbols_text bytes l.initial.parts.items ++ lines)
-          × (each_shown shows 0 context.sections.now ≡ after lines (each_shown shows l.number (drop l.number context.sections.now)));
+          × (each_shown shows 0 context.sections.now
+          ≡ after lines (each_shown shows l.number (drop l.number context.sections.now)));
     }

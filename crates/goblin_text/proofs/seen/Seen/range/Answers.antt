@@ -8,7 +8,9 @@ use Rattle.goblin_text.specs.Known.{IsRange}
 use Rattle.goblin_text.proofs.seen.Seen.range.Goals as goal
 
 -- where the bytes of the range stand
-stands : (c : After-min-start) → IsRange c.args.mode c.args.self.now.bytes c.args.offset c.args.size c.min-start.result (c.min-start.result + length c.in_ok-range.range.now)
+stands : (c : After-min-start)
+    → IsRange c.args.mode c.args.self.now.bytes c.args.offset c.args.size c.min-start.result
+    (c.min-start.result + length c.in_ok-range.range.now)
 stands c =
     let range = c.in_ok-range.range.now in
     range_stands _ _ _ _ _ range (grind (arith, common_steps)) (range_taken _ range (grind (arith, common_steps)))

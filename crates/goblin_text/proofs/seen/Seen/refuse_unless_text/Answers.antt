@@ -25,5 +25,6 @@ returns-in-Err-clause-looks_least_refused c =
     let place = c.valid_up_to-place.result in
     let front : IsValidUpTo table place = grind (arith, common_steps) in
     let len : utf8_valid_len table ≡ place = grind (arith, common_steps) in
-    let start : first_bad table 0 ≡ c.start_of_last_string-start.result = first_bad_of_front table place front ∙ grind (arith, common_steps) in
+    let start : first_bad table 0 ≡ c.start_of_last_string-start.result =
+    first_bad_of_front table place front ∙ grind (arith, common_steps) in
     omega (arith, len, start, c.add.ensures.looks_least, c.add-in-Err.ensures.looks_least)

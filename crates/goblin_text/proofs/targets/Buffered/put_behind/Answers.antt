@@ -11,8 +11,10 @@ returns-then-bytes-gt-ROOM-clause-bytes g c =
     let after = g.W.Sink.contents c.write_all.new.self in
     let room = c.pass_on.new.self.room in
     let filled = c.pass_on.new.self.filled in
-    let appends : Appends before after c.args.bytes.now = appends_kept before between after c.args.bytes.now c.in_ok-pass_on.ensures.bytes c.in_ok-write_all.ensures.bytes in
-    subst (λ k. Appends before k c.args.bytes.now) (sym (emptied after room filled c.in_ok-pass_on.ensures.filled)) appends
+    let appends : Appends before after c.args.bytes.now =
+    appends_kept before between after c.args.bytes.now c.in_ok-pass_on.ensures.bytes c.in_ok-write_all.ensures.bytes in
+    subst (λ k. Appends before k c.args.bytes.now)
+    (sym (emptied after room filled c.in_ok-pass_on.ensures.filled)) appends
 
 pub returns-clause-bytes : goal.returns-clause-bytes
 returns-clause-bytes g c =
@@ -21,6 +23,9 @@ returns-clause-bytes g c =
     let filled = c.pass_on.new.self.filled in
     let between = g.W.Sink.contents c.pass_on.new.self.writer.now in
     let after = g.W.Sink.contents c.add.new.self.writer.now in
-    let emptied_first : Keeps before (held between room filled) = subst (Keeps before) (sym (emptied between room filled c.in_ok-pass_on.ensures.filled)) c.in_ok-pass_on.ensures.bytes in
-    let kept : Keeps before (held after room filled) = subst (λ w. Keeps before (held (g.W.Sink.contents w) room filled)) (sym c.add.ensures.writer) emptied_first in
+    let emptied_first : Keeps before (held between room filled) =
+    subst (Keeps before)
+    (sym (emptied between room filled c.in_ok-pass_on.ensures.filled)) c.in_ok-pass_on.ensures.bytes in
+    let kept : Keeps before (held after room filled) =
+    subst (λ w. Keeps before (held (g.W.Sink.contents w) room filled)) (sym c.add.ensures.writer) emptied_first in
     added before after room c.add.new.self.room filled c.add.new.self.filled c.args.bytes.now kept c.add.ensures.added
