@@ -20,14 +20,14 @@ use Rattle.goblin_base.proofs.PiecesLemmas.{at_end, delim_before, end_before, en
 use Rattle.goblin_base.proofs.PiecesLemmas.{start_after_delim, start_behind, start_of_front, start_of_start, start_same}
 use Rattle.goblin_base.proofs.PiecesLemmas.{start_to}
 use Rattle.goblin_base.proofs.WalkLemmas.{bad_start_from, first_bad_is, no_bad_start_readable}
-use Rattle.goblin_text.specs.Known.{text_table}
+use Rattle.goblin_text.specs.StringRanges.{text_table}
 
 module _ (bytes : List ℕ) where
   zero_at_end : (o : ℕ)
       → o ≤ length bytes → piece_end bytes 0 o < length bytes → get_or bytes (piece_end bytes 0 o) 0 ≡ 0
   zero_at_end o l m = let e = at_end bytes 0 o l m in grind (arith, e)
 
-  -- where the last one begins, behind which no zero byte stands
+  -- where the last one begins, after which no zero byte stands
   start_of_last : (s : ℕ)
       → s ≤ length bytes → piece_start bytes 0 s ≡ s → ((i : ℕ) → s ≤ i → i < length bytes → get_or bytes i 0 ≢ 0)
       → s ≡ piece_start bytes 0 (length bytes)
@@ -109,7 +109,7 @@ module _ (bytes : List ℕ) where
       (cases_eq (piece_start bytes 0 k) k)
 
   -- ---- the piece that a fault lies in
-  -- a front that is text and a range that is, right behind it
+  -- a front that is text and a range that is, right after it
   front_more : (i j : ℕ) → i ≤ j → IsUtf8 (take i bytes) → IsUtf8 (slice_range bytes i j) → IsUtf8 (take j bytes)
   front_more i j l u v = let m : i - 0 ≡ i = omega arith in let n : j - 0 ≡ j = omega arith in
       subst (λ x. IsUtf8 (take x bytes)) n

@@ -5,13 +5,13 @@ use Rattle.std.proofs.Math.Seq.{take-append_seam, drop-append_seam}
 use Rattle.std.proofs.lemmas.Str.{IsCharBoundary-from_take, IsUtf8-append, IsUtf8-drop}
 use Rattle.std.specs.Str.{IsUtf8}
 use Rattle.goblin.specs.TextLaws.{texts-join}
-use Rattle.goblin_text.proofs.Edges.{edge_bounds}
+use Rattle.goblin_text.proofs.CharStarts.{char_start_bounds}
 use Rattle.goblin_text.proofs.Ranges.{split}
 use Rattle.goblin_text.proofs.Strings.{goes_on}
 use Rattle.goblin_text.specs.declared.runs.Kind.{Kind}
-use Rattle.goblin_text.specs.declared.runs.Kind.TheVariants.{Plain, Text}
+use Rattle.goblin_text.specs.declared.runs.Kind.TheVariants.{Text, ZeroFree}
 use Rattle.goblin_text.specs.declared.runs.TheConstants.{BLOCK}
-use Rattle.goblin_text.specs.Runs.{IsBlock, IsOf, IsPlain, IsRun, LacksText, block_start, up_to_zero}
+use Rattle.goblin_text.specs.Runs.{IsBlock, IsOfKind, IsZeroFree, IsRun, LacksText, block_start, up_to_zero}
 
 -- what follows a text in a text is text
 rest_is_text : (a b : List ℕ) → IsUtf8 a → IsUtf8 (a ++ b) → IsUtf8 b
@@ -21,45 +21,46 @@ rest_is_text a b u v =
     subst IsUtf8 (drop-append_seam a b) (IsUtf8-drop (a ++ b) (length a) v at)
 
 -- a string that is no text is none after text with no zero byte
-pub lacks-after : (bytes : List ℕ) (i j k : ℕ) → i ≤ j → j ≤ k → IsPlain (slice_range bytes i j)
+pub lacks-after : (bytes : List ℕ) (i j k : ℕ) → i ≤ j → j ≤ k → IsZeroFree (slice_range bytes i j)
     → LacksText (slice_range bytes j k) → LacksText (slice_range bytes i k)
-lacks-after bytes i j k l m plain lacks =
+lacks-after bytes i j k l m zero_free lacks =
     let a = slice_range bytes i j in
     let b = slice_range bytes j k in
     let joined : up_to_zero (slice_range bytes i k) ≡ a ++ up_to_zero b =
-    ap up_to_zero (split bytes i j k l m) ∙ goes_on a b (omega (arith, ap length plain.whole)) in
-    λ u. lacks (rest_is_text a (up_to_zero b) plain.text (subst IsUtf8 joined u))
+    ap up_to_zero (split bytes i j k l m) ∙ goes_on a b (omega (arith, ap length zero_free.whole)) in
+    λ u. lacks (rest_is_text a (up_to_zero b) zero_free.text (subst IsUtf8 joined u))
 
-plain-join : (a b : List ℕ) → IsPlain a → IsPlain b → IsPlain (a ++ b)
-plain-join a b p q = record {
+zero_free-join : (a b : List ℕ) → IsZeroFree a → IsZeroFree b → IsZeroFree (a ++ b)
+zero_free-join a b p q = record {
   text = IsUtf8-append a b p.text q.text;
   whole = goes_on a b (omega (arith, ap length p.whole)) ∙ ap (λ x. a ++ x) q.whole;
 }
 
 kinds-join : (kind : Kind) (bytes : List ℕ) (i j k : ℕ) → i ≤ j → j ≤ k
-    → IsOf kind (slice_range bytes i j) → IsOf kind (slice_range bytes j k) → IsOf kind (slice_range bytes i k)
+    → IsOfKind kind (slice_range bytes i j)
+    → IsOfKind kind (slice_range bytes j k) → IsOfKind kind (slice_range bytes i k)
 kinds-join Text bytes i j k l m p q = texts-join bytes i j k l m p q
-kinds-join Plain bytes i j k l m p q = subst IsPlain (sym (split bytes i j k l m)) (plain-join _ _ p q)
+kinds-join ZeroFree bytes i j k l m p q = subst IsZeroFree (sym (split bytes i j k l m)) (zero_free-join _ _ p q)
 
 -- bytes up to a run of blocks, and the run
 pub of_up_to : (kind : Kind) (bytes : List ℕ) (i a b : ℕ) → i ≤ a * BLOCK → a ≤ b
-    → IsOf kind (slice_range bytes i (block_start bytes a)) → IsRun kind bytes a b
-    → IsOf kind (slice_range bytes i (block_start bytes b))
+    → IsOfKind kind (slice_range bytes i (block_start bytes a)) → IsRun kind bytes a b
+    → IsOfKind kind (slice_range bytes i (block_start bytes b))
 unfolding IsBlock
 of_up_to kind bytes i a b l m p run =
     let e : a + (b - a) ≡ b = omega arith in
-    subst (λ x. IsOf kind (slice_range bytes i (block_start bytes x))) e
+    subst (λ x. IsOfKind kind (slice_range bytes i (block_start bytes x))) e
     (up_to (b - a) (λ j from to. run j from (omega arith)))
   where
-    up_to : (n : ℕ) → IsRun kind bytes a (a + n) → IsOf kind (slice_range bytes i (block_start bytes (a + n)))
+    up_to : (n : ℕ) → IsRun kind bytes a (a + n) → IsOfKind kind (slice_range bytes i (block_start bytes (a + n)))
     up_to zero run = let e : a ≡ a + 0 = omega arith in
-        subst (λ x. IsOf kind (slice_range bytes i (block_start bytes x))) e p
+        subst (λ x. IsOfKind kind (slice_range bytes i (block_start bytes x))) e p
     up_to (suc n) run =
         let k = a + n in
-        let here = edge_bounds bytes (k * BLOCK) in
-        let next = edge_bounds bytes ((k + 1) * BLOCK) in
+        let here = char_start_bounds bytes (k * BLOCK) in
+        let next = char_start_bounds bytes ((k + 1) * BLOCK) in
         let e : k + 1 ≡ a + suc n = omega arith in
         let before = up_to n (λ j from to. run j from (omega arith)) in
-        subst (λ x. IsOf kind (slice_range bytes i (block_start bytes x))) e
+        subst (λ x. IsOfKind kind (slice_range bytes i (block_start bytes x))) e
         (kinds-join kind bytes i (block_start bytes k) (block_start bytes (k + 1)) (omega arith) (omega arith) before
         (run k (omega arith) (omega arith)))

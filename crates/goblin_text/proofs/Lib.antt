@@ -1,7 +1,7 @@
-mod Blocks
-mod Edges
+mod CharStarts
 mod Faults
 mod Joins
+mod LineLooks
 mod LongNames
 mod Looks
 mod Modes
@@ -9,8 +9,8 @@ mod Printed
 mod Puts
 mod Ranges
 mod Reading
+mod RunEnds
 mod Shows
-mod Spent
 mod Strings
 mod Tables
 mod TextBlocks

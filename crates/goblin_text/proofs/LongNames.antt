@@ -4,50 +4,51 @@ use Rattle.std.proofs.Common.{Option, None, Some}
 use Rattle.std.proofs.lemmas.Bool.{cases_lt}
 use Rattle.std.specs.Str.{IsUtf8}
 use Rattle.goblin.specs.TextLaws.{texts-join}
-use Rattle.goblin_text.proofs.Edges.{edge_bounds, lacks-on, whole-edge}
+use Rattle.goblin_text.proofs.CharStarts.{char_start_bounds, lacks-on, whole_to_start}
 use Rattle.goblin_text.proofs.Joins.{lacks-after, of_up_to}
 use Rattle.goblin_text.proofs.Strings.{string-after, string-within}
-use Rattle.goblin_text.specs.declared.runs.Kind.TheVariants.{Plain}
+use Rattle.goblin_text.specs.declared.runs.Kind.TheVariants.{ZeroFree}
 use Rattle.goblin_text.specs.declared.runs.TheConstants.{BLOCK}
-use Rattle.goblin_text.specs.Runs.{EndsAt, IsBlock, IsLong, IsPlain, IsRun, IsTextUpTo, LacksText, block_start}
+use Rattle.goblin_text.specs.Runs.{EndsAt, IsBlock, IsLong, IsZeroFree, IsRun, IsTextUpTo, LacksText, block_start}
 use Rattle.goblin_text.specs.Runs.{next_block, up_to_zero}
 
 -- text with no zero byte goes on from a place up to a block
 pub record RunsTo (bytes : List ℕ) (place run : ℕ) : Type 0 where
   pub order : next_block place ≤ run
   pub head : IsUtf8 (slice_range bytes place (block_start bytes (next_block place)))
-  pub blocks : IsRun Plain bytes (next_block place) run
+  pub blocks : IsRun ZeroFree bytes (next_block place) run
 
 module _ (bytes : List ℕ) (place end : ℕ) (long : IsLong bytes place end) where
   -- no zero byte stands up to the next block
   whole_head : up_to_zero (slice_range bytes place (block_start bytes (next_block place)))
       ≡ slice_range bytes place (block_start bytes (next_block place))
   whole_head =
-      let bounds = edge_bounds bytes (next_block place * BLOCK) in
-      whole-edge bytes place (next_block place * BLOCK) (place + BLOCK) (omega arith) (omega arith)
+      let bounds = char_start_bounds bytes (next_block place * BLOCK) in
+      whole_to_start bytes place (next_block place * BLOCK) (place + BLOCK) (omega arith) (omega arith)
       (omega (arith, long.blocks, long.within)) (omega (arith, long.blocks, long.within)) long.whole
 
   -- bytes up to the next block that are no text
   pub lacks_at_head : ¬ (IsUtf8 (slice_range bytes place (block_start bytes (next_block place))))
       → LacksText (slice_range bytes place end)
   lacks_at_head other =
-      let bounds = edge_bounds bytes (next_block place * BLOCK) in
+      let bounds = char_start_bounds bytes (next_block place * BLOCK) in
       lacks-on bytes place (next_block place * BLOCK) end (omega arith) (omega (arith, long.blocks)) long.within
       (λ u. other (subst IsUtf8 whole_head u))
 
-  pub plain_to_run : (run : ℕ) → RunsTo bytes place run → IsPlain (slice_range bytes place (block_start bytes run))
-  plain_to_run run to =
-      of_up_to Plain bytes place (next_block place) run (omega arith) to.order
+  pub zero_free_to_run : (run : ℕ)
+      → RunsTo bytes place run → IsZeroFree (slice_range bytes place (block_start bytes run))
+  zero_free_to_run run to =
+      of_up_to ZeroFree bytes place (next_block place) run (omega arith) to.order
       (record { text = to.head; whole = whole_head }) to.blocks
 
 -- a string ends in a block that isn't text with no zero byte, and ends there of more bytes too
 pub ends_in_block : (bytes : List ℕ) (block end : ℕ) (found : Option ℕ) → block_start bytes (block + 1) ≤ end
-    → end ≤ length bytes → ¬ (IsBlock Plain bytes block)
+    → end ≤ length bytes → ¬ (IsBlock ZeroFree bytes block)
     → EndsAt bytes (block_start bytes block) (block_start bytes (block + 1)) found
     → IsTextUpTo bytes (block_start bytes block) found → EndsAt bytes (block_start bytes block) end found
 unfolding IsBlock
 ends_in_block bytes block end None short h other e t =
-    let bounds = edge_bounds bytes (block * BLOCK) in
+    let bounds = char_start_bounds bytes (block * BLOCK) in
     lacks-on bytes (block_start bytes block) ((block + 1) * BLOCK) end (omega arith) short h e
 ends_in_block bytes block end (Some stop) short h other e t =
     let from = block_start bytes block in
@@ -68,16 +69,17 @@ ends_in_block bytes block end (Some stop) short h other e t =
 
 -- a string goes on after text with no zero byte
 pub ends_after : (bytes : List ℕ) (place from end : ℕ) (found : Option ℕ) → place ≤ from → from ≤ end
-    → IsPlain (slice_range bytes place from) → EndsAt bytes from end found → EndsAt bytes place end found
-ends_after bytes place from end None l m plain e = lacks-after bytes place from end l m plain e
-ends_after bytes place from end (Some stop) l m plain e = record {
+    → IsZeroFree (slice_range bytes place from) → EndsAt bytes from end found → EndsAt bytes place end found
+ends_after bytes place from end None l m zero_free e = lacks-after bytes place from end l m zero_free e
+ends_after bytes place from end (Some stop) l m zero_free e = record {
   order = omega (arith, l, e.order);
   within = e.within;
-  is = string-after bytes place from stop end l e.order e.within plain.whole e.is;
+  is = string-after bytes place from stop end l e.order e.within zero_free.whole e.is;
 }
 
 pub text_after : (bytes : List ℕ) (place from end : ℕ) (found : Option ℕ) → place ≤ from
-    → IsPlain (slice_range bytes place from) → EndsAt bytes from end found → IsTextUpTo bytes from found
+    → IsZeroFree (slice_range bytes place from) → EndsAt bytes from end found → IsTextUpTo bytes from found
     → IsTextUpTo bytes place found
-text_after bytes place from end None l plain e t = tt
-text_after bytes place from end (Some stop) l plain e t = texts-join bytes place from stop l e.order plain.text t
+text_after bytes place from end None l zero_free e t = tt
+text_after bytes place from end (Some stop) l zero_free e t =
+    texts-join bytes place from stop l e.order zero_free.text t

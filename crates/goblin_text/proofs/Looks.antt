@@ -10,15 +10,15 @@ use Rattle.std.specs.Str.{is_utf8}
 use Rattle.goblin.specs.Pieces.{piece}
 use Rattle.goblin.specs.TextLaws.{name-later, name-past, names_are_plain}
 use Rattle.goblin.specs.Utf8.{invalid_utf8}
-use Rattle.goblin_text.proofs.Edges.{past_is}
-use Rattle.goblin_text.proofs.Edges.Past.{over, stays}
+use Rattle.goblin_text.proofs.CharStarts.{after_continuation_is}
+use Rattle.goblin_text.proofs.CharStarts.Passed.{over, stays}
 use Rattle.goblin_text.proofs.Ranges.{get_range, length-range, rest_of_range}
-use Rattle.goblin_text.specs.Known.{text_table}
-use Rattle.goblin_text.specs.Runs.{LacksText, past, up_to_zero}
+use Rattle.goblin_text.specs.StringRanges.{text_table}
+use Rattle.goblin_text.specs.Runs.{LacksText, after_continuation, up_to_zero}
 use Rattle.goblin_text.specs.Shown.{name_at}
 
-pub past_name : (bytes : List ℕ) (o : ℕ) → length bytes ≤ o → [] ≡ name_at (text_table bytes) o
-past_name bytes o l = sym (name-past bytes 0 o l)
+pub name_past_end : (bytes : List ℕ) (o : ℕ) → length bytes ≤ o → [] ≡ name_at (text_table bytes) o
+name_past_end bytes o l = sym (name-past bytes 0 o l)
 
 -- a text, or nothing where bytes are none
 abbrev pub text_or_nothing : List ℕ → List ℕ
@@ -47,12 +47,12 @@ name_in_range bytes i j o l m h =
 
 -- a byte that goes on with a character begins no name
 pub name_later : (bytes : List ℕ) (i j o : ℕ)
-    → i ≤ j → j ≤ length bytes → o < j - i → i + o < past bytes (i + o)
+    → i ≤ j → j ≤ length bytes → o < j - i → i + o < after_continuation bytes (i + o)
     → [] ≡ name_at (text_table (slice_range bytes i j)) o
 name_later bytes i j o l m h on =
     let size : length (slice_range bytes i j) ≡ j - i = length-range bytes i j l m in
     let byte : get_or (slice_range bytes i j) o 0 ≡ get_or bytes (i + o) 0 = get_range bytes i j o h in
-    elim (past_is bytes (i + o)) [
+    elim (after_continuation_is bytes (i + o)) [
       | over e g ↦ sym
           (name-later (slice_range bytes i j) 0 o (lit< tt) (omega arith) (omega (arith, byte, g.0))
           (omega (arith, byte, g.1)))

@@ -12,10 +12,11 @@ pub record PutSoFar (old new : State) (all rest : List ℕ) : Type 0 where
   pub lines : List ℕ
   pub appends : Appends old.contents new.contents lines
   pub are : all ≡ lines ++ rest
-  pub heeded : new.told_error ≡ old.told_error
+  pub heeded : new.reported_error ≡ old.reported_error
 
 pub more_put : (a b c : State) (all line rest next : List ℕ)
-    → PutSoFar a b all rest → rest ≡ line ++ next → Appends b.contents c.contents line × (c.told_error ≡ b.told_error)
+    → PutSoFar a b all rest → rest ≡ line ++ next
+    → Appends b.contents c.contents line × (c.reported_error ≡ b.reported_error)
     → PutSoFar a c all next
 more_put a b c all line rest next w e p = record {
   lines = w.lines ++ line;

@@ -11,7 +11,7 @@ use Rattle.goblin_base.specs.declared.error.Fault.{Fault}
 use Rattle.goblin_base.specs.declared.error.Fault.TheVariants.{StrtabOffset, StrtabRange}
 use Rattle.goblin.specs.Steps.{◌>>=◌, refuse_as}
 use Rattle.goblin.specs.Strtab.{or_cut, range_in, strtab_of, table_of}
-use Rattle.goblin_text.specs.Known.{IsRange}
+use Rattle.goblin_text.specs.StringRanges.{IsRange}
 
 -- a range that isn't refused
 pub range_taken : (r : Result (List ℕ) Fault) (bytes : List ℕ) → refuse_as malformed r ≡ Ok bytes → r ≡ Ok bytes

@@ -2,7 +2,7 @@
 use Rattle.std.proofs.Common.{ℕ, ◌+◌, ◌-◌, ◌*◌, ◌<◌, ◌≤◌, List, length, arith, slice_range}
 use Rattle.std.specs.Str.{IsUtf8}
 use Rattle.goblin.specs.TextLaws.{texts-join}
-use Rattle.goblin_text.proofs.Edges.{edge_bounds, text-edge}
+use Rattle.goblin_text.proofs.CharStarts.{char_start_bounds, text_cut}
 use Rattle.goblin_text.proofs.Joins.{of_up_to}
 use Rattle.goblin_text.specs.declared.runs.Kind.TheVariants.{Text}
 use Rattle.goblin_text.specs.declared.runs.TheConstants.{BLOCK}
@@ -19,21 +19,21 @@ block_of_text : (bytes : List ℕ) (start end k : ℕ) → start ≤ k * BLOCK �
     → IsUtf8 (slice_range bytes start end) → IsBlock Text bytes k
 unfolding IsBlock
 block_of_text bytes start end k from to within u =
-    let bounds = edge_bounds bytes (k * BLOCK) in
-    let rest = (text-edge bytes start (k * BLOCK) end from (omega arith) within u).1 in
-    (text-edge bytes (block_start bytes k) ((k + 1) * BLOCK) end (omega arith) to within rest).0
+    let bounds = char_start_bounds bytes (k * BLOCK) in
+    let rest = (text_cut bytes start (k * BLOCK) end from (omega arith) within u).1 in
+    (text_cut bytes (block_start bytes k) ((k + 1) * BLOCK) end (omega arith) to within rest).0
 
 module _ (bytes : List ℕ) (start end : ℕ) (long : next_block start < last_block end) (within : end ≤ length bytes) where
   pub text_has_parts : IsUtf8 (slice_range bytes start end) → AreText bytes start end
   text_has_parts u = record {
-    head = (text-edge bytes start (next_block start * BLOCK) end (omega arith) (omega arith) within u).0;
+    head = (text_cut bytes start (next_block start * BLOCK) end (omega arith) (omega arith) within u).0;
     blocks = λ k from to. block_of_text bytes start end k (omega arith) (omega arith) within u;
-    rest = (text-edge bytes start (last_block end * BLOCK) end (omega arith) (omega arith) within u).1;
+    rest = (text_cut bytes start (last_block end * BLOCK) end (omega arith) (omega arith) within u).1;
   }
 
   pub parts_are_text : AreText bytes start end → IsUtf8 (slice_range bytes start end)
   parts_are_text are =
-      let bounds = edge_bounds bytes (last_block end * BLOCK) in
+      let bounds = char_start_bounds bytes (last_block end * BLOCK) in
       let front = of_up_to Text bytes start (next_block start) (last_block end) (omega arith)
       (omega arith) are.head are.blocks in
       texts-join bytes start (block_start bytes (last_block end)) end (omega arith) (omega arith) front are.rest

@@ -8,7 +8,7 @@ use Rattle.goblin_text.specs.declared.accept.Accepted.{Accepted}
 use Rattle.goblin_text.specs.declared.accept.Parts.{Parts}
 use Rattle.goblin_text.specs.declared.accept.RelocPart.{RelocPart}
 use Rattle.goblin_text.specs.declared.accept.SymbolPart.{SymbolPart}
-use Rattle.goblin_text.specs.Known.{strings_in}
+use Rattle.goblin_text.specs.StringRanges.{strings_in}
 use Rattle.goblin_text.specs.Lines.{header_line}
 use Rattle.goblin_text.specs.Shown.{reloc_lines, section_lines, symbol_lines}
 

@@ -11,7 +11,7 @@ abbrev pub marks_of : {T : Type 0} → Counted T → Marks
 marks_of c =
     record {
       read_calls = c.read_calls;
-      told_error = c.told_error;
-      told_failure = c.told_failure;
-      told_end = c.told_end;
+      reported_error = c.reported_error;
+      reported_failure = c.reported_failure;
+      reported_end = c.reported_end;
     }

@@ -12,7 +12,7 @@ use Rattle.goblin_text.specs.Shown.{ctx_of, sections_of, shown}
 
 -- the bytes of a file, how many looks at them were taken, how many more the blocks may take that weren't read yet, and
 -- where the range stands that was last found to be text
-pub record Named : Type 0 where
+pub record NamesView : Type 0 where
   pub bytes : List ℕ
   pub count : ℕ
   pub left : ℕ
@@ -20,21 +20,21 @@ pub record Named : Type 0 where
   pub text_end : ℕ
 
 -- the range that is kept as text is the one from one place to another
-abbrev pub IsKept : Named → (start end : ℕ) → Type 0
-IsKept names start end = (names.text_start ≡ start) × (names.text_end ≡ end)
+abbrev pub IsCached : NamesView → (start end : ℕ) → Type 0
+IsCached names start end = (names.text_start ≡ start) × (names.text_end ≡ end)
 
 -- the file is no longer than the program takes
 abbrev pub IsShort : List ℕ → Type 0
 IsShort bytes = length bytes ≤ INPUT_LIMIT
 
 -- so many looks were taken at most, beside those that blocks took which weren't read before
-abbrev pub Spends : (old new : Named) (most : ℕ) → Type 0
-Spends old new most = new.count + new.left ≤ old.count + old.left + most
+abbrev pub LooksAtMost : (old new : NamesView) (most : ℕ) → Type 0
+LooksAtMost old new most = new.count + new.left ≤ old.count + old.left + most
 
 -- and where bytes are refused, two more at each of them
-abbrev pub Spent : {T E : Type 0} → (old new : Named) → Result T E → (most : ℕ) → Type 0
-Spent old new (Ok done) most = Spends old new most
-Spent old new (Err e) most = Spends old new (most + 2 * length old.bytes)
+abbrev pub LooksByResult : {T E : Type 0} → (old new : NamesView) → Result T E → (most : ℕ) → Type 0
+LooksByResult old new (Ok done) most = LooksAtMost old new most
+LooksByResult old new (Err e) most = LooksAtMost old new (most + 2 * length old.bytes)
 
 -- how many looks a block takes, which is read once: two at each of its bytes and of three more, and six at its edges
 abbrev pub block_looks : ℕ

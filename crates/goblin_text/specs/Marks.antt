@@ -10,13 +10,13 @@ use Rattle.std.specs.declared.io.ErrorKind.TheVariants.{Interrupted}
 -- interruption, and the end were told
 pub record Marks : Type 0 where
   pub read_calls : ℕ
-  pub told_error : Bool
-  pub told_failure : Bool
-  pub told_end : Bool
+  pub reported_error : Bool
+  pub reported_failure : Bool
+  pub reported_end : Bool
 
 -- before any call
 abbrev pub no_marks : Marks
-no_marks = record { read_calls = 0; told_error = false; told_failure = false; told_end = false }
+no_marks = record { read_calls = 0; reported_error = false; reported_failure = false; reported_end = false }
 
 -- the kind of an error after which a call is tried again
 unfoldable pub is_interruption : ErrorKind → Bool
@@ -37,11 +37,11 @@ is_end (Err e) buf = false
 abbrev pub after_read : Marks → Result ℕ Error → List ℕ → Marks
 after_read m answer buf = record {
   read_calls = min (m.read_calls + 1) (2 ^ 64 - 1);
-  told_error = m.told_error || is_err answer;
-  told_failure = m.told_failure || is_failure answer;
-  told_end = m.told_end || is_end answer buf;
+  reported_error = m.reported_error || is_err answer;
+  reported_failure = m.reported_failure || is_failure answer;
+  reported_end = m.reported_end || is_end answer buf;
 }
 
 -- the marks after `write_all` or `flush` gave this answer
 abbrev pub after_write : {T E : Type 0} → Marks → Result T E → Marks
-after_write m answer = record m { told_error = m.told_error || is_err answer }
+after_write m answer = record m { reported_error = m.reported_error || is_err answer }

@@ -5,12 +5,12 @@ use Rattle.std.specs.Io.KnownBytes.{Appends, append_known}
 -- the bytes that it holds, where they are told, and whether it told an error
 pub record State : Type 0 where
   pub contents : Option (List ℕ)
-  pub told_error : Bool
+  pub reported_error : Bool
 
 -- it holds a text more and no other, and told no error that it hadn't told before; or it told an error
 abbrev pub Puts : {E : Type 0} → State → State → Result (Unit {0}) E → List ℕ → Type 0
-Puts old new (Ok done) text = Appends old.contents new.contents text × (new.told_error ≡ old.told_error)
-Puts old new (Err e) text = IsTrue new.told_error
+Puts old new (Ok done) text = Appends old.contents new.contents text × (new.reported_error ≡ old.reported_error)
+Puts old new (Err e) text = IsTrue new.reported_error
 
 -- the bytes that a writer holds, and then those that fill a room before it
 unfoldable pub held : Option (List ℕ) → List ℕ → ℕ → Option (List ℕ)

@@ -24,7 +24,7 @@ pub record ReadsAll (old new : Option (List ℕ)) (marks : Marks) (bytes : List 
   pub taken : Consumes old new bytes
   pub all : IsAtEnd new
   pub short : length bytes ≤ INPUT_LIMIT
-  pub end : IsTrue marks.told_end
+  pub end : IsTrue marks.reported_end
 
 -- The reader gave these bytes, which are more than the program takes.
 pub record ReadsTooMuch (old new : Option (List ℕ)) (bytes : List ℕ) : Type 0 where
@@ -38,12 +38,12 @@ ReadsAtMostOneMore old new = (bytes : List ℕ) × Consumes old new bytes × (le
 -- The reader was asked this often, and told no end.
 pub record ReadsInVain (limit : ℕ) (before after : Marks) : Type 0 where
   pub calls : min (before.read_calls + limit) (2 ^ 64 - 1) ≤ after.read_calls
-  pub endless : after.told_end ≡ before.told_end
+  pub endless : after.reported_end ≡ before.reported_end
 
 -- The reader told an error, which was no interruption, or it was asked as often as it is in vain.
 pub record FailsToRead (before after : Marks) : Type 0 where
-  pub error : IsTrue after.told_error
-  pub reason : IsTrue after.told_failure ⊎ ReadsInVain read_limit before after
+  pub error : IsTrue after.reported_error
+  pub reason : IsTrue after.reported_failure ⊎ ReadsInVain read_limit before after
 
 -- what was read: memory runs out before a call that was still to be made
 abbrev pub IsInput : Input → Option (List ℕ) → Option (List ℕ) → Marks → Marks → Type 0
@@ -58,7 +58,8 @@ IsInputWithin limit (inputs.Whole v) old new before after = ReadsAll old new aft
 IsInputWithin limit inputs.TooLong old new before after = (bytes : List ℕ) × ReadsTooMuch old new bytes
 IsInputWithin limit inputs.OutOfMemory old new before after = after.read_calls < before.read_calls + limit
 IsInputWithin limit inputs.Failed old new before after =
-    (IsTrue after.told_failure ⊎ ReadsInVain limit before after) × (INPUT_LIMIT < limit → IsTrue after.told_error)
+    (IsTrue after.reported_failure ⊎ ReadsInVain limit before after)
+    × (INPUT_LIMIT < limit → IsTrue after.reported_error)
 
 -- the writer holds the text of all bytes more, and no other
 abbrev pub IsShown : ParseMode → (old new : Option (List ℕ)) → Marks → (held holds : Option (List ℕ)) → Type 0
@@ -75,12 +76,12 @@ abbrev pub usage_line : List ℕ
 usage_line = codes "usage: goblin_show [permissive]" & newline
 
 -- the writer holds the line on how the program is called more, and no other, or it told an error
-abbrev pub TellsUsage : Option (List ℕ) → Option (List ℕ) → Marks → Type 0
-TellsUsage held holds marks = Appends held holds usage_line ⊎ IsTrue marks.told_error
+abbrev pub WritesUsage : Option (List ℕ) → Option (List ℕ) → Marks → Type 0
+WritesUsage held holds marks = Appends held holds usage_line ⊎ IsTrue marks.reported_error
 
 -- a line for an error: its text, unless memory ran out
-abbrev pub TellsError : Error → List ℕ → Type 0
-TellsError e line =
+abbrev pub IsErrorLine : Error → List ℕ → Type 0
+IsErrorLine e line =
     ((refusal_of e ≢ out_of_memory) × (line ≡ refusal_text (refusal_of e))) ⊎ (line ≡ codes "Out of memory")
 
 -- what is said of an input that is longer than the program takes
@@ -97,8 +98,8 @@ IsReason mode old new marks line =
     ⊎ (line ≡ codes "Out of memory"))
 
 -- why a line is written in place of the text of these bytes: they are refused, or memory ran out
-abbrev pub TellsWhy : ParseMode → List ℕ → List ℕ → Type 0
-TellsWhy mode bytes line =
+abbrev pub IsReasonOf : ParseMode → List ℕ → List ℕ → Type 0
+IsReasonOf mode bytes line =
     ((r : Refusal) × (shown mode bytes ≡ Err r) × (line ≡ refusal_text r)) ⊎ (line ≡ codes "Out of memory")
 
 -- How a run ended, and what it did: to the reader, of which are told what is left and the marks before and after, and
@@ -112,10 +113,10 @@ pub record HasRun (mode : ParseMode) (outcome : Outcome) (old new : Option (List
       → (line : List ℕ) × IsReason mode old new after line × WritesRefusal held holds line
   -- The reader told an error that was no interruption, or was asked as often as it is and told no end; or the writer
   -- told an error.
-  pub failed : outcome ≡ outcomes.Failed → FailsToRead before after ⊎ IsTrue tells.told_error
+  pub failed : outcome ≡ outcomes.Failed → FailsToRead before after ⊎ IsTrue tells.reported_error
   -- Where it did not, the reader told no error but interruptions, and the writer none.
-  pub heeds_reader : outcome ≢ outcomes.Failed → after.told_failure ≡ before.told_failure
-  pub heeds_writer : outcome ≢ outcomes.Failed → tells.told_error ≡ told.told_error
+  pub heeds_reader : outcome ≢ outcomes.Failed → after.reported_failure ≡ before.reported_failure
+  pub heeds_writer : outcome ≢ outcomes.Failed → tells.reported_error ≡ told.reported_error
   -- However it ended, the reader was not asked for more.
   pub most : ReadsAtMostOneMore old new
   pub calls : after.read_calls ≤ before.read_calls + read_limit

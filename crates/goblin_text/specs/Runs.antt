@@ -6,16 +6,16 @@ use Rattle.std.specs.Option.{IfSome, MatchOption}
 use Rattle.std.specs.Str.{IsUtf8}
 use Rattle.goblin_text.specs.declared.runs.TheConstants.{BLOCK, BLOCKS}
 use Rattle.goblin_text.specs.declared.runs.Kind.{Kind}
-use Rattle.goblin_text.specs.declared.runs.Kind.TheVariants.{Text, Plain}
+use Rattle.goblin_text.specs.declared.runs.Kind.TheVariants.{Text, ZeroFree}
 
--- the place behind a byte that goes on with a character, or the same place
-unfoldable pub past : List ℕ → ℕ → ℕ
-past bytes place =
+-- the place after a byte that goes on with a character, or the same place
+unfoldable pub after_continuation : List ℕ → ℕ → ℕ
+after_continuation bytes place =
     if nat_le 128 (slice_index bytes place) && nat_lt (slice_index bytes place) 192 then place + 1 else place
 
--- where the characters from a place on begin: behind up to three bytes that go on with a character
-unfoldable pub edge : List ℕ → ℕ → ℕ
-edge bytes place = past bytes (past bytes (past bytes place))
+-- where the characters from a place on begin: after up to three bytes that go on with a character
+unfoldable pub char_start : List ℕ → ℕ → ℕ
+char_start bytes place = after_continuation bytes (after_continuation bytes (after_continuation bytes place))
 
 -- the bytes before the first zero byte, or all
 unfoldable pub up_to_zero : List ℕ → List ℕ
@@ -40,14 +40,14 @@ abbrev pub IsTextUpTo : List ℕ → ℕ → Option ℕ → Type 0
 IsTextUpTo bytes from found = IfSome found (λ stop. IsUtf8 (slice_range bytes from stop))
 
 -- the bytes are text with no zero byte
-pub record IsPlain (bytes : List ℕ) : Type 0 where
+pub record IsZeroFree (bytes : List ℕ) : Type 0 where
   pub text : IsUtf8 bytes
   pub whole : up_to_zero bytes ≡ bytes
 
 -- the bytes are of a kind
-abbrev pub IsOf : Kind → List ℕ → Type 0
-IsOf Text bytes = IsUtf8 bytes
-IsOf Plain bytes = IsPlain bytes
+abbrev pub IsOfKind : Kind → List ℕ → Type 0
+IsOfKind Text bytes = IsUtf8 bytes
+IsOfKind ZeroFree bytes = IsZeroFree bytes
 
 -- the block after the one that a place lies in
 abbrev pub next_block : ℕ → ℕ
@@ -59,7 +59,7 @@ last_block end = min ((end - 3) / BLOCK) BLOCKS
 
 -- where the characters of the block with a number begin
 abbrev pub block_start : List ℕ → ℕ → ℕ
-block_start bytes block = edge bytes (block * BLOCK)
+block_start bytes block = char_start bytes (block * BLOCK)
 
 -- a string goes on through blocks: no zero byte stands in as many bytes as a block has, and it may go on past the next
 -- block
@@ -70,7 +70,7 @@ pub record IsLong (bytes : List ℕ) (place end : ℕ) : Type 0 where
 
 -- the block with a number is of a kind, from where its characters begin to where those of the next one do
 unfoldable pub IsBlock : Kind → List ℕ → ℕ → Type 0
-IsBlock kind bytes block = IsOf kind (slice_range bytes (block_start bytes block) (block_start bytes (block + 1)))
+IsBlock kind bytes block = IsOfKind kind (slice_range bytes (block_start bytes block) (block_start bytes (block + 1)))
 
 -- the blocks from one up to another are of a kind
 abbrev pub IsRun : Kind → List ℕ → ℕ → ℕ → Type 0
@@ -81,15 +81,16 @@ abbrev pub blocks : List ℕ → ℕ
 blocks bytes = min (length bytes / BLOCK) BLOCKS
 
 -- the run of a kind from a block on ends before another block, which is not of the kind, or at the last
-pub record IsEnd (kind : Kind) (bytes : List ℕ) (first end : ℕ) : Type 0 where
+pub record IsRunEnd (kind : Kind) (bytes : List ℕ) (first end : ℕ) : Type 0 where
   pub order : first ≤ end
   pub within : end ≤ blocks bytes
   pub run : IsRun kind bytes first end
   pub stops : end < blocks bytes → ¬ (IsBlock kind bytes end)
 
 -- where it is kept where a run ends, that is right: 0 is kept of a block of which it isn't known
-unfoldable pub AreEnds : Kind → List ℕ → List ℕ → Type 0
-AreEnds kind bytes ends = (k : ℕ) → k < length ends → 0 < slice_index ends k → IsEnd kind bytes k (slice_index ends k)
+unfoldable pub AreRunEnds : Kind → List ℕ → List ℕ → Type 0
+AreRunEnds kind bytes ends =
+    (k : ℕ) → k < length ends → 0 < slice_index ends k → IsRunEnd kind bytes k (slice_index ends k)
 
 -- of how many of the first blocks it isn't known where their run ends
 unfoldable pub unknown : ℕ → List ℕ → ℕ

@@ -3,9 +3,9 @@ ghost use Rattle.std.specs.Prelude.{◌≡◌, ◌+◌, ◌*◌, IfErr, IfOk, On
 ghost use Rattle.goblin.specs.Refusal.{Answers, Gives, Refuses};
 ghost use Rattle.goblin.specs.SectionHeaders.{section_headers_of_tested};
 ghost use Rattle.goblin_text.specs.Accepted.{accepted_text, parts_text, relocs_text, symbols_text};
-ghost use Rattle.goblin_text.specs.Known.{strings_in};
+ghost use Rattle.goblin_text.specs.StringRanges.{strings_in};
 ghost use Rattle.goblin_base.specs.Entries.{CountsAtLeast};
-ghost use Rattle.goblin_text.specs.Looks.{IsShort, Spends, Spent, section_count, table_looks, tables_looks};
+ghost use Rattle.goblin_text.specs.Looks.{IsShort, LooksAtMost, LooksByResult, section_count, table_looks, tables_looks};
 ghost use Rattle.goblin_text.specs.Shown.{Adds, ctx_of, each_shown, file_shown, has_relocs, has_symbols, relocs_shown, sections_of, shown, sizes_checked, strings_at, strings_of, symbols_shown, tested};
 
 use crate::file_bytes::FileBytes;
@@ -120,7 +120,7 @@ impl Context<'_> {
             (Some section.now) in
             Answers (strings_in names.old.bytes) result right }
         ensures unchanged { names.new.bytes ≡ names.old.bytes }
-        ensures looks { IsShort names.old.bytes → Spent names.old names.new result table_looks }
+        ensures looks { IsShort names.old.bytes → LooksByResult names.old names.new result table_looks }
         ensures looks_least { CountsAtLeast names.old.count 0 names.new.count }
     {
         if section.sh_type == SHT_NOBITS {
@@ -138,7 +138,7 @@ impl Context<'_> {
             self.now.sections.now index in
             Answers (strings_in names.old.bytes) result right }
         ensures unchanged { names.new.bytes ≡ names.old.bytes }
-        ensures looks { IsShort names.old.bytes → Spent names.old names.new result table_looks }
+        ensures looks { IsShort names.old.bytes → LooksByResult names.old names.new result table_looks }
         ensures looks_least { CountsAtLeast names.old.count 0 names.new.count }
     {
         if index == 0 {
@@ -164,7 +164,7 @@ impl Context<'_> {
             Adds (symbols_text file.old.bytes parts.old.items)
             (symbols_text file.old.bytes parts.new.items) result right }
         ensures unchanged { file.new.bytes ≡ file.old.bytes }
-        ensures looks { IsShort file.old.bytes → Spent file.old file.new result table_looks }
+        ensures looks { IsShort file.old.bytes → LooksByResult file.old file.new result table_looks }
         ensures looks_least { CountsAtLeast file.old.count 0 file.new.count }
     {
         if !has_symbols(section) {
@@ -194,7 +194,7 @@ impl Context<'_> {
             (each_shown shows 0 self.now.sections.now) }
         ensures unchanged { file.new.bytes ≡ file.old.bytes }
         ensures looks { let most = table_looks * length self.now.sections.now in
-            IsShort file.old.bytes → Spent file.old file.new result most }
+            IsShort file.old.bytes → LooksByResult file.old file.new result most }
         ensures looks_least { CountsAtLeast file.old.count 0 file.new.count }
     {
         for (number, section) in self.sections.iter().enumerate() {
@@ -255,7 +255,7 @@ impl Context<'_> {
             Gives (parts_text file.old.bytes self.now.header.now self.now.sections.now) result right }
         ensures unchanged { file.new.bytes ≡ file.old.bytes }
         ensures looks { let most = table_looks * (length self.now.sections.now + 1) in
-            IsShort file.old.bytes → Spent file.old file.new result most }
+            IsShort file.old.bytes → LooksByResult file.old file.new result most }
         ensures looks_least { CountsAtLeast file.old.count 0 file.new.count }
     {
         let index = SectionHeader::names_index(self.header.e_shstrndx, self.sections.first());
@@ -297,9 +297,9 @@ pub fn accept<'a>(
 
     // What is looked at of string tables.
     ensures looks { IsShort file.old.bytes → IfOk result (λ accepted.
-        Spends file.old file.new (table_looks * (length accepted.sections.items + 1))) }
+        LooksAtMost file.old file.new (table_looks * (length accepted.sections.items + 1))) }
     ensures looks_refused { let most = tables_looks opts.now.parse_mode file.old.bytes in
-        IsShort file.old.bytes → OnErr result (Spends file.old file.new most) }
+        IsShort file.old.bytes → OnErr result (LooksAtMost file.old file.new most) }
     ensures looks_least { CountsAtLeast file.old.count 0 file.new.count }
 {
     let (header, _) = file.header()?;

@@ -3,7 +3,7 @@ ghost use Rattle.std.specs.Prelude.{◌≡◌, ◌<◌, None, Some, OnErr, OnOk}
 ghost use Rattle.goblin.specs.declared.options.ParseOptions.{ParseOptions};
 ghost use Rattle.goblin_text.specs.declared.run.Outcome.{Outcome};
 ghost use Rattle.goblin_text.specs.Options.{wanted};
-ghost use Rattle.goblin_text.specs.Ran.{HasRun, TellsUsage, status_of};
+ghost use Rattle.goblin_text.specs.Ran.{HasRun, WritesUsage, status_of};
 
 use crate::options::options_of;
 use crate::run::{Outcome, run};
@@ -15,8 +15,8 @@ use std::io;
 const USAGE: &[u8; 32] = b"usage: goblin_show [permissive]\n";
 
 // Writes how the program is called.
-fn tell_usage<W: Sink>(writer: &mut W)
-    ensures { TellsUsage (W.contents writer.old) (W.contents writer.new) (W.marks writer.new) }
+fn write_usage<W: Sink>(writer: &mut W)
+    ensures { WritesUsage (W.contents writer.old) (W.contents writer.new) (W.marks writer.new) }
 {
     if writer.write_all(USAGE).is_ok() {
         let _ = writer.flush();
@@ -43,7 +43,7 @@ pub fn show<R: Source, W: Sink>(
     // Nothing was read, and the line on how the program is called was written.
     ensures usage { OnOk words (wanted words ≡ None → (result ≡ 2)
         × (reader.new ≡ reader.old)
-        × TellsUsage (W.contents writer.old) (W.contents writer.new) (W.marks writer.new)) }
+        × WritesUsage (W.contents writer.old) (W.contents writer.new) (W.marks writer.new)) }
 
     // By the options that the words ask for there was a run, and this is its exit status.
     ensures ran { (opts : ParseOptions) → wanted words ≡ Some opts → (outcome : Outcome)
@@ -58,7 +58,7 @@ pub fn show<R: Source, W: Sink>(
     match options_of(words.as_slice()) {
         Some(opts) => run(alloc, reader, writer, &opts).status(),
         None => {
-            tell_usage(writer);
+            write_usage(writer);
             Outcome::Failed.status()
         }
     }

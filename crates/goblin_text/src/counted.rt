@@ -13,9 +13,9 @@ use std::io::{Read, Write};
 pub struct Counted<T> {
     inner: T,
     read_calls: u64,
-    told_error: bool,
-    told_failure: bool,
-    told_end: bool,
+    reported_error: bool,
+    reported_failure: bool,
+    reported_end: bool,
 }
 
 impl<T> Counted<T> {
@@ -27,9 +27,9 @@ impl<T> Counted<T> {
         Counted {
             inner,
             read_calls: 0,
-            told_error: false,
-            told_failure: false,
-            told_end: false,
+            reported_error: false,
+            reported_failure: false,
+            reported_end: false,
         }
     }
 
@@ -55,24 +55,24 @@ impl<T> Counted<T> {
     }
 
     /// Whether an error was told.
-    pub fn told_error(&self) -> bool
-        ensures { result ≡ (marks_of self.now).told_error }
+    pub fn reported_error(&self) -> bool
+        ensures { result ≡ (marks_of self.now).reported_error }
     {
-        self.told_error
+        self.reported_error
     }
 
     /// Whether a read error was told that is no interruption.
-    pub fn told_failure(&self) -> bool
-        ensures { result ≡ (marks_of self.now).told_failure }
+    pub fn reported_failure(&self) -> bool
+        ensures { result ≡ (marks_of self.now).reported_failure }
     {
-        self.told_failure
+        self.reported_failure
     }
 
     /// Whether the end was told.
-    pub fn told_end(&self) -> bool
-        ensures { result ≡ (marks_of self.now).told_end }
+    pub fn reported_end(&self) -> bool
+        ensures { result ≡ (marks_of self.now).reported_end }
     {
-        self.told_end
+        self.reported_end
     }
 }
 
@@ -87,13 +87,13 @@ impl<R: Read> Source for Counted<R> {
         match &answer {
             Ok(count) => {
                 if *count == 0 && !buf.is_empty() {
-                    self.told_end = true;
+                    self.reported_end = true;
                 }
             }
             Err(e) => {
-                self.told_error = true;
+                self.reported_error = true;
                 if !is_interruption(e) {
-                    self.told_failure = true;
+                    self.reported_failure = true;
                 }
             }
         }
@@ -109,7 +109,7 @@ impl<W: Write> Sink for Counted<W> {
     fn write_all(&mut self, bytes: &[u8]) -> io::Result<()> {
         let answer = self.inner.write_all(bytes);
         if answer.is_err() {
-            self.told_error = true;
+            self.reported_error = true;
         }
         answer
     }
@@ -117,7 +117,7 @@ impl<W: Write> Sink for Counted<W> {
     fn flush(&mut self) -> io::Result<()> {
         let answer = self.inner.flush();
         if answer.is_err() {
-            self.told_error = true;
+            self.reported_error = true;
         }
         answer
     }

@@ -32,9 +32,9 @@ pub struct FileBytes<'a> {
 // They are seen as what is read of names: the bytes, and the looks taken.
 impl<'a> Model for FileBytes<'a> {
     ghost use Rattle.std.specs.Prelude.{◌≡◌};
-    ghost use Rattle.goblin_text.specs.Looks.{Named};
+    ghost use Rattle.goblin_text.specs.Looks.{NamesView};
 
-    ghost Value = { Named };
+    ghost Value = { NamesView };
 
     ghost view = { λ file. file.names };
 

@@ -41,12 +41,12 @@ pub enum Input {
     Failed,
 }
 
-// Makes room behind the filled bytes, where there is none.
+// Makes room after the filled bytes, where there is none.
 fn make_room(bytes: &mut Vec<u8>, filled: usize) -> Result<(), AllocError>
     requires short { filled ≤ INPUT_LIMIT }
     requires fits { vec_len bytes.old ≤ INPUT_LIMIT + 1 }
     requires filled { filled ≤ vec_len bytes.old }
-    ensures kept { OnOk result (take filled bytes.new.items ≡ take filled bytes.old.items) }
+    ensures unchanged { OnOk result (take filled bytes.new.items ≡ take filled bytes.old.items) }
     ensures room { OnOk result (filled < vec_len bytes.new) }
     ensures fits { OnOk result (vec_len bytes.new ≤ INPUT_LIMIT + 1) }
 {
@@ -64,8 +64,8 @@ fn make_room(bytes: &mut Vec<u8>, filled: usize) -> Result<(), AllocError>
     Ok(())
 }
 
-// Reads into the room behind the first `filled` bytes.
-fn read_behind<R: Source>(reader: &mut R, bytes: &mut Vec<u8>, filled: usize) -> io::Result<usize>
+// Reads into the room after the first `filled` bytes.
+fn read_into<R: Source>(reader: &mut R, bytes: &mut Vec<u8>, filled: usize) -> io::Result<usize>
     requires { filled < vec_len bytes.old }
     ensures len { vec_len bytes.new ≡ vec_len bytes.old }
     ensures front { take filled bytes.new.items ≡ take filled bytes.old.items }
@@ -85,7 +85,7 @@ pub fn input_of<R: Source>(alloc: Global, reader: &mut R) -> Input
     ensures most { ReadsAtMostOneMore (R.remaining reader.old) (R.remaining reader.new) }
     ensures calls { (R.marks reader.new).read_calls ≤ (R.marks reader.old).read_calls + read_limit }
     ensures heeded { result ≢ Input.Failed →
-        (R.marks reader.new).told_failure ≡ (R.marks reader.old).told_failure }
+        (R.marks reader.new).reported_failure ≡ (R.marks reader.old).reported_failure }
 {
     input_within(alloc, reader, READ_LIMIT)
 }
@@ -97,7 +97,7 @@ pub fn input_within<R: Source>(alloc: Global, reader: &mut R, limit: u64) -> Inp
     ensures most { ReadsAtMostOneMore (R.remaining reader.old) (R.remaining reader.new) }
     ensures calls { (R.marks reader.new).read_calls ≤ (R.marks reader.old).read_calls + limit }
     ensures heeded { result ≢ Input.Failed →
-        (R.marks reader.new).told_failure ≡ (R.marks reader.old).told_failure }
+        (R.marks reader.new).reported_failure ≡ (R.marks reader.old).reported_failure }
 {
     let mut bytes = Vec::new(alloc);
     let mut filled = 0;
@@ -105,7 +105,7 @@ pub fn input_within<R: Source>(alloc: Global, reader: &mut R, limit: u64) -> Inp
         if make_room(&mut bytes, filled).is_err() {
             return Input::OutOfMemory;
         }
-        match read_behind(reader, &mut bytes, filled) {
+        match read_into(reader, &mut bytes, filled) {
             Ok(0) => {
                 bytes.truncate(filled);
                 return Input::Whole(bytes);

@@ -18,7 +18,7 @@ use goblin_base::digits::Digits;
 fn put_all<T: Target>(target: &mut T, texts: &[&str]) -> Result<(), T::Error>
     ensures put { Puts (T.state target.old) (T.state target.new) result
         (concat (map (λ text. text.now) texts.now)) }
-    ensures kept { T.kept target.new ≡ T.kept target.old }
+    ensures same_writer { T.writer_name target.new ≡ T.writer_name target.old }
 {
     for text in texts {
         target.put(text)?;
@@ -45,7 +45,7 @@ fn printable(c: char) -> char
 #[inline(never)]
 fn put_replaced<T: Target>(target: &mut T, name: &str) -> Result<(), T::Error>
     ensures put { Puts (T.state target.old) (T.state target.new) result (printed name.now) }
-    ensures kept { T.kept target.new ≡ T.kept target.old }
+    ensures same_writer { T.writer_name target.new ≡ T.writer_name target.old }
 {
     for c in name.chars() {
         target.put(printable(c).encode_utf8(&mut [0; 4]))?;
@@ -56,7 +56,7 @@ fn put_replaced<T: Target>(target: &mut T, name: &str) -> Result<(), T::Error>
 // Puts a name, with a question mark for each control character.
 fn put_printed<T: Target>(target: &mut T, name: &str) -> Result<(), T::Error>
     ensures put { Puts (T.state target.old) (T.state target.new) result (printed name.now) }
-    ensures kept { T.kept target.new ≡ T.kept target.old }
+    ensures same_writer { T.writer_name target.new ≡ T.writer_name target.old }
 {
     if !name.as_bytes().iter().any(|byte| is_control(*byte)) {
         return target.put(name);
@@ -68,7 +68,7 @@ fn put_printed<T: Target>(target: &mut T, name: &str) -> Result<(), T::Error>
 fn put_name<T: Target>(target: &mut T, name: &str) -> Result<(), T::Error>
     ensures put { Puts (T.state target.old) (T.state target.new) result
         (printed name.now & newline) }
-    ensures kept { T.kept target.new ≡ T.kept target.old }
+    ensures same_writer { T.writer_name target.new ≡ T.writer_name target.old }
 {
     if !name.is_empty() {
         put_printed(target, name)?;
@@ -79,7 +79,7 @@ fn put_name<T: Target>(target: &mut T, name: &str) -> Result<(), T::Error>
 /// Puts the line of a header.
 pub fn put_header<T: Target>(target: &mut T, header: &Header) -> Result<(), T::Error>
     ensures put { Puts (T.state target.old) (T.state target.new) result (header_line header.now) }
-    ensures kept { T.kept target.new ≡ T.kept target.old }
+    ensures same_writer { T.writer_name target.new ≡ T.writer_name target.old }
 {
     let order = if header.e_ident[EI_DATA] == ELFDATA2LSB {
         "little"
@@ -118,7 +118,7 @@ pub fn put_section<T: Target>(
 ) -> Result<(), T::Error>
     ensures put { Puts (T.state target.old) (T.state target.new) result
         (section_line number section.now name.now) }
-    ensures kept { T.kept target.new ≡ T.kept target.old }
+    ensures same_writer { T.writer_name target.new ≡ T.writer_name target.old }
 {
     let offset = section.sh_offset;
     put_all(
@@ -149,7 +149,7 @@ pub fn put_symbol<T: Target>(
 ) -> Result<(), T::Error>
     ensures put { Puts (T.state target.old) (T.state target.new) result
         (symbol_line section number symbol.now name.now) }
-    ensures kept { T.kept target.new ≡ T.kept target.old }
+    ensures same_writer { T.writer_name target.new ≡ T.writer_name target.old }
 {
     put_all(
         target,
@@ -178,7 +178,7 @@ pub fn put_symbol<T: Target>(
 fn put_signed<T: Target>(target: &mut T, addend: i64) -> Result<(), T::Error>
     ensures put { Puts (T.state target.old) (T.state target.new) result
         (addend_text (Some addend) & newline) }
-    ensures kept { T.kept target.new ≡ T.kept target.old }
+    ensures same_writer { T.writer_name target.new ≡ T.writer_name target.old }
 {
     if addend < 0 {
         target.put("-")?;
@@ -193,7 +193,7 @@ fn put_signed<T: Target>(target: &mut T, addend: i64) -> Result<(), T::Error>
 fn put_addend<T: Target>(target: &mut T, addend: Option<i64>) -> Result<(), T::Error>
     ensures put { Puts (T.state target.old) (T.state target.new) result
         (addend_text addend & newline) }
-    ensures kept { T.kept target.new ≡ T.kept target.old }
+    ensures same_writer { T.writer_name target.new ≡ T.writer_name target.old }
 {
     match addend {
         Some(addend) => put_signed(target, addend),
@@ -210,7 +210,7 @@ pub fn put_reloc<T: Target>(
 ) -> Result<(), T::Error>
     ensures put { Puts (T.state target.old) (T.state target.new) result
         (reloc_line section number reloc.now) }
-    ensures kept { T.kept target.new ≡ T.kept target.old }
+    ensures same_writer { T.writer_name target.new ≡ T.writer_name target.old }
 {
     put_all(
         target,

@@ -5,13 +5,13 @@ ghost use Rattle.std.specs.Str.{IsUtf8};
 ghost use Rattle.goblin.specs.declared.options.ParseMode.{ParseMode};
 ghost use Rattle.goblin.specs.Refusal.{Answers};
 ghost use Rattle.goblin.specs.Strtab.{strtab_of, table_of};
-ghost use Rattle.goblin_text.specs.Known.{strings_in, text_table};
+ghost use Rattle.goblin_text.specs.StringRanges.{strings_in, text_table};
 ghost use Rattle.goblin_base.specs.Entries.{CountsAtLeast};
-ghost use Rattle.goblin_text.specs.Looks.{IsKept, IsShort, Spends, Spent, name_looks, table_looks};
+ghost use Rattle.goblin_text.specs.Looks.{IsCached, IsShort, LooksAtMost, LooksByResult, name_looks, table_looks};
 ghost use Rattle.goblin_text.specs.Runs.{EndsAt, IsLong, IsTextUpTo, last_block};
 ghost use Rattle.goblin_text.specs.Shown.{name_at};
 
-use crate::runs::{BLOCK, BLOCKS, Kind, end_of, none_known};
+use crate::runs::{BLOCK, BLOCKS, Kind, none_known, run_end};
 use crate::seen::Seen;
 use goblin::error::Result;
 use goblin::options::ParseOptions;
@@ -32,7 +32,7 @@ pub enum Strings {
 pub struct Names<'a> {
     seen: Seen<'a>,
     texts: [u16; BLOCKS],
-    plain: [u16; BLOCKS],
+    zero_free: [u16; BLOCKS],
     // The range that was last found to be text.
     text_start: usize,
     text_end: usize,
@@ -43,21 +43,21 @@ pub struct Names<'a> {
 impl<'a> Model for Names<'a> {
     ghost use Rattle.std.specs.Prelude.{◌+◌, ◌*◌, slice_range};
     ghost use Rattle.std.specs.Str.{IsUtf8};
-    ghost use Rattle.goblin_text.specs.declared.runs.Kind.TheVariants.{Plain, Text};
-    ghost use Rattle.goblin_text.specs.Looks.{Named, block_looks};
-    ghost use Rattle.goblin_text.specs.Runs.{AreEnds, blocks, unknown};
+    ghost use Rattle.goblin_text.specs.declared.runs.Kind.TheVariants.{Text, ZeroFree};
+    ghost use Rattle.goblin_text.specs.Looks.{NamesView, block_looks};
+    ghost use Rattle.goblin_text.specs.Runs.{AreRunEnds, blocks, unknown};
 
-    ghost Value = { Named };
+    ghost Value = { NamesView };
 
     ghost view = { λ n. record {
       bytes = n.seen.bytes;
       count = n.seen.count;
-      left = block_looks * (unknown (blocks n.seen.bytes) n.texts + unknown (blocks n.seen.bytes) n.plain);
+      left = block_looks * (unknown (blocks n.seen.bytes) n.texts + unknown (blocks n.seen.bytes) n.zero_free);
       text_start = n.text_start;
       text_end = n.text_end;
     } };
 
-    ghost invariant = { λ n. AreEnds Text n.seen.bytes n.texts × AreEnds Plain n.seen.bytes n.plain
+    ghost invariant = { λ n. AreRunEnds Text n.seen.bytes n.texts × AreRunEnds ZeroFree n.seen.bytes n.zero_free
         × IsUtf8 (slice_range n.seen.bytes n.text_start n.text_end) };
 }
 
@@ -71,7 +71,7 @@ impl<'a> Names<'a> {
         Names {
             seen: Seen::new(bytes),
             texts: none_known(),
-            plain: none_known(),
+            zero_free: none_known(),
             text_start: 0,
             text_end: 0,
         }
@@ -93,14 +93,14 @@ impl<'a> Names<'a> {
             Answers (strings_in self.old.bytes) result right }
         ensures unchanged { self.new.bytes ≡ self.old.bytes }
         ensures looks { IsShort self.old.bytes
-            → OnOk result (Spends self.old self.new table_looks) }
+            → OnOk result (LooksAtMost self.old self.new table_looks) }
         ensures looks_refused { IsShort self.old.bytes
-            → OnErr result (Spends self.old self.new (table_looks + 2 * length self.old.bytes)) }
+            → OnErr result (LooksAtMost self.old self.new (table_looks + 2 * length self.old.bytes)) }
 
         // A strict table that is asked for again at once takes no look.
-        ensures kept { OnOk result (opts.now.parse_mode ≡ ParseMode.Strict
-            → IsKept self.new offset (offset + size)) }
-        ensures looks_kept { IsKept self.old offset (offset + size)
+        ensures cached { OnOk result (opts.now.parse_mode ≡ ParseMode.Strict
+            → IsCached self.new offset (offset + size)) }
+        ensures looks_cached { IsCached self.old offset (offset + size)
             → self.new.count ≡ self.old.count }
         ensures looks_least { CountsAtLeast self.old.count 0 self.new.count }
     {
@@ -118,9 +118,9 @@ impl<'a> Names<'a> {
         ensures exact { let bytes = slice_range self.old.bytes start end in
             Answers (λ _. text_table bytes) result (table_of ParseMode.Strict bytes 0) }
         ensures unchanged { self.new.bytes ≡ self.old.bytes }
-        ensures looks { IsShort self.old.bytes → Spent self.old self.new result table_looks }
-        ensures kept { OnOk result (IsKept self.new start end) }
-        ensures looks_kept { IsKept self.old start end → self.new.count ≡ self.old.count }
+        ensures looks { IsShort self.old.bytes → LooksByResult self.old self.new result table_looks }
+        ensures cached { OnOk result (IsCached self.new start end) }
+        ensures looks_cached { IsCached self.old start end → self.new.count ≡ self.old.count }
         ensures looks_least { CountsAtLeast self.old.count 0 self.new.count }
     {
         if start == self.text_start && end == self.text_end {
@@ -147,7 +147,7 @@ impl<'a> Names<'a> {
         requires within { end ≤ length self.old.bytes }
         ensures value { IsTrue result ↔ IsUtf8 (slice_range self.old.bytes start end) }
         ensures unchanged { self.new.bytes ≡ self.old.bytes }
-        ensures looks { IsShort self.old.bytes → Spends self.old self.new table_looks }
+        ensures looks { IsShort self.old.bytes → LooksAtMost self.old self.new table_looks }
         ensures looks_least { CountsAtLeast self.old.count 0 self.new.count }
     {
         let first = start / BLOCK + 1;
@@ -155,14 +155,14 @@ impl<'a> Names<'a> {
         if first >= last {
             return self.seen.is_text(start, end);
         }
-        let begin = self.seen.edge(first * BLOCK);
+        let begin = self.seen.char_start(first * BLOCK);
         if !self.seen.is_text(start, begin) {
             return false;
         }
-        if end_of(&mut self.seen, Kind::Text, &mut self.texts, first) < last {
+        if run_end(&mut self.seen, Kind::Text, &mut self.texts, first) < last {
             return false;
         }
-        let rest = self.seen.edge(last * BLOCK);
+        let rest = self.seen.char_start(last * BLOCK);
         self.seen.is_text(rest, end)
     }
 
@@ -170,9 +170,9 @@ impl<'a> Names<'a> {
     pub fn name(&mut self, strings: Strings, offset: usize) -> &'a str
         ensures name { result.now ≡ name_at (strings_in self.old.bytes strings) offset }
         ensures unchanged { self.new.bytes ≡ self.old.bytes }
-        ensures kept { IsKept self.new self.old.text_start self.old.text_end }
+        ensures cached { IsCached self.new self.old.text_start self.old.text_end }
         ensures looks { IsShort self.old.bytes
-            → Spends self.old self.new (name_looks + length result.now) }
+            → LooksAtMost self.old self.new (name_looks + length result.now) }
         ensures looks_least { CountsAtLeast self.old.count (length result.now) self.new.count }
     {
         match strings {
@@ -191,16 +191,16 @@ impl<'a> Names<'a> {
         ensures name { let table = text_table (slice_range self.old.bytes start end) in
             result.now ≡ name_at table offset }
         ensures unchanged { self.new.bytes ≡ self.old.bytes }
-        ensures kept { IsKept self.new self.old.text_start self.old.text_end }
+        ensures cached { IsCached self.new self.old.text_start self.old.text_end }
         ensures looks { IsShort self.old.bytes
-            → Spends self.old self.new (name_looks + length result.now) }
+            → LooksAtMost self.old self.new (name_looks + length result.now) }
         ensures looks_least { CountsAtLeast self.old.count (length result.now) self.new.count }
     {
         if offset >= end - start {
             return "";
         }
         let place = start + offset;
-        if self.seen.past(place) > place {
+        if self.seen.after_continuation(place) > place {
             return "";
         }
         match self.end_of_name(place, end) {
@@ -225,12 +225,12 @@ impl<'a> Names<'a> {
         requires within { end ≤ length self.old.bytes }
         ensures stop { EndsAt self.old.bytes place end result }
         ensures unchanged { self.new.bytes ≡ self.old.bytes }
-        ensures kept { IsKept self.new self.old.text_start self.old.text_end }
+        ensures cached { IsCached self.new self.old.text_start self.old.text_end }
         ensures looks { IsShort self.old.bytes → MatchOption result
-            (Spends self.old self.new (4 * BLOCK + 32))
-            (λ stop. ((stop ≤ place + (2 * BLOCK + 3)) × Spends self.old self.new (3 * BLOCK + 34))
+            (LooksAtMost self.old self.new (4 * BLOCK + 32))
+            (λ stop. ((stop ≤ place + (2 * BLOCK + 3)) × LooksAtMost self.old self.new (3 * BLOCK + 34))
             ⊎ (IsUtf8 (slice_range self.old.bytes place stop)
-            × Spends self.old self.new (4 * BLOCK + 32))) }
+            × LooksAtMost self.old self.new (4 * BLOCK + 32))) }
         ensures looks_least { CountsAtLeast self.old.count 0 self.new.count }
     {
         let near = end.min(place.saturating_add(BLOCK));
@@ -251,22 +251,22 @@ impl<'a> Names<'a> {
         ensures stop { EndsAt self.old.bytes place end result }
         ensures text { IsTextUpTo self.old.bytes place result }
         ensures unchanged { self.new.bytes ≡ self.old.bytes }
-        ensures kept { IsKept self.new self.old.text_start self.old.text_end }
-        ensures looks { IsShort self.old.bytes → Spends self.old self.new (3 * BLOCK + 24) }
+        ensures cached { IsCached self.new self.old.text_start self.old.text_end }
+        ensures looks { IsShort self.old.bytes → LooksAtMost self.old self.new (3 * BLOCK + 24) }
         ensures looks_least { CountsAtLeast self.old.count 0 self.new.count }
     {
         let first = place / BLOCK + 1;
         let last = last_block(end);
-        let begin = self.seen.edge(first * BLOCK);
+        let begin = self.seen.char_start(first * BLOCK);
         if !self.seen.is_text(place, begin) {
             return None;
         }
-        let run = end_of(&mut self.seen, Kind::Plain, &mut self.plain, first).min(last);
-        let from = self.seen.edge(run * BLOCK);
+        let run = run_end(&mut self.seen, Kind::ZeroFree, &mut self.zero_free, first).min(last);
+        let from = self.seen.char_start(run * BLOCK);
         let to = if run == last {
             end
         } else {
-            self.seen.edge((run + 1) * BLOCK)
+            self.seen.char_start((run + 1) * BLOCK)
         };
         self.end_of_text(from, to)
     }
@@ -278,8 +278,8 @@ impl<'a> Names<'a> {
         ensures stop { EndsAt self.old.bytes from to result }
         ensures text { IsTextUpTo self.old.bytes from result }
         ensures unchanged { self.new.bytes ≡ self.old.bytes }
-        ensures kept { IsKept self.new self.old.text_start self.old.text_end }
-        ensures looks { Spends self.old self.new (2 * (to - from)) }
+        ensures cached { IsCached self.new self.old.text_start self.old.text_end }
+        ensures looks { LooksAtMost self.old self.new (2 * (to - from)) }
         ensures looks_least { CountsAtLeast self.old.count 0 self.new.count }
     {
         let stop = self.seen.end_of_string(from, to);

@@ -2,8 +2,8 @@
 ghost use Rattle.std.specs.Prelude.{◌≡◌, ◌≢◌, ℕ, ◌+◌, ◌*◌, List, IsTrue, OnOk, OnErr, length};
 ghost use Rattle.std.specs.Io.KnownBytes.{Appends};
 ghost use Rattle.goblin_base.specs.Entries.{CountsAtLeast};
-ghost use Rattle.goblin_text.specs.Looks.{IsShort, Spends, line_looks, lines_in, shown_looks, tables_looks};
-ghost use Rattle.goblin_text.specs.Ran.{HasRun, TellsError, TellsWhy, WritesRefusal, status_of};
+ghost use Rattle.goblin_text.specs.Looks.{IsShort, LooksAtMost, line_looks, lines_in, shown_looks, tables_looks};
+ghost use Rattle.goblin_text.specs.Ran.{HasRun, IsErrorLine, IsReasonOf, WritesRefusal, status_of};
 ghost use Rattle.goblin_text.specs.Shown.{shown};
 
 use crate::accept::accept;
@@ -46,8 +46,8 @@ fn write_refusal<W: Sink>(writer: &mut W, line: &str) -> io::Result<()>
     ensures ok { OnOk result
         (WritesRefusal (W.contents writer.old) (W.contents writer.new) line.now) }
     ensures heeded { OnOk result
-        ((W.marks writer.new).told_error ≡ (W.marks writer.old).told_error) }
-    ensures err { OnErr result (IsTrue (W.marks writer.new).told_error) }
+        ((W.marks writer.new).reported_error ≡ (W.marks writer.old).reported_error) }
+    ensures err { OnErr result (IsTrue (W.marks writer.new).reported_error) }
 {
     writer.write_all(b"refused: ")?;
     writer.write_all(line.as_bytes())?;
@@ -61,8 +61,8 @@ fn refuse<W: Sink>(writer: &mut W, line: &str) -> Outcome
     ensures refused { result ≡ Outcome.Refused →
         WritesRefusal (W.contents writer.old) (W.contents writer.new) line.now }
     ensures heeded { result ≡ Outcome.Refused →
-        (W.marks writer.new).told_error ≡ (W.marks writer.old).told_error }
-    ensures failed { result ≡ Outcome.Failed → IsTrue (W.marks writer.new).told_error }
+        (W.marks writer.new).reported_error ≡ (W.marks writer.old).reported_error }
+    ensures failed { result ≡ Outcome.Failed → IsTrue (W.marks writer.new).reported_error }
 {
     match write_refusal(writer, line) {
         Ok(()) => Outcome::Refused,
@@ -73,11 +73,11 @@ fn refuse<W: Sink>(writer: &mut W, line: &str) -> Outcome
 // Writes why the bytes are refused, or that memory ran out.
 fn refuse_for<W: Sink>(alloc: Global, writer: &mut W, e: &Error) -> Outcome
     ensures shown { result ≢ Outcome.Shown }
-    ensures refused { result ≡ Outcome.Refused → (line : List ℕ) × TellsError e.now line
+    ensures refused { result ≡ Outcome.Refused → (line : List ℕ) × IsErrorLine e.now line
         × WritesRefusal (W.contents writer.old) (W.contents writer.new) line }
     ensures heeded { result ≡ Outcome.Refused →
-        (W.marks writer.new).told_error ≡ (W.marks writer.old).told_error }
-    ensures failed { result ≡ Outcome.Failed → IsTrue (W.marks writer.new).told_error }
+        (W.marks writer.new).reported_error ≡ (W.marks writer.old).reported_error }
+    ensures failed { result ≡ Outcome.Failed → IsTrue (W.marks writer.new).reported_error }
 {
     if let Error::Memory(_) = e {
         return refuse(writer, OUT_OF_MEMORY);
@@ -106,20 +106,20 @@ pub fn show_file<W: Sink>(
 
     // One line with the reason was written.
     ensures refused { result ≡ Outcome.Refused → (line : List ℕ)
-        × TellsWhy opts.now.parse_mode file.old.bytes line
+        × IsReasonOf opts.now.parse_mode file.old.bytes line
         × WritesRefusal (W.contents writer.old) (W.contents writer.new) line }
     ensures heeded { result ≢ Outcome.Failed →
-        (W.marks writer.new).told_error ≡ (W.marks writer.old).told_error }
-    ensures failed { result ≡ Outcome.Failed → IsTrue (W.marks writer.new).told_error }
+        (W.marks writer.new).reported_error ≡ (W.marks writer.old).reported_error }
+    ensures failed { result ≡ Outcome.Failed → IsTrue (W.marks writer.new).reported_error }
     ensures unchanged { file.new.bytes ≡ file.old.bytes }
 
     // What was looked at for names, where the text was written, and however it ended.
     ensures looks_shown { IsShort file.old.bytes → (text : List ℕ) → result ≡ Outcome.Shown
         → shown opts.now.parse_mode file.old.bytes ≡ Ok text
-        → Spends file.old file.new (length text + line_looks * lines_in text) }
+        → LooksAtMost file.old file.new (length text + line_looks * lines_in text) }
     ensures looks_refused { IsShort file.old.bytes → result ≡ Outcome.Refused
-        → Spends file.old file.new (tables_looks opts.now.parse_mode file.old.bytes) }
-    ensures looks { IsShort file.old.bytes → Spends file.old file.new
+        → LooksAtMost file.old file.new (tables_looks opts.now.parse_mode file.old.bytes) }
+    ensures looks { IsShort file.old.bytes → LooksAtMost file.old file.new
         (tables_looks opts.now.parse_mode file.old.bytes + shown_looks opts.now.parse_mode file.old.bytes) }
     ensures looks_least { CountsAtLeast file.old.count 0 file.new.count }
 {

@@ -2,7 +2,7 @@
 ghost use Rattle.std.specs.Prelude.{◌≡◌, ◌↔◌, ◌+◌, ◌-◌, ◌*◌, ◌<◌, ◌≤◌, IsTrue, List, ℕ, length, slice_index, slice_range};
 ghost use Rattle.goblin_base.specs.Entries.{CountsAtLeast};
 ghost use Rattle.goblin_text.specs.Looks.{block_looks};
-ghost use Rattle.goblin_text.specs.Runs.{AreEnds, IsBlock, IsEnd, IsOf, blocks, unknown};
+ghost use Rattle.goblin_text.specs.Runs.{AreRunEnds, IsBlock, IsRunEnd, IsOfKind, blocks, unknown};
 
 use crate::input::INPUT_LIMIT;
 use crate::seen::Seen;
@@ -19,13 +19,13 @@ pub enum Kind {
     /// Text.
     Text,
     /// Text with no zero byte.
-    Plain,
+    ZeroFree,
 }
 
 // How far a run was looked for.
 #[derive(Clone, Copy)]
 struct Found {
-    // The first block behind those that were read.
+    // The first block after those that were read.
     read: usize,
     // Where the run ends.
     end: usize,
@@ -33,7 +33,7 @@ struct Found {
 
 /// Of no block it is known where its run ends.
 pub fn none_known() -> [u16; BLOCKS]
-    ensures known { (kind : Kind) → (bytes : List ℕ) → AreEnds kind bytes result }
+    ensures known { (kind : Kind) → (bytes : List ℕ) → AreRunEnds kind bytes result }
     ensures unknown { (n : ℕ) → unknown n result ≤ n }
 {
     [0; BLOCKS]
@@ -43,14 +43,14 @@ pub fn none_known() -> [u16; BLOCKS]
 fn is_of(seen: &mut Seen<'_>, kind: Kind, from: usize, to: usize) -> bool
     requires ordered { from ≤ to }
     requires within { to ≤ length seen.old.bytes }
-    ensures value { IsTrue result ↔ IsOf kind (slice_range seen.old.bytes from to) }
+    ensures value { IsTrue result ↔ IsOfKind kind (slice_range seen.old.bytes from to) }
     ensures unchanged { seen.new.bytes ≡ seen.old.bytes }
     ensures looks { seen.new.count ≤ seen.old.count + 2 * (to - from) }
     ensures looks_least { CountsAtLeast seen.old.count 0 seen.new.count }
 {
     match kind {
         Kind::Text => seen.is_text(from, to),
-        Kind::Plain => seen.end_of_string(from, to) == to && seen.is_text(from, to),
+        Kind::ZeroFree => seen.end_of_string(from, to) == to && seen.is_text(from, to),
     }
 }
 
@@ -63,17 +63,17 @@ fn is_block_of(seen: &mut Seen<'_>, kind: Kind, block: usize) -> bool
     ensures looks { seen.new.count ≤ seen.old.count + block_looks }
     ensures looks_least { CountsAtLeast seen.old.count 0 seen.new.count }
 {
-    let from = seen.edge(block * BLOCK);
-    let to = seen.edge((block + 1) * BLOCK);
+    let from = seen.char_start(block * BLOCK);
+    let to = seen.char_start((block + 1) * BLOCK);
     is_of(seen, kind, from, to)
 }
 
 // Looks for the end of the run from a block on: as far as a block is of the kind, and it isn't known of it where
 // its run ends.
-fn look_for_end(seen: &mut Seen<'_>, kind: Kind, ends: &[u16; BLOCKS], first: usize) -> Found
+fn find_run_end(seen: &mut Seen<'_>, kind: Kind, ends: &[u16; BLOCKS], first: usize) -> Found
     requires first { first ≤ blocks seen.old.bytes }
-    requires known { AreEnds kind seen.old.bytes ends.now }
-    ensures end { IsEnd kind seen.old.bytes first result.end }
+    requires known { AreRunEnds kind seen.old.bytes ends.now }
+    ensures end { IsRunEnd kind seen.old.bytes first result.end }
     ensures from { first ≤ result.read }
     ensures within { result.read ≤ blocks seen.old.bytes }
     ensures to { result.read ≤ result.end + 1 }
@@ -107,19 +107,19 @@ fn look_for_end(seen: &mut Seen<'_>, kind: Kind, ends: &[u16; BLOCKS], first: us
 }
 
 /// Where the run of a kind from a block on ends. It is kept of each block that is read for it.
-pub fn end_of(seen: &mut Seen<'_>, kind: Kind, ends: &mut [u16; BLOCKS], first: usize) -> usize
+pub fn run_end(seen: &mut Seen<'_>, kind: Kind, ends: &mut [u16; BLOCKS], first: usize) -> usize
     requires some { 0 < first }
     requires first { first ≤ blocks seen.old.bytes }
-    requires known { AreEnds kind seen.old.bytes ends.old }
-    ensures end { IsEnd kind seen.old.bytes first result }
-    ensures known { AreEnds kind seen.old.bytes ends.new }
+    requires known { AreRunEnds kind seen.old.bytes ends.old }
+    ensures end { IsRunEnd kind seen.old.bytes first result }
+    ensures known { AreRunEnds kind seen.old.bytes ends.new }
     ensures unchanged { seen.new.bytes ≡ seen.old.bytes }
     ensures looks { let n = blocks seen.old.bytes in
         seen.new.count + block_looks * unknown n ends.new
         ≤ seen.old.count + block_looks * unknown n ends.old }
     ensures looks_least { CountsAtLeast seen.old.count 0 seen.new.count }
 {
-    let found = look_for_end(seen, kind, ends, first);
+    let found = find_run_end(seen, kind, ends, first);
     for block in first..found.read {
         ends[block] = found.end as u16;
     }

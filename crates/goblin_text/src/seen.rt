@@ -12,8 +12,8 @@ ghost use Rattle.goblin.specs.Refusal.{Answers, malformed};
 ghost use Rattle.goblin.specs.Steps.{refuse_as};
 ghost use Rattle.goblin.specs.Strtab.{range_in, table_of};
 ghost use Rattle.goblin_base.specs.Entries.{CountsAtLeast};
-ghost use Rattle.goblin_text.specs.Known.{IsRange, text_table};
-ghost use Rattle.goblin_text.specs.Runs.{edge, past, up_to_zero};
+ghost use Rattle.goblin_text.specs.StringRanges.{IsRange, text_table};
+ghost use Rattle.goblin_text.specs.Runs.{char_start, after_continuation, up_to_zero};
 
 use goblin::error::Result;
 use goblin::options::ParseMode;
@@ -82,10 +82,10 @@ impl<'a> Seen<'a> {
         self.count = self.count.saturating_add(looks as u128);
     }
 
-    /// The place behind a byte that goes on with a character, or the same place. It is one look.
-    pub fn past(&mut self, place: usize) -> usize
+    /// The place after a byte that goes on with a character, or the same place. It is one look.
+    pub fn after_continuation(&mut self, place: usize) -> usize
         requires { place ≤ length self.old.bytes }
-        ensures is { result ≡ past self.old.bytes place }
+        ensures is { result ≡ after_continuation self.old.bytes place }
         ensures within { result ≤ length self.old.bytes }
         ensures from { place ≤ result }
         ensures to { result ≤ place + 1 }
@@ -94,14 +94,14 @@ impl<'a> Seen<'a> {
         ensures looks_least { CountsAtLeast self.old.count 1 self.new.count }
     {
         self.add(1);
-        behind(self.bytes, place)
+        after_byte(self.bytes, place)
     }
 
-    /// Where the characters from a place on begin: behind up to three bytes that go on with one. It is three looks.
-    #[tactic(auto, unfolding(crate::specs::Runs::edge))]
-    pub fn edge(&mut self, place: usize) -> usize
+    /// Where the characters from a place on begin: after up to three bytes that go on with one. It is three looks.
+    #[tactic(auto, unfolding(crate::specs::Runs::char_start))]
+    pub fn char_start(&mut self, place: usize) -> usize
         requires { place ≤ length self.old.bytes }
-        ensures is { result ≡ edge self.old.bytes place }
+        ensures is { result ≡ char_start self.old.bytes place }
         ensures within { result ≤ length self.old.bytes }
         ensures from { place ≤ result }
         ensures to { result ≤ place + 3 }
@@ -111,7 +111,7 @@ impl<'a> Seen<'a> {
     {
         self.add(3);
         let bytes = self.bytes;
-        behind(bytes, behind(bytes, behind(bytes, place)))
+        after_byte(bytes, after_byte(bytes, after_byte(bytes, place)))
     }
 
     /// Where the string from one place on ends, up to another: at a zero byte, or there. It is a look at each byte up
@@ -194,7 +194,7 @@ impl<'a> Seen<'a> {
     }
 }
 
-// Where the last string of a text begins: behind its last zero byte, or at its start.
+// Where the last string of a text begins: after its last zero byte, or at its start.
 fn start_of_last_string(text: &str) -> usize
     ensures is { result ≡ piece_start text.now 0 (length text.now) }
     ensures to { result ≤ length text.now }
@@ -205,11 +205,11 @@ fn start_of_last_string(text: &str) -> usize
     }
 }
 
-// The place behind a byte that goes on with a character, or the same place.
-#[tactic(auto, unfolding(crate::specs::Runs::past))]
-fn behind(bytes: &[u8], place: usize) -> usize
+// The place after a byte that goes on with a character, or the same place.
+#[tactic(auto, unfolding(crate::specs::Runs::after_continuation))]
+fn after_byte(bytes: &[u8], place: usize) -> usize
     requires { place ≤ length bytes.now }
-    ensures is { result ≡ past bytes.now place }
+    ensures is { result ≡ after_continuation bytes.now place }
     ensures within { result ≤ length bytes.now }
     ensures from { place ≤ result }
     ensures to { result ≤ place + 1 }

@@ -17,12 +17,12 @@ pub trait Target {
     ghost state: { Self → State };
 
     // The name of the reference that it keeps, or 0.
-    ghost kept: { Self → GName };
+    ghost writer_name: { Self → GName };
 
     /// Takes a part of the text. After an error it is open how much of it was taken.
     fn put(&mut self, part: &str) -> Result<(), Self::Error>
         ensures put { Puts (state self.old) (state self.new) result part.now }
-        ensures kept { kept self.new ≡ kept self.old };
+        ensures same_writer { writer_name self.new ≡ writer_name self.old };
 }
 
 // How many bytes a buffer has.
@@ -39,7 +39,7 @@ pub struct Buffered<'a, W> {
 impl<'a, W: Sink> Buffered<'a, W> {
     /// A buffer that is empty.
     pub fn new(writer: &'a mut W) -> Self
-        ensures kept { result.writer.ghost_name ≡ writer.entry.ghost_name }
+        ensures same_writer { result.writer.ghost_name ≡ writer.entry.ghost_name }
         ensures writer { result.writer.now ≡ writer.old }
         ensures filled { result.filled ≡ 0 }
     {
@@ -52,14 +52,14 @@ impl<'a, W: Sink> Buffered<'a, W> {
 
     // Writes what the buffer has.
     fn pass_on(&mut self) -> io::Result<()>
-        ensures kept { self.new.writer.ghost_name ≡ self.old.writer.ghost_name }
+        ensures same_writer { self.new.writer.ghost_name ≡ self.old.writer.ghost_name }
         ensures filled { OnOk result (self.new.filled ≡ 0) }
         ensures bytes { OnOk result (Keeps
             (held (W.contents self.old.writer.now) self.old.room self.old.filled)
             (W.contents self.new.writer.now)) }
-        ensures heeded { OnOk result ((W.marks self.new.writer.now).told_error
-            ≡ (W.marks self.old.writer.now).told_error) }
-        ensures err { OnErr result (IsTrue (W.marks self.new.writer.now).told_error) }
+        ensures heeded { OnOk result ((W.marks self.new.writer.now).reported_error
+            ≡ (W.marks self.old.writer.now).reported_error) }
+        ensures err { OnErr result (IsTrue (W.marks self.new.writer.now).reported_error) }
     {
         self.writer.write_all(&self.room[..self.filled.min(ROOM)])?;
         self.filled = 0;
@@ -76,7 +76,7 @@ impl<'a, W: Sink> Buffered<'a, W> {
     // Adds bytes that the buffer has room for.
     fn add(&mut self, bytes: &[u8])
         requires { self.old.filled + length bytes.now ≤ ROOM }
-        ensures kept { self.new.writer.ghost_name ≡ self.old.writer.ghost_name }
+        ensures same_writer { self.new.writer.ghost_name ≡ self.old.writer.ghost_name }
         ensures writer { self.new.writer.now ≡ self.old.writer.now }
         ensures added { take self.new.filled self.new.room
             ≡ take self.old.filled self.old.room ++ bytes.now }
@@ -86,17 +86,17 @@ impl<'a, W: Sink> Buffered<'a, W> {
         self.filled = end;
     }
 
-    // Puts bytes behind those of the buffer, which are written first.
+    // Puts bytes after those of the buffer, which are written first.
     #[cold]
     #[inline(never)]
-    fn put_behind(&mut self, bytes: &[u8]) -> io::Result<()>
-        ensures kept { self.new.writer.ghost_name ≡ self.old.writer.ghost_name }
+    fn put_after_writing(&mut self, bytes: &[u8]) -> io::Result<()>
+        ensures same_writer { self.new.writer.ghost_name ≡ self.old.writer.ghost_name }
         ensures bytes { OnOk result (Appends
             (held (W.contents self.old.writer.now) self.old.room self.old.filled)
             (held (W.contents self.new.writer.now) self.new.room self.new.filled) bytes.now) }
-        ensures heeded { OnOk result ((W.marks self.new.writer.now).told_error
-            ≡ (W.marks self.old.writer.now).told_error) }
-        ensures err { OnErr result (IsTrue (W.marks self.new.writer.now).told_error) }
+        ensures heeded { OnOk result ((W.marks self.new.writer.now).reported_error
+            ≡ (W.marks self.old.writer.now).reported_error) }
+        ensures err { OnErr result (IsTrue (W.marks self.new.writer.now).reported_error) }
     {
         self.pass_on()?;
         if bytes.len() > ROOM {
@@ -109,13 +109,13 @@ impl<'a, W: Sink> Buffered<'a, W> {
 
     /// Writes what the buffer has, and passes it on.
     pub fn finish(&mut self) -> io::Result<()>
-        ensures kept { self.new.writer.ghost_name ≡ self.old.writer.ghost_name }
+        ensures same_writer { self.new.writer.ghost_name ≡ self.old.writer.ghost_name }
         ensures bytes { OnOk result (Keeps
             (held (W.contents self.old.writer.now) self.old.room self.old.filled)
             (W.contents self.new.writer.now)) }
-        ensures heeded { OnOk result ((W.marks self.new.writer.now).told_error
-            ≡ (W.marks self.old.writer.now).told_error) }
-        ensures err { OnErr result (IsTrue (W.marks self.new.writer.now).told_error) }
+        ensures heeded { OnOk result ((W.marks self.new.writer.now).reported_error
+            ≡ (W.marks self.old.writer.now).reported_error) }
+        ensures err { OnErr result (IsTrue (W.marks self.new.writer.now).reported_error) }
     {
         self.pass_on()?;
         self.writer.flush()
@@ -127,10 +127,10 @@ impl<W: Sink> Target for Buffered<'_, W> {
 
     ghost state = { λ b. record {
       contents = held (W.contents b.writer.now) b.room b.filled;
-      told_error = (W.marks b.writer.now).told_error;
+      reported_error = (W.marks b.writer.now).reported_error;
     } };
 
-    ghost kept = { λ b. b.writer.ghost_name };
+    ghost writer_name = { λ b. b.writer.ghost_name };
 
     fn put(&mut self, part: &str) -> io::Result<()> {
         let bytes = part.as_bytes();
@@ -138,7 +138,7 @@ impl<W: Sink> Target for Buffered<'_, W> {
             self.add(bytes);
             return Ok(());
         }
-        self.put_behind(bytes)
+        self.put_after_writing(bytes)
     }
 }
 
@@ -159,18 +159,18 @@ fn copy(room: &mut [u8], bytes: &[u8])
 #[derive(Drop)]
 pub struct Gathered {
     pub text: String,
-    told_error: bool,
+    reported_error: bool,
 }
 
 impl Gathered {
     /// An empty text, to which nothing was refused.
     pub fn new(alloc: Global) -> Self
         ensures text { string_bytes result.text ≡ [] }
-        ensures told_error { result.told_error ≡ false }
+        ensures reported_error { result.reported_error ≡ false }
     {
         Gathered {
             text: String::new(alloc),
-            told_error: false,
+            reported_error: false,
         }
     }
 }
@@ -180,15 +180,15 @@ impl Target for Gathered {
 
     ghost state = { λ g. record {
       contents = Some (string_bytes g.text);
-      told_error = g.told_error;
+      reported_error = g.reported_error;
     } };
 
-    ghost kept = { λ _. 0 };
+    ghost writer_name = { λ _. 0 };
 
     fn put(&mut self, part: &str) -> Result<(), AllocError> {
         let answer = self.text.push_str(part);
         if answer.is_err() {
-            self.told_error = true;
+            self.reported_error = true;
         }
         answer
     }

@@ -3,10 +3,10 @@ ghost use Rattle.std.specs.Prelude.{◌≡◌, IfErr, IsTrue, OnErr, OnOk, strin
 ghost use Rattle.std.specs.Io.KnownBytes.{Appends};
 ghost use Rattle.goblin.specs.Refusal.{Gives, Refuses};
 ghost use Rattle.goblin_text.specs.Accepted.{accepted_text, relocs_text, symbols_text};
-ghost use Rattle.goblin_text.specs.Known.{strings_in};
+ghost use Rattle.goblin_text.specs.StringRanges.{strings_in};
 ghost use Rattle.goblin_text.specs.Lines.{section_line, symbol_line};
 ghost use Rattle.goblin_base.specs.Entries.{CountsAtLeast};
-ghost use Rattle.goblin_text.specs.Looks.{IsShort, Spends, names_looks};
+ghost use Rattle.goblin_text.specs.Looks.{IsShort, LooksAtMost, names_looks};
 ghost use Rattle.goblin_text.specs.Put.{Puts};
 ghost use Rattle.goblin_text.specs.Shown.{PermissiveShowsStrict, name_at, reloc_lines, section_lines, shown, symbol_lines, tested};
 
@@ -25,7 +25,7 @@ use std::alloc::Global;
 use std::io;
 
 // Puts the line of the section with a number.
-#[tactic(auto, using(crate::proofs::Spent::named_line_looks))]
+#[tactic(auto, using(crate::proofs::LineLooks::named_line_looks))]
 fn put_named_section<T: Target>(
     target: &mut T,
     names: &mut Names<'_>,
@@ -36,10 +36,10 @@ fn put_named_section<T: Target>(
     ensures put { let name = name_at (strings_in names.old.bytes strings) section.now.sh_name in
         Puts (T.state target.old) (T.state target.new) result
         (section_line number section.now name) }
-    ensures kept { T.kept target.new ≡ T.kept target.old }
+    ensures same_writer { T.writer_name target.new ≡ T.writer_name target.old }
     ensures unchanged { names.new.bytes ≡ names.old.bytes }
     ensures looks { let name = name_at (strings_in names.old.bytes strings) section.now.sh_name in
-        IsShort names.old.bytes → Spends names.old names.new
+        IsShort names.old.bytes → LooksAtMost names.old names.new
         (names_looks (section_line number section.now name)) }
     ensures looks_least { CountsAtLeast names.old.count 0 names.new.count }
 {
@@ -56,10 +56,10 @@ fn put_sections<T: Target>(
     ensures put { let strings = strings_in names.old.bytes file.now.parts.strings in
         Puts (T.state target.old) (T.state target.new) result
         (section_lines strings 0 file.now.sections.items) }
-    ensures kept { T.kept target.new ≡ T.kept target.old }
+    ensures same_writer { T.writer_name target.new ≡ T.writer_name target.old }
     ensures unchanged { names.new.bytes ≡ names.old.bytes }
     ensures looks { let strings = strings_in names.old.bytes file.now.parts.strings in
-        IsShort names.old.bytes → Spends names.old names.new
+        IsShort names.old.bytes → LooksAtMost names.old names.new
         (names_looks (section_lines strings 0 file.now.sections.items)) }
     ensures looks_least { CountsAtLeast names.old.count 0 names.new.count }
 {
@@ -71,7 +71,7 @@ fn put_sections<T: Target>(
 }
 
 // Puts the line of the symbol with a number, of a part.
-#[tactic(auto, using(crate::proofs::Spent::named_line_looks))]
+#[tactic(auto, using(crate::proofs::LineLooks::named_line_looks))]
 fn put_named_symbol<T: Target>(
     target: &mut T,
     names: &mut Names<'_>,
@@ -82,10 +82,10 @@ fn put_named_symbol<T: Target>(
     ensures put { let name = name_at (strings_in names.old.bytes part.now.strings) symbol.now.st_name in
         Puts (T.state target.old) (T.state target.new) result
         (symbol_line part.now.section number symbol.now name) }
-    ensures kept { T.kept target.new ≡ T.kept target.old }
+    ensures same_writer { T.writer_name target.new ≡ T.writer_name target.old }
     ensures unchanged { names.new.bytes ≡ names.old.bytes }
     ensures looks { let name = name_at (strings_in names.old.bytes part.now.strings) symbol.now.st_name in
-        IsShort names.old.bytes → Spends names.old names.new
+        IsShort names.old.bytes → LooksAtMost names.old names.new
         (names_looks (symbol_line part.now.section number symbol.now name)) }
     ensures looks_least { CountsAtLeast names.old.count 0 names.new.count }
 {
@@ -102,10 +102,10 @@ fn put_symbols<T: Target>(
     ensures put { let strings = strings_in names.old.bytes part.now.strings in
         Puts (T.state target.old) (T.state target.new) result
         (symbol_lines strings part.now.section 0 part.now.table.symbols) }
-    ensures kept { T.kept target.new ≡ T.kept target.old }
+    ensures same_writer { T.writer_name target.new ≡ T.writer_name target.old }
     ensures unchanged { names.new.bytes ≡ names.old.bytes }
     ensures looks { let strings = strings_in names.old.bytes part.now.strings in
-        IsShort names.old.bytes → Spends names.old names.new
+        IsShort names.old.bytes → LooksAtMost names.old names.new
         (names_looks (symbol_lines strings part.now.section 0 part.now.table.symbols)) }
     ensures looks_least { CountsAtLeast names.old.count 0 names.new.count }
 {
@@ -123,10 +123,10 @@ fn put_all_symbols<T: Target>(
 ) -> Result<(), T::Error>
     ensures put { Puts (T.state target.old) (T.state target.new) result
         (symbols_text names.old.bytes parts.now) }
-    ensures kept { T.kept target.new ≡ T.kept target.old }
+    ensures same_writer { T.writer_name target.new ≡ T.writer_name target.old }
     ensures unchanged { names.new.bytes ≡ names.old.bytes }
     ensures looks { let text = symbols_text names.old.bytes parts.now in
-        IsShort names.old.bytes → Spends names.old names.new (names_looks text) }
+        IsShort names.old.bytes → LooksAtMost names.old names.new (names_looks text) }
     ensures looks_least { CountsAtLeast names.old.count 0 names.new.count }
 {
     for part in parts {
@@ -143,7 +143,7 @@ fn put_relocs<T: Target>(
 ) -> Result<(), T::Error>
     ensures put { Puts (T.state target.old) (T.state target.new) result
         (reloc_lines section 0 relocs.now) }
-    ensures kept { T.kept target.new ≡ T.kept target.old }
+    ensures same_writer { T.writer_name target.new ≡ T.writer_name target.old }
 {
     for (number, reloc) in relocs.iter().enumerate() {
         put_reloc(target, section, number, &reloc)?;
@@ -154,7 +154,7 @@ fn put_relocs<T: Target>(
 // Puts the lines of the relocations of all parts.
 fn put_all_relocs<T: Target>(target: &mut T, parts: &[RelocPart<'_>]) -> Result<(), T::Error>
     ensures put { Puts (T.state target.old) (T.state target.new) result (relocs_text parts.now) }
-    ensures kept { T.kept target.new ≡ T.kept target.old }
+    ensures same_writer { T.writer_name target.new ≡ T.writer_name target.old }
 {
     for part in parts {
         put_relocs(target, part.section, &part.relocs)?;
@@ -171,10 +171,10 @@ fn put_text<T: Target>(
 ) -> Result<(), T::Error>
     ensures put { let text = accepted_text names.old.bytes file.now in
         Puts (T.state target.old) (T.state target.new) result text }
-    ensures kept { T.kept target.new ≡ T.kept target.old }
+    ensures same_writer { T.writer_name target.new ≡ T.writer_name target.old }
     ensures unchanged { names.new.bytes ≡ names.old.bytes }
     ensures looks { let text = accepted_text names.old.bytes file.now in
-        IsShort names.old.bytes → Spends names.old names.new (names_looks text) }
+        IsShort names.old.bytes → LooksAtMost names.old names.new (names_looks text) }
     ensures looks_least { CountsAtLeast names.old.count 0 names.new.count }
 {
     put_header(target, &file.header)?;
@@ -190,15 +190,15 @@ fn write_through<W: Sink>(
     file: &Accepted<'_>,
 ) -> io::Result<()>
     requires { target.old.filled ≡ 0 }
-    ensures kept { target.new.writer.ghost_name ≡ target.old.writer.ghost_name }
+    ensures same_writer { target.new.writer.ghost_name ≡ target.old.writer.ghost_name }
     ensures ok { OnOk result (Appends (W.contents target.old.writer.now)
         (W.contents target.new.writer.now) (accepted_text names.old.bytes file.now)) }
-    ensures heeded { OnOk result ((W.marks target.new.writer.now).told_error
-        ≡ (W.marks target.old.writer.now).told_error) }
-    ensures err { OnErr result (IsTrue (W.marks target.new.writer.now).told_error) }
+    ensures heeded { OnOk result ((W.marks target.new.writer.now).reported_error
+        ≡ (W.marks target.old.writer.now).reported_error) }
+    ensures err { OnErr result (IsTrue (W.marks target.new.writer.now).reported_error) }
     ensures unchanged { names.new.bytes ≡ names.old.bytes }
     ensures looks { let text = accepted_text names.old.bytes file.now in
-        IsShort names.old.bytes → Spends names.old names.new (names_looks text) }
+        IsShort names.old.bytes → LooksAtMost names.old names.new (names_looks text) }
     ensures looks_least { CountsAtLeast names.old.count 0 names.new.count }
 {
     put_text(target, names, file)?;
@@ -215,13 +215,13 @@ pub fn write_text<W: Sink>(
     ensures ok { OnOk result (Appends (W.contents writer.old) (W.contents writer.new)
         (accepted_text names.old.bytes file.now)) }
     ensures heeded { OnOk result
-        ((W.marks writer.new).told_error ≡ (W.marks writer.old).told_error) }
-    ensures err { OnErr result (IsTrue (W.marks writer.new).told_error) }
+        ((W.marks writer.new).reported_error ≡ (W.marks writer.old).reported_error) }
+    ensures err { OnErr result (IsTrue (W.marks writer.new).reported_error) }
     ensures unchanged { names.new.bytes ≡ names.old.bytes }
 
     // What is looked at of names.
     ensures looks { let text = accepted_text names.old.bytes file.now in
-        IsShort names.old.bytes → Spends names.old names.new (names_looks text) }
+        IsShort names.old.bytes → LooksAtMost names.old names.new (names_looks text) }
     ensures looks_least { CountsAtLeast names.old.count 0 names.new.count }
 {
     let mut target = Buffered::new(writer);

@@ -43,15 +43,15 @@ fn counts_reads(bytes: u64) -> bool {
     });
     for call in 0..bytes {
         let is_one = matches!(Source::read(&mut counted, &mut [1; 8]), Ok(1));
-        if !is_one || counted.read_calls() != call.saturating_add(1) || counted.told_end() {
+        if !is_one || counted.read_calls() != call.saturating_add(1) || counted.reported_end() {
             return false;
         }
     }
     let is_end = matches!(Source::read(&mut counted, &mut [1; 8]), Ok(0));
     is_end
-        && counted.told_end()
-        && !counted.told_error()
-        && !counted.told_failure()
+        && counted.reported_end()
+        && !counted.reported_error()
+        && !counted.reported_failure()
         && counted.read_calls() == bytes.saturating_add(1)
 }
 
@@ -60,7 +60,7 @@ fn writes_all(bytes: &[u8]) -> bool {
     let mut counted = Counted::new(Single { left: 0, writes: 0 });
     let is_written = Sink::write_all(&mut counted, bytes).is_ok();
     let is_flushed = Sink::flush(&mut counted).is_ok();
-    let is_marked = counted.told_error() || counted.read_calls() > 0;
+    let is_marked = counted.reported_error() || counted.read_calls() > 0;
     is_written && is_flushed && !is_marked && counted.into_inner().writes == bytes.len() as u64
 }
 
@@ -111,9 +111,9 @@ fn hands_reads_on(room: &mut [u8]) -> bool {
         };
         let is_counted = counted.read_calls() == call.saturating_add(1)
             && counted.inner().calls == counted.read_calls();
-        let is_marked = counted.told_error()
-            && counted.told_failure() == (call > 0)
-            && !counted.told_end();
+        let is_marked = counted.reported_error()
+            && counted.reported_failure() == (call > 0)
+            && !counted.reported_end();
         if !is_handed_on || !is_counted || !is_marked {
             return false;
         }
@@ -124,7 +124,7 @@ fn hands_reads_on(room: &mut [u8]) -> bool {
 // Whether a write goes on after an interruption and ends at a failure, and a flush is one call.
 fn hands_writes_on(bytes: &[u8]) -> bool {
     let mut counted = Counted::new(Turning { calls: 0 });
-    let is_ended = Sink::write_all(&mut counted, bytes).is_err() && counted.told_error();
+    let is_ended = Sink::write_all(&mut counted, bytes).is_err() && counted.reported_error();
     let at_failure = counted.inner().calls;
     let is_flushed = Sink::flush(&mut counted).is_ok();
     is_ended && at_failure == 2 && is_flushed && counted.into_inner().calls == 3

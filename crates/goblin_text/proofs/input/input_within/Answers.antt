@@ -1,20 +1,20 @@
 use Rattle.std.proofs.Common.{arith}
 use Rattle.std.proofs.lemmas.Grind.{common_steps}
 use Rattle.std.proofs.KnownBytes.{Consumes-kept}
-use Rattle.goblin_text.proofs.Reading.{Consumes-behind}
+use Rattle.goblin_text.proofs.Reading.{Consumes-after}
 use Rattle.goblin_text.proofs.input.input_within.Goals as goal
 
 pub returns-then-filled-gt-INPUT_LIMIT-clause-input :
     goal.returns-then-filled-gt-INPUT_LIMIT-clause-input
 returns-then-filled-gt-INPUT_LIMIT-clause-input g c =
-    let taken = Consumes-behind _ _ _ c.loop.bytes.items _ c.loop.filled c.in-Ok.count (grind (arith, common_steps))
+    let taken = Consumes-after _ _ _ c.loop.bytes.items _ c.loop.filled c.in-Ok.count (grind (arith, common_steps))
     c.loop.invariant.taken c.in-Ok.ensures.bytes.0 in
     (_, record { taken = taken; long = grind (arith, common_steps) })
 
 pub returns-then-filled-gt-INPUT_LIMIT-clause-most :
     goal.returns-then-filled-gt-INPUT_LIMIT-clause-most
 returns-then-filled-gt-INPUT_LIMIT-clause-most g c =
-    let taken = Consumes-behind _ _ _ c.loop.bytes.items _ c.loop.filled c.in-Ok.count (grind (arith, common_steps))
+    let taken = Consumes-after _ _ _ c.loop.bytes.items _ c.loop.filled c.in-Ok.count (grind (arith, common_steps))
     c.loop.invariant.taken c.in-Ok.ensures.bytes.0 in
     (_, taken, grind (arith, common_steps))
 
@@ -22,4 +22,4 @@ pub returns-in-Ok-eq0-clause-input : goal.returns-in-Ok-eq0-clause-input
 returns-in-Ok-eq0-clause-input g c = grind (arith, common_steps)
 
 pub loop-preserved : goal.loop-preserved
-loop-preserved g c = grind (arith, common_steps, Consumes-behind, Consumes-kept)
+loop-preserved g c = grind (arith, common_steps, Consumes-after, Consumes-kept)

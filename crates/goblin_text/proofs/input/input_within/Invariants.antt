@@ -15,7 +15,7 @@ invariant-loop g l =
       calls : (source.marks l.reader).read_calls ≤ (source.marks l.initial.reader).read_calls + l.counter;
       each : min ((source.marks l.initial.reader).read_calls + l.counter) (2 ^ 64 - 1)
           ≤ (source.marks l.reader).read_calls;
-      endless : (source.marks l.reader).told_end ≡ (source.marks l.initial.reader).told_end;
-      gave : (source.marks l.reader).told_error ≡ false → l.counter ≤ l.filled;
-      heeded : (source.marks l.reader).told_failure ≡ (source.marks l.initial.reader).told_failure;
+      endless : (source.marks l.reader).reported_end ≡ (source.marks l.initial.reader).reported_end;
+      gave : (source.marks l.reader).reported_error ≡ false → l.counter ≤ l.filled;
+      heeded : (source.marks l.reader).reported_failure ≡ (source.marks l.initial.reader).reported_failure;
     }

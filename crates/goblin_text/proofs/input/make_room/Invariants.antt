@@ -4,7 +4,7 @@ use Rattle.goblin_text.proofs.input.make_room.Given as goal
 -- What was filled stays, and there is no more than the end.
 abbrev pub invariant-loop-bytes : goal.invariant-loop-bytes
 invariant-loop-bytes l = record {
-  kept : take l.filled l.bytes.items ≡ take l.filled l.initial.bytes.items;
+  unchanged : take l.filled l.bytes.items ≡ take l.filled l.initial.bytes.items;
   filled : l.filled ≤ vec_len l.bytes;
   short : vec_len l.bytes ≤ l.end;
 }

@@ -6,5 +6,5 @@ use Rattle.goblin_text.proofs.lines.put_all.Goals as goal
 pub loop-text-preserved : goal.loop-text-preserved
 loop-text-preserved g c = record {
   put = more_put _ _ _ _ _ _ _ c.loop-text.invariant.put (grind (arith, common_steps)) c.in_ok-put.ensures.put;
-  kept = grind (arith, common_steps);
+  same_writer = grind (arith, common_steps);
 }

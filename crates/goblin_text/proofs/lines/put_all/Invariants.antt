@@ -10,5 +10,5 @@ invariant-loop-text g l =
     record {
       put : PutSoFar (target.state l.initial.target) (target.state l.target) (concat (map (λ text. text.now) l.texts))
           (concat (map (λ text. text.now) (drop l.text-index l.texts)));
-      kept : target.kept l.target ≡ target.kept l.initial.target;
+      same_writer : target.writer_name l.target ≡ target.writer_name l.initial.target;
     }

@@ -16,5 +16,5 @@ loop-c-preserved g c =
     record {
       appends = subst (Appends _ _) is (Appends-trans _ _ _ _ _ c.loop-c.invariant.appends c.in_ok-put.ensures.put.0);
       heeded = grind (arith, common_steps);
-      kept = grind (arith, common_steps);
+      same_writer = grind (arith, common_steps);
     }

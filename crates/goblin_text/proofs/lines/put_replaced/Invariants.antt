@@ -11,6 +11,6 @@ invariant-loop-c g l =
     record {
       appends : Appends (target.state l.initial.target).contents (target.state l.target).contents
           (printed (encode_utf8_all l.yielded));
-      heeded : (target.state l.target).told_error ≡ (target.state l.initial.target).told_error;
-      kept : target.kept l.target ≡ target.kept l.initial.target;
+      heeded : (target.state l.target).reported_error ≡ (target.state l.initial.target).reported_error;
+      same_writer : target.writer_name l.target ≡ target.writer_name l.initial.target;
     }

@@ -1,8 +1,8 @@
 use Rattle.std.proofs.Common.{◌≡◌, ◌+◌, ◌*◌, arith, length, refl}
 use Rattle.std.proofs.lemmas.Grind.{common_steps}
-use Rattle.goblin_text.proofs.Spent.{shown_spend}
+use Rattle.goblin_text.proofs.LineLooks.{looks_shown}
 use Rattle.goblin_text.specs.Accepted.{parts_text}
-use Rattle.goblin_text.specs.Looks.{Spends, names_looks, table_looks}
+use Rattle.goblin_text.specs.Looks.{LooksAtMost, names_looks, table_looks}
 use Rattle.goblin_text.proofs.run.show_file.Goals as goal
 
 pub returns-in-Ok-write_text-clause-looks_shown : goal.returns-in-Ok-write_text-clause-looks_shown
@@ -11,12 +11,12 @@ returns-in-Ok-write_text-clause-looks_shown g c = λ short text done is.
     let file = c.in-Ok.accepted in
     let all : text ≡ parts_text old.bytes file.header file.sections.items file.parts =
     grind (arith, common_steps, is) in
-    let tables : Spends old c.accept.new.file (table_looks * (length file.sections.items + 1)) =
+    let tables : LooksAtMost old c.accept.new.file (table_looks * (length file.sections.items + 1)) =
     c.in-Ok.ensures.looks short in
-    let names : Spends c.accept.new.file c.write_text.new.names
+    let names : LooksAtMost c.accept.new.file c.write_text.new.names
     (names_looks (parts_text old.bytes file.header file.sections.items file.parts)) =
     grind (arith, common_steps, short) in
-    shown_spend old c.accept.new.file c.write_text.new.names old.bytes file.header file.sections.items file.parts text
+    looks_shown old c.accept.new.file c.write_text.new.names old.bytes file.header file.sections.items file.parts text
     all tables names
 
 -- a text that could not be written was not shown

@@ -1,4 +1,4 @@
-use Rattle.goblin_text.proofs.Blocks.{none_known, unknown_most}
+use Rattle.goblin_text.proofs.RunEnds.{none_known, unknown_most}
 use Rattle.goblin_text.specs.declared.runs.TheConstants.{BLOCKS}
 use Rattle.goblin_text.proofs.runs.none_known.Goals as goal
 

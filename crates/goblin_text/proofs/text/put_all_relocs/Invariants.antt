@@ -10,5 +10,5 @@ invariant-loop-part g l =
     record {
       put : PutSoFar (target.state l.initial.target) (target.state l.target) (relocs_text l.parts)
           (relocs_text (drop l.part-index l.parts));
-      kept : target.kept l.target ≡ target.kept l.initial.target;
+      same_writer : target.writer_name l.target ≡ target.writer_name l.initial.target;
     }

@@ -1,6 +1,6 @@
 use Rattle.std.proofs.Common.{◌≡◌, drop}
 use Rattle.goblin_text.proofs.Puts.{PutSoFar}
-use Rattle.goblin_text.proofs.Spent.{SpentSoFar}
+use Rattle.goblin_text.proofs.LineLooks.{LooksSoFar}
 use Rattle.goblin_text.specs.Accepted.{symbols_text}
 use Rattle.goblin_base.specs.Entries.{CountsAtLeast}
 use Rattle.goblin_text.specs.Looks.{IsShort}
@@ -15,8 +15,8 @@ invariant-loop-part g l =
     let rest = symbols_text old.bytes (drop l.part-index l.parts) in
     record {
       same : l.names.bytes ≡ old.bytes;
-      looks : IsShort old.bytes → SpentSoFar old l.names all rest;
+      looks : IsShort old.bytes → LooksSoFar old l.names all rest;
       least : CountsAtLeast old.count 0 l.names.count;
       put : PutSoFar (target.state l.initial.target) (target.state l.target) all rest;
-      kept : target.kept l.target ≡ target.kept l.initial.target;
+      same_writer : target.writer_name l.target ≡ target.writer_name l.initial.target;
     }

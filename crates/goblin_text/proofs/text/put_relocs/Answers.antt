@@ -7,5 +7,5 @@ pub loop-number-preserved : goal.loop-number-preserved
 loop-number-preserved g c = record {
   count = grind (arith, common_steps);
   put = more_put _ _ _ _ _ _ _ c.loop-number.invariant.put (grind (arith, common_steps)) c.in_ok-put_reloc.ensures.put;
-  kept = grind (arith, common_steps);
+  same_writer = grind (arith, common_steps);
 }

@@ -12,5 +12,5 @@ invariant-loop-number g l =
       count : l.number + length l.reloc-iterator < 2 ^ 64;
       put : PutSoFar (target.state l.initial.target) (target.state l.target) (reloc_lines l.section 0 l.relocs)
           (reloc_lines l.section l.number l.reloc-iterator);
-      kept : target.kept l.target ≡ target.kept l.initial.target;
+      same_writer : target.writer_name l.target ≡ target.writer_name l.initial.target;
     }

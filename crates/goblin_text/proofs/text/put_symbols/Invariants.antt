@@ -1,8 +1,8 @@
 use Rattle.std.proofs.Common.{◌≡◌, ◌+◌, ◌<◌, length}
 use Prim.Native.Nat.{◌^◌}
 use Rattle.goblin_text.proofs.Puts.{PutSoFar}
-use Rattle.goblin_text.proofs.Spent.{SpentSoFar}
-use Rattle.goblin_text.specs.Known.{strings_in}
+use Rattle.goblin_text.proofs.LineLooks.{LooksSoFar}
+use Rattle.goblin_text.specs.StringRanges.{strings_in}
 use Rattle.goblin_base.specs.Entries.{CountsAtLeast}
 use Rattle.goblin_text.specs.Looks.{IsShort}
 use Rattle.goblin_text.specs.Shown.{symbol_lines}
@@ -18,9 +18,9 @@ invariant-loop-number g l =
     let rest = symbol_lines strings l.part.section l.number l.symbol-iterator in
     record {
       same : l.names.bytes ≡ old.bytes;
-      looks : IsShort old.bytes → SpentSoFar old l.names all rest;
+      looks : IsShort old.bytes → LooksSoFar old l.names all rest;
       least : CountsAtLeast old.count 0 l.names.count;
       count : l.number + length l.symbol-iterator < 2 ^ 64;
       put : PutSoFar (target.state l.initial.target) (target.state l.target) all rest;
-      kept : target.kept l.target ≡ target.kept l.initial.target;
+      same_writer : target.writer_name l.target ≡ target.writer_name l.initial.target;
     }

@@ -2,7 +2,7 @@ use Rattle.std.proofs.Common.{◌≡◌, ◌++◌, ◌*◌, ℕ, List, drop}
 use Rattle.goblin_text.proofs.Shows.{after}
 use Rattle.goblin_text.specs.Accepted.{symbols_text}
 use Rattle.goblin_base.specs.Entries.{CountsAtLeast}
-use Rattle.goblin_text.specs.Looks.{IsShort, Spends, table_looks}
+use Rattle.goblin_text.specs.Looks.{IsShort, LooksAtMost, table_looks}
 use Rattle.goblin_text.specs.Shown.{each_shown, symbols_shown}
 use Rattle.goblin_text.proofs.accept.Context.accept_all_symbols.Given as goal
 
@@ -14,7 +14,7 @@ invariant-loop-number l =
     let shows = symbols_shown context.opts.now.parse_mode bytes context.ctx context.sections.now in
     record {
       same : l.file.bytes ≡ bytes;
-      looks : IsShort bytes → Spends l.initial.file l.file (table_looks * l.number);
+      looks : IsShort bytes → LooksAtMost l.initial.file l.file (table_looks * l.number);
       least : CountsAtLeast l.initial.file.count 0 l.file.count;
       shown : (lines : List ℕ) × (symbols_text bytes l.parts.items ≡ symbols_text bytes l.initial.parts.items ++ lines)
           × (each_shown shows 0 context.sections.now

@@ -1,12 +1,13 @@
 use Rattle.std.proofs.Common.{◌≡◌, ◌+◌, ◌*◌, ◌<◌, ◌≤◌, arith, slice_range, subst}
 use Rattle.std.proofs.lemmas.Bool.{both_ways}
 use Rattle.std.proofs.lemmas.Grind.{common_steps}
-use Rattle.goblin_text.proofs.Edges.{edge_bounds}
-use Rattle.goblin_text.proofs.LongNames.{RunsTo, ends_after, ends_in_block, lacks_at_head, plain_to_run, text_after}
+use Rattle.goblin_text.proofs.CharStarts.{char_start_bounds}
+use Rattle.goblin_text.proofs.LongNames.{RunsTo, ends_after, ends_in_block, lacks_at_head, zero_free_to_run, text_after}
 use Rattle.std.specs.Str.{IsUtf8}
-use Rattle.goblin_text.specs.declared.runs.Kind.TheVariants.{Plain}
+use Rattle.goblin_text.specs.declared.runs.Kind.TheVariants.{ZeroFree}
 use Rattle.goblin_text.specs.declared.runs.TheConstants.{BLOCK}
-use Rattle.goblin_text.specs.Runs.{EndsAt, IsBlock, IsEnd, IsPlain, IsTextUpTo, block_start, last_block, next_block}
+use Rattle.goblin_text.specs.Runs.{EndsAt, IsBlock, IsRunEnd, IsZeroFree, IsTextUpTo, block_start, last_block}
+use Rattle.goblin_text.specs.Runs.{next_block}
 use Rattle.goblin_text.proofs.names.Names.end_of_long_name.Goals.{After-end_of_text, then-run-last, else-run-last}
 use Rattle.goblin_text.proofs.names.Names.end_of_long_name.Goals as goal
 
@@ -14,35 +15,38 @@ pub returns-then-not-is_text-clause-stop : goal.returns-then-not-is_text-clause-
 returns-then-not-is_text-clause-stop c =
     let bytes = c.args.self.now.bytes in
     let head : slice_range bytes c.args.place (block_start bytes (next_block c.args.place))
-    ≡ slice_range c.edge-begin.new.self.bytes c.args.place c.edge-begin.result = grind (arith, common_steps) in
+    ≡ slice_range c.char_start-begin.new.self.bytes c.args.place c.char_start-begin.result =
+    grind (arith, common_steps) in
     lacks_at_head bytes c.args.place c.args.end c.requires
     (λ u. both_ways _ c.if-not-is_text.true (c.is_text.ensures.value.1 (subst IsUtf8 head u)))
 
 -- where the run of blocks ends
-run_end : (c : After-end_of_text) → IsEnd Plain c.args.self.now.bytes (next_block c.args.place) c.end_of.result
-run_end c =
+run_is_end : (c : After-end_of_text)
+    → IsRunEnd ZeroFree c.args.self.now.bytes (next_block c.args.place) c.run_end.result
+run_is_end c =
     let same : c.is_text.new.self.bytes ≡ c.args.self.now.bytes = grind (arith, common_steps) in
-    subst (λ b. IsEnd Plain b (next_block c.args.place) c.end_of.result) same c.end_of.ensures.end
+    subst (λ b. IsRunEnd ZeroFree b (next_block c.args.place) c.run_end.result) same c.run_end.ensures.end
 
 -- text with no zero byte goes on up to the block that is searched
 record Before (c : After-end_of_text) : Type 0 where
   from : c.args.place ≤ block_start c.args.self.now.bytes c.min-run.result
-  plain : IsPlain (slice_range c.args.self.now.bytes c.args.place (block_start c.args.self.now.bytes c.min-run.result))
+  zero_free : IsZeroFree
+      (slice_range c.args.self.now.bytes c.args.place (block_start c.args.self.now.bytes c.min-run.result))
 
 before : (c : After-end_of_text) → Before c
 before c =
     let bytes = c.args.self.now.bytes in
     let run = c.min-run.result in
-    let e = run_end c in
-    let most : run ≤ c.end_of.result = grind (arith, common_steps) in
+    let e = run_is_end c in
+    let most : run ≤ c.run_end.result = grind (arith, common_steps) in
     let first : next_block c.args.place ≤ run = grind (arith, common_steps, e.order) in
-    let bounds = edge_bounds bytes (run * BLOCK) in
+    let bounds = char_start_bounds bytes (run * BLOCK) in
     let to : RunsTo bytes c.args.place run = record {
       order = first;
       head = grind (arith, common_steps);
       blocks = λ k from below. e.run k from (omega (arith, most, below));
     } in
-    record { from = omega (arith, first); plain = plain_to_run bytes c.args.place c.args.end c.requires run to }
+    record { from = omega (arith, first); zero_free = zero_free_to_run bytes c.args.place c.args.end c.requires run to }
 
 pub returns-clause-stop : goal.returns-clause-stop
 returns-clause-stop c =
@@ -50,18 +54,18 @@ returns-clause-stop c =
     let run = c.min-run.result in
     let from = block_start bytes run in
     let most : run ≤ last_block c.args.end = grind (arith, common_steps) in
-    let bounds = edge_bounds bytes (run * BLOCK) in
-    let next = edge_bounds bytes ((run + 1) * BLOCK) in
+    let bounds = char_start_bounds bytes (run * BLOCK) in
+    let next = char_start_bounds bytes ((run + 1) * BLOCK) in
     let front = before (goal.at.returns-clause-stop c).After-end_of_text in
     let found : EndsAt bytes from c.args.end c.end_of_text.result = elim c.if-run-last.branch [
       | then-run-last w ↦ grind (arith, common_steps)
       | else-run-last w ↦
           let early : run < last_block c.args.end = grind (arith, common_steps) in
-          let e : IsEnd Plain bytes (next_block c.args.place) c.end_of.result =
-          run_end (goal.at.returns-clause-stop c).After-end_of_text in
-          let ends : c.end_of.result ≡ run = grind (arith, common_steps) in
-          let other : ¬ (IsBlock Plain bytes run) =
-          subst (λ k. ¬ (IsBlock Plain bytes k)) ends (e.stops (omega (arith, early, ends, c.requires.within))) in
+          let e : IsRunEnd ZeroFree bytes (next_block c.args.place) c.run_end.result =
+          run_is_end (goal.at.returns-clause-stop c).After-end_of_text in
+          let ends : c.run_end.result ≡ run = grind (arith, common_steps) in
+          let other : ¬ (IsBlock ZeroFree bytes run) =
+          subst (λ k. ¬ (IsBlock ZeroFree bytes k)) ends (e.stops (omega (arith, early, ends, c.requires.within))) in
           let there : EndsAt bytes from (block_start bytes (run + 1)) c.end_of_text.result =
           grind (arith, common_steps) in
           let text : IsTextUpTo bytes from c.end_of_text.result = grind (arith, common_steps) in
@@ -69,7 +73,7 @@ returns-clause-stop c =
           (omega (arith, early)) c.requires.within other there text
     ] in
     ends_after bytes c.args.place from c.args.end c.end_of_text.result front.from
-    (omega (arith, most, c.requires.blocks)) front.plain found
+    (omega (arith, most, c.requires.blocks)) front.zero_free found
 
 pub returns-clause-text : goal.returns-clause-text
 returns-clause-text c =
@@ -78,4 +82,4 @@ returns-clause-text c =
     let front = before (goal.at.returns-clause-text c).After-end_of_text in
     let found : EndsAt bytes from c.if-run-last.to c.end_of_text.result = grind (arith, common_steps) in
     let text : IsTextUpTo bytes from c.end_of_text.result = grind (arith, common_steps) in
-    text_after bytes c.args.place from c.if-run-last.to c.end_of_text.result front.from front.plain found text
+    text_after bytes c.args.place from c.if-run-last.to c.end_of_text.result front.from front.zero_free found text

@@ -1,16 +1,16 @@
 use Rattle.std.proofs.Common.{◌≡◌, ◌∙◌, ◌+◌, ◌-◌, ap, arith, inl, inr, length, slice_range}
 use Rattle.std.proofs.lemmas.Grind.{common_steps}
-use Rattle.goblin_text.proofs.Looks.{name_in_range, name_later, nothing, past_name, text_length, text_or_nothing}
+use Rattle.goblin_text.proofs.Looks.{name_in_range, name_later, nothing, name_past_end, text_length, text_or_nothing}
 use Rattle.goblin_text.proofs.Ranges.{length-range}
 use Rattle.goblin_text.proofs.names.Names.name_within.Goals as goal
 
 pub returns-then-offset-end-clause-name : goal.returns-then-offset-end-clause-name
 returns-then-offset-end-clause-name c =
     let size = length-range c.args.self.now.bytes c.args.start c.args.end c.requires.ordered c.requires.within in
-    past_name (slice_range c.args.self.now.bytes c.args.start c.args.end) c.args.offset (omega arith)
+    name_past_end (slice_range c.args.self.now.bytes c.args.start c.args.end) c.args.offset (omega arith)
 
-pub returns-then-past-place-clause-name : goal.returns-then-past-place-clause-name
-returns-then-past-place-clause-name c =
+pub returns-then-after_continuation-place-clause-name : goal.returns-then-after_continuation-place-clause-name
+returns-then-after_continuation-place-clause-name c =
     name_later c.args.self.now.bytes c.args.start c.args.end c.args.offset c.requires.ordered c.requires.within
     c.if-offset-end.false (grind (arith, common_steps))
 

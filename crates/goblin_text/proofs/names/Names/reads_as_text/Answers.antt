@@ -4,15 +4,15 @@ use Rattle.std.proofs.lemmas.Grind.{common_steps}
 use Rattle.std.specs.Str.{IsUtf8}
 use Rattle.goblin_text.proofs.TextBlocks.{parts_are_text, text_has_parts}
 use Rattle.goblin_text.specs.declared.runs.Kind.TheVariants.{Text}
-use Rattle.goblin_text.specs.Runs.{IsEnd, block_start, blocks, last_block, next_block}
-use Rattle.goblin_text.proofs.names.Names.reads_as_text.Goals.{After-end_of}
+use Rattle.goblin_text.specs.Runs.{IsRunEnd, block_start, blocks, last_block, next_block}
+use Rattle.goblin_text.proofs.names.Names.reads_as_text.Goals.{After-run_end}
 use Rattle.goblin_text.proofs.names.Names.reads_as_text.Goals as goal
 
 -- where the run of blocks ends that are text
-run_end : (c : After-end_of) → IsEnd Text c.args.self.now.bytes (next_block c.args.start) c.end_of.result
-run_end c =
+run_is_end : (c : After-run_end) → IsRunEnd Text c.args.self.now.bytes (next_block c.args.start) c.run_end.result
+run_is_end c =
     let same : c.is_text-2.new.self.bytes ≡ c.args.self.now.bytes = grind (arith, common_steps) in
-    subst (λ b. IsEnd Text b (next_block c.args.start) c.end_of.result) same c.end_of.ensures.end
+    subst (λ b. IsRunEnd Text b (next_block c.args.start) c.run_end.result) same c.run_end.ensures.end
 
 pub returns-then-not-is_text-clause-value : goal.returns-then-not-is_text-clause-value
 returns-then-not-is_text-clause-value c = (
@@ -21,20 +21,21 @@ returns-then-not-is_text-clause-value c = (
       let bytes = c.args.self.now.bytes in
       let parts = text_has_parts bytes c.args.start c.args.end (omega arith) c.requires.within u in
       let is : slice_range bytes c.args.start (block_start bytes (next_block c.args.start))
-      ≡ slice_range c.edge-begin.new.self.bytes c.args.start c.edge-begin.result = grind (arith, common_steps) in
+      ≡ slice_range c.char_start-begin.new.self.bytes c.args.start c.char_start-begin.result =
+      grind (arith, common_steps) in
       absurd (both_ways _ c.if-not-is_text.true (c.is_text-2.ensures.value.1 (subst IsUtf8 is parts.head))),
 )
 
-pub returns-then-end_of-last-clause-value : goal.returns-then-end_of-last-clause-value
-returns-then-end_of-last-clause-value c = (
+pub returns-then-run_end-last-clause-value : goal.returns-then-run_end-last-clause-value
+returns-then-run_end-last-clause-value c = (
   λ t. absurd (both_ways _ refl t),
   λ u.
       let bytes = c.args.self.now.bytes in
-      let run = run_end (goal.at.returns-then-end_of-last-clause-value c).After-end_of in
+      let run = run_is_end (goal.at.returns-then-run_end-last-clause-value c).After-run_end in
       let parts = text_has_parts bytes c.args.start c.args.end (omega arith) c.requires.within u in
-      let before : c.end_of.result < last_block c.args.end = grind (arith, common_steps) in
-      let short : c.end_of.result < blocks bytes = omega (arith, before, c.requires.within) in
-      absurd (run.stops short (parts.blocks c.end_of.result run.order before)),
+      let before : c.run_end.result < last_block c.args.end = grind (arith, common_steps) in
+      let short : c.run_end.result < blocks bytes = omega (arith, before, c.requires.within) in
+      absurd (run.stops short (parts.blocks c.run_end.result run.order before)),
 )
 
 pub returns-clause-value : goal.returns-clause-value
@@ -42,11 +43,11 @@ returns-clause-value c =
     let bytes = c.args.self.now.bytes in
     let first = next_block c.args.start in
     let last = last_block c.args.end in
-    let run = run_end (goal.at.returns-clause-value c).After-end_of in
-    let to : last ≤ c.end_of.result = grind (arith, common_steps) in
-    let head : slice_range c.edge-begin.new.self.bytes c.args.start c.edge-begin.result
+    let run = run_is_end (goal.at.returns-clause-value c).After-run_end in
+    let to : last ≤ c.run_end.result = grind (arith, common_steps) in
+    let head : slice_range c.char_start-begin.new.self.bytes c.args.start c.char_start-begin.result
     ≡ slice_range bytes c.args.start (block_start bytes first) = grind (arith, common_steps) in
-    let rest : slice_range c.edge-rest.new.self.bytes c.edge-rest.result c.args.end
+    let rest : slice_range c.char_start-rest.new.self.bytes c.char_start-rest.result c.args.end
     ≡ slice_range bytes (block_start bytes last) c.args.end = grind (arith, common_steps) in (
       λ t. parts_are_text bytes c.args.start c.args.end (omega arith) c.requires.within (record {
         head = subst IsUtf8 head (c.is_text-2.ensures.value.0 c.if-not-is_text.false);

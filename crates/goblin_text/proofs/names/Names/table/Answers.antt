@@ -4,7 +4,7 @@ use Rattle.std.proofs.lemmas.Grind.{common_steps}
 use Rattle.goblin.specs.Refusal.{Answers}
 use Rattle.goblin.specs.Strtab.{strtab_of, table_of, walked}
 use Rattle.goblin_text.proofs.Tables.{is_strict, table_is}
-use Rattle.goblin_text.specs.Known.{IsRange, strings_in}
+use Rattle.goblin_text.specs.StringRanges.{IsRange, strings_in}
 use Rattle.goblin_text.proofs.names.Names.table.Goals.{then-not-is_permissive+in_ok-refuse_unless_text}
 use Rattle.goblin_text.proofs.names.Names.table.Goals.{else-not-is_permissive}
 use Rattle.goblin_text.proofs.names.Names.table.Goals as goal

@@ -4,7 +4,7 @@ use Rattle.goblin.specs.Refusal.{malformed}
 use Rattle.goblin.specs.Steps.{refuse_as}
 use Rattle.goblin_text.proofs.Tables.{range_stands, range_taken}
 use Rattle.goblin_text.proofs.seen.Seen.range.Goals.{After-min-start}
-use Rattle.goblin_text.specs.Known.{IsRange}
+use Rattle.goblin_text.specs.StringRanges.{IsRange}
 use Rattle.goblin_text.proofs.seen.Seen.range.Goals as goal
 
 -- where the bytes of the range stand

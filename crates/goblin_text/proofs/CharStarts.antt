@@ -22,86 +22,88 @@ use Rattle.std.specs.Str.{IsUtf8, IsCharBoundary}
 use lib.Utf8.{encode, encodes, scalar, scalars}
 use Rattle.goblin_text.proofs.Ranges.{get_range, length-range, rest_of_range, split}
 use Rattle.goblin_text.proofs.Strings.{get_up, goes_on, no_zero_whole, stops, whole, whole_no_zero}
-use Rattle.goblin_text.specs.Runs.{LacksText, edge, past, up_to_zero}
+use Rattle.goblin_text.specs.Runs.{LacksText, char_start, after_continuation, up_to_zero}
 
--- ---- the place behind a byte that goes on with a character
-abbrev pub goes_on_with : ℕ → Type 0
-goes_on_with b = (128 ≤ b) × (b < 192)
+-- ---- the place after a byte that goes on with a character
+abbrev pub is_continuation : ℕ → Type 0
+is_continuation b = (128 ≤ b) × (b < 192)
 
 -- a byte that goes on with a character is passed over, and another one isn't
-pub data Past (bytes : List ℕ) (p : ℕ) : Type 0 where
-  over : past bytes p ≡ p + 1 → goes_on_with (get_or bytes p 0) → Past bytes p
-  stays : past bytes p ≡ p → ¬ (goes_on_with (get_or bytes p 0)) → Past bytes p
+pub data Passed (bytes : List ℕ) (p : ℕ) : Type 0 where
+  over : after_continuation bytes p ≡ p + 1 → is_continuation (get_or bytes p 0) → Passed bytes p
+  stays : after_continuation bytes p ≡ p → ¬ (is_continuation (get_or bytes p 0)) → Passed bytes p
 
-pub past_is : (bytes : List ℕ) (p : ℕ) → Past bytes p
-unfolding past
-past_is bytes p = tested (leb 128 (get_or bytes p 0)) (ltb (get_or bytes p 0) 192) refl refl refl
+pub after_continuation_is : (bytes : List ℕ) (p : ℕ) → Passed bytes p
+unfolding after_continuation
+after_continuation_is bytes p = tested (leb 128 (get_or bytes p 0)) (ltb (get_or bytes p 0) 192) refl refl refl
   where
     tested : (a b : Bool) → leb 128 (get_or bytes p 0) ≡ a → ltb (get_or bytes p 0) 192 ≡ b
-        → past bytes p ≡ cond (a && b) (p + 1) p → Past bytes p
+        → after_continuation bytes p ≡ cond (a && b) (p + 1) p → Passed bytes p
     tested true true e f is = over is (grind (arith, nat_tests), grind (arith, nat_tests))
     tested true false e f is =
         stays is (λ h. let x : 192 ≤ get_or bytes p 0 = grind (arith, nat_tests) in omega (arith, h.1))
     tested false b e f is =
         stays is (λ h. let x : get_or bytes p 0 < 128 = grind (arith, nat_tests) in omega (arith, h.0))
 
-past_bounds : (bytes : List ℕ) (p : ℕ) → (p ≤ past bytes p) × (past bytes p ≤ p + 1)
-past_bounds bytes p = elim (past_is bytes p) [
+after_continuation_bounds : (bytes : List ℕ) (p : ℕ)
+    → (p ≤ after_continuation bytes p) × (after_continuation bytes p ≤ p + 1)
+after_continuation_bounds bytes p = elim (after_continuation_is bytes p) [
   | over e on ↦ (omega (arith, e), omega (arith, e))
   | stays e off ↦ (omega (arith, e), omega (arith, e))
 ]
 
 -- what is passed over goes on with a character
-passed : (bytes : List ℕ) (p q : ℕ) → p ≤ q → q < past bytes p → goes_on_with (get_or bytes q 0)
-passed bytes p q l h = elim (past_is bytes p) [
-  | over e on ↦ (let same : p ≡ q = omega (arith, e) in subst (λ k. goes_on_with (get_or bytes k 0)) same on)
+passed : (bytes : List ℕ) (p q : ℕ) → p ≤ q → q < after_continuation bytes p → is_continuation (get_or bytes q 0)
+passed bytes p q l h = elim (after_continuation_is bytes p) [
+  | over e on ↦ (let same : p ≡ q = omega (arith, e) in subst (λ k. is_continuation (get_or bytes k 0)) same on)
   | stays e off ↦ absurd (omega (arith, e))
 ]
 
--- where the byte behind a place goes on with a character, the byte there does
-passed_before : (bytes : List ℕ) (p : ℕ) → goes_on_with (get_or bytes (past bytes p) 0)
-    → (past bytes p ≡ p + 1) × goes_on_with (get_or bytes p 0)
-passed_before bytes p h = elim (past_is bytes p) [
+-- where the byte after a place goes on with a character, the byte there does
+passed_before : (bytes : List ℕ) (p : ℕ) → is_continuation (get_or bytes (after_continuation bytes p) 0)
+    → (after_continuation bytes p ≡ p + 1) × is_continuation (get_or bytes p 0)
+passed_before bytes p h = elim (after_continuation_is bytes p) [
   | over e on ↦ (e, on)
-  | stays e off ↦ absurd (off (subst (λ k. goes_on_with (get_or bytes k 0)) e h))
+  | stays e off ↦ absurd (off (subst (λ k. is_continuation (get_or bytes k 0)) e h))
 ]
 
 -- ---- the edge
-pub edge_bounds : (bytes : List ℕ) (place : ℕ) → (place ≤ edge bytes place) × (edge bytes place ≤ place + 3)
-unfolding edge
-edge_bounds bytes place =
-    let p = past_bounds bytes place in
-    let q = past_bounds bytes (past bytes place) in
-    let r = past_bounds bytes (past bytes (past bytes place)) in
+pub char_start_bounds : (bytes : List ℕ) (place : ℕ)
+    → (place ≤ char_start bytes place) × (char_start bytes place ≤ place + 3)
+unfolding char_start
+char_start_bounds bytes place =
+    let p = after_continuation_bounds bytes place in
+    let q = after_continuation_bounds bytes (after_continuation bytes place) in
+    let r = after_continuation_bounds bytes (after_continuation bytes (after_continuation bytes place)) in
     (omega arith, omega arith)
 
 -- what stands between a place and its edge goes on with a character
-passed_to_edge : (bytes : List ℕ) (p q : ℕ) → p ≤ q → q < edge bytes p → goes_on_with (get_or bytes q 0)
-unfolding edge
-passed_to_edge bytes p q l h =
-    let a = past bytes p in
-    let b = past bytes a in
+passed_to_start : (bytes : List ℕ) (p q : ℕ) → p ≤ q → q < char_start bytes p → is_continuation (get_or bytes q 0)
+unfolding char_start
+passed_to_start bytes p q l h =
+    let a = after_continuation bytes p in
+    let b = after_continuation bytes a in
     ⊎_elim
     (λ (s : q < a). passed bytes p q l s)
     (λ (s : a ≤ q). ⊎_elim (λ (t : q < b). passed bytes a q s t) (λ (t : b ≤ q). passed bytes b q t h) (cases_lt q b))
     (cases_lt q a)
 
 -- if the byte at the edge goes on with a character, the three before it do too
-four_go_on : (bytes : List ℕ) (p : ℕ) → goes_on_with (get_or bytes (edge bytes p) 0)
-    → (edge bytes p ≡ p + 3) × ((j : ℕ) → p ≤ j → j ≤ p + 3 → goes_on_with (get_or bytes j 0))
-unfolding edge
+four_go_on : (bytes : List ℕ) (p : ℕ) → is_continuation (get_or bytes (char_start bytes p) 0)
+    → (char_start bytes p ≡ p + 3) × ((j : ℕ) → p ≤ j → j ≤ p + 3 → is_continuation (get_or bytes j 0))
+unfolding char_start
 four_go_on bytes p h =
-    let z = passed_before bytes (past bytes (past bytes p)) h in
-    let y = passed_before bytes (past bytes p) z.1 in
+    let z = passed_before bytes (after_continuation bytes (after_continuation bytes p)) h in
+    let y = passed_before bytes (after_continuation bytes p) z.1 in
     let x = passed_before bytes p y.1 in
-    let there : edge bytes p ≡ p + 3 = omega (arith, x.0, y.0, z.0) in (
+    let there : char_start bytes p ≡ p + 3 = omega (arith, x.0, y.0, z.0) in (
       there,
       λ j l m. ⊎_elim
-          (λ (s : j < edge bytes p). passed_to_edge bytes p j l s)
-          (λ (s : edge bytes p ≤ j).
-          let same : edge bytes p ≡ j = omega arith in
-          subst (λ k. goes_on_with (get_or bytes k 0)) same h)
-          (cases_lt j (edge bytes p)),
+          (λ (s : j < char_start bytes p). passed_to_start bytes p j l s)
+          (λ (s : char_start bytes p ≤ j).
+          let same : char_start bytes p ≡ j = omega arith in
+          subst (λ k. is_continuation (get_or bytes k 0)) same h)
+          (cases_lt j (char_start bytes p)),
     )
 
 -- ---- text is cut at an edge
@@ -161,16 +163,17 @@ cut_near : (text : List ℕ) (i : ℕ) → IsUtf8 text → i ≤ length text →
 cut_near text i u l = subst (λ x. Cut x i) u.1.1 (cut_of_chars u.0 i u.1.0 (omega (arith, ap length u.1.1)))
 
 -- a text that holds the bytes from a place on may be cut at an edge
-edge-boundary : (bytes text : List ℕ) (i p : ℕ) → i ≤ p → edge bytes p - i ≤ length text → IsUtf8 text
-    → ((m : ℕ) → m < length text → get_or text m 0 ≡ get_or bytes (i + m) 0) → IsCharBoundary text (edge bytes p - i)
-edge-boundary bytes text i p l size u holds =
-    let bounds = edge_bounds bytes p in
-    let n = edge bytes p - i in (
+char_start-boundary : (bytes text : List ℕ) (i p : ℕ) → i ≤ p → char_start bytes p - i ≤ length text → IsUtf8 text
+    → ((m : ℕ) → m < length text → get_or text m 0 ≡ get_or bytes (i + m) 0)
+    → IsCharBoundary text (char_start bytes p - i)
+char_start-boundary bytes text i p l size u holds =
+    let bounds = char_start_bounds bytes p in
+    let n = char_start bytes p - i in (
       size,
       λ some from. ⊎_elim
           (λ (low : get_or text n 0 < 192).
-          let there : i + n ≡ edge bytes p = omega arith in
-          let byte : get_or text n 0 ≡ get_or bytes (edge bytes p) 0 =
+          let there : i + n ≡ char_start bytes p = omega arith in
+          let byte : get_or text n 0 ≡ get_or bytes (char_start bytes p) 0 =
           holds n some ∙ ap (λ q. get_or bytes q 0) there in
           let four = four_go_on bytes p (omega arith, omega arith) in
           let cut = cut_near text (n - 3) u (omega arith) in
@@ -183,58 +186,61 @@ edge-boundary bytes text i p l size u holds =
     )
 
 -- a text is text on either side of an edge
-pub text-edge : (bytes : List ℕ) (i p k : ℕ) → i ≤ p → p + 3 ≤ k → k ≤ length bytes → IsUtf8 (slice_range bytes i k)
-    → IsUtf8 (slice_range bytes i (edge bytes p)) × IsUtf8 (slice_range bytes (edge bytes p) k)
-text-edge bytes i p k l m h u =
-    let bounds = edge_bounds bytes p in
-    let n = edge bytes p - i in
+pub text_cut : (bytes : List ℕ) (i p k : ℕ) → i ≤ p → p + 3 ≤ k → k ≤ length bytes → IsUtf8 (slice_range bytes i k)
+    → IsUtf8 (slice_range bytes i (char_start bytes p)) × IsUtf8 (slice_range bytes (char_start bytes p) k)
+text_cut bytes i p k l m h u =
+    let bounds = char_start_bounds bytes p in
+    let n = char_start bytes p - i in
     let text = slice_range bytes i k in
     let size : length text ≡ k - i = length-range bytes i k (omega arith) h in
-    let there : i + n ≡ edge bytes p = omega arith in
-    let boundary = edge-boundary bytes text i p l (omega arith) u (λ q short. get_range bytes i k q (omega arith)) in (
+    let there : i + n ≡ char_start bytes p = omega arith in
+    let boundary =
+    char_start-boundary bytes text i p l (omega arith) u (λ q short. get_range bytes i k q (omega arith)) in (
       subst IsUtf8 (take-take n (k - i) (drop i bytes) (omega arith)) (IsUtf8-take text n u boundary),
       subst IsUtf8 (rest_of_range bytes i k n (omega arith) ∙ ap (λ c. slice_range bytes c k) there)
           (IsUtf8-drop text n u boundary),
     )
 
 -- a string that is no text up to an edge is none where more follows
-pub lacks-on : (bytes : List ℕ) (i p e : ℕ) → i ≤ p → edge bytes p ≤ e → e ≤ length bytes
-    → LacksText (slice_range bytes i (edge bytes p)) → LacksText (slice_range bytes i e)
+pub lacks-on : (bytes : List ℕ) (i p e : ℕ) → i ≤ p → char_start bytes p ≤ e → e ≤ length bytes
+    → LacksText (slice_range bytes i (char_start bytes p)) → LacksText (slice_range bytes i e)
 lacks-on bytes i p e l m h lacks = λ u.
-    let bounds = edge_bounds bytes p in
-    let a = slice_range bytes i (edge bytes p) in
-    let r = slice_range bytes (edge bytes p) e in
-    let is : slice_range bytes i e ≡ a ++ r = split bytes i (edge bytes p) e (omega arith) m in
-    let size : length a ≡ edge bytes p - i = length-range bytes i (edge bytes p) (omega arith) (omega arith) in
+    let bounds = char_start_bounds bytes p in
+    let a = slice_range bytes i (char_start bytes p) in
+    let r = slice_range bytes (char_start bytes p) e in
+    let is : slice_range bytes i e ≡ a ++ r = split bytes i (char_start bytes p) e (omega arith) m in
+    let size : length a ≡ char_start bytes p - i =
+    length-range bytes i (char_start bytes p) (omega arith) (omega arith) in
     ⊎_elim
     (λ (short : length (up_to_zero a) < length a). lacks (subst IsUtf8 (ap up_to_zero is ∙ stops a r short) u))
     (λ (all : length a ≤ length (up_to_zero a)).
     let string = up_to_zero (slice_range bytes i e) in
     let joined : string ≡ a ++ up_to_zero r = ap up_to_zero is ∙ goes_on a r all in
     let long : length string ≡ length a + length (up_to_zero r) = ap length joined ∙ length-append a (up_to_zero r) in
-    let boundary = edge-boundary bytes string i p l (omega arith) u (get_up bytes i e) in
-    let front : take (edge bytes p - i) string ≡ up_to_zero a =
+    let boundary = char_start-boundary bytes string i p l (omega arith) u (get_up bytes i e) in
+    let front : take (char_start bytes p - i) string ≡ up_to_zero a =
     ap (λ n. take n string) (sym size) ∙ ap (take (length a)) joined ∙ take-append_seam a (up_to_zero r)
     ∙ sym (whole a all) in
-    lacks (subst IsUtf8 front (IsUtf8-take string (edge bytes p - i) u boundary)))
+    lacks (subst IsUtf8 front (IsUtf8-take string (char_start bytes p - i) u boundary)))
     (cases_lt (length (up_to_zero a)) (length a))
 
 -- no zero byte stands up to an edge, where none stands up to a place that isn't before the edge's
-pub whole-edge : (bytes : List ℕ) (i p k : ℕ) → i ≤ p → p ≤ k → k ≤ length bytes → edge bytes p ≤ length bytes
+pub whole_to_start : (bytes : List ℕ) (i p k : ℕ) → i ≤ p → p ≤ k → k ≤ length bytes → char_start bytes p ≤ length bytes
     → up_to_zero (slice_range bytes i k) ≡ slice_range bytes i k
-    → up_to_zero (slice_range bytes i (edge bytes p)) ≡ slice_range bytes i (edge bytes p)
-whole-edge bytes i p k l m h short is =
-    let bounds = edge_bounds bytes p in
+    → up_to_zero (slice_range bytes i (char_start bytes p)) ≡ slice_range bytes i (char_start bytes p)
+whole_to_start bytes i p k l m h short is =
+    let bounds = char_start_bounds bytes p in
     let size : length (slice_range bytes i k) ≡ k - i = length-range bytes i k (omega arith) h in
-    let front = slice_range bytes i (edge bytes p) in
-    let length-front : length front ≡ edge bytes p - i = length-range bytes i (edge bytes p) (omega arith) short in
+    let front = slice_range bytes i (char_start bytes p) in
+    let length-front : length front ≡ char_start bytes p - i =
+    length-range bytes i (char_start bytes p) (omega arith) short in
     no_zero_whole front (λ q n z.
     let byte : get_or bytes (i + q) 0 ≡ 0 =
-    sym (get_range bytes i (edge bytes p) q (omega (arith, n, length-front))) ∙ z in
+    sym (get_range bytes i (char_start bytes p) q (omega (arith, n, length-front))) ∙ z in
     ⊎_elim
     (λ (s : i + q < k).
     whole_no_zero (slice_range bytes i k) q is (omega (arith, size)) (get_range bytes i k q (omega arith) ∙ byte))
     (λ (s : k ≤ i + q).
-    let on = passed_to_edge bytes p (i + q) (omega arith) (omega (arith, n, length-front)) in
+    let on = passed_to_start bytes p (i + q) (omega arith) (omega (arith, n, length-front)) in
     absurd (omega (arith, on.0, byte)))
     (cases_lt (i + q) k))

@@ -1,15 +1,15 @@
 use Rattle.std.proofs.Common.{◌∙◌, ◌<◌, ◌≢◌, arith, get_or-set_other, length, refl}
 use Rattle.std.proofs.lemmas.Grind.{common_steps}
-use Rattle.goblin_text.proofs.Blocks.{end_later, end_more, unknown_less}
+use Rattle.goblin_text.proofs.RunEnds.{end_later, end_more, unknown_less}
 use Rattle.goblin_text.specs.Runs.{blocks}
-use Rattle.goblin_text.proofs.runs.end_of.Goals as goal
+use Rattle.goblin_text.proofs.runs.run_end.Goals as goal
 
 pub loop-block-preserved : goal.loop-block-preserved
 loop-block-preserved c =
     let bytes = c.args.seen.now.bytes in
     let ends = c.loop-block.ends in
     let k = c.loop-block.block in
-    let found = c.look_for_end-found in
+    let found = c.find_run_end-found in
     let here : k < found.result.read = grind (arith, common_steps) in
     let there : k < length ends = grind (arith, common_steps) in
     let among : k < blocks bytes = omega (arith, here, found.ensures.within) in

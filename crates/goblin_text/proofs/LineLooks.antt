@@ -8,15 +8,15 @@ use Rattle.std.specs.Prelude.{vec_items}
 use Rattle.goblin.specs.declared.elf.header.Header.{Header}
 use Rattle.goblin.specs.declared.elf.section_header.SectionHeader.{SectionHeader}
 use Rattle.goblin_text.specs.Accepted.{parts_text, relocs_text, symbols_text}
-use Rattle.goblin_text.specs.Known.{strings_in}
+use Rattle.goblin_text.specs.StringRanges.{strings_in}
 use Rattle.goblin_text.specs.Shown.{name_at, section_lines}
 use Rattle.goblin_text.specs.declared.accept.Parts.{Parts}
 use Rattle.goblin_text.specs.Lines.{header_line, named_line, newline, printable, printed, section_head, section_line}
-use Rattle.goblin_text.specs.Looks.{Named, Spends, line_looks, lines_in, name_looks, names_looks, table_looks}
+use Rattle.goblin_text.specs.Looks.{NamesView, LooksAtMost, line_looks, lines_in, name_looks, names_looks, table_looks}
 
 -- of a text the looks so far were taken, and those of the rest are left
-abbrev pub SpentSoFar : Named → Named → List ℕ → List ℕ → Type 0
-SpentSoFar old new all rest = new.count + new.left + names_looks rest ≤ old.count + old.left + names_looks all
+abbrev pub LooksSoFar : NamesView → NamesView → List ℕ → List ℕ → Type 0
+LooksSoFar old new all rest = new.count + new.left + names_looks rest ≤ old.count + old.left + names_looks all
 
 pub lines-append : (a b : List ℕ) → lines_in (a ++ b) ≡ lines_in a + lines_in b
 lines-append [] b = omega arith
@@ -46,16 +46,16 @@ named_line_looks head name =
     )
 
 -- with one line more
-pub more_spent : (old mid new : Named) (all rest line next : List ℕ)
-    → SpentSoFar old mid all rest → rest ≡ line ++ next → Spends mid new (names_looks line)
-    → SpentSoFar old new all next
-more_spent old mid new all rest line next s e p = omega (arith, s, ap names_looks e, looks-append line next, p)
+pub more_looks : (old mid new : NamesView) (all rest line next : List ℕ)
+    → LooksSoFar old mid all rest → rest ≡ line ++ next → LooksAtMost mid new (names_looks line)
+    → LooksSoFar old new all next
+more_looks old mid new all rest line next s e p = omega (arith, s, ap names_looks e, looks-append line next, p)
 
 -- where a line failed
-pub failed_spent : (old mid new : Named) (all rest line next : List ℕ)
-    → SpentSoFar old mid all rest → rest ≡ line ++ next → Spends mid new (names_looks line)
-    → Spends old new (names_looks all)
-failed_spent old mid new all rest line next s e p = omega (arith, s, ap names_looks e, looks-append line next, p)
+pub looks_at_failure : (old mid new : NamesView) (all rest line next : List ℕ)
+    → LooksSoFar old mid all rest → rest ≡ line ++ next → LooksAtMost mid new (names_looks line)
+    → LooksAtMost old new (names_looks all)
+looks_at_failure old mid new all rest line next s e p = omega (arith, s, ap names_looks e, looks-append line next, p)
 
 -- the parts of a file's text
 parts_looks : (bytes : List ℕ) (header : Header) (sections : List SectionHeader) (parts : Parts)
@@ -73,18 +73,19 @@ parts_looks bytes header sections parts =
       looks-append symbols relocs,
     )
 
-pub sections_spend : (old new : Named) (bytes : List ℕ) (header : Header) (sections : List SectionHeader)
+pub sections_in_parts : (old new : NamesView) (bytes : List ℕ) (header : Header) (sections : List SectionHeader)
     (parts : Parts)
-    → Spends old new (names_looks (section_lines (strings_in bytes parts.strings) 0 sections))
-    → Spends old new (names_looks (parts_text bytes header sections parts))
-sections_spend old new bytes header sections parts s = omega (arith, s, parts_looks bytes header sections parts)
+    → LooksAtMost old new (names_looks (section_lines (strings_in bytes parts.strings) 0 sections))
+    → LooksAtMost old new (names_looks (parts_text bytes header sections parts))
+sections_in_parts old new bytes header sections parts s = omega (arith, s, parts_looks bytes header sections parts)
 
-pub parts_spend : (old mid new : Named) (bytes : List ℕ) (header : Header) (sections : List SectionHeader)
+pub names_in_parts : (old mid new : NamesView) (bytes : List ℕ) (header : Header) (sections : List SectionHeader)
     (parts : Parts)
-    → Spends old mid (names_looks (section_lines (strings_in bytes parts.strings) 0 sections))
-    → Spends mid new (names_looks (symbols_text bytes (vec_items parts.symbols)))
-    → Spends old new (names_looks (parts_text bytes header sections parts))
-parts_spend old mid new bytes header sections parts s t = omega (arith, s, t, parts_looks bytes header sections parts)
+    → LooksAtMost old mid (names_looks (section_lines (strings_in bytes parts.strings) 0 sections))
+    → LooksAtMost mid new (names_looks (symbols_text bytes (vec_items parts.symbols)))
+    → LooksAtMost old new (names_looks (parts_text bytes header sections parts))
+names_in_parts old mid new bytes header sections parts s t =
+    omega (arith, s, t, parts_looks bytes header sections parts)
 
 -- ---- lines
 header-line : (h : Header) → 1 ≤ lines_in (header_line h)
@@ -121,18 +122,18 @@ lines_most bytes header sections parts =
     )
 
 -- the tables and the names of a file that is shown
-pub shown_spend : (old mid new : Named) (bytes : List ℕ) (header : Header) (sections : List SectionHeader)
+pub looks_shown : (old mid new : NamesView) (bytes : List ℕ) (header : Header) (sections : List SectionHeader)
     (parts : Parts) (text : List ℕ)
-    → text ≡ parts_text bytes header sections parts → Spends old mid (table_looks * (length sections + 1))
-    → Spends mid new (names_looks (parts_text bytes header sections parts))
-    → Spends old new (length text + line_looks * lines_in text)
+    → text ≡ parts_text bytes header sections parts → LooksAtMost old mid (table_looks * (length sections + 1))
+    → LooksAtMost mid new (names_looks (parts_text bytes header sections parts))
+    → LooksAtMost old new (length text + line_looks * lines_in text)
 unfolding names_looks
-shown_spend old mid new bytes header sections parts text is s t =
+looks_shown old mid new bytes header sections parts text is s t =
     let all = parts_text bytes header sections parts in
-    subst (λ x. Spends old new (length x + line_looks * lines_in x)) (sym is)
+    subst (λ x. LooksAtMost old new (length x + line_looks * lines_in x)) (sym is)
     (by all (lines_most bytes header sections parts) t)
   where
     by : (x : List ℕ)
-        → length sections + 1 ≤ lines_in x → Spends mid new (length x + name_looks * lines_in x)
-        → Spends old new (length x + line_looks * lines_in x)
+        → length sections + 1 ≤ lines_in x → LooksAtMost mid new (length x + name_looks * lines_in x)
+        → LooksAtMost old new (length x + line_looks * lines_in x)
     by x l p = omega (arith, s, l, p)

@@ -1,8 +1,8 @@
 use Rattle.std.proofs.Common.{◌≡◌, ◌<◌, arith, get_or, length, subst, sym}
 use Rattle.std.proofs.lemmas.Grind.{common_steps}
-use Rattle.goblin_text.proofs.Blocks.{end_behind, end_known}
-use Rattle.goblin_text.specs.Runs.{IsEnd}
-use Rattle.goblin_text.proofs.runs.look_for_end.Goals as goal
+use Rattle.goblin_text.proofs.RunEnds.{end_after, end_known}
+use Rattle.goblin_text.specs.Runs.{IsRunEnd}
+use Rattle.goblin_text.proofs.runs.find_run_end.Goals as goal
 
 pub returns-then-known-gt0-clause-end : goal.returns-then-known-gt0-clause-end
 returns-then-known-gt0-clause-end c =
@@ -11,9 +11,8 @@ returns-then-known-gt0-clause-end c =
     let there : k < length c.args.ends.now = grind (arith, common_steps) in
     let known = end_known c.args.kind c.args.seen.now.bytes c.args.ends.now k c.requires.known there
     (omega (arith, kept, c.if-known-gt0.true)) in
-    subst (IsEnd c.args.kind c.args.seen.now.bytes c.args.first) (sym kept)
-    (end_behind c.args.kind c.args.seen.now.bytes c.args.first k _ c.loop-block.invariant.from
-    c.loop-block.invariant.run
+    subst (IsRunEnd c.args.kind c.args.seen.now.bytes c.args.first) (sym kept)
+    (end_after c.args.kind c.args.seen.now.bytes c.args.first k _ c.loop-block.invariant.from c.loop-block.invariant.run
     known)
 
 pub returns-then-known-gt0-clause-to : goal.returns-then-known-gt0-clause-to

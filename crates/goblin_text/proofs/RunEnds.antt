@@ -6,11 +6,11 @@ use Rattle.std.proofs.lemmas.Bool.{cases_eq, cases_lt}
 use Rattle.std.proofs.lemmas.Bool.Decides.{nat_tests}
 use Rattle.std.proofs.lemmas.List.{get_or-replicate, length-replicate}
 use Rattle.goblin_text.specs.declared.runs.Kind.{Kind}
-use Rattle.goblin_text.specs.Runs.{AreEnds, IsEnd, IsRun, unknown}
+use Rattle.goblin_text.specs.Runs.{AreRunEnds, IsRunEnd, IsRun, unknown}
 
 -- of a block of which nothing is known nothing is kept
-pub none_known : (kind : Kind) (bytes : List ℕ) (n : ℕ) → AreEnds kind bytes (replicate n 0)
-unfolding AreEnds
+pub none_known : (kind : Kind) (bytes : List ℕ) (n : ℕ) → AreRunEnds kind bytes (replicate n 0)
+unfolding AreRunEnds
 none_known kind bytes n = λ k l some.
     let z : ℕ = 0 in
     let size : length (replicate n z) ≡ n = length-replicate n z in
@@ -30,21 +30,21 @@ unknown_most (suc n) (end ∷ ends) =
 
 -- what is kept of a block
 pub end_known : (kind : Kind) (bytes ends : List ℕ) (k : ℕ)
-    → AreEnds kind bytes ends → k < length ends → 0 < get_or ends k 0 → IsEnd kind bytes k (get_or ends k 0)
-unfolding AreEnds
+    → AreRunEnds kind bytes ends → k < length ends → 0 < get_or ends k 0 → IsRunEnd kind bytes k (get_or ends k 0)
+unfolding AreRunEnds
 end_known kind bytes ends k h l some = h k l some
 
 -- one end more
 pub end_more : (kind : Kind) (bytes ends : List ℕ) (i n : ℕ)
-    → AreEnds kind bytes ends → i < length ends → IsEnd kind bytes i n → AreEnds kind bytes (set ends i n)
-unfolding AreEnds
+    → AreRunEnds kind bytes ends → i < length ends → IsRunEnd kind bytes i n → AreRunEnds kind bytes (set ends i n)
+unfolding AreRunEnds
 end_more kind bytes ends i n h m t = λ k l some. ⊎_elim
     (λ (s : k ≡ i).
     let e : get_or (set ends i n) k 0 ≡ n = ap (λ x. get_or (set ends i n) x 0) s ∙ get_or-set_same ends i n 0 m in
-    subst (λ x. IsEnd kind bytes x (get_or (set ends i n) k 0)) (sym s) (subst (IsEnd kind bytes i) (sym e) t))
+    subst (λ x. IsRunEnd kind bytes x (get_or (set ends i n) k 0)) (sym s) (subst (IsRunEnd kind bytes i) (sym e) t))
     (λ (d : k ≢ i).
     let e : get_or (set ends i n) k 0 ≡ get_or ends k 0 = rw get_or-set_other refl in
-    subst (IsEnd kind bytes k) (sym e) (h k (omega (arith, l, length-set {A = ℕ})) (omega (arith, e, some))))
+    subst (IsRunEnd kind bytes k) (sym e) (h k (omega (arith, l, length-set {A = ℕ})) (omega (arith, e, some))))
     (cases_eq k i)
 
 -- and so one unknown less
@@ -65,9 +65,9 @@ unknown_less (suc n) (end ∷ ends) (suc i) v l m z p =
     ]
 
 -- a run goes on to where the run ends that goes on from it
-pub end_behind : (kind : Kind) (bytes : List ℕ) (first k end : ℕ)
-    → first ≤ k → IsRun kind bytes first k → IsEnd kind bytes k end → IsEnd kind bytes first end
-end_behind kind bytes first k end l run e = record {
+pub end_after : (kind : Kind) (bytes : List ℕ) (first k end : ℕ)
+    → first ≤ k → IsRun kind bytes first k → IsRunEnd kind bytes k end → IsRunEnd kind bytes first end
+end_after kind bytes first k end l run e = record {
   order = omega (arith, e.order);
   within = e.within;
   run = λ j from to. ⊎_elim (λ (s : j < k). run j from s) (λ (s : k ≤ j). e.run j s to) (cases_lt j k);
@@ -76,7 +76,7 @@ end_behind kind bytes first k end l run e = record {
 
 -- the end of a run is that of each run in it
 pub end_later : (kind : Kind) (bytes : List ℕ) (first k end : ℕ)
-    → first ≤ k → k ≤ end → IsEnd kind bytes first end → IsEnd kind bytes k end
+    → first ≤ k → k ≤ end → IsRunEnd kind bytes first end → IsRunEnd kind bytes k end
 end_later kind bytes first k end l m e = record {
   order = m;
   within = e.within;

@@ -2,7 +2,7 @@ use Rattle.std.specs.Prelude.{◌≡◌, ℕ, ◌+◌, ◌-◌, ◌*◌, ◌<◌
 use Rattle.goblin_base.specs.Entries.{CountsAtLeast}
 use Rattle.goblin_text.specs.Looks.{block_looks}
 use Rattle.goblin_text.specs.Runs.{IsRun, blocks}
-use Rattle.goblin_text.proofs.runs.look_for_end.Given as goal
+use Rattle.goblin_text.proofs.runs.find_run_end.Given as goal
 
 -- the blocks so far are of the kind, and of none it is known where its run ends
 abbrev pub invariant-loop-block : goal.invariant-loop-block

@@ -1,12 +1,12 @@
 use Rattle.std.specs.Prelude.{◌≡◌, ℕ, ◌+◌, ◌-◌, ◌<◌, ◌≤◌, slice_index}
-use Rattle.goblin_text.specs.Runs.{AreEnds, blocks, unknown}
-use Rattle.goblin_text.proofs.runs.end_of.Given as goal
+use Rattle.goblin_text.specs.Runs.{AreRunEnds, blocks, unknown}
+use Rattle.goblin_text.proofs.runs.run_end.Given as goal
 
 -- of the blocks so far the end is kept, and of the others it isn't known
 abbrev pub invariant-loop-block : goal.invariant-loop-block
 invariant-loop-block l = let n = blocks l.fn.seen.bytes in record {
   from : l.first ≤ l.block;
-  known : AreEnds l.fn.kind l.fn.seen.bytes l.ends;
+  known : AreRunEnds l.fn.kind l.fn.seen.bytes l.ends;
   fewer : unknown n l.ends + (l.block - l.first) ≤ unknown n l.initial.ends;
   rest : (k : ℕ) → l.block ≤ k → k < l.found.read → slice_index l.ends k ≡ 0;
 }
