@@ -182,7 +182,7 @@ module _ (bytes : List ℕ) where
       first_bad_at p v ∙ sym (ap (piece_start (take p bytes) 0) size ∙ start_of_front bytes 0 p p (omega arith))
 
   -- ---- the table
-  -- what a strict walk answers whose first bad piece begins there
+  -- what a strict walk returns whose first bad piece begins there
   walk_to : ℕ → Result StringTable Refusal
   walk_to first =
       (if ltb first (length bytes) then Err (invalid_utf8 (length bytes - first)) else Ok (entries bytes 0))

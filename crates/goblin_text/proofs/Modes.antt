@@ -18,7 +18,7 @@ use Rattle.std.specs.Prelude.{slice_get}
 use Rattle.goblin_text.specs.Shown.{ctx_of, each_shown, file_shown, has_symbols, sections_of, shown, sizes_checked}
 use Rattle.goblin_text.specs.Shown.{strings_at, strings_of, symbols_shown, PermissiveShowsStrict}
 
--- the second answer is the first one, where that is a value
+-- the second result is the first one, if that is a value
 abbrev pub Keeps : {A E : Type 0} → Result A E → Result A E → Type 0
 Keeps {A} r s = (a : A) → r ≡ Ok a → s ≡ Ok a
 

@@ -1,4 +1,4 @@
--- What is kept of blocks of a file.
+-- The ends of runs that are stored of a file's blocks.
 use Rattle.std.proofs.Common.{◌≡◌, ◌∙◌, ℕ, zero, suc, eqb, [], ◌∷◌, refl, ◌+◌, ◌<◌, ◌≤◌, ◌≢◌, set, replicate}
 use Rattle.std.proofs.Common.{length-set, get_or-set_other, get_or-set_same, true, false, cond, List, length, get_or}
 use Rattle.std.proofs.Common.{sym, ap, subst, ⊎_elim, arith}
@@ -8,7 +8,7 @@ use Rattle.std.proofs.lemmas.List.{get_or-replicate, length-replicate}
 use Rattle.goblin_text.specs.declared.runs.Kind.{Kind}
 use Rattle.goblin_text.specs.Runs.{AreRunEnds, IsRunEnd, IsRun, unknown}
 
--- of a block of which nothing is known nothing is kept
+-- no end is stored at first
 pub none_known : (kind : Kind) (bytes : List ℕ) (n : ℕ) → AreRunEnds kind bytes (replicate n 0)
 unfolding AreRunEnds
 none_known kind bytes n = λ k l some.
@@ -28,7 +28,7 @@ unknown_most (suc n) (end ∷ ends) =
       | false ↦ omega (arith, unknown_most n ends)
     ]
 
--- what is kept of a block
+-- an end that is stored
 pub end_known : (kind : Kind) (bytes ends : List ℕ) (k : ℕ)
     → AreRunEnds kind bytes ends → k < length ends → 0 < get_or ends k 0 → IsRunEnd kind bytes k (get_or ends k 0)
 unfolding AreRunEnds

@@ -6,7 +6,7 @@ use Rattle.goblin_text.specs.declared.counted.Counted.{Counted}
 abbrev pub inner_of : {T : Type 0} → Counted T → T
 inner_of c = c.inner
 
--- what it has told so far
+-- what it has reported so far
 abbrev pub marks_of : {T : Type 0} → Counted T → Marks
 marks_of c =
     record {

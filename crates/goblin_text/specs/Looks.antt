@@ -1,4 +1,4 @@
--- What is looked at of a file for its names: the counted views, and what may be looked at.
+-- The looks at a file for its names: the view of what reads them, and how many looks it may take.
 use Rattle.std.specs.Prelude.{◌≡◌, ℕ, ◌+◌, ◌*◌, ◌≤◌, ◌==◌, if◌then◌else◌, List, [], ◌∷◌, length, Result, Ok, Err}
 use Rattle.std.specs.Prelude.{unwrap_or}
 use Rattle.std.specs.Result.{result_ok}
@@ -19,7 +19,7 @@ pub record NamesView : Type 0 where
   pub text_start : ℕ
   pub text_end : ℕ
 
--- the range that is kept as text is the one from one place to another
+-- the range that was last found to be text is the one from one place to another
 abbrev pub IsCached : NamesView → (start end : ℕ) → Type 0
 IsCached names start end = (names.text_start ≡ start) × (names.text_end ≡ end)
 

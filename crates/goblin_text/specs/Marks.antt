@@ -1,4 +1,4 @@
--- What a reader or a writer has told so far.
+-- What a reader or a writer has reported so far.
 use Rattle.std.specs.Prelude.{ℕ, ◌+◌, ◌-◌, ◌^◌, min, Bool, ◌||◌, ◌&&◌, ◌==◌, nat_lt, not, false, true, List, length}
 use Rattle.std.specs.Prelude.{Result, Ok, Err, is_err}
 use Rattle.std.specs.IoError.{error_kind}
@@ -7,7 +7,7 @@ use Rattle.std.specs.declared.io.ErrorKind.{ErrorKind}
 use Rattle.std.specs.declared.io.ErrorKind.TheVariants.{Interrupted}
 
 -- how many read calls there were, which stops at the greatest u64, and whether an error, a read error that is no
--- interruption, and the end were told
+-- interruption, and the end were reported
 pub record Marks : Type 0 where
   pub read_calls : ℕ
   pub reported_error : Bool
@@ -28,12 +28,12 @@ abbrev pub is_failure : Result ℕ Error → Bool
 is_failure (Ok count) = false
 is_failure (Err e) = not (is_interruption (error_kind e))
 
--- the end is told by 0 bytes for a buffer that has room
+-- a read of 0 bytes into a buffer that isn't empty is the end
 abbrev pub is_end : Result ℕ Error → List ℕ → Bool
 is_end (Ok count) buf = (count == 0) && nat_lt 0 (length buf)
 is_end (Err e) buf = false
 
--- the marks after `read(buf)` gave this answer
+-- the marks after `read(buf)` returned this
 abbrev pub after_read : Marks → Result ℕ Error → List ℕ → Marks
 after_read m answer buf = record {
   read_calls = min (m.read_calls + 1) (2 ^ 64 - 1);
@@ -42,6 +42,6 @@ after_read m answer buf = record {
   reported_end = m.reported_end || is_end answer buf;
 }
 
--- the marks after `write_all` or `flush` gave this answer
+-- the marks after `write_all` or `flush` returned this
 abbrev pub after_write : {T E : Type 0} → Marks → Result T E → Marks
 after_write m answer = record m { reported_error = m.reported_error || is_err answer }

@@ -2,12 +2,12 @@
 use Rattle.std.specs.Prelude.{◌≡◌, ℕ, List, take, Option, Bool, IsTrue, Result, Ok, Err}
 use Rattle.std.specs.Io.KnownBytes.{Appends, append_known}
 
--- the bytes that it holds, where they are told, and whether it told an error
+-- the bytes that it holds, if they are known, and whether it reported an error
 pub record State : Type 0 where
   pub contents : Option (List ℕ)
   pub reported_error : Bool
 
--- it holds a text more and no other, and told no error that it hadn't told before; or it told an error
+-- it holds a text more and no other, and reported no new error; or it reported an error
 abbrev pub Puts : {E : Type 0} → State → State → Result (Unit {0}) E → List ℕ → Type 0
 Puts old new (Ok done) text = Appends old.contents new.contents text × (new.reported_error ≡ old.reported_error)
 Puts old new (Err e) text = IsTrue new.reported_error

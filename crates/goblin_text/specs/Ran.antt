@@ -15,32 +15,32 @@ use Rattle.goblin_text.specs.declared.input.Input.TheVariants as inputs
 use Rattle.goblin_text.specs.declared.run.Outcome.{Outcome}
 use Rattle.goblin_text.specs.declared.run.Outcome.TheVariants as outcomes
 
--- how many times the reader is asked
+-- the greatest number of read calls
 abbrev pub read_limit : ℕ
 read_limit = 2 * INPUT_LIMIT
 
--- The reader gave these bytes, which are no more than the program takes, and told its end: none is left.
+-- The reader returned these bytes, which are no more than the program takes, and its end: none is left.
 pub record ReadsAll (old new : Option (List ℕ)) (marks : Marks) (bytes : List ℕ) : Type 0 where
   pub taken : Consumes old new bytes
   pub all : IsAtEnd new
   pub short : length bytes ≤ INPUT_LIMIT
   pub end : IsTrue marks.reported_end
 
--- The reader gave these bytes, which are more than the program takes.
+-- The reader returned these bytes, which are more than the program takes.
 pub record ReadsTooMuch (old new : Option (List ℕ)) (bytes : List ℕ) : Type 0 where
   pub taken : Consumes old new bytes
   pub long : INPUT_LIMIT < length bytes
 
--- the reader gave no more than one byte past those that the program takes
+-- the reader returned at most one byte more than the program takes
 abbrev pub ReadsAtMostOneMore : Option (List ℕ) → Option (List ℕ) → Type 0
 ReadsAtMostOneMore old new = (bytes : List ℕ) × Consumes old new bytes × (length bytes ≤ INPUT_LIMIT + 1)
 
--- The reader was asked this often, and told no end.
+-- The reader was called this often, and didn't return its end.
 pub record ReadsInVain (limit : ℕ) (before after : Marks) : Type 0 where
   pub calls : min (before.read_calls + limit) (2 ^ 64 - 1) ≤ after.read_calls
   pub endless : after.reported_end ≡ before.reported_end
 
--- The reader told an error, which was no interruption, or it was asked as often as it is in vain.
+-- The reader reported an error that was no interruption, or it was called as often as it may be, in vain.
 pub record FailsToRead (before after : Marks) : Type 0 where
   pub error : IsTrue after.reported_error
   pub reason : IsTrue after.reported_failure ⊎ ReadsInVain read_limit before after
@@ -52,7 +52,7 @@ IsInput inputs.TooLong old new before after = (bytes : List ℕ) × ReadsTooMuch
 IsInput inputs.OutOfMemory old new before after = after.read_calls < before.read_calls + read_limit
 IsInput inputs.Failed old new before after = FailsToRead before after
 
--- what was read, where the reader is asked this often: asked less often than there may be bytes, it may tell no error
+-- what was read in so many calls: in fewer than there may be bytes, the reader may report no error
 abbrev pub IsInputWithin : (limit : ℕ) → Input → Option (List ℕ) → Option (List ℕ) → Marks → Marks → Type 0
 IsInputWithin limit (inputs.Whole v) old new before after = ReadsAll old new after (vec_items v)
 IsInputWithin limit inputs.TooLong old new before after = (bytes : List ℕ) × ReadsTooMuch old new bytes
@@ -75,7 +75,7 @@ WritesRefusal held holds line = Appends held holds (codes "refused: " & line & n
 abbrev pub usage_line : List ℕ
 usage_line = codes "usage: goblin_show [permissive]" & newline
 
--- the writer holds the line on how the program is called more, and no other, or it told an error
+-- the writer holds the line on how the program is called more, and no other, or it reported an error
 abbrev pub WritesUsage : Option (List ℕ) → Option (List ℕ) → Marks → Type 0
 WritesUsage held holds marks = Appends held holds usage_line ⊎ IsTrue marks.reported_error
 
@@ -102,22 +102,21 @@ abbrev pub IsReasonOf : ParseMode → List ℕ → List ℕ → Type 0
 IsReasonOf mode bytes line =
     ((r : Refusal) × (shown mode bytes ≡ Err r) × (line ≡ refusal_text r)) ⊎ (line ≡ codes "Out of memory")
 
--- How a run ended, and what it did: to the reader, of which are told what is left and the marks before and after, and
--- to the writer, of which are told what it holds and the marks.
+-- How a run ended. Of the reader, what is left and the marks are given, before and after; of the writer, what it holds
+-- and the marks.
 pub record HasRun (mode : ParseMode) (outcome : Outcome) (old new : Option (List ℕ)) (before after : Marks)
-    (held holds : Option (List ℕ)) (told tells : Marks) : Type 0 where
-  -- The reader told its end, and the text of all its bytes was written.
+    (held holds : Option (List ℕ)) (first last : Marks) : Type 0 where
+  -- the reader returned its end, and the text of all its bytes was written
   pub shown : outcome ≡ outcomes.Shown → IsShown mode old new after held holds
-  -- One line with the reason was written.
+  -- one line with the reason was written
   pub refused : outcome ≡ outcomes.Refused
       → (line : List ℕ) × IsReason mode old new after line × WritesRefusal held holds line
-  -- The reader told an error that was no interruption, or was asked as often as it is and told no end; or the writer
-  -- told an error.
-  pub failed : outcome ≡ outcomes.Failed → FailsToRead before after ⊎ IsTrue tells.reported_error
-  -- Where it did not, the reader told no error but interruptions, and the writer none.
+  -- the reader failed, or the writer reported an error
+  pub failed : outcome ≡ outcomes.Failed → FailsToRead before after ⊎ IsTrue last.reported_error
+  -- else the reader reported no error but interruptions, and the writer none
   pub heeds_reader : outcome ≢ outcomes.Failed → after.reported_failure ≡ before.reported_failure
-  pub heeds_writer : outcome ≢ outcomes.Failed → tells.reported_error ≡ told.reported_error
-  -- However it ended, the reader was not asked for more.
+  pub heeds_writer : outcome ≢ outcomes.Failed → last.reported_error ≡ first.reported_error
+  -- however it ended, no more was read
   pub most : ReadsAtMostOneMore old new
   pub calls : after.read_calls ≤ before.read_calls + read_limit
 

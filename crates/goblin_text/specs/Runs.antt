@@ -8,20 +8,20 @@ use Rattle.goblin_text.specs.declared.runs.TheConstants.{BLOCK, BLOCKS}
 use Rattle.goblin_text.specs.declared.runs.Kind.{Kind}
 use Rattle.goblin_text.specs.declared.runs.Kind.TheVariants.{Text, ZeroFree}
 
--- the place after a byte that goes on with a character, or the same place
+-- the place after a continuation byte, or the same place
 unfoldable pub after_continuation : List ℕ → ℕ → ℕ
 after_continuation bytes place =
     if nat_le 128 (slice_index bytes place) && nat_lt (slice_index bytes place) 192 then place + 1 else place
 
--- where the characters from a place on begin: after up to three bytes that go on with a character
+-- where the characters from a place on begin: after up to three continuation bytes
 unfoldable pub char_start : List ℕ → ℕ → ℕ
 char_start bytes place = after_continuation bytes (after_continuation bytes (after_continuation bytes place))
 
--- the bytes before the first zero byte, or all
+-- the string that bytes begin with: those before the first zero byte, or all
 unfoldable pub up_to_zero : List ℕ → List ℕ
 up_to_zero bytes = before_first (λ b. b == 0) bytes
 
--- the bytes before the first zero byte are no text
+-- the string is no text
 abbrev pub LacksText : List ℕ → Type 0
 LacksText bytes = ¬ (IsUtf8 (up_to_zero bytes))
 
@@ -76,7 +76,7 @@ IsBlock kind bytes block = IsOfKind kind (slice_range bytes (block_start bytes b
 abbrev pub IsRun : Kind → List ℕ → ℕ → ℕ → Type 0
 IsRun kind bytes first next = (j : ℕ) → first ≤ j → j < next → IsBlock kind bytes j
 
--- how many blocks are kept in mind: those that are whole, of the longest file that the program takes
+-- how many whole blocks a file has, up to those of the longest one that the program takes
 abbrev pub blocks : List ℕ → ℕ
 blocks bytes = min (length bytes / BLOCK) BLOCKS
 
@@ -87,12 +87,12 @@ pub record IsRunEnd (kind : Kind) (bytes : List ℕ) (first end : ℕ) : Type 0 
   pub run : IsRun kind bytes first end
   pub stops : end < blocks bytes → ¬ (IsBlock kind bytes end)
 
--- where it is kept where a run ends, that is right: 0 is kept of a block of which it isn't known
+-- each end that is stored is the end of the run from its block on: 0 stands for a block whose run isn't known
 unfoldable pub AreRunEnds : Kind → List ℕ → List ℕ → Type 0
 AreRunEnds kind bytes ends =
     (k : ℕ) → k < length ends → 0 < slice_index ends k → IsRunEnd kind bytes k (slice_index ends k)
 
--- of how many of the first blocks it isn't known where their run ends
+-- how many of the first blocks have a run that isn't known
 unfoldable pub unknown : ℕ → List ℕ → ℕ
 unknown zero ends = 0
 unknown (suc n) [] = 0

@@ -23,7 +23,7 @@ use Rattle.goblin.specs.Texts.{◌&◌}
 use Rattle.goblin_text.specs.Lines.{header_line, reloc_line, section_line, symbol_line}
 use Rattle.goblin_text.specs.Options.{is_permissive}
 
--- the class and the byte order that a header tells
+-- the class and the byte order of a header
 abbrev pub ctx_of : Header → Result Ctx Error
 ctx_of h = do
   class ← class_of InvalidClass h.e_ident

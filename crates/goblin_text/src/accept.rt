@@ -1,4 +1,4 @@
-//! A file whose parts are accepted: of it nothing is refused any more, and its text takes no memory.
+//! Accepting a file: all that can be refused is tested here, so that writing its text takes no memory.
 ghost use Rattle.std.specs.Prelude.{◌≡◌, ◌+◌, ◌*◌, IfErr, IfOk, OnErr, length};
 ghost use Rattle.goblin.specs.Refusal.{Answers, Gives, Refuses};
 ghost use Rattle.goblin.specs.SectionHeaders.{section_headers_of_tested};
@@ -21,7 +21,7 @@ use goblin::error::Result;
 use goblin::options::ParseOptions;
 use std::alloc::Global;
 
-/// The symbols of the section with a number, and the strings that their names are taken from.
+/// The symbols of the section with a number, and the strings that hold their names.
 #[derive(Drop)]
 pub struct SymbolPart<'a> {
     pub section: usize,
@@ -52,14 +52,14 @@ pub struct Accepted<'a> {
     pub parts: Parts<'a>,
 }
 
-// The class and the byte order that a header tells.
+// Returns the class and the byte order of a header.
 fn ctx_of(header: &Header) -> Result<Ctx>
     ensures { result ≡ ctx_of header.now }
 {
     Ok(Ctx::new(header.container()?, header.endianness()?))
 }
 
-// Whether each section lies in a file of `len` bytes, which permissive options don't ask.
+// Refuses a section that doesn't lie in a file of `len` bytes. Permissive options accept it.
 fn check_sizes(sections: &[SectionHeader], len: usize, opts: &ParseOptions) -> Result<()>
     ensures { result ≡ sizes_checked opts.now.parse_mode len sections.now }
 {
@@ -69,7 +69,7 @@ fn check_sizes(sections: &[SectionHeader], len: usize, opts: &ParseOptions) -> R
     Ok(())
 }
 
-// The section headers of a file with this header, each of which is checked.
+// Reads the section headers of a file with this header, and checks each of them.
 #[tactic(auto, unfolding(crate::specs::Shown::sections_of))]
 fn sections_of(
     alloc: Global,
@@ -90,14 +90,14 @@ fn sections_of(
     Ok(sections)
 }
 
-// Whether a section holds symbols.
+// Reports whether a section holds symbols.
 fn has_symbols(section: &SectionHeader) -> bool
     ensures { result ≡ has_symbols section.now }
 {
     (section.sh_type == SHT_SYMTAB || section.sh_type == SHT_DYNSYM) && section.sh_size > 0
 }
 
-// Whether a section holds relocations.
+// Reports whether a section holds relocations.
 fn has_relocs(section: &SectionHeader) -> bool
     ensures { result ≡ has_relocs section.now }
 {
@@ -114,7 +114,7 @@ struct Context<'b> {
 }
 
 impl Context<'_> {
-    // The string table that a section is.
+    // Returns the string table that a section holds.
     fn strings_of(&self, names: &mut Names<'_>, section: &SectionHeader) -> Result<Strings>
         ensures exact { let right = strings_of self.now.opts.now.parse_mode names.old.bytes
             (Some section.now) in
@@ -131,7 +131,7 @@ impl Context<'_> {
         names.table(offset, size, self.opts)
     }
 
-    // The string table that is the section with an index: index 0 is no section.
+    // Returns the string table of the section with an index. Index 0 stands for no section.
     #[tactic(auto, unfolding(crate::specs::Shown::strings_at))]
     fn strings_at(&self, names: &mut Names<'_>, index: usize) -> Result<Strings>
         ensures exact { let right = strings_at self.now.opts.now.parse_mode names.old.bytes
@@ -247,7 +247,7 @@ impl Context<'_> {
         Ok(())
     }
 
-    // The strings of the sections' names, the symbols and the relocations.
+    // Accepts the strings of the sections' names, the symbols and the relocations.
     #[tactic(auto, unfolding(crate::specs::Shown::file_shown))]
     fn parts<'a>(&self, alloc: Global, file: &mut FileBytes<'a>) -> Result<Parts<'a>>
         ensures given { let right = file_shown self.now.opts.now.parse_mode file.old.bytes
@@ -272,14 +272,14 @@ impl Context<'_> {
     }
 }
 
-/// The file whose names are read here, of which the text can be shown.
+/// Returns the parts of a file, whose text can then be written without an allocation.
 ///
-/// The errors, of which the first that applies is the answer: those of reading the header; those of
-/// reading the section headers from the offset and of the number that the header tells; where the
-/// options are strict, a section that does not lie in the file or whose addresses end at the greatest
-/// one or past it; those of the section names' table; for each section of symbols those of its symbol
-/// table and then of its string table; for each section of relocations those of reading it. Or memory
-/// is wanting.
+/// # Errors
+///
+/// The first of these that applies: an error of reading the header; of reading its section headers; under
+/// strict options, a section that doesn't lie in the file, or whose addresses end at the greatest one or past
+/// it; of the table of the sections' names; for each section of symbols, of its symbol table and then of its
+/// string table; for each section of relocations, of reading it. Or it is out of memory.
 #[tactic(auto, unfolding(crate::specs::Shown::shown, crate::specs::Shown::tested, crate::specs::Looks::section_count))]
 pub fn accept<'a>(
     alloc: Global,
@@ -289,13 +289,13 @@ pub fn accept<'a>(
     ensures text { let right = shown opts.now.parse_mode file.old.bytes in
         Gives (accepted_text file.old.bytes) result right }
 
-    // Want of memory hides no refusal of the header, and none of the section headers' first tests.
+    // Out of memory masks no refusal of the header, and none of the section headers' first tests.
     ensures tested { IfErr (tested file.old.bytes) (λ refusal. Refuses result refusal) }
     ensures unchanged { file.new.bytes ≡ file.old.bytes }
     ensures sections { IfOk result (λ accepted.
         length accepted.sections.items ≡ section_count opts.now.parse_mode file.old.bytes) }
 
-    // What is looked at of string tables.
+    // Looks at string tables.
     ensures looks { IsShort file.old.bytes → IfOk result (λ accepted.
         LooksAtMost file.old file.new (table_looks * (length accepted.sections.items + 1))) }
     ensures looks_refused { let most = tables_looks opts.now.parse_mode file.old.bytes in

@@ -1,4 +1,4 @@
-//! What the program does: from its words, a reader and a writer to its exit status.
+//! The program: from its arguments, a reader and a writer to its exit status.
 ghost use Rattle.std.specs.Prelude.{◌≡◌, ◌<◌, None, Some, OnErr, OnOk};
 ghost use Rattle.goblin.specs.declared.options.ParseOptions.{ParseOptions};
 ghost use Rattle.goblin_text.specs.declared.run.Outcome.{Outcome};
@@ -23,11 +23,11 @@ fn write_usage<W: Sink>(writer: &mut W)
     }
 }
 
-/// Does what the words ask for, which are the arguments after the program's name, and answers the
-/// exit status: 0 where the text was shown, 1 where a line was written that says why there is
-/// none, and 2 where reading or writing failed. Words that ask for no options are answered with a
-/// line on how the program is called, and with 2; where they can't be had, nothing is written, and
-/// the answer is 2 too.
+/// Runs with the options that the words ask for, which are the arguments after the program's name. Returns the
+/// exit status.
+///
+/// The status is that of the run (`Outcome::status`). If the words ask for no options, it writes how the program is
+/// called. If they can't be read, it writes nothing. In both cases the status is that of a run that failed.
 pub fn show<R: Source, W: Sink>(
     alloc: Global,
     words: io::Result<Vec<String>>,

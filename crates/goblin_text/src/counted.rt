@@ -1,4 +1,4 @@
-//! A reader or a writer of std, with the marks of what it told.
+//! A reader or a writer of std, with marks of what it reported.
 ghost use Rattle.std.specs.Prelude.{◌≡◌};
 ghost use Rattle.goblin_text.specs.Counted.{inner_of, marks_of};
 ghost use Rattle.goblin_text.specs.Marks.{no_marks};
@@ -7,8 +7,8 @@ use crate::streams::{Sink, Source, is_interruption};
 use std::io;
 use std::io::{Read, Write};
 
-/// A reader or a writer of std that counts its read calls, and marks that an error, a read error
-/// that is no interruption, or the end came.
+/// A reader or a writer of std that counts its read calls, and marks that it reported an error, a read error that
+/// is no interruption, or the end.
 #[derive(Drop)]
 pub struct Counted<T> {
     inner: T,
@@ -19,7 +19,7 @@ pub struct Counted<T> {
 }
 
 impl<T> Counted<T> {
-    /// A reader or writer with no mark set, and no read call counted.
+    /// Returns a reader or writer with no mark set, and no read call counted.
     pub fn new(inner: T) -> Self
         ensures inner { inner_of result ≡ inner }
         ensures marks { marks_of result ≡ no_marks }
@@ -33,42 +33,42 @@ impl<T> Counted<T> {
         }
     }
 
-    /// The reader or writer inside.
+    /// Returns the reader or writer inside.
     pub fn into_inner(self) -> T
         ensures { result ≡ inner_of self }
     {
         self.inner
     }
 
-    /// The reader or writer inside, to look at.
+    /// Borrows the reader or writer inside.
     pub fn inner(&self) -> &T
         ensures { result.now ≡ inner_of self.now }
     {
         &self.inner
     }
 
-    /// How many read calls there were, up to the greatest number.
+    /// Returns the number of read calls, up to the greatest number.
     pub fn read_calls(&self) -> u64
         ensures { result ≡ (marks_of self.now).read_calls }
     {
         self.read_calls
     }
 
-    /// Whether an error was told.
+    /// Reports whether there was an error.
     pub fn reported_error(&self) -> bool
         ensures { result ≡ (marks_of self.now).reported_error }
     {
         self.reported_error
     }
 
-    /// Whether a read error was told that is no interruption.
+    /// Reports whether there was a read error that is no interruption.
     pub fn reported_failure(&self) -> bool
         ensures { result ≡ (marks_of self.now).reported_failure }
     {
         self.reported_failure
     }
 
-    /// Whether the end was told.
+    /// Reports whether a read found the end.
     pub fn reported_end(&self) -> bool
         ensures { result ≡ (marks_of self.now).reported_end }
     {

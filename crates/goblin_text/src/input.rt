@@ -1,4 +1,4 @@
-//! The input: all bytes that a reader gives up to its end.
+//! The input: all bytes of a reader up to its end.
 ghost use Rattle.std.specs.Prelude.{◌≡◌, ◌≢◌, ◌+◌, ◌<◌, ◌≤◌, OnOk, drop, take, vec_len};
 ghost use Rattle.std.specs.Io.{ReadsAtMost};
 ghost use Rattle.std.specs.Io.KnownBytes.{ReadConsumes};
@@ -9,39 +9,39 @@ use crate::streams::{Source, is_interruption};
 use std::alloc::{AllocError, Global};
 use std::io;
 
-/// How many bytes of input the program takes.
+/// The greatest number of bytes of input that the program takes.
 pub const INPUT_LIMIT: usize = 16_777_216;
 
 /// The line for an input that is longer.
 pub const TOO_LONG: &str = "input is longer than 16777216 bytes";
 
-// How many times the reader is asked.
+// The greatest number of read calls.
 const READ_LIMIT: u64 = 2 * INPUT_LIMIT as u64;
 
-// For how many bytes room is made at once.
+// The number of bytes that the input grows by at once.
 const ROOM: usize = 65_536;
 
-// How many bytes are filled with zeros at once: from 2 KiB on the C library fills fresh memory in a
-// way that takes longer.
+// The number of bytes that are filled with zeros at once. From 2 KiB on the C library fills fresh memory in a
+// slower way.
 const STEP: usize = 1_984;
 
-// How many times as much memory is asked for where it runs short.
+// The factor that memory grows by.
 const GROWTH: usize = 4;
 
-/// What was read.
+/// The result of reading.
 #[derive(Drop)]
 pub enum Input {
     /// All bytes, up to the end.
     Whole(Vec<u8>),
     /// More bytes than the program takes.
     TooLong,
-    /// Bytes that found no memory.
+    /// Memory ran out.
     OutOfMemory,
-    /// Bytes up to an error, or up to the last call that was to be made.
+    /// The reader reported an error, or was called as often as it may be.
     Failed,
 }
 
-// Makes room after the filled bytes, where there is none.
+// Makes the bytes longer, if all of them are filled.
 fn make_room(bytes: &mut Vec<u8>, filled: usize) -> Result<(), AllocError>
     requires short { filled ≤ INPUT_LIMIT }
     requires fits { vec_len bytes.old ≤ INPUT_LIMIT + 1 }
@@ -64,7 +64,7 @@ fn make_room(bytes: &mut Vec<u8>, filled: usize) -> Result<(), AllocError>
     Ok(())
 }
 
-// Reads into the room after the first `filled` bytes.
+// Reads into the bytes after the first `filled` ones.
 fn read_into<R: Source>(reader: &mut R, bytes: &mut Vec<u8>, filled: usize) -> io::Result<usize>
     requires { filled < vec_len bytes.old }
     ensures len { vec_len bytes.new ≡ vec_len bytes.old }
@@ -90,7 +90,7 @@ pub fn input_of<R: Source>(alloc: Global, reader: &mut R) -> Input
     input_within(alloc, reader, READ_LIMIT)
 }
 
-/// Reads up to the end, in so many read calls at most.
+/// Reads up to the end, in at most so many read calls.
 pub fn input_within<R: Source>(alloc: Global, reader: &mut R, limit: u64) -> Input
     ensures input { IsInputWithin limit result (R.remaining reader.old) (R.remaining reader.new)
         (R.marks reader.old) (R.marks reader.new) }

@@ -1,4 +1,4 @@
-//! The lines of the text that is shown of a file, put without taking memory.
+//! The lines of the text that is shown of a file, put without an allocation.
 ghost use Rattle.std.specs.Prelude.{◌≡◌, Some, map};
 ghost use Rattle.std.specs.List.{concat};
 ghost use Rattle.goblin.specs.Texts.{◌&◌};
@@ -26,14 +26,14 @@ fn put_all<T: Target>(target: &mut T, texts: &[&str]) -> Result<(), T::Error>
     Ok(())
 }
 
-// Whether a byte is a control character of ASCII.
+// Reports whether a byte is a control character of ASCII.
 fn is_control(byte: u8) -> bool
     ensures { result ≡ is_control byte }
 {
     byte < b' ' || byte == 0x7f
 }
 
-// A character as it prints.
+// Returns a character as it prints.
 fn printable(c: char) -> char
     ensures { result ≡ printable c }
 {
@@ -189,7 +189,7 @@ fn put_signed<T: Target>(target: &mut T, addend: i64) -> Result<(), T::Error>
     )
 }
 
-// Puts an addend, or a dash where there is none, and the end of its line.
+// Puts an addend, or a dash if there is none, and the end of its line.
 fn put_addend<T: Target>(target: &mut T, addend: Option<i64>) -> Result<(), T::Error>
     ensures put { Puts (T.state target.old) (T.state target.new) result
         (addend_text addend & newline) }

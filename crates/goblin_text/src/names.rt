@@ -1,5 +1,5 @@
-//! The string tables of a file and their names, read where they stand: so that no byte is read again and again, it is
-//! kept in mind of the file's blocks how far from each one text goes on.
+//! The string tables of a file and their names, read where they are. So that no byte is read again and again, `Names`
+//! stores of the file's blocks how far text goes on from each.
 ghost use Rattle.std.specs.Prelude.{◌≡◌, ◌↔◌, ◌+◌, ◌*◌, ◌<◌, ◌≤◌, ◌⊎◌, ◌-◌, ◌/◌, IsTrue, MatchOption, OnErr, OnOk, length, min, slice_range};
 ghost use Rattle.std.specs.Str.{IsUtf8};
 ghost use Rattle.goblin.specs.declared.options.ParseMode.{ParseMode};
@@ -17,17 +17,17 @@ use goblin::error::Result;
 use goblin::options::ParseOptions;
 use std::marker::Model;
 
-/// The strings that names are taken from.
+/// The strings that names come from.
 #[derive(Clone, Copy)]
 pub enum Strings {
-    /// None, which have no names.
+    /// There are none, and no names.
     Missing,
-    /// Those of the file's bytes from one place to another.
+    /// The file's bytes from one place to another.
     Within { start: usize, end: usize },
 }
 
-/// The bytes of a file, and what is kept in mind of its blocks: where the run of text from each one on ends, and where
-/// that of text with no zero byte does.
+/// The bytes of a file, and what is known of its blocks: where the run of text from each one on ends, and where the run
+/// of text with no zero byte does.
 #[derive(Drop)]
 pub struct Names<'a> {
     seen: Seen<'a>,
@@ -38,8 +38,8 @@ pub struct Names<'a> {
     text_end: usize,
 }
 
-// They are seen as the bytes, the looks taken, those that blocks may take which weren't read yet, and the range that was
-// last found to be text.
+// They are seen as the bytes, the looks taken, the looks that unread blocks may still take, and the range that was last
+// found to be text.
 impl<'a> Model for Names<'a> {
     ghost use Rattle.std.specs.Prelude.{◌+◌, ◌*◌, slice_range};
     ghost use Rattle.std.specs.Str.{IsUtf8};
@@ -62,7 +62,7 @@ impl<'a> Model for Names<'a> {
 }
 
 impl<'a> Names<'a> {
-    /// Nothing was read yet.
+    /// Returns the names of a file, of which nothing was read yet.
     pub fn new(bytes: &'a [u8]) -> Self
         ensures bytes { result.bytes ≡ bytes.now }
         ensures count { result.count ≡ 0 }
@@ -77,17 +77,19 @@ impl<'a> Names<'a> {
         }
     }
 
-    /// How many looks were taken, up to the greatest number.
+    /// Returns the number of looks that were taken, up to the greatest number.
     pub fn count(&self) -> u128
         ensures { result ≡ self.now.count }
     {
         self.seen.count()
     }
 
-    /// The string table with the delimiter 0 of `size` bytes of the file from an offset on.
+    /// Returns the string table of `size` bytes of the file from an offset on, whose strings end at zero bytes. Under
+    /// strict options its bytes must be text.
     ///
-    /// It has no entries: a name is read where it stands. Strict options ask that its bytes are text. The errors are
-    /// those of `Strtab::parse_with_opts`.
+    /// # Errors
+    ///
+    /// Those of `Strtab::parse_with_opts`.
     pub fn table(&mut self, offset: usize, size: usize, opts: &ParseOptions) -> Result<Strings>
         ensures exact { let right = strtab_of opts.now.parse_mode self.old.bytes offset size 0 in
             Answers (strings_in self.old.bytes) result right }
@@ -111,7 +113,8 @@ impl<'a> Names<'a> {
         Ok(Strings::Within { start, end })
     }
 
-    // Refuses the string table of a range, unless it is text: it is read, unless it is the one that was last found to be.
+    // Refuses the string table of a range, unless it is text. It is read, unless it is the one that was last found to be
+    // text.
     fn refuse_unless_text(&mut self, start: usize, end: usize) -> Result<()>
         requires ordered { start ≤ end }
         requires within { end ≤ length self.old.bytes }
@@ -166,7 +169,7 @@ impl<'a> Names<'a> {
         self.seen.is_text(rest, end)
     }
 
-    /// The string at an offset of a file's strings, or an empty one where there is none.
+    /// Returns the string at an offset of a file's strings, or an empty one if there is none.
     pub fn name(&mut self, strings: Strings, offset: usize) -> &'a str
         ensures name { result.now ≡ name_at (strings_in self.old.bytes strings) offset }
         ensures unchanged { self.new.bytes ≡ self.old.bytes }
@@ -184,7 +187,7 @@ impl<'a> Names<'a> {
         }
     }
 
-    // The string at an offset of the bytes from one place of the file to another.
+    // Returns the string at an offset of the bytes from one place of the file to another.
     fn name_within(&mut self, start: usize, end: usize, offset: usize) -> &'a str
         requires ordered { start ≤ end }
         requires within { end ≤ length self.old.bytes }
@@ -271,7 +274,7 @@ impl<'a> Names<'a> {
         self.end_of_text(from, to)
     }
 
-    // Where the string from a place on ends, up to another, unless it is no text.
+    // Returns where the string from a place on ends, up to another, or `None` if it is no text.
     fn end_of_text(&mut self, from: usize, to: usize) -> Option<usize>
         requires ordered { from ≤ to }
         requires within { to ≤ length self.old.bytes }
@@ -290,7 +293,7 @@ impl<'a> Names<'a> {
     }
 }
 
-// The block that bytes up to a place end in, or before which their last character begins.
+// Returns the block that bytes up to a place end in, or before which their last character begins.
 fn last_block(end: usize) -> usize
     ensures { result ≡ last_block end }
 {

@@ -21,14 +21,14 @@ use std::io;
 pub enum Outcome {
     /// The text was written.
     Shown,
-    /// A line was written that says why there is no text.
+    /// One line was written, with the reason why there is no text.
     Refused,
     /// Reading or writing failed.
     Failed,
 }
 
 impl Outcome {
-    /// The exit status of a run that ended so: 0, 1 or 2.
+    /// Returns the exit status of a run that ended so: 0, 1 or 2.
     pub fn status(self) -> u8
         ensures { result ≡ status_of self }
     {
@@ -55,7 +55,7 @@ fn write_refusal<W: Sink>(writer: &mut W, line: &str) -> io::Result<()>
     writer.flush()
 }
 
-// Writes `refused: ` and a line.
+// Writes `refused: ` and a line, and returns how that ended.
 fn refuse<W: Sink>(writer: &mut W, line: &str) -> Outcome
     ensures shown { result ≢ Outcome.Shown }
     ensures refused { result ≡ Outcome.Refused →
@@ -70,7 +70,7 @@ fn refuse<W: Sink>(writer: &mut W, line: &str) -> Outcome
     }
 }
 
-// Writes why the bytes are refused, or that memory ran out.
+// Writes why the bytes are refused, or that memory ran out, and returns how that ended.
 fn refuse_for<W: Sink>(alloc: Global, writer: &mut W, e: &Error) -> Outcome
     ensures shown { result ≢ Outcome.Shown }
     ensures refused { result ≡ Outcome.Refused → (line : List ℕ) × IsErrorLine e.now line
@@ -88,11 +88,11 @@ fn refuse_for<W: Sink>(alloc: Global, writer: &mut W, e: &Error) -> Outcome
     }
 }
 
-/// Writes the text of a file whose names are read here as it is made, or one line that says why there is none: that the
-/// bytes are refused, or found no memory. That is decided before the first line of the text.
+/// Writes the text of a file, or one line with the reason why there is none: the bytes are refused, or memory ran out.
+/// That is decided before the first line of the text is written.
 ///
-/// Of a file that is shown, what is looked at for names is at most five times its bytes, its text's bytes, and 4,096 for
-/// each line of its text; of one that is refused, seven times its bytes, and 1,040 for each section header and one more.
+/// Bytes looked at for names, from a fresh count: at most 5 times the file, its text, and 4,096 for each line, if the file
+/// is shown; at most 7 times the file, and 1,040 for each section header and one more, if it is refused.
 pub fn show_file<W: Sink>(
     alloc: Global,
     writer: &mut W,
@@ -113,7 +113,7 @@ pub fn show_file<W: Sink>(
     ensures failed { result ≡ Outcome.Failed → IsTrue (W.marks writer.new).reported_error }
     ensures unchanged { file.new.bytes ≡ file.old.bytes }
 
-    // What was looked at for names, where the text was written, and however it ended.
+    // The looks for names if the text was written, if it was refused, and however it ended.
     ensures looks_shown { IsShort file.old.bytes → (text : List ℕ) → result ≡ Outcome.Shown
         → shown opts.now.parse_mode file.old.bytes ≡ Ok text
         → LooksAtMost file.old file.new (length text + line_looks * lines_in text) }
@@ -132,13 +132,13 @@ pub fn show_file<W: Sink>(
     }
 }
 
-/// Reads up to the end, and then writes the text of what was read as it is made, or one line that says
-/// why there is none: that the bytes are refused, or are too many, or found no memory. That is decided
-/// before the first line of the text.
+/// Reads up to the end, and then writes the text of what was read, or one line with the reason why there is
+/// none: the bytes are refused, there are too many of them, or memory ran out. That is decided before the first
+/// line of the text is written.
 ///
-/// An interrupted read is tried again. Any other error of the reader or the writer, or
-/// 33,554,432 read calls without an end, is `Failed`: after an error of the reader nothing was
-/// written, and after one of the writer it is open how much was.
+/// An interrupted read is tried again. Any other error of the reader or the writer, or 33,554,432 read calls
+/// without an end, is `Failed`. After an error of the reader nothing was written. After one of the writer it is
+/// open how much was.
 pub fn run<R: Source, W: Sink>(
     alloc: Global,
     reader: &mut R,

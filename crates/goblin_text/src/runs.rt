@@ -1,4 +1,4 @@
-//! Runs of a file's blocks that are text, or text with no zero byte. Each block is read once for either.
+//! Runs of a file's blocks that are text, or text with no zero byte. Each block is read once for each of the two.
 ghost use Rattle.std.specs.Prelude.{◌≡◌, ◌↔◌, ◌+◌, ◌-◌, ◌*◌, ◌<◌, ◌≤◌, IsTrue, List, ℕ, length, slice_index, slice_range};
 ghost use Rattle.goblin_base.specs.Entries.{CountsAtLeast};
 ghost use Rattle.goblin_text.specs.Looks.{block_looks};
@@ -7,13 +7,13 @@ ghost use Rattle.goblin_text.specs.Runs.{AreRunEnds, IsBlock, IsRunEnd, IsOfKind
 use crate::input::INPUT_LIMIT;
 use crate::seen::Seen;
 
-/// How many bytes a block has.
+/// The number of bytes of a block.
 pub const BLOCK: usize = 512;
 
-/// How many blocks are kept in mind: those of the longest file that the program takes.
+/// The number of blocks of the longest file that the program takes.
 pub const BLOCKS: usize = INPUT_LIMIT / BLOCK;
 
-/// What the blocks of a run are.
+/// The kind of a run's blocks.
 #[derive(Clone, Copy)]
 pub enum Kind {
     /// Text.
@@ -22,7 +22,7 @@ pub enum Kind {
     ZeroFree,
 }
 
-// How far a run was looked for.
+// How far a run was searched for its end.
 #[derive(Clone, Copy)]
 struct Found {
     // The first block after those that were read.
@@ -31,7 +31,7 @@ struct Found {
     end: usize,
 }
 
-/// Of no block it is known where its run ends.
+/// Returns the ends of no block: 0 stands for a block whose run isn't known.
 pub fn none_known() -> [u16; BLOCKS]
     ensures known { (kind : Kind) → (bytes : List ℕ) → AreRunEnds kind bytes result }
     ensures unknown { (n : ℕ) → unknown n result ≤ n }
@@ -39,7 +39,7 @@ pub fn none_known() -> [u16; BLOCKS]
     [0; BLOCKS]
 }
 
-// Whether the bytes from one place up to another are of a kind. It is two looks at each, at most.
+// Reports whether the bytes from one place up to another are of a kind. It is at most two looks at each.
 fn is_of(seen: &mut Seen<'_>, kind: Kind, from: usize, to: usize) -> bool
     requires ordered { from ≤ to }
     requires within { to ≤ length seen.old.bytes }
@@ -54,7 +54,7 @@ fn is_of(seen: &mut Seen<'_>, kind: Kind, from: usize, to: usize) -> bool
     }
 }
 
-// Whether the block with a number is of a kind.
+// Reports whether the block with a number is of a kind.
 fn is_block_of(seen: &mut Seen<'_>, kind: Kind, block: usize) -> bool
     requires bound { block < BLOCKS }
     requires within { (block + 1) * BLOCK ≤ length seen.old.bytes }
@@ -68,8 +68,8 @@ fn is_block_of(seen: &mut Seen<'_>, kind: Kind, block: usize) -> bool
     is_of(seen, kind, from, to)
 }
 
-// Looks for the end of the run from a block on: as far as a block is of the kind, and it isn't known of it where
-// its run ends.
+// Finds the end of the run from a block on. It reads block by block, up to one that isn't of the kind, or one whose run
+// is known.
 fn find_run_end(seen: &mut Seen<'_>, kind: Kind, ends: &[u16; BLOCKS], first: usize) -> Found
     requires first { first ≤ blocks seen.old.bytes }
     requires known { AreRunEnds kind seen.old.bytes ends.now }
@@ -106,7 +106,7 @@ fn find_run_end(seen: &mut Seen<'_>, kind: Kind, ends: &[u16; BLOCKS], first: us
     }
 }
 
-/// Where the run of a kind from a block on ends. It is kept of each block that is read for it.
+/// Returns where the run of a kind from a block on ends, and stores that for each block that it reads.
 pub fn run_end(seen: &mut Seen<'_>, kind: Kind, ends: &mut [u16; BLOCKS], first: usize) -> usize
     requires some { 0 < first }
     requires first { first ≤ blocks seen.old.bytes }

@@ -1,4 +1,4 @@
-//! Readers and writers whose contracts tell their bytes, and mark what they answered.
+//! Readers and writers whose contracts say which bytes they read and write, and mark what they reported.
 ghost use Rattle.std.specs.Prelude.{◌≡◌, ℕ, List, Option, OnOk};
 ghost use Rattle.std.specs.Io.{ReadsAtMost};
 ghost use Rattle.std.specs.Io.KnownBytes.{Appends, Keeps, ReadConsumes};
@@ -8,7 +8,7 @@ ghost use Rattle.goblin_text.specs.Marks.{Marks, after_read, after_write, is_int
 use std::io;
 use std::io::ErrorKind;
 
-/// Whether an error is an interruption, after which the call is tried again.
+/// Reports whether an error is an interruption, after which the call is tried again.
 pub fn is_interruption(e: &io::Error) -> bool
     ensures { result ≡ is_interruption (error_kind e.now) }
 {
@@ -17,14 +17,13 @@ pub fn is_interruption(e: &io::Error) -> bool
 
 /// A reader.
 pub trait Source {
-    // The bytes that reads will give from here on, where they are told.
+    // The bytes that reads will return from here on, if they are known.
     ghost remaining: { Self → Option (List ℕ) };
 
-    // What it has told so far.
+    // What it has reported so far.
     ghost marks: { Self → Marks };
 
-    /// Reads some bytes into the front of a buffer, and answers how many: 0, where the buffer has
-    /// room, is the end.
+    /// Reads some bytes into the front of a buffer, and returns how many. 0 is the end, if the buffer isn't empty.
     fn read(&mut self, buf: &mut [u8]) -> io::Result<usize>
         ensures bound { ReadsAtMost result buf.new }
         ensures bytes { ReadConsumes (remaining self.old) (remaining self.new) result buf.new }
@@ -33,10 +32,10 @@ pub trait Source {
 
 /// A writer.
 pub trait Sink {
-    // The bytes that it holds, where they are told.
+    // The bytes that it holds, if they are known.
     ghost contents: { Self → Option (List ℕ) };
 
-    // What it has told so far.
+    // What it has reported so far.
     ghost marks: { Self → Marks };
 
     /// Writes all of these bytes. After an error it is open how many were written.
@@ -44,7 +43,7 @@ pub trait Sink {
         ensures bytes { OnOk result (Appends (contents self.old) (contents self.new) bytes.now) }
         ensures marks { marks self.new ≡ after_write (marks self.old) result };
 
-    /// Passes on what was written.
+    /// Flushes what was written.
     fn flush(&mut self) -> io::Result<()>
         ensures bytes { Keeps (contents self.old) (contents self.new) }
         ensures marks { marks self.new ≡ after_write (marks self.old) result };

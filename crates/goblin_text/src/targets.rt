@@ -1,4 +1,4 @@
-//! What takes a text part by part: a buffer of fixed size before a writer, and a text in memory.
+//! Targets that a text is put into part by part: a buffer of fixed size before a writer, and a text in memory.
 ghost use Rattle.std.specs.Prelude.{◌≡◌, ◌↔◌, ◌+◌, ◌≤◌, ◌++◌, IsTrue, OnErr, OnOk, Some, false, length, [], string_bytes, take};
 ghost use Rattle.std.specs.Borrow.{GName};
 ghost use Rattle.std.specs.Io.KnownBytes.{Appends, Keeps};
@@ -8,18 +8,18 @@ use crate::streams::Sink;
 use std::alloc::{AllocError, Global};
 use std::io;
 
-/// What takes a text.
+/// A target that a text is put into.
 pub trait Target {
-    /// Why a part isn't taken.
+    /// The error of a part that isn't taken.
     type Error;
 
-    // The bytes that it holds, where they are told, and whether it told an error.
+    // The bytes that it holds, if they are known, and whether it reported an error.
     ghost state: { Self → State };
 
-    // The name of the reference that it keeps, or 0.
+    // The name of its reference to a writer, or 0: so generic callers know that it is the same writer.
     ghost writer_name: { Self → GName };
 
-    /// Takes a part of the text. After an error it is open how much of it was taken.
+    /// Puts a part of the text. After an error it is open how much of it was put.
     fn put(&mut self, part: &str) -> Result<(), Self::Error>
         ensures put { Puts (state self.old) (state self.new) result part.now }
         ensures same_writer { writer_name self.new ≡ writer_name self.old };
@@ -37,7 +37,7 @@ pub struct Buffered<'a, W> {
 }
 
 impl<'a, W: Sink> Buffered<'a, W> {
-    /// A buffer that is empty.
+    /// Returns an empty buffer.
     pub fn new(writer: &'a mut W) -> Self
         ensures same_writer { result.writer.ghost_name ≡ writer.entry.ghost_name }
         ensures writer { result.writer.now ≡ writer.old }
@@ -50,7 +50,7 @@ impl<'a, W: Sink> Buffered<'a, W> {
         }
     }
 
-    // Writes what the buffer has.
+    // Writes the buffer's bytes, and empties it.
     fn pass_on(&mut self) -> io::Result<()>
         ensures same_writer { self.new.writer.ghost_name ≡ self.old.writer.ghost_name }
         ensures filled { OnOk result (self.new.filled ≡ 0) }
@@ -66,14 +66,14 @@ impl<'a, W: Sink> Buffered<'a, W> {
         Ok(())
     }
 
-    // Whether the buffer has room for so many bytes more.
+    // Reports whether the buffer has space for so many bytes more.
     fn has_room(&self, len: usize) -> bool
         ensures { IsTrue result ↔ self.now.filled + len ≤ ROOM }
     {
         self.filled <= ROOM && len <= ROOM - self.filled
     }
 
-    // Adds bytes that the buffer has room for.
+    // Adds bytes that the buffer has space for.
     fn add(&mut self, bytes: &[u8])
         requires { self.old.filled + length bytes.now ≤ ROOM }
         ensures same_writer { self.new.writer.ghost_name ≡ self.old.writer.ghost_name }
@@ -86,7 +86,7 @@ impl<'a, W: Sink> Buffered<'a, W> {
         self.filled = end;
     }
 
-    // Puts bytes after those of the buffer, which are written first.
+    // Writes the buffer's bytes, and then puts others.
     #[cold]
     #[inline(never)]
     fn put_after_writing(&mut self, bytes: &[u8]) -> io::Result<()>
@@ -107,7 +107,7 @@ impl<'a, W: Sink> Buffered<'a, W> {
         Ok(())
     }
 
-    /// Writes what the buffer has, and passes it on.
+    /// Writes the buffer's bytes, and flushes the writer.
     pub fn finish(&mut self) -> io::Result<()>
         ensures same_writer { self.new.writer.ghost_name ≡ self.old.writer.ghost_name }
         ensures bytes { OnOk result (Keeps
@@ -163,7 +163,7 @@ pub struct Gathered {
 }
 
 impl Gathered {
-    /// An empty text, to which nothing was refused.
+    /// Returns an empty text.
     pub fn new(alloc: Global) -> Self
         ensures text { string_bytes result.text ≡ [] }
         ensures reported_error { result.reported_error ≡ false }

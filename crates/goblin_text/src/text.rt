@@ -1,4 +1,4 @@
-//! The text that is shown of a file, put as it is made.
+//! The text that is shown of a file, written line by line.
 ghost use Rattle.std.specs.Prelude.{◌≡◌, IfErr, IsTrue, OnErr, OnOk, string_bytes};
 ghost use Rattle.std.specs.Io.KnownBytes.{Appends};
 ghost use Rattle.goblin.specs.Refusal.{Gives, Refuses};
@@ -183,7 +183,7 @@ fn put_text<T: Target>(
     put_all_relocs(target, file.parts.relocs.as_slice())
 }
 
-// Writes the text of a file through a buffer that is empty.
+// Writes the text of a file through an empty buffer.
 fn write_through<W: Sink>(
     target: &mut Buffered<'_, W>,
     names: &mut Names<'_>,
@@ -206,7 +206,7 @@ fn write_through<W: Sink>(
     Ok(())
 }
 
-/// Writes the text of a file whose names are read here, and takes no memory.
+/// Writes the text of a file. It takes no memory.
 pub fn write_text<W: Sink>(
     writer: &mut W,
     names: &mut Names<'_>,
@@ -219,7 +219,7 @@ pub fn write_text<W: Sink>(
     ensures err { OnErr result (IsTrue (W.marks writer.new).reported_error) }
     ensures unchanged { names.new.bytes ≡ names.old.bytes }
 
-    // What is looked at of names.
+    // The looks for names.
     ensures looks { let text = accepted_text names.old.bytes file.now in
         IsShort names.old.bytes → LooksAtMost names.old names.new (names_looks text) }
     ensures looks_least { CountsAtLeast names.old.count 0 names.new.count }
@@ -228,14 +228,16 @@ pub fn write_text<W: Sink>(
     write_through(&mut target, names, file)
 }
 
-/// The text of a file with these bytes: the line of its header, one for each section, and after these
-/// one for each symbol and then one for each relocation.
+/// Returns the text of a file with these bytes: the line of its header, one for each section, then one for each
+/// symbol, and then one for each relocation.
 ///
-/// The errors are those of `accept`, of which the first that applies is the answer. Or memory is wanting.
+/// # Errors
+///
+/// The first error of `accept` that applies, or out of memory.
 pub fn text_of(alloc: Global, bytes: &[u8], opts: &ParseOptions) -> error::Result<String>
     ensures text { Gives string_bytes result (shown opts.now.parse_mode bytes.now) }
 
-    // Want of memory hides no refusal of the header, and none of the section headers' first tests.
+    // Out of memory masks no refusal of the header, and none of the section headers' first tests.
     ensures tested { IfErr (tested bytes.now) (λ refusal. Refuses result refusal) }
 {
     let mut file = FileBytes::new(bytes);
@@ -245,7 +247,7 @@ pub fn text_of(alloc: Global, bytes: &[u8], opts: &ParseOptions) -> error::Resul
     Ok(target.text)
 }
 
-/// A law: where the text is shown by strict options, the same is shown by permissive ones.
+/// A law: if strict options show a text, permissive ones show the same.
 pub fn laws()
     ensures { PermissiveShowsStrict }
 {

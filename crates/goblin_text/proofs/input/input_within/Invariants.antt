@@ -3,7 +3,7 @@ use Rattle.std.specs.Io.KnownBytes.{Consumes}
 use Rattle.goblin_text.specs.declared.input.TheConstants.{INPUT_LIMIT}
 use Rattle.goblin_text.proofs.input.input_within.Given as goal
 
--- The filled bytes are those that were taken. Where no error was told, each call gave a byte.
+-- The filled bytes are those that were taken. If no error was reported, each call returned a byte.
 abbrev pub invariant-loop : goal.invariant-loop
 invariant-loop g l =
     let source = g.R.Source in

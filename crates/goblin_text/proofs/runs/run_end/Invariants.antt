@@ -2,7 +2,7 @@ use Rattle.std.specs.Prelude.{◌≡◌, ℕ, ◌+◌, ◌-◌, ◌<◌, ◌≤�
 use Rattle.goblin_text.specs.Runs.{AreRunEnds, blocks, unknown}
 use Rattle.goblin_text.proofs.runs.run_end.Given as goal
 
--- of the blocks so far the end is kept, and of the others it isn't known
+-- the end is stored of the blocks so far, and isn't known of the others
 abbrev pub invariant-loop-block : goal.invariant-loop-block
 invariant-loop-block l = let n = blocks l.fn.seen.bytes in record {
   from : l.first ≤ l.block;
