@@ -1,7 +1,7 @@
 #!/bin/sh
-# Whether each call that takes memory answers want of memory, or what it answers with ample memory, whichever one of its
-# growths is refused: each call that crates/goblin_refused lists in its stdin, a run of goblin_text over files that reach
-# each of its lines, and text_of over two of them. Nothing is proved here. Run from the repository's root.
+# Checks that each call that allocates reports out of memory, or returns what it returns with ample memory, whichever one of its
+# allocations is refused. The calls are those that crates/goblin_refused lists in its stdin, a run of goblin_text over files that
+# reach each of its lines, and text_of over two of them. Nothing is proved here. Run from the repository's root.
 set -eu
 export LC_ALL=C
 folder=$(mktemp -d)
@@ -9,13 +9,13 @@ trap 'rm -rf "$folder"' EXIT
 trap 'exit 1' HUP INT TERM
 mkdir "$folder/calls" "$folder/runs"
 
-# Which allocation of a program is refused. The instruments take so many before a call that it is one of the call's growths.
+# The number of the allocation of a program that is refused. So many are made before a call that it is one of the call's own.
 refused=1000
 well='as expected'
 more='it makes more allocations than were refused'
 
-# The cases of a call in a folder: its line and its file, with the growths from one number to another refused, one a case; and
-# before the first what it writes where none is, if that is known.
+# Writes the cases of a call in a folder: its line and its file, with its allocations from one number to another refused, one in
+# each case. The first time it adds a case in which none is refused, if it is known what the call then writes.
 add_cases() {
     growth=$3
     while [ "$growth" -le "$4" ]; do
@@ -31,9 +31,10 @@ add_cases() {
     fi
 }
 
-# Runs a crate's program over the calls of a folder, with as many growths of each refused as its count says, and as many more of
-# those calls that ask for more, until none does. Of the call that is named, which asks for more than one, one alone is refused too:
-# the toolchain has to say so in the words that are read here, as it has to say of others that they are as expected.
+# Runs a crate's program over the calls of a folder. The count of a call says how many of its allocations are refused in a round,
+# one in each case. The calls that make more are run again with as many more refused, until none makes more. The call that is named
+# makes more than one, and is also run as if it made only one. The toolchain must report that in the words that are read here, and
+# must report other cases as expected.
 try_growths() {
     rounds=0
     while [ -s "$2/names" ]; do
@@ -68,7 +69,7 @@ try_growths() {
     done
 }
 
-# A call in a folder: its name, how many of its growths are refused at once, its line and its file.
+# Adds a call to a folder: its name, how many of its allocations are refused in a round, its line and its file.
 add_call() {
     echo "$2" >> "$1/names"
     echo "$3" > "$1/$2.count"
@@ -80,14 +81,14 @@ while read -r name; do
 done < crates/goblin_refused/stdin
 try_growths crates/goblin_refused "$folder/calls" segments-parse
 
-# A program over goblin_text that tries growths.
+# Puts together a program that runs goblin_text with its allocations refused.
 cp -r --parents crates.txt crates/*/src crates/*/specs crates/*/proofs "$folder"
 echo 'goblin_runs: goblin goblin_text' >> "$folder/crates.txt"
 mkdir -p "$folder/crates/goblin_runs/src"
 cp checks/refused_runs.main "$folder/crates/goblin_runs/src/main.rt"
 cp crates/goblin_refused/src/growths.rt "$folder/crates/goblin_runs/src"
 
-# A run over a file with zeros behind it, which writes this where all memory is there.
+# Adds a run over a file with zeros after it. Standard input has what the run writes with ample memory.
 add_run() {
     add_call "$folder/runs" "$1" "$2" "$3" "$4"
     cat > "$folder/runs/$1.shown"
@@ -99,7 +100,7 @@ add_run symbols 20 'strict 0' checks/files/symbols < checks/files/symbols.shown
 add_run relocations 20 'strict 0' checks/files/relocations < checks/files/relocations.shown
 add_run names 20 'strict 0' "$names" < crates/goblin_show/stdout
 sed 's/name=[.]s$/name=/' crates/goblin_show/stdout | add_run damaged 20 'permissive 0' "$folder/damaged"
-# (each of its cases takes seconds, so few are made beyond what it asks for)
+# (each of its cases takes seconds, so its count is small: few cases refuse an allocation that it doesn't make)
 echo 'refused: Invalid magic number: 0x3736353433323130' | add_run longest 8 'strict 16777200' "$folder/magic"
 add_run text 20 'text 0' checks/files/symbols < checks/files/symbols.shown
 echo refused | add_run text_damaged 20 'text 0' "$folder/damaged"

@@ -5,7 +5,7 @@ use crate::{faults, records, strings};
 use goblin::error::Result;
 use std::alloc::Global;
 
-/// What the call with this name answers, if there is one.
+/// Makes the call with this name and returns its result, or `None` if there is no such call.
 pub(crate) fn answer_to(alloc: Global, name: &str) -> Option<Result<Answer>> {
     match name.split_once('-') {
         Some(("segments", form)) => records::segments(alloc, form),
@@ -18,7 +18,7 @@ pub(crate) fn answer_to(alloc: Global, name: &str) -> Option<Result<Answer>> {
     }
 }
 
-/// What the call with this name does where its first growth is refused.
+/// Returns what the call with this name does if its first allocation is refused.
 pub(crate) fn first_of(name: &str) -> First {
     match name {
         "segments-many" | "segments-late64" | "sections-outside" | "sections-many" => {

@@ -1,15 +1,15 @@
-//! Growths before and after a call, so that one of its own is the allocation that the runner refuses, and what is said of
-//! its answer.
+//! Makes allocations before and after a call, so that the runner refuses one of the call's own, and judges the call's
+//! result.
 use std::alloc::Global;
 
-// Whether memory for one byte is refused.
+// Reports whether an allocation of one byte is refused.
 fn is_refused(alloc: Global) -> bool {
     let mut room: Vec<u8> = Vec::new(alloc);
     room.push(1).is_err()
 }
 
-/// Takes as much memory before a call as makes its growth with this number the program's allocation that is refused.
-/// Answers whether none of it was refused.
+/// Makes so many allocations before a call that its allocation number `growth` is the program's number `refused`, which
+/// the runner refuses. Reports whether all of them succeeded.
 pub(crate) fn takes_all_before(alloc: Global, growth: u64, refused: u64) -> bool {
     let mut takes_all = true;
     for _ in growth..refused {
@@ -18,8 +18,8 @@ pub(crate) fn takes_all_before(alloc: Global, growth: u64, refused: u64) -> bool
     takes_all
 }
 
-/// Whether a call met the refusal of its growth with this number. Where it didn't, the refusal is met
-/// here, so that none is left from here on.
+/// Reports whether a call made its allocation with this number, which is refused. If it didn't, the refused
+/// allocation is made here, so that all allocations after this succeed.
 pub(crate) fn was_met(alloc: Global, growth: u64) -> bool {
     let mut is_met = true;
     for _ in 0..growth {
@@ -28,33 +28,33 @@ pub(crate) fn was_met(alloc: Global, growth: u64) -> bool {
     is_met
 }
 
-/// What a call does where its first growth is refused.
+/// What a call does if its first allocation is refused.
 #[derive(Clone, Copy, PartialEq)]
 pub enum First {
-    /// It answers want of memory.
+    /// It reports out of memory.
     Wants,
-    /// It asks for less, and may answer as with ample memory.
+    /// It asks for less memory, and may return what it returns with ample memory.
     GoesOn,
-    /// It asks for no memory, since it refuses before.
+    /// It makes no allocation, since it refuses its input first.
     TakesNone,
 }
 
-/// A call that was made with a growth refused, and once more without.
+/// A call that was made with one allocation refused, and once more with ample memory.
 #[derive(Drop)]
 pub struct Tried {
-    /// Which of its growths was refused.
+    /// The number of the allocation that was refused.
     pub(crate) growth: u64,
-    /// Whether that growth is not to be asked for.
+    /// Whether the call should not make that allocation.
     pub(crate) is_last: bool,
-    /// Whether it was asked for.
+    /// Whether the call made it.
     pub(crate) is_met: bool,
-    /// Whether the answer was want of memory.
+    /// Whether the call reported out of memory.
     pub(crate) is_want: bool,
-    /// Whether it was the same as with ample memory.
+    /// Whether the result was the same as with ample memory.
     pub(crate) is_ample: bool,
 }
 
-/// What is said of a call that does this where its first growth is refused.
+/// Returns what is printed for a call that should do this if its first allocation is refused.
 pub(crate) fn judged(first: First, tried: &Tried) -> &'static str {
     if tried.growth == 1 && tried.is_met != (first != First::TakesNone) {
         return "it should make a first allocation and does not, or the other way round";

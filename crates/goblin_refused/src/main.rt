@@ -1,9 +1,9 @@
-//! What each call that takes memory answers where a growth is refused.
+//! Makes each call that allocates, with one of its allocations refused.
 //!
-//! A line `NAME` of standard input names a call, whose answer is printed. A line `NAME N R` asks for the same
-//! with growth N of the call refused, and beside it with ample memory, and prints whether the two answers
-//! are as they should be. The runner refuses allocation R of the program, so R - N come before the call.
-//! By `NAME N R last` it is printed too where the call asks for growth N. `checks/refused.sh` goes over all.
+//! A line `NAME` of standard input makes the call with this name and prints its result. A line `NAME N R`
+//! makes it twice, with its allocation N refused and with ample memory, and prints whether the two results
+//! are as expected. The runner refuses allocation R of the program, so R - N are made before the call. With
+//! `NAME N R last` it also prints if the call makes allocation N. `checks/refused.sh` tries all calls.
 #![tactic(auto)]
 
 ghost use Rattle.std.specs.Prelude.{◌≤◌, IfOk};
@@ -26,7 +26,7 @@ use std::io::Read;
 // The most bytes of input.
 const MOST: usize = 2048;
 
-// Reads into the buffer up to the end of the input, and answers how many bytes came.
+// Reads the input into the buffer up to its end, and returns the number of bytes read.
 fn read_input(rt: &HostRuntime, buffer: &mut [u8; MOST]) -> io::Result<usize>
     ensures { IfOk result (λ filled. filled ≤ MOST) }
 {
@@ -44,8 +44,8 @@ fn read_input(rt: &HostRuntime, buffer: &mut [u8; MOST]) -> io::Result<usize>
     Ok(filled.min(MOST))
 }
 
-// Makes the call of a line where its growth is refused and where none is, and says whether the answers are as
-// they should be.
+// Makes the call of a line with its allocation refused and with ample memory, and returns whether the results
+// are as expected.
 fn tried(alloc: Global, name: &str, numbers: &str) -> Result<&'static str> {
     let mut words = numbers.split(' ');
     let growth = words.next().unwrap_or("").parse::<u64>().unwrap_or(0);

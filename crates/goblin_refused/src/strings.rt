@@ -9,9 +9,9 @@ use std::alloc::Global;
 
 // Nine strings.
 const NINE: &[u8] = b"a\0b\0c\0d\0e\0f\0g\0h\0i";
-// A string, eight bytes that are no text, a string behind these, and one more.
+// A string, eight bytes that are not UTF-8, a string right after these, and one more.
 const DAMAGED: &[u8] = b"a\0\xff\xff\xff\xff\xff\xff\xff\xffb\0c";
-// Ten entries, the fifth and the ninth of which are texts behind bytes that are none.
+// Ten entries. The fifth and the ninth are strings right after bytes that are not UTF-8.
 const RESUMED: &[u8] = b"a\0b\0c\0\xffd\0\xff\xff\xffe\0f";
 
 /// String tables and their strings.
