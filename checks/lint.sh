@@ -1,6 +1,9 @@
 #!/bin/sh
-# What shellcheck says of this repository's shell scripts: nothing, where it is there. Run from the repository's root.
+# Checks that pages and comments have no private words, that docs/MAP.md names the files of its changes, and, if shellcheck is
+# installed, that it reports nothing for the shell scripts. Run from the repository's root.
 set -eu
+python3 checks/private_words.py
+python3 checks/places.py
 if ! command -v shellcheck > /dev/null; then
     echo "lint: skipped, because shellcheck is not installed"
     exit 0

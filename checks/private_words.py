@@ -1,8 +1,9 @@
 #!/usr/bin/env python3
-"""Says where words stand that only this repository understood: python3 checks/private_words.py [PATH ..], from the repository's root.
+"""Lists words that only this repository understood: python3 checks/private_words.py [PATH ..], from the repository's root.
 
-It reads the pages, without their code, and the comments of the code, of the files that git tracks below each PATH (default: all). It
-prints a line for each word found, with the file, the line and what to say instead, and exits with 1 if it found any.
+It reads the pages without their code, and the comments of the code, of the files that git tracks below each PATH (default: all). Its
+own file, which has the list, is not read. It prints a line for each word found, with the file, the line and what to say instead, and
+exits with 1 if it found any.
 """
 import bisect
 import io
@@ -11,6 +12,8 @@ import subprocess
 import sys
 import tokenize
 
+# This file.
+OWN = 'checks/private_words.py'
 # A regular expression for each private word, and what to say instead. A space stands for any white space.
 WORDS = {
     r'want of memory|memory (is|was) (wanting|wanted)': 'out of memory',
@@ -85,6 +88,8 @@ def main(paths):
     listed = subprocess.run(['git', 'ls-files', '-z', '--', *paths], check=True, capture_output=True, text=True).stdout
     files = count = 0
     for path in listed.split('\0')[:-1]:
+        if path == OWN:
+            continue
         try:
             with open(path, encoding='utf-8') as file:
                 text = prose(path, file.read())
