@@ -1,8 +1,8 @@
 #!/bin/sh
-# Times the built program over the files of checks/hostile.py and over a FILE, beside readelf where there is one:
-# SHOWN=FILE sh checks/bench.sh. A line tells the least of RUNS runs (15, if not said) taken by turns, in milliseconds, and readelf's
-# time as a multiple of the strict one; readelf is stopped after 10 seconds. A file whose text is endless is timed up to the
-# first 100 MB of it. Run from the repository's root.
+# Times the built program over the files of checks/hostile.py and over a FILE: SHOWN=FILE sh checks/bench.sh. If readelf is
+# installed, it is timed too. Prints a line for each file: the least time of RUNS runs (15 by default) of each program in
+# milliseconds, and readelf's time divided by the strict one. The programs run in turn. readelf is stopped after 10 seconds. A file
+# whose text is endless is timed up to the first 100 MB of the text. Run from the repository's root.
 set -eu
 export LC_ALL=C
 runs=${RUNS:-15}
@@ -25,7 +25,7 @@ strict() { over "$show"; }
 permissive() { over "$show" permissive; }
 other() { over timeout 10 readelf -W -h -S -s -r "$file"; }
 
-# The lesser of a time so far, in microseconds (0 is none yet), and of that of a command now.
+# Times a command, and prints the lesser of this time and a time so far, in microseconds. 0 stands for none so far.
 least() {
     before=$1
     start=$(date +%s%N)

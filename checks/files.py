@@ -1,9 +1,9 @@
 #!/usr/bin/env python3
-"""Whether the program shows the files of checks/files/made as readelf lists them: python3 checks/files.py, from the repository's root,
-once `rt ci` has built the program by both compilers.
+"""Checks that the program shows the files of checks/files/made as readelf lists them: python3 checks/files.py, from the repository's
+root, after `rt ci` has built the program by both compilers.
 
-The files are objects, libraries and a core of both classes and byte orders, which checks/files/make.sh made. Beside each lies what
-readelf -W -h -S -s -r printed of it, and that is told here in the program's words.
+The files are objects, libraries and a core of both classes and byte orders, which checks/files/make.sh made. Beside each is the
+output of readelf -W -h -S -s -r for it, which is converted here to the program's words.
 """
 import re
 import subprocess

@@ -58,8 +58,8 @@ def symbols_file(table, names):
 
 
 def by_turns(tables, count, start):
-    """The headers of `count` symbol sections of a byte at one place, which follow those of so many string tables and are linked to
-    these by turns."""
+    """Returns the headers of `count` symbol sections of one byte, all at the same offset. They follow the headers of `tables`
+    string tables and are linked to these in turn."""
     return [section(SHT_SYMTAB, start, 1, link=1 + i % tables) for i in range(1 + tables, 1 + tables + count)]
 
 
@@ -72,14 +72,14 @@ def one():
 
 
 def turns():
-    """64,999 symbol sections of a byte, linked by turns to two string tables of 12 MB."""
+    """64,999 symbol sections of a byte, linked in turn to two string tables of 12 MB."""
     start = body_start(65_001)
     tables = [section(SHT_STRTAB, start + i, 12_000_000 - i) for i in range(2)]
     return elf(tables + by_turns(2, 64_999, start), b'a' * 12_000_000)
 
 
 def damaged():
-    """As `one`, but the string table ends in a byte that is no text."""
+    """As `one`, but the string table ends in a byte that is not UTF-8."""
     return one()[:-1] + BAD
 
 
@@ -101,7 +101,7 @@ def wide():
 
 
 def strings():
-    """60,000 symbol sections linked by turns to two tables of 6 MB, of 3,000,000 strings and a byte that is no text."""
+    """60,000 symbol sections linked in turn to two tables of 6 MB, of 3,000,000 strings and a byte that is not UTF-8."""
     start = body_start(60_002)
     tables = [section(SHT_STRTAB, start + i, 6_000_000 - i) for i in range(2)]
     return elf(tables + by_turns(2, 60_000, start), b'a\0' * 2_999_999 + b'a' + BAD)
@@ -124,12 +124,12 @@ def symbols():
 
 
 def failing():
-    """300,000 names in one string of 9 MB, of characters of one byte, that ends in a byte that is no text."""
+    """300,000 names in one string of 9 MB, of characters of one byte, that ends in a byte that is not UTF-8."""
     return symbols_file(b''.join(symbol(1 + 29 * i, i) for i in range(300_000)), b'a' * 8_999_999 + BAD)
 
 
 def failing_wide():
-    """300,000 names in one string of 9 MB, of characters of four bytes, that ends in a byte that is no text."""
+    """300,000 names in one string of 9 MB, of characters of four bytes, that ends in a byte that is not UTF-8."""
     return symbols_file(b''.join(symbol(4 + 28 * i, i) for i in range(300_000)), WIDE * 2_249_999 + b'abc' + BAD)
 
 
@@ -185,7 +185,7 @@ def text_symbols_file(count, strings):
 
 
 def text_relocs_file(start, size):
-    """A file of 32,638 relocation sections of a size, from a place on, with addends and without by turns."""
+    """A file of 32,638 relocation sections of a size, from an offset on, in turn without addends and with them."""
     places = enumerate(low_numbers(start, TEXT_SECTIONS - 1))
     return text_file([section(SHT_RELA if i % 2 else SHT_REL, place, size) for i, place in places])
 

@@ -1,10 +1,10 @@
-# Compares what nm.c lists with what nm and readelf do: of each file and table the same symbols in the same order, each with
-# its value, letter, section index and name. Told in another way are these:
-# - nm leaves out the value of a symbol that is not defined, and tells a common one's size for its value; readelf tells both;
-# - both append a version to names of the dynamic table, behind an @;
-# - readelf tells a section index that stands for no section by a word.
-# Reads the files refused and said, what nm.c and nm wrote to standard error; ours, with a line 'file: FILE TABLE' before each
-# list; nm.static, nm.-D and readelf. There must be as many files as `least` says.
+# Compares what nm.c lists with what nm and readelf list. For each file and table these must be the same symbols in the same order,
+# each with its value, letter, section index and name. These differences are allowed:
+# - nm prints no value for a symbol that is not defined, and a common one's size as its value; readelf prints both;
+# - both append an @ and a version to names of the dynamic table;
+# - readelf prints a word for a section index that stands for no section.
+# Reads the files refused and said, which are what nm.c and nm wrote to standard error; ours, with a line 'file: FILE TABLE'
+# before each list; nm.static, nm.-D and readelf. There must be at least `least` files.
 function fail(what) { if (failed++ < 20) print file ": " table ": " what }
 function is_name(told) { return told == name[file, table, n] || index(told, name[file, table, n] "@") == 1 && table == "-D" }
 function behind(words,    text) { text = $0; while (words-- > 0) sub(/^ *[^ ]+ ?/, "", text); return text }

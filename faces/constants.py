@@ -202,7 +202,7 @@ def bytes_of(constant):
 
 def c_value(constant):
     if constant.is_text():
-        # (a sign in octal ends after three digits, whatever stands behind it)
+        # (an octal escape ends after three digits, whatever follows it)
         signs = (chr(byte) if 0x20 <= byte < 0x7f else f'\\{byte:03o}' for byte in bytes_of(constant))
         return '"' + ''.join(signs) + '"'
     if constant.is_list():

@@ -135,7 +135,7 @@ class Run:
 
 
 def read_edits(words, below):
-    """The edits that are asked for, by crate; those that fit no code are told."""
+    """Returns the edits that are asked for, by crate, and why others fit no code."""
     edits, misfits = {}, []
     for crate in words.crates or below:
         for folder in folders_of(words, crate):

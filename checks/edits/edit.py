@@ -1,7 +1,7 @@
-"""An edit, which plants a wrong body, and where its changes stand.
+"""Edits, each of which plants a wrong body, and where their changes are.
 
-An edit is a file: a line 'file: src/lib.rt', or of specs/ or proofs/, and behind it pairs of lines 'old: TEXT' and
-'new: TEXT'. Each old text stands just once in that file as it is committed.
+An edit is a file. It has a line 'file: src/lib.rt', or with a file of specs/ or proofs/, and after it pairs of lines 'old: TEXT'
+and 'new: TEXT'. Each old text occurs exactly once in that file as it is committed.
 """
 import os
 import re
@@ -144,7 +144,7 @@ def place_in(crate, source, change):
 
 
 def body_of(text, at):
-    """From where to where the body of the function goes whose name ends at a place, or an empty range where it has none."""
+    """Returns where the body of the function begins and ends whose name ends at `at`. The range is empty if it has no body."""
     head, depth = at, 0
     while at < len(text):
         sign = text[at]
@@ -186,7 +186,7 @@ def module_of(crate, file):
 
 
 def path_among(function, known):
-    """The path by which the prover names a function, among those that it knows, or None where that can't be told."""
+    """Returns the path by which the prover names a function, of those that it knows, or None if that is uncertain."""
     module, block, name = function
     if name == LAW:
         return law_among(module, known)
@@ -199,12 +199,12 @@ def path_among(function, known):
 
 
 def law_among(module, known):
-    """The path by which the prover names the law of a module, which stands in it or below it, or None where it has none."""
+    """Returns the path by which the prover names the law of a module, in it or below it, or None if the module has none."""
     return next((path for path in known if re.fullmatch(rf'{module}::(\w+::)?{LAW}', path)), None)
 
 
 def blocks_named(head):
-    """How the prover may name an impl or a trait: by its type, and behind it its trait and what the trait takes."""
+    """Returns the names that the prover may use for an impl or a trait: its type, then its trait and the trait's arguments."""
     head = re.sub(r"^(impl|trait)\b\s*(<(?:[^<>]|<[^<>]*>)*>)?|'\w+\s*|&|\bmut\b|\bwhere\b.*", '', head)
     trait, split, kind = head.rpartition(' for ')
     kind = re.match(r'[\s]*([\w:]+)', kind)[1]

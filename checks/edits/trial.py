@@ -120,7 +120,7 @@ class Trial:
         return [edit for edit in pending if edit not in judged] if judged else self.try_group(group[:1], pending)
 
     def without_unread(self, group, pending):
-        """Tries the edits of a group that can't be read one by one: those that can't be are told, and the others stay."""
+        """Reads the edits of an unreadable group one by one. Those that can't be read are reported, and the others stay."""
         unread = [edit for edit in group if not self.reads(edit)]
         for edit in unread:
             self.tell_wrong(edit, 'the edited code is no valid Rattle, so no contract was tried')
