@@ -114,7 +114,7 @@ module _ (bytes : List ℕ) (d : ℕ) where
         text = ap is_utf8 (empty_range p) ∙ is_utf8-from_IsUtf8 [] IsUtf8-nil;
       }
 
-  -- an entry with no text, where the piece is none
+  -- an entry with the empty text, if the piece isn't readable
   pub walked_empty : (ps qs : List ℕ) (p : ℕ)
       → p < length bytes → is_readable bytes d p ≡ false → qs ≡ ps ++ p ∷ [] → IsWalkedTo bytes d ps p
       → IsWalkedTo bytes d qs (p + 1)

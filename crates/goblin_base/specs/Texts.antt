@@ -191,7 +191,7 @@ joined e [] = []
 joined e (p ∷ []) = part_text e p
 joined e (p ∷ q ∷ rest) = part_text e p & joined e (q ∷ rest)
 
--- a part is no text of over 100 bytes
+-- a part isn't a text of more than 100 bytes
 abbrev pub is_short : Part → Bool
 is_short (part.Text text) = nat_le (length text.now) 100
 is_short part.First = true

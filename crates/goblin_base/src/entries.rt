@@ -243,8 +243,8 @@ impl fmt::Debug for Looked<'_> {
 
 /// The entries of a string table: each a place and a text.
 ///
-/// It keeps the places and no text: a text is taken from the bytes when it is asked for, and ends one before
-/// the next place.
+/// Only the places are stored. A text is read from the bytes when it is asked for, and ends one byte before the
+/// next place.
 #[derive(Drop)]
 pub struct Entries<'a> {
     bytes: &'a [u8],

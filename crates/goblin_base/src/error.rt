@@ -100,7 +100,7 @@ pub enum Fault {
 pub enum Error {
     /// The file, or what is to be written, is not well formed.
     Malformed(Fault),
-    /// The first eight bytes, read in little order, do not begin with the magic number of ELF.
+    /// The file does not begin with the magic number of ELF. Holds its first eight bytes as a little endian number.
     BadMagic(u64),
     /// The bytes at an offset are too few for what is read or written there, or they are no value of the
     /// type.

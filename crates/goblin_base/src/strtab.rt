@@ -65,8 +65,8 @@ fn get_str(offset: usize, bytes: &[u8], delim: u8) -> Result<&str>
     read_text(&rest[..len], rest.len())
 }
 
-/// Returns the length of the piece at an offset: how many bytes stand before the next delimiter, or
-/// before the end where there is none.
+/// Returns the length of the piece at an offset: the number of bytes before the next delimiter, or
+/// before the end if there is none.
 #[tactic(auto, using(crate::proofs::StrtabLemmas::rests), unfolding(crate::specs::Pieces::piece))]
 pub fn piece_len(bytes: &[u8], offset: usize, delim: u8) -> usize
     requires { offset ≤ length bytes.now }

@@ -192,7 +192,7 @@ symbols_from_expected bytes h range first = items_from (symbols_converted bytes 
 abbrev pub symbol_count_expected : List ℕ → GoblinHeader → GoblinRange → Result (Option ℕ) Refusal
 symbol_count_expected bytes h range = count_of (symbols_converted bytes h range)
 
--- whether a file is a MIPS64 one of little order
+-- whether a file is a little endian one for MIPS64
 abbrev pub is_mips64el : GoblinHeader → Bool
 is_mips64el h = is_mips64el_in h.e_machine (ctx_of h)
 

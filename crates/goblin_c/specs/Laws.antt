@@ -107,8 +107,8 @@ abbrev pub NamesContext : Header → Ctx → Type 0
 NamesContext h ctx =
     (class_of InvalidClass h.e_ident ≡ Ok ctx.container) × (order_of InvalidEndianness h.e_ident ≡ Ok ctx.le)
 
--- what C hands back of a file's header has the class and the byte order that the library names by the header itself,
--- and is of MIPS64 in little order where the header is
+-- the header that C has of a file gives the class and the byte order that the library reads from the header itself,
+-- and is one of a little endian MIPS64 file exactly if the header is
 abbrev pub ContextIsTheHeaders : Type 0
 ContextIsTheHeaders =
     (bytes : List ℕ) (h : Header) → HasHeader bytes h

@@ -1,7 +1,7 @@
-//! Counts, the first section of a type, bytes and numbers, on a file of the 32-bit class in big order: its header,
-//! two program headers, the strings "", "ab", two bytes that are no text, "" and "c", two relocations without
-//! addends, the bytes 1 to 8, and four section headers. The first program header and the first section header stand
-//! for nothing, whatever their sizes; the third section has no bytes; the fourth ends past the file.
+//! Counts, the first section of a type, bytes and numbers, on a big endian file of the 32-bit class. It consists of
+//! its header, two program headers, the strings "", "ab", two bytes that are not UTF-8, "" and "c", two relocations
+//! without addends, the bytes 1 to 8, and four section headers. The first program header and the first section
+//! header have type 0, so their sizes don't count. The third section has no bytes. The fourth ends past the file.
 use crate::layout::marked_layout;
 use crate::tests::{called, range};
 use crate::types::{GoblinHeader, GoblinRange, GoblinRefusal};
@@ -128,7 +128,8 @@ fn finds_strings_that_are_not_utf8(rt: HostRuntime) {
     );
 }
 
-// The answer for a number of so many bytes at an offset, in big order or in little.
+// Reads a number of `width` bytes at an offset, big endian or little endian. Returns the status with the number, or
+// with the first value of the refusal.
 fn number_at(offset: u64, width: u64, order: u8) -> (u32, u64) {
     let mut header = header();
     header.ei_data = order;

@@ -1,5 +1,5 @@
-//! Each export on a small file of the 32-bit class in little order: its header, the strings "" and "f",
-//! two symbols, and three section headers, for nothing, for the strings and for the symbols.
+//! Each export on a small little endian file of the 32-bit class. It consists of its header, the strings
+//! "" and "f", two symbols, and three section headers: the null one, the strings' and the symbols'.
 use crate::layout::marked_layout;
 use crate::types::{GoblinHeader, GoblinNote, GoblinRange, GoblinRefusal, GoblinReloc};
 use crate::*;
@@ -165,7 +165,7 @@ fn changed(place: usize, byte: u8) -> [u8; 208] {
     file
 }
 
-// What the table at an index is: its answer and its type, which is a mark where there is none.
+// Returns the status of the call for the table at an index, and the table's type, or a mark if there is none.
 fn table(bytes: &[u8], index: u64) -> (u32, u32) {
     let mark = marked_layout().section;
     let (status, found, _) = called!(goblin_linked_section(bytes, &header(), index), mark);
@@ -309,8 +309,8 @@ fn reads_each_order_but_2_alike(rt: HostRuntime) {
     assert!(rt; reads_pair(8, 0, 3).2 == 0);
 }
 
-// A header of the 32-bit class in big order whose fields differ from one another: after the first 16 bytes come
-// 1 to 40, the bytes of a record of each kind too.
+// A big endian header of the 32-bit class, whose fields differ from one another: the first 16 bytes are followed
+// by the bytes 1 to 40. A record of each kind is read from these too.
 static EACH: &[u8; 56] = b"\x7fELF\x01\x02\x03\x04\x05\0\0\0\0\0\0\0\
     \x01\x02\x03\x04\x05\x06\x07\x08\x09\x0a\x0b\x0c\x0d\x0e\x0f\x10\x11\x12\x13\x14\
     \x15\x16\x17\x18\x19\x1a\x1b\x1c\x1d\x1e\x1f\x20\x21\x22\x23\x24\x25\x26\x27\x28";
