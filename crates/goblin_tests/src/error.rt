@@ -11,8 +11,8 @@ const MALFORMED: &str = "Malformed entity: ";
 // The greatest number of which 50 more is none.
 const NEAR: u64 = 18446744073709551566;
 
-// Errors and their texts. Each text that has a number has one of 10 and more, so that decimal digits are told from
-// hexadecimal ones.
+// Errors and their texts. Each text that has a number has one of 10 or more, so that it differs in decimal and
+// hexadecimal digits.
 static ERRORS: [(Error, &str); 24] = [
     (
         Error::Malformed(Fault::InvalidClass(200)),

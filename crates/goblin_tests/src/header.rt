@@ -236,7 +236,7 @@ fn header_with(class: u8, order: u8) -> Header {
     header
 }
 
-// Whether writing a header over so many bytes is told so, and what is refused writes nothing.
+// Reports whether writing a header over so many bytes has this result, and writes nothing if it is refused.
 fn is_told<R: TryIntoCtx<Endian>>(rt: HostRuntime, header: R, len: usize, text: &str) -> bool {
     let mut room = [0xaa; 52];
     let room = &mut room[..len.min(52)];

@@ -91,7 +91,7 @@ fn refuses_cut_note_headers(rt: HostRuntime) {
 
 // A note "GNU" of type 3 with four bytes.
 const BUILD: &[u8] = b"\x04\0\0\0\x04\0\0\0\x03\0\0\0GNU\0\xAA\xBB\xCC\xDD";
-// The same in big order.
+// The same, big endian.
 const BUILD_BIG: &[u8] = b"\0\0\0\x04\0\0\0\x04\0\0\0\x03GNU\0\xAA\xBB\xCC\xDD";
 // A note "GNU" of type 1 without a descriptor.
 const BARE: &[u8] = b"\x04\0\0\0\0\0\0\0\x01\0\0\0GNU\0";
@@ -99,7 +99,7 @@ const BARE: &[u8] = b"\x04\0\0\0\0\0\0\0\x01\0\0\0GNU\0";
 const CUT_NAME: &[u8] = b"\x05\0\0\0\0\0\0\0\x01\0\0\0CORE";
 // A note of type 7 without name and descriptor.
 const EMPTY: &[u8] = b"\0\0\0\0\0\0\0\0\x07\0\0\0";
-// A note whose name is no text.
+// A note whose name is not UTF-8.
 const NO_TEXT: &[u8] = b"\x02\0\0\0\0\0\0\0\x01\0\0\0\xFF\0";
 // Notes whose name and whose descriptor are the longest that a header can ask for.
 const LONG_NAME: &[u8] = b"\xFF\xFF\xFF\xFF\0\0\0\0\x01\0\0\0GNU\0";
@@ -173,7 +173,7 @@ const FIVE: &str = "Malformed entity: Notes has unimplemented alignment requirem
 const MOST: &str =
     "Malformed entity: Notes has unimplemented alignment requirement: 0xffffffffffffffff";
 
-// Bytes and their alignment that are no note: that of another alignment, without room, or of no text.
+// Bytes and an alignment that are refused: another alignment, too few bytes, or a name that is not UTF-8.
 const REFUSED: &[(&[u8], usize, &str)] = &[
     (BUILD, 16, SIXTEEN),
     (BUILD, 5, FIVE),
@@ -477,7 +477,7 @@ fn plain_note(bytes: &[u8], alignment: usize, order: Endian) -> Result<PlainNote
     let n_type = plain_number(bytes, [8, 9, 10, 11], order);
     let named = if namesz > 0 { namesz - 1 } else { 0 };
     let name = plain_part(bytes, 12, named)?;
-    // The names of these cases are ASCII or no text at all.
+    // A name of these cases is either ASCII or not UTF-8.
     if name.iter().any(|byte| *byte >= 0x80) {
         return Err(Error::Scroll(scroll::Error::BadInput {
             size: bytes.len().saturating_sub(12),

@@ -4,7 +4,7 @@ use goblin_base::error::Result;
 use goblin_base::scroll::{SizeWith, TryFromCtx, TryIntoCtx};
 use std::fmt::Debug;
 
-// Whether a record takes as many bytes as these, is read from them, and is written as them, with nothing behind.
+// Reports whether a record has the size of these bytes, is read from them, and is written as them and no more.
 pub(crate) fn has_form<
     'a,
     R: TryFromCtx<'a, C> + TryIntoCtx<C> + SizeWith<C> + PartialEq + Debug + Drop,
@@ -28,7 +28,7 @@ pub(crate) fn reads<'a, R: TryFromCtx<'a, C> + PartialEq + Debug + Drop, C>(
     }
 }
 
-// Whether a record is written as these bytes, and nothing behind them.
+// Reports whether a record is written as these bytes, and nothing after them.
 pub(crate) fn writes<R: TryIntoCtx<C>, C>(
     rt: HostRuntime,
     record: R,

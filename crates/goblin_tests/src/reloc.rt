@@ -12,13 +12,13 @@ use goblin_base::scroll::{IntoCtx, SizeWith, TryFromCtx};
 use goblin_records::reloc::{Reloc, RelocCtx};
 use goblin_records::{reloc, reloc32, reloc64};
 
-// A relocation with an addend, of the 32-bit class in little order.
+// A little endian relocation of the 32-bit class, with an addend.
 const RELA_LITTLE: &[u8] = b"\x10\0\0\0\x01\x02\0\0\xfc\xff\xff\xff";
 
-// The same in big order.
+// The same, big endian.
 const RELA_BIG: &[u8] = b"\0\0\0\x10\0\0\x02\x01\xff\xff\xff\xfc";
 
-// The same of the 64-bit class, in little and in big order.
+// The same of the 64-bit class, little endian and big endian.
 const RELA64_LITTLE: &[u8] =
     b"\x10\0\0\0\0\0\0\0\x01\0\0\0\x02\0\0\0\xfc\xff\xff\xff\xff\xff\xff\xff";
 
@@ -32,10 +32,10 @@ const CALL: Reloc = Reloc {
     r_type: 1,
 };
 
-// A relocation without an addend, of the 32-bit class in little order.
+// A little endian relocation of the 32-bit class, without an addend.
 const REL: &[u8] = b"\0\0\0\0\x01\x02\0\0";
 
-// One of a MIPS64 file of little order.
+// One of a little endian MIPS64 file.
 const REL_MIPS: &[u8] = b"\xf0\x50\x01\0\0\0\0\0\0\0\0\0\0\0\x12\x03";
 
 // The context of a class and an order, without addends, with the pair or not.
@@ -239,12 +239,12 @@ fn has_a_size_for_each_class_with_addends_and_without(rt: HostRuntime) {
     assert!(rt; is(rt, sizes, [8, 12, 16, 24, 24, 12]));
 }
 
-// 64 zero bytes, and a relocation of a MIPS64 file of little order behind them.
+// 64 zero bytes, and after them a relocation of a little endian MIPS64 file.
 const MIPS: &[u8] = b"\0\0\0\0\0\0\0\0\0\0\0\0\0\0\0\0\0\0\0\0\0\0\0\0\0\0\0\0\0\0\0\0\
 \0\0\0\0\0\0\0\0\0\0\0\0\0\0\0\0\0\0\0\0\0\0\0\0\0\0\0\0\0\0\0\0\
 \xf0\x50\x01\0\0\0\0\0\0\0\0\0\0\0\x12\x03";
 
-// The relocation behind the zeros, with the pair or without, as a section of its own.
+// The relocation after the zeros, with the pair or without, as a section of its own.
 fn behind(bytes: &[u8], is_mips64el: bool) -> Result<RelocSection<'_>> {
     RelocSection::parse_inner(bytes, 64, 16, false, LITTLE64, is_mips64el)
 }
@@ -298,7 +298,7 @@ fn loops_over_one(rt: HostRuntime, section: &RelocSection, want: &Reloc) -> bool
     is(rt, each, 1)
 }
 
-// Whether the section behind the zeros has this one relocation, by each way of asking.
+// Reports whether the section after the zeros has just this relocation, by each way of reading it.
 fn has_one(rt: HostRuntime, is_mips64el: bool, want: &Reloc) -> bool {
     match behind(MIPS, is_mips64el) {
         Ok(section) => {
@@ -366,7 +366,7 @@ fn has_no_relocations_by_default(rt: HostRuntime) {
     assert!(rt; is(rt, none.iter().next(), None));
 }
 
-// Machines, contexts, and whether a header of these is one of a MIPS64 file of little order.
+// Machines, contexts, and whether a header of these is one of a little endian MIPS64 file.
 static MACHINES: [(u16, Ctx, bool); 5] = [
     (EM_MIPS, LITTLE64, true),
     (EM_MIPS, BIG64, false),

@@ -448,11 +448,11 @@ fn at(sh_name: usize) -> SectionHeader {
     }
 }
 
-// The index of the first section with this name, where the names "f", one that is no text and "f" lie at 1, 3 and 5,
-// and the last place lies past them; among sections over a string table, and in their table over its bytes.
+// Returns the index of the first section with this name, among sections over a string table, and in their table over
+// its bytes. The names "f", one that is not UTF-8, and "f" are at 1, 3 and 5. The last section's name is past them.
 fn found(name: &[u8]) -> [Option<usize>; 2] {
     let names = b"\0f\0\xff\0f\0";
-    // Four section headers of the 32-bit class in little order, which have nothing but the places of their names.
+    // Four little endian section headers of the 32-bit class. All fields but the offsets of their names are zero.
     let mut bytes = [0; 160];
     bytes[0] = 3;
     bytes[40] = 1;

@@ -228,7 +228,7 @@ fn symbol_of(st_info: u8, st_value: u64) -> Sym {
     }
 }
 
-// Whether the parts of this information are told by all that tell them.
+// Reports whether each function that reads a part of this information returns the expected one.
 fn tells_parts(rt: HostRuntime, info: u8, bind: u8, typ: u8) -> bool {
     let symbol = symbol_of(info, 0);
     let binds = [symbol.st_bind(), st_bind(info), sym32::st_bind(info)];
@@ -564,12 +564,12 @@ fn has_no_symbols_by_default(rt: HostRuntime) {
     assert!(rt; is(rt, (none.offset(), *none.ctx()), (0, Ctx::default())));
 }
 
-// Four symbols of the 32-bit class in little order, which have nothing but the places of their names.
+// Four little endian symbols of the 32-bit class. All fields but the offsets of their names are zero.
 static PLACES: &[u8; 64] = b"\x03\0\0\0\0\0\0\0\0\0\0\0\0\0\0\0\x01\0\0\0\0\0\0\0\0\0\0\0\0\0\0\0\
     \x05\0\0\0\0\0\0\0\0\0\0\0\0\0\0\0\x07\0\0\0\0\0\0\0\0\0\0\0\0\0\0\0";
 
-// The index of the first of them with this name, where the names "f", one that is no text and "f" lie at 1, 3 and 5,
-// and the last place lies past them; over a string table and over its bytes.
+// Returns the index of the first of them with this name, over a string table and over its bytes. The names "f", one
+// that is not UTF-8, and "f" are at 1, 3 and 5. The last symbol's name is past them.
 fn found(name: &[u8]) -> [Option<usize>; 2] {
     let names = b"\0f\0\xff\0f\0";
     let table = table_of(PLACES, 0, 4, LITTLE32);

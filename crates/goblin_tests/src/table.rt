@@ -592,7 +592,7 @@ fn piece(bytes: &[u8], place: usize) -> &[u8] {
     here.get(..end.unwrap_or(here.len())).unwrap_or(here)
 }
 
-// Whether a string table gives the piece at each place of these bytes, and none behind them.
+// Reports whether a string table returns the piece at each offset of these bytes, and `None` after them.
 fn gives_pieces(rt: HostRuntime, table: &Strtab<'_>, bytes: &[u8]) -> bool {
     for place in 0..bytes.len() {
         let is_piece = match table.get_at(place) {
@@ -606,7 +606,7 @@ fn gives_pieces(rt: HostRuntime, table: &Strtab<'_>, bytes: &[u8]) -> bool {
     is(rt, table.get_at(bytes.len()), None)
 }
 
-// The bytes of the range, as far as there are any.
+// Returns the bytes of the range that exist.
 fn cut<'a>(case: &Case<'a>) -> &'a [u8] {
     let rest = case.0.get(case.1..).unwrap_or(b"");
     rest.get(..case.2).unwrap_or(rest)

@@ -50,7 +50,7 @@ pub(crate) fn gives<T: PartialEq + Debug + Drop>(
     }
 }
 
-// Whether an error is told by this text.
+// Reports whether this text is an error's message.
 pub(crate) fn tells(rt: HostRuntime, error: &Error, text: &str) -> bool {
     match error.line(rt.alloc()) {
         Ok(line) => is(rt, line.as_str(), text),
@@ -76,7 +76,7 @@ pub(crate) fn are_kept(bytes: &[u8]) -> bool {
     true
 }
 
-// Whether these bytes stand in front, and all behind them is as before, 0xaa.
+// Reports whether these bytes come first, and all after them are unchanged, 0xaa.
 pub(crate) fn stands(rt: HostRuntime, room: &[u8], bytes: &[u8]) -> bool {
     let stands = match room.strip_prefix(bytes) {
         Some(rest) => are_kept(rest),

@@ -99,7 +99,7 @@ fn walks_damaged_pieces(rt: HostRuntime) {
     assert!(rt; refuses(rt, b"\xE2\x82\xAC", 0x82, 3));
 }
 
-// Whether the permissive walk gives an entry with no text at each byte, within five looks a byte.
+// Reports whether the permissive walk returns an entry with an empty text at each byte, within five looks a byte.
 fn is_empty_at_each_byte(rt: HostRuntime, bytes: &[u8]) -> bool {
     let mut view = Looked::new(bytes);
     let Ok(entries) = walk(rt.alloc(), &mut view, 0, ParseMode::Permissive) else {
@@ -120,8 +120,8 @@ fn filled(alloc: Global, byte: u8, count: usize, last: u8) -> Option<Vec<u8>> {
     Some(bytes)
 }
 
-// Whether so many bytes, the last of which is no text in any piece, are refused, and in permissive mode are
-// an entry with no text at each byte.
+// Reports whether `count` bytes and a last one, with which no piece is UTF-8, are refused in strict mode. In
+// permissive mode they must have an entry with an empty text at each byte.
 fn walks_long(rt: HostRuntime, byte: u8, count: usize, last: u8) -> bool {
     match filled(rt.alloc(), byte, count, last) {
         Some(bytes) => is_empty_at_each_byte(rt, &bytes) && refuses(rt, &bytes, 0, bytes.len()),
@@ -226,7 +226,7 @@ fn pieces(alloc: Global, bytes: &[u8], delim: u8) -> Option<Vec<Option<&str>>> {
     Some(pieces)
 }
 
-// The plain walk: the place and the text of each entry, and the first place whose piece is no text.
+// The naive walk. Returns the offset and the text of each entry, and the first offset whose piece is not UTF-8.
 fn plain_walk<'a>(
     alloc: Global,
     pieces: &[Option<&'a str>],

@@ -64,7 +64,7 @@ fn writes_all(bytes: &[u8]) -> bool {
     is_written && is_flushed && !is_marked && counted.into_inner().writes == bytes.len() as u64
 }
 
-// A reader and writer whose calls answer by turns an interruption, a failure and one byte. It counts its calls.
+// A reader and writer whose calls return in turn an interruption, a failure and one byte. It counts its calls.
 #[derive(Drop)]
 struct Turning {
     calls: u64,

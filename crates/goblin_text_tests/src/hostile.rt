@@ -8,8 +8,8 @@ use std::alloc::Global;
 use std::io;
 use std::io::{Cursor, ErrorKind, Read, Write};
 
-// Why files of `from` to `to` bytes are refused: by this text, and behind it by how many bytes
-// they have from `base` on, where there is one.
+// How files of `from` to `to` bytes are refused: with this text, and after it, if there is a
+// `base`, the number of bytes that they have from there on.
 struct Cut {
     from: usize,
     to: usize,

@@ -1,5 +1,5 @@
-//! Names from tables that begin and end at the edges of the file's blocks: what is kept in mind gives the names that a walk
-//! over each table gives, as `Strtab::parse_with_opts` makes it, or refuses as it does.
+//! Names from tables that begin and end at the edges of the file's blocks. What is cached gives the same names as a walk
+//! over each table, as `Strtab::parse_with_opts` makes it, or the same refusal.
 use crate::runs::{PERMISSIVE, STRICT};
 use goblin::error::Result;
 use goblin::options::ParseOptions;
@@ -7,7 +7,7 @@ use goblin::strtab::Strtab;
 use goblin_text::names::{Names, Strings};
 use std::alloc::{AllocError, Global};
 
-// Letters of each width, with a zero byte behind.
+// Letters of each width, each with a zero byte after it.
 const LETTERS: [&[u8]; 4] = [
     b"a\0",
     b"\xC3\xA9\0",
@@ -15,7 +15,7 @@ const LETTERS: [&[u8]; 4] = [
     b"\xF0\x9F\x98\x80\0",
 ];
 
-// Letters of each width, with none behind: strings of them go on through blocks.
+// Letters of each width, without a zero byte. Strings of them go on through blocks.
 const LONG: [&[u8]; 4] = [b"a", b"\xC3\xA9", b"\xE2\x82\xAC", b"\xF0\x9F\x98\x80"];
 
 // Places round the ends of the first three blocks.
@@ -28,7 +28,7 @@ const OFFSETS: [usize; 12] = [
     0, 1, 2, 3, 4, 4_093, 4_094, 4_095, 4_096, 4_097, 8_191, 8_192,
 ];
 
-// Bytes of letters, behind some bytes `a`, and one byte that is no text, if its place is among them.
+// Returns some bytes `a` and letters after them, with a byte that is not UTF-8 if its place is among these.
 fn bytes_of(
     alloc: Global,
     letters: &[u8],

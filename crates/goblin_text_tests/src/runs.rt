@@ -176,7 +176,7 @@ fn takes(
 }
 
 // A strict table of four bytes takes four looks. A name in it takes one at its first byte, one at each byte up to and with the zero
-// byte, and one at each of its own bytes. A table that is no text is tested once, and then from its last string before the fault.
+// byte, and one at each of its own bytes. A table that is not UTF-8 is tested once, and then from its last string before the fault.
 #[test]
 fn counts_the_looks_of_a_file(rt: HostRuntime) {
     assert!(rt; takes(rt.alloc(), &STRICT, NAMES, &[], Outcome::Shown, 4 + 2 + 6));
@@ -205,7 +205,7 @@ fn shows_names_of_sections(rt: HostRuntime) {
     assert!(rt; shows(rt.alloc(), &STRICT, NAMES, &[], NAMES_TEXT));
     // An index past the sections.
     assert!(rt; shows(rt.alloc(), &STRICT, NAMES, &[(50, 2)], NO_NAMES_TEXT));
-    // The index is told by the first section's sh_link, and without one there is no table.
+    // The index is the first section's sh_link. If that is 0, there is no table.
     let linked = [(50, 0xff), (51, 0xff), (80, 1)];
     assert!(rt; shows(rt.alloc(), &STRICT, NAMES, &linked, NAMES_TEXT));
     let unlinked = [(50, 0xff), (51, 0xff)];
@@ -250,7 +250,7 @@ fn shows_symbols(rt: HostRuntime) {
 
 #[test]
 fn passes_over_empty_symbol_tables(rt: HostRuntime) {
-    // The strings are no text, which shows where the symbol table has a byte.
+    // The strings are not UTF-8. That is refused only if the symbol table has a byte.
     let text = "header ELF32 little DYN EM_UNKNOWN entry 0x0 phnum 0 shnum 3\n\
         section 0 SHT_NULL offset 0x0 size 0 name=\n\
         section 1 SHT_STRTAB offset 0x34 size 4 name=\n\
@@ -387,7 +387,7 @@ fn makes_the_text(rt: HostRuntime) {
     assert!(rt; makes(rt.alloc(), ADDEND, ADDEND_TEXT));
 }
 
-// The file with names, whose names' table stands behind it and has 40,002 bytes.
+// The file with names, whose string table has 40,002 bytes and comes after it.
 const LONG_NAMES: &[(usize, u8)] = &[(112, 0x88), (116, 0x42), (117, 0x9C)];
 
 // Adds a text, and so many times two bytes more.
