@@ -7,8 +7,8 @@
 --     .. c1  c2 | c3  c4 | d1  d2 ..      c, d: two characters of a text, of four bytes and of two
 --               p        edge
 --
--- In bytes that are no text more than three may go on. Then the edge is p + 3, and no text holds the four bytes from p
--- on.
+-- In bytes that are not UTF-8 more than three may go on. Then the edge is p + 3, and no UTF-8 contains the four bytes
+-- from p on.
 use Rattle.std.proofs.Common.{◌≡◌, ◌∙◌, ℕ, ◌+◌, ◌-◌, ◌<◌, ◌≤◌, ◌&&◌, Bool, true, false, cond, ltb, leb, List, [], ◌∷◌}
 use Rattle.std.proofs.Common.{◌++◌, length, get_or, take, drop, refl, sym, ap, subst, ⊎_elim, arith, length-append}
 use Rattle.std.proofs.Common.{slice_range}
@@ -201,7 +201,7 @@ text_cut bytes i p k l m h u =
           (IsUtf8-drop text n u boundary),
     )
 
--- a string that is no text up to an edge is none where more follows
+-- a string that is not UTF-8 up to an edge is not UTF-8 with more bytes either
 pub lacks-on : (bytes : List ℕ) (i p e : ℕ) → i ≤ p → char_start bytes p ≤ e → e ≤ length bytes
     → LacksText (slice_range bytes i (char_start bytes p)) → LacksText (slice_range bytes i e)
 lacks-on bytes i p e l m h lacks = λ u.

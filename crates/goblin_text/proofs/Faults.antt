@@ -1,4 +1,4 @@
--- The first piece of a string table that is no text: the first fault lies in it.
+-- The first piece of a string table that is not UTF-8 contains the first fault.
 use Rattle.std.proofs.Common.{◌≡◌, ◌≢◌, ◌∙◌, ℕ, zero, suc, ◌+◌, ◌-◌, ◌<◌, ◌≤◌, true, false, List, [], ◌∷◌, length}
 use Rattle.std.proofs.Common.{get_or, take, drop, refl, sym, ap, subst, ⊎_elim, arith, slice_range, Ok, Err, Result}
 use Rattle.std.proofs.Common.{if◌then◌else◌, ltb}

@@ -20,7 +20,7 @@ rest_is_text a b u v =
     let at = IsCharBoundary-from_take (a ++ b) (length a) v (omega (arith, length-append a b)) front in
     subst IsUtf8 (drop-append_seam a b) (IsUtf8-drop (a ++ b) (length a) v at)
 
--- a string that is no text is none after text with no zero byte
+-- a string that is not UTF-8 is not after zero-free UTF-8 either
 pub lacks-after : (bytes : List ℕ) (i j k : ℕ) → i ≤ j → j ≤ k → IsZeroFree (slice_range bytes i j)
     → LacksText (slice_range bytes j k) → LacksText (slice_range bytes i k)
 lacks-after bytes i j k l m zero_free lacks =

@@ -27,7 +27,7 @@ module _ (bytes : List ℕ) (place end : ℕ) (long : IsLong bytes place end) wh
       whole_to_start bytes place (next_block place * BLOCK) (place + BLOCK) (omega arith) (omega arith)
       (omega (arith, long.blocks, long.within)) (omega (arith, long.blocks, long.within)) long.whole
 
-  -- bytes up to the next block that are no text
+  -- the bytes up to the next block are not UTF-8
   pub lacks_at_head : ¬ (IsUtf8 (slice_range bytes place (block_start bytes (next_block place))))
       → LacksText (slice_range bytes place end)
   lacks_at_head other =

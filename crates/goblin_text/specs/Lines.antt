@@ -67,7 +67,7 @@ symbol_head section number s =
 abbrev pub symbol_line : ℕ → ℕ → Sym → List ℕ → List ℕ
 symbol_line section number s name = named_line (symbol_head section number s) name
 
--- an addend in decimal, or a dash where there is none
+-- an addend in decimal, or a dash for none
 abbrev pub addend_text : Option ℤ → List ℕ
 addend_text None = codes "-"
 addend_text (Some addend) = signed_decimal addend

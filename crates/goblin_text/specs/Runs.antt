@@ -21,7 +21,7 @@ char_start bytes place = after_continuation bytes (after_continuation bytes (aft
 unfoldable pub up_to_zero : List ℕ → List ℕ
 up_to_zero bytes = before_first (λ b. b == 0) bytes
 
--- the string is no text
+-- the string is not UTF-8
 abbrev pub LacksText : List ℕ → Type 0
 LacksText bytes = ¬ (IsUtf8 (up_to_zero bytes))
 
@@ -31,7 +31,7 @@ pub record IsStringEnd (bytes : List ℕ) (from to stop : ℕ) : Type 0 where
   pub within : stop ≤ to
   pub is : slice_range bytes from stop ≡ up_to_zero (slice_range bytes from to)
 
--- where the string from one place on ends, up to another, or none that is no text
+-- where the string from one place on ends, up to another, or `None` if it is not UTF-8
 abbrev pub EndsAt : List ℕ → (from to : ℕ) → Option ℕ → Type 0
 EndsAt bytes from to found = MatchOption found (LacksText (slice_range bytes from to)) (IsStringEnd bytes from to)
 

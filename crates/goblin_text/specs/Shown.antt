@@ -58,7 +58,7 @@ unfoldable pub strings_at : ParseMode → List ℕ → List SectionHeader → �
 strings_at mode bytes sections index =
     strings_of mode bytes (if index == 0 then None else slice_get sections index)
 
--- the string at an offset of a table, or an empty one where it has none
+-- the string at an offset of a table, or an empty one if there is none
 abbrev pub name_at : StringTable → ℕ → List ℕ
 name_at strings offset = unwrap_or (look_up strings offset) []
 

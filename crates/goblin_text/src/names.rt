@@ -212,8 +212,8 @@ impl<'a> Names<'a> {
         }
     }
 
-    // Returns where the string from a place on ends, up to another, or `None` for a long one that is no text. It is a look
-    // at each of BLOCK bytes. If they hold no zero byte, the table ends soon, or the string is a long one:
+    // Returns where the string from a place on ends, up to another, or `None` for a long one that is not UTF-8. It is
+    // a look at each of BLOCK bytes. If they hold no zero byte, the table ends soon, or the string is a long one:
     //
     //     place            near                  end          place / BLOCK + 1 >= last_block(end)
     //       |-- BLOCK bytes --|-- up to BLOCK + 3 --|
@@ -247,8 +247,8 @@ impl<'a> Names<'a> {
         self.end_of_long_name(place, end)
     }
 
-    // Returns where the string from a place on ends, up to another that lies some blocks after it, or `None` if it is no
-    // text. It is nine looks at edges, one at each byte up to the first edge, and two in the block that the string ends in.
+    // Returns where the string from a place on ends, up to another that lies some blocks after it, or `None` if it is
+    // not UTF-8. It is nine looks at edges, one at each byte up to the first edge, and two in the block that the string ends in.
     fn end_of_long_name(&mut self, place: usize, end: usize) -> Option<usize>
         requires { IsLong self.old.bytes place end }
         ensures stop { EndsAt self.old.bytes place end result }
@@ -274,7 +274,7 @@ impl<'a> Names<'a> {
         self.end_of_text(from, to)
     }
 
-    // Returns where the string from a place on ends, up to another, or `None` if it is no text.
+    // Returns where the string from a place on ends, up to another, or `None` if it is not UTF-8.
     fn end_of_text(&mut self, from: usize, to: usize) -> Option<usize>
         requires ordered { from ≤ to }
         requires within { to ≤ length self.old.bytes }

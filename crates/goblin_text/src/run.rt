@@ -21,7 +21,7 @@ use std::io;
 pub enum Outcome {
     /// The text was written.
     Shown,
-    /// One line was written, with the reason why there is no text.
+    /// One line was written: the reason why the file is refused.
     Refused,
     /// Reading or writing failed.
     Failed,

@@ -146,8 +146,8 @@ impl<'a> Seen<'a> {
         std::str::from_utf8(&self.bytes[from..to]).is_ok()
     }
 
-    /// The bytes from one place up to another as a text, or an empty one where they are none. It is a look at each of
-    /// them.
+    /// Returns the bytes from one place up to another as a text, or an empty one if they are not UTF-8. It is a look at
+    /// each of them.
     pub fn text(&mut self, from: usize, to: usize) -> &'a str
         requires ordered { from ≤ to }
         requires within { to ≤ length self.old.bytes }
@@ -228,7 +228,7 @@ fn first_zero(bytes: &[u8]) -> Option<usize>
     bytes.iter().position(|b| *b == 0)
 }
 
-// The bytes as a text, or an empty one where they are none.
+// Returns the bytes as a text, or an empty one if they are not UTF-8.
 fn or_empty(bytes: &[u8]) -> &str
     ensures { result.now ≡ (if is_utf8 bytes.now then bytes.now else []) }
 {
