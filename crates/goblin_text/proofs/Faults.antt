@@ -20,6 +20,7 @@ use Rattle.goblin_base.proofs.PiecesLemmas.{at_end, delim_before, end_before, en
 use Rattle.goblin_base.proofs.PiecesLemmas.{start_after_delim, start_behind, start_of_front, start_of_start, start_same}
 use Rattle.goblin_base.proofs.PiecesLemmas.{start_to}
 use Rattle.goblin_base.proofs.WalkLemmas.{bad_start_from, first_bad_is, no_bad_start_readable}
+use Rattle.goblin_text.proofs.Ranges.{get_range, length-range}
 use Rattle.goblin_text.specs.StringRanges.{text_table}
 
 module _ (bytes : List ℕ) where
@@ -202,3 +203,37 @@ module _ (bytes : List ℕ) where
   pub table_taken : IsUtf8 bytes → table_of Strict bytes 0 ≡ Ok (text_table bytes)
   unfolding walked
   table_taken u = rw (le-ltb (first_bad bytes 0) (length bytes) (omega (arith, first_bad_of_text u))) refl
+
+-- ---- the last string of a range
+-- it begins after the last zero byte
+pub last_string_after : (bytes : List ℕ) (i j s : ℕ) → i < s → s ≤ j → j ≤ length bytes → get_or bytes (s - 1) 0 ≡ 0
+    → ((k : ℕ) → s ≤ k → k < j → get_or bytes k 0 ≢ 0) → s ≡ i + piece_start (slice_range bytes i j) 0 (j - i)
+last_string_after bytes i j s a b h z none =
+    let r = slice_range bytes i j in
+    let k = s - 1 - i in
+    let size : length r ≡ j - i = length-range bytes i j (omega arith) h in
+    let place : i + k ≡ s - 1 = omega arith in
+    let here : get_or r k 0 ≡ 0 = get_range bytes i j k (omega arith) ∙ ap (λ x. get_or bytes x 0) place ∙ z in
+    let rest : (m : ℕ) → k < m → m < length r → get_or r m 0 ≢ 0 = λ m from to e.
+    none (i + m) (omega arith) (omega (arith, size)) (sym (get_range bytes i j m (omega (arith, size))) ∙ e) in
+    let is : k + 1 ≡ piece_start r 0 (j - i) =
+    start_behind_last r k (omega (arith, size)) here rest ∙ ap (piece_start r 0) size in
+    omega (arith, is)
+
+-- or where the range does
+pub last_string_whole : (bytes : List ℕ) (i j : ℕ) → i ≤ j → j ≤ length bytes
+    → ((k : ℕ) → i ≤ k → k < j → get_or bytes k 0 ≢ 0) → i ≡ i + piece_start (slice_range bytes i j) 0 (j - i)
+last_string_whole bytes i j a h none =
+    let r = slice_range bytes i j in
+    let size : length r ≡ j - i = length-range bytes i j a h in
+    let rest : (m : ℕ) → m < length r → get_or r m 0 ≢ 0 = λ m to e.
+    none (i + m) (omega arith) (omega (arith, size)) (sym (get_range bytes i j m (omega (arith, size))) ∙ e) in
+    let is : 0 ≡ piece_start r 0 (j - i) = start_of_only r rest ∙ ap (piece_start r 0) size in
+    omega (arith, is)
+
+-- the first bytes of a range
+pub front_of_range : (bytes : List ℕ) (i j p : ℕ)
+    → p ≤ j - i → slice_range bytes i (i + p) ≡ take p (slice_range bytes i j)
+front_of_range bytes i j p l =
+    let size : i + p - i ≡ p = omega arith in
+    ap (λ n. take n (drop i bytes)) size ∙ sym (take-take p (j - i) (drop i bytes) l)

@@ -1,9 +1,9 @@
 mod CharStarts
 mod Faults
+mod FoundNames
 mod Joins
 mod LineLooks
 mod LongNames
-mod Looks
 mod Modes
 mod Printed
 mod Puts

@@ -2,6 +2,7 @@
 use Rattle.std.proofs.Common.{◌≡◌, ◌∙◌, ℕ, ◌+◌, ◌-◌, ◌<◌, ◌≤◌, List, ◌++◌, length, get_or, take, drop, ap, arith}
 use Rattle.std.proofs.Common.{slice_range}
 use Rattle.std.proofs.Math.Seq.{take-add}
+use Rattle.std.proofs.lemmas.Option.{unwrap_or-slice_get}
 use Rattle.std.proofs.lemmas.List.{drop-drop, drop-take, get_or-drop, get_or-take, length-drop, length-take-le}
 
 pub split : (bytes : List ℕ) (i j k : ℕ) → i ≤ j → j ≤ k
@@ -28,3 +29,6 @@ rest_of_range bytes i j o l =
     let n : j - i ≡ o + (j - (i + o)) = omega arith in
     ap (λ k. drop o (take k (drop i bytes))) n ∙ drop-take o (j - (i + o)) (drop i bytes)
     ∙ ap (take (j - (i + o))) (drop-drop o i bytes)
+
+-- a byte that may be missing
+pub ruleset reads = (unwrap_or-slice_get)

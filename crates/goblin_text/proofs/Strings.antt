@@ -1,6 +1,6 @@
 -- Strings: the bytes before the first zero byte.
 use Rattle.std.proofs.Common.{◌≡◌, ◌≢◌, ◌∙◌, ℕ, ◌+◌, ◌-◌, ◌<◌, ◌≤◌, ◌==◌, Bool, false, cond, not, eqb, List, ◌++◌}
-use Rattle.std.proofs.Common.{length, get_or, take, drop, sym, ap, ⊎_elim, arith, slice_range, Option}
+use Rattle.std.proofs.Common.{length, get_or, take, drop, refl, sym, ap, ⊎_elim, arith, slice_range, Option}
 use Rattle.std.proofs.Math.Seq.{take-append-add}
 use Rattle.std.proofs.lemmas.Bool.{both_ways, cases_lt, cond-true, cond-false, eq-eqb, lt-ltb, le-ltb}
 use Rattle.std.proofs.lemmas.Bool.Decides.{nat_tests}
@@ -103,6 +103,15 @@ up_to_place bytes i j r n l m e f =
     let short : n ≤ j - i = omega (arith, k, within s, size) in
     let len : i + n - i ≡ n = omega arith in
     ap (λ x. take x (drop i bytes)) len ∙ sym (take-take n (j - i) (drop i bytes) short) ∙ ap (λ x. take x s) k
+
+-- and so it is found
+pub string_found : (bytes : List ℕ) (i j s : ℕ) → i ≤ j → j ≤ length bytes
+    → s ≡ i + unwrap_or (position (λ b. b == 0) (slice_range bytes i j)) (length (slice_range bytes i j))
+    → slice_range bytes i s ≡ up_to_zero (slice_range bytes i j)
+string_found bytes i j s l m e =
+    let r = position (λ b. b == 0) (slice_range bytes i j) in
+    let size : length (slice_range bytes i j) ≡ j - i = length-range bytes i j l m in
+    ap (slice_range bytes i) e ∙ up_to_place bytes i j r _ l m refl (ap (unwrap_or r) size)
 
 -- a string goes on after bytes with no zero byte
 pub string-after : (bytes : List ℕ) (i j s k : ℕ) → i ≤ j → j ≤ s → s ≤ k

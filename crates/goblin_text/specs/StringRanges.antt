@@ -1,8 +1,6 @@
 -- The string tables of a file: ranges of its bytes, of which names are read where they stand.
-use Rattle.std.specs.Prelude.{◌≡◌, ◌+◌, ◌≤◌, ℕ, true, List, Ok, length, slice_range}
-use Rattle.goblin.specs.Strtab.{StringTable, range_in}
-use Rattle.goblin.specs.declared.options.ParseMode.{ParseMode}
-use Rattle.goblin.specs.declared.options.ParseMode.TheVariants.{Strict}
+use Rattle.std.specs.Prelude.{ℕ, true, List, slice_range}
+use Rattle.goblin.specs.Strtab.{StringTable}
 use Rattle.goblin_text.specs.declared.names.Strings.{Strings}
 use Rattle.goblin_text.specs.declared.names.Strings.TheVariants.{Missing, Within}
 use Rattle.goblin_text.specs.Shown.{no_strings}
@@ -15,10 +13,3 @@ text_table bytes = record { bytes = bytes; delim = 0; is_parsed = true }
 abbrev pub strings_in : List ℕ → Strings → StringTable
 strings_in bytes Missing = no_strings
 strings_in bytes (Within start end) = text_table (slice_range bytes start end)
-
--- a table's bytes stand in the file from one place to another: a strict one's where they are asked for
-pub record IsRange (mode : ParseMode) (file : List ℕ) (offset size start end : ℕ) : Type 0 where
-  pub order : start ≤ end
-  pub within : end ≤ length file
-  pub is : range_in mode file offset size ≡ Ok (slice_range file start end)
-  pub strict : mode ≡ Strict → (start ≡ offset) × (end ≡ offset + size)

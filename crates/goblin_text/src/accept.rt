@@ -116,7 +116,7 @@ struct Context<'b> {
 impl Context<'_> {
     // Returns the string table that a section holds.
     fn strings_of(&self, names: &mut Names<'_>, section: &SectionHeader) -> Result<Strings>
-        ensures exact { let right = strings_of self.now.opts.now.parse_mode names.old.bytes
+        ensures given { let right = strings_of self.now.opts.now.parse_mode names.old.bytes
             (Some section.now) in
             Answers (strings_in names.old.bytes) result right }
         ensures unchanged { names.new.bytes ≡ names.old.bytes }
@@ -134,7 +134,7 @@ impl Context<'_> {
     // Returns the string table of the section with an index. Index 0 stands for no section.
     #[tactic(auto, unfolding(crate::specs::Shown::strings_at))]
     fn strings_at(&self, names: &mut Names<'_>, index: usize) -> Result<Strings>
-        ensures exact { let right = strings_at self.now.opts.now.parse_mode names.old.bytes
+        ensures given { let right = strings_at self.now.opts.now.parse_mode names.old.bytes
             self.now.sections.now index in
             Answers (strings_in names.old.bytes) result right }
         ensures unchanged { names.new.bytes ≡ names.old.bytes }

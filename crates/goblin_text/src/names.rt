@@ -11,10 +11,13 @@ ghost use Rattle.goblin_text.specs.Looks.{IsCached, IsShort, LooksAtMost, LooksB
 ghost use Rattle.goblin_text.specs.Runs.{EndsAt, IsLong, IsTextUpTo, last_block};
 ghost use Rattle.goblin_text.specs.Shown.{name_at};
 
+use crate::looks::{
+    after_continuation, char_start, end_of_string, is_text, refuse_unless_text, text,
+};
 use crate::runs::{BLOCK, BLOCKS, Kind, none_known, run_end};
-use crate::seen::Seen;
 use goblin::error::Result;
 use goblin::options::ParseOptions;
+use goblin_base::entries::Looked;
 use std::marker::Model;
 
 /// The strings that names come from.
@@ -30,7 +33,7 @@ pub enum Strings {
 /// of text with no zero byte does.
 #[derive(Drop)]
 pub struct Names<'a> {
-    seen: Seen<'a>,
+    view: Looked<'a>,
     texts: [u16; BLOCKS],
     zero_free: [u16; BLOCKS],
     // The range that was last found to be text.
@@ -50,15 +53,15 @@ impl<'a> Model for Names<'a> {
     ghost Value = { NamesView };
 
     ghost view = { λ n. record {
-      bytes = n.seen.bytes;
-      count = n.seen.count;
-      left = block_looks * (unknown (blocks n.seen.bytes) n.texts + unknown (blocks n.seen.bytes) n.zero_free);
+      bytes = n.view.bytes;
+      count = n.view.count;
+      left = block_looks * (unknown (blocks n.view.bytes) n.texts + unknown (blocks n.view.bytes) n.zero_free);
       text_start = n.text_start;
       text_end = n.text_end;
     } };
 
-    ghost invariant = { λ n. AreRunEnds Text n.seen.bytes n.texts × AreRunEnds ZeroFree n.seen.bytes n.zero_free
-        × IsUtf8 (slice_range n.seen.bytes n.text_start n.text_end) };
+    ghost invariant = { λ n. AreRunEnds Text n.view.bytes n.texts × AreRunEnds ZeroFree n.view.bytes n.zero_free
+        × IsUtf8 (slice_range n.view.bytes n.text_start n.text_end) };
 }
 
 impl<'a> Names<'a> {
@@ -69,7 +72,7 @@ impl<'a> Names<'a> {
         ensures left { result.left ≤ 5 * length bytes.now }
     {
         Names {
-            seen: Seen::new(bytes),
+            view: Looked::new(bytes),
             texts: none_known(),
             zero_free: none_known(),
             text_start: 0,
@@ -81,7 +84,7 @@ impl<'a> Names<'a> {
     pub fn count(&self) -> u128
         ensures { result ≡ self.now.count }
     {
-        self.seen.count()
+        self.view.count()
     }
 
     /// Returns the string table of `size` bytes of the file from an offset on, whose strings end at zero bytes. Under
@@ -91,7 +94,7 @@ impl<'a> Names<'a> {
     ///
     /// Those of `Strtab::parse_with_opts`.
     pub fn table(&mut self, offset: usize, size: usize, opts: &ParseOptions) -> Result<Strings>
-        ensures exact { let right = strtab_of opts.now.parse_mode self.old.bytes offset size 0 in
+        ensures given { let right = strtab_of opts.now.parse_mode self.old.bytes offset size 0 in
             Answers (strings_in self.old.bytes) result right }
         ensures unchanged { self.new.bytes ≡ self.old.bytes }
         ensures looks { IsShort self.old.bytes
@@ -106,7 +109,7 @@ impl<'a> Names<'a> {
             → self.new.count ≡ self.old.count }
         ensures looks_least { CountsAtLeast self.old.count 0 self.new.count }
     {
-        let (start, end) = self.seen.range(offset, size, opts.parse_mode)?;
+        let (start, end) = self.view.range(offset, size, opts.parse_mode)?;
         if !opts.parse_mode.is_permissive() {
             self.refuse_unless_text(start, end)?;
         }
@@ -118,7 +121,7 @@ impl<'a> Names<'a> {
     fn refuse_unless_text(&mut self, start: usize, end: usize) -> Result<()>
         requires ordered { start ≤ end }
         requires within { end ≤ length self.old.bytes }
-        ensures exact { let bytes = slice_range self.old.bytes start end in
+        ensures given { let bytes = slice_range self.old.bytes start end in
             Answers (λ _. text_table bytes) result (table_of ParseMode.Strict bytes 0) }
         ensures unchanged { self.new.bytes ≡ self.old.bytes }
         ensures looks { IsShort self.old.bytes → LooksByResult self.old self.new result table_looks }
@@ -130,7 +133,7 @@ impl<'a> Names<'a> {
             return Ok(());
         }
         if !self.reads_as_text(start, end) {
-            return self.seen.refuse_unless_text(start, end);
+            return refuse_unless_text(&mut self.view, start, end);
         }
         self.text_start = start;
         self.text_end = end;
@@ -156,17 +159,17 @@ impl<'a> Names<'a> {
         let first = start / BLOCK + 1;
         let last = last_block(end);
         if first >= last {
-            return self.seen.is_text(start, end);
+            return is_text(&mut self.view, start, end);
         }
-        let begin = self.seen.char_start(first * BLOCK);
-        if !self.seen.is_text(start, begin) {
+        let begin = char_start(&mut self.view, first * BLOCK);
+        if !is_text(&mut self.view, start, begin) {
             return false;
         }
-        if run_end(&mut self.seen, Kind::Text, &mut self.texts, first) < last {
+        if run_end(&mut self.view, Kind::Text, &mut self.texts, first) < last {
             return false;
         }
-        let rest = self.seen.char_start(last * BLOCK);
-        self.seen.is_text(rest, end)
+        let rest = char_start(&mut self.view, last * BLOCK);
+        is_text(&mut self.view, rest, end)
     }
 
     /// Returns the string at an offset of a file's strings, or an empty one if there is none.
@@ -181,7 +184,7 @@ impl<'a> Names<'a> {
         match strings {
             Strings::Missing => "",
             Strings::Within { start, end } => {
-                let end = end.min(self.seen.len());
+                let end = end.min(self.view.len());
                 self.name_within(start.min(end), end, offset)
             }
         }
@@ -203,11 +206,11 @@ impl<'a> Names<'a> {
             return "";
         }
         let place = start + offset;
-        if self.seen.after_continuation(place) > place {
+        if after_continuation(&mut self.view, place) > place {
             return "";
         }
         match self.end_of_name(place, end) {
-            Some(stop) => self.seen.text(place, stop),
+            Some(stop) => text(&mut self.view, place, stop),
             None => "",
         }
     }
@@ -237,12 +240,12 @@ impl<'a> Names<'a> {
         ensures looks_least { CountsAtLeast self.old.count 0 self.new.count }
     {
         let near = end.min(place.saturating_add(BLOCK));
-        let stop = self.seen.end_of_string(place, near);
+        let stop = end_of_string(&mut self.view, place, near);
         if stop < near {
             return Some(stop);
         }
         if place / BLOCK + 1 >= last_block(end) {
-            return Some(self.seen.end_of_string(near, end));
+            return Some(end_of_string(&mut self.view, near, end));
         }
         self.end_of_long_name(place, end)
     }
@@ -260,16 +263,16 @@ impl<'a> Names<'a> {
     {
         let first = place / BLOCK + 1;
         let last = last_block(end);
-        let begin = self.seen.char_start(first * BLOCK);
-        if !self.seen.is_text(place, begin) {
+        let begin = char_start(&mut self.view, first * BLOCK);
+        if !is_text(&mut self.view, place, begin) {
             return None;
         }
-        let run = run_end(&mut self.seen, Kind::ZeroFree, &mut self.zero_free, first).min(last);
-        let from = self.seen.char_start(run * BLOCK);
+        let run = run_end(&mut self.view, Kind::ZeroFree, &mut self.zero_free, first).min(last);
+        let from = char_start(&mut self.view, run * BLOCK);
         let to = if run == last {
             end
         } else {
-            self.seen.char_start((run + 1) * BLOCK)
+            char_start(&mut self.view, (run + 1) * BLOCK)
         };
         self.end_of_text(from, to)
     }
@@ -285,8 +288,8 @@ impl<'a> Names<'a> {
         ensures looks { LooksAtMost self.old self.new (2 * (to - from)) }
         ensures looks_least { CountsAtLeast self.old.count 0 self.new.count }
     {
-        let stop = self.seen.end_of_string(from, to);
-        if !self.seen.is_text(from, stop) {
+        let stop = end_of_string(&mut self.view, from, to);
+        if !is_text(&mut self.view, from, stop) {
             return None;
         }
         Some(stop)

@@ -5,7 +5,8 @@ ghost use Rattle.goblin_text.specs.Looks.{block_looks};
 ghost use Rattle.goblin_text.specs.Runs.{AreRunEnds, IsBlock, IsRunEnd, IsOfKind, blocks, unknown};
 
 use crate::input::INPUT_LIMIT;
-use crate::seen::Seen;
+use crate::looks::{char_start, end_of_string, is_text};
+use goblin_base::entries::Looked;
 
 /// The number of bytes of a block.
 pub const BLOCK: usize = 512;
@@ -40,49 +41,49 @@ pub fn none_known() -> [u16; BLOCKS]
 }
 
 // Reports whether the bytes from one place up to another are of a kind. It is at most two looks at each.
-fn is_of(seen: &mut Seen<'_>, kind: Kind, from: usize, to: usize) -> bool
+fn is_of(view: &mut Looked<'_>, kind: Kind, from: usize, to: usize) -> bool
     requires ordered { from ≤ to }
-    requires within { to ≤ length seen.old.bytes }
-    ensures value { IsTrue result ↔ IsOfKind kind (slice_range seen.old.bytes from to) }
-    ensures unchanged { seen.new.bytes ≡ seen.old.bytes }
-    ensures looks { seen.new.count ≤ seen.old.count + 2 * (to - from) }
-    ensures looks_least { CountsAtLeast seen.old.count 0 seen.new.count }
+    requires within { to ≤ length view.old.bytes }
+    ensures value { IsTrue result ↔ IsOfKind kind (slice_range view.old.bytes from to) }
+    ensures unchanged { view.new.bytes ≡ view.old.bytes }
+    ensures looks { view.new.count ≤ view.old.count + 2 * (to - from) }
+    ensures looks_least { CountsAtLeast view.old.count 0 view.new.count }
 {
     match kind {
-        Kind::Text => seen.is_text(from, to),
-        Kind::ZeroFree => seen.end_of_string(from, to) == to && seen.is_text(from, to),
+        Kind::Text => is_text(view, from, to),
+        Kind::ZeroFree => end_of_string(view, from, to) == to && is_text(view, from, to),
     }
 }
 
 // Reports whether the block with a number is of a kind.
-fn is_block_of(seen: &mut Seen<'_>, kind: Kind, block: usize) -> bool
+fn is_block_of(view: &mut Looked<'_>, kind: Kind, block: usize) -> bool
     requires bound { block < BLOCKS }
-    requires within { (block + 1) * BLOCK ≤ length seen.old.bytes }
-    ensures value { IsTrue result ↔ IsBlock kind seen.old.bytes block }
-    ensures unchanged { seen.new.bytes ≡ seen.old.bytes }
-    ensures looks { seen.new.count ≤ seen.old.count + block_looks }
-    ensures looks_least { CountsAtLeast seen.old.count 0 seen.new.count }
+    requires within { (block + 1) * BLOCK ≤ length view.old.bytes }
+    ensures value { IsTrue result ↔ IsBlock kind view.old.bytes block }
+    ensures unchanged { view.new.bytes ≡ view.old.bytes }
+    ensures looks { view.new.count ≤ view.old.count + block_looks }
+    ensures looks_least { CountsAtLeast view.old.count 0 view.new.count }
 {
-    let from = seen.char_start(block * BLOCK);
-    let to = seen.char_start((block + 1) * BLOCK);
-    is_of(seen, kind, from, to)
+    let from = char_start(view, block * BLOCK);
+    let to = char_start(view, (block + 1) * BLOCK);
+    is_of(view, kind, from, to)
 }
 
 // Finds the end of the run from a block on. It reads block by block, up to one that isn't of the kind, or one whose run
 // is known.
-fn find_run_end(seen: &mut Seen<'_>, kind: Kind, ends: &[u16; BLOCKS], first: usize) -> Found
-    requires first { first ≤ blocks seen.old.bytes }
-    requires known { AreRunEnds kind seen.old.bytes ends.now }
-    ensures end { IsRunEnd kind seen.old.bytes first result.end }
+fn find_run_end(view: &mut Looked<'_>, kind: Kind, ends: &[u16; BLOCKS], first: usize) -> Found
+    requires first { first ≤ blocks view.old.bytes }
+    requires known { AreRunEnds kind view.old.bytes ends.now }
+    ensures end { IsRunEnd kind view.old.bytes first result.end }
     ensures from { first ≤ result.read }
-    ensures within { result.read ≤ blocks seen.old.bytes }
+    ensures within { result.read ≤ blocks view.old.bytes }
     ensures to { result.read ≤ result.end + 1 }
     ensures unknown { (k : ℕ) → first ≤ k → k < result.read → slice_index ends.now k ≡ 0 }
-    ensures unchanged { seen.new.bytes ≡ seen.old.bytes }
-    ensures looks { seen.new.count ≤ seen.old.count + block_looks * (result.read - first) }
-    ensures looks_least { CountsAtLeast seen.old.count 0 seen.new.count }
+    ensures unchanged { view.new.bytes ≡ view.old.bytes }
+    ensures looks { view.new.count ≤ view.old.count + block_looks * (result.read - first) }
+    ensures looks_least { CountsAtLeast view.old.count 0 view.new.count }
 {
-    let blocks = (seen.len() / BLOCK).min(BLOCKS);
+    let blocks = (view.len() / BLOCK).min(BLOCKS);
     let mut block = first;
     while block < blocks {
         let known = usize::from(ends[block]);
@@ -92,7 +93,7 @@ fn find_run_end(seen: &mut Seen<'_>, kind: Kind, ends: &[u16; BLOCKS], first: us
                 end: known,
             };
         }
-        if !is_block_of(seen, kind, block) {
+        if !is_block_of(view, kind, block) {
             return Found {
                 read: block + 1,
                 end: block,
@@ -107,19 +108,19 @@ fn find_run_end(seen: &mut Seen<'_>, kind: Kind, ends: &[u16; BLOCKS], first: us
 }
 
 /// Returns where the run of a kind from a block on ends, and stores that for each block that it reads.
-pub fn run_end(seen: &mut Seen<'_>, kind: Kind, ends: &mut [u16; BLOCKS], first: usize) -> usize
+pub fn run_end(view: &mut Looked<'_>, kind: Kind, ends: &mut [u16; BLOCKS], first: usize) -> usize
     requires some { 0 < first }
-    requires first { first ≤ blocks seen.old.bytes }
-    requires known { AreRunEnds kind seen.old.bytes ends.old }
-    ensures end { IsRunEnd kind seen.old.bytes first result }
-    ensures known { AreRunEnds kind seen.old.bytes ends.new }
-    ensures unchanged { seen.new.bytes ≡ seen.old.bytes }
-    ensures looks { let n = blocks seen.old.bytes in
-        seen.new.count + block_looks * unknown n ends.new
-        ≤ seen.old.count + block_looks * unknown n ends.old }
-    ensures looks_least { CountsAtLeast seen.old.count 0 seen.new.count }
+    requires first { first ≤ blocks view.old.bytes }
+    requires known { AreRunEnds kind view.old.bytes ends.old }
+    ensures end { IsRunEnd kind view.old.bytes first result }
+    ensures known { AreRunEnds kind view.old.bytes ends.new }
+    ensures unchanged { view.new.bytes ≡ view.old.bytes }
+    ensures looks { let n = blocks view.old.bytes in
+        view.new.count + block_looks * unknown n ends.new
+        ≤ view.old.count + block_looks * unknown n ends.old }
+    ensures looks_least { CountsAtLeast view.old.count 0 view.new.count }
 {
-    let found = find_run_end(seen, kind, ends, first);
+    let found = find_run_end(view, kind, ends, first);
     for block in first..found.read {
         ends[block] = found.end as u16;
     }

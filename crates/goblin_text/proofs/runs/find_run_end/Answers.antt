@@ -9,10 +9,10 @@ returns-then-known-gt0-clause-end c =
     let k = c.loop-block.block in
     let kept : c.from-known.result ≡ get_or c.args.ends.now k 0 = grind (arith, common_steps) in
     let there : k < length c.args.ends.now = grind (arith, common_steps) in
-    let known = end_known c.args.kind c.args.seen.now.bytes c.args.ends.now k c.requires.known there
+    let known = end_known c.args.kind c.args.view.now.bytes c.args.ends.now k c.requires.known there
     (omega (arith, kept, c.if-known-gt0.true)) in
-    subst (IsRunEnd c.args.kind c.args.seen.now.bytes c.args.first) (sym kept)
-    (end_after c.args.kind c.args.seen.now.bytes c.args.first k _ c.loop-block.invariant.from c.loop-block.invariant.run
+    subst (IsRunEnd c.args.kind c.args.view.now.bytes c.args.first) (sym kept)
+    (end_after c.args.kind c.args.view.now.bytes c.args.first k _ c.loop-block.invariant.from c.loop-block.invariant.run
     known)
 
 pub returns-then-known-gt0-clause-to : goal.returns-then-known-gt0-clause-to
@@ -20,6 +20,6 @@ returns-then-known-gt0-clause-to c =
     let k = c.loop-block.block in
     let kept : c.from-known.result ≡ get_or c.args.ends.now k 0 = grind (arith, common_steps) in
     let there : k < length c.args.ends.now = grind (arith, common_steps) in
-    let known = end_known c.args.kind c.args.seen.now.bytes c.args.ends.now k c.requires.known there
+    let known = end_known c.args.kind c.args.view.now.bytes c.args.ends.now k c.requires.known there
     (omega (arith, kept, c.if-known-gt0.true)) in
     omega (arith, kept, known.order)

@@ -7,13 +7,13 @@ use Rattle.goblin_text.proofs.runs.find_run_end.Given as goal
 -- the blocks so far are of the kind, and of none it is known where its run ends
 abbrev pub invariant-loop-block : goal.invariant-loop-block
 invariant-loop-block l = record {
-  same : l.seen.bytes ≡ l.initial.seen.bytes;
+  same : l.view.bytes ≡ l.initial.view.bytes;
   from : l.first ≤ l.block;
-  to : l.block ≤ blocks l.initial.seen.bytes;
-  run : IsRun l.kind l.initial.seen.bytes l.first l.block;
+  to : l.block ≤ blocks l.initial.view.bytes;
+  run : IsRun l.kind l.initial.view.bytes l.first l.block;
   unknown : (k : ℕ) → l.first ≤ k → k < l.block → slice_index l.ends k ≡ 0;
-  least : CountsAtLeast l.initial.seen.count 0 l.seen.count;
-  looks : l.seen.count ≤ l.initial.seen.count + block_looks * (l.block - l.first);
+  least : CountsAtLeast l.initial.view.count 0 l.view.count;
+  looks : l.view.count ≤ l.initial.view.count + block_looks * (l.block - l.first);
 }
 
 abbrev pub decreases-loop-block : goal.decreases-loop-block

@@ -6,7 +6,7 @@ use Rattle.goblin_text.proofs.runs.run_end.Goals as goal
 
 pub loop-block-preserved : goal.loop-block-preserved
 loop-block-preserved c =
-    let bytes = c.args.seen.now.bytes in
+    let bytes = c.args.view.now.bytes in
     let ends = c.loop-block.ends in
     let k = c.loop-block.block in
     let found = c.find_run_end-found in

@@ -15,7 +15,7 @@ pub returns-then-not-is_text-clause-stop : goal.returns-then-not-is_text-clause-
 returns-then-not-is_text-clause-stop c =
     let bytes = c.args.self.now.bytes in
     let head : slice_range bytes c.args.place (block_start bytes (next_block c.args.place))
-    ≡ slice_range c.char_start-begin.new.self.bytes c.args.place c.char_start-begin.result =
+    ≡ slice_range c.char_start-begin.new.view.bytes c.args.place c.char_start-begin.result =
     grind (arith, common_steps) in
     lacks_at_head bytes c.args.place c.args.end c.requires
     (λ u. both_ways _ c.if-not-is_text.true (c.is_text.ensures.value.1 (subst IsUtf8 head u)))
@@ -24,7 +24,7 @@ returns-then-not-is_text-clause-stop c =
 run_is_end : (c : After-end_of_text)
     → IsRunEnd ZeroFree c.args.self.now.bytes (next_block c.args.place) c.run_end.result
 run_is_end c =
-    let same : c.is_text.new.self.bytes ≡ c.args.self.now.bytes = grind (arith, common_steps) in
+    let same : c.is_text.new.view.bytes ≡ c.args.self.now.bytes = grind (arith, common_steps) in
     subst (λ b. IsRunEnd ZeroFree b (next_block c.args.place) c.run_end.result) same c.run_end.ensures.end
 
 -- text with no zero byte goes on up to the block that is searched

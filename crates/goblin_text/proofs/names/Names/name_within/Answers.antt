@@ -1,6 +1,7 @@
 use Rattle.std.proofs.Common.{◌≡◌, ◌∙◌, ◌+◌, ◌-◌, ap, arith, inl, inr, length, slice_range}
 use Rattle.std.proofs.lemmas.Grind.{common_steps}
-use Rattle.goblin_text.proofs.Looks.{name_in_range, name_later, nothing, name_past_end, text_length, text_or_nothing}
+use Rattle.goblin_text.proofs.FoundNames.{name_in_range, name_later, nothing, name_past_end, text_length}
+use Rattle.goblin_text.proofs.FoundNames.{text_or_nothing}
 use Rattle.goblin_text.proofs.Ranges.{length-range}
 use Rattle.goblin_text.proofs.names.Names.name_within.Goals as goal
 

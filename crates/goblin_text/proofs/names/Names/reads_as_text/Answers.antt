@@ -11,7 +11,7 @@ use Rattle.goblin_text.proofs.names.Names.reads_as_text.Goals as goal
 -- where the run of blocks ends that are text
 run_is_end : (c : After-run_end) → IsRunEnd Text c.args.self.now.bytes (next_block c.args.start) c.run_end.result
 run_is_end c =
-    let same : c.is_text-2.new.self.bytes ≡ c.args.self.now.bytes = grind (arith, common_steps) in
+    let same : c.is_text-2.new.view.bytes ≡ c.args.self.now.bytes = grind (arith, common_steps) in
     subst (λ b. IsRunEnd Text b (next_block c.args.start) c.run_end.result) same c.run_end.ensures.end
 
 pub returns-then-not-is_text-clause-value : goal.returns-then-not-is_text-clause-value
@@ -21,7 +21,7 @@ returns-then-not-is_text-clause-value c = (
       let bytes = c.args.self.now.bytes in
       let parts = text_has_parts bytes c.args.start c.args.end (omega arith) c.requires.within u in
       let is : slice_range bytes c.args.start (block_start bytes (next_block c.args.start))
-      ≡ slice_range c.char_start-begin.new.self.bytes c.args.start c.char_start-begin.result =
+      ≡ slice_range c.char_start-begin.new.view.bytes c.args.start c.char_start-begin.result =
       grind (arith, common_steps) in
       absurd (both_ways _ c.if-not-is_text.true (c.is_text-2.ensures.value.1 (subst IsUtf8 is parts.head))),
 )
@@ -45,9 +45,9 @@ returns-clause-value c =
     let last = last_block c.args.end in
     let run = run_is_end (goal.at.returns-clause-value c).After-run_end in
     let to : last ≤ c.run_end.result = grind (arith, common_steps) in
-    let head : slice_range c.char_start-begin.new.self.bytes c.args.start c.char_start-begin.result
+    let head : slice_range c.char_start-begin.new.view.bytes c.args.start c.char_start-begin.result
     ≡ slice_range bytes c.args.start (block_start bytes first) = grind (arith, common_steps) in
-    let rest : slice_range c.char_start-rest.new.self.bytes c.char_start-rest.result c.args.end
+    let rest : slice_range c.char_start-rest.new.view.bytes c.char_start-rest.result c.args.end
     ≡ slice_range bytes (block_start bytes last) c.args.end = grind (arith, common_steps) in (
       λ t. parts_are_text bytes c.args.start c.args.end (omega arith) c.requires.within (record {
         head = subst IsUtf8 head (c.is_text-2.ensures.value.0 c.if-not-is_text.false);

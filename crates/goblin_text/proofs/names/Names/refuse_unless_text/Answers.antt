@@ -4,12 +4,12 @@ use Rattle.std.specs.Str.{IsUtf8}
 use Rattle.goblin_text.proofs.Faults.{table_taken}
 use Rattle.goblin_text.proofs.names.Names.refuse_unless_text.Goals as goal
 
-pub returns-then-end-self-clause-exact : goal.returns-then-end-self-clause-exact
-returns-then-end-self-clause-exact c =
+pub returns-then-end-self-clause-given : goal.returns-then-end-self-clause-given
+returns-then-end-self-clause-given c =
     let text : IsUtf8 (slice_range c.args.self.now.bytes c.args.start c.args.end) = grind (arith, common_steps) in
     table_taken _ text
 
-pub returns-clause-exact : goal.returns-clause-exact
-returns-clause-exact c =
+pub returns-clause-given : goal.returns-clause-given
+returns-clause-given c =
     let text : IsUtf8 (slice_range c.args.self.now.bytes c.args.start c.args.end) = grind (arith, common_steps) in
     table_taken _ text

@@ -2,37 +2,37 @@ use Rattle.std.proofs.Common.{◌∙◌, ap, arith, slice_range, subst, sym}
 use Rattle.std.proofs.lemmas.Bool.{both_ways}
 use Rattle.std.proofs.lemmas.Grind.{common_steps}
 use Rattle.goblin.specs.Refusal.{Answers}
-use Rattle.goblin.specs.Strtab.{strtab_of, table_of, walked}
+use Rattle.goblin.specs.Strtab.{IsRange, strtab_of, table_of, walked}
 use Rattle.goblin_text.proofs.Tables.{is_strict, table_is}
-use Rattle.goblin_text.specs.StringRanges.{IsRange, strings_in}
+use Rattle.goblin_text.specs.StringRanges.{strings_in}
 use Rattle.goblin_text.proofs.names.Names.table.Goals.{then-not-is_permissive+in_ok-refuse_unless_text}
 use Rattle.goblin_text.proofs.names.Names.table.Goals.{else-not-is_permissive}
 use Rattle.goblin_text.proofs.names.Names.table.Goals as goal
 
-pub returns-in_err-start-clause-exact : goal.returns-in_err-start-clause-exact
+pub returns-in_err-start-clause-given : goal.returns-in_err-start-clause-given
 unfolding strtab_of
-returns-in_err-start-clause-exact c = grind (arith, common_steps)
+returns-in_err-start-clause-given c = grind (arith, common_steps)
 
-pub returns-in_err-refuse_unless_text-clause-exact : goal.returns-in_err-refuse_unless_text-clause-exact
-returns-in_err-refuse_unless_text-clause-exact c =
+pub returns-in_err-refuse_unless_text-clause-given : goal.returns-in_err-refuse_unless_text-clause-given
+returns-in_err-refuse_unless_text-clause-given c =
     let bytes = c.args.self.now.bytes in
     let table = slice_range bytes c.in_ok-start.start c.in_ok-start.end in
     let stands : IsRange c.args.opts.now.parse_mode bytes c.args.offset c.args.size c.in_ok-start.start
     c.in_ok-start.end =
-    grind (arith, common_steps, c.in_ok-start.ensures.range) in
+    grind (arith, common_steps, c.in_ok-start.ensures.places) in
     let is = table_is _ _ _ _ _ _ stands in
     let strict = is_strict _ (λ p. both_ways _ c.if-not-is_permissive.true (c.is_permissive.ensures.1 p)) in
     subst (Answers (strings_in bytes) c.from_residual-in_err-refuse_unless_text.result)
     (sym (is ∙ ap (λ m. table_of m table 0) strict)) (grind (arith, common_steps))
 
-pub returns-clause-exact : goal.returns-clause-exact
+pub returns-clause-given : goal.returns-clause-given
 unfolding walked
-returns-clause-exact c =
+returns-clause-given c =
     let bytes = c.args.self.now.bytes in
     let table = slice_range bytes c.in_ok-start.start c.in_ok-start.end in
     let stands : IsRange c.args.opts.now.parse_mode bytes c.args.offset c.args.size c.in_ok-start.start
     c.in_ok-start.end =
-    grind (arith, common_steps, c.in_ok-start.ensures.range) in
+    grind (arith, common_steps, c.in_ok-start.ensures.places) in
     table_is _ _ _ _ _ _ stands
     ∙ elim c.if-not-is_permissive.branch [
       | then-not-is_permissive+in_ok-refuse_unless_text w ↦

@@ -1,18 +1,18 @@
-use Rattle.std.proofs.Common.{◌≡◌, ◌∙◌, [], ap, false, if◌then◌else◌, sym, true}
+use Rattle.std.proofs.Common.{◌≡◌, ◌∙◌, [], ap, false, if◌then◌else◌, slice_range, sym, true}
 use Rattle.std.proofs.lemmas.Bool.{false_from_ne_true}
 use Rattle.std.proofs.lemmas.Str.{IsUtf8-from_is_utf8, is_utf8-from_IsUtf8}
 use Rattle.std.specs.Str.{is_utf8}
-use Rattle.goblin_text.proofs.seen.or_empty.Goals as goal
+use Rattle.goblin_text.proofs.looks.text.Goals as goal
 
-pub returns-in-Ok : goal.returns-in-Ok
-returns-in-Ok c =
-    let bytes = c.args.bytes.now in
+pub returns-in-Ok-clause-value : goal.returns-in-Ok-clause-value
+returns-in-Ok-clause-value c =
+    let bytes = slice_range c.args.view.now.bytes c.args.from c.args.to in
     let is : is_utf8 bytes ≡ true = is_utf8-from_IsUtf8 bytes c.in-Ok.ensures.cases.1 in
     c.in-Ok.ensures.cases.0 ∙ sym (ap (λ b. if b then bytes else []) is)
 
-pub returns-in-Err : goal.returns-in-Err
-returns-in-Err c =
-    let bytes = c.args.bytes.now in
+pub returns-in-Err-clause-value : goal.returns-in-Err-clause-value
+returns-in-Err-clause-value c =
+    let bytes = slice_range c.args.view.now.bytes c.args.from c.args.to in
     let is : is_utf8 bytes ≡ false =
     false_from_ne_true (is_utf8 bytes) (λ t. c.in-Err.ensures.cases.0 (IsUtf8-from_is_utf8 bytes t)) in
     sym (ap (λ b. if b then bytes else []) is)

@@ -1,0 +1,146 @@
+//! Reading a file's bytes for names. Each function here takes its looks from the view that counts them.
+ghost use Rattle.std.specs.Prelude.{◌≡◌, ◌+◌, ◌-◌, ◌*◌, ◌<◌, ◌≤◌, ◌↔◌, IfErr, IsTrue, OnOk, [], length, min, slice_range, if◌then◌else◌};
+ghost use Rattle.std.specs.Str.{IsUtf8, is_utf8};
+ghost use Rattle.std.specs.Str.Lossy.{utf8_valid_len};
+ghost use Rattle.goblin.specs.Pieces.{first_bad, piece_start};
+ghost use Rattle.goblin.specs.Refusal.{Answers};
+ghost use Rattle.goblin.specs.Strtab.{table_of};
+ghost use Rattle.goblin_base.specs.Entries.{CountsAtLeast};
+ghost use Rattle.goblin_text.specs.StringRanges.{text_table};
+ghost use Rattle.goblin_text.specs.Runs.{after_continuation, char_start, up_to_zero};
+
+use goblin::error::Result;
+use goblin::options::ParseMode;
+use goblin_base::entries::Looked;
+use goblin_base::utf8::invalid_utf8;
+
+/// Returns the place after a continuation byte, or the same place. It is one look.
+#[tactic(auto, using(crate::proofs::Ranges::reads), unfolding(crate::specs::Runs::after_continuation))]
+pub fn after_continuation(view: &mut Looked<'_>, from: usize) -> usize
+    requires { from ≤ length view.old.bytes }
+    ensures value { result ≡ after_continuation view.old.bytes from }
+    ensures within { result ≤ length view.old.bytes }
+    ensures from { from ≤ result }
+    ensures to { result ≤ from + 1 }
+    ensures unchanged { view.new.bytes ≡ view.old.bytes }
+    ensures looks { view.new.count ≤ view.old.count + 1 }
+    ensures looks_least { CountsAtLeast view.old.count 1 view.new.count }
+{
+    let b = view.get(from).unwrap_or(0);
+    if from < view.len() && b >= 0x80 && b < 0xC0 {
+        from + 1
+    } else {
+        from
+    }
+}
+
+/// Returns where the characters from a place on begin: after up to three continuation bytes. It is three
+/// looks.
+#[tactic(auto, unfolding(crate::specs::Runs::char_start))]
+pub fn char_start(view: &mut Looked<'_>, place: usize) -> usize
+    requires { place ≤ length view.old.bytes }
+    ensures value { result ≡ char_start view.old.bytes place }
+    ensures within { result ≤ length view.old.bytes }
+    ensures from { place ≤ result }
+    ensures to { result ≤ place + 3 }
+    ensures unchanged { view.new.bytes ≡ view.old.bytes }
+    ensures looks { view.new.count ≤ view.old.count + 3 }
+    ensures looks_least { CountsAtLeast view.old.count 3 view.new.count }
+{
+    let second = after_continuation(view, place);
+    let third = after_continuation(view, second);
+    after_continuation(view, third)
+}
+
+/// Returns where the string from one place on ends, up to another: at a zero byte, or there. It is a look at each byte
+/// up to the zero byte.
+pub fn end_of_string(view: &mut Looked<'_>, from: usize, to: usize) -> usize
+    requires ordered { from ≤ to }
+    requires within { to ≤ length view.old.bytes }
+    ensures value { slice_range view.old.bytes from result
+        ≡ up_to_zero (slice_range view.old.bytes from to) }
+    ensures from { from ≤ result }
+    ensures to { result ≤ to }
+    ensures unchanged { view.new.bytes ≡ view.old.bytes }
+    ensures looks { view.new.count ≤ view.old.count + (min (result + 1) to - from) }
+    ensures looks_least { CountsAtLeast view.old.count (min (result + 1) to - from) view.new.count }
+{
+    view.find(0, from, to)
+}
+
+/// Reports whether the bytes from one place up to another are text. It is a look at each of them.
+pub fn is_text(view: &mut Looked<'_>, from: usize, to: usize) -> bool
+    requires ordered { from ≤ to }
+    requires within { to ≤ length view.old.bytes }
+    ensures value { IsTrue result ↔ IsUtf8 (slice_range view.old.bytes from to) }
+    ensures unchanged { view.new.bytes ≡ view.old.bytes }
+    ensures looks { view.new.count ≤ view.old.count + (to - from) }
+    ensures looks_least { CountsAtLeast view.old.count (to - from) view.new.count }
+{
+    view.text(from, to)
+}
+
+/// Returns the bytes from one place up to another as a text, or an empty one if they are no text. It is a look at each of
+/// them.
+pub fn text<'a>(view: &mut Looked<'a>, from: usize, to: usize) -> &'a str
+    requires ordered { from ≤ to }
+    requires within { to ≤ length view.old.bytes }
+    ensures value { let bytes = slice_range view.old.bytes from to in
+        result.now ≡ (if is_utf8 bytes then bytes else []) }
+    ensures bound { length result.now ≤ to - from }
+    ensures unchanged { view.new.bytes ≡ view.old.bytes }
+    ensures looks { view.new.count ≤ view.old.count + (to - from) }
+    ensures looks_least { CountsAtLeast view.old.count (to - from) view.new.count }
+{
+    match view.str(from, to) {
+        Ok(text) => text,
+        Err(_) => "",
+    }
+}
+
+/// Refuses the string table of the bytes from one place up to another, unless it is text. The first whole piece that is
+/// no text is the one around the first fault: no others are looked for. It is at most two looks at each byte.
+pub fn refuse_unless_text(view: &mut Looked<'_>, from: usize, to: usize) -> Result<()>
+    requires ordered { from ≤ to }
+    requires within { to ≤ length view.old.bytes }
+    ensures given { let bytes = slice_range view.old.bytes from to in
+        Answers (λ _. text_table bytes) result (table_of ParseMode.Strict bytes 0) }
+    ensures text { OnOk result (IsUtf8 (slice_range view.old.bytes from to)) }
+    ensures unchanged { view.new.bytes ≡ view.old.bytes }
+    ensures looks { view.new.count ≤ view.old.count + 2 * (to - from) }
+    ensures looks_least { CountsAtLeast view.old.count (to - from) view.new.count }
+    ensures looks_least_refused { let bytes = slice_range view.old.bytes from to in
+        let searched = utf8_valid_len bytes - first_bad bytes 0 in
+        IfErr result (λ _. CountsAtLeast view.old.count (to - from + searched) view.new.count) }
+{
+    match view.str(from, to) {
+        Ok(_) => Ok(()),
+        Err(fault) => {
+            let place = from + fault.valid_up_to();
+            let start = start_of_last_string(view, from, place);
+            Err(invalid_utf8(to - start))
+        }
+    }
+}
+
+// Returns where the last string of a range begins: after its last zero byte, or where the range does.
+fn start_of_last_string(view: &mut Looked<'_>, from: usize, to: usize) -> usize
+    requires ordered { from ≤ to }
+    requires within { to ≤ length view.old.bytes }
+    ensures value { let bytes = slice_range view.old.bytes from to in
+        result ≡ from + piece_start bytes 0 (to - from) }
+    ensures from { from ≤ result }
+    ensures to { result ≤ to }
+    ensures unchanged { view.new.bytes ≡ view.old.bytes }
+    ensures looks { view.new.count ≤ view.old.count + (to - from) }
+    ensures looks_least { CountsAtLeast view.old.count (to - result) view.new.count }
+{
+    let mut start = to;
+    while start > from {
+        if view.at(start - 1) == 0 {
+            return start;
+        }
+        start -= 1;
+    }
+    from
+}
