@@ -1,16 +1,30 @@
 #!/bin/sh
-# Runs the toolchain's gate, and sees that the prover refused each edit of the crates' must-fail/ by a contract. The toolchain
-# itself passes where an edit fits no code, can't be read, or is refused only by a name that it took away or by a limit of the
-# prover. Where a run has a folder ROOM, what the toolchain says is left there as `proofs`, while it is said, and in the end
-# `proofs.passed` if all passed, and `proofs.ended`: checks/taken.py reads them. Run from the repository's root.
+# Runs the toolchain's gate in a copy of the repository: sh checks/proved.sh [whole]
+# For each crate with edits in must-fail/ it would prove the crate once more. So the copy is made without these, which
+# checks/must_fail.py tries; or with them, by the word `whole`: then it sees that the prover refused each by a contract. The toolchain
+# itself passes where an edit fits no code, can't be read, or is refused only by a name that it took away or by a limit of the prover.
+# Where a run has a folder ROOM, the copy is its folder `proved`, and what the toolchain says is left there as `proofs`, while it is
+# said, and in the end `proofs.passed` if all passed, and `proofs.ended`: checks/taken.py and checks/must_fail.py read them. The
+# programs that it built are put in their places. Run from the repository's root.
 set -eu
-room=$(mktemp -d)
-said=${ROOM:-$room}/proofs
-trap 'rm -rf "$room"; if [ "${ROOM:-}" ]; then : > "$said.ended"; fi' EXIT
+own=$(mktemp -d)
+room=${ROOM:-$own}
+said=$room/proofs
+trap 'rm -rf "$own"; if [ "${ROOM:-}" ]; then : > "$said.ended"; fi' EXIT
 trap 'exit 1' HUP INT TERM
-{ rt ci 2>&1 && : >"$said.passed"; } | tee "$said"
+mkdir "$room/proved"
+git ls-files -co --exclude-standard | tr '\n' '\0' | xargs -0 cp --parents -t "$room/proved"
+if [ "${1:-}" != whole ]; then rm -rf "$room"/proved/crates/*/must-fail; fi
+{ (cd "$room/proved" && rt ci) 2>&1 && : >"$said.passed"; } | tee "$said"
 [ -e "$said.passed" ] || exit 1
-edits=$(find crates/*/must-fail -name '*.edit' | wc -l)
-refused=$(grep -cE 'must-fail [^ ]+\.edit: refused, as it must be(: |$)' "$said" || :)
-echo "must-fail: a contract refused $refused of $edits edits"
-[ "$refused" -eq "$edits" ]
+for out in "$room"/proved/crates/*/out; do
+    crate=crates/$(basename "$(dirname "$out")")
+    mkdir -p "$crate/out"
+    find "$out" -maxdepth 1 -type f -exec cp -p {} "$crate/out/" \;
+done
+if [ "${1:-}" = whole ]; then
+    edits=$(find crates/*/must-fail -name '*.edit' | wc -l)
+    refused=$(grep -cE 'must-fail [^ ]+\.edit: refused, as it must be(: |$)' "$said" || :)
+    echo "must-fail: a contract refused $refused of $edits edits"
+    [ "$refused" -eq "$edits" ]
+fi

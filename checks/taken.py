@@ -1,8 +1,8 @@
 #!/usr/bin/env python3
 """Puts the libraries that a run of `rt ci` proves into a copy of the repository, where `rt lib` takes them for a crate above them.
 
-    python3 checks/taken.py COPY CRATE     waits until the run beside this has proved all that CRATE stands on; that run is
-                                           checks/proved.sh, with the same ROOM
+    python3 checks/taken.py PROVED COPY CRATE     waits until the run beside this has proved in PROVED all that CRATE stands on;
+                                                  that run is checks/proved.sh, with the same ROOM
 
 `rt lib` takes a library that has a stamp of its sources, and proves any other anew. `rt ci` leaves its libraries without one, since
 each fits only those that it was proved over. In the copy all of them are of this run: each of their files is younger than the copy.
@@ -60,14 +60,14 @@ def is_younger(folder, start):
     return bool(files) and all(os.path.getmtime(file) >= start for file in files)
 
 
-def take(copy, names):
+def take(proved, copy, names):
     """Copies the libraries of this run with their stamps, if all of them are there, and answers whether they are."""
     stamp_of, start = stamps(copy), os.path.getmtime(f'{copy}/crates.txt')
     libraries = {name: f'crates/{name}/out/rlib/{name}.rlib' for name in names}
-    if not stamp_of or not all(map(os.path.isdir, libraries.values())):
+    if not stamp_of or not all(os.path.isdir(f'{proved}/{library}') for library in libraries.values()):
         return False
     for library in libraries.values():
-        shutil.copytree(library, f'{copy}/{library}')
+        shutil.copytree(f'{proved}/{library}', f'{copy}/{library}')
     # (the copies, since a run that ends puts libraries of earlier checks in the place of its own)
     is_of_run = all(is_younger(f'{copy}/{library}', start) for library in libraries.values())
     for name, library in libraries.items():
@@ -78,14 +78,14 @@ def take(copy, names):
 
 
 def main(words):
-    copy, crate = os.path.abspath(words[0]), words[1]
+    proved, copy, crate = os.path.abspath(words[0]), os.path.abspath(words[1]), words[2]
     names = sources('.', '--crates', crate).split()[:-1]
     if not are_proved(names, f'{os.environ["ROOM"]}/proofs'):
         print(f'taken: not all of {", ".join(names)} is proved')
         return 1
-    if not take(copy, names):
+    if not take(proved, copy, names):
         print(f'taken: the run has left no libraries that can be taken, so {crate} is proved with all that it stands on')
-    if sources('.', '--sum', crate) != sources(copy, '--sum', crate):
+    if sources(proved, '--sum', crate) != sources(copy, '--sum', crate):
         print('taken: the sources have changed since they were copied')
         return 1
     return 0

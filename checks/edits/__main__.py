@@ -7,8 +7,8 @@
     python3 checks/edits --from FOLDER ..     those of FOLDER/CRATE/ in place of the crates' own
     python3 checks/edits --fits               only whether each fits the code, and each of must-fail/ too: nothing is proved
 
-Those of crates/NAME/must-fail/ `rt ci` tries by itself. Run from the repository's root. It works on copies, as many crates side
-by side as there are processors.
+Those of crates/NAME/must-fail/ checks/must_fail.py tries, and `rt ci` too. Run from the repository's root. It works on copies, as
+many crates side by side as there are processors.
 """
 import argparse
 import os
@@ -150,7 +150,7 @@ def folders_of(words, crate):
     """Where the edits of a crate lie that are asked for."""
     if words.folder:
         return [f'{words.folder}/{crate}']
-    # `rt ci` tries those of must-fail/, but passes over one that fits no code
+    # others try those of must-fail/, but `rt ci` passes over one that fits no code
     return [f'crates/{crate}/{name}' for name in (['edits', 'must-fail'] if words.fits else ['edits'])]
 
 
