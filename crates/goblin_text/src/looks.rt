@@ -80,7 +80,7 @@ pub fn is_text(view: &mut Looked<'_>, from: usize, to: usize) -> bool
     view.text(from, to)
 }
 
-/// Returns the bytes from one place up to another as a text, or an empty one if they are no text. It is a look at each of
+/// Returns the bytes from one place up to another as a text, or an empty one if they are not UTF-8. It is a look at each of
 /// them.
 pub fn text<'a>(view: &mut Looked<'a>, from: usize, to: usize) -> &'a str
     requires ordered { from ≤ to }
@@ -98,8 +98,8 @@ pub fn text<'a>(view: &mut Looked<'a>, from: usize, to: usize) -> &'a str
     }
 }
 
-/// Refuses the string table of the bytes from one place up to another, unless it is text. The first whole piece that is
-/// no text is the one around the first fault: no others are looked for. It is at most two looks at each byte.
+/// Refuses the string table of the bytes from one place up to another, unless it is UTF-8. The first whole piece that is
+/// not UTF-8 is the one around the first fault: no others are looked for. It is at most two looks at each byte.
 pub fn refuse_unless_text(view: &mut Looked<'_>, from: usize, to: usize) -> Result<()>
     requires ordered { from ≤ to }
     requires within { to ≤ length view.old.bytes }
