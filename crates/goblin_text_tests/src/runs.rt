@@ -176,7 +176,8 @@ fn takes(
 }
 
 // A strict table of four bytes takes four looks. A name in it takes one at its first byte, one at each byte up to and with the zero
-// byte, and one at each of its own bytes. A table that is not UTF-8 is tested once, and then from its last string before the fault.
+// byte, and one at each of its own bytes. A table that is not UTF-8 is tested once more, and then looked at from the fault back to
+// the zero byte before its last string.
 #[test]
 fn counts_the_looks_of_a_file(rt: HostRuntime) {
     assert!(rt; takes(rt.alloc(), &STRICT, NAMES, &[], Outcome::Shown, 4 + 2 + 6));
@@ -189,7 +190,7 @@ fn counts_the_looks_of_a_file(rt: HostRuntime) {
             SYMBOLS,
             &[(54, 0xff)],
             Outcome::Refused,
-            4 + 4 + 1
+            4 + 4 + 2
         )
     );
     assert!(rt; takes(rt.alloc(), &STRICT, BIG, &[], Outcome::Shown, 0));
