@@ -474,23 +474,22 @@ fn count_in_range(offset: usize, size: usize, opts: &ParseOptions) -> Option<usi
 }
 
 // The offset and the size of a range, and the number of symbols there, strictly and permissively.
-static RANGES: [(usize, usize, [Option<usize>; 2]); 5] = [
-    (0, 48, [Some(2); 2]),
-    (0, 47, [Some(1); 2]),
-    (24, 23, [Some(0); 2]),
-    (0, 72, [None, Some(2)]),
-    (48, 0, [None, Some(0)]),
+static RANGES: [(usize, usize, Option<usize>, Option<usize>); 5] = [
+    (0, 48, Some(2), Some(2)),
+    (0, 47, Some(1), Some(1)),
+    (24, 23, Some(0), Some(0)),
+    (0, 72, None, Some(2)),
+    (48, 0, None, Some(0)),
 ];
 
 #[test]
 fn counts_the_symbols_of_a_range(rt: HostRuntime) {
-    let modes = [ParseOptions::strict(), ParseOptions::permissive()];
+    let strict = ParseOptions::strict();
+    let permissive = ParseOptions::permissive();
     for row in &RANGES {
-        let counts = [
-            count_in_range(row.0, row.1, &modes[0]),
-            count_in_range(row.0, row.1, &modes[1]),
-        ];
-        assert!(rt; holds(rt, row, is(rt, counts, row.2)));
+        let strictly = count_in_range(row.0, row.1, &strict);
+        let permissively = count_in_range(row.0, row.1, &permissive);
+        assert!(rt; holds(rt, row, is(rt, (strictly, permissively), (row.2, row.3))));
     }
 }
 
