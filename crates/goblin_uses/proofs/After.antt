@@ -1,23 +1,13 @@
 -- Lines after others.
-use Rattle.std.proofs.Common.{◌≡◌, ◌++◌, ℕ, List, ◌∷◌, Result, Ok, Err, ap, append_assoc, refl, sym, ◌∙◌, rules}
+use Rattle.std.proofs.Common.{◌≡◌, ◌++◌, ℕ, List, ◌∷◌, Result, Ok, Err, ap, append_assoc, refl, ◌∙◌, rules}
 use Rattle.goblin.specs.declared.elf.section_header.SectionHeader.{SectionHeader}
 use Rattle.goblin.specs.declared.error.Error.{Error}
 use Rattle.goblin.specs.Note.{NoteParts}
 use Rattle.goblin.specs.Refusal.{Refusal}
 use Rattle.goblin.specs.Steps.{◌>>=◌}
 use Rattle.goblin.specs.Texts.{◌&◌}
+use Rattle.goblin_base.proofs.LineLemmas.{after, after-more}
 use Rattle.goblin_uses.specs.Lines.{Adds, note_line, note_lines, sections_listed}
-
--- the same lines after some others
-abbrev pub after : List ℕ → Result (List ℕ) Refusal → Result (List ℕ) Refusal
-after lines (Ok more) = Ok (lines ++ more)
-after lines (Err e) = Err e
-
--- one more note
-more : (lines mine : List ℕ) (rest : Result (List ℕ) Refusal)
-    → after lines (rest >>= λ more. Ok (mine & more)) ≡ after (lines ++ mine) rest
-more lines mine (Ok rest) = ap Ok (sym (append_assoc lines mine rest))
-more lines mine (Err e) = refl
 
 -- a line before lines that were added
 pub headed : (old head mid new : List ℕ) (expected : Result (List ℕ) Refusal) → mid ≡ old ++ head
@@ -29,14 +19,14 @@ headed old head mid new expected is (lines, given, added) =
 -- a note among items
 pub note_lines_ok : (lines : List ℕ) (note : NoteParts) (items : List (Result NoteParts Refusal))
     → after lines (note_lines (Ok note ∷ items)) ≡ after (lines ++ note_line note) (note_lines items)
-note_lines_ok lines note items = more lines (note_line note) (note_lines items)
+note_lines_ok lines note items = after-more lines (note_line note) (note_lines items)
 
 -- a section among others
 pub section_ok : (list : SectionHeader → Result (List ℕ) Refusal) (lines mine : List ℕ) (s : SectionHeader)
     (sections : List SectionHeader)
     → list s ≡ Ok mine
     → after lines (sections_listed list (s ∷ sections)) ≡ after (lines ++ mine) (sections_listed list sections)
-section_ok list lines mine s sections given = rw given (more lines mine (sections_listed list sections))
+section_ok list lines mine s sections given = rw given (after-more lines mine (sections_listed list sections))
 
 -- a section's lines after those so far
 pub section_added : (list : SectionHeader → Result (List ℕ) Refusal) (old mid new : List ℕ)

@@ -19,14 +19,11 @@ use Rattle.goblin.specs.SectionHeaders.{linked, section_headers_of}
 use Rattle.goblin.specs.Steps.{◌>>=◌, refuse_as}
 use Rattle.goblin.specs.Strtab.{StringTable, look_up, table_of, walked}
 use Rattle.goblin.specs.Texts.{◌&◌, hexadecimal}
+pub use Rattle.goblin_base.specs.Lines.{Adds, newline}
 use Rattle.goblin_base.specs.Entries.{places_of}
 use Rattle.goblin_base.specs.Search.{digits}
 use Rattle.goblin_uses.specs.Listed.{LargestFirst, bytes_of, is_function, last_zero, longest_step, notes_of}
 use Rattle.goblin_uses.specs.Listed.{relocations_of, symbols_of}
-
--- the end of a line
-abbrev pub newline : List ℕ
-newline = 10 ∷ []
 
 -- the line of a symbol: its value, and its name if it has one
 abbrev pub symbol_line : StringTable → Sym → List ℕ
@@ -170,8 +167,3 @@ abbrev pub AddsSuch : {X : Type 0}
     → List ℕ → List ℕ → Result (Unit {0}) Error → (List ℕ → Type 0) → Result X Refusal → Type 0
 AddsSuch old new (Ok done) Such expected = (lines : List ℕ) × Such lines × (new ≡ old ++ lines)
 AddsSuch old new (Err e) Such expected = refusal_of e ≢ out_of_memory → expected ≡ Err (refusal_of e)
-
--- the text that was added is the expected one; an error is the expected refusal or out of memory
-abbrev pub Adds : List ℕ → List ℕ → Result (Unit {0}) Error → Result (List ℕ) Refusal → Type 0
-Adds old new (Ok done) expected = (lines : List ℕ) × (expected ≡ Ok lines) × (new ≡ old ++ lines)
-Adds old new (Err e) expected = refusal_of e ≢ out_of_memory → expected ≡ Err (refusal_of e)

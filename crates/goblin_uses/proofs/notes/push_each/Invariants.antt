@@ -1,6 +1,6 @@
 use Rattle.std.proofs.Common.{◌≡◌, ◌++◌, ℕ, List, string_bytes}
 use Rattle.goblin.specs.Notes.{items_left}
-use Rattle.goblin_uses.proofs.After.{after}
+use Rattle.goblin_base.proofs.LineLemmas.{after}
 use Rattle.goblin_uses.specs.Lines.{note_lines}
 use Rattle.goblin_uses.proofs.notes.push_each.Given as goal
 

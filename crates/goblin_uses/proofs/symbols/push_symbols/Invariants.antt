@@ -1,5 +1,5 @@
 use Rattle.std.proofs.Common.{◌≡◌, ◌++◌, ℕ, List, drop, string_bytes}
-use Rattle.goblin_uses.proofs.After.{after}
+use Rattle.goblin_base.proofs.LineLemmas.{after}
 use Rattle.goblin_uses.specs.Lines.{section_listed, sections_listed}
 use Rattle.goblin_uses.proofs.symbols.push_symbols.Given as goal
 
