@@ -2,7 +2,6 @@ pub mod LaidLemmas
 pub mod DigitLemmas
 pub mod IndexLemmas
 pub mod NoteLemmas
-pub mod PieceLemmas
 pub mod PlaceLemmas
 pub mod SearchLemmas
 pub mod StepLemmas

@@ -1,7 +1,5 @@
 //! Bytes of the file: those of a section, of a segment and of a string, and numbers at an offset.
-ghost use Rattle.std.specs.Prelude.{◌≡◌, ◌≤◌, ◌==◌, length, position};
 ghost use Rattle.goblin.specs.Refusal.{Answers};
-ghost use Rattle.goblin_base.specs.Pieces.{piece};
 ghost use Rattle.goblin_c.specs.Bytes.{number_expected, range_expected, section_bytes_expected, segment_bytes_expected, string_bytes_expected};
 
 use crate::headers::ctx_of;
@@ -12,6 +10,7 @@ use goblin::elf::section_header::{SHT_NOBITS, SHT_NULL};
 use goblin::error::Result;
 use goblin_base::number::{get_u8, get_u16, get_u32, get_u64};
 use goblin_base::room::room;
+use goblin_base::strtab::piece_len;
 
 // Returns a range that lies in the file.
 fn range_in(bytes: &[u8], range: &GoblinRange) -> Result<Option<GoblinRange>>
@@ -42,22 +41,6 @@ pub fn segment_bytes(bytes: &[u8], segment: &GoblinSegment) -> Result<Option<Gob
     range_in(bytes, &segment.file)
 }
 
-// Returns the index of the first zero byte.
-fn zero_place(bytes: &[u8]) -> Option<usize>
-    ensures { result ≡ position (λ b. b == 0) bytes.now }
-{
-    bytes.iter().position(|b| *b == 0)
-}
-
-// Returns the number of bytes before the next zero byte, or before the end.
-fn piece_len(strings: &[u8], offset: usize) -> usize
-    requires { offset ≤ length strings.now }
-    ensures { result ≡ length (piece strings.now 0 offset) }
-{
-    let rest = &strings[offset..];
-    zero_place(rest).unwrap_or(rest.len())
-}
-
 /// Returns the range in the file of the string at an offset of a string table, which need not be UTF-8.
 pub fn string_bytes(bytes: &[u8], range: &GoblinRange, offset: u64) -> Result<Option<GoblinRange>>
     ensures { Answers (λ found. found) result
@@ -70,7 +53,7 @@ pub fn string_bytes(bytes: &[u8], range: &GoblinRange, offset: u64) -> Result<Op
     }
     Ok(Some(GoblinRange {
         offset: range.offset + offset,
-        size: piece_len(strings, start) as u64,
+        size: piece_len(strings, start, 0) as u64,
     }))
 }
 
