@@ -10,7 +10,6 @@ mod Puts
 mod Ranges
 mod Reading
 mod RunEnds
-mod Shows
 mod Strings
 mod Tables
 mod TextBlocks

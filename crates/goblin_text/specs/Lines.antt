@@ -11,10 +11,7 @@ use Rattle.goblin.specs.HeaderNames.{class_name, type_name as file_type_name}
 use Rattle.goblin.specs.SectionNames.{section_name}
 use Rattle.goblin.specs.SymParts.{bind_of, type_of, visibility_of, bind_name, type_name, visibility_name}
 use Rattle.goblin.specs.Texts.{◌&◌, hexadecimal}
-
--- the end of a line
-abbrev pub newline : List ℕ
-newline = 10 ∷ []
+pub use Rattle.goblin_base.specs.Lines.{newline}
 
 -- a control character of ASCII
 abbrev pub is_control : ℕ → Bool

@@ -20,6 +20,7 @@ use Rattle.goblin.specs.Strtab.{StringTable, look_up, strtab_of}
 use Rattle.goblin.specs.Sym.{sym_size}
 use Rattle.goblin.specs.Symtab.{symtab_by}
 use Rattle.goblin.specs.Texts.{◌&◌}
+pub use Rattle.goblin_base.specs.Lines.{Adds}
 use Rattle.goblin_text.specs.Lines.{header_line, reloc_line, section_line, symbol_line}
 use Rattle.goblin_text.specs.Options.{is_permissive}
 
@@ -136,11 +137,6 @@ tested bytes = do
   header ← refuse_as refusal_of (read_header bytes)
   ctx ← refuse_as refusal_of (ctx_of header.0)
   section_headers_of_tested bytes header.0.e_shoff header.0.e_shnum ctx
-
--- what was added to a text is what is right, unless memory ran out
-abbrev pub Adds : List ℕ → List ℕ → Result (Unit {0}) Error → Result (List ℕ) Refusal → Type 0
-Adds old new (Ok done) right = (lines : List ℕ) × (right ≡ Ok lines) × (new ≡ old ++ lines)
-Adds old new (Err e) right = refusal_of e ≢ out_of_memory → right ≡ Err (refusal_of e)
 
 -- where the text is shown strictly, the same is shown permissively
 abbrev pub PermissiveShowsStrict : Type 0

@@ -1,5 +1,5 @@
 use Rattle.std.proofs.Common.{◌≡◌, ◌++◌, ◌*◌, ℕ, List, drop}
-use Rattle.goblin_text.proofs.Shows.{after}
+use Rattle.goblin_base.proofs.LineLemmas.{after}
 use Rattle.goblin_text.specs.Accepted.{symbols_text}
 use Rattle.goblin_base.specs.Entries.{CountsAtLeast}
 use Rattle.goblin_text.specs.Looks.{IsShort, LooksAtMost, table_looks}
