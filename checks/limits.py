@@ -53,7 +53,7 @@ def read(output):
     return head, left == 0
 
 
-def took(path, words, limit):
+def took(path, arguments, limit):
     """Whether a run over a file, which is ended where it passes a limit, ends as it should; its processor seconds, and the memory
     that it held."""
     def limited():
@@ -61,7 +61,7 @@ def took(path, words, limit):
         resource.setrlimit(resource.RLIMIT_STACK, (STACK, STACK))
         resource.setrlimit(resource.RLIMIT_AS, (ADDRESS_SPACE, ADDRESS_SPACE))
     with open(path, 'rb') as file:
-        started = subprocess.Popen([PROGRAM, *words], stdin=file, preexec_fn=limited, stdout=subprocess.PIPE)
+        started = subprocess.Popen([PROGRAM, *arguments], stdin=file, preexec_fn=limited, stdout=subprocess.PIPE)
         head, was_read = read(started.stdout)
         _, status, used = os.wait4(started.pid, 0)
         started.returncode = status

@@ -42,8 +42,8 @@ def check(crate, folder):
     # at the full limits, which leaves what depends on them to the second check, and builds the libraries below
     subprocess.run(['rt', 'check'], stdout=subprocess.DEVNULL, **run)
     lines, seconds, before = [], {}, None
-    words = ['rt', 'check', '--margin', '--jobs', '1']
-    with subprocess.Popen(words, stdout=subprocess.PIPE, text=True, errors='replace', **run) as ran:
+    command = ['rt', 'check', '--margin', '--jobs', '1']
+    with subprocess.Popen(command, stdout=subprocess.PIPE, text=True, errors='replace', **run) as ran:
         for line in ran.stdout:
             lines.append(line)
             if found := CHECKED.match(line):
@@ -56,7 +56,8 @@ def check(crate, folder):
 
 def open_in(said):
     """The functions, and after them the lemmas and types, that are not proved, but for those that only wait for others."""
-    own = [path for path, it in said.functions.items() if not it.is_proved() and (it.refused or not it.waits)]
+    own = [path for path, function in said.functions.items()
+           if not function.is_proved() and (function.refused or not function.waits)]
     return own + said.others
 
 

@@ -32,7 +32,7 @@ def groups_of(edits, functions):
     groups = []
     for edit in edits:
         free = (group for group in groups if edit.stands_in(BODY) and all(
-            it.stands_in(BODY) and not functions[it.name] & functions[edit.name] for it in group))
+            other.stands_in(BODY) and not functions[other.name] & functions[edit.name] for other in group))
         group = next(free, None)
         if group:
             group.append(edit)
@@ -46,8 +46,8 @@ def check(folder, edits, paths):
     texts = apply(edits, folder)
     before = {path: open(f'{folder}/{path}', encoding='utf-8').read() for path in texts}
     write(folder, texts)
-    words = ['rt', 'check', '--jobs', '1', *(word for path in sorted(paths) for word in ('--only', path))]
-    ran = subprocess.run(words, cwd=folder, stdin=subprocess.DEVNULL, capture_output=True, text=True, errors='replace')
+    command = ['rt', 'check', '--jobs', '1', *(word for path in sorted(paths) for word in ('--only', path))]
+    ran = subprocess.run(command, cwd=folder, stdin=subprocess.DEVNULL, capture_output=True, text=True, errors='replace')
     write(folder, before)
     return Said(ran.stdout + ran.stderr, os.path.basename(folder))
 
@@ -61,13 +61,13 @@ def write(folder, texts):
 def refusals_in(said, functions):
     """How a goal of one of these functions was refused, or nothing."""
     own = [said.functions.get(path) for path in functions]
-    return next((it.refused for it in own if it and it.refused), '')
+    return next((function.refused for function in own if function and function.refused), '')
 
 
 def try_edits(crate, folder, known):
     """Tries a crate's edits, and answers how many there are and which are not refused."""
     edits, wrong = edits_of(f'crates/{crate}/must-fail', crate, f'crates/{crate}')
-    functions = {edit.name: {path_among(it, known) for it in edit.functions()} - {None} for edit in edits}
+    functions = {edit.name: {path_among(name, known) for name in edit.functions()} - {None} for edit in edits}
     wrong += [f'{crate}/{edit.name}' for edit in edits if not functions[edit.name]]
     groups = groups_of([edit for edit in edits if functions[edit.name]], functions)
     while groups:

@@ -34,8 +34,8 @@ def stamps(copy):
 
 def sources(folder, how, crate):
     """What checks/sources.sh says of a crate."""
-    words = ['sh', 'checks/sources.sh', how, crate]
-    return subprocess.run(words, cwd=folder, stdout=subprocess.PIPE, text=True, check=True).stdout
+    command = ['sh', 'checks/sources.sh', how, crate]
+    return subprocess.run(command, cwd=folder, stdout=subprocess.PIPE, text=True, check=True).stdout
 
 
 def are_proved(names, said):
@@ -77,8 +77,8 @@ def take(proved, copy, names):
     return is_of_run
 
 
-def main(words):
-    proved, copy, crate = os.path.abspath(words[0]), os.path.abspath(words[1]), words[2]
+def main(arguments):
+    proved, copy, crate = os.path.abspath(arguments[0]), os.path.abspath(arguments[1]), arguments[2]
     names = sources('.', '--crates', crate).split()[:-1]
     if not are_proved(names, f'{os.environ["ROOM"]}/proofs'):
         print(f'taken: not all of {", ".join(names)} is proved')

@@ -55,8 +55,8 @@ def parts_in(room):
     if not os.path.isfile(f'{room}/parts'):
         return []
     with open(f'{room}/parts', encoding='utf-8') as lines:
-        words = [line.rstrip('\n').split('\t') for line in lines]
-    return [(name, float(begun), float(ended), float(seconds)) for begun, ended, seconds, name in words]
+        rows = [line.rstrip('\n').split('\t') for line in lines]
+    return [(name, float(begun), float(ended), float(seconds)) for begun, ended, seconds, name in rows]
 
 
 def whole(command):
@@ -67,7 +67,7 @@ def whole(command):
         parts = parts_in(room)
     proof = next((seconds for name, _, _, seconds in parts if name == UNIT), None)
     print(f'{"part":<12} {"from":>6} {"to":>6} {"processor minutes":>18} {"units":>7}')
-    for name, begun, ended, seconds in [*sorted(parts, key=lambda it: it[1]), ('all', start, time.time(), used())]:
+    for name, begun, ended, seconds in [*sorted(parts, key=lambda part: part[1]), ('all', start, time.time(), used())]:
         units = f'{seconds / proof:.1f}' if proof else '-'
         print(f'{name:<12} {(begun - start) / 60:6.1f} {(ended - start) / 60:6.1f} {seconds / 60:18.1f} {units:>7}')
     if proof:
@@ -76,11 +76,11 @@ def whole(command):
     return status
 
 
-def main(words):
-    if words[0] == 'whole':
-        return whole(words[1:])
-    if words[0] == 'part':
-        return part(words[1], words[2:])
+def main(arguments):
+    if arguments[0] == 'whole':
+        return whole(arguments[1:])
+    if arguments[0] == 'part':
+        return part(arguments[1], arguments[2:])
     return unit()
 
 

@@ -41,7 +41,7 @@ def crates_listed():
             head, split, names = line.partition('#')[0].partition(':')
             if split:
                 stands_on[head.split()[0]] = [name for name in names.split() if os.path.isdir(f'crates/{name}')]
-    below = lambda crate: {it for name in stands_on[crate] for it in {name, *below(name)}}
+    below = lambda crate: {lower for name in stands_on[crate] for lower in {name, *below(name)}}
     return {crate: below(crate) for crate in stands_on}
 
 
@@ -71,8 +71,8 @@ def keep(crate, to):
 class Run:
     """All crates that are tried: each proved once those below it are, and its edits tried once it is."""
 
-    def __init__(self, room, edits, below, words):
-        self.room, self.edits, self.below, self.jobs = room, edits, below, words.jobs
+    def __init__(self, room, edits, below, jobs):
+        self.room, self.edits, self.below, self.jobs = room, edits, below, jobs
         self.wrong, self.ways, self.said = [], set(), {}
 
     def prove(self, crate, jobs):
@@ -105,13 +105,13 @@ class Run:
 
     def all(self):
         """Proves and tries, as many tasks side by side as there are jobs, first what others wait for."""
-        wanted = {it for crate in self.edits for it in {crate, *self.below[crate]}}
-        tasks = [('prove', it) for it in sorted(wanted, key=lambda it: len(self.below[it]))]
-        tasks += [('try', it) for it in sorted(self.edits, key=lambda it: -len(self.edits[it]))]
+        wanted = {name for crate in self.edits for name in {crate, *self.below[crate]}}
+        tasks = [('prove', crate) for crate in sorted(wanted, key=lambda crate: len(self.below[crate]))]
+        tasks += [('try', crate) for crate in sorted(self.edits, key=lambda crate: -len(self.edits[crate]))]
         proved, failed, running = set(), set(), {}
         with ThreadPoolExecutor(self.jobs) as pool:
             while tasks or running:
-                for task in [it for it in tasks if self.is_ready(it, proved)][:self.jobs - len(running)]:
+                for task in [task for task in tasks if self.is_ready(task, proved)][:self.jobs - len(running)]:
                     tasks.remove(task)
                     running[self.submit(pool, task, not running)] = task
                 if not running:
@@ -134,24 +134,24 @@ class Run:
         return pool.submit(self.try_edits, crate)
 
 
-def read_edits(words, below):
+def read_edits(options, below):
     """Returns the edits that are asked for, by crate, and why others fit no code."""
     edits, misfits = {}, []
-    for crate in words.crates or below:
-        for folder in folders_of(words, crate):
+    for crate in options.crates or below:
+        for folder in folders_of(options, crate):
             found, wrong = edits_of(folder, crate, f'crates/{crate}') if os.path.isdir(folder) else ([], [])
-            found = [it for it in found if words.edit in (None, it.name)]
+            found = [edit for edit in found if options.edit in (None, edit.name)]
             edits.update({crate: edits.get(crate, []) + found} if found else {})
             misfits += wrong
     return edits, misfits
 
 
-def folders_of(words, crate):
+def folders_of(options, crate):
     """Where the edits of a crate lie that are asked for."""
-    if words.folder:
-        return [f'{words.folder}/{crate}']
+    if options.folder:
+        return [f'{options.folder}/{crate}']
     # others try those of must-fail/, but `rt ci` passes over one that fits no code
-    return [f'crates/{crate}/{name}' for name in (['edits', 'must-fail'] if words.fits else ['edits'])]
+    return [f'crates/{crate}/{name}' for name in (['edits', 'must-fail'] if options.fits else ['edits'])]
 
 
 def main():
@@ -161,22 +161,22 @@ def main():
     parser.add_argument('--from', dest='folder')
     parser.add_argument('--fits', action='store_true')
     parser.add_argument('--jobs', type=int, default=len(os.sched_getaffinity(0)))
-    words = parser.parse_args()
+    options = parser.parse_args()
     below = crates_listed()
-    edits, misfits = read_edits(words, below)
+    edits, misfits = read_edits(options, below)
     count = sum(map(len, edits.values()))
     for misfit in misfits:
         say(misfit)
     if misfits or not count:
         say('edits: none was tried, because the edits above do not fit the code' if count else 'edits: no edit was found')
         return 1
-    if words.fits:
+    if options.fits:
         say(f'{count} edits fit the code')
         return 0
     with tempfile.TemporaryDirectory(prefix='edits-') as room:
-        run = Run(room, edits, below, words)
+        run = Run(room, edits, below, options.jobs)
         run.all()
-    is_whole = not (words.crates or words.edit or words.folder)
+    is_whole = not (options.crates or options.edit or options.folder)
     if is_whole and run.ways != set(WAYS):
         run.wrong.append('some ways of refusing never occurred; the wording of the prover may have changed')
     for line in run.wrong:

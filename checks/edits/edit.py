@@ -53,7 +53,7 @@ class Edit:
         """The edit as it is judged where the prover names these functions: by the law of a list's module, unless it has none, or
         the list is taken from a module with a law of its own, whose lists may be edited too."""
         has_law = lambda place: law_among(place.function[0], known) and not law_among(place.source, known)
-        places = (Place(ELSEWHERE) if it.kind == LIST and not has_law(it) else it for it in self.places)
+        places = (Place(ELSEWHERE) if place.kind == LIST and not has_law(place) else place for place in self.places)
         return replace(self, places=tuple(places))
 
 

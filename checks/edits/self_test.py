@@ -103,7 +103,7 @@ PLANTED = {
         ('changes_nothing', '    next(next(x))', '    next(next(x))', 'NOT REFUSED: the crate is still proved with it'),
         ('counts_by_itself', '    next(next(x))', '    next(x) + 1', 'NOT REFUSED: the crate is still proved with it'),
         ('counts_once', '    next(next(x))', '    next(x)', 'refused with values: planted::second'),
-        ('lacks_its_brace', '    x / 2', '    x / 2 }', 'NOT REFUSED: it can not be read, so no contract was tried'),
+        ('lacks_its_brace', '    x / 2', '    x / 2 }', 'NOT REFUSED: the edited code is no valid Rattle, so no contract was tried'),
         ('gives_less', '    x / 2', '    x / 3', 'NOT REFUSED: the crate is still proved with it'),
         ('says_less', '    ensures { result ≡ x + 1 }', '    ensures { x < result }',
          'NOT REFUSED: its own function is still proved with it, though planted::'),

@@ -36,7 +36,8 @@ class Trial:
         before = self.before if self.before.functions else self.check([])
         if not before.is_proved():
             return self.fail(f'the crate is not proved without edits\n{before.text[-2000:]}')
-        edits = [edit for edit in (it.among(before.functions) for it in self.edits) if self.place(edit, before)]
+        known = [edit.among(before.functions) for edit in self.edits]
+        edits = [edit for edit in known if self.place(edit, before)]
         for kind in (BODY, LIST):
             pending = [edit for edit in edits if edit.stands_in(kind)]
             while pending:
@@ -52,7 +53,7 @@ class Trial:
 
     def place(self, edit, said):
         """Finds the functions of an edit among those that the prover names."""
-        paths = {path_among(it, said.functions) for it in edit.functions()}
+        paths = {path_among(name, said.functions) for name in edit.functions()}
         self.functions[edit.name] = frozenset(paths - {None})
         if None in paths:
             self.tell_wrong(edit, 'the prover names no function of this name')
@@ -66,8 +67,8 @@ class Trial:
             self.write(texts)
             for _ in range(2):
                 self.begin_anew()
-                words = ['rt', 'check', '--jobs', '1']
-                ran = subprocess.run(words, cwd=self.folder, stdin=subprocess.DEVNULL, capture_output=True, text=True, errors='replace')
+                command = ['rt', 'check', '--jobs', '1']
+                ran = subprocess.run(command, cwd=self.folder, stdin=subprocess.DEVNULL, capture_output=True, text=True, errors='replace')
                 if ran.returncode < KILLED:
                     break
         finally:
@@ -112,8 +113,8 @@ class Trial:
         said = self.check(group)
         if not said.is_whole():
             return self.without_unread(group, pending)
-        for path, it in said.functions.items():
-            self.waits[path] = self.waits.get(path, frozenset()) | it.waits
+        for path, function in said.functions.items():
+            self.waits[path] = self.waits.get(path, frozenset()) | function.waits
         judged = [edit for edit in group if self.judge(edit, said)]
         self.groups.append(len(judged))
         # where none could be judged, the first is tried alone
@@ -138,11 +139,11 @@ class Trial:
         own = [said.functions.get(path) for path in sorted(self.functions[edit.name])]
         if None in own:
             return False
-        by = next((it.refused for it in own if it.refused), '')
+        by = next((function.refused for function in own if function.refused), '')
         if by:
             self.tell_refused(edit, by, ' and '.join(sorted(self.functions[edit.name])))
             return True
-        if all(it.is_proved() for it in own):
+        if all(function.is_proved() for function in own):
             # a survivor: alone it shows what the rest of the crate says of it
             self.try_alone(edit)
             return True
@@ -158,13 +159,13 @@ class Trial:
             self.tell_wrong(edit, 'the edited code is no valid Rattle, so no contract was tried')
         elif said.is_proved():
             self.tell_wrong(edit, 'the crate is still proved with it')
-        elif any(it and it.refused for it in own.values()):
-            path = next(path for path, it in own.items() if it and it.refused)
+        elif any(function and function.refused for function in own.values()):
+            path = next(path for path, function in own.items() if function and function.refused)
             self.tell_refused(edit, own[path].refused, path)
         elif refused and not edit.stands_in(BODY, HEAD, LIST):
             # it changes a definition, a constant or a type: whatever cites it may refuse it
             self.tell_refused(edit, self.way(said, refused[0]), ' and '.join(refused[:3]))
-        elif own and all(it and it.is_proved() for it in own.values()):
+        elif own and all(function and function.is_proved() for function in own.values()):
             others = f', though {refused[0]} is not' if refused else ''
             self.tell_wrong(edit, f'its own function is still proved with it{others}')
         else:

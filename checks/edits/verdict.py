@@ -66,11 +66,11 @@ class Said:
     def is_proved(self):
         """Whether the whole crate is proved."""
         ended = END.search(self.text)
-        return bool(ended) and ended[1] == PROVED and all(it.is_proved() for it in self.functions.values())
+        return bool(ended) and ended[1] == PROVED and all(function.is_proved() for function in self.functions.values())
 
     def refused(self):
         """The functions, and after them the lemmas and types, a goal of whose own was refused."""
-        return [path for path, it in self.functions.items() if it.refused] + self.others
+        return [path for path, function in self.functions.items() if function.refused] + self.others
 
 
 def answers_refused(text, crate):
