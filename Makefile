@@ -73,7 +73,7 @@ called:
 
 must-fail:
 	@mkdir "$(ROOM)/edited"; git ls-files | tr '\n' '\0' | xargs -0 cp --parents -t "$(ROOM)/edited"
-	$(part) must-fail nice -n 10 python3 checks/must_fail.py "$(ROOM)/proved" "$(ROOM)/edited"
+	$(part) must-fail nice -n 3 python3 checks/must_fail.py "$(ROOM)/proved" "$(ROOM)/edited"
 
 refused:
 	$(part) refused sh checks/refused.sh
