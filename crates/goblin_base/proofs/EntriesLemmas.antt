@@ -1,4 +1,4 @@
--- Entries kept as places.
+-- Entries stored as places.
 use Rattle.std.proofs.Common.{◌≡◌, ℕ, zero, suc, ◌+◌, ◌-◌, ◌<◌, ◌≤◌, true, false, take, drop, List, [], ◌∷◌, ◌++◌}
 use Rattle.std.proofs.Common.{length, get_or, refl, sym, ap, subst, ◌∙◌, arith}
 use Rattle.std.specs.List.{slice_range}
@@ -10,7 +10,7 @@ use Rattle.goblin_base.specs.Pieces.{piece_end, is_readable, entries_from}
 use Rattle.goblin_base.proofs.WalkLemmas.{entries_more_bad}
 use Rattle.goblin_base.proofs.SoFarLemmas.{found_more, text_from_readable, entry_of_text}
 use Rattle.goblin_base.specs.Scan.{IsWalkedTo}
-use Rattle.goblin_base.specs.Entries.{next_of, entries_between, IsKeptEntry, AreKept}
+use Rattle.goblin_base.specs.Entries.{next_of, entries_between, IsText, AreTexts}
 
 module _ (bytes : List ℕ) where
   pub places_between : (ps : List ℕ) (c : ℕ) → places_of (entries_between bytes ps c) ≡ ps
@@ -22,51 +22,51 @@ module _ (bytes : List ℕ) where
   length-between (p ∷ ps) c = ap suc (length-between ps c)
 
   -- the entry at k ends before the place after it, or before the closing place
-  pub text_kept : (ps : List ℕ) (c k : ℕ)
+  pub text_between : (ps : List ℕ) (c k : ℕ)
       → k < length ps
       → text_of (get_or (entries_between bytes ps c) k (0, []))
       ≡ slice_range bytes (get_or ps k 0) (get_or ps (k + 1) c - 1)
-  text_kept [] c k h = absurd (omega arith)
-  text_kept (p ∷ []) c zero h = refl
-  text_kept (p ∷ q ∷ ps) c zero h = refl
-  text_kept (p ∷ ps) c (suc k) h = let e : suc k + 1 ≡ suc (k + 1) = omega arith in
-      text_kept ps c k (omega arith) ∙ ap (λ j. slice_range bytes (get_or ps k 0) (get_or (p ∷ ps) j c - 1)) (sym e)
+  text_between [] c k h = absurd (omega arith)
+  text_between (p ∷ []) c zero h = refl
+  text_between (p ∷ q ∷ ps) c zero h = refl
+  text_between (p ∷ ps) c (suc k) h = let e : suc k + 1 ≡ suc (k + 1) = omega arith in
+      text_between ps c k (omega arith) ∙ ap (λ j. slice_range bytes (get_or ps k 0) (get_or (p ∷ ps) j c - 1)) (sym e)
 
-  pub kept_at : (ps : List ℕ) (c k : ℕ)
-      → AreKept bytes ps c → k < length ps → IsKeptEntry bytes (get_or ps k 0) (get_or ps (k + 1) c)
-  kept_at [] c k a h = absurd (omega arith)
-  kept_at (p ∷ []) c zero a h = a.0
-  kept_at (p ∷ q ∷ ps) c zero a h = a.0
-  kept_at (p ∷ ps) c (suc k) a h = let e : suc k + 1 ≡ suc (k + 1) = omega arith in
-      subst (λ j. IsKeptEntry bytes (get_or ps k 0) (get_or (p ∷ ps) j c)) (sym e) (kept_at ps c k a.1 (omega arith))
+  pub is_text_at : (ps : List ℕ) (c k : ℕ)
+      → AreTexts bytes ps c → k < length ps → IsText bytes (get_or ps k 0) (get_or ps (k + 1) c)
+  is_text_at [] c k a h = absurd (omega arith)
+  is_text_at (p ∷ []) c zero a h = a.0
+  is_text_at (p ∷ q ∷ ps) c zero a h = a.0
+  is_text_at (p ∷ ps) c (suc k) a h = let e : suc k + 1 ≡ suc (k + 1) = omega arith in
+      subst (λ j. IsText bytes (get_or ps k 0) (get_or (p ∷ ps) j c)) (sym e) (is_text_at ps c k a.1 (omega arith))
 
   -- the same, from what was read of the places
-  pub kept_ends : (ps qs : List ℕ) (c k f n : ℕ) (es : List (ℕ × List ℕ))
-      → entries_between bytes ps c ≡ es → qs ≡ ps → f ≡ get_or qs k 0 → n ≡ get_or qs (k + 1) c → AreKept bytes ps c
+  pub entry_between : (ps qs : List ℕ) (c k f n : ℕ) (es : List (ℕ × List ℕ))
+      → entries_between bytes ps c ≡ es → qs ≡ ps → f ≡ get_or qs k 0 → n ≡ get_or qs (k + 1) c → AreTexts bytes ps c
       → k < length es
-      → IsKeptEntry bytes f n × (slice_range bytes f (n - 1) ≡ text_of (get_or es k (0, [])))
-  kept_ends ps qs c k f n es v e x y a h =
+      → IsText bytes f n × (slice_range bytes f (n - 1) ≡ text_of (get_or es k (0, [])))
+  entry_between ps qs c k f n es v e x y a h =
       let l : k < length ps = omega (arith, length-between ps c, ap length v) in
       let from : f ≡ get_or ps k 0 = x ∙ ap (λ l. get_or l k 0) e in
       let next : n ≡ get_or ps (k + 1) c = y ∙ ap (λ l. get_or l (k + 1) c) e in (
-        subst (λ j. IsKeptEntry bytes j n) (sym from)
-            (subst (IsKeptEntry bytes (get_or ps k 0)) (sym next) (kept_at ps c k a l)),
+        subst (λ j. IsText bytes j n) (sym from)
+            (subst (IsText bytes (get_or ps k 0)) (sym next) (is_text_at ps c k a l)),
         ap (λ j. slice_range bytes j (n - 1)) from
             ∙ ap (λ j. slice_range bytes (get_or ps k 0) (j - 1)) next
-            ∙ sym (text_kept ps c k l)
+            ∙ sym (text_between ps c k l)
             ∙ ap (λ l. text_of (get_or l k (0, []))) v,
       )
 
-  above_first : (p : ℕ) (ps : List ℕ) (c : ℕ) → AreKept bytes (p ∷ ps) c → (k : ℕ) → k < length ps → p < get_or ps k 0
+  above_first : (p : ℕ) (ps : List ℕ) (c : ℕ) → AreTexts bytes (p ∷ ps) c → (k : ℕ) → k < length ps → p < get_or ps k 0
   above_first p [] c a k h = absurd (omega arith)
   above_first p (q ∷ ps) c a zero h = a.0.rising
   above_first p (q ∷ ps) c a (suc k) h = omega (arith, a.0.rising, above_first q ps c a.1 k (omega arith))
 
-  pub kept_rising : (ps : List ℕ) (c : ℕ) → AreKept bytes ps c → IsRising ps
-  kept_rising [] c a i j l h = absurd (omega arith)
-  kept_rising (p ∷ ps) c a i zero l h = absurd (omega arith)
-  kept_rising (p ∷ ps) c a zero (suc j) l h = above_first p ps c a j (omega arith)
-  kept_rising (p ∷ ps) c a (suc i) (suc j) l h = kept_rising ps c a.1 i j (omega arith) (omega arith)
+  pub places_rise : (ps : List ℕ) (c : ℕ) → AreTexts bytes ps c → IsRising ps
+  places_rise [] c a i j l h = absurd (omega arith)
+  places_rise (p ∷ ps) c a i zero l h = absurd (omega arith)
+  places_rise (p ∷ ps) c a zero (suc j) l h = above_first p ps c a j (omega arith)
+  places_rise (p ∷ ps) c a (suc i) (suc j) l h = places_rise ps c a.1 i j (omega arith) (omega arith)
 
   next_of-push : (ps : List ℕ) (q c : ℕ) → next_of (ps ++ q ∷ []) c ≡ next_of ps q
   next_of-push [] q c = refl
@@ -80,25 +80,25 @@ module _ (bytes : List ℕ) where
       ap (λ n. (p, slice_range bytes p (n - 1)) ∷ entries_between bytes (ps ++ q ∷ []) c) (next_of-push ps q c)
       ∙ ap (λ l. (p, slice_range bytes p (next_of ps q - 1)) ∷ l) (between_push ps q c)
 
-  pub kept_push : (ps : List ℕ) (q c : ℕ) → AreKept bytes ps q → IsKeptEntry bytes q c → AreKept bytes (ps ++ q ∷ []) c
-  kept_push [] q c a e = (e, tt)
-  kept_push (p ∷ ps) q c a e = (subst (IsKeptEntry bytes p) (sym (next_of-push ps q c)) a.0, kept_push ps q c a.1 e)
+  pub entries_push : (ps : List ℕ) (q c : ℕ) → AreTexts bytes ps q → IsText bytes q c → AreTexts bytes (ps ++ q ∷ []) c
+  entries_push [] q c a e = (e, tt)
+  entries_push (p ∷ ps) q c a e = (subst (IsText bytes p) (sym (next_of-push ps q c)) a.0, entries_push ps q c a.1 e)
 
 -- no entries stand at no places
 pub none_between : (bytes ps : List ℕ) (c : ℕ) → length ps ≡ 0 → entries_between bytes ps c ≡ []
 none_between bytes [] c e = refl
 none_between bytes (p ∷ ps) c e = absurd (omega arith)
 
-pub ruleset kept = (length-between, places_between, none_between)
+pub ruleset between = (length-between, places_between, none_between)
 
 -- one more place, in the walk
 module _ (bytes : List ℕ) (d : ℕ) where
   walked_more : (ps qs : List ℕ) (p q : ℕ)
-      → qs ≡ ps ++ p ∷ [] → IsKeptEntry bytes p q
+      → qs ≡ ps ++ p ∷ [] → IsText bytes p q
       → entries_from bytes d p ≡ (p, slice_range bytes p (q - 1)) ∷ entries_from bytes d q → IsWalkedTo bytes d ps p
       → IsWalkedTo bytes d qs q
   walked_more ps qs p q e k step w = record {
-    kept = subst (λ l. AreKept bytes l q) (sym e) (kept_push bytes ps p q w.kept k);
+    texts = subst (λ l. AreTexts bytes l q) (sym e) (entries_push bytes ps p q w.texts k);
     found = found_more bytes d _ _ (p, slice_range bytes p (q - 1)) p q
         (ap (λ l. entries_between bytes l q) e ∙ between_push bytes ps p q) step w.found;
   }
@@ -106,8 +106,8 @@ module _ (bytes : List ℕ) (d : ℕ) where
   empty_range : (p : ℕ) → slice_range bytes p (p + 1 - 1) ≡ []
   empty_range p = let e : p + 1 - 1 - p ≡ 0 = omega arith in ap (λ n. take n (drop p bytes)) e
 
-  kept_empty : (p : ℕ) → p < length bytes → IsKeptEntry bytes p (p + 1)
-  kept_empty p h =
+  empty_entry : (p : ℕ) → p < length bytes → IsText bytes p (p + 1)
+  empty_entry p h =
       record {
         rising = omega arith;
         within = omega arith;
@@ -119,13 +119,13 @@ module _ (bytes : List ℕ) (d : ℕ) where
       → p < length bytes → is_readable bytes d p ≡ false → qs ≡ ps ++ p ∷ [] → IsWalkedTo bytes d ps p
       → IsWalkedTo bytes d qs (p + 1)
   walked_empty ps qs p h r e =
-      walked_more ps qs p (p + 1) e (kept_empty p h)
+      walked_more ps qs p (p + 1) e (empty_entry p h)
       (entries_more_bad bytes d p h r ∙ ap (λ t. (p, t) ∷ entries_from bytes d (p + 1)) (sym (empty_range p)))
 
-  kept_text : (p end : ℕ)
+  text_entry : (p end : ℕ)
       → p ≤ end → end ≤ length bytes → end ≡ piece_end bytes d p → is_readable bytes d p ≡ true
-      → IsKeptEntry bytes p (end + 1)
-  kept_text p end l m e r = let s : end ≡ end + 1 - 1 = omega arith in
+      → IsText bytes p (end + 1)
+  text_entry p end l m e r = let s : end ≡ end + 1 - 1 = omega arith in
       record {
         rising = omega arith;
         within = omega arith;
@@ -139,8 +139,8 @@ module _ (bytes : List ℕ) (d : ℕ) where
       → IsWalkedTo bytes d qs (end + 1)
   walked_text ps qs p end h l m e r same =
       let s : end + 1 - 1 ≡ end = omega arith in
-      walked_more ps qs p (end + 1) same (kept_text p end l m e r)
+      walked_more ps qs p (end + 1) same (text_entry p end l m e r)
       (entry_of_text bytes d p end _ h e (ap (slice_range bytes p) s) r)
 
   pub walked_none : IsWalkedTo bytes d [] 0
-  walked_none = record { kept = tt; found = refl }
+  walked_none = record { texts = tt; found = refl }

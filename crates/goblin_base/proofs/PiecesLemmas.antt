@@ -135,12 +135,12 @@ module _ (bytes : List ℕ) (d : ℕ) where
       (cases_Bool (eqb (get_or bytes o 0) d))
 
   -- a whole piece begins after a delimiter
-  pub start_behind : (q p : ℕ) → q < p → eqb (get_or bytes q 0) d ≡ true → q < piece_start bytes d p
-  start_behind q zero l z = absurd (omega arith)
-  start_behind q (suc o) l z = ⊎_elim
+  pub start_after : (q p : ℕ) → q < p → eqb (get_or bytes q 0) d ≡ true → q < piece_start bytes d p
+  start_after q zero l z = absurd (omega arith)
+  start_after q (suc o) l z = ⊎_elim
       (λ (e : eqb (get_or bytes o 0) d ≡ true). omega (arith, start_after_delim o e))
       (λ (e : eqb (get_or bytes o 0) d ≡ false). ⊎_elim
-      (λ (m : q < o). omega (arith, start_more o e, start_behind q o m z))
+      (λ (m : q < o). omega (arith, start_more o e, start_after q o m z))
       (λ (m : o ≤ q). let same : o ≡ q = omega arith in
       absurd (both_ways _ (ap (λ k. eqb (get_or bytes k 0) d) (sym same) ∙ e) z))
       (cases_lt q o))

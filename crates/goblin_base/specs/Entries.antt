@@ -1,4 +1,4 @@
--- The entries of a string table, kept as places in its bytes and one closing place; bytes and places read under a
+-- The entries of a string table, stored as places in its bytes and one closing place; bytes and places read under a
 -- count.
 use Rattle.std.specs.Prelude.{◌≡◌, ℕ, ◌+◌, ◌-◌, ◌^◌, ◌<◌, ◌≤◌, true, List, [], ◌∷◌, length, map, min, slice_range}
 use Rattle.std.specs.Str.{is_utf8}
@@ -40,12 +40,12 @@ entries_between bytes (p ∷ ps) closing =
     (p, slice_range bytes p (next_of ps closing - 1)) ∷ entries_between bytes ps closing
 
 -- an entry from a place up to one before another is text in the bytes
-pub record IsKeptEntry (bytes : List ℕ) (p next : ℕ) : Type 0 where
+pub record IsText (bytes : List ℕ) (p next : ℕ) : Type 0 where
   pub rising : p < next
   pub within : next ≤ length bytes + 1
   pub text : is_utf8 (slice_range bytes p (next - 1)) ≡ true
 
 -- and so is each, up to one before the next
-abbrev pub AreKept : List ℕ → List ℕ → ℕ → Type 0
-AreKept bytes [] closing = Unit {0}
-AreKept bytes (p ∷ ps) closing = IsKeptEntry bytes p (next_of ps closing) × AreKept bytes ps closing
+abbrev pub AreTexts : List ℕ → List ℕ → ℕ → Type 0
+AreTexts bytes [] closing = Unit {0}
+AreTexts bytes (p ∷ ps) closing = IsText bytes p (next_of ps closing) × AreTexts bytes ps closing

@@ -7,7 +7,7 @@ use Rattle.goblin_base.specs.Refusal.{Refusal, out_of_memory, refusal_of}
 abbrev pub newline : List ℕ
 newline = 10 ∷ []
 
--- the right lines were added to a text, or the right refusal was returned, unless memory is out
+-- the expected lines were added to a text, or the expected refusal was returned, unless memory is out
 abbrev pub Adds : List ℕ → List ℕ → Result (Unit {0}) Error → Result (List ℕ) Refusal → Type 0
-Adds old new (Ok done) right = (lines : List ℕ) × (right ≡ Ok lines) × (new ≡ old ++ lines)
-Adds old new (Err e) right = refusal_of e ≢ out_of_memory → right ≡ Err (refusal_of e)
+Adds old new (Ok done) expected = (lines : List ℕ) × (expected ≡ Ok lines) × (new ≡ old ++ lines)
+Adds old new (Err e) expected = refusal_of e ≢ out_of_memory → expected ≡ Err (refusal_of e)

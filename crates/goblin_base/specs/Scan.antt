@@ -3,7 +3,7 @@ use Rattle.std.specs.Prelude.{◌≡◌, ℕ, ◌+◌, ◌-◌, ◌*◌, ◌<◌
 use Rattle.goblin_base.specs.declared.utf8.Awaited.{Awaited}
 use Rattle.goblin_base.specs.declared.walk.Found.{Found}
 use Rattle.goblin_base.specs.declared.walk.Found.TheVariants.{Whole, Fault}
-use Rattle.goblin_base.specs.Entries.{AreKept, entries_between}
+use Rattle.goblin_base.specs.Entries.{AreTexts, entries_between}
 use Rattle.goblin_base.specs.Pieces.{piece_end, is_readable, entries_from, entries}
 
 -- the piece at o is UTF-8, and ends there
@@ -19,7 +19,7 @@ pub record IsDamaged (bytes : List ℕ) (delim o next : ℕ) : Type 0 where
   pub further : o < next
   pub within : next ≤ length bytes
 
--- the result of an attempt at o is right
+-- an attempt at o found what it reports
 abbrev pub IsScan : List ℕ → ℕ → ℕ → Found → Type 0
 IsScan bytes delim o (Whole end) = IsWhole bytes delim o end
 IsScan bytes delim o (Fault next) = IsDamaged bytes delim o next
@@ -40,5 +40,5 @@ scan_end awaited at = if awaited.more == 0 then Whole at else Fault at
 
 -- the walk has come to i: the entries at these places and those from i on are all entries
 pub record IsWalkedTo (bytes : List ℕ) (delim : ℕ) (places : List ℕ) (i : ℕ) : Type 0 where
-  pub kept : AreKept bytes places i
+  pub texts : AreTexts bytes places i
   pub found : entries_between bytes places i ++ entries_from bytes delim i ≡ entries bytes delim

@@ -1,11 +1,11 @@
-//! Bytes that are read under a count, and the entries of a string table that are kept as places in them.
+//! Bytes that are read under a count, and the entries of a string table that are stored as places in them.
 //!
 //! The views here keep their fields to themselves and can't be copied, so that whoever reads through them
 //! can't read uncounted.
 ghost use Rattle.std.specs.Prelude.{◌≡◌, ◌↔◌, ◌+◌, ◌-◌, ◌*◌, ◌^◌, ◌<◌, ◌≤◌, [], min, length, position, ◌==◌, IfOk, IsTrue, MatchResult, slice_get, slice_index, slice_index_or, slice_range};
 ghost use Rattle.std.specs.Option.{unwrap_or};
 ghost use Rattle.std.specs.Str.{IsUtf8, IsValidUpTo, valid_up_to};
-ghost use Rattle.goblin_base.specs.Entries.{AreKept, IsKeptEntry, entries_between, places_of, text_of};
+ghost use Rattle.goblin_base.specs.Entries.{AreTexts, IsText, entries_between, places_of, text_of};
 ghost use Rattle.goblin_base.specs.Marks.{AreMarks};
 ghost use Rattle.goblin_base.specs.Refusal.{Answers, malformed};
 ghost use Rattle.goblin_base.specs.Search.{IsRising};
@@ -130,8 +130,8 @@ impl<'a> Looked<'a> {
     /// Returns the places from which and up to which `len` bytes at an offset stand, which `bytes_in_range` returns or
     /// refuses. It is no look.
     pub fn range(&self, offset: usize, len: usize, mode: ParseMode) -> Result<(usize, usize)>
-        ensures given { let right = refuse_as malformed (range_in mode self.now.bytes offset len) in
-            Answers (λ range. slice_range self.now.bytes range.0 range.1) result right }
+        ensures given { let expected = refuse_as malformed (range_in mode self.now.bytes offset len) in
+            Answers (λ range. slice_range self.now.bytes range.0 range.1) result expected }
         ensures places { IfOk result (λ range.
             IsRange mode self.now.bytes offset len range.0 range.1) }
     {
@@ -213,7 +213,7 @@ impl<'a> Looked<'a> {
 
     // The entries at these places over the bytes, the last of which ends one before the closing place.
     pub(crate) fn entries(&self, places: Vec<usize>, closing: usize) -> Entries<'a>
-        requires { AreKept self.now.bytes places.items closing }
+        requires { AreTexts self.now.bytes places.items closing }
         ensures { result ≡ entries_between self.now.bytes places.items closing }
     {
         Entries {
@@ -255,16 +255,16 @@ pub struct Entries<'a> {
 // They are seen as the list of places and texts.
 impl<'a> Model for Entries<'a> {
     ghost use Rattle.std.specs.Prelude.{List, ℕ};
-    ghost use Rattle.goblin_base.specs.Entries.{AreKept, entries_between};
+    ghost use Rattle.goblin_base.specs.Entries.{AreTexts, entries_between};
 
     ghost Value = { List (ℕ × List ℕ) };
 
     ghost view = { λ e. entries_between e.bytes.now e.places.items e.closing };
 
-    ghost invariant = { λ e. AreKept e.bytes.now e.places.items e.closing };
+    ghost invariant = { λ e. AreTexts e.bytes.now e.places.items e.closing };
 }
 
-#[tactic(auto, using(crate::proofs::EntriesLemmas::kept))]
+#[tactic(auto, using(crate::proofs::EntriesLemmas::between))]
 impl<'a> Entries<'a> {
     /// How many entries there are.
     pub fn len(&self) -> usize
@@ -315,7 +315,7 @@ fn ends(places: &[usize], closing: usize, i: usize) -> (usize, usize)
 // The text from a place up to one before the next entry's.
 #[tactic(auto, using(crate::proofs::TextTests::utf8_tests))]
 fn text_before(bytes: &[u8], from: usize, next: usize) -> &str
-    requires { IsKeptEntry bytes.now from next }
+    requires { IsText bytes.now from next }
     ensures { result.now ≡ slice_range bytes.now from (next - 1) }
 {
     unsafe { std::str::from_utf8_unchecked(&bytes[from..next - 1]) }
@@ -340,7 +340,7 @@ impl<'e> Model for Probes<'e> {
     ghost invariant = { λ p. IsRising (places_of p.entries.now) };
 }
 
-#[tactic(auto, using(crate::proofs::EntriesLemmas::kept))]
+#[tactic(auto, using(crate::proofs::EntriesLemmas::between))]
 impl<'e> Probes<'e> {
     /// The places of these entries, none of which has been read.
     pub fn of(entries: &'e Entries<'e>) -> Probes<'e>

@@ -17,7 +17,7 @@ use Rattle.goblin.specs.TextLaws.{texts-join}
 use Rattle.goblin.specs.Utf8.{invalid_utf8}
 use Rattle.goblin.specs.declared.options.ParseMode.TheVariants.{Strict}
 use Rattle.goblin_base.proofs.PiecesLemmas.{at_end, delim_before, end_before, end_from, end_within, piece_is_range}
-use Rattle.goblin_base.proofs.PiecesLemmas.{start_after_delim, start_behind, start_of_front, start_of_start, start_same}
+use Rattle.goblin_base.proofs.PiecesLemmas.{start_after_delim, start_after, start_of_front, start_of_start, start_same}
 use Rattle.goblin_base.proofs.PiecesLemmas.{start_to}
 use Rattle.goblin_base.proofs.WalkLemmas.{bad_start_from, first_bad_is, no_bad_start_readable}
 use Rattle.goblin_text.proofs.Ranges.{get_range, length-range}
@@ -136,7 +136,7 @@ module _ (bytes : List ℕ) where
       ⊎_elim
       (λ (l : p < e). l)
       (λ (m : e ≤ p). ⊎_elim
-      (λ (l : e < p). absurd (omega (arith, from, start_behind bytes 0 e p l (eq-eqb _ _ (z m)))))
+      (λ (l : e < p). absurd (omega (arith, from, start_after bytes 0 e p l (eq-eqb _ _ (z m)))))
       (λ (l : p ≤ e).
       let same : e ≡ p = omega arith in
       absurd (v.longest (p + 1) (omega arith)

@@ -1,11 +1,11 @@
 use Rattle.std.proofs.Common.{sym, ap, subst, ◌∙◌}
 use Rattle.goblin_base.specs.Entries.{places_of}
 use Rattle.goblin_base.specs.Search.{IsRising}
-use Rattle.goblin_base.proofs.EntriesLemmas.{kept_rising, places_between}
+use Rattle.goblin_base.proofs.EntriesLemmas.{places_rise, places_between}
 use Rattle.goblin_base.proofs.entries.Probes.of.Goals as goal
 
 pub invariant_of-result : goal.invariant_of-result
 invariant_of-result c =
     let s = c.entries.inside in
     let same = sym (places_between s.bytes.now s.places.items s.closing) ∙ ap places_of c.entries.view_is in
-    subst IsRising same (kept_rising s.bytes.now s.places.items s.closing c.entries.invariant)
+    subst IsRising same (places_rise s.bytes.now s.places.items s.closing c.entries.invariant)
