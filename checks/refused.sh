@@ -17,13 +17,13 @@ more='it makes more allocations than were refused'
 # Writes the cases of a call in a folder: its line and its file, with its allocations from one number to another refused, one in
 # each case. The first time it adds a case in which none is refused, if it is known what the call then writes.
 add_cases() {
-    growth=$3
-    while [ "$growth" -le "$4" ]; do
+    number=$3
+    while [ "$number" -le "$4" ]; do
         is_last=
-        [ "$growth" -lt "$4" ] || is_last=' last'
-        { echo "$(cat "$1/$2.line") $growth $refused$is_last"; cat "$1/$2.file"; } > "$1/cases/$2.$growth"
-        echo "$well" > "$1/cases/$2.$growth.stdout"
-        growth=$((growth + 1))
+        [ "$number" -lt "$4" ] || is_last=' last'
+        { echo "$(cat "$1/$2.line") $number $refused$is_last"; cat "$1/$2.file"; } > "$1/cases/$2.$number"
+        echo "$well" > "$1/cases/$2.$number.stdout"
+        number=$((number + 1))
     done
     if [ "$3" -eq 1 ] && [ -e "$1/$2.shown" ]; then
         { echo "$(cat "$1/$2.line") 0 $refused"; cat "$1/$2.file"; } > "$1/cases/$2.0"
@@ -35,7 +35,7 @@ add_cases() {
 # one in each case. The calls that make more are run again with as many more refused, until none makes more. The call that is named
 # makes more than one, and is also run as if it made only one. The toolchain must report that in the words that are read here, and
 # must report other cases as expected.
-try_growths() {
+try_allocations() {
     rounds=0
     while [ -s "$2/names" ]; do
         rm -rf "$2/cases"
@@ -52,13 +52,13 @@ try_growths() {
         sed -n "s/^the output differs from .\(.*\)[.][0-9]*[.]stdout.: at byte 0, expected \"$well.n\", found \"$more.n\"$/\1/p" \
             "$folder/out" > "$2/names"
         asked=$(find "$2/cases" -name '*.stdout' | wc -l)
-        told=$(grep -c '^case=.* output=expected' "$folder/out" || true)
-        if [ $((told + $(wc -l < "$2/names"))) -ne "$asked" ]; then
+        expected=$(grep -c '^case=.* output=expected' "$folder/out" || true)
+        if [ $((expected + $(wc -l < "$2/names"))) -ne "$asked" ]; then
             grep -v output=expected "$folder/out"
             exit 1
         fi
         if [ "$rounds" -eq 0 ]; then
-            if [ "$told" -eq 0 ] || ! grep -q -x too_few "$2/names"; then
+            if [ "$expected" -eq 0 ] || ! grep -q -x too_few "$2/names"; then
                 cat "$folder/out"
                 echo "refused: this script does not understand the output of rt try, which is above; its wording may have changed"
                 exit 1
@@ -79,14 +79,14 @@ add_call() {
 while read -r name; do
     add_call "$folder/calls" "$name" 8 "$name" /dev/null
 done < crates/goblin_refused/stdin
-try_growths crates/goblin_refused "$folder/calls" segments-parse
+try_allocations crates/goblin_refused "$folder/calls" segments-parse
 
 # Puts together a program that runs goblin_text with its allocations refused.
 cp -r --parents crates.txt crates/*/src crates/*/specs crates/*/proofs "$folder"
 echo 'goblin_runs: goblin goblin_text' >> "$folder/crates.txt"
 mkdir -p "$folder/crates/goblin_runs/src"
 cp checks/refused_runs.main "$folder/crates/goblin_runs/src/main.rt"
-cp crates/goblin_refused/src/growths.rt "$folder/crates/goblin_runs/src"
+cp crates/goblin_refused/src/allocations.rt "$folder/crates/goblin_runs/src"
 
 # Adds a run over a file with zeros after it. Standard input has what the run writes with ample memory.
 add_run() {
@@ -104,5 +104,5 @@ sed 's/name=[.]s$/name=/' crates/goblin_show/stdout | add_run damaged 20 'permis
 echo 'refused: Invalid magic number: 0x3736353433323130' | add_run longest 8 'strict 16777200' "$folder/magic"
 add_run text 20 'text 0' checks/files/symbols < checks/files/symbols.shown
 echo refused | add_run text_damaged 20 'text 0' "$folder/damaged"
-try_growths "$folder/crates/goblin_runs" "$folder/runs" symbols
+try_allocations "$folder/crates/goblin_runs" "$folder/runs" symbols
 echo 'refused: with each allocation refused, every call reported out of memory or the same result as without'

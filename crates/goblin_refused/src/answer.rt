@@ -12,7 +12,7 @@ pub struct Firsts {
     firsts: [u64; 9],
 }
 
-/// What a call gives.
+/// What a call returns.
 #[derive(Drop)]
 pub enum Answer {
     /// A list of records.

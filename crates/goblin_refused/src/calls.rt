@@ -1,6 +1,6 @@
 //! The calls by their names.
+use crate::allocations::First;
 use crate::answer::Answer;
-use crate::growths::First;
 use crate::{faults, records, strings};
 use goblin::error::Result;
 use std::alloc::Global;
@@ -33,6 +33,6 @@ pub(crate) fn first_of(name: &str) -> First {
         | "symbols-vector"
         | "symbols-table"
         | "symbols-relocs" => First::GoesOn,
-        _ => First::Wants,
+        _ => First::Fails,
     }
 }

@@ -8,17 +8,17 @@
 
 ghost use Rattle.std.specs.Prelude.{◌≤◌, IfOk};
 
+mod allocations;
 mod answer;
 mod calls;
 mod faults;
-mod growths;
 mod records;
 mod strings;
 
+use allocations::{Tried, judged, takes_all_before, was_met};
 use answer::text_of;
 use calls::{answer_to, first_of};
 use goblin::error::Result;
-use growths::{Tried, judged, takes_all_before, was_met};
 use std::alloc::Global;
 use std::io;
 use std::io::Read;
@@ -48,12 +48,12 @@ fn read_input(rt: &HostRuntime, buffer: &mut [u8; MOST]) -> io::Result<usize>
 // are as expected.
 fn tried(alloc: Global, name: &str, numbers: &str) -> Result<&'static str> {
     let mut words = numbers.split(' ');
-    let growth = words.next().unwrap_or("").parse::<u64>().unwrap_or(0);
+    let number = words.next().unwrap_or("").parse::<u64>().unwrap_or(0);
     let refused = words.next().unwrap_or("").parse::<u64>().unwrap_or(0);
     let is_last = words.next() == Some("last");
-    let takes_all = takes_all_before(alloc, growth, refused);
+    let takes_all = takes_all_before(alloc, number, refused);
     let answer = answer_to(alloc, name);
-    let is_met = was_met(alloc, growth);
+    let is_met = was_met(alloc, number);
     let (Some(answer), Some(ample)) = (answer, answer_to(alloc, name)) else {
         return Ok("there is no such call");
     };
@@ -62,17 +62,17 @@ fn tried(alloc: Global, name: &str, numbers: &str) -> Result<&'static str> {
     }
     let text = text_of(alloc, &answer)?;
     let tried = Tried {
-        growth,
+        number,
         is_last,
         is_met,
-        is_want: text.as_str() == "refused: Out of memory",
+        is_out_of_memory: text.as_str() == "refused: Out of memory",
         is_ample: text == text_of(alloc, &ample)?,
     };
     Ok(judged(first_of(name), &tried))
 }
 
-// Prints what a line asks for.
-fn tell(rt: &HostRuntime, line: &str) -> io::Result<()> {
+// Makes the call of a line and prints its result.
+fn print_result(rt: &HostRuntime, line: &str) -> io::Result<()> {
     if let Some((name, numbers)) = line.split_once(' ') {
         return match tried(rt.alloc(), name, numbers) {
             Ok(judged) => println!(rt; "{judged}"),
@@ -91,7 +91,7 @@ fn main(rt: HostRuntime) -> io::Result<()> {
     let filled = read_input(&rt, &mut buffer)?;
     let text = std::str::from_utf8(&buffer[..filled]).unwrap_or("");
     for line in text.lines() {
-        tell(&rt, line)?;
+        print_result(&rt, line)?;
     }
     Ok(())
 }

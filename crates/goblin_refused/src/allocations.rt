@@ -8,11 +8,11 @@ fn is_refused(alloc: Global) -> bool {
     room.push(1).is_err()
 }
 
-/// Makes so many allocations before a call that its allocation number `growth` is the program's number `refused`, which
-/// the runner refuses. Reports whether all of them succeeded.
-pub(crate) fn takes_all_before(alloc: Global, growth: u64, refused: u64) -> bool {
+/// Makes so many allocations before a call that the call's allocation `number` is the program's allocation `refused`,
+/// which the runner refuses. Reports whether all of them succeeded.
+pub(crate) fn takes_all_before(alloc: Global, number: u64, refused: u64) -> bool {
     let mut takes_all = true;
-    for _ in growth..refused {
+    for _ in number..refused {
         takes_all = !is_refused(alloc) && takes_all;
     }
     takes_all
@@ -20,9 +20,9 @@ pub(crate) fn takes_all_before(alloc: Global, growth: u64, refused: u64) -> bool
 
 /// Reports whether a call made its allocation with this number, which is refused. If it didn't, the refused
 /// allocation is made here, so that all allocations after this succeed.
-pub(crate) fn was_met(alloc: Global, growth: u64) -> bool {
+pub(crate) fn was_met(alloc: Global, number: u64) -> bool {
     let mut is_met = true;
-    for _ in 0..growth {
+    for _ in 0..number {
         is_met = !is_refused(alloc) && is_met;
     }
     is_met
@@ -32,7 +32,7 @@ pub(crate) fn was_met(alloc: Global, growth: u64) -> bool {
 #[derive(Clone, Copy, PartialEq)]
 pub enum First {
     /// It reports out of memory.
-    Wants,
+    Fails,
     /// It asks for less memory, and may return what it returns with ample memory.
     GoesOn,
     /// It makes no allocation, since it refuses its input first.
@@ -43,29 +43,29 @@ pub enum First {
 #[derive(Drop)]
 pub struct Tried {
     /// The number of the allocation that was refused.
-    pub(crate) growth: u64,
+    pub(crate) number: u64,
     /// Whether the call should not make that allocation.
     pub(crate) is_last: bool,
     /// Whether the call made it.
     pub(crate) is_met: bool,
     /// Whether the call reported out of memory.
-    pub(crate) is_want: bool,
+    pub(crate) is_out_of_memory: bool,
     /// Whether the result was the same as with ample memory.
     pub(crate) is_ample: bool,
 }
 
 /// Returns what is printed for a call that should do this if its first allocation is refused.
 pub(crate) fn judged(first: First, tried: &Tried) -> &'static str {
-    if tried.growth == 1 && tried.is_met != (first != First::TakesNone) {
+    if tried.number == 1 && tried.is_met != (first != First::TakesNone) {
         return "it should make a first allocation and does not, or the other way round";
     }
-    if tried.growth == 1 && first == First::Wants && !tried.is_want {
+    if tried.number == 1 && first == First::Fails && !tried.is_out_of_memory {
         return "the first allocation was refused, and it did not report out of memory";
     }
     if tried.is_last && tried.is_met {
         return "it makes more allocations than were refused";
     }
-    if tried.is_ample || (tried.is_met && tried.is_want) {
+    if tried.is_ample || (tried.is_met && tried.is_out_of_memory) {
         return "as expected";
     }
     "neither out of memory nor the result with ample memory"
