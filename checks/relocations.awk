@@ -25,12 +25,12 @@ $1 == "File:" { file = $2; next }
     if (number($1) != number(place[file, n])) fail("place of " $0)
     if (number(substr($2, width + 1)) != type[file, n]) fail("type of " $0)
     if (number(substr($2, 1, width)) != symbol[file, n]) fail("symbol of " $0)
-    told = $0
-    sub(/^[^ ]+ +[^ ]+ +[^ ]+ */, "", told)
-    if (symbol[file, n] != 0) { sub(/^[0-9a-f]+ +/, "", told); sub(/@[^ ]*/, "", told) }
-    else if (told != "") told = " + " told
+    printed = $0
+    sub(/^[^ ]+ +[^ ]+ +[^ ]+ */, "", printed)
+    if (symbol[file, n] != 0) { sub(/^[0-9a-f]+ +/, "", printed); sub(/@[^ ]*/, "", printed) }
+    else if (printed != "") printed = " + " printed
     ours = sum[file, n]; sub(/@[^ ]*/, "", ours)
-    if (told != ours) fail("name and addend of " $0 ", the example: " sum[file, n])
+    if (printed != ours) fail("name and addend of " $0 ", the example: " sum[file, n])
 }
 END {
     for (file in count) {

@@ -6,8 +6,8 @@
 # Reads the files refused and said, which are what nm.c and nm wrote to standard error; ours, with a line 'file: FILE TABLE'
 # before each list; nm.static, nm.-D and readelf. There must be at least `least` files.
 function fail(what) { if (failed++ < 20) print file ": " table ": " what }
-function is_name(told) { return told == name[file, table, n] || index(told, name[file, table, n] "@") == 1 && table == "-D" }
-function behind(words,    text) { text = $0; while (words-- > 0) sub(/^ *[^ ]+ ?/, "", text); return text }
+function is_name(printed) { return printed == name[file, table, n] || index(printed, name[file, table, n] "@") == 1 && table == "-D" }
+function after(words,    text) { text = $0; while (words-- > 0) sub(/^ *[^ ]+ ?/, "", text); return text }
 function number(digits,    i, sum) {
     for (i = 1; i <= length(digits); i++) sum = sum * 16 + index("0123456789abcdef", substr(digits, i, 1)) - 1
     return sum
@@ -18,7 +18,7 @@ source == "said" { if (/: file format not recognized$/) { sub(/^[^:]*: /, ""); s
 source == "ours" && $1 == "file:" { file = $2; table = $3; lists[file, table]; count[file, table] = 0; next }
 source == "ours" {
     n = ++count[file, table]
-    value[file, table, n] = $1; letter[file, table, n] = $2; section[file, table, n] = $3; name[file, table, n] = behind(3)
+    value[file, table, n] = $1; letter[file, table, n] = $2; section[file, table, n] = $3; name[file, table, n] = after(3)
     next
 }
 source ~ /^nm/ && /^$/ { next }
@@ -28,7 +28,7 @@ source ~ /^nm/ {
     is_defined = /^[0-9a-f]/
     if (is_defined != (section[file, table, n] != 0) || is_defined && $1 != value[file, table, n]) fail("nm: value of " $0)
     if ($(1 + is_defined) != letter[file, table, n]) fail("letter of " $0 ", nm.c: " letter[file, table, n])
-    if (!is_name(behind(1 + is_defined))) fail("name of " $0 ", nm.c: " name[file, table, n])
+    if (!is_name(after(1 + is_defined))) fail("name of " $0 ", nm.c: " name[file, table, n])
     next
 }
 $1 == "File:" { file = $2; next }
@@ -38,11 +38,11 @@ $1 == "File:" { file = $2; next }
     if ($1 != n ":") fail("index of " $0)
     gsub(/<[^>]*>: [0-9a-f]+/, "-")
     sub(/ \[[^]]*\] +/, " ")
-    index_told = $7 == "UND" ? 0 : $7 == "ABS" ? 65521 : $7 == "COM" ? 65522 : $7
-    if (index_told != section[file, table, n]) fail("section index of " $0 ", nm.c: " section[file, table, n])
+    index_printed = $7 == "UND" ? 0 : $7 == "ABS" ? 65521 : $7 == "COM" ? 65522 : $7
+    if (index_printed != section[file, table, n]) fail("section index of " $0 ", nm.c: " section[file, table, n])
     size = $3 ~ /^0x/ ? number(substr($3, 3)) : $3
     if ($7 == "COM" ? size != number(value[file, table, n]) : $2 != value[file, table, n]) fail("value of " $0)
-    if (!is_name(behind(7))) fail("readelf: name of " $0 ", nm.c: " name[file, table, n])
+    if (!is_name(after(7))) fail("readelf: name of " $0 ", nm.c: " name[file, table, n])
 }
 END {
     for (list in lists) {

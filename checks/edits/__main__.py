@@ -46,7 +46,7 @@ def crates_listed():
 
 
 def copied(crate, below, room):
-    """Makes a copy of the repository for one crate, with what its own checks have kept, and the libraries below it as they were
+    """Makes a copy of the repository for one crate, with what its own checks have cached, and the libraries below it as they were
     proved: since no two crates share a folder, neither waits for the other's proof."""
     to = f'{room}/{crate}'
     for name in os.listdir('crates'):
@@ -54,14 +54,14 @@ def copied(crate, below, room):
     for name in below:
         # no check writes into the library that another crate stands on
         shutil.copytree(f'{room}/{name}/crates/{name}/out/rlib', f'{to}/crates/{name}/out/rlib', copy_function=os.link)
-    keep(f'crates/{crate}', f'{to}/crates/{crate}')
+    copy_cache(f'crates/{crate}', f'{to}/crates/{crate}')
     for name in ('HANDLES', 'crates.txt'):
         shutil.copy(name, to)
     return f'{to}/crates/{crate}'
 
 
-def keep(crate, to):
-    """Copies what checks in a crate's folder have kept, and its library, to another one."""
+def copy_cache(crate, to):
+    """Copies what checks in a crate's folder have cached, and its library, to another one."""
     for part in ('incremental', 'rlib'):
         shutil.rmtree(f'{to}/out/{part}', ignore_errors=True)
         if os.path.isdir(f'{crate}/out/{part}'):
@@ -94,8 +94,8 @@ class Run:
         folder = f'{self.room}/{crate}/crates/{crate}'
         trial = Trial(crate, folder, self.edits[crate], self.said[crate], say)
         trial.run()
-        for kept in (trial.kept, trial.proved):
-            shutil.rmtree(kept)
+        for folder in (trial.cached, trial.proved):
+            shutil.rmtree(folder)
         self.wrong += trial.wrong
         self.ways |= set(trial.ways)
         ways = ', '.join(f'{trial.ways[way]} {way}' for way in WAYS)

@@ -21,18 +21,18 @@ KILLED = 128
 
 
 class Trial:
-    """A copy of a crate, with what checks have kept of it and what its proof said, and its edits."""
+    """A copy of a crate, with what checks have cached of it and what its proof reported, and its edits."""
 
     def __init__(self, crate, folder, edits, before, say):
         self.crate, self.folder, self.edits, self.before, self.say = crate, folder, edits, before, say
         self.ways, self.groups, self.wrong = Counter(), [], []
         self.waits, self.functions = {}, {}
-        self.kept, self.proved = f'{folder}/out/incremental', f'{folder}/out/proved'
+        self.cached, self.proved = f'{folder}/out/incremental', f'{folder}/out/proved'
 
     def run(self):
         """Judges every edit. Where the crate itself is not proved, none counts."""
-        os.rename(self.kept, self.proved)
-        # a library whose proof was kept says nothing of its functions
+        os.rename(self.cached, self.proved)
+        # a library whose proof was cached reports nothing about its functions
         before = self.before if self.before.functions else self.check([])
         if not before.is_proved():
             return self.fail(f'the crate is not proved without edits\n{before.text[-2000:]}')
@@ -56,7 +56,7 @@ class Trial:
         paths = {path_among(name, said.functions) for name in edit.functions()}
         self.functions[edit.name] = frozenset(paths - {None})
         if None in paths:
-            self.tell_wrong(edit, 'the prover names no function of this name')
+            self.report_wrong(edit, 'the prover names no function of this name')
         return None not in paths
 
     def check(self, edits):
@@ -77,8 +77,8 @@ class Trial:
 
     def begin_anew(self):
         """Puts what the crate's own proof left in the place of what the last check did; no check writes into a file that is there."""
-        shutil.rmtree(self.kept, ignore_errors=True)
-        shutil.copytree(self.proved, self.kept, copy_function=os.link)
+        shutil.rmtree(self.cached, ignore_errors=True)
+        shutil.copytree(self.proved, self.cached, copy_function=os.link)
 
     def write(self, texts):
         for path, text in texts.items():
@@ -90,13 +90,13 @@ class Trial:
         group, taken = [], set()
         for edit in pending:
             own = self.functions[edit.name]
-            behind = self.behind(own)
-            if not own & taken and not behind & taken and not own & self.behind(taken):
+            awaited = self.awaited(own)
+            if not own & taken and not awaited & taken and not own & self.awaited(taken):
                 group.append(edit)
                 taken |= own
         return group
 
-    def behind(self, paths):
+    def awaited(self, paths):
         """All that these functions were seen to wait for."""
         found, left = set(), list(paths)
         while left:
@@ -124,7 +124,7 @@ class Trial:
         """Reads the edits of an unreadable group one by one. Those that can't be read are reported, and the others stay."""
         unread = [edit for edit in group if not self.reads(edit)]
         for edit in unread:
-            self.tell_wrong(edit, 'the edited code is no valid Rattle, so no contract was tried')
+            self.report_wrong(edit, 'the edited code is no valid Rattle, so no contract was tried')
         if not unread:
             self.try_alone(group[0])
             unread = group[:1]
@@ -135,13 +135,13 @@ class Trial:
         return self.check([edit]).is_whole()
 
     def judge(self, edit, said):
-        """Tells what a check says of an edit's functions, if it judges them."""
+        """Reports what a check says of an edit's functions, if it judges them."""
         own = [said.functions.get(path) for path in sorted(self.functions[edit.name])]
         if None in own:
             return False
         by = next((function.refused for function in own if function.refused), '')
         if by:
-            self.tell_refused(edit, by, ' and '.join(sorted(self.functions[edit.name])))
+            self.report_refused(edit, by, ' and '.join(sorted(self.functions[edit.name])))
             return True
         if all(function.is_proved() for function in own):
             # a survivor: alone it shows what the rest of the crate says of it
@@ -156,28 +156,28 @@ class Trial:
         refused = said.refused()
         self.groups.append(1)
         if not said.is_whole():
-            self.tell_wrong(edit, 'the edited code is no valid Rattle, so no contract was tried')
+            self.report_wrong(edit, 'the edited code is no valid Rattle, so no contract was tried')
         elif said.is_proved():
-            self.tell_wrong(edit, 'the crate is still proved with it')
+            self.report_wrong(edit, 'the crate is still proved with it')
         elif any(function and function.refused for function in own.values()):
             path = next(path for path, function in own.items() if function and function.refused)
-            self.tell_refused(edit, own[path].refused, path)
+            self.report_refused(edit, own[path].refused, path)
         elif refused and not edit.stands_in(BODY, HEAD, LIST):
             # it changes a definition, a constant or a type: whatever cites it may refuse it
-            self.tell_refused(edit, self.way(said, refused[0]), ' and '.join(refused[:3]))
+            self.report_refused(edit, self.way(said, refused[0]), ' and '.join(refused[:3]))
         elif own and all(function and function.is_proved() for function in own.values()):
             others = f', though {refused[0]} is not' if refused else ''
-            self.tell_wrong(edit, f'its own function is still proved with it{others}')
+            self.report_wrong(edit, f'its own function is still proved with it{others}')
         else:
-            self.tell_wrong(edit, 'no goal of its own function is refused, but by names that the edit took away')
+            self.report_wrong(edit, 'no goal of its own function is refused, but by names that the edit took away')
 
     def way(self, said, path):
         return said.functions[path].refused if path in said.functions else 'by an answer'
 
-    def tell_refused(self, edit, by, where):
+    def report_refused(self, edit, by, where):
         self.ways[by] += 1
         self.say(f'{self.crate}/{edit.name}: refused {by}: {where}')
 
-    def tell_wrong(self, edit, why):
+    def report_wrong(self, edit, why):
         self.wrong.append(f'{self.crate}/{edit.name}: NOT REFUSED: {why}')
         self.say(self.wrong[-1])

@@ -36,7 +36,7 @@ object x86_64_library.o 8 as --64
 library x86_64_library ld -m elf_x86_64
 
 # A program that crashes, and the first 512 bytes of its core, which are its header and its program headers, with the addresses of
-# one run. (What comes after them tells of the machine.)
+# one run. (What comes after them depends on the machine.)
 printf '.globl _start\n_start: .byte 15, 11\n' > crash.s
 as --64 -o crash.o crash.s
 ld -o crash crash.o
