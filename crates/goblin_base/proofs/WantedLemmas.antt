@@ -76,7 +76,7 @@ module _ (bytes : List ℕ) (d o : ℕ) where
         (and_from _ _ piece-stands (and_from _ _ h.0 (not_from_false _ piece-apart)))),
   )
 
--- so the naive reading returns it
+-- so the plain reading returns it
 reading_Decides : (u : Bool) (p name : List ℕ) (fault : Refusal)
     → Decides (is_text_of name (if u then Ok p else Err fault)) ((u ≡ true) × (p ≡ name))
 reading_Decides true p name fault =

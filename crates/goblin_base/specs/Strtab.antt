@@ -67,7 +67,7 @@ strtab_of mode file offset size delim = do
   range ← refuse_as malformed (range_in mode file offset size)
   table_of mode range delim
 
--- the naive reading at an offset: the piece there, or the error of bytes that aren't UTF-8
+-- the plain reading at an offset: the piece there, or the error of bytes that aren't UTF-8
 abbrev pub plain : List ℕ → ℕ → ℕ → Result (List ℕ) Refusal
 plain bytes delim offset = text_or_fault (piece bytes delim offset) (length bytes - offset)
 
@@ -76,7 +76,7 @@ abbrev pub is_text_of : List ℕ → Result (List ℕ) Refusal → Bool
 is_text_of name (Ok text) = bytes_eq text name
 is_text_of name (Err refusal) = false
 
--- whether the naive reading at an offset is this name; past the table there is none
+-- whether the plain reading at an offset is this name; past the table there is none
 unfoldable pub has_name : StringTable → ℕ → List ℕ → Bool
 has_name table offset name =
     nat_lt offset (length table.bytes) && is_text_of name (plain table.bytes table.delim offset)

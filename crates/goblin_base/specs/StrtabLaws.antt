@@ -41,13 +41,13 @@ abbrev pub StrictIsPermissive : Type 0
 StrictIsPermissive = (file : List ℕ) (offset size delim : ℕ) (table : StringTable)
     → strtab_of Strict file offset size delim ≡ Ok table → strtab_of Permissive file offset size delim ≡ Ok table
 
--- in a parsed table the look-up has each text that the naive reading has
+-- in a parsed table the look-up has each text that the plain reading has
 abbrev pub LookUpHasPlain : Type 0
 LookUpHasPlain = (table : StringTable) (offset : ℕ) (text : List ℕ)
     → table.is_parsed ≡ true → offset < length table.bytes
     → plain table.bytes table.delim offset ≡ Ok text → look_up table offset ≡ Some text
 
--- in a table that was parsed in strict mode the look-up is the naive reading
+-- in a table that was parsed in strict mode the look-up is the plain reading
 abbrev pub StrictLookUpIsPlain : Type 0
 StrictLookUpIsPlain = (file : List ℕ) (offset size delim : ℕ) (table : StringTable) (o : ℕ)
     → strtab_of Strict file offset size delim ≡ Ok table → o < length table.bytes
@@ -65,7 +65,7 @@ TextIsTaken = (mode : ParseMode) (file : List ℕ) (offset size delim : ℕ) (ra
     → delim < 128 → range_in mode file offset size ≡ Ok range → IsUtf8 range
     → strtab_of mode file offset size delim ≡ Ok (record { bytes = range; delim = delim; is_parsed = true })
 
--- in a parsed table the text at an offset, or the empty one if there is none, is that of the naive reading, even if the
+-- in a parsed table the text at an offset, or the empty one if there is none, is that of the plain reading, even if the
 -- bytes aren't UTF-8
 abbrev pub NamesArePlain : Type 0
 NamesArePlain = (table : StringTable) (offset : ℕ) → table.is_parsed ≡ true → offset < length table.bytes
