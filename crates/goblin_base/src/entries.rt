@@ -2,17 +2,19 @@
 //!
 //! The views here keep their fields to themselves and can't be copied, so that whoever reads through them
 //! can't read uncounted.
-ghost use Rattle.std.specs.Prelude.{◌≡◌, ◌↔◌, ◌+◌, ◌-◌, ◌*◌, ◌^◌, ◌<◌, ◌≤◌, [], min, length, position, ◌==◌, IfOk, IsTrue, MatchResult, slice_get, slice_index, slice_index_or, slice_range};
+ghost use Rattle.std.specs.Prelude.{◌≡◌, ◌↔◌, ◌+◌, ◌-◌, ◌*◌, ◌/◌, ◌^◌, ◌<◌, ◌≤◌, [], min, length, position, ◌==◌, IfOk, IsTrue, MatchResult, slice_get, slice_index, slice_index_or, slice_range};
 ghost use Rattle.std.specs.Option.{unwrap_or};
 ghost use Rattle.std.specs.Str.{IsUtf8, IsValidUpTo, valid_up_to};
 ghost use Rattle.goblin_base.specs.Entries.{AreTexts, IsText, entries_between, places_of, text_of};
 ghost use Rattle.goblin_base.specs.Marks.{AreMarks};
+ghost use Rattle.goblin_base.specs.Pieces.{piece_start};
 ghost use Rattle.goblin_base.specs.Refusal.{Answers, malformed};
 ghost use Rattle.goblin_base.specs.Search.{IsRising};
 ghost use Rattle.goblin_base.specs.Steps.{refuse_as};
 ghost use Rattle.goblin_base.specs.Strtab.{IsRange, range_in};
 
 use crate::error::Result;
+use crate::last::last_start;
 use crate::marks::{LANES, Marks};
 use crate::options::ParseMode;
 use crate::strtab::{bytes_in_range, position};
@@ -169,6 +171,27 @@ impl<'a> Looked<'a> {
         let len = position(range, byte).unwrap_or(range.len());
         self.count.add((len + 1).min(to - from) as u64);
         from + len
+    }
+
+    /// Returns the place after the one where a byte stands last from one place up to another, or the first of these two
+    /// places. Sixteen bytes are read at a time, from the end on: it is a look at each byte that is read.
+    pub fn rfind(&mut self, byte: u8, from: usize, to: usize) -> usize
+        requires ordered { from ≤ to }
+        requires within { to ≤ length self.old.bytes }
+        ensures value { let range = slice_range self.old.bytes from to in
+            result ≡ from + piece_start range byte (to - from) }
+        ensures from { from ≤ result }
+        ensures to { result ≤ to }
+        ensures counted { let looks = min (16 * ((to - result) / 16 + 1)) (to - from) in
+            self.new ≡ record self.old { count = min (self.old.count + looks) u128.MAX } }
+        ensures unchanged { self.new.bytes ≡ self.old.bytes }
+        ensures rising { self.old.count ≤ self.new.count }
+    {
+        let range = &self.bytes[from..to];
+        let start = last_start(range, byte);
+        let blocks = (range.len() - start) / LANES + 1;
+        self.count.add((blocks * LANES).min(to - from) as u64);
+        from + start
     }
 
     /// Returns the bytes from one place up to another as a text, or how far they are text. It is a look at each of them.

@@ -8,6 +8,7 @@ pub mod digits;
 pub mod entries;
 pub mod error;
 pub mod find;
+mod last;
 mod marks;
 pub mod names;
 pub mod number;

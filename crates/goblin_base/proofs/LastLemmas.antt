@@ -1,0 +1,129 @@
+-- Where the last piece before an offset begins: by the mask of sixteen bytes, or by a byte.
+use Rattle.std.proofs.Common.{◌≡◌, ◌≢◌, ℕ, zero, suc, ◌+◌, ◌-◌, ◌*◌, ◌/◌, ◌%◌, ◌^◌, ◌<◌, ◌≤◌, eqb}
+use Rattle.std.proofs.Common.{Bool, true, false, cond, List, map, length, get_or, refl, sym, ap, subst, ◌∙◌}
+use Rattle.std.proofs.Common.{⊎_elim, arith}
+use Rattle.std.proofs.Math.Nat.{div-eq_of_lt, div-eq_of_lt-le, pow-le-pow_right, pow-suc}
+use Rattle.std.proofs.lemmas.Bool.{cases_lt, eq-eqb, ne_eqb}
+use Rattle.std.proofs.lemmas.List.{get_or-map, length-map}
+use Rattle.std.proofs.lemmas.Nat.{leading_length}
+use Rattle.std.proofs.lemmas.Simd.{bit_mask_l, get_or-chunk, length-chunk, mask_l-lt}
+use Rattle.std.specs.Int.Count.{count_leading_zeros}
+use Rattle.std.specs.Simd.Lanes.{mask_l}
+use lib.Lanes.{chunk}
+use Rattle.goblin_base.proofs.PiecesLemmas.{start_after_delim, start_more}
+use Rattle.goblin_base.specs.Pieces.{piece_start}
+
+-- ---- the digits of a mask
+not_set : (b : Bool) → cond b 1 zero ≡ zero → b ≡ false
+not_set true e = absurd (omega arith)
+not_set false e = refl
+
+is_set : (b : Bool) → cond b 1 zero ≡ suc zero → b ≡ true
+is_set true e = refl
+is_set false e = absurd (omega arith)
+
+-- a mask of r binary digits: no bit is set from r on, and the one before is
+module _ (ms : List Bool) (r : ℕ) (below : mask_l ms < 2 ^ r) (above : 2 ^ r ≤ 2 * mask_l ms + 1) where
+  clear_from : (k : ℕ) → r ≤ k → get_or ms k false ≡ false
+  clear_from k l =
+      let more : 2 ^ r ≤ 2 ^ k = pow-le-pow_right {n = 2} (omega arith) l in
+      let none : mask_l ms / 2 ^ k ≡ 0 = div-eq_of_lt (omega (arith, more)) in
+      not_set (get_or ms k false) (sym (bit_mask_l ms k) ∙ ap (λ m. m % 2) none)
+
+  set_before : (j : ℕ) → r ≡ suc j → get_or ms j false ≡ true
+  set_before j e =
+      let twice : 2 ^ r ≡ 2 ^ j * 2 = ap (λ k. 2 ^ k) e ∙ pow-suc 2 j in
+      let one : mask_l ms / 2 ^ j ≡ 1 =
+      div-eq_of_lt-le {k = 1} (2 ^ j) (omega (arith, twice, above)) (omega (arith, twice, below)) in
+      is_set (get_or ms j false) (sym (bit_mask_l ms j) ∙ ap (λ m. m % 2) one)
+
+  few_digits : length ms ≡ 16 → r ≤ 16
+  few_digits long = ⊎_elim
+      (λ (l : 16 < r).
+      let more : 2 ^ 17 ≤ 2 ^ r = pow-le-pow_right {n = 2} (omega arith) l in
+      let less : mask_l ms < 2 ^ 16 = subst (λ n. mask_l ms < 2 ^ n) long (mask_l-lt ms) in
+      absurd (omega (arith, more, less, above)))
+      (λ (l : r ≤ 16). l)
+      (cases_lt 16 r)
+
+-- of the sixteen bytes from an offset on, the last that passes a test is the one before at + r
+pub record IsLast (test : ℕ → Bool) (bytes : List ℕ) (at r : ℕ) : Type 0 where
+  pub within : r ≤ 16
+  pub fails : (k : ℕ) → at + r ≤ k → k < at + 16 → test (get_or bytes k 0) ≡ false
+  pub stops : (j : ℕ) → r ≡ suc j → test (get_or bytes (at + j) 0) ≡ true
+
+module _ (test : ℕ → Bool) (bytes : List ℕ) (at : ℕ) (room : at + 16 ≤ length bytes) where
+  lane : (k : ℕ) → k < 16 → get_or (map test (chunk at 16 bytes)) k false ≡ test (get_or bytes (at + k) 0)
+  lane k l =
+      get_or-map test (chunk at 16 bytes) k 0 false (omega (arith, length-chunk at 16 bytes room))
+      ∙ ap test (get_or-chunk at 16 bytes k 0 l)
+
+  pub last_is : (mask r : ℕ)
+      → mask ≡ mask_l (map test (chunk at 16 bytes)) → r ≡ 64 - count_leading_zeros 64 mask → IsLast test bytes at r
+  last_is mask r marked digits =
+      let ms = map test (chunk at 16 bytes) in
+      let long : length ms ≡ 16 = length-map (chunk at 16 bytes) test ∙ length-chunk at 16 bytes room in
+      let less : mask_l ms < 2 ^ 16 = subst (λ n. mask_l ms < 2 ^ n) long (mask_l-lt ms) in
+      let found = leading_length 64 mask (omega (arith, marked, less)) in
+      let same : r ≡ found.0 = omega (arith, digits, found.1) in
+      let below : mask_l ms < 2 ^ r =
+      subst (λ n. mask_l ms < 2 ^ n) (sym same) (subst (λ m. m < 2 ^ found.0) marked found.2) in
+      let above : 2 ^ r ≤ 2 * mask_l ms + 1 =
+      subst (λ n. 2 ^ n ≤ 2 * mask_l ms + 1) (sym same) (subst (λ m. 2 ^ found.0 ≤ 2 * m + 1) marked found.3) in
+      let few : r ≤ 16 = few_digits ms r below above long in
+      record {
+        within = few;
+        fails = λ k l m.
+            let place : at + (k - at) ≡ k = omega arith in
+            subst (λ x. test (get_or bytes x 0) ≡ false) place
+            (sym (lane (k - at) (omega arith)) ∙ clear_from ms r below above (k - at) (omega arith));
+        stops = λ j e. sym (lane j (omega (arith, few))) ∙ set_before ms r below above j e;
+      }
+
+-- ---- the piece
+module _ (bytes : List ℕ) (d : ℕ) where
+  -- no delimiter is among the n bytes from an offset on
+  start_over : (o n : ℕ)
+      → ((k : ℕ) → o ≤ k → k < o + n → eqb (get_or bytes k 0) d ≡ false)
+      → piece_start bytes d (o + n) ≡ piece_start bytes d o
+  start_over o zero none = let e : o + 0 ≡ o = omega arith in ap (piece_start bytes d) e
+  start_over o (suc n) none =
+      let e : o + suc n ≡ suc (o + n) = omega arith in
+      ap (piece_start bytes d) e
+      ∙ start_more bytes d (o + n) (none (o + n) (omega arith) (omega arith))
+      ∙ start_over o n (λ k l m. none k l (omega arith))
+
+  -- the last delimiter of sixteen bytes ends at at + r
+  pub start_in : (at r : ℕ) → IsLast (λ b. eqb b d) bytes at r → 0 < r → piece_start bytes d (at + 16) ≡ at + r
+  start_in at r last l =
+      let w = last.within in
+      let j = r - 1 in
+      let end : at + r + (16 - r) ≡ at + 16 = omega (arith, w) in
+      let next : suc (at + j) ≡ at + r = omega arith in
+      sym (ap (piece_start bytes d) end)
+      ∙ start_over (at + r) (16 - r) (λ k f t. last.fails k f (omega (arith, w)))
+      ∙ sym (ap (piece_start bytes d) next)
+      ∙ start_after_delim bytes d (at + j) (last.stops j (omega arith))
+      ∙ next
+
+  pub start_across : (at r : ℕ)
+      → IsLast (λ b. eqb b d) bytes at r → r ≡ 0 → piece_start bytes d (at + 16) ≡ piece_start bytes d at
+  start_across at r last z = start_over at 16 (λ k f t. last.fails k (omega arith) t)
+
+  -- by a byte
+  pub start_at_delim : (s : ℕ) → 0 < s → get_or bytes (s - 1) 0 ≡ d → piece_start bytes d s ≡ s
+  start_at_delim s l e =
+      let next : s ≡ suc (s - 1) = omega arith in
+      ap (piece_start bytes d) next ∙ start_after_delim bytes d (s - 1) (eq-eqb _ _ e) ∙ sym next
+
+  pub start_before_byte : (s : ℕ)
+      → 0 < s → get_or bytes (s - 1) 0 ≢ d → piece_start bytes d s ≡ piece_start bytes d (s - 1)
+  start_before_byte s l n =
+      let next : s ≡ suc (s - 1) = omega arith in
+      ap (piece_start bytes d) next ∙ start_more bytes d (s - 1) (ne_eqb _ _ n)
+
+  pub start_at_zero : (s : ℕ) → s ≡ 0 → piece_start bytes d s ≡ s
+  unfolding piece_start
+  start_at_zero s e = let zero_is : piece_start bytes d 0 ≡ 0 = refl in ap (piece_start bytes d) e ∙ zero_is ∙ sym e
+
+pub ruleset starts = (start_at_delim, start_before_byte, start_at_zero)
