@@ -28,29 +28,6 @@ module _ (bytes : List ℕ) where
       → o ≤ length bytes → piece_end bytes 0 o < length bytes → get_or bytes (piece_end bytes 0 o) 0 ≡ 0
   zero_at_end o l m = let e = at_end bytes 0 o l m in grind (arith, e)
 
-  -- where the last one begins, after which no zero byte stands
-  start_of_last : (s : ℕ)
-      → s ≤ length bytes → piece_start bytes 0 s ≡ s → ((i : ℕ) → s ≤ i → i < length bytes → get_or bytes i 0 ≢ 0)
-      → s ≡ piece_start bytes 0 (length bytes)
-  start_of_last s l h none = ⊎_elim
-      (λ (m : piece_end bytes 0 s < length bytes).
-      absurd (none (piece_end bytes 0 s) (end_from bytes 0 s) m (zero_at_end s l m)))
-      (λ (m : length bytes ≤ piece_end bytes 0 s). sym (start_same bytes 0 s (length bytes) l m ∙ h))
-      (cases_lt (piece_end bytes 0 s) (length bytes))
-
-  pub start_behind_last : (k : ℕ)
-      → k < length bytes → get_or bytes k 0 ≡ 0 → ((i : ℕ) → k < i → i < length bytes → get_or bytes i 0 ≢ 0)
-      → k + 1 ≡ piece_start bytes 0 (length bytes)
-  start_behind_last k l z none =
-      let next : k + 1 ≡ suc k = omega arith in
-      let here : piece_start bytes 0 (k + 1) ≡ k + 1 =
-      ap (piece_start bytes 0) next ∙ start_after_delim bytes 0 k (eq-eqb _ _ z) ∙ sym next in
-      start_of_last (k + 1) (omega arith) here (λ i from to. none i (omega arith) to)
-
-  pub start_of_only : ((i : ℕ) → i < length bytes → get_or bytes i 0 ≢ 0) → 0 ≡ piece_start bytes 0 (length bytes)
-  unfolding piece_start
-  start_of_only none = start_of_last 0 (omega arith) refl (λ i from to. none i to)
-
   -- ---- pieces of a front that is text
   -- it may be cut where a piece begins
   boundary_at_start : (p o : ℕ)
@@ -203,33 +180,6 @@ module _ (bytes : List ℕ) where
   pub table_taken : IsUtf8 bytes → table_of Strict bytes 0 ≡ Ok (text_table bytes)
   unfolding walked
   table_taken u = rw (le-ltb (first_bad bytes 0) (length bytes) (omega (arith, first_bad_of_text u))) refl
-
--- ---- the last string of a range
--- it begins after the last zero byte
-pub last_string_after : (bytes : List ℕ) (i j s : ℕ) → i < s → s ≤ j → j ≤ length bytes → get_or bytes (s - 1) 0 ≡ 0
-    → ((k : ℕ) → s ≤ k → k < j → get_or bytes k 0 ≢ 0) → s ≡ i + piece_start (slice_range bytes i j) 0 (j - i)
-last_string_after bytes i j s a b h z none =
-    let r = slice_range bytes i j in
-    let k = s - 1 - i in
-    let size : length r ≡ j - i = length-range bytes i j (omega arith) h in
-    let place : i + k ≡ s - 1 = omega arith in
-    let here : get_or r k 0 ≡ 0 = get_range bytes i j k (omega arith) ∙ ap (λ x. get_or bytes x 0) place ∙ z in
-    let rest : (m : ℕ) → k < m → m < length r → get_or r m 0 ≢ 0 = λ m from to e.
-    none (i + m) (omega arith) (omega (arith, size)) (sym (get_range bytes i j m (omega (arith, size))) ∙ e) in
-    let is : k + 1 ≡ piece_start r 0 (j - i) =
-    start_behind_last r k (omega (arith, size)) here rest ∙ ap (piece_start r 0) size in
-    omega (arith, is)
-
--- or where the range does
-pub last_string_whole : (bytes : List ℕ) (i j : ℕ) → i ≤ j → j ≤ length bytes
-    → ((k : ℕ) → i ≤ k → k < j → get_or bytes k 0 ≢ 0) → i ≡ i + piece_start (slice_range bytes i j) 0 (j - i)
-last_string_whole bytes i j a h none =
-    let r = slice_range bytes i j in
-    let size : length r ≡ j - i = length-range bytes i j a h in
-    let rest : (m : ℕ) → m < length r → get_or r m 0 ≢ 0 = λ m to e.
-    none (i + m) (omega arith) (omega (arith, size)) (sym (get_range bytes i j m (omega (arith, size))) ∙ e) in
-    let is : 0 ≡ piece_start r 0 (j - i) = start_of_only r rest ∙ ap (piece_start r 0) size in
-    omega (arith, is)
 
 -- the first bytes of a range
 pub front_of_range : (bytes : List ℕ) (i j p : ℕ)

@@ -135,12 +135,5 @@ fn start_of_last_string(view: &mut Looked<'_>, from: usize, to: usize) -> usize
     ensures looks { view.new.count ≤ view.old.count + (to - from) }
     ensures looks_least { CountsAtLeast view.old.count (to - result) view.new.count }
 {
-    let mut start = to;
-    while start > from {
-        if view.at(start - 1) == 0 {
-            return start;
-        }
-        start -= 1;
-    }
-    from
+    view.rfind(0, from, to)
 }
