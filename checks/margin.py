@@ -18,15 +18,10 @@ import tempfile
 import time
 
 sys.path.insert(0, f'{os.path.dirname(os.path.abspath(__file__))}/edits')
+from crates import crates_listed
 from verdict import CHECKED, Said
 
 SLOWEST = 10
-
-
-def crates_listed():
-    with open('crates.txt', encoding='utf-8') as lines:
-        heads = [line.partition('#')[0].partition(':')[0].split() for line in lines]
-    return [head[0] for head in heads if head]
 
 
 def copy(room):

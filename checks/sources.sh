@@ -3,10 +3,7 @@
 # of what is proved of them: sh checks/sources.sh --sum CRATE. Run from the repository's root.
 set -eu
 export LC_ALL=C
-crates=$(awk -F: -v crate="$2" '{ sub(/ .*/, "", $1); name[NR] = $1; below[NR] = $2 }
-    END { wanted[crate] = 1
-        for (i = NR; i > 0; i--) if (name[i] in wanted) { split(below[i], names, " "); for (k in names) wanted[names[k]] = 1 }
-        for (i = 1; i <= NR; i++) if (name[i] in wanted) print name[i] }' crates.txt)
+crates=$(python3 checks/crates.py "$2")
 if [ "$1" = --crates ]; then
     echo "$crates"
     exit 0

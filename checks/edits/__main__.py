@@ -20,7 +20,9 @@ import threading
 import time
 from concurrent.futures import FIRST_COMPLETED, ThreadPoolExecutor, wait
 
-sys.path.insert(0, os.path.dirname(os.path.abspath(__file__)))
+HERE = os.path.dirname(os.path.abspath(__file__))
+sys.path[:0] = [HERE, os.path.dirname(HERE)]
+from crates import crates_listed
 from edit import edits_of
 from trial import Trial
 from verdict import WAYS, Said
@@ -31,18 +33,6 @@ PRINTING = threading.Lock()
 def say(line):
     with PRINTING:
         print(line, flush=True)
-
-
-def crates_listed():
-    """The crates of crates.txt, each with those that it stands on, directly or not."""
-    stands_on = {}
-    with open('crates.txt', encoding='utf-8') as lines:
-        for line in lines:
-            head, split, names = line.partition('#')[0].partition(':')
-            if split:
-                stands_on[head.split()[0]] = [name for name in names.split() if os.path.isdir(f'crates/{name}')]
-    below = lambda crate: {lower for name in stands_on[crate] for lower in {name, *below(name)}}
-    return {crate: below(crate) for crate in stands_on}
 
 
 def copied(crate, below, room):
