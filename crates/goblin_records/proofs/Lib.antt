@@ -1,1 +1,1 @@
-pub mod Mips64
+pub mod Mips64el

@@ -63,17 +63,17 @@ abbrev pub mips64el_info_inverse : ℕ → ℕ
 mips64el_info_inverse info = joined (mips64el_pair_inverse (words_of info))
 
 -- the two undo each other
-abbrev pub MipsInverse : Type 0
-MipsInverse =
+abbrev pub Mips64elInverse : Type 0
+Mips64elInverse =
     (info : ℕ) → info < 2 ^ 64
     → (mips64el_info_inverse (mips64el_info info) ≡ info) × (mips64el_info (mips64el_info_inverse info) ≡ info)
 
 -- different ones have different standard ones
-abbrev pub MipsOneToOne : Type 0
-MipsOneToOne =
+abbrev pub Mips64elOneToOne : Type 0
+Mips64elOneToOne =
     (one other : ℕ) → one < 2 ^ 64 → other < 2 ^ 64 → mips64el_info one ≡ mips64el_info other → one ≡ other
 
 -- four times gives back the first
-abbrev pub MipsFourTimes : Type 0
-MipsFourTimes =
+abbrev pub Mips64elFourTimes : Type 0
+Mips64elFourTimes =
     (info : ℕ) → info < 2 ^ 64 → mips64el_info (mips64el_info (mips64el_info (mips64el_info info))) ≡ info

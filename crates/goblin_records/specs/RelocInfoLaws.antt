@@ -7,7 +7,7 @@ use Rattle.goblin_base.specs.declared.container.Endian.TheVariants as order
 use Rattle.goblin_base.specs.Number.{number, spelled}
 use Rattle.goblin_base.specs.NumberLaws.{IsBytes-spelled, number-lt, number-spelled, length-spelled, spelled-number}
 use Rattle.goblin_records.specs.RelocInfo.{symbols, types, symbol_in, type_in, info_of, JoinsItsParts, reversed}
-use Rattle.goblin_records.specs.RelocInfo.{mips64el_info_inverse, MipsInverse, MipsOneToOne, MipsFourTimes}
+use Rattle.goblin_records.specs.RelocInfo.{mips64el_info_inverse, Mips64elInverse, Mips64elOneToOne, Mips64elFourTimes}
 
 -- an `r_info` of the low bits of a symbol and a type is in range, and these are its parts
 pub info_of-parts : (class : Container) (symbol typ : ℕ) → let info = info_of class symbol typ in
@@ -54,8 +54,8 @@ high_of high low h = omega arith
 low_of : (high low : ℕ) → low < 2 ^ 32 → (high * 2 ^ 32 + low) % 2 ^ 32 ≡ low
 low_of high low h = omega arith
 
-pub mips_inverse : MipsInverse
-mips_inverse info h =
+pub mips64el_inverse : Mips64elInverse
+mips64el_inverse info h =
     let high : info / 2 ^ 32 < 2 ^ 32 = omega arith in
     let low : info % 2 ^ 32 < 2 ^ 32 = omega arith in
     let a = reversed (info / 2 ^ 32) in
@@ -69,11 +69,12 @@ mips_inverse info h =
       rw (high_of b (info / 2 ^ 32) high, low_of b (info / 2 ^ 32) high, reversed-reversed (info % 2 ^ 32) low) whole,
     )
 
-pub mips_one_to_one : MipsOneToOne
-mips_one_to_one one other h k e = sym (mips_inverse one h).0 ∙ ap mips64el_info_inverse e ∙ (mips_inverse other k).0
+pub mips64el_one_to_one : Mips64elOneToOne
+mips64el_one_to_one one other h k e =
+    sym (mips64el_inverse one h).0 ∙ ap mips64el_info_inverse e ∙ (mips64el_inverse other k).0
 
-pub mips_four_times : MipsFourTimes
-mips_four_times info h =
+pub mips64el_four_times : Mips64elFourTimes
+mips64el_four_times info h =
     let high : info / 2 ^ 32 < 2 ^ 32 = omega arith in
     let low : info % 2 ^ 32 < 2 ^ 32 = omega arith in
     let a = reversed (info / 2 ^ 32) in

@@ -7,7 +7,7 @@ ghost use Rattle.goblin_base.specs.Steps.{with_size};
 ghost use Rattle.goblin_base.specs.declared.container.Container.TheVariants as class;
 ghost use Rattle.goblin_base.specs.declared.container.Endian.{Endian};
 ghost use Rattle.goblin_records.specs.Reloc.{rel64_size, rel64_of, rel64_image, rel64_low, rel64_zero, rela64_size, rela64_of, rela64_image, rela64_low, rela64_zero};
-ghost use Rattle.goblin_records.specs.RelocInfo.{symbol_in, type_in, info_of, JoinsItsParts, mips64el_info, mips64el_info_inverse, MipsInverse, MipsOneToOne, MipsFourTimes};
+ghost use Rattle.goblin_records.specs.RelocInfo.{symbol_in, type_in, info_of, JoinsItsParts, mips64el_info, mips64el_info_inverse, Mips64elInverse, Mips64elOneToOne, Mips64elFourTimes};
 
 use crate::reloc::Reloc;
 use goblin_base::container::Endian;
@@ -301,7 +301,7 @@ pub fn laws()
     ensures rela_zeros { (rela : Rela) → ⟦<Rela as Default>⟧.is_default rela → rela ≡ rela64_zero }
     ensures rel_zeros { (rel : Rel) → ⟦<Rel as Default>⟧.is_default rel → rel ≡ rel64_zero }
     ensures joins { JoinsItsParts class.Big }
-    ensures inverse { MipsInverse }
-    ensures one_to_one { MipsOneToOne }
-    ensures four_times { MipsFourTimes }
+    ensures inverse { Mips64elInverse }
+    ensures one_to_one { Mips64elOneToOne }
+    ensures four_times { Mips64elFourTimes }
 {}

@@ -210,7 +210,7 @@ static TURNED: [(u64, u64); 4] = [
 ];
 
 #[test]
-fn turns_an_info_of_mips64(rt: HostRuntime) {
+fn turns_an_info_of_mips64el(rt: HostRuntime) {
     let turn = reloc64::mips64el_r_info;
     for row in &TURNED {
         assert!(rt; holds(rt, row, is(rt, turn(row.0), row.1)));
@@ -386,7 +386,7 @@ fn is_mips(rt: HostRuntime, machine: u16, ctx: Ctx, wanted: bool) -> bool {
 }
 
 #[test]
-fn knows_a_mips64_file_of_little_order(rt: HostRuntime) {
+fn knows_a_mips64el_file(rt: HostRuntime) {
     for row in &MACHINES {
         assert!(rt; holds(rt, row, is_mips(rt, row.0, row.1, row.2)));
     }

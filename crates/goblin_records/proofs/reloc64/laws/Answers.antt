@@ -1,20 +1,21 @@
 use Rattle.goblin_base.specs.declared.container.Container.TheVariants.{Big}
 use Rattle.goblin_base.specs.LayoutLaws.{one_image}
 use Rattle.goblin_records.specs.RelocLaws.{rel64_laws, rela64_laws}
-use Rattle.goblin_records.specs.RelocInfoLaws.{joins_its_parts, mips_inverse, mips_one_to_one, mips_four_times}
+use Rattle.goblin_records.specs.RelocInfoLaws.{joins_its_parts, mips64el_four_times, mips64el_inverse}
+use Rattle.goblin_records.specs.RelocInfoLaws.{mips64el_one_to_one}
 use Rattle.goblin_records.proofs.reloc64.laws.Goals as goal
 
 pub returns-clause-joins : goal.returns-clause-joins
 returns-clause-joins c = joins_its_parts Big
 
 pub returns-clause-inverse : goal.returns-clause-inverse
-returns-clause-inverse c = mips_inverse
+returns-clause-inverse c = mips64el_inverse
 
 pub returns-clause-one_to_one : goal.returns-clause-one_to_one
-returns-clause-one_to_one c = mips_one_to_one
+returns-clause-one_to_one c = mips64el_one_to_one
 
 pub returns-clause-four_times : goal.returns-clause-four_times
-returns-clause-four_times c = mips_four_times
+returns-clause-four_times c = mips64el_four_times
 
 pub returns-clause-rela_image : goal.returns-clause-rela_image
 returns-clause-rela_image c order = one_image (rela64_laws order)

@@ -1,4 +1,4 @@
-use Rattle.goblin_records.proofs.Mips64.{turned}
+use Rattle.goblin_records.proofs.Mips64el.{turned}
 use Rattle.goblin_records.proofs.reloc64.mips64el_r_info.Goals as goal
 
 pub returns : goal.returns

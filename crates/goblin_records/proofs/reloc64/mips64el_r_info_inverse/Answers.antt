@@ -1,5 +1,5 @@
 use Rattle.std.proofs.Common.{arith}
-use Rattle.goblin_records.proofs.Mips64.{turned_back}
+use Rattle.goblin_records.proofs.Mips64el.{turned_back}
 use Rattle.goblin_records.proofs.reloc64.mips64el_r_info_inverse.Goals as goal
 
 pub returns : goal.returns

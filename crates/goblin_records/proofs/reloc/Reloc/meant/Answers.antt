@@ -1,5 +1,5 @@
 use Rattle.std.proofs.Common.{rules, ◌≡◌, true, refl, arith}
-use Rattle.goblin_records.proofs.Mips64.{meant_parts}
+use Rattle.goblin_records.proofs.Mips64el.{meant_parts}
 use Rattle.goblin_records.proofs.reloc.Reloc.meant.Goals as goal
 
 pub returns : goal.returns
