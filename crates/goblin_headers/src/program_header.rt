@@ -1,7 +1,7 @@
 //! Program headers, which describe how a file is loaded: System V gABI, "Program Header".
 ghost use Rattle.std.specs.Int.{IsBitSet};
 ghost use Rattle.std.specs.Int.Bits.{bit_or};
-ghost use Rattle.std.specs.Prelude.{◌≡◌, ◌≤◌, ◌↔◌, IsTrue, IfErr, IsOk, length, replicate, [], ◌∷◌};
+ghost use Rattle.std.specs.Prelude.{◌≡◌, ◌≤◌, ◌↔◌, IsTrue, IfErr, IsOk, find, length, replicate, [], ◌∷◌};
 ghost use Rattle.goblin_base.specs.Fields.{values_of};
 ghost use Rattle.goblin_base.specs.Layout.{IsOneImage, IsSameInEachClass};
 ghost use Rattle.goblin_base.specs.LayoutLaws.{obeys};
@@ -12,7 +12,7 @@ ghost use Rattle.goblin_base.specs.declared.container.Container.{Container};
 ghost use Rattle.goblin_base.specs.declared.container.Endian.{Endian};
 ghost use Rattle.goblin_headers.specs.Constants.{segment_flag_numbers, segment_type_numbers};
 ghost use Rattle.goblin_headers.specs.ProgramHeader.{as64, program_header_size, program_header_of, program_header_image, program_header_low, ProgramHeaderFits, program_header64_fields};
-ghost use Rattle.goblin_headers.specs.ProgramHeaders.{new_program_header, program_headers_from, program_headers_tested};
+ghost use Rattle.goblin_headers.specs.ProgramHeaders.{loaded_from, loads, new_program_header, program_header_alone, program_headers_from, program_headers_tested, program_headers_whole};
 ghost use Rattle.goblin_headers.specs.Ranges.{span};
 
 pub use crate::{program_header32, program_header64};
@@ -21,7 +21,7 @@ use goblin_base::error::Result;
 use goblin_base::record::Record;
 use goblin_base::room::room;
 use goblin_base::scroll::{SizeWith, TryFromCtx, TryIntoCtx};
-use goblin_base::table::{Table, read_all};
+use goblin_base::table::{Table, read_all, read_alone, whole_records};
 use std::alloc::Global;
 use std::ops::Range;
 
@@ -167,6 +167,61 @@ impl ProgramHeader {
             Answers (λ table. table) result expected }
     {
         Table::counted(bytes, offset, count, ctx, "program headers")
+    }
+
+    /// Reads the program header at an index of `count` from an offset on, whatever the others are, or
+    /// returns `None` from `count` on.
+    ///
+    /// # Errors
+    ///
+    /// The fault of the header at the index, if the bytes don't hold it. An offset past `usize::MAX` is
+    /// reported as `usize::MAX`.
+    pub fn alone(
+        bytes: &[u8],
+        offset: usize,
+        count: usize,
+        index: usize,
+        ctx: Ctx,
+    ) -> Result<Option<ProgramHeader>>
+        ensures { result ≡ program_header_alone bytes.now offset count index ctx }
+    {
+        read_alone(bytes, offset, count, index, ctx)
+    }
+
+    /// Returns how many of `count` program headers from an offset on the bytes hold whole.
+    pub fn whole(bytes: &[u8], offset: usize, count: usize, ctx: Ctx) -> usize
+        ensures { result ≡ program_headers_whole bytes.now offset count ctx }
+    {
+        whole_records::<ProgramHeader, Ctx>(bytes.len(), offset, count, ctx)
+    }
+
+    // Reports whether the segment loads the byte at an address from the file.
+    fn loads(&self, address: u64) -> bool
+        ensures { result ≡ loads address self.now }
+    {
+        self.p_type == PT_LOAD && self.p_vaddr <= address && address - self.p_vaddr < self.p_filesz
+    }
+
+    // Returns the first segment that loads the byte at an address from the file.
+    fn find_loaded(segments: &Table<'_, ProgramHeader, Ctx>, address: u64) -> Option<ProgramHeader>
+        ensures { result ≡ find (loads address) segments.now }
+    {
+        segments.iter().find(|segment| segment.loads(address))
+    }
+
+    /// Returns the file offset of the byte that is loaded at an address, or `None` if no segment loads
+    /// a byte of the file there. The first loadable segment that has the address counts. An offset past
+    /// `usize::MAX` is `usize::MAX`.
+    pub fn loaded_from(segments: &Table<'_, ProgramHeader, Ctx>, address: u64) -> Option<usize>
+        ensures { result ≡ loaded_from address segments.now }
+    {
+        match ProgramHeader::find_loaded(segments, address) {
+            Some(segment) => {
+                let place = address.saturating_sub(segment.p_vaddr);
+                Some(segment.p_offset.saturating_add(place) as usize)
+            }
+            None => None,
+        }
     }
 
     // Reads the program header at the start of the bytes.

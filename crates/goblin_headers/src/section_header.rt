@@ -1,6 +1,6 @@
 //! Section headers, which describe what a file holds: System V gABI, "Section Header".
 ghost use Rattle.std.specs.Int.{IsBitSet};
-ghost use Rattle.std.specs.Prelude.{◌≡◌, ◌≤◌, ◌↔◌, ◌++◌, IsTrue, IfErr, IsNone, IsOk, IfSome, length, drop, map, position, replicate, slice_get, [], ◌∷◌};
+ghost use Rattle.std.specs.Prelude.{◌≡◌, ◌≤◌, ◌<◌, ◌↔◌, ◌+◌, ◌++◌, ◌^◌, IsTrue, IfErr, IsNone, IsOk, IfSome, length, drop, map, position, replicate, slice_get, [], ◌∷◌};
 ghost use Rattle.std.specs.Option.{option_map};
 ghost use Rattle.goblin_base.specs.Fields.{values_of};
 ghost use Rattle.goblin_base.specs.Layout.{IsOneImage, IsSameInEachClass};
@@ -14,7 +14,7 @@ ghost use Rattle.goblin_base.specs.declared.container.Endian.{Endian};
 ghost use Rattle.goblin_headers.specs.Constants.{section_flag_numbers, section_index_numbers, section_type_numbers};
 ghost use Rattle.goblin_headers.specs.Ranges.{span};
 ghost use Rattle.goblin_headers.specs.SectionHeader.{as64, section_header_size, section_header_of, section_header_image, section_header_low, SectionHeaderFits, section_header64_fields};
-ghost use Rattle.goblin_headers.specs.SectionHeaders.{new_section_header, count_from, header_count, linked, names_index, section_headers_from, section_headers_from_tested, section_headers_of, section_headers_of_tested, size_checked, size_checked_in};
+ghost use Rattle.goblin_headers.specs.SectionHeaders.{new_section_header, count_from, header_count, linked, names_index, section_header_alone, section_headers_from, section_headers_from_tested, section_headers_of, section_headers_of_tested, section_headers_stated, section_headers_whole, size_checked, size_checked_in};
 ghost use Rattle.goblin_headers.specs.SectionNames.{section_flag_names};
 
 pub use crate::{section_header32, section_header64};
@@ -24,7 +24,7 @@ use goblin_base::record::Record;
 use goblin_base::room::room;
 use goblin_base::scroll::{IntoCtx, SizeWith, TryFromCtx, TryIntoCtx};
 use goblin_base::strtab::{Strtab, WantedName};
-use goblin_base::table::{Table, read_all, read_at};
+use goblin_base::table::{Table, read_all, read_alone, read_at, whole_records};
 use std::alloc::Global;
 use std::ops::Range;
 
@@ -196,6 +196,54 @@ impl SectionHeader {
         Table::counted(bytes, offset, most, ctx, "section headers")
     }
 
+    /// Reads the section header at an index, whatever the others are, or returns `None` past the last
+    /// one. There are none at offset 0. Otherwise there are `count`, or if that is 0, as many as the
+    /// first header's `sh_size` says, but at least one.
+    ///
+    /// # Errors
+    ///
+    /// The fault of the first header, if `count` is 0 and the bytes don't hold it. Otherwise the fault
+    /// of the header at the index, if the bytes don't hold that one. An offset past `usize::MAX` is
+    /// reported as `usize::MAX`.
+    pub fn alone(
+        bytes: &[u8],
+        offset: usize,
+        count: usize,
+        index: usize,
+        ctx: Ctx,
+    ) -> Result<Option<SectionHeader>>
+        ensures { result ≡ section_header_alone bytes.now offset count index ctx }
+    {
+        let stated = SectionHeader::stated(bytes, offset, count, ctx)?;
+        read_alone(bytes, offset, stated, index, ctx)
+    }
+
+    /// Returns how many section headers the bytes hold whole, of those that
+    /// [`SectionHeader::alone`] reads.
+    ///
+    /// # Errors
+    ///
+    /// The fault of the first header, if `count` is 0 and the bytes don't hold it.
+    pub fn whole(bytes: &[u8], offset: usize, count: usize, ctx: Ctx) -> Result<usize>
+        ensures { result ≡ section_headers_whole bytes.now offset count ctx }
+    {
+        let stated = SectionHeader::stated(bytes, offset, count, ctx)?;
+        Ok(whole_records::<SectionHeader, Ctx>(bytes.len(), offset, stated, ctx))
+    }
+
+    // Returns the number of headers that a file states.
+    fn stated(bytes: &[u8], offset: usize, count: usize, ctx: Ctx) -> Result<usize>
+        ensures { result ≡ section_headers_stated bytes.now offset count ctx }
+    {
+        if offset == 0 {
+            return Ok(0);
+        }
+        if count != 0 {
+            return Ok(count);
+        }
+        SectionHeader::count_from(bytes, offset, count, ctx)
+    }
+
     /// Returns the index of the section that holds the section names. This is the header's
     /// `e_shstrndx`, unless it is 0xffff (`SHN_XINDEX`): then it is the `sh_link` of the first
     /// section, or 0 if there are no sections.
@@ -267,6 +315,46 @@ impl SectionHeader {
         sections
             .iter()
             .position(|section| wanted.is_at(strings, section.sh_name))
+    }
+
+    // Returns the position of the first section with this name among those from an index on.
+    fn position_from(
+        sections: &Table<'_, SectionHeader, Ctx>,
+        first: usize,
+        strings: &[u8],
+        delim: u8,
+        name: &[u8],
+    ) -> Option<usize>
+        ensures exact { let table = unparsed strings.now delim in result
+            ≡ position (λ section. has_name table section.sh_name name.now)
+            (drop first sections.now) }
+        ensures bound { IfSome result (λ place. first + place < 2 ^ 64) }
+    {
+        let wanted = WantedName::new(name, delim);
+        sections
+            .iter()
+            .skip(first)
+            .position(|header| wanted.is_at(strings, header.sh_name))
+    }
+
+    /// Returns the index of the first section with this name from an index on, as
+    /// [`SectionHeader::find_in`] does from index 0 on.
+    pub fn find_in_from(
+        sections: &Table<'_, SectionHeader, Ctx>,
+        first: usize,
+        strings: &[u8],
+        delim: u8,
+        name: &[u8],
+    ) -> Option<usize>
+        ensures { let table = unparsed strings.now delim in
+            result ≡ option_map (λ place. first + place)
+            (position (λ section. has_name table section.sh_name name.now)
+            (drop first sections.now)) }
+    {
+        match SectionHeader::position_from(sections, first, strings, delim, name) {
+            Some(place) => Some(first + place),
+            None => None,
+        }
     }
 
     /// Checks the section's size as [`SectionHeader::check_size_with_opts`] does with `permissive`

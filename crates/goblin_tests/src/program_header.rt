@@ -1,9 +1,11 @@
 //! Cases with their answers: program headers.
 use crate::container::{BIG64, LITTLE32};
 use crate::record::{SHORT, has_form, lacks_room, lists};
-use crate::told::{gives, holds, is, is_named};
+use crate::told::{answers, gives, holds, is, is_named, says};
 use goblin_base::container::{BE, Container, Ctx, LE};
 use goblin_base::error::Result as Answer;
+use goblin_base::scroll::TryIntoCtx;
+use goblin_base::table::Table;
 use goblin_headers::program_header::{
     PF_R, PF_W, PF_X, PT_ARM_EXIDX, PT_GNU_EH_FRAME, PT_GNU_RELRO, PT_GNU_STACK, PT_HIOS, PT_LOAD,
     PT_SUNWBSS, ProgramHeader, pt_to_str,
@@ -281,6 +283,65 @@ fn passes_on_the_names(rt: HostRuntime) {
     assert!(rt; is(rt, program_header64::pt_to_str(2), "PT_DYNAMIC"));
     assert!(rt; is(rt, program_header::program_header32::SIZEOF_PHDR, 32));
     assert!(rt; is(rt, program_header::program_header64::SIZEOF_PHDR, 56));
+}
+
+// The type of the header at an index of so many, in a file with one of type 7 at offset 4 and a second without its last
+// byte.
+fn alone(count: usize, index: usize) -> Answer<Option<u32>> {
+    let mut bytes = [0; 67];
+    bytes[4] = 7;
+    let header = ProgramHeader::alone(&bytes, 4, count, index, LITTLE32)?;
+    Ok(header.map(|header| header.p_type))
+}
+
+#[test]
+fn reads_each_program_header_alone(rt: HostRuntime) {
+    assert!(rt; answers(rt, alone(2, 0), Some(7)) && answers(rt, alone(2, 2), None));
+    assert!(rt; answers(rt, alone(0, 0), None));
+    assert!(rt; says(rt, alone(2, 1), "type is too big (32) for 31"));
+    assert!(rt; says(rt, alone(9, 2), "bad offset 68"));
+}
+
+#[test]
+fn counts_whole_program_headers(rt: HostRuntime) {
+    assert!(rt; is(rt, ProgramHeader::whole(&[0; 67], 4, 2, LITTLE32), 1));
+    assert!(rt; is(rt, ProgramHeader::whole(&[0; 68], 4, 2, LITTLE32), 2));
+    assert!(rt; is(rt, ProgramHeader::whole(&[0; 68], 4, 1, LITTLE32), 1));
+    assert!(rt; is(rt, ProgramHeader::whole(&[0; 68], 70, 1, LITTLE32), 0));
+}
+
+// A segment whose bytes in the file are loaded at an address.
+fn loaded(p_type: u32, p_vaddr: u64, p_offset: u64, p_filesz: u64) -> ProgramHeader {
+    ProgramHeader {
+        p_type,
+        p_offset,
+        p_vaddr,
+        p_filesz,
+        ..segment()
+    }
+}
+
+// The offset of the byte at an address by four segments: one that isn't loaded, two that overlap, and one past all
+// offsets.
+fn loaded_from(address: u64) -> Answer<Option<usize>> {
+    let mut bytes = [0; 224];
+    let _ = loaded(2, 0x1000, 0x700, 0x100).try_into_ctx(&mut bytes, BIG64)?;
+    let _ = loaded(PT_LOAD, 0x1000, 0x40, 0x10).try_into_ctx(&mut bytes[56..], BIG64)?;
+    let _ = loaded(PT_LOAD, 0x1008, 0x80, 0x20).try_into_ctx(&mut bytes[112..], BIG64)?;
+    let _ = loaded(PT_LOAD, 0x9000, u64::MAX - 1, 9).try_into_ctx(&mut bytes[168..], BIG64)?;
+    Ok(ProgramHeader::loaded_from(&Table::of(&bytes, 4, BIG64), address))
+}
+
+#[test]
+fn finds_offsets_by_addresses(rt: HostRuntime) {
+    assert!(rt; answers(rt, loaded_from(0xfff), None));
+    assert!(rt; answers(rt, loaded_from(0x1000), Some(0x40)));
+    assert!(rt; answers(rt, loaded_from(0x100f), Some(0x4f)));
+    assert!(rt; answers(rt, loaded_from(0x1010), Some(0x88)));
+    assert!(rt; answers(rt, loaded_from(0x1027), Some(0x9f)));
+    assert!(rt; answers(rt, loaded_from(0x1028), None));
+    assert!(rt; answers(rt, loaded_from(0x9001), Some(usize::MAX)));
+    assert!(rt; answers(rt, loaded_from(0x9008), Some(usize::MAX)));
 }
 
 #[test]

@@ -1,0 +1,12 @@
+use Rattle.std.proofs.Common.{rules, ◌∙◌, sym}
+use Rattle.std.proofs.lemmas.Iterator.Adapters.{option_map_id}
+use Rattle.std.proofs.lemmas.Iterator.Consumers.{YieldsList-from_first}
+use Rattle.std.proofs.lemmas.Iterator.Search.{find_from_yields_List}
+use Rattle.goblin_headers.specs.ProgramHeaders.{loads}
+use Rattle.goblin_headers.proofs.program_header.ProgramHeader.find_loaded.Goals as goal
+
+pub returns : goal.returns
+returns c =
+    sym (option_map_id c.find.result)
+    ∙ find_from_yields_List (loads c.args.address) _ _ c.find.result c.find.ensures.ran
+    (YieldsList-from_first (λ x. x) (λ left. left) c.args.segments.now c.iter.ensures.exact) (λ x b q k. search rules)
