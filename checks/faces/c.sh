@@ -59,7 +59,8 @@ check_examples() {
         /All are compiled with these variables:$/ { is_variables = 1; next }
         is_variables { gsub(/^ +/, "static "); is_variables = !sub(/ *\*\/$/, ""); gsub(/; /, ";\nstatic "); print
             if (!is_variables) print "extern int run_examples(void);\nint run_examples(void) {" }
-        /^(uint(32|64)_t|void) goblin_/ { calls++ }
+        /^\/\* ---- the calls of the library ----/ { is_library = 1 }
+        !is_library && /^(GOBLIN_CALL )?(uint(32|64)_t|void) goblin_/ { calls++ }
         sub(/^ *Example: /, "") { examples++; sub(/ \*\/$/, ""); print "    { " $0 " }" }
         END { print "    return range.size + string.size + value + note.n_type + count > 0;\n}"; exit calls == 0 || calls != examples }' \
         faces/c/goblin.h > "$folder/examples.c" || fail "each call in goblin.h must have one example"

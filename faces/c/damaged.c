@@ -17,6 +17,7 @@ static const uint8_t *bytes;
 static size_t len;
 static unsigned long statuses[3], broken;
 static uint64_t sum = 0xcbf29ce484222325;
+static uint64_t places[2];
 static goblin_refusal_t why;
 
 /* Returns the next number, below a limit, of a sequence that is the same in each run. */
@@ -82,7 +83,15 @@ static void text_of_refusal(uint32_t status) {
     add(&why, sizeof why), add(text, capacity);
 }
 
-static bool check(const char *what, uint32_t status, const void *item, size_t size) {
+/* Sets where the next calls' refused parts may begin: at one offset or at another one. */
+static void begins(uint64_t first, uint64_t second) {
+    places[0] = first, places[1] = second;
+}
+
+/* Checks what a call returned and wrote, and that it returned the same number for a null `why`. */
+static bool check(const char *what, uint32_t status, const void *item, size_t size, uint32_t without_why) {
+    if (without_why != status) wrong("a null pointer", status);
+    if (status > GOBLIN_END && why.offset != places[0] && why.offset != places[1]) wrong("where it is refused", status);
     statuses[status > GOBLIN_END ? 2 : status]++;
     if (status != GOBLIN_OK && !is_blank(item, size)) wrong(what, status);
     if (status <= GOBLIN_END ? !is_blank(&why, sizeof why) : why.kind != status) wrong("goblin_refusal_t", status);
@@ -107,9 +116,10 @@ static void names_of_numbers(void) {
     if (!is_blank(text + capacity, sizeof text - capacity)) wrong("a name", number);
 }
 
-/* Makes a call, whose last arguments are the result and `why`, and returns whether it has a result. */
+/* Makes a call, whose last arguments are the result and `why`, and once more with no `why`. Returns whether it has a result. */
 #define READS(call, item, ...) \
-    (blank(&(item), sizeof(item)), check(#call, call(bytes, len, __VA_ARGS__, &(item), &why), &(item), sizeof(item)))
+    (blank(&(item), sizeof(item)), check(#call, call(bytes, len, __VA_ARGS__, &(item), &why), &(item), sizeof(item), \
+                                         call(bytes, len, __VA_ARGS__, &(item), NULL)))
 
 static void inside(const char *what, goblin_range_t range) {
     if (range.offset > len || range.size > len - range.offset) wrong(what, GOBLIN_OK);
@@ -119,7 +129,7 @@ static void inside(const char *what, goblin_range_t range) {
 static void notes(const goblin_header_t *h, goblin_range_t range) {
     goblin_note_t note;
     uint64_t offset = any(8) ? range.offset : odd(), alignment = any(8) ? 4 + any(2) * 4 : odd();
-    for (int i = 0; i < 8 && READS(goblin_note, note, h, &range, alignment, offset); i++) {
+    for (int i = 0; i < 8 && (begins(offset, offset), READS(goblin_note, note, h, &range, alignment, offset)); i++) {
         inside("name", note.name), inside("desc", note.desc);
         if (note.next <= offset) wrong("next", GOBLIN_OK);
         offset = note.next;
@@ -134,8 +144,10 @@ static void notes(const goblin_header_t *h, goblin_range_t range) {
         size_t capacity = (size_t)any(BATCH + 1), size = offsetof(type, last) + sizeof single.last; \
         blank(items, sizeof items); \
         uint32_t status = all(bytes, len, __VA_ARGS__, first, items, capacity, &filled, &why); \
+        uint64_t filled_again = filled; \
+        uint32_t again = all(bytes, len, __VA_ARGS__, first, items, capacity, &filled_again, NULL); \
         if (filled > capacity || (status != GOBLIN_OK && filled != 0)) wrong(#all, status), filled = 0; \
-        check(#all, status, items, status == GOBLIN_OK ? 0 : sizeof items); \
+        check(#all, status, items, status == GOBLIN_OK ? 0 : sizeof items, again); \
         if (!is_blank(items + filled, sizeof *items * (BATCH - filled))) wrong(#all ": after the items", status); \
         for (uint64_t i = 0; i < filled; i++) add(items + i, size); \
         for (uint64_t i = 0; i < filled; i++) \
@@ -154,8 +166,11 @@ static void table(const goblin_header_t *h, goblin_range_t range, goblin_range_t
         /* An index: one of the first, any, or near the last of items of 8, 12, 16 or 24 bytes. */
         static const uint64_t sizes[] = {8, 12, 16, 24};
         uint64_t at = i < 3 ? any(30) : i == 3 ? odd() : range.size / sizes[i - 4] - any(3), index;
-        READS(goblin_reloc, reloc, h, &range, any(2), at);
+        bool has_addends = any(2);
+        begins(range.offset, range.offset);
+        READS(goblin_reloc, reloc, h, &range, has_addends, at);
         uint64_t near = names.size - any(9);
+        begins(names.offset, names.offset + near);
         goblin_range_t same_bytes;
         bool is_string = READS(goblin_string_bytes, same_bytes, &names, near);
         if (is_string) inside("bytes of a string", same_bytes);
@@ -164,15 +179,19 @@ static void table(const goblin_header_t *h, goblin_range_t range, goblin_range_t
             if (!is_string || name.offset != same_bytes.offset || name.size != same_bytes.size)
                 wrong("goblin_string_bytes", GOBLIN_OK);
         }
+        begins(range.offset, range.offset);
         if (!READS(goblin_symbol, symbol, h, &range, at)) continue;
+        begins(names.offset, names.offset + symbol.st_name);
         if (!READS(goblin_string, name, &names, symbol.st_name)) continue;
         inside("string", name);
+        begins(range.offset, names.offset);
         if (!READS(goblin_symbol_by_name, index, h, &range, &names, bytes + name.offset, (size_t)name.size) || index > at
             || !READS(goblin_symbol, found, h, &range, index))
             wrong("goblin_symbol_by_name", GOBLIN_END);
     }
     bool is_rela = any(2);
     uint64_t number;
+    begins(range.offset, range.offset);
     if (READS(goblin_symbol_count, number, h, &range) && number > 0) {
         goblin_symbol_t last;
         if (!READS(goblin_symbol, last, h, &range, number - 1) || READS(goblin_symbol, last, h, &range, number))
@@ -190,7 +209,9 @@ static void table(const goblin_header_t *h, goblin_range_t range, goblin_range_t
             wrong("goblin_reloc_count", GOBLIN_OK);
     }
     uint64_t offset = any(2) ? any_offset(len) : odd(), width = any(10);
+    begins(offset, offset);
     READS(goblin_number, number, h, offset, width);
+    begins(range.offset, range.offset);
     SEVERAL(goblin_symbol, goblin_symbols, goblin_symbol_t, st_other, h, &range);
     SEVERAL(goblin_reloc, goblin_relocs, goblin_reloc_t, has_addend, h, &range, is_rela);
     notes(h, range);
@@ -199,7 +220,9 @@ static void table(const goblin_header_t *h, goblin_range_t range, goblin_range_t
 static void file(void) {
     goblin_header_t h;
     blank(&h, sizeof h);
-    if (!check("goblin_header", goblin_header(bytes, len, &h, &why), &h, sizeof h)) memset(&h, (int)any(256), sizeof h);
+    begins(0, 0);
+    if (!check("goblin_header", goblin_header(bytes, len, &h, &why), &h, sizeof h, goblin_header(bytes, len, &h, NULL)))
+        memset(&h, (int)any(256), sizeof h);
     if (any(4) == 0) h.e_shoff = odd(), h.e_phoff = odd(), h.e_phnum = (uint16_t)odd(), h.e_shnum = (uint16_t)odd();
     if (any(4) == 0) { /* headers that end near the end of the file */
         h.e_phnum = (uint16_t)any(5), h.e_phoff = len + any(4) - h.e_phnum * (h.ei_class == 2 ? 56U : 32U);
@@ -207,31 +230,40 @@ static void file(void) {
     }
     uint64_t count = 0;
     goblin_section_t section, names, found;
+    begins(h.e_shoff, h.e_shoff);
     bool is_counted = READS(goblin_section_count, count, &h);
     if (!READS(goblin_section_names, names, &h)) names.file = odd_range();
     for (uint64_t i = 0; i < 12; i++) {
         uint64_t at = i < 9 ? i : odd(), index;
+        begins(h.e_shoff, h.e_shoff);
         bool is_there = READS(goblin_section, section, &h, at);
         if (is_there != (is_counted && at < count)) wrong("goblin_section_count", GOBLIN_OK);
         bool is_table = is_there && at > 0 && section.sh_type != 8;
         if (READS(goblin_linked_section, found, &h, at) != is_table) wrong("goblin_linked_section", GOBLIN_OK);
         goblin_range_t name;
         table(&h, is_there ? section.file : odd_range(), names.file);
+        begins(names.file.offset, names.file.offset + section.sh_name);
         if (is_there && READS(goblin_string, name, &names.file, section.sh_name)
-            && (!READS(goblin_section_by_name, index, &h, &names.file, bytes + name.offset, (size_t)name.size)
+            && (begins(h.e_shoff, names.file.offset), !READS(goblin_section_by_name, index, &h, &names.file, bytes + name.offset, (size_t)name.size)
                 || index > at || !READS(goblin_section, found, &h, index)))
             wrong("goblin_section_by_name", GOBLIN_END);
         goblin_segment_t segment;
         goblin_range_t within;
+        begins(h.e_phoff, h.e_phoff);
         if (READS(goblin_segment, segment, &h, at)) {
             notes(&h, segment.file);
+            begins(segment.file.offset, segment.file.offset);
             if (READS(goblin_segment_bytes, within, &segment)) inside("segment", within);
         }
+        begins(section.file.offset, section.file.offset);
         if (is_there && READS(goblin_section_bytes, within, &section)) inside("section", within);
+        begins(h.e_shoff, h.e_shoff);
         if (is_there && (!READS(goblin_section_by_type, index, &h, section.sh_type, at) || index != at))
             wrong("goblin_section_by_type", GOBLIN_END);
     }
+    begins(h.e_phoff, h.e_phoff);
     READS(goblin_segment_count, count, &h);
+    begins(h.e_shoff, h.e_shoff);
     SEVERAL(goblin_section, goblin_sections, goblin_section_t, sh_info, &h);
     names_of_numbers();
 }

@@ -12,7 +12,7 @@
        GOBLIN_OK (0)   The call has written its result.
        GOBLIN_END (1)  There is no such item: the index or the offset is past the end, or no item has that name, type or address.
        2 or more       The file is refused. The number is one of the GOBLIN_ numbers below. The call has written the same number to
-                       `*why`, with the numbers that belong to it.
+                       `*why`, with the numbers that belong to it and the offset of what is refused.
      The result is the argument before `why`, and the array of a call that fills one. A call writes its result only at GOBLIN_OK,
      `*why` only at a refusal, and nothing else. So a result that is zero before the call is still zero at GOBLIN_END, and one
      goblin_refusal_t serves all calls of a program.
@@ -20,7 +20,7 @@
 
    Pointers
      `bytes` points to the `len` bytes of the whole file. A pointer may be null if its length is 0, so an empty file may be null.
-     No other pointer may be null. What a call writes must not overlap anything else that it is given.
+     `why` may be null: then the caller has only the returned number. No other pointer may be null. What a call writes must not overlap anything else that it is given.
 
    Files that change
      Nothing may write the bytes during a call. They may change between two calls, since each call checks all that it reads. But
@@ -55,11 +55,18 @@
 extern "C" {
 #endif
 
+/* (C before C99 has no `inline`) */
+#if defined(__cplusplus) || (defined(__STDC_VERSION__) && __STDC_VERSION__ >= 199901L)
+#define GOBLIN_CALL static inline
+#else
+#define GOBLIN_CALL static __inline
+#endif
+
 /* The number of the interface. It goes up if a call or a struct changes. goblin_version() returns the library's, which must be the
    same. */
-#define GOBLIN_VERSION 4
+#define GOBLIN_VERSION 5
 /* The version of the package that this file is part of. */
-#define GOBLIN_VERSION_STRING "0.5.0"
+#define GOBLIN_VERSION_STRING "0.6.0"
 
 /* What calls return. The comment of each refusal lists the numbers that goblin_refusal_t has for it, from `first` on. */
 enum {
@@ -130,6 +137,8 @@ typedef struct {
     uint64_t second;
     uint64_t third;
     uint64_t fourth;
+    uint64_t offset; /* where in the file the thing begins that is refused: 0 for the header; e_shoff or e_phoff for a list of headers;
+                        the range's offset for symbols, relocations or strings; else the offset of the string, note or bytes */
 } goblin_refusal_t;
 
 /* Some bytes of the file. A range that a call returns lies inside the file, if its struct does not say otherwise. */
@@ -250,7 +259,7 @@ void goblin_layout(goblin_layout_t *layout);
    Returns GOBLIN_TOO_SMALL, GOBLIN_BAD_MAGIC, GOBLIN_ELF_CLASS, GOBLIN_DATA_TYPE or GOBLIN_TOO_BIG, the first of these that
    applies, in this order. Never returns GOBLIN_END.
    Example: if (goblin_header(bytes, len, &header, &why) != GOBLIN_OK) return 1; */
-uint32_t goblin_header(const uint8_t *bytes, size_t len, goblin_header_t *header, goblin_refusal_t *why);
+GOBLIN_CALL uint32_t goblin_header(const uint8_t *bytes, size_t len, goblin_header_t *header, goblin_refusal_t *why);
 
 /* ---- sections and segments ---- */
 
@@ -260,28 +269,28 @@ uint32_t goblin_header(const uint8_t *bytes, size_t len, goblin_header_t *header
    GOBLIN_BUFFER_TOO_SHORT: there are more headers than the file could hold. GOBLIN_BAD_OFFSET or GOBLIN_TOO_BIG: a later header is
    not inside the file. Never returns GOBLIN_END.
    Example: if (goblin_section_count(bytes, len, &header, &count, &why) != GOBLIN_OK) return 1; */
-uint32_t goblin_section_count(const uint8_t *bytes, size_t len, const goblin_header_t *header, uint64_t *count,
-                              goblin_refusal_t *why);
+GOBLIN_CALL uint32_t goblin_section_count(const uint8_t *bytes, size_t len, const goblin_header_t *header, uint64_t *count,
+                                          goblin_refusal_t *why);
 
 /* Reads the section header at an index. GOBLIN_END if the index is not below the number of sections.
    Refused as goblin_section_count is.
    Example: while (goblin_section(bytes, len, &header, index, &section, &why) == GOBLIN_OK) index++; */
-uint32_t goblin_section(const uint8_t *bytes, size_t len, const goblin_header_t *header, uint64_t index,
-                        goblin_section_t *section, goblin_refusal_t *why);
+GOBLIN_CALL uint32_t goblin_section(const uint8_t *bytes, size_t len, const goblin_header_t *header, uint64_t index,
+                                    goblin_section_t *section, goblin_refusal_t *why);
 
 /* Reads the section headers from the index `first` on into an array of `capacity` items, until the table or the array ends.
    `*filled` is the number of items that are written; those after them are unchanged. GOBLIN_END if `first` is not below the number
    of sections. Refused as goblin_section_count is.
    Example: while (goblin_sections(bytes, len, &header, index, sections, 64, &filled, &why) == GOBLIN_OK) index += filled; */
-uint32_t goblin_sections(const uint8_t *bytes, size_t len, const goblin_header_t *header, uint64_t first,
-                         goblin_section_t *sections, size_t capacity, uint64_t *filled, goblin_refusal_t *why);
+GOBLIN_CALL uint32_t goblin_sections(const uint8_t *bytes, size_t len, const goblin_header_t *header, uint64_t first,
+                                     goblin_section_t *sections, size_t capacity, uint64_t *filled, goblin_refusal_t *why);
 
 /* Reads the section that a section header links to by its sh_link, such as the string table of a symbol table.
    GOBLIN_END if the index is 0, which means no section, if it is not below the number of sections, or if the section is of type
    GOBLIN_SHT_NOBITS, which has no bytes in the file. `*section` is unchanged then. Refused as goblin_section_count is.
    Example: if (goblin_linked_section(bytes, len, &header, table.sh_link, &names, &why) > GOBLIN_END) return 1; */
-uint32_t goblin_linked_section(const uint8_t *bytes, size_t len, const goblin_header_t *header, uint64_t index,
-                               goblin_section_t *section, goblin_refusal_t *why);
+GOBLIN_CALL uint32_t goblin_linked_section(const uint8_t *bytes, size_t len, const goblin_header_t *header, uint64_t index,
+                                           goblin_section_t *section, goblin_refusal_t *why);
 /* Its name up to interface 3. */
 #define goblin_table goblin_linked_section
 
@@ -289,48 +298,48 @@ uint32_t goblin_linked_section(const uint8_t *bytes, size_t len, const goblin_he
    (GOBLIN_SHN_XINDEX). GOBLIN_END if goblin_linked_section returns that for this index, or if there is no section 0. Refused as
    goblin_section_count is.
    Example: if (goblin_section_names(bytes, len, &header, &names, &why) > GOBLIN_END) return 1; */
-uint32_t goblin_section_names(const uint8_t *bytes, size_t len, const goblin_header_t *header, goblin_section_t *section,
-                              goblin_refusal_t *why);
+GOBLIN_CALL uint32_t goblin_section_names(const uint8_t *bytes, size_t len, const goblin_header_t *header,
+                                          goblin_section_t *section, goblin_refusal_t *why);
 
 /* Finds the index of the first section with a name. `names` is the range of the section names in the file. A section has no name
    if its name is not UTF-8 or lies past the names. The empty name is a name, which section 0 has in most files. No section has a
    name with a zero byte in it, so leave out the zero byte at the end of `name`. GOBLIN_END if no section has the name.
    Refused as goblin_section_count is, and then as goblin_string is for the range `names`, but never by GOBLIN_BAD_INPUT.
    Example: goblin_section_by_name(bytes, len, &header, &names.file, ".text", 5, &index, &why); */
-uint32_t goblin_section_by_name(const uint8_t *bytes, size_t len, const goblin_header_t *header,
-                                const goblin_range_t *names, const void *name, size_t name_len, uint64_t *index,
-                                goblin_refusal_t *why);
+GOBLIN_CALL uint32_t goblin_section_by_name(const uint8_t *bytes, size_t len, const goblin_header_t *header,
+                                            const goblin_range_t *names, const void *name, size_t name_len, uint64_t *index,
+                                            goblin_refusal_t *why);
 
 /* Finds the index of the first section of a type, a GOBLIN_SHT_ number, from the index `first` on. GOBLIN_END if there is none.
    Refused as goblin_section_count is.
    Example: goblin_section_by_type(bytes, len, &header, GOBLIN_SHT_SYMTAB, 0, &index, &why); */
-uint32_t goblin_section_by_type(const uint8_t *bytes, size_t len, const goblin_header_t *header, uint32_t sh_type,
-                                uint64_t first, uint64_t *index, goblin_refusal_t *why);
+GOBLIN_CALL uint32_t goblin_section_by_type(const uint8_t *bytes, size_t len, const goblin_header_t *header, uint32_t sh_type,
+                                            uint64_t first, uint64_t *index, goblin_refusal_t *why);
 
 /* Finds the range of a section's bytes, which is its `file`, if it is inside the file. GOBLIN_END if the section has no bytes in
    the file: its type is GOBLIN_SHT_NULL or GOBLIN_SHT_NOBITS, or its size is 0. This is tested before any refusal.
    GOBLIN_BAD_OFFSET or GOBLIN_TOO_BIG: the bytes are not inside the file.
    Example: goblin_section_bytes(bytes, len, &section, &range, &why); */
-uint32_t goblin_section_bytes(const uint8_t *bytes, size_t len, const goblin_section_t *section, goblin_range_t *range,
-                              goblin_refusal_t *why);
+GOBLIN_CALL uint32_t goblin_section_bytes(const uint8_t *bytes, size_t len, const goblin_section_t *section,
+                                          goblin_range_t *range, goblin_refusal_t *why);
 
 /* Counts the program headers, of which there are e_phnum. Refused as goblin_segment is. Never returns GOBLIN_END.
    Example: if (goblin_segment_count(bytes, len, &header, &count, &why) != GOBLIN_OK) return 1; */
-uint32_t goblin_segment_count(const uint8_t *bytes, size_t len, const goblin_header_t *header, uint64_t *count,
-                              goblin_refusal_t *why);
+GOBLIN_CALL uint32_t goblin_segment_count(const uint8_t *bytes, size_t len, const goblin_header_t *header, uint64_t *count,
+                                          goblin_refusal_t *why);
 
 /* Finds the range of a segment's bytes in the file. GOBLIN_END if it has none: its type is GOBLIN_PT_NULL, or its size in the
    file is 0. This is tested before any refusal. Refused as goblin_section_bytes is.
    Example: goblin_segment_bytes(bytes, len, &segment, &range, &why); */
-uint32_t goblin_segment_bytes(const uint8_t *bytes, size_t len, const goblin_segment_t *segment, goblin_range_t *range,
-                              goblin_refusal_t *why);
+GOBLIN_CALL uint32_t goblin_segment_bytes(const uint8_t *bytes, size_t len, const goblin_segment_t *segment,
+                                          goblin_range_t *range, goblin_refusal_t *why);
 
 /* Reads the program header at an index. GOBLIN_END if the index is not below e_phnum.
    GOBLIN_BUFFER_TOO_SHORT: there are more headers than the file could hold. GOBLIN_BAD_OFFSET or GOBLIN_TOO_BIG: one of them is not
    inside the file.
    Example: while (goblin_segment(bytes, len, &header, index, &segment, &why) == GOBLIN_OK) index++; */
-uint32_t goblin_segment(const uint8_t *bytes, size_t len, const goblin_header_t *header, uint64_t index,
-                        goblin_segment_t *segment, goblin_refusal_t *why);
+GOBLIN_CALL uint32_t goblin_segment(const uint8_t *bytes, size_t len, const goblin_header_t *header, uint64_t index,
+                                    goblin_segment_t *segment, goblin_refusal_t *why);
 
 /* ---- symbols ---- */
 
@@ -339,27 +348,28 @@ uint32_t goblin_segment(const uint8_t *bytes, size_t len, const goblin_header_t 
    GOBLIN_SYMTAB_OFFSET: the range starts at the end of the file or past it, even if its size is 0. GOBLIN_SYMTAB_PAST: the symbols
    end past the end of the file.
    Example: while (goblin_symbol(bytes, len, &header, &table.file, index, &symbol, &why) == GOBLIN_OK) index++; */
-uint32_t goblin_symbol(const uint8_t *bytes, size_t len, const goblin_header_t *header, const goblin_range_t *table,
-                       uint64_t index, goblin_symbol_t *symbol, goblin_refusal_t *why);
+GOBLIN_CALL uint32_t goblin_symbol(const uint8_t *bytes, size_t len, const goblin_header_t *header, const goblin_range_t *table,
+                                   uint64_t index, goblin_symbol_t *symbol, goblin_refusal_t *why);
 
 /* Counts the symbols that lie in a range whole. Refused as goblin_symbol is. Never returns GOBLIN_END.
    Example: goblin_symbol_count(bytes, len, &header, &table.file, &count, &why); */
-uint32_t goblin_symbol_count(const uint8_t *bytes, size_t len, const goblin_header_t *header, const goblin_range_t *table,
-                             uint64_t *count, goblin_refusal_t *why);
+GOBLIN_CALL uint32_t goblin_symbol_count(const uint8_t *bytes, size_t len, const goblin_header_t *header,
+                                         const goblin_range_t *table, uint64_t *count, goblin_refusal_t *why);
 
 /* Reads the symbols from the index `first` on, as goblin_sections reads sections. Refused as goblin_symbol is.
    Example: while (!goblin_symbols(bytes, len, &header, &table.file, index, symbols, 64, &filled, &why)) index += filled; */
-uint32_t goblin_symbols(const uint8_t *bytes, size_t len, const goblin_header_t *header, const goblin_range_t *table,
-                        uint64_t first, goblin_symbol_t *symbols, size_t capacity, uint64_t *filled, goblin_refusal_t *why);
+GOBLIN_CALL uint32_t goblin_symbols(const uint8_t *bytes, size_t len, const goblin_header_t *header,
+                                    const goblin_range_t *table, uint64_t first, goblin_symbol_t *symbols, size_t capacity,
+                                    uint64_t *filled, goblin_refusal_t *why);
 
 /* Finds the index of the first symbol with a name. `names` is the range of the table's strings. A symbol has no name if its name
    is not UTF-8 or lies past the strings. The empty name and names with zero bytes are as for goblin_section_by_name; symbol 0 has
    the empty name in most files. GOBLIN_END if no symbol has the name.
    Refused as goblin_symbol is, and then as goblin_string is for the range `names`, but never by GOBLIN_BAD_INPUT.
    Example: goblin_symbol_by_name(bytes, len, &header, &table.file, &names.file, "main", 4, &index, &why); */
-uint32_t goblin_symbol_by_name(const uint8_t *bytes, size_t len, const goblin_header_t *header,
-                               const goblin_range_t *table, const goblin_range_t *names, const void *name,
-                               size_t name_len, uint64_t *index, goblin_refusal_t *why);
+GOBLIN_CALL uint32_t goblin_symbol_by_name(const uint8_t *bytes, size_t len, const goblin_header_t *header,
+                                           const goblin_range_t *table, const goblin_range_t *names, const void *name,
+                                           size_t name_len, uint64_t *index, goblin_refusal_t *why);
 
 /* Finds the index of the symbol for an address: the symbol with the highest st_value that is not above the address. Of those with
    the same st_value it is the first whose st_size reaches the address, or the first if none does. Only symbols of a section
@@ -369,8 +379,9 @@ uint32_t goblin_symbol_by_name(const uint8_t *bytes, size_t len, const goblin_he
    symbol `outer`, an address after the end of `inner` gives `inner`, too. In a file of type GOBLIN_ET_REL an st_value is an offset
    in a section, so symbols of different sections mix.
    Example: goblin_symbol_by_address(bytes, len, &header, &table.file, 0x401000, &index, &why); */
-uint32_t goblin_symbol_by_address(const uint8_t *bytes, size_t len, const goblin_header_t *header,
-                                  const goblin_range_t *table, uint64_t address, uint64_t *index, goblin_refusal_t *why);
+GOBLIN_CALL uint32_t goblin_symbol_by_address(const uint8_t *bytes, size_t len, const goblin_header_t *header,
+                                              const goblin_range_t *table, uint64_t address, uint64_t *index,
+                                              goblin_refusal_t *why);
 
 /* ---- relocations ---- */
 
@@ -385,19 +396,19 @@ uint32_t goblin_symbol_by_address(const uint8_t *bytes, size_t len, const goblin
    GOBLIN_END after that one. In a little-endian MIPS64 file, r_sym and r_type are read in the format of those files.
    GOBLIN_BAD_OFFSET or GOBLIN_TOO_BIG: the range has bytes, and not all of them are inside the file.
    Example: while (goblin_reloc(bytes, len, &header, &table.file, true, index, &reloc, &why) == GOBLIN_OK) index++; */
-uint32_t goblin_reloc(const uint8_t *bytes, size_t len, const goblin_header_t *header, const goblin_range_t *table,
-                      bool is_rela, uint64_t index, goblin_reloc_t *reloc, goblin_refusal_t *why);
+GOBLIN_CALL uint32_t goblin_reloc(const uint8_t *bytes, size_t len, const goblin_header_t *header, const goblin_range_t *table,
+                                  bool is_rela, uint64_t index, goblin_reloc_t *reloc, goblin_refusal_t *why);
 
 /* Counts the relocations that lie in a range whole. Refused as goblin_reloc is. Never returns GOBLIN_END.
    Example: goblin_reloc_count(bytes, len, &header, &table.file, true, &count, &why); */
-uint32_t goblin_reloc_count(const uint8_t *bytes, size_t len, const goblin_header_t *header, const goblin_range_t *table,
-                            bool is_rela, uint64_t *count, goblin_refusal_t *why);
+GOBLIN_CALL uint32_t goblin_reloc_count(const uint8_t *bytes, size_t len, const goblin_header_t *header,
+                                        const goblin_range_t *table, bool is_rela, uint64_t *count, goblin_refusal_t *why);
 
 /* Reads the relocations from the index `first` on, as goblin_sections reads sections. Refused as goblin_reloc is.
    Example: while (!goblin_relocs(bytes, len, &header, &table.file, true, index, relocs, 64, &filled, &why)) index += filled; */
-uint32_t goblin_relocs(const uint8_t *bytes, size_t len, const goblin_header_t *header, const goblin_range_t *table,
-                       bool is_rela, uint64_t first, goblin_reloc_t *relocs, size_t capacity, uint64_t *filled,
-                       goblin_refusal_t *why);
+GOBLIN_CALL uint32_t goblin_relocs(const uint8_t *bytes, size_t len, const goblin_header_t *header, const goblin_range_t *table,
+                                   bool is_rela, uint64_t first, goblin_reloc_t *relocs, size_t capacity, uint64_t *filled,
+                                   goblin_refusal_t *why);
 
 #ifdef __clang__
 #pragma clang diagnostic pop
@@ -415,8 +426,8 @@ uint32_t goblin_relocs(const uint8_t *bytes, size_t len, const goblin_header_t *
    name is not UTF-8. GOBLIN_BAD_OFFSET or GOBLIN_TOO_BIG: the descriptor is not inside the file. But for the first, the numbers of
    these refusals count from the start of the note.
    Example: goblin_note(bytes, len, &header, &section.file, section.sh_addralign, section.file.offset, &note, &why); */
-uint32_t goblin_note(const uint8_t *bytes, size_t len, const goblin_header_t *header, const goblin_range_t *notes,
-                     uint64_t alignment, uint64_t offset, goblin_note_t *note, goblin_refusal_t *why);
+GOBLIN_CALL uint32_t goblin_note(const uint8_t *bytes, size_t len, const goblin_header_t *header, const goblin_range_t *notes,
+                                 uint64_t alignment, uint64_t offset, goblin_note_t *note, goblin_refusal_t *why);
 
 /* ---- strings ---- */
 
@@ -426,14 +437,14 @@ uint32_t goblin_note(const uint8_t *bytes, size_t len, const goblin_header_t *he
    GOBLIN_STRTAB_OFFSET: the table starts past the end of the file. GOBLIN_STRTAB_RANGE: it ends past the end of the file.
    GOBLIN_BAD_INPUT: the string is not UTF-8.
    Example: goblin_string(bytes, len, &names.file, symbol.st_name, &string, &why); */
-uint32_t goblin_string(const uint8_t *bytes, size_t len, const goblin_range_t *strings, uint64_t offset,
-                       goblin_range_t *string, goblin_refusal_t *why);
+GOBLIN_CALL uint32_t goblin_string(const uint8_t *bytes, size_t len, const goblin_range_t *strings, uint64_t offset,
+                                   goblin_range_t *string, goblin_refusal_t *why);
 
 /* As goblin_string, for a string that need not be UTF-8: never returns GOBLIN_BAD_INPUT. If goblin_string finds a string, this
    call finds the same range.
    Example: goblin_string_bytes(bytes, len, &names.file, symbol.st_name, &string, &why); */
-uint32_t goblin_string_bytes(const uint8_t *bytes, size_t len, const goblin_range_t *strings, uint64_t offset,
-                             goblin_range_t *string, goblin_refusal_t *why);
+GOBLIN_CALL uint32_t goblin_string_bytes(const uint8_t *bytes, size_t len, const goblin_range_t *strings, uint64_t offset,
+                                         goblin_range_t *string, goblin_refusal_t *why);
 
 /* ---- numbers ---- */
 
@@ -441,8 +452,8 @@ uint32_t goblin_string_bytes(const uint8_t *bytes, size_t len, const goblin_rang
    if it is none of these. This is tested before any refusal.
    GOBLIN_BAD_OFFSET or GOBLIN_TOO_BIG: the bytes are not inside the file.
    Example: goblin_number(bytes, len, &header, section.file.offset, 4, &value, &why); */
-uint32_t goblin_number(const uint8_t *bytes, size_t len, const goblin_header_t *header, uint64_t offset, uint64_t width,
-                       uint64_t *value, goblin_refusal_t *why);
+GOBLIN_CALL uint32_t goblin_number(const uint8_t *bytes, size_t len, const goblin_header_t *header, uint64_t offset,
+                                   uint64_t width, uint64_t *value, goblin_refusal_t *why);
 
 /* ---- texts ----
 
@@ -487,6 +498,194 @@ uint64_t goblin_note_type_to_str(const void *name, size_t name_len, uint32_t n_t
    the like has the empty name; a `kind` that is no refusal has the empty text.
    Example: goblin_refusal_text(&why, text, sizeof text - 1); */
 uint64_t goblin_refusal_text(const goblin_refusal_t *why, void *text, size_t capacity);
+
+/* ---- the calls of the library ----
+
+   The library has each call that takes `why` by a name with goblin_c_, for which `why` must not be null. Other languages call these.
+   The functions of this file, which C and C++ compile inline, let `why` be null. */
+
+#ifdef __clang__
+#pragma clang diagnostic push
+#pragma clang diagnostic ignored "-Wc99-extensions"
+#endif
+
+uint32_t goblin_c_header(const uint8_t *bytes, size_t len, goblin_header_t *header, goblin_refusal_t *why);
+GOBLIN_CALL uint32_t goblin_header(const uint8_t *bytes, size_t len, goblin_header_t *header, goblin_refusal_t *why) {
+    goblin_refusal_t unread;
+    return goblin_c_header(bytes, len, header, why ? why : &unread);
+}
+uint32_t goblin_c_section_count(const uint8_t *bytes, size_t len, const goblin_header_t *header, uint64_t *count,
+                                goblin_refusal_t *why);
+GOBLIN_CALL uint32_t goblin_section_count(const uint8_t *bytes, size_t len, const goblin_header_t *header, uint64_t *count,
+                                          goblin_refusal_t *why) {
+    goblin_refusal_t unread;
+    return goblin_c_section_count(bytes, len, header, count, why ? why : &unread);
+}
+uint32_t goblin_c_section(const uint8_t *bytes, size_t len, const goblin_header_t *header, uint64_t index,
+                          goblin_section_t *section, goblin_refusal_t *why);
+GOBLIN_CALL uint32_t goblin_section(const uint8_t *bytes, size_t len, const goblin_header_t *header, uint64_t index,
+                                    goblin_section_t *section, goblin_refusal_t *why) {
+    goblin_refusal_t unread;
+    return goblin_c_section(bytes, len, header, index, section, why ? why : &unread);
+}
+uint32_t goblin_c_sections(const uint8_t *bytes, size_t len, const goblin_header_t *header, uint64_t first,
+                           goblin_section_t *sections, size_t capacity, uint64_t *filled, goblin_refusal_t *why);
+GOBLIN_CALL uint32_t goblin_sections(const uint8_t *bytes, size_t len, const goblin_header_t *header, uint64_t first,
+                                     goblin_section_t *sections, size_t capacity, uint64_t *filled, goblin_refusal_t *why) {
+    goblin_refusal_t unread;
+    return goblin_c_sections(bytes, len, header, first, sections, capacity, filled, why ? why : &unread);
+}
+uint32_t goblin_c_linked_section(const uint8_t *bytes, size_t len, const goblin_header_t *header, uint64_t index,
+                                 goblin_section_t *section, goblin_refusal_t *why);
+GOBLIN_CALL uint32_t goblin_linked_section(const uint8_t *bytes, size_t len, const goblin_header_t *header, uint64_t index,
+                                           goblin_section_t *section, goblin_refusal_t *why) {
+    goblin_refusal_t unread;
+    return goblin_c_linked_section(bytes, len, header, index, section, why ? why : &unread);
+}
+uint32_t goblin_c_section_names(const uint8_t *bytes, size_t len, const goblin_header_t *header, goblin_section_t *section,
+                                goblin_refusal_t *why);
+GOBLIN_CALL uint32_t goblin_section_names(const uint8_t *bytes, size_t len, const goblin_header_t *header,
+                                          goblin_section_t *section, goblin_refusal_t *why) {
+    goblin_refusal_t unread;
+    return goblin_c_section_names(bytes, len, header, section, why ? why : &unread);
+}
+uint32_t goblin_c_section_by_name(const uint8_t *bytes, size_t len, const goblin_header_t *header, const goblin_range_t *names,
+                                  const void *name, size_t name_len, uint64_t *index, goblin_refusal_t *why);
+GOBLIN_CALL uint32_t goblin_section_by_name(const uint8_t *bytes, size_t len, const goblin_header_t *header,
+                                            const goblin_range_t *names, const void *name, size_t name_len, uint64_t *index,
+                                            goblin_refusal_t *why) {
+    goblin_refusal_t unread;
+    return goblin_c_section_by_name(bytes, len, header, names, name, name_len, index, why ? why : &unread);
+}
+uint32_t goblin_c_section_by_type(const uint8_t *bytes, size_t len, const goblin_header_t *header, uint32_t sh_type,
+                                  uint64_t first, uint64_t *index, goblin_refusal_t *why);
+GOBLIN_CALL uint32_t goblin_section_by_type(const uint8_t *bytes, size_t len, const goblin_header_t *header, uint32_t sh_type,
+                                            uint64_t first, uint64_t *index, goblin_refusal_t *why) {
+    goblin_refusal_t unread;
+    return goblin_c_section_by_type(bytes, len, header, sh_type, first, index, why ? why : &unread);
+}
+uint32_t goblin_c_section_bytes(const uint8_t *bytes, size_t len, const goblin_section_t *section, goblin_range_t *range,
+                                goblin_refusal_t *why);
+GOBLIN_CALL uint32_t goblin_section_bytes(const uint8_t *bytes, size_t len, const goblin_section_t *section,
+                                          goblin_range_t *range, goblin_refusal_t *why) {
+    goblin_refusal_t unread;
+    return goblin_c_section_bytes(bytes, len, section, range, why ? why : &unread);
+}
+uint32_t goblin_c_segment_count(const uint8_t *bytes, size_t len, const goblin_header_t *header, uint64_t *count,
+                                goblin_refusal_t *why);
+GOBLIN_CALL uint32_t goblin_segment_count(const uint8_t *bytes, size_t len, const goblin_header_t *header, uint64_t *count,
+                                          goblin_refusal_t *why) {
+    goblin_refusal_t unread;
+    return goblin_c_segment_count(bytes, len, header, count, why ? why : &unread);
+}
+uint32_t goblin_c_segment_bytes(const uint8_t *bytes, size_t len, const goblin_segment_t *segment, goblin_range_t *range,
+                                goblin_refusal_t *why);
+GOBLIN_CALL uint32_t goblin_segment_bytes(const uint8_t *bytes, size_t len, const goblin_segment_t *segment,
+                                          goblin_range_t *range, goblin_refusal_t *why) {
+    goblin_refusal_t unread;
+    return goblin_c_segment_bytes(bytes, len, segment, range, why ? why : &unread);
+}
+uint32_t goblin_c_segment(const uint8_t *bytes, size_t len, const goblin_header_t *header, uint64_t index,
+                          goblin_segment_t *segment, goblin_refusal_t *why);
+GOBLIN_CALL uint32_t goblin_segment(const uint8_t *bytes, size_t len, const goblin_header_t *header, uint64_t index,
+                                    goblin_segment_t *segment, goblin_refusal_t *why) {
+    goblin_refusal_t unread;
+    return goblin_c_segment(bytes, len, header, index, segment, why ? why : &unread);
+}
+uint32_t goblin_c_symbol(const uint8_t *bytes, size_t len, const goblin_header_t *header, const goblin_range_t *table,
+                         uint64_t index, goblin_symbol_t *symbol, goblin_refusal_t *why);
+GOBLIN_CALL uint32_t goblin_symbol(const uint8_t *bytes, size_t len, const goblin_header_t *header, const goblin_range_t *table,
+                                   uint64_t index, goblin_symbol_t *symbol, goblin_refusal_t *why) {
+    goblin_refusal_t unread;
+    return goblin_c_symbol(bytes, len, header, table, index, symbol, why ? why : &unread);
+}
+uint32_t goblin_c_symbol_count(const uint8_t *bytes, size_t len, const goblin_header_t *header, const goblin_range_t *table,
+                               uint64_t *count, goblin_refusal_t *why);
+GOBLIN_CALL uint32_t goblin_symbol_count(const uint8_t *bytes, size_t len, const goblin_header_t *header,
+                                         const goblin_range_t *table, uint64_t *count, goblin_refusal_t *why) {
+    goblin_refusal_t unread;
+    return goblin_c_symbol_count(bytes, len, header, table, count, why ? why : &unread);
+}
+uint32_t goblin_c_symbols(const uint8_t *bytes, size_t len, const goblin_header_t *header, const goblin_range_t *table,
+                          uint64_t first, goblin_symbol_t *symbols, size_t capacity, uint64_t *filled, goblin_refusal_t *why);
+GOBLIN_CALL uint32_t goblin_symbols(const uint8_t *bytes, size_t len, const goblin_header_t *header,
+                                    const goblin_range_t *table, uint64_t first, goblin_symbol_t *symbols, size_t capacity,
+                                    uint64_t *filled, goblin_refusal_t *why) {
+    goblin_refusal_t unread;
+    return goblin_c_symbols(bytes, len, header, table, first, symbols, capacity, filled, why ? why : &unread);
+}
+uint32_t goblin_c_symbol_by_name(const uint8_t *bytes, size_t len, const goblin_header_t *header, const goblin_range_t *table,
+                                 const goblin_range_t *names, const void *name, size_t name_len, uint64_t *index,
+                                 goblin_refusal_t *why);
+GOBLIN_CALL uint32_t goblin_symbol_by_name(const uint8_t *bytes, size_t len, const goblin_header_t *header,
+                                           const goblin_range_t *table, const goblin_range_t *names, const void *name,
+                                           size_t name_len, uint64_t *index, goblin_refusal_t *why) {
+    goblin_refusal_t unread;
+    return goblin_c_symbol_by_name(bytes, len, header, table, names, name, name_len, index, why ? why : &unread);
+}
+uint32_t goblin_c_symbol_by_address(const uint8_t *bytes, size_t len, const goblin_header_t *header,
+                                    const goblin_range_t *table, uint64_t address, uint64_t *index, goblin_refusal_t *why);
+GOBLIN_CALL uint32_t goblin_symbol_by_address(const uint8_t *bytes, size_t len, const goblin_header_t *header,
+                                              const goblin_range_t *table, uint64_t address, uint64_t *index,
+                                              goblin_refusal_t *why) {
+    goblin_refusal_t unread;
+    return goblin_c_symbol_by_address(bytes, len, header, table, address, index, why ? why : &unread);
+}
+uint32_t goblin_c_reloc(const uint8_t *bytes, size_t len, const goblin_header_t *header, const goblin_range_t *table,
+                        bool is_rela, uint64_t index, goblin_reloc_t *reloc, goblin_refusal_t *why);
+GOBLIN_CALL uint32_t goblin_reloc(const uint8_t *bytes, size_t len, const goblin_header_t *header, const goblin_range_t *table,
+                                  bool is_rela, uint64_t index, goblin_reloc_t *reloc, goblin_refusal_t *why) {
+    goblin_refusal_t unread;
+    return goblin_c_reloc(bytes, len, header, table, is_rela, index, reloc, why ? why : &unread);
+}
+uint32_t goblin_c_reloc_count(const uint8_t *bytes, size_t len, const goblin_header_t *header, const goblin_range_t *table,
+                              bool is_rela, uint64_t *count, goblin_refusal_t *why);
+GOBLIN_CALL uint32_t goblin_reloc_count(const uint8_t *bytes, size_t len, const goblin_header_t *header,
+                                        const goblin_range_t *table, bool is_rela, uint64_t *count, goblin_refusal_t *why) {
+    goblin_refusal_t unread;
+    return goblin_c_reloc_count(bytes, len, header, table, is_rela, count, why ? why : &unread);
+}
+uint32_t goblin_c_relocs(const uint8_t *bytes, size_t len, const goblin_header_t *header, const goblin_range_t *table,
+                         bool is_rela, uint64_t first, goblin_reloc_t *relocs, size_t capacity, uint64_t *filled,
+                         goblin_refusal_t *why);
+GOBLIN_CALL uint32_t goblin_relocs(const uint8_t *bytes, size_t len, const goblin_header_t *header, const goblin_range_t *table,
+                                   bool is_rela, uint64_t first, goblin_reloc_t *relocs, size_t capacity, uint64_t *filled,
+                                   goblin_refusal_t *why) {
+    goblin_refusal_t unread;
+    return goblin_c_relocs(bytes, len, header, table, is_rela, first, relocs, capacity, filled, why ? why : &unread);
+}
+uint32_t goblin_c_note(const uint8_t *bytes, size_t len, const goblin_header_t *header, const goblin_range_t *notes,
+                       uint64_t alignment, uint64_t offset, goblin_note_t *note, goblin_refusal_t *why);
+GOBLIN_CALL uint32_t goblin_note(const uint8_t *bytes, size_t len, const goblin_header_t *header, const goblin_range_t *notes,
+                                 uint64_t alignment, uint64_t offset, goblin_note_t *note, goblin_refusal_t *why) {
+    goblin_refusal_t unread;
+    return goblin_c_note(bytes, len, header, notes, alignment, offset, note, why ? why : &unread);
+}
+uint32_t goblin_c_string(const uint8_t *bytes, size_t len, const goblin_range_t *strings, uint64_t offset,
+                         goblin_range_t *string, goblin_refusal_t *why);
+GOBLIN_CALL uint32_t goblin_string(const uint8_t *bytes, size_t len, const goblin_range_t *strings, uint64_t offset,
+                                   goblin_range_t *string, goblin_refusal_t *why) {
+    goblin_refusal_t unread;
+    return goblin_c_string(bytes, len, strings, offset, string, why ? why : &unread);
+}
+uint32_t goblin_c_string_bytes(const uint8_t *bytes, size_t len, const goblin_range_t *strings, uint64_t offset,
+                               goblin_range_t *string, goblin_refusal_t *why);
+GOBLIN_CALL uint32_t goblin_string_bytes(const uint8_t *bytes, size_t len, const goblin_range_t *strings, uint64_t offset,
+                                         goblin_range_t *string, goblin_refusal_t *why) {
+    goblin_refusal_t unread;
+    return goblin_c_string_bytes(bytes, len, strings, offset, string, why ? why : &unread);
+}
+uint32_t goblin_c_number(const uint8_t *bytes, size_t len, const goblin_header_t *header, uint64_t offset, uint64_t width,
+                         uint64_t *value, goblin_refusal_t *why);
+GOBLIN_CALL uint32_t goblin_number(const uint8_t *bytes, size_t len, const goblin_header_t *header, uint64_t offset,
+                                   uint64_t width, uint64_t *value, goblin_refusal_t *why) {
+    goblin_refusal_t unread;
+    return goblin_c_number(bytes, len, header, offset, width, value, why ? why : &unread);
+}
+
+#ifdef __clang__
+#pragma clang diagnostic pop
+#endif
 
 #ifdef __cplusplus
 }

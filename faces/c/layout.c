@@ -173,9 +173,9 @@ static void read_all(void) {
         same("r_sym for MIPS", pair.r_sym, wanted.reloc.r_type);
         same("r_type for MIPS", pair.r_type, type << 24 | (type & 0xff00) << 8 | (type >> 8 & 0xff00) | type >> 24);
     }
-    /* A refusal with four different numbers: its size, its offset, the file's length and 1. */
+    /* A refusal with four different numbers: its size, its offset, the file's length and 1. Its table begins at the offset. */
     goblin_range_t past = {0x321, UINT64_MAX};
-    goblin_refusal_t refusal = {GOBLIN_STRTAB_RANGE, 0, past.size, past.offset, sizeof file, 1};
+    goblin_refusal_t refusal = {GOBLIN_STRTAB_RANGE, 0, past.size, past.offset, sizeof file, 1, past.offset};
     wanted.refusal = refusal;
     same("goblin_string", goblin_string(file, sizeof file, &past, 0, &got.range, why), GOBLIN_STRTAB_RANGE);
     goblin_range_t names = {wanted.note.name.offset - 1, 9};
@@ -186,6 +186,12 @@ static void read_all(void) {
 #include "fields.h"
 #undef FIELD
 #undef STRUCT
+}
+
+/* Tests what a call that is refused returned, and where in the file the thing begins that is refused. */
+static void refused(const char *what, uint32_t is, uint32_t should, const goblin_refusal_t *why, uint64_t offset) {
+    same(what, is, should);
+    same(what, why->offset, offset);
 }
 
 /* Tests each refusal that these calls return, by its name. */
@@ -200,33 +206,33 @@ static void refuse_all(void) {
     header(&given);
     same("goblin_header", goblin_header(file, sizeof file, &h, &why), GOBLIN_OK);
     given = h, given.e_shoff = sizeof file;
-    same("sections outside", goblin_section(file, sizeof file, &given, 0, &s, &why), GOBLIN_BAD_OFFSET);
+    refused("sections outside", goblin_section(file, sizeof file, &given, 0, &s, &why), GOBLIN_BAD_OFFSET, &why, sizeof file);
     given = h, given.e_shnum = given.e_phnum = 0xffff;
-    same("many sections", goblin_section(file, sizeof file, &given, 0, &s, &why), GOBLIN_BUFFER_TOO_SHORT);
+    refused("many sections", goblin_section(file, sizeof file, &given, 0, &s, &why), GOBLIN_BUFFER_TOO_SHORT, &why, h.e_shoff);
     same("many sections, item", why.item, GOBLIN_SECTION_HEADERS);
-    same("many segments", goblin_segment(file, sizeof file, &given, 0, &p, &why), GOBLIN_BUFFER_TOO_SHORT);
+    refused("many segments", goblin_segment(file, sizeof file, &given, 0, &p, &why), GOBLIN_BUFFER_TOO_SHORT, &why, h.e_phoff);
     same("many segments, item", why.item, GOBLIN_PROGRAM_HEADERS);
-    same("string of 0xee", goblin_string(file, sizeof file, &names, 0, &text, &why), GOBLIN_BAD_INPUT);
+    refused("string of 0xee", goblin_string(file, sizeof file, &names, 0, &text, &why), GOBLIN_BAD_INPUT, &why, names.offset);
     same("string of 0xee, item", why.item, GOBLIN_INVALID_UTF8);
-    same("alignment 16", goblin_note(file, sizeof file, &h, &names, 16, names.offset, &n, &why), GOBLIN_NOTE_ALIGN);
-    same("symbols at the end", goblin_symbol(file, sizeof file, &h, &range, 0, &y, &why), GOBLIN_SYMTAB_OFFSET);
+    refused("alignment 16", goblin_note(file, sizeof file, &h, &names, 16, names.offset, &n, &why), GOBLIN_NOTE_ALIGN, &why, names.offset);
+    refused("symbols at the end", goblin_symbol(file, sizeof file, &h, &range, 0, &y, &why), GOBLIN_SYMTAB_OFFSET, &why, range.offset);
     range.offset--, range.size = 24;
-    same("symbols past the end", goblin_symbol(file, sizeof file, &h, &range, 0, &y, &why), GOBLIN_SYMTAB_PAST);
-    same("strings past the end", goblin_string(file, sizeof file, &range, 0, &text, &why), GOBLIN_STRTAB_RANGE);
+    refused("symbols past the end", goblin_symbol(file, sizeof file, &h, &range, 0, &y, &why), GOBLIN_SYMTAB_PAST, &why, range.offset);
+    refused("strings past the end", goblin_string(file, sizeof file, &range, 0, &text, &why), GOBLIN_STRTAB_RANGE, &why, range.offset);
     range.offset += 2;
-    same("strings outside", goblin_string(file, sizeof file, &range, 0, &text, &why), GOBLIN_STRTAB_OFFSET);
-    same("15 bytes", goblin_header(file, 15, &h, &why), GOBLIN_TOO_SMALL);
-    same("51 bytes", goblin_header(file, 51, &h, &why), GOBLIN_TOO_BIG);
+    refused("strings outside", goblin_string(file, sizeof file, &range, 0, &text, &why), GOBLIN_STRTAB_OFFSET, &why, range.offset);
+    refused("15 bytes", goblin_header(file, 15, &h, &why), GOBLIN_TOO_SMALL, &why, 0);
+    refused("51 bytes", goblin_header(file, 51, &h, &why), GOBLIN_TOO_BIG, &why, 0);
     file[5] = 3;
-    same("order 3", goblin_header(file, sizeof file, &h, &why), GOBLIN_DATA_TYPE);
+    refused("order 3", goblin_header(file, sizeof file, &h, &why), GOBLIN_DATA_TYPE, &why, 0);
     file[4] = 3;
-    same("class 3", goblin_header(file, sizeof file, &h, &why), GOBLIN_ELF_CLASS);
+    refused("class 3", goblin_header(file, sizeof file, &h, &why), GOBLIN_ELF_CLASS, &why, 0);
     file[0] = 3;
-    same("magic number", goblin_header(file, sizeof file, &h, &why), GOBLIN_BAD_MAGIC);
+    refused("magic number", goblin_header(file, sizeof file, &h, &why), GOBLIN_BAD_MAGIC, &why, 0);
 }
 
-/* Tests each call with null pointers for empty files, names and arrays. */
-static void call_with_nulls(void) {
+/* Tests each call with null pointers for empty files, names and arrays, and with a `why` that may be null. */
+static void call_with_nulls(goblin_refusal_t *why) {
     goblin_header_t h;
     goblin_section_t s;
     goblin_segment_t p;
@@ -234,39 +240,38 @@ static void call_with_nulls(void) {
     goblin_reloc_t r;
     goblin_note_t n;
     goblin_range_t text, none = {0, 0}, some = {0, 1};
-    goblin_refusal_t why;
     uint64_t number;
     memset(&h, 0, sizeof h);
-    same("null: header", goblin_header(NULL, 0, &h, &why), GOBLIN_TOO_SMALL);
+    same("null: header", goblin_header(NULL, 0, &h, why), GOBLIN_TOO_SMALL);
     for (int i = 0; i < 2; i++) {
         uint32_t end = i ? GOBLIN_BAD_OFFSET : GOBLIN_END;
         h.e_shoff = (uint64_t)i;
-        same("null: sections", goblin_section_count(NULL, 0, &h, &number, &why), i ? GOBLIN_BAD_OFFSET : GOBLIN_OK);
-        same("null: section", goblin_section(NULL, 0, &h, 0, &s, &why), end);
-        same("null: section names", goblin_section_names(NULL, 0, &h, &s, &why), end);
-        same("null: table", goblin_linked_section(NULL, 0, &h, 1, &s, &why), end);
-        same("null: section by name", goblin_section_by_name(NULL, 0, &h, &none, NULL, 0, &number, &why), end);
-        same("null: section by type", goblin_section_by_type(NULL, 0, &h, 3, 0, &number, &why), end);
-        same("null: sections", goblin_sections(NULL, 0, &h, 0, NULL, 0, &number, &why), end);
+        same("null: sections", goblin_section_count(NULL, 0, &h, &number, why), i ? GOBLIN_BAD_OFFSET : GOBLIN_OK);
+        same("null: section", goblin_section(NULL, 0, &h, 0, &s, why), end);
+        same("null: section names", goblin_section_names(NULL, 0, &h, &s, why), end);
+        same("null: table", goblin_linked_section(NULL, 0, &h, 1, &s, why), end);
+        same("null: section by name", goblin_section_by_name(NULL, 0, &h, &none, NULL, 0, &number, why), end);
+        same("null: section by type", goblin_section_by_type(NULL, 0, &h, 3, 0, &number, why), end);
+        same("null: sections", goblin_sections(NULL, 0, &h, 0, NULL, 0, &number, why), end);
     }
-    same("null: segment", goblin_segment(NULL, 0, &h, 0, &p, &why), GOBLIN_END);
-    same("null: symbol", goblin_symbol(NULL, 0, &h, &none, 0, &y, &why), GOBLIN_SYMTAB_OFFSET);
-    same("null: symbols", goblin_symbols(NULL, 0, &h, &none, 0, NULL, 0, &number, &why), GOBLIN_SYMTAB_OFFSET);
-    same("null: symbol by name", goblin_symbol_by_name(NULL, 0, &h, &none, &none, NULL, 0, &number, &why),
+    same("null: segment", goblin_segment(NULL, 0, &h, 0, &p, why), GOBLIN_END);
+    same("null: symbol", goblin_symbol(NULL, 0, &h, &none, 0, &y, why), GOBLIN_SYMTAB_OFFSET);
+    same("null: symbols", goblin_symbols(NULL, 0, &h, &none, 0, NULL, 0, &number, why), GOBLIN_SYMTAB_OFFSET);
+    same("null: symbol by name", goblin_symbol_by_name(NULL, 0, &h, &none, &none, NULL, 0, &number, why),
          GOBLIN_SYMTAB_OFFSET);
-    same("null: symbol by address", goblin_symbol_by_address(NULL, 0, &h, &none, 0, &number, &why), GOBLIN_SYMTAB_OFFSET);
-    same("null: reloc", goblin_reloc(NULL, 0, &h, &none, true, 0, &r, &why), GOBLIN_END);
-    same("null: reloc", goblin_reloc(NULL, 0, &h, &some, true, 0, &r, &why), GOBLIN_BAD_OFFSET);
-    same("null: relocs", goblin_relocs(NULL, 0, &h, &none, false, 0, NULL, 0, &number, &why), GOBLIN_END);
-    same("null: note", goblin_note(NULL, 0, &h, &none, 4, 0, &n, &why), GOBLIN_END);
-    same("null: note", goblin_note(NULL, 0, &h, &some, 4, 0, &n, &why), GOBLIN_BAD_OFFSET);
-    same("null: segment count", goblin_segment_count(NULL, 0, &h, &number, &why), GOBLIN_OK);
-    same("null: symbol count", goblin_symbol_count(NULL, 0, &h, &none, &number, &why), GOBLIN_SYMTAB_OFFSET);
-    same("null: reloc count", goblin_reloc_count(NULL, 0, &h, &none, true, &number, &why), GOBLIN_OK);
-    same("null: string bytes", goblin_string_bytes(NULL, 0, &none, 0, &text, &why), GOBLIN_END);
-    same("null: number", goblin_number(NULL, 0, &h, 0, 8, &number, &why), GOBLIN_BAD_OFFSET);
-    same("null: string", goblin_string(NULL, 0, &none, 0, &text, &why), GOBLIN_END);
-    same("null: string", goblin_string(NULL, 0, &some, 0, &text, &why), GOBLIN_STRTAB_RANGE);
+    same("null: symbol by address", goblin_symbol_by_address(NULL, 0, &h, &none, 0, &number, why), GOBLIN_SYMTAB_OFFSET);
+    same("null: reloc", goblin_reloc(NULL, 0, &h, &none, true, 0, &r, why), GOBLIN_END);
+    same("null: reloc", goblin_reloc(NULL, 0, &h, &some, true, 0, &r, why), GOBLIN_BAD_OFFSET);
+    same("null: relocs", goblin_relocs(NULL, 0, &h, &none, false, 0, NULL, 0, &number, why), GOBLIN_END);
+    same("null: note", goblin_note(NULL, 0, &h, &none, 4, 0, &n, why), GOBLIN_END);
+    same("null: note", goblin_note(NULL, 0, &h, &some, 4, 0, &n, why), GOBLIN_BAD_OFFSET);
+    same("null: segment count", goblin_segment_count(NULL, 0, &h, &number, why), GOBLIN_OK);
+    same("null: symbol count", goblin_symbol_count(NULL, 0, &h, &none, &number, why), GOBLIN_SYMTAB_OFFSET);
+    same("null: reloc count", goblin_reloc_count(NULL, 0, &h, &none, true, &number, why), GOBLIN_OK);
+    same("null: string bytes", goblin_string_bytes(NULL, 0, &none, 0, &text, why), GOBLIN_END);
+    same("null: number", goblin_number(NULL, 0, &h, 0, 8, &number, why), GOBLIN_BAD_OFFSET);
+    same("null: string", goblin_string(NULL, 0, &none, 0, &text, why), GOBLIN_END);
+    same("null: string", goblin_string(NULL, 0, &some, 0, &text, why), GOBLIN_STRTAB_RANGE);
     same("null: class", goblin_class_to_str(1, NULL, 0), strlen("ELF32"));
     same("null: file type", goblin_et_to_str(3, NULL, 0), strlen("DYN"));
     same("null: machine", goblin_machine_to_str(62, NULL, 0), strlen("X86_64"));
@@ -277,19 +282,19 @@ static void call_with_nulls(void) {
     same("null: type", goblin_type_to_str(2, NULL, 0), strlen("FUNC"));
     same("null: visibility", goblin_visibility_to_str(0, NULL, 0), strlen("DEFAULT"));
     same("null: note type", goblin_note_type_to_str(NULL, 0, 3, NULL, 0), strlen("NT_GNU_BUILD_ID"));
-    same("null: text", goblin_refusal_text(&why, NULL, 0),
-         strlen("Malformed entity: Strtable size (1) + offset (0) is out of bounds for 0 #bytes. Overflowed: false"));
+    if (why) same("null: text", goblin_refusal_text(why, NULL, 0),
+                  strlen("Malformed entity: Strtable size (1) + offset (0) is out of bounds for 0 #bytes. Overflowed: false"));
     header(&h), symbol(&y), note(&n);
     goblin_range_t symbols = {0x700, wide == 8 ? 48U : 32U}, relocs = {0x800, wide * 6}, empty = {n.name.offset + 7, 1};
-    same("header", goblin_header(file, sizeof file, &h, &why), GOBLIN_OK);
-    same("no sections", goblin_sections(file, sizeof file, &h, 1, NULL, 0, &number, &why), GOBLIN_OK);
+    same("header", goblin_header(file, sizeof file, &h, why), GOBLIN_OK);
+    same("no sections", goblin_sections(file, sizeof file, &h, 1, NULL, 0, &number, why), GOBLIN_OK);
     same("no sections, filled", number, 0);
-    same("no symbols", goblin_symbols(file, sizeof file, &h, &symbols, 1, NULL, 0, &number, &why), GOBLIN_OK);
+    same("no symbols", goblin_symbols(file, sizeof file, &h, &symbols, 1, NULL, 0, &number, why), GOBLIN_OK);
     same("no symbols, filled", number, 0);
-    same("no relocs", goblin_relocs(file, sizeof file, &h, &relocs, true, 1, NULL, 0, &number, &why), GOBLIN_OK);
+    same("no relocs", goblin_relocs(file, sizeof file, &h, &relocs, true, 1, NULL, 0, &number, why), GOBLIN_OK);
     same("no relocs, filled", number, 0);
     /* The offset of the first symbol's name is 0xeeeeeeee, which is past these names. */
-    same("no name", goblin_symbol_by_name(file, sizeof file, &h, &symbols, &empty, NULL, 0, &number, &why), GOBLIN_END);
+    same("no name", goblin_symbol_by_name(file, sizeof file, &h, &symbols, &empty, NULL, 0, &number, why), GOBLIN_END);
 }
 
 /* Tests each byte of a field that goblin_layout has filled. */
@@ -320,6 +325,7 @@ static void assert_all(const goblin_layout_t *layout) {
 
 int main(int argc, char **argv) {
     goblin_layout_t layout;
+    goblin_refusal_t why;
     memset(&layout, 0xee, sizeof layout);
     goblin_layout(&layout);
     if (argc == 2 && !strcmp(argv[1], "assertions")) {
@@ -336,7 +342,7 @@ int main(int argc, char **argv) {
         wide = kind < 2 ? 8 : 4, is_big = kind % 2;
         read_all();
         refuse_all();
-        call_with_nulls();
+        call_with_nulls(&why), call_with_nulls(NULL);
     }
     if (wrong) return EXIT_FAILURE;
     printf("goblin.h and the library agree in %d comparisons\n", compared);

@@ -3,7 +3,7 @@
 // Made by faces/constants.py of the library's constants: do not edit.
 
 /** The number of the interface: `GOBLIN_VERSION` of `goblin.h`. */
-export const VERSION = 4;
+export const VERSION = 5;
 
 // ---- file headers ----
 

@@ -139,7 +139,7 @@ const WIDTHS = {
 
 // The structs of goblin.h: their fields in order, each with its number of bytes, or `s` for a signed number of 8 bytes.
 const records = {
-    refusal: record('kind 4 item 4 first 8 second 8 third 8 fourth 8'),
+    refusal: record('kind 4 item 4 first 8 second 8 third 8 fourth 8 offset 8'),
     range: record('offset 8 size 8'),
     header: record('e_entry 8 e_phoff 8 e_shoff 8 e_version 4 e_flags 4 e_type 2 e_machine 2 e_ehsize 2 e_phentsize 2 e_phnum 2'
         + ' e_shentsize 2 e_shnum 2 e_shstrndx 2 ei_class 1 ei_data 1 ei_version 1 ei_osabi 1 ei_abiversion 1'),
@@ -365,7 +365,7 @@ class Memory {
 
 /** Why a file or a part of it is refused. */
 export class GoblinError extends Error {
-    constructor(message, { kind, item, first, second, third, fourth }) {
+    constructor(message, { kind, item, first, second, third, fourth, offset }) {
         super(message);
         this.name = 'GoblinError';
         /** @type {number} the kind of the refusal, a number of `Kind` */
@@ -374,15 +374,17 @@ export class GoblinError extends Error {
         this.item = item;
         /** @type {bigint[]} the four numbers that belong to it, as in `goblin.h`; those that it does not have are 0 */
         this.numbers = [first, second, third, fourth];
+        /** @type {bigint} where in the file the thing begins that is refused */
+        this.offset = offset;
     }
 
     /**
      * Returns the object that `JSON.stringify` writes.
-     * @returns {{ name: string, message: string, kind: number, item: number, numbers: string[] }}
+     * @returns {{ name: string, message: string, kind: number, item: number, numbers: string[], offset: string }}
      */
     toJSON() {
-        const { name, message, kind, item, numbers } = this;
-        return { name, message, kind, item, numbers: numbers.map(String) };
+        const { name, message, kind, item, numbers, offset } = this;
+        return { name, message, kind, item, numbers: numbers.map(String), offset: String(offset) };
     }
 
     // Returns the refusal that a call has just written, with the library's text.
@@ -392,9 +394,10 @@ export class GoblinError extends Error {
     }
 
     // Returns the refusal of a section with another type than expected. Its first number is the type.
-    static of_type({ sh_type }, expected) {
+    static of_type({ sh_type, sh_offset }, expected) {
         const message = `A section of type 0x${sh_type.toString(16)} (${sht_to_str(sh_type)}) holds no ${expected}`;
-        return new GoblinError(message, { kind: Kind.SECTION_TYPE, item: 0, first: BigInt(sh_type), second: 0n, third: 0n, fourth: 0n });
+        const numbers = { first: BigInt(sh_type), second: 0n, third: 0n, fourth: 0n };
+        return new GoblinError(message, { kind: Kind.SECTION_TYPE, item: 0, ...numbers, offset: sh_offset });
     }
 }
 
@@ -414,7 +417,7 @@ export class Elf {
 
     constructor(bytes) {
         this.#memory = new Memory(bytes_of(bytes));
-        const header = this.#memory.call('goblin_header', 'header');
+        const header = this.#memory.call('goblin_c_header', 'header');
         this.#memory.pass(HEADER, 'header', header);
         /** @type {Readonly<Header>} the header */
         this.header = Object.freeze(header);
@@ -440,7 +443,7 @@ export class Elf {
      * @param {number | bigint} index
      * @returns {ProgramHeader | undefined}
      */
-    program_header(index) { return this.#call('goblin_segment', 'segment', unsigned(index, 64)); }
+    program_header(index) { return this.#call('goblin_c_segment', 'segment', unsigned(index, 64)); }
 
     /**
      * Returns all program headers.
@@ -453,7 +456,7 @@ export class Elf {
      * @param {number | bigint} index
      * @returns {SectionHeader | undefined}
      */
-    section_header(index) { return this.#call('goblin_section', 'section', unsigned(index, 64)); }
+    section_header(index) { return this.#call('goblin_c_section', 'section', unsigned(index, 64)); }
 
     /**
      * Returns all section headers.
@@ -476,7 +479,7 @@ export class Elf {
     section_by_name(name) {
         const bytes = this.#memory.pass_bytes(encoder.encode(name));
         const names = this.#memory.pass(NAMES, 'range', this.shdr_strtab().range);
-        return as_index(this.#call('goblin_section_by_name', 'number', names, ...bytes));
+        return as_index(this.#call('goblin_c_section_by_name', 'number', names, ...bytes));
     }
 
     /**
@@ -486,7 +489,7 @@ export class Elf {
      * @returns {number | undefined}
      */
     section_by_type(sh_type, first = 0) {
-        return as_index(this.#call('goblin_section_by_type', 'number', unsigned(sh_type, 32), unsigned(first, 64)));
+        return as_index(this.#call('goblin_c_section_by_type', 'number', unsigned(sh_type, 32), unsigned(first, 64)));
     }
 
     #section_at(index) { return index === undefined ? undefined : this.section_header(index); }
@@ -504,7 +507,7 @@ export class Elf {
      * @returns {Range | undefined}
      */
     section_range(section) {
-        return this.#memory.call('goblin_section_bytes', 'range', this.#memory.pass(ARGUMENT, 'section', section));
+        return this.#memory.call('goblin_c_section_bytes', 'range', this.#memory.pass(ARGUMENT, 'section', section));
     }
 
     /**
@@ -513,7 +516,7 @@ export class Elf {
      * @returns {Range | undefined}
      */
     segment_range(segment) {
-        return this.#memory.call('goblin_segment_bytes', 'range', this.#memory.pass(ARGUMENT, 'segment', segment));
+        return this.#memory.call('goblin_c_segment_bytes', 'range', this.#memory.pass(ARGUMENT, 'segment', segment));
     }
 
     /**
@@ -553,14 +556,14 @@ export class Elf {
      */
     number(offset, width) {
         if (![1, 2, 4, 8].includes(width)) throw new RangeError(`the width must be 1, 2, 4 or 8 bytes, not ${String(width)}`);
-        return this.#call('goblin_number', 'number', unsigned(offset, 64), unsigned(width, 64)).value;
+        return this.#call('goblin_c_number', 'number', unsigned(offset, 64), unsigned(width, 64)).value;
     }
 
     /**
      * Returns the string table of the section names. It is empty if the file has none.
      * @returns {Strtab}
      */
-    shdr_strtab() { return new Strtab(this.#memory, range_of(this.#call('goblin_section_names', 'section'))); }
+    shdr_strtab() { return new Strtab(this.#memory, range_of(this.#call('goblin_c_section_names', 'section'))); }
 
     /**
      * Returns a section as a string table. It is empty if there is no section, or if it has no bytes in the file.
@@ -575,7 +578,7 @@ export class Elf {
      * @param {SectionHeader} section
      * @returns {SectionHeader | undefined}
      */
-    linked_section(section) { return this.#call('goblin_linked_section', 'section', unsigned(section.sh_link, 64)); }
+    linked_section(section) { return this.#call('goblin_c_linked_section', 'section', unsigned(section.sh_link, 64)); }
 
     /**
      * Returns the symbols of a section of type SHT_SYMTAB or SHT_DYNSYM. Their names are in the linked section (`linked_section`). If there
@@ -658,7 +661,7 @@ export class Elf {
         try {
             for (let next = range.offset; notes.length < most; next = notes.at(-1).next) {
                 const argument = this.#memory.pass(ARGUMENT, 'range', range);
-                const fields = this.#call('goblin_note', 'note', argument, unsigned(alignment, 64), next);
+                const fields = this.#call('goblin_c_note', 'note', argument, unsigned(alignment, 64), next);
                 if (!fields) break;
                 notes.push(note(this.#memory, fields));
             }
@@ -768,7 +771,7 @@ export class List {
         this.#range = range;
         this.#convert = convert;
         this.#has_many = has_many;
-        this.#length = Number(memory.call(`goblin_${kind}_count`, 'number', ...this.#arguments()).value);
+        this.#length = Number(memory.call(`goblin_c_${kind}_count`, 'number', ...this.#arguments()).value);
     }
 
     #arguments() {
@@ -788,7 +791,7 @@ export class List {
      * @returns {T | undefined}
      */
     get(index) {
-        const item = this.#memory.call(`goblin_${this.#kind}`, this.#kind, ...this.#arguments(), unsigned(index, 64));
+        const item = this.#memory.call(`goblin_c_${this.#kind}`, this.#kind, ...this.#arguments(), unsigned(index, 64));
         return item && this.#convert(item);
     }
 
@@ -811,7 +814,7 @@ export class List {
     *from(first = 0, most = Infinity) {
         for (let next = unsigned(first, 64), left = most; left > 0;) {
             const items = this.#has_many
-                ? this.#memory.call_many(`goblin_${this.#kind}s`, this.#kind, left, next, ...this.#arguments())
+                ? this.#memory.call_many(`goblin_c_${this.#kind}s`, this.#kind, left, next, ...this.#arguments())
                 : [this.get(next)].filter((item) => item);
             if (items.length === 0) return;
             for (const item of items) yield this.#has_many ? this.#convert(item) : item;
@@ -913,7 +916,7 @@ export class Symtab extends List {
     by_address(address) {
         const memory = this.#memory;
         const table = memory.pass(ARGUMENT, 'range', this.#range);
-        return as_index(memory.call('goblin_symbol_by_address', 'number', memory.address(HEADER), table, unsigned(address, 64)));
+        return as_index(memory.call('goblin_c_symbol_by_address', 'number', memory.address(HEADER), table, unsigned(address, 64)));
     }
 
     /**
@@ -926,7 +929,7 @@ export class Symtab extends List {
         const bytes = memory.pass_bytes(encoder.encode(name));
         const table = memory.pass(ARGUMENT, 'range', this.#range);
         const names = memory.pass(NAMES, 'range', this.strtab.range);
-        return as_index(memory.call('goblin_symbol_by_name', 'number', memory.address(HEADER), table, names, ...bytes));
+        return as_index(memory.call('goblin_c_symbol_by_name', 'number', memory.address(HEADER), table, names, ...bytes));
     }
 }
 
@@ -951,7 +954,7 @@ export class Strtab {
      * @returns {string | undefined}
      */
     get(offset) {
-        const range = this.#read('goblin_string', this.range, offset);
+        const range = this.#read('goblin_c_string', this.range, offset);
         return range && this.#memory.string(range);
     }
 
@@ -961,7 +964,7 @@ export class Strtab {
      * @returns {Uint8Array | undefined}
      */
     get_bytes(offset) {
-        const range = this.#read('goblin_string_bytes', this.range, offset);
+        const range = this.#read('goblin_c_string_bytes', this.range, offset);
         return range && this.#memory.bytes(range);
     }
 
@@ -973,12 +976,12 @@ export class Strtab {
      */
     get_start(offset, most) {
         const { offset: start, size } = this.range;
-        if (!this.#is_accepted) this.#read('goblin_string_bytes', this.range, size);
+        if (!this.#is_accepted) this.#read('goblin_c_string_bytes', this.range, size);
         this.#is_accepted = true;
         const skipped = unsigned(offset, 64);
         if (skipped >= size) return undefined;
         const length = size - skipped < BigInt(most) ? size - skipped : BigInt(most);
-        const range = this.#read('goblin_string_bytes', { offset: start + skipped, size: length }, 0);
+        const range = this.#read('goblin_c_string_bytes', { offset: start + skipped, size: length }, 0);
         return range && this.#memory.bytes(range);
     }
 }

@@ -89,8 +89,8 @@ class Dump {
             item = told();
         } catch (error) {
             if (!(error instanceof goblin.GoblinError)) throw error;
-            const { kind, item, numbers: [first, second, third, fourth], message } = error;
-            this.lines.push(`${what}${fields({ kind, item, first, second, third, fourth })} ${message}`);
+            const { kind, item, numbers: [first, second, third, fourth], offset, message } = error;
+            this.lines.push(`${what}${fields({ kind, item, first, second, third, fourth, offset })} ${message}`);
             return undefined;
         }
         this.lines.push(what + (item === undefined ? ' none' : put(item)));

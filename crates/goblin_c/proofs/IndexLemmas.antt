@@ -9,10 +9,11 @@ use Rattle.std.proofs.lemmas.Option.{slice_get-map, slice_get_past}
 use Rattle.goblin_base.specs.declared.container.Container.{Container}
 use Rattle.goblin_base.specs.declared.container.Ctx.{Ctx}
 use Rattle.goblin_base.specs.declared.container.Endian.{Endian}
-use Rattle.goblin_base.specs.Refusal.{Refusal, refusal_of}
+use Rattle.goblin_base.specs.Refusal.{refusal_of}
 use Rattle.goblin_base.specs.Steps.{◌>>=◌, refuse_as}
 use Rattle.goblin.specs.declared.elf.header.Header.{Header}
 use Rattle.goblin.specs.declared.elf.section_header.SectionHeader.{SectionHeader}
+use Rattle.goblin_c.specs.Refused.{RefusalAt, refused_at}
 use Rattle.goblin_c.specs.declared.types.GoblinSection.{GoblinSection}
 use Rattle.goblin.specs.Header.{class_named, order_named}
 use Rattle.goblin.specs.RelocSection.{relocs_of}
@@ -73,7 +74,7 @@ one_context bytes h ctx has named =
     λ j. record { container = classes j; le = orders j }
 
 -- the items of a list for C by index, and how many they are
-listed : {X Y : Type 0} (convert : X → Y) (all : Result (List X) Refusal)
+listed : {X Y : Type 0} (convert : X → Y) (all : Result (List X) RefusalAt)
     → ReturnsEach convert all (item_of (each_converted convert all))
     × ReturnsCount all (count_of (each_converted convert all))
 listed convert (Ok items) =
@@ -97,7 +98,8 @@ pub relocs_by_index : RelocsByIndex
 relocs_by_index bytes h ctx range is_rela has named =
     let of_pair =
     λ (pair : Bool).
-    refuse_as refusal_of (relocs_of bytes range.offset range.size is_rela (ctx_of (header_converted h)) pair) in
+    refused_at range.offset
+    (refuse_as refusal_of (relocs_of bytes range.offset range.size is_rela (ctx_of (header_converted h)) pair)) in
     rw (← one_context bytes h ctx has named)
     (subst (λ (pair : Bool).
     ReturnsEach reloc_converted (of_pair pair) (reloc_expected bytes (header_converted h) range is_rela)
@@ -125,7 +127,7 @@ given items first false is =
     let some : first < length items = leb-false (length items) first is in
     (omega (arith, length-drop first items), λ k. ap Ok (behind items first k))
 
-from : {X : Type 0} (all : Result (List X) Refusal) (first : ℕ)
+from : {X : Type 0} (all : Result (List X) RefusalAt) (first : ℕ)
     → GivenFrom {Y = X} first (item_of all) (items_from all first)
 from (Ok items) first = given items first (nat_le (length items) first) refl
 from (Err refusal) first = λ index. refl
@@ -138,7 +140,7 @@ filled_by_index = record {
 }
 
 -- the table at an index is the section that is stored there
-table_there : (all : Result (List GoblinSection) Refusal) (index : ℕ)
+table_there : (all : Result (List GoblinSection) RefusalAt) (index : ℕ)
     → (all >>= λ items. Ok (table_at items index)) ≡ table_converted index (item_of all index)
 table_there (Ok items) index = refl
 table_there (Err refusal) index = refl
@@ -147,14 +149,14 @@ pub tables_by_index : TablesByIndex
 tables_by_index bytes h index = table_there (sections_converted bytes h) index
 
 -- the table with the index in the header, or the one that the first section links to
-in_header : (all : Result (List SectionHeader) Refusal) (index : ℕ)
+in_header : (all : Result (List SectionHeader) RefusalAt) (index : ℕ)
     → (index == 0xffff) ≡ false
     → (all >>= λ items. Ok (table_at (map section_converted items) (names_index index (slice_get items 0))))
     ≡ (each_converted section_converted all >>= λ items. Ok (table_at items index))
 in_header (Ok items) index other = rw other refl
 in_header (Err refusal) index other = refl
 
-in_first : (all : Result (List SectionHeader) Refusal) (first : GoblinSection)
+in_first : (all : Result (List SectionHeader) RefusalAt) (first : GoblinSection)
     → item_of (each_converted section_converted all) 0 ≡ Ok (Some first)
     → (all >>= λ items. Ok (table_at (map section_converted items) (link_of (slice_get items 0))))
     ≡ (each_converted section_converted all >>= λ items. Ok (table_at items first.sh_link))

@@ -9,6 +9,7 @@ use Rattle.goblin.specs.declared.elf.note.NotePlaces.{NotePlaces}
 use Rattle.goblin.specs.Nhdr.{nhdr32_size}
 use Rattle.goblin.specs.Note.{NoteParts, note_there, places_at, note_at, note_items, item_and_rest}
 use Rattle.goblin.specs.NoteLaws.{at_ok, note_by_note, places_lie_within}
+use Rattle.goblin_c.specs.Refused.{RefusalAt, refused_at}
 use Rattle.goblin_c.specs.declared.types.GoblinHeader.{GoblinHeader}
 use Rattle.goblin_c.specs.declared.types.GoblinNote.{GoblinNote}
 use Rattle.goblin_c.specs.declared.types.GoblinRange.{GoblinRange}
@@ -35,7 +36,7 @@ items_of : (past : Bool) (bytes : List ℕ) (answer : Result NotePlaces Refusal)
     else item_and_rest (answer >>= λ places. Ok (note_there (drop offset bytes) places, places.next))
     (λ len. rest (offset + len)))
     ≡ items_reported bytes
-    (if past then Ok None else (answer >>= λ places. Ok (Some (note_converted offset places)))) rest
+    (if past then Ok None else (refused_at offset answer >>= λ places. Ok (Some (note_converted offset places)))) rest
 items_of true bytes answer offset rest = refl
 items_of false bytes (Ok places) offset rest = λ j. Ok (note_same bytes offset places j) ∷ rest (offset + places.next)
 items_of false bytes (Err refusal) offset rest = refl
@@ -56,13 +57,13 @@ notes_are_items notes h range alignment over =
     rw (over.0, over.1) (items_there notes.bytes.now h range alignment notes.offset)
 
 -- one more call stores one more item
-one_more : (bytes : List ℕ) (answer : Result (Option GoblinNote) Refusal) (calls : ℕ)
+one_more : (bytes : List ℕ) (answer : Result (Option GoblinNote) RefusalAt) (calls : ℕ)
     (f g : ℕ → List (Result NoteParts Refusal))
     → ((next : ℕ) → f next ≡ take calls (g next))
     → items_reported bytes answer f ≡ take (suc calls) (items_reported bytes answer g)
 one_more bytes (Ok None) calls f g same = refl
 one_more bytes (Ok (Some note)) calls f g same = ap (λ rest. Ok (note_in bytes note) ∷ rest) (same note.next)
-one_more bytes (Err refusal) calls f g same = ap (λ rest. Err refusal ∷ rest) (sym (take-nil calls))
+one_more bytes (Err why) calls f g same = ap (λ rest. Err why.refusal ∷ rest) (sym (take-nil calls))
 
 in_a_row : (calls : ℕ) (bytes : List ℕ) (h : GoblinHeader) (range : GoblinRange) (alignment offset : ℕ)
     → notes_reported calls bytes h range alignment offset
@@ -81,7 +82,7 @@ notes_in_a_row calls notes h range alignment over =
 pub notes_lie_in_file : NotesLieInFile
 notes_lie_in_file bytes h range alignment offset note is =
     let ctx : ℕ × Ctx = (alignment, ctx_of h) in
-    let steps = one_converted (nat_le (range.offset + range.size) offset) (places_at bytes offset ctx)
+    let steps = one_converted (nat_le (range.offset + range.size) offset) offset (places_at bytes offset ctx)
     (note_converted offset) note is in
     let within = at_ok (places_at bytes offset ctx) steps.0 _ steps.2 (places_lie_within bytes offset ctx) in
     subst (λ (n : GoblinNote). LiesIn bytes n.name × LiesIn bytes n.desc × (offset + nhdr32_size ≤ n.next))

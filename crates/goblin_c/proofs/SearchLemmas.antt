@@ -8,8 +8,8 @@ use Rattle.std.proofs.lemmas.List.Sums.{fails_before_first}
 use Rattle.std.proofs.lemmas.Option.{get_or_from_slice_get, slice_get-get_or, slice_get-map, slice_get_within}
 use Rattle.std.specs.Bool.{Decides}
 use Rattle.std.specs.Option.{option_map}
-use Rattle.goblin_base.specs.Refusal.{Refusal}
 use Rattle.goblin_base.specs.Steps.{◌>>=◌}
+use Rattle.goblin_c.specs.Refused.{RefusalAt}
 use Rattle.goblin_c.specs.declared.types.GoblinSection.{GoblinSection}
 use Rattle.goblin_c.specs.Answers.{each_converted, item_of, section_converted, sections_expected}
 use Rattle.goblin_c.specs.Laws.{FindsFrom, RefusesAll, SectionsByType}
@@ -40,7 +40,7 @@ all_fail test items k x none found =
 
 -- the item that an item for C was converted from
 converted_one : {X Y : Type 0} (convert : X → Y) (items : List X) (k : ℕ) (y : Y)
-    → ◌≡◌ {A = Result (Option Y) Refusal} (Ok (slice_get (map convert items) k)) (Ok (Some y))
+    → ◌≡◌ {A = Result (Option Y) RefusalAt} (Ok (slice_get (map convert items) k)) (Ok (Some y))
     → (x : X) × (slice_get items k ≡ Some x) × (y ≡ convert x)
 converted_one convert [] k y is = absurd (cc)
 converted_one convert (x ∷ items) zero y is = (x, refl, cc)
@@ -62,14 +62,14 @@ from_none None = refl
 module _ {X Y : Type 0} (convert : X → Y) (IsSo : Y → Type 0) (test : X → Bool)
     (decides : (x : X) → Decides (test x) (IsSo (convert x))) where
   not_so : (items : List X) (first k : ℕ) (y : Y)
-      → first ≤ k → ◌≡◌ {A = Result (Option Y) Refusal} (Ok (slice_get (map convert items) k)) (Ok (Some y))
+      → first ≤ k → ◌≡◌ {A = Result (Option Y) RefusalAt} (Ok (slice_get (map convert items) k)) (Ok (Some y))
       → ((x : X) → slice_get (drop first items) (k - first) ≡ Some x → test x ≡ false)
       → ¬ (IsSo y)
   not_so items first k y after stored fails so =
       let one = converted_one convert items k y stored in
       true≢false (sym ((decides one.0).1 (subst IsSo one.2 so)) ∙ fails one.0 (there items first k one.0 after one.1))
 
-  pub finds : (Refuses : Refusal → Type 0) (items : List X) (first : ℕ) (found : Option ℕ)
+  pub finds : (Refuses : RefusalAt → Type 0) (items : List X) (first : ℕ) (found : Option ℕ)
       → position test (drop first items) ≡ found
       → FindsFrom first
       (λ index. Ok (slice_get (map convert items) index)) IsSo Refuses (Ok (option_map (λ place. first + place) found))
@@ -89,7 +89,7 @@ module _ {X Y : Type 0} (convert : X → Y) (IsSo : Y → Type 0) (test : X → 
       λ k y after stored.
       not_so items first k y after stored (λ x found. all_fail test (drop first items) (k - first) x is found)
 
-  from_list : (all : Result (List X) Refusal) (first : ℕ) → let call = item_of (each_converted convert all) in
+  from_list : (all : Result (List X) RefusalAt) (first : ℕ) → let call = item_of (each_converted convert all) in
       FindsFrom first call IsSo (RefusesAll call)
       (all >>= λ items. Ok (option_map (λ place. first + place) (position test (drop first items))))
   from_list (Ok items) first =

@@ -1,12 +1,13 @@
 -- Values of steps.
-use Rattle.std.proofs.Common.{◌≡◌, Bool, true, false, if◌then◌else◌, Some, None, Result, Ok, Err, refl}
+use Rattle.std.proofs.Common.{◌≡◌, ℕ, Bool, true, false, if◌then◌else◌, Some, None, Result, Ok, Err, refl}
 use Rattle.goblin_base.specs.Refusal.{Refusal}
 use Rattle.goblin_base.specs.Steps.{◌>>=◌}
+use Rattle.goblin_c.specs.Refused.{refused_at}
 
 -- an item for C was read, and is this item converted
-pub one_converted : {X Y : Type 0} (past : Bool) (answer : Result X Refusal) (convert : X → Y) (found : Y)
-    → (if past then Ok None else (answer >>= λ x. Ok (Some (convert x)))) ≡ Ok (Some found)
+pub one_converted : {X Y : Type 0} (past : Bool) (offset : ℕ) (answer : Result X Refusal) (convert : X → Y) (found : Y)
+    → (if past then Ok None else (refused_at offset answer >>= λ x. Ok (Some (convert x)))) ≡ Ok (Some found)
     → (x : X) × (past ≡ false) × (answer ≡ Ok x) × (found ≡ convert x)
-one_converted true answer convert found is = absurd (cc)
-one_converted false (Ok x) convert found is = (x, refl, refl, cc)
-one_converted false (Err e) convert found is = absurd (cc)
+one_converted true offset answer convert found is = absurd (cc)
+one_converted false offset (Ok x) convert found is = (x, refl, refl, cc)
+one_converted false offset (Err e) convert found is = absurd (cc)

@@ -10,9 +10,9 @@ use Rattle.std.proofs.Math.Seq.{drop-drop, take-take}
 use Rattle.std.specs.Bool.{Decides}
 use Rattle.std.specs.List.{before_first, position_or_len}
 use Rattle.goblin_base.specs.Pieces.{piece}
-use Rattle.goblin_base.specs.Refusal.{Refusal}
 use Rattle.goblin_base.specs.Steps.{◌>>=◌}
 use Rattle.goblin_base.specs.Strtab.{has_name, is_text_of, plain, range_in}
+use Rattle.goblin_c.specs.Refused.{RefusalAt, refused_at}
 use Rattle.goblin_c.specs.declared.types.GoblinRange.{GoblinRange}
 use Rattle.goblin_c.specs.Answers.{each_converted, is_named, item_of, section_converted, sections_expected}
 use Rattle.goblin_c.specs.Answers.{string_expected, strings_expected, symbol_converted, symbols_expected}
@@ -76,7 +76,8 @@ string_is : (bytes : List ℕ) (range : GoblinRange) (offset : ℕ) (strings : L
     → strings_expected bytes range ≡ Ok strings → string_expected bytes range offset ≡ Ok (Some place)
     → (text : List ℕ) × (offset < length strings) × (plain strings 0 offset ≡ Ok text) × (bytes_in bytes place ≡ text)
 string_is bytes range offset strings place found is =
-    let steps = one_converted (nat_le (length strings) offset) (plain strings 0 offset) (place_of range offset) place
+    let steps = one_converted (nat_le (length strings) offset) (range.offset + offset) (plain strings 0 offset)
+    (place_of range offset) place
     (rw found at is) in
     let before : offset < length strings = (let test = steps.1 in grind (arith, nat_tests)) in (
       steps.0,
@@ -87,12 +88,12 @@ string_is bytes range offset strings place found is =
 
 -- there is a string table if there is one of its strings
 strings_there : (bytes : List ℕ) (range : GoblinRange) (offset : ℕ) (place : GoblinRange)
-    (answer : Result (List ℕ) Refusal)
+    (answer : Result (List ℕ) RefusalAt)
     → strings_expected bytes range ≡ answer → string_expected bytes range offset ≡ Ok (Some place)
-    → (answer >>= λ strings. plain strings 0 offset) ≡ Ok (bytes_in bytes place)
+    → (answer >>= λ strings. refused_at (range.offset + offset) (plain strings 0 offset)) ≡ Ok (bytes_in bytes place)
 strings_there bytes range offset place (Ok strings) found is =
     let there = string_is bytes range offset strings place found is in
-    there.2 ∙ ap Ok (sym there.3)
+    ap (refused_at (range.offset + offset)) there.2 ∙ ap Ok (sym there.3)
 strings_there bytes range offset place (Err e) found is = let refused = rw found at is in absurd (cc)
 
 pub strings_are_there : StringsAreThere
@@ -132,14 +133,14 @@ named-Decides bytes names name strings offset found = (
 )
 
 -- without a string table no string has a range
-no_strings : (bytes : List ℕ) (range : GoblinRange) (e : Refusal)
+no_strings : (bytes : List ℕ) (range : GoblinRange) (e : RefusalAt)
     → strings_expected bytes range ≡ Err e → RefusesAll (string_expected bytes range) e
 no_strings bytes range e refused offset = rw refused refl
 
 -- what is found by a name, in the strings of a range
 module _ {X Y : Type 0} (convert : X → Y) (bytes : List ℕ) (names : GoblinRange) (HasTheName : Y → Type 0)
     (test : List ℕ → X → Bool) where
-  by_name : (all : Result (List X) Refusal) (strings : Result (List ℕ) Refusal)
+  by_name : (all : Result (List X) RefusalAt) (strings : Result (List ℕ) RefusalAt)
       → strings_expected bytes names ≡ strings
       → ((read : List ℕ) → strings_expected bytes names ≡ Ok read → (x : X)
       → Decides (test read x) (HasTheName (convert x)))

@@ -6,7 +6,7 @@ use Rattle.goblin_base.specs.declared.container.Ctx.{Ctx}
 use Rattle.goblin_base.specs.declared.container.Container.TheVariants as class
 use Rattle.goblin_base.specs.declared.container.Endian.TheVariants as endian
 use Rattle.goblin_base.specs.declared.options.ParseMode.TheVariants.{Strict}
-use Rattle.goblin_base.specs.Refusal.{Refusal, malformed, refusal_of}
+use Rattle.goblin_base.specs.Refusal.{malformed, refusal_of}
 use Rattle.goblin_base.specs.Steps.{◌>>=◌, refuse_as}
 use Rattle.goblin_base.specs.Strtab.{range_in, plain, has_name, unparsed}
 use Rattle.goblin.specs.Addresses.{symbol_at}
@@ -21,6 +21,7 @@ use Rattle.goblin.specs.ProgramHeaders.{program_headers_from}
 use Rattle.goblin.specs.declared.elf.reloc.Reloc.{Reloc}
 use Rattle.goblin.specs.RelocSection.{is_mips64el_in, relocs_of}
 use Rattle.goblin.specs.Symtab.{symtab_of}
+use Rattle.goblin_c.specs.Refused.{RefusalAt, refused_at}
 use Rattle.goblin_c.specs.declared.types.GoblinHeader.{GoblinHeader}
 use Rattle.goblin_c.specs.declared.types.GoblinRange.{GoblinRange}
 use Rattle.goblin_c.specs.declared.types.GoblinSection.{GoblinSection}
@@ -107,89 +108,90 @@ ctx_of h = record {
 }
 
 -- the header at a file's start
-abbrev pub header_expected : List ℕ → Result (Option GoblinHeader) Refusal
+abbrev pub header_expected : List ℕ → Result (Option GoblinHeader) RefusalAt
 header_expected bytes = do
-  read ← refuse_as refusal_of (read_header bytes)
+  read ← refused_at 0 (refuse_as refusal_of (read_header bytes))
   Ok (Some (header_converted read.0))
 
 -- the section headers of a file, as the library reads them at once
-abbrev pub sections_expected : List ℕ → GoblinHeader → Result (List SectionHeader) Refusal
-sections_expected bytes h = section_headers_of bytes h.e_shoff h.e_shnum (ctx_of h)
+abbrev pub sections_expected : List ℕ → GoblinHeader → Result (List SectionHeader) RefusalAt
+sections_expected bytes h = refused_at h.e_shoff (section_headers_of bytes h.e_shoff h.e_shnum (ctx_of h))
 
 -- the items of a list for C
-abbrev pub each_converted : {X Y : Type 0} → (X → Y) → Result (List X) Refusal → Result (List Y) Refusal
+abbrev pub each_converted : {X Y : Type 0} → (X → Y) → Result (List X) RefusalAt → Result (List Y) RefusalAt
 each_converted convert list = do
   items ← list
   Ok (map convert items)
 
 -- how many items a list has
-abbrev pub count_of : {X : Type 0} → Result (List X) Refusal → Result (Option ℕ) Refusal
+abbrev pub count_of : {X : Type 0} → Result (List X) RefusalAt → Result (Option ℕ) RefusalAt
 count_of list = do
   items ← list
   Ok (Some (length items))
 
 -- its item at an index: none past the last one
-abbrev pub item_of : {X : Type 0} → Result (List X) Refusal → ℕ → Result (Option X) Refusal
+abbrev pub item_of : {X : Type 0} → Result (List X) RefusalAt → ℕ → Result (Option X) RefusalAt
 item_of list index = do
   items ← list
   Ok (slice_get items index)
 
 -- its items from an index on: none past the last one
-abbrev pub items_from : {X : Type 0} → Result (List X) Refusal → ℕ → Result (Option (List X)) Refusal
+abbrev pub items_from : {X : Type 0} → Result (List X) RefusalAt → ℕ → Result (Option (List X)) RefusalAt
 items_from list first = do
   items ← list
   Ok (if nat_le (length items) first then None else Some (drop first items))
 
 -- the section headers for C, one by its index, from an index on, and how many there are
-abbrev pub sections_converted : List ℕ → GoblinHeader → Result (List GoblinSection) Refusal
+abbrev pub sections_converted : List ℕ → GoblinHeader → Result (List GoblinSection) RefusalAt
 sections_converted bytes h = each_converted section_converted (sections_expected bytes h)
 
-abbrev pub section_expected : List ℕ → GoblinHeader → ℕ → Result (Option GoblinSection) Refusal
+abbrev pub section_expected : List ℕ → GoblinHeader → ℕ → Result (Option GoblinSection) RefusalAt
 section_expected bytes h index = item_of (sections_converted bytes h) index
 
-abbrev pub sections_from_expected : List ℕ → GoblinHeader → ℕ → Result (Option (List GoblinSection)) Refusal
+abbrev pub sections_from_expected : List ℕ → GoblinHeader → ℕ → Result (Option (List GoblinSection)) RefusalAt
 sections_from_expected bytes h first = items_from (sections_converted bytes h) first
 
-abbrev pub section_count_expected : List ℕ → GoblinHeader → Result (Option ℕ) Refusal
+abbrev pub section_count_expected : List ℕ → GoblinHeader → Result (Option ℕ) RefusalAt
 section_count_expected bytes h = count_of (sections_converted bytes h)
 
 -- the program headers of a file, as the library reads them at once
-abbrev pub segments_expected : List ℕ → GoblinHeader → Result (List ProgramHeader) Refusal
-segments_expected bytes h = program_headers_from bytes h.e_phoff h.e_phnum (ctx_of h)
+abbrev pub segments_expected : List ℕ → GoblinHeader → Result (List ProgramHeader) RefusalAt
+segments_expected bytes h = refused_at h.e_phoff (program_headers_from bytes h.e_phoff h.e_phnum (ctx_of h))
 
 -- they for C, one by its index, and how many there are
-abbrev pub segments_converted : List ℕ → GoblinHeader → Result (List GoblinSegment) Refusal
+abbrev pub segments_converted : List ℕ → GoblinHeader → Result (List GoblinSegment) RefusalAt
 segments_converted bytes h = each_converted segment_converted (segments_expected bytes h)
 
-abbrev pub segment_expected : List ℕ → GoblinHeader → ℕ → Result (Option GoblinSegment) Refusal
+abbrev pub segment_expected : List ℕ → GoblinHeader → ℕ → Result (Option GoblinSegment) RefusalAt
 segment_expected bytes h index = item_of (segments_converted bytes h) index
 
-abbrev pub segment_count_expected : List ℕ → GoblinHeader → Result (Option ℕ) Refusal
+abbrev pub segment_count_expected : List ℕ → GoblinHeader → Result (Option ℕ) RefusalAt
 segment_count_expected bytes h = count_of (segments_converted bytes h)
 
 -- the index of the first section of a type, from an index on
-abbrev pub section_by_type_expected : List ℕ → GoblinHeader → ℕ → ℕ → Result (Option ℕ) Refusal
+abbrev pub section_by_type_expected : List ℕ → GoblinHeader → ℕ → ℕ → Result (Option ℕ) RefusalAt
 section_by_type_expected bytes h sh_type first = do
   sections ← sections_expected bytes h
   Ok (option_map (λ place. first + place) (position (λ section. section.sh_type == sh_type) (drop first sections)))
 
 -- the symbols of a range, as many as lie in it whole
-abbrev pub symbols_expected : List ℕ → GoblinHeader → GoblinRange → Result (List Sym) Refusal
-symbols_expected bytes h range = do
-  table ← refuse_as refusal_of (symtab_of bytes range.offset (range.size / sym_size (ctx_of h).container) (ctx_of h))
+abbrev pub symbols_expected : List ℕ → GoblinHeader → GoblinRange → Result (List Sym) RefusalAt
+symbols_expected bytes h range = let count = range.size / sym_size (ctx_of h).container in do
+  table ← refused_at range.offset (refuse_as refusal_of (symtab_of bytes range.offset count (ctx_of h)))
   Ok table.symbols
 
 -- they for C, one by its index, from an index on, and how many there are
-abbrev pub symbols_converted : List ℕ → GoblinHeader → GoblinRange → Result (List GoblinSymbol) Refusal
+abbrev pub symbols_converted : List ℕ → GoblinHeader → GoblinRange → Result (List GoblinSymbol) RefusalAt
 symbols_converted bytes h range = each_converted symbol_converted (symbols_expected bytes h range)
 
-abbrev pub symbol_expected : List ℕ → GoblinHeader → GoblinRange → ℕ → Result (Option GoblinSymbol) Refusal
+abbrev pub symbol_expected : List ℕ → GoblinHeader → GoblinRange → ℕ → Result (Option GoblinSymbol) RefusalAt
 symbol_expected bytes h range index = item_of (symbols_converted bytes h range) index
 
-abbrev pub symbols_from_expected : List ℕ → GoblinHeader → GoblinRange → ℕ → Result (Option (List GoblinSymbol)) Refusal
+abbrev pub symbols_from_expected : List ℕ
+    → GoblinHeader → GoblinRange → ℕ → Result (Option (List GoblinSymbol)) RefusalAt
 symbols_from_expected bytes h range first = items_from (symbols_converted bytes h range) first
 
-abbrev pub symbol_count_expected : List ℕ → GoblinHeader → GoblinRange → Result (Option ℕ) Refusal
+abbrev pub symbol_count_expected : List ℕ → GoblinHeader → GoblinRange → Result (Option ℕ) RefusalAt
 symbol_count_expected bytes h range = count_of (symbols_converted bytes h range)
 
 -- whether a file is a little endian one for MIPS64
@@ -197,36 +199,38 @@ abbrev pub is_mips64el : GoblinHeader → Bool
 is_mips64el h = is_mips64el_in h.e_machine (ctx_of h)
 
 -- the relocations of a range
-abbrev pub relocs_expected : List ℕ → GoblinHeader → GoblinRange → Bool → Result (List Reloc) Refusal
+abbrev pub relocs_expected : List ℕ → GoblinHeader → GoblinRange → Bool → Result (List Reloc) RefusalAt
 relocs_expected bytes h range is_rela =
-    refuse_as refusal_of (relocs_of bytes range.offset range.size is_rela (ctx_of h) (is_mips64el h))
+    let relocs = relocs_of bytes range.offset range.size is_rela (ctx_of h) (is_mips64el h) in
+    refused_at range.offset (refuse_as refusal_of relocs)
 
 -- they for C, one by its index, from an index on, and how many there are
-abbrev pub relocs_converted : List ℕ → GoblinHeader → GoblinRange → Bool → Result (List GoblinReloc) Refusal
+abbrev pub relocs_converted : List ℕ → GoblinHeader → GoblinRange → Bool → Result (List GoblinReloc) RefusalAt
 relocs_converted bytes h range is_rela = each_converted reloc_converted (relocs_expected bytes h range is_rela)
 
-abbrev pub reloc_expected : List ℕ → GoblinHeader → GoblinRange → Bool → ℕ → Result (Option GoblinReloc) Refusal
+abbrev pub reloc_expected : List ℕ → GoblinHeader → GoblinRange → Bool → ℕ → Result (Option GoblinReloc) RefusalAt
 reloc_expected bytes h range is_rela index = item_of (relocs_converted bytes h range is_rela) index
 
 abbrev pub relocs_from_expected : List ℕ
-    → GoblinHeader → GoblinRange → Bool → ℕ → Result (Option (List GoblinReloc)) Refusal
+    → GoblinHeader → GoblinRange → Bool → ℕ → Result (Option (List GoblinReloc)) RefusalAt
 relocs_from_expected bytes h range is_rela first = items_from (relocs_converted bytes h range is_rela) first
 
-abbrev pub reloc_count_expected : List ℕ → GoblinHeader → GoblinRange → Bool → Result (Option ℕ) Refusal
+abbrev pub reloc_count_expected : List ℕ → GoblinHeader → GoblinRange → Bool → Result (Option ℕ) RefusalAt
 reloc_count_expected bytes h range is_rela = count_of (relocs_converted bytes h range is_rela)
 
 -- the bytes of a range of strings
-abbrev pub strings_expected : List ℕ → GoblinRange → Result (List ℕ) Refusal
-strings_expected bytes range = refuse_as malformed (range_in Strict bytes range.offset range.size)
+abbrev pub strings_expected : List ℕ → GoblinRange → Result (List ℕ) RefusalAt
+strings_expected bytes range =
+    refused_at range.offset (refuse_as malformed (range_in Strict bytes range.offset range.size))
 
 -- where the string at an offset of the strings of a range lies in the file, without the zero byte that closes it: the
 -- plain reading
-abbrev pub string_expected : List ℕ → GoblinRange → ℕ → Result (Option GoblinRange) Refusal
+abbrev pub string_expected : List ℕ → GoblinRange → ℕ → Result (Option GoblinRange) RefusalAt
 string_expected bytes range offset = do
   strings ← strings_expected bytes range
   if nat_le (length strings) offset then Ok None
       else do
-        text ← plain strings 0 offset
+        text ← refused_at (range.offset + offset) (plain strings 0 offset)
         Ok (Some (record { offset = range.offset + offset; size = length text }))
 
 -- whether the plain reading at an offset of some strings is a name
@@ -234,21 +238,21 @@ abbrev pub is_named : List ℕ → List ℕ → ℕ → Bool
 is_named strings name offset = has_name (unparsed strings 0) offset name
 
 -- the index of the first section, and of the first symbol, with a name
-abbrev pub section_by_name_expected : List ℕ → GoblinHeader → GoblinRange → List ℕ → Result (Option ℕ) Refusal
+abbrev pub section_by_name_expected : List ℕ → GoblinHeader → GoblinRange → List ℕ → Result (Option ℕ) RefusalAt
 section_by_name_expected bytes h names name = do
   sections ← sections_expected bytes h
   strings ← strings_expected bytes names
   Ok (position (λ section. is_named strings name section.sh_name) sections)
 
 abbrev pub symbol_by_name_expected : List ℕ
-    → GoblinHeader → GoblinRange → GoblinRange → List ℕ → Result (Option ℕ) Refusal
+    → GoblinHeader → GoblinRange → GoblinRange → List ℕ → Result (Option ℕ) RefusalAt
 symbol_by_name_expected bytes h range names name = do
   symbols ← symbols_expected bytes h range
   strings ← strings_expected bytes names
   Ok (position (λ symbol. is_named strings name symbol.st_name) symbols)
 
 -- the index of the symbol of a range that an address lies in
-abbrev pub symbol_by_address_expected : List ℕ → GoblinHeader → GoblinRange → ℕ → Result (Option ℕ) Refusal
+abbrev pub symbol_by_address_expected : List ℕ → GoblinHeader → GoblinRange → ℕ → Result (Option ℕ) RefusalAt
 symbol_by_address_expected bytes h range address = do
   symbols ← symbols_expected bytes h range
   Ok (symbol_at address symbols)
@@ -262,13 +266,13 @@ abbrev pub table_at : List GoblinSection → ℕ → Option GoblinSection
 table_at sections index = table_of index (slice_get sections index)
 
 -- the table at an index
-abbrev pub table_expected : List ℕ → GoblinHeader → ℕ → Result (Option GoblinSection) Refusal
+abbrev pub table_expected : List ℕ → GoblinHeader → ℕ → Result (Option GoblinSection) RefusalAt
 table_expected bytes h index = do
   sections ← sections_converted bytes h
   Ok (table_at sections index)
 
 -- the section that holds the sections' names, if it is a table
-abbrev pub section_names_expected : List ℕ → GoblinHeader → Result (Option GoblinSection) Refusal
+abbrev pub section_names_expected : List ℕ → GoblinHeader → Result (Option GoblinSection) RefusalAt
 section_names_expected bytes h = do
   sections ← sections_expected bytes h
   Ok (table_at (map section_converted sections) (names_index h.e_shstrndx (slice_get sections 0)))

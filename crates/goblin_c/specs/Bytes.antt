@@ -3,9 +3,10 @@ use Rattle.std.specs.Prelude.{ℕ, ◌+◌, ◌==◌, ◌||◌, not, nat_le, if�
 use Rattle.std.specs.Prelude.{Result, Ok}
 use Rattle.goblin_base.specs.Number.{number_at}
 use Rattle.goblin_base.specs.Pieces.{piece}
-use Rattle.goblin_base.specs.Refusal.{Refusal, misplaced}
+use Rattle.goblin_base.specs.Refusal.{misplaced}
 use Rattle.goblin_base.specs.Room.{room_of}
 use Rattle.goblin_base.specs.Steps.{◌>>=◌, refuse_as}
+use Rattle.goblin_c.specs.Refused.{RefusalAt, refused_at}
 use Rattle.goblin_c.specs.Answers.{ctx_of, strings_expected}
 use Rattle.goblin_c.specs.declared.types.GoblinHeader.{GoblinHeader}
 use Rattle.goblin_c.specs.declared.types.GoblinRange.{GoblinRange}
@@ -22,21 +23,21 @@ abbrev pub segment_has_bytes : GoblinSegment → Bool
 segment_has_bytes s = not (s.p_type == 0 || s.file.size == 0)
 
 -- a range, which must lie in the file
-abbrev pub range_expected : List ℕ → GoblinRange → Result (Option GoblinRange) Refusal
+abbrev pub range_expected : List ℕ → GoblinRange → Result (Option GoblinRange) RefusalAt
 range_expected bytes range = do
-  _ ← refuse_as misplaced (room_of (length bytes) range.offset range.size)
+  _ ← refused_at range.offset (refuse_as misplaced (room_of (length bytes) range.offset range.size))
   Ok (Some range)
 
 -- the bytes of a section, and of a segment, if it has some
-abbrev pub section_bytes_expected : List ℕ → GoblinSection → Result (Option GoblinRange) Refusal
+abbrev pub section_bytes_expected : List ℕ → GoblinSection → Result (Option GoblinRange) RefusalAt
 section_bytes_expected bytes s = if section_has_bytes s then range_expected bytes s.file else Ok None
 
-abbrev pub segment_bytes_expected : List ℕ → GoblinSegment → Result (Option GoblinRange) Refusal
+abbrev pub segment_bytes_expected : List ℕ → GoblinSegment → Result (Option GoblinRange) RefusalAt
 segment_bytes_expected bytes s = if segment_has_bytes s then range_expected bytes s.file else Ok None
 
 -- where the string at an offset of the strings of a range lies in the file, text or not: up to the next zero byte or
 -- the range's end
-abbrev pub string_bytes_expected : List ℕ → GoblinRange → ℕ → Result (Option GoblinRange) Refusal
+abbrev pub string_bytes_expected : List ℕ → GoblinRange → ℕ → Result (Option GoblinRange) RefusalAt
 string_bytes_expected bytes range offset = do
   strings ← strings_expected bytes range
   if nat_le (length strings) offset then Ok None
@@ -47,7 +48,7 @@ abbrev pub is_width : ℕ → Bool
 is_width width = width == 1 || width == 2 || width == 4 || width == 8
 
 -- the number that so many bytes at an offset stand for, in the order of the file; none of another width
-abbrev pub number_expected : List ℕ → GoblinHeader → ℕ → ℕ → Result (Option ℕ) Refusal
+abbrev pub number_expected : List ℕ → GoblinHeader → ℕ → ℕ → Result (Option ℕ) RefusalAt
 number_expected bytes h offset width = if is_width width then (do
-  _ ← refuse_as misplaced (room_of (length bytes) offset width)
+  _ ← refused_at offset (refuse_as misplaced (room_of (length bytes) offset width))
   Ok (Some (number_at (ctx_of h).le bytes offset width))) else Ok None

@@ -20,6 +20,7 @@ use Rattle.goblin.specs.SectionHeaders.{section_headers_of}
 use Rattle.goblin.specs.declared.elf.sym.Sym.{Sym}
 use Rattle.goblin.specs.Sym.{sym_size}
 use Rattle.goblin.specs.Symtab.{symtab_of}
+use Rattle.goblin_c.specs.Refused.{RefusalAt, refused_at}
 use Rattle.goblin_c.specs.Answers.{ctx_of, header_converted, is_mips64el, reloc_converted, section_converted}
 use Rattle.goblin_c.specs.Answers.{segment_converted, symbol_converted, section_by_type_expected}
 use Rattle.goblin_c.specs.Answers.{section_count_expected, section_expected, segment_count_expected, segment_expected}
@@ -51,10 +52,10 @@ note_in bytes found =
 -- the items of which a call stores the first: none; this note and those from the next offset on; or a refusal alone
 abbrev pub items_reported :
     List ℕ
-    → Result (Option GoblinNote) Refusal → (ℕ → List (Result NoteParts Refusal)) → List (Result NoteParts Refusal)
+    → Result (Option GoblinNote) RefusalAt → (ℕ → List (Result NoteParts Refusal)) → List (Result NoteParts Refusal)
 items_reported bytes (Ok None) rest = []
 items_reported bytes (Ok (Some found)) rest = Ok (note_in bytes found) ∷ rest found.next
-items_reported bytes (Err refusal) rest = Err refusal ∷ []
+items_reported bytes (Err why) rest = Err why.refusal ∷ []
 
 -- the library's iterator goes over the file's notes in this range, with this alignment
 abbrev pub IsOver : NoteDataIterator → GoblinHeader → GoblinRange → ℕ → Type 0
@@ -96,7 +97,7 @@ NotesLieInFile =
 
 -- the number of a refusal's kind, which a call returns, is neither 0 nor 1
 abbrev pub KindsAreAnswers : Type 0
-KindsAreAnswers = (refusal : Refusal) → 2 ≤ (refusal_converted refusal).kind
+KindsAreAnswers = (refusal : RefusalAt) → 2 ≤ (refusal_converted refusal).kind
 
 -- a file has this header
 abbrev pub HasHeader : List ℕ → Header → Type 0
@@ -115,17 +116,17 @@ ContextIsTheHeaders =
     → NamesContext h (ctx_of (header_converted h)) × (is_mips64el (header_converted h) ≡ is_of_mips64el h)
 
 -- a call has this refusal at each index
-abbrev pub RefusesAll : {Y : Type 0} → (ℕ → Result (Option Y) Refusal) → Refusal → Type 0
+abbrev pub RefusesAll : {Y : Type 0} → (ℕ → Result (Option Y) RefusalAt) → RefusalAt → Type 0
 RefusesAll call refusal = (index : ℕ) → call index ≡ Err refusal
 
 -- a call stores each item of a list at its index, and none after them; or at each index it has the refusal of the list
 abbrev pub ReturnsEach :
-    {X Y : Type 0} → (X → Y) → Result (List X) Refusal → (ℕ → Result (Option Y) Refusal) → Type 0
+    {X Y : Type 0} → (X → Y) → Result (List X) RefusalAt → (ℕ → Result (Option Y) RefusalAt) → Type 0
 ReturnsEach convert (Ok items) call = (index : ℕ) → call index ≡ Ok (option_map convert (slice_get items index))
 ReturnsEach convert (Err refusal) call = RefusesAll call refusal
 
 -- a call stores how many items a list has, or has the refusal of the list
-abbrev pub ReturnsCount : {X : Type 0} → Result (List X) Refusal → Result (Option ℕ) Refusal → Type 0
+abbrev pub ReturnsCount : {X : Type 0} → Result (List X) RefusalAt → Result (Option ℕ) RefusalAt → Type 0
 ReturnsCount (Ok items) answer = answer ≡ Ok (Some (length items))
 ReturnsCount (Err refusal) answer = answer ≡ Err refusal
 
@@ -133,7 +134,7 @@ ReturnsCount (Err refusal) answer = answer ≡ Err refusal
 abbrev pub SectionsByIndex : Type 0
 SectionsByIndex =
     (bytes : List ℕ) (h : Header) (ctx : Ctx) → HasHeader bytes h → NamesContext h ctx
-    → let sections = section_headers_of bytes h.e_shoff h.e_shnum ctx in
+    → let sections = refused_at h.e_shoff (section_headers_of bytes h.e_shoff h.e_shnum ctx) in
     ReturnsEach section_converted sections (section_expected bytes (header_converted h))
     × ReturnsCount sections (section_count_expected bytes (header_converted h))
 
@@ -141,14 +142,14 @@ SectionsByIndex =
 abbrev pub SegmentsByIndex : Type 0
 SegmentsByIndex =
     (bytes : List ℕ) (h : Header) (ctx : Ctx) → HasHeader bytes h → NamesContext h ctx
-    → let segments = program_headers_from bytes h.e_phoff h.e_phnum ctx in
+    → let segments = refused_at h.e_phoff (program_headers_from bytes h.e_phoff h.e_phnum ctx) in
     ReturnsEach segment_converted segments (segment_expected bytes (header_converted h))
     × ReturnsCount segments (segment_count_expected bytes (header_converted h))
 
 -- the symbols of the library's table in a range, of as many as lie in it whole
-abbrev pub symbols_in : List ℕ → GoblinRange → Ctx → Result (List Sym) Refusal
-symbols_in bytes range ctx = do
-  table ← refuse_as refusal_of (symtab_of bytes range.offset (range.size / sym_size ctx.container) ctx)
+abbrev pub symbols_in : List ℕ → GoblinRange → Ctx → Result (List Sym) RefusalAt
+symbols_in bytes range ctx = let count = range.size / sym_size ctx.container in do
+  table ← refused_at range.offset (refuse_as refusal_of (symtab_of bytes range.offset count ctx))
   Ok table.symbols
 
 -- the symbols of a range by index are those of the library's table, and the count is their number
@@ -163,14 +164,15 @@ abbrev pub RelocsByIndex : Type 0
 RelocsByIndex =
     (bytes : List ℕ) (h : Header) (ctx : Ctx) (range : GoblinRange) (is_rela : Bool)
     → HasHeader bytes h → NamesContext h ctx
-    → let relocs = refuse_as refusal_of (relocs_of bytes range.offset range.size is_rela ctx (is_of_mips64el h)) in
+    → let found = relocs_of bytes range.offset range.size is_rela ctx (is_of_mips64el h) in
+    let relocs = refused_at range.offset (refuse_as refusal_of found) in
     ReturnsEach reloc_converted relocs (reloc_expected bytes (header_converted h) range is_rela)
     × ReturnsCount relocs (reloc_count_expected bytes (header_converted h) range is_rela)
 
 -- the items from an index on, one at least, are those that a call stores there one by one, and it stores none after
 -- them; or the call stores none there, or has the same refusal at each index
 abbrev pub GivenFrom :
-    {Y : Type 0} → ℕ → (ℕ → Result (Option Y) Refusal) → Result (Option (List Y)) Refusal → Type 0
+    {Y : Type 0} → ℕ → (ℕ → Result (Option Y) RefusalAt) → Result (Option (List Y)) RefusalAt → Type 0
 GivenFrom first call (Ok (Some items)) = (0 < length items) × ((k : ℕ) → call (first + k) ≡ Ok (slice_get items k))
 GivenFrom first call (Ok None) = (k : ℕ) → call (first + k) ≡ Ok None
 GivenFrom first call (Err refusal) = RefusesAll call refusal
@@ -207,7 +209,8 @@ abbrev pub StringsAreThere : Type 0
 StringsAreThere =
     (bytes : List ℕ) (range : GoblinRange) (offset : ℕ) (found : GoblinRange)
     → string_expected bytes range offset ≡ Ok (Some found)
-    → (strings_expected bytes range >>= λ strings. plain strings 0 offset) ≡ Ok (bytes_in bytes found)
+    → (strings_expected bytes range >>= λ strings. refused_at (range.offset + offset) (plain strings 0 offset))
+    ≡ Ok (bytes_in bytes found)
 
 -- the range that a call stores for a string lies in the file
 abbrev pub StringsLieInFile : Type 0
@@ -216,7 +219,7 @@ StringsLieInFile =
     → string_expected bytes range offset ≡ Ok (Some found) → LiesIn bytes found
 
 -- the section at an index, if it is a table by that index
-abbrev pub table_converted : ℕ → Result (Option GoblinSection) Refusal → Result (Option GoblinSection) Refusal
+abbrev pub table_converted : ℕ → Result (Option GoblinSection) RefusalAt → Result (Option GoblinSection) RefusalAt
 table_converted index found = do
   section ← found
   Ok (table_of index section)
@@ -245,7 +248,7 @@ IsNameAt bytes names offset name =
 -- on; or it is one of these refusals
 abbrev pub FindsFrom :
     {Y : Type 0}
-    → ℕ → (ℕ → Result (Option Y) Refusal) → (Y → Type 0) → (Refusal → Type 0) → Result (Option ℕ) Refusal → Type 0
+    → ℕ → (ℕ → Result (Option Y) RefusalAt) → (Y → Type 0) → (RefusalAt → Type 0) → Result (Option ℕ) RefusalAt → Type 0
 FindsFrom {Y} first call IsSo Refuses (Ok (Some index)) =
     (first ≤ index) × ((item : Y) × (call index ≡ Ok (Some item)) × IsSo item)
     × ((k : ℕ) (item : Y) → first ≤ k → k < index → call k ≡ Ok (Some item) → ¬ IsSo item)
@@ -255,13 +258,13 @@ FindsFrom first call IsSo Refuses (Err refusal) = Refuses refusal
 
 -- a refusal is that of all items, or of all strings
 abbrev pub RefusesEither :
-    {Y Z : Type 0} → (ℕ → Result (Option Y) Refusal) → (ℕ → Result (Option Z) Refusal) → Refusal → Type 0
+    {Y Z : Type 0} → (ℕ → Result (Option Y) RefusalAt) → (ℕ → Result (Option Z) RefusalAt) → RefusalAt → Type 0
 RefusesEither call strings refusal = RefusesAll call refusal ⊎ RefusesAll strings refusal
 
 -- the first of all, by a name
 abbrev pub FindsFirst :
-    {Y : Type 0} → (ℕ → Result (Option Y) Refusal) → (ℕ → Result (Option GoblinRange) Refusal) → (Y → Type 0)
-    → Result (Option ℕ) Refusal → Type 0
+    {Y : Type 0} → (ℕ → Result (Option Y) RefusalAt) → (ℕ → Result (Option GoblinRange) RefusalAt) → (Y → Type 0)
+    → Result (Option ℕ) RefusalAt → Type 0
 FindsFirst call strings HasTheName answer = FindsFrom 0 call HasTheName (RefusesEither call strings) answer
 
 -- what is found by a name is the first section, and the first symbol, whose name by the calls is this

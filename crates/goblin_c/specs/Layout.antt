@@ -14,7 +14,7 @@ range_marked mark = record { offset = each_byte 8 mark; size = each_byte 8 (mark
 -- the sizes, and one of each struct, whose fields are numbered from 1 on, those of a range in it too
 abbrev pub layout : GoblinLayout
 layout = record {
-  size_of_refusal = 40;
+  size_of_refusal = 48;
   size_of_range = 16;
   size_of_header = 56;
   size_of_section = 72;
@@ -29,6 +29,7 @@ layout = record {
     second = each_byte 8 4;
     third = each_byte 8 5;
     fourth = each_byte 8 6;
+    offset = each_byte 8 7;
   };
   range = range_marked 1;
   header = record {

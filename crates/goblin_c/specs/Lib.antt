@@ -4,6 +4,7 @@ pub mod Laid
 pub mod Laws
 pub mod Layout
 pub mod Notes
+pub mod Refused
 pub mod Status
 pub mod TextLaws
 pub mod Texts

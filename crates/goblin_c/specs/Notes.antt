@@ -1,9 +1,9 @@
 -- The note that a call stores.
 use Rattle.std.specs.Prelude.{ℕ, ◌+◌, nat_le, if◌then◌else◌, List, Option, Some, None, Result, Ok}
-use Rattle.goblin_base.specs.Refusal.{Refusal}
 use Rattle.goblin_base.specs.Steps.{◌>>=◌}
 use Rattle.goblin.specs.declared.elf.note.NotePlaces.{NotePlaces}
 use Rattle.goblin.specs.Note.{places_at}
+use Rattle.goblin_c.specs.Refused.{RefusalAt, refused_at}
 use Rattle.goblin_c.specs.Answers.{ctx_of}
 use Rattle.goblin_c.specs.declared.types.GoblinHeader.{GoblinHeader}
 use Rattle.goblin_c.specs.declared.types.GoblinNote.{GoblinNote}
@@ -19,9 +19,9 @@ note_converted offset places = record {
 }
 
 -- the note at an offset: none from the range's end on
-abbrev pub note_expected : List ℕ → GoblinHeader → GoblinRange → ℕ → ℕ → Result (Option GoblinNote) Refusal
+abbrev pub note_expected : List ℕ → GoblinHeader → GoblinRange → ℕ → ℕ → Result (Option GoblinNote) RefusalAt
 note_expected bytes h range alignment offset =
     if nat_le (range.offset + range.size) offset then Ok None
     else do
-      places ← places_at bytes offset (alignment, ctx_of h)
+      places ← refused_at offset (places_at bytes offset (alignment, ctx_of h))
       Ok (Some (note_converted offset places))

@@ -12,6 +12,7 @@ use Rattle.goblin_base.specs.Texts.{refusal_text}
 use Rattle.goblin.specs.Note.{places_at, read_places}
 use Rattle.goblin.specs.ReadHeader.{read_header}
 use Rattle.goblin.specs.SectionHeaders.{section_headers_from, section_headers_from_tested}
+use Rattle.goblin_c.specs.Refused.{RefusalAt, refused_at}
 use Rattle.goblin_c.specs.declared.types.GoblinHeader.{GoblinHeader}
 use Rattle.goblin_c.specs.declared.types.GoblinRange.{GoblinRange}
 use Rattle.goblin_c.specs.declared.types.GoblinSection.{GoblinSection}
@@ -33,21 +34,29 @@ use Rattle.goblin_c.specs.Status.{refusal_converted}
 use Rattle.goblin_c.specs.Texts.{NamesKnown, TextIsSame, converted_text}
 
 pub text-same : TextIsSame
-text-same refusal known = grind arith
+text-same why known = grind arith
 
 -- the refusal of a result, converted for C, has the library's text
-abbrev pub HasSameText : {X : Type 0} → Result X Refusal → Type 0
+abbrev pub HasSameText : {X : Type 0} → Result X RefusalAt → Type 0
 HasSameText (Ok x) = ⊤
-HasSameText (Err refusal) = converted_text (refusal_converted refusal) ≡ refusal_text refusal
+HasSameText (Err why) = converted_text (refusal_converted why) ≡ refusal_text why.refusal
 
 -- the refusal of a result names no item, or one that has a number
 abbrev Known : {X : Type 0} → Result X Refusal → Type 0
 Known (Ok x) = ⊤
 Known (Err refusal) = NamesKnown refusal
 
-same_text : {X : Type 0} (answer : Result X Refusal) → Known answer → HasSameText answer
+abbrev KnownAt : {X : Type 0} → Result X RefusalAt → Type 0
+KnownAt (Ok x) = ⊤
+KnownAt (Err why) = NamesKnown why.refusal
+
+known_at : {X : Type 0} (offset : ℕ) (answer : Result X Refusal) → Known answer → KnownAt (refused_at offset answer)
+known_at offset (Ok x) known = tt
+known_at offset (Err refusal) known = known
+
+same_text : {X : Type 0} (answer : Result X RefusalAt) → KnownAt answer → HasSameText answer
 same_text (Ok x) known = tt
-same_text (Err refusal) known = text-same refusal known
+same_text (Err why) known = text-same why known
 
 -- what the library refuses: a place without room, a header
 known_room : (len offset size : ℕ) → Known (refuse_as misplaced (room_of len offset size))
@@ -64,37 +73,37 @@ unfolding read_header
 known_header bytes = grind (arith, known_room)
 
 -- the lists
-known_sections : (bytes : List ℕ) (h : GoblinHeader) → Known (sections_expected bytes h)
+known_sections : (bytes : List ℕ) (h : GoblinHeader) → KnownAt (sections_expected bytes h)
 unfolding section_headers_from section_headers_from_tested records_in
 known_sections bytes h =
     let known : NamesKnown (buffer_too_short 0 (codes "section headers")) = inl refl in
     grind (arith, known_room, known_each, known)
 
-known_segments : (bytes : List ℕ) (h : GoblinHeader) → Known (segments_expected bytes h)
+known_segments : (bytes : List ℕ) (h : GoblinHeader) → KnownAt (segments_expected bytes h)
 unfolding records_from
 known_segments bytes h =
     let known : NamesKnown (buffer_too_short 0 (codes "program headers")) = inr refl in
     grind (arith, known_each, known)
 
-known_symbols : (bytes : List ℕ) (h : GoblinHeader) (range : GoblinRange) → Known (symbols_expected bytes h range)
+known_symbols : (bytes : List ℕ) (h : GoblinHeader) (range : GoblinRange) → KnownAt (symbols_expected bytes h range)
 known_symbols bytes h range = grind arith
 
 known_relocs :
     (bytes : List ℕ) (h : GoblinHeader) (range : GoblinRange) (is_rela : Bool)
-    → Known (relocs_expected bytes h range is_rela)
+    → KnownAt (relocs_expected bytes h range is_rela)
 known_relocs bytes h range is_rela = grind (arith, known_room)
 
 -- strings, and notes
-known_strings : (bytes : List ℕ) (range : GoblinRange) → Known (strings_expected bytes range)
+known_strings : (bytes : List ℕ) (range : GoblinRange) → KnownAt (strings_expected bytes range)
 unfolding range_in
 known_strings bytes range = grind arith
 
 known_string :
-    (bytes : List ℕ) (range : GoblinRange) (offset : ℕ) → Known (string_expected bytes range offset)
+    (bytes : List ℕ) (range : GoblinRange) (offset : ℕ) → KnownAt (string_expected bytes range offset)
 known_string bytes range offset = grind (arith, known_strings bytes range)
 
 known_string_bytes :
-    (bytes : List ℕ) (range : GoblinRange) (offset : ℕ) → Known (string_bytes_expected bytes range offset)
+    (bytes : List ℕ) (range : GoblinRange) (offset : ℕ) → KnownAt (string_bytes_expected bytes range offset)
 known_string_bytes bytes range offset = grind (arith, known_strings bytes range)
 
 known_note : (bytes : List ℕ) (offset : ℕ) (ctx : ℕ × Ctx) → Known (places_at bytes offset ctx)
@@ -103,17 +112,17 @@ known_note bytes offset ctx = grind (arith, known_room)
 
 -- the items of a list for C, one, many or how many, are refused as the list is
 module _ {X Y : Type 0} (convert : X → Y) where
-  counted : (list : Result (List X) Refusal) → HasSameText list → HasSameText (count_of (each_converted convert list))
+  counted : (list : Result (List X) RefusalAt) → HasSameText list → HasSameText (count_of (each_converted convert list))
   counted (Ok items) same = tt
   counted (Err refusal) same = same
 
-  one : (list : Result (List X) Refusal) (index : ℕ)
+  one : (list : Result (List X) RefusalAt) (index : ℕ)
       → HasSameText list → HasSameText (item_of (each_converted convert list) index)
   one (Ok items) index same = tt
   one (Err refusal) index same = same
 
   many :
-      (list : Result (List X) Refusal) (first : ℕ)
+      (list : Result (List X) RefusalAt) (first : ℕ)
       → HasSameText list → HasSameText (items_from (each_converted convert list) first)
   many (Ok items) first same = grind arith
   many (Err refusal) first same = same

@@ -6,6 +6,7 @@ use Rattle.goblin_base.specs.Refusal.{out_of_memory}
 use Rattle.goblin_base.specs.Texts.{Facts, facts_text, kind_with, refusal_text}
 use Rattle.goblin_c.specs.declared.kinds.TheConstants.{INVALID_UTF8, SECTION_HEADERS, PROGRAM_HEADERS}
 use Rattle.goblin_c.specs.declared.types.GoblinRefusal.{GoblinRefusal}
+use Rattle.goblin_c.specs.Refused.{RefusalAt}
 use Rattle.goblin_c.specs.Status.{refusal_converted}
 
 -- the item with a number, and the empty text for any other number
@@ -48,4 +49,5 @@ NamesKnown out_of_memory = ⊤
 -- a refusal converted for C has the text of the refusal
 abbrev pub TextIsSame : Type 0
 TextIsSame =
-    (refusal : Refusal) → NamesKnown refusal → converted_text (refusal_converted refusal) ≡ refusal_text refusal
+    (why : RefusalAt)
+    → NamesKnown why.refusal → converted_text (refusal_converted why) ≡ refusal_text why.refusal

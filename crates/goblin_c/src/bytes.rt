@@ -1,22 +1,41 @@
 //! Bytes of the file: those of a section, of a segment and of a string, and numbers at an offset.
-ghost use Rattle.goblin.specs.Refusal.{Answers};
+ghost use Rattle.std.specs.Prelude.{◌+◌, ◌≤◌, IsOk, length};
+ghost use Rattle.goblin.specs.Refusal.{misplaced};
+ghost use Rattle.goblin.specs.Room.{room_of};
+ghost use Rattle.goblin.specs.Steps.{refuse_as};
+ghost use Rattle.goblin_c.specs.Refused.{Answers, refused_at};
 ghost use Rattle.goblin_c.specs.Bytes.{number_expected, range_expected, section_bytes_expected, segment_bytes_expected, string_bytes_expected};
 
 use crate::headers::ctx_of;
+use crate::refused::{Refused, Result};
 use crate::strings::strings_of;
 use crate::types::{GoblinHeader, GoblinRange, GoblinSection, GoblinSegment};
 use goblin::elf::program_header::PT_NULL;
 use goblin::elf::section_header::{SHT_NOBITS, SHT_NULL};
-use goblin::error::Result;
 use goblin_base::number::{get_u8, get_u16, get_u32, get_u64};
 use goblin_base::room::room;
 use goblin_base::strtab::piece_len;
+
+// Tests that some bytes lie in the file.
+fn fits(bytes: &[u8], offset: u64, size: u64) -> Result<()>
+    ensures exact { let expected = refuse_as misplaced (room_of (length bytes.now) offset size) in
+        Answers (λ found. found) result (refused_at offset expected) }
+    ensures fits { IsOk result → offset + size ≤ length bytes.now }
+{
+    match room(bytes.len(), offset as usize, size as usize) {
+        Ok(()) => Ok(()),
+        Err(e) => Err(Refused {
+            error: e.into(),
+            offset,
+        }),
+    }
+}
 
 // Returns a range that lies in the file.
 fn range_in(bytes: &[u8], range: &GoblinRange) -> Result<Option<GoblinRange>>
     ensures { Answers (λ found. found) result (range_expected bytes.now range.now) }
 {
-    room(bytes.len(), range.offset as usize, range.size as usize)?;
+    fits(bytes, range.offset, range.size)?;
     Ok(Some(*range))
 }
 
@@ -64,8 +83,8 @@ pub fn number(bytes: &[u8], header: &GoblinHeader, offset: u64, width: u64) -> R
     if width != 1 && width != 2 && width != 4 && width != 8 {
         return Ok(None);
     }
+    fits(bytes, offset, width)?;
     let place = offset as usize;
-    room(bytes.len(), place, width as usize)?;
     let order = ctx_of(header).le;
     Ok(Some(if width == 1 {
         u64::from(get_u8(bytes, place))

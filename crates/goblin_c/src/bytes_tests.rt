@@ -26,23 +26,23 @@ const STRINGS: GoblinRange = GoblinRange {
 
 // The file's header.
 fn header() -> GoblinHeader {
-    called!(goblin_header(FILE), marked_layout().header).1
+    called!(goblin_c_header(FILE), marked_layout().header).1
 }
 
 fn segment_count() -> (u32, u64) {
-    let (status, count, _) = called!(goblin_segment_count(FILE, &header()), 9);
+    let (status, count, _) = called!(goblin_c_segment_count(FILE, &header()), 9);
     (status, count)
 }
 
 // The answer for the symbols of a range, with how many they are and the refusal's first number.
 fn symbol_count(symbols: &GoblinRange) -> (u32, u64, u64) {
-    let (status, count, why) = called!(goblin_symbol_count(FILE, &header(), symbols), 9);
+    let (status, count, why) = called!(goblin_c_symbol_count(FILE, &header(), symbols), 9);
     (status, count, why.first)
 }
 
 fn reloc_count(is_rela: bool) -> (u32, u64) {
     let (status, count, _) = called!(
-        goblin_reloc_count(FILE, &header(), &range(124, 23), is_rela),
+        goblin_c_reloc_count(FILE, &header(), &range(124, 23), is_rela),
         9
     );
     (status, count)
@@ -63,7 +63,7 @@ fn refuses_symbols_at_the_end(rt: HostRuntime) {
 
 // The answer and the index of the first section of a type, from an index on.
 fn of_type(sh_type: u32, first: u64) -> (u32, u64) {
-    let (status, index, _) = called!(goblin_section_by_type(FILE, &header(), sh_type, first), 9);
+    let (status, index, _) = called!(goblin_c_section_by_type(FILE, &header(), sh_type, first), 9);
     (status, index)
 }
 
@@ -89,8 +89,8 @@ fn shown((status, found, why): (u32, GoblinRange, GoblinRefusal)) -> (u32, u64, 
 // That for the bytes of a section.
 fn bytes_of_section(index: u64) -> (u32, u64, u64) {
     let mark = marked_layout().section;
-    let (_, section, _) = called!(goblin_section(FILE, &header(), index), mark);
-    shown(called!(goblin_section_bytes(FILE, &section), range(0, 0)))
+    let (_, section, _) = called!(goblin_c_section(FILE, &header(), index), mark);
+    shown(called!(goblin_c_section_bytes(FILE, &section), range(0, 0)))
 }
 
 #[test]
@@ -102,9 +102,9 @@ fn finds_the_bytes_of_sections(rt: HostRuntime) {
 // The same for those of a segment.
 fn bytes_of_segment(index: u64, size: u64) -> (u32, u64, u64) {
     let mark = marked_layout().segment;
-    let (_, mut segment, _) = called!(goblin_segment(FILE, &header(), index), mark);
+    let (_, mut segment, _) = called!(goblin_c_segment(FILE, &header(), index), mark);
     segment.file.size = size;
-    shown(called!(goblin_segment_bytes(FILE, &segment), range(0, 0)))
+    shown(called!(goblin_c_segment_bytes(FILE, &segment), range(0, 0)))
 }
 
 #[test]
@@ -116,7 +116,7 @@ fn finds_the_bytes_of_segments(rt: HostRuntime) {
 
 // The answer for the bytes of a string.
 fn string_in(strings: &GoblinRange, offset: u64) -> (u32, u64, u64) {
-    shown(called!(goblin_string_bytes(FILE, strings, offset), range(0, 0)))
+    shown(called!(goblin_c_string_bytes(FILE, strings, offset), range(0, 0)))
 }
 
 #[test]
@@ -128,12 +128,57 @@ fn finds_strings_that_are_not_utf8(rt: HostRuntime) {
     );
 }
 
+// Where what is refused begins, by the refusal of a call that is refused.
+fn begins<T: Drop>((status, _, why): (u32, T, GoblinRefusal)) -> u64 {
+    if status > 1 { why.offset } else { u64::MAX }
+}
+
+// The same of the strings, of one that is not UTF-8, and of a symbol's name that is searched for in strings past the
+// end, or among symbols past the end.
+fn strings_begin() -> bool {
+    let past = &range(300, 9);
+    let in_past = begins(called!(goblin_c_string(FILE, past, 0), range(0, 0)));
+    let no_text = begins(called!(goblin_c_string(FILE, &STRINGS, 4), range(0, 0)));
+    in_past == 300 && no_text == 120
+}
+
+fn searches_begin(symbols: &GoblinRange, names: &GoblinRange) -> u64 {
+    begins(called!(goblin_c_symbol_by_name(FILE, &header(), symbols, names, b"ab"), 9))
+}
+
+fn headers_begin() -> bool {
+    let mut header = header();
+    header.e_shoff = 300;
+    header.e_phoff = 301;
+    let sections = begins(called!(goblin_c_section_count(FILE, &header), 9));
+    let segments = begins(called!(goblin_c_segment_count(FILE, &header), 9));
+    let own = begins(called!(goblin_c_header(&FILE[..51]), header));
+    own == 0 && sections == 300 && segments == 301
+}
+
+fn parts_begin() -> bool {
+    let notes = &range(300, 8);
+    let note = begins(called!(goblin_c_note(FILE, &header(), notes, 4, 304), marked_layout().note));
+    let number = begins(called!(goblin_c_number(FILE, &header(), 305, 4), 9));
+    let relocs = begins(called!(goblin_c_reloc_count(FILE, &header(), &range(299, 16), false), 9));
+    note == 304 && number == 305 && relocs == 299
+}
+
+#[test]
+fn says_where_what_is_refused_begins(rt: HostRuntime) {
+    assert!(rt; headers_begin());
+    assert!(rt; strings_begin());
+    assert!(rt; parts_begin());
+    assert!(rt; searches_begin(&range(124, 23), &range(300, 9)) == 300);
+    assert!(rt; searches_begin(&range(308, 16), &range(300, 9)) == 308);
+}
+
 // Reads a number of `width` bytes at an offset, big endian or little endian. Returns the status with the number, or
 // with the first value of the refusal.
 fn number_at(offset: u64, width: u64, order: u8) -> (u32, u64) {
     let mut header = header();
     header.ei_data = order;
-    let (status, value, why) = called!(goblin_number(FILE, &header, offset, width), 9);
+    let (status, value, why) = called!(goblin_c_number(FILE, &header, offset, width), 9);
     if status > 1 {
         return (status, why.first);
     }

@@ -1,9 +1,10 @@
 //! The header, the section headers and the program headers, as the library reads them.
 ghost use Rattle.std.specs.Prelude.{◌≡◌, ◌+◌, ◌<◌, ◌==◌, ◌^◌, IfSome, drop, map, position};
-ghost use Rattle.goblin.specs.Refusal.{Answers};
+ghost use Rattle.goblin_c.specs.Refused.{Answers};
 ghost use Rattle.goblin_c.specs.Answers.{ctx_of, header_expected, header_converted, section_by_type_expected, section_names_expected, section_converted, sections_expected, segment_converted, segments_expected, table_at, table_expected};
 
 use crate::lists::Listed;
+use crate::refused::{Result, refused_at};
 use crate::types::{GoblinHeader, GoblinRange, GoblinSection, GoblinSegment};
 use goblin::container::{Container, Ctx, Endian};
 use goblin::elf::header::{
@@ -11,7 +12,6 @@ use goblin::elf::header::{
 };
 use goblin::elf::program_header::ProgramHeader;
 use goblin::elf::section_header::{SHT_NOBITS, SectionHeader};
-use goblin::error::Result;
 use goblin::scroll::{LE, TryFromCtx};
 use goblin_base::table::Table;
 
@@ -97,7 +97,7 @@ fn convert_segment(s: &ProgramHeader) -> GoblinSegment
 pub fn header_at(bytes: &[u8]) -> Result<Option<GoblinHeader>>
     ensures { Answers (λ found. found) result (header_expected bytes.now) }
 {
-    let (header, _) = Header::try_from_ctx(bytes, LE)?;
+    let (header, _) = refused_at(0, Header::try_from_ctx(bytes, LE))?;
     Ok(Some(convert_header(&header)))
 }
 
@@ -108,12 +108,9 @@ pub fn sections_of<'a>(
 ) -> Result<Table<'a, SectionHeader, Ctx>>
     ensures { Answers (λ table. table) result (sections_expected bytes.now header.now) }
 {
-    SectionHeader::table(
-        bytes,
-        header.e_shoff as usize,
-        usize::from(header.e_shnum),
-        ctx_of(header),
-    )
+    let count = usize::from(header.e_shnum);
+    let table = SectionHeader::table(bytes, header.e_shoff as usize, count, ctx_of(header));
+    refused_at(header.e_shoff, table)
 }
 
 impl Listed for Table<'_, SectionHeader, Ctx> {
@@ -201,12 +198,9 @@ pub fn segments_of<'a>(
 ) -> Result<Table<'a, ProgramHeader, Ctx>>
     ensures { Answers (λ table. table) result (segments_expected bytes.now header.now) }
 {
-    ProgramHeader::table(
-        bytes,
-        header.e_phoff as usize,
-        usize::from(header.e_phnum),
-        ctx_of(header),
-    )
+    let count = usize::from(header.e_phnum);
+    let table = ProgramHeader::table(bytes, header.e_phoff as usize, count, ctx_of(header));
+    refused_at(header.e_phoff, table)
 }
 
 impl Listed for Table<'_, ProgramHeader, Ctx> {

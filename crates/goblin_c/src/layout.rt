@@ -69,6 +69,7 @@ fn marked_refusal() -> GoblinRefusal
         second: wide(4),
         third: wide(5),
         fourth: wide(6),
+        offset: wide(7),
     }
 }
 

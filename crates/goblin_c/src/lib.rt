@@ -26,6 +26,7 @@ mod laws;
 mod layout;
 mod lists;
 mod notes;
+mod refused;
 mod status;
 mod strings;
 mod tables;
@@ -55,12 +56,12 @@ use types::{
 use writer::write_text;
 
 /// The version of these calls and of their structs.
-pub const VERSION: u32 = 4;
+pub const VERSION: u32 = 5;
 
 /// Returns the version of the library.
 #[unsafe(no_mangle)]
 pub extern "C" fn goblin_version() -> u32
-    ensures { result ≡ 4 }
+    ensures { result ≡ 5 }
 {
     VERSION
 }
@@ -75,7 +76,7 @@ pub extern "C" fn goblin_layout(marks: &mut GoblinLayout)
 
 /// Stores the header at the file's start.
 #[unsafe(no_mangle)]
-pub extern "C" fn goblin_header(
+pub extern "C" fn goblin_c_header(
     bytes: &[u8],
     header: &mut GoblinHeader,
     why: &mut GoblinRefusal,
@@ -87,7 +88,7 @@ pub extern "C" fn goblin_header(
 
 /// Stores the number of section headers.
 #[unsafe(no_mangle)]
-pub extern "C" fn goblin_section_count(
+pub extern "C" fn goblin_c_section_count(
     bytes: &[u8],
     header: &GoblinHeader,
     count: &mut u64,
@@ -101,7 +102,7 @@ pub extern "C" fn goblin_section_count(
 
 /// Stores the section header at an index.
 #[unsafe(no_mangle)]
-pub extern "C" fn goblin_section(
+pub extern "C" fn goblin_c_section(
     bytes: &[u8],
     header: &GoblinHeader,
     index: u64,
@@ -116,7 +117,7 @@ pub extern "C" fn goblin_section(
 
 /// Stores the program header at an index.
 #[unsafe(no_mangle)]
-pub extern "C" fn goblin_segment(
+pub extern "C" fn goblin_c_segment(
     bytes: &[u8],
     header: &GoblinHeader,
     index: u64,
@@ -131,7 +132,7 @@ pub extern "C" fn goblin_segment(
 
 /// Stores the symbol at an index of the table that lies in a range.
 #[unsafe(no_mangle)]
-pub extern "C" fn goblin_symbol(
+pub extern "C" fn goblin_c_symbol(
     bytes: &[u8],
     header: &GoblinHeader,
     table: &GoblinRange,
@@ -148,7 +149,7 @@ pub extern "C" fn goblin_symbol(
 
 /// Stores the relocation at an index of those that lie in a range, with addends or without.
 #[unsafe(no_mangle)]
-pub extern "C" fn goblin_reloc(
+pub extern "C" fn goblin_c_reloc(
     bytes: &[u8],
     header: &GoblinHeader,
     relocs: &GoblinRange,
@@ -166,7 +167,7 @@ pub extern "C" fn goblin_reloc(
 
 /// Stores the range in the file of the string at an offset of a string table.
 #[unsafe(no_mangle)]
-pub extern "C" fn goblin_string(
+pub extern "C" fn goblin_c_string(
     bytes: &[u8],
     strings: &GoblinRange,
     offset: u64,
@@ -182,7 +183,7 @@ pub extern "C" fn goblin_string(
 /// Stores the note at an offset of the file, among those of a range. The first one is at the range's
 /// start, and each has the offset of the next one.
 #[unsafe(no_mangle)]
-pub extern "C" fn goblin_note(
+pub extern "C" fn goblin_c_note(
     bytes: &[u8],
     header: &GoblinHeader,
     notes: &GoblinRange,
@@ -299,7 +300,7 @@ pub extern "C" fn goblin_refusal_text(why: &GoblinRefusal, text: &mut [u8]) -> u
 
 /// Stores the section headers from an index on, as many as the buffer holds.
 #[unsafe(no_mangle)]
-pub extern "C" fn goblin_sections(
+pub extern "C" fn goblin_c_sections(
     bytes: &[u8],
     header: &GoblinHeader,
     first: u64,
@@ -315,7 +316,7 @@ pub extern "C" fn goblin_sections(
 
 /// Stores the symbols from an index on, as many as the buffer holds.
 #[unsafe(no_mangle)]
-pub extern "C" fn goblin_symbols(
+pub extern "C" fn goblin_c_symbols(
     bytes: &[u8],
     header: &GoblinHeader,
     table: &GoblinRange,
@@ -333,7 +334,7 @@ pub extern "C" fn goblin_symbols(
 
 /// Stores the relocations from an index on, as many as the buffer holds.
 #[unsafe(no_mangle)]
-pub extern "C" fn goblin_relocs(
+pub extern "C" fn goblin_c_relocs(
     bytes: &[u8],
     header: &GoblinHeader,
     relocs: &GoblinRange,
@@ -353,7 +354,7 @@ pub extern "C" fn goblin_relocs(
 /// Stores the section at an index if it can be a table that something names by this index: not index 0,
 /// and not a section of the type without bytes in the file.
 #[unsafe(no_mangle)]
-pub extern "C" fn goblin_linked_section(
+pub extern "C" fn goblin_c_linked_section(
     bytes: &[u8],
     header: &GoblinHeader,
     index: u64,
@@ -368,7 +369,7 @@ pub extern "C" fn goblin_linked_section(
 
 /// Stores the section that holds the sections' names, if it is such a table.
 #[unsafe(no_mangle)]
-pub extern "C" fn goblin_section_names(
+pub extern "C" fn goblin_c_section_names(
     bytes: &[u8],
     header: &GoblinHeader,
     section: &mut GoblinSection,
@@ -382,7 +383,7 @@ pub extern "C" fn goblin_section_names(
 
 /// Stores the index of the first section with a name.
 #[unsafe(no_mangle)]
-pub extern "C" fn goblin_section_by_name(
+pub extern "C" fn goblin_c_section_by_name(
     bytes: &[u8],
     header: &GoblinHeader,
     names: &GoblinRange,
@@ -398,7 +399,7 @@ pub extern "C" fn goblin_section_by_name(
 
 /// Stores the index of the first symbol with a name.
 #[unsafe(no_mangle)]
-pub extern "C" fn goblin_symbol_by_name(
+pub extern "C" fn goblin_c_symbol_by_name(
     bytes: &[u8],
     header: &GoblinHeader,
     table: &GoblinRange,
@@ -416,7 +417,7 @@ pub extern "C" fn goblin_symbol_by_name(
 
 /// Stores the number of program headers.
 #[unsafe(no_mangle)]
-pub extern "C" fn goblin_segment_count(
+pub extern "C" fn goblin_c_segment_count(
     bytes: &[u8],
     header: &GoblinHeader,
     count: &mut u64,
@@ -430,7 +431,7 @@ pub extern "C" fn goblin_segment_count(
 
 /// Stores the number of symbols in a range, without a last one that is cut.
 #[unsafe(no_mangle)]
-pub extern "C" fn goblin_symbol_count(
+pub extern "C" fn goblin_c_symbol_count(
     bytes: &[u8],
     header: &GoblinHeader,
     table: &GoblinRange,
@@ -445,7 +446,7 @@ pub extern "C" fn goblin_symbol_count(
 
 /// Stores the number of relocations in a range, with addends or without.
 #[unsafe(no_mangle)]
-pub extern "C" fn goblin_reloc_count(
+pub extern "C" fn goblin_c_reloc_count(
     bytes: &[u8],
     header: &GoblinHeader,
     relocs: &GoblinRange,
@@ -462,7 +463,7 @@ pub extern "C" fn goblin_reloc_count(
 
 /// Stores the index of the first section of a type, from an index on.
 #[unsafe(no_mangle)]
-pub extern "C" fn goblin_section_by_type(
+pub extern "C" fn goblin_c_section_by_type(
     bytes: &[u8],
     header: &GoblinHeader,
     sh_type: u32,
@@ -478,7 +479,7 @@ pub extern "C" fn goblin_section_by_type(
 
 /// Stores the range of a section's bytes in the file.
 #[unsafe(no_mangle)]
-pub extern "C" fn goblin_section_bytes(
+pub extern "C" fn goblin_c_section_bytes(
     bytes: &[u8],
     section: &GoblinSection,
     range: &mut GoblinRange,
@@ -492,7 +493,7 @@ pub extern "C" fn goblin_section_bytes(
 
 /// Stores the range of a segment's bytes in the file.
 #[unsafe(no_mangle)]
-pub extern "C" fn goblin_segment_bytes(
+pub extern "C" fn goblin_c_segment_bytes(
     bytes: &[u8],
     segment: &GoblinSegment,
     range: &mut GoblinRange,
@@ -506,7 +507,7 @@ pub extern "C" fn goblin_segment_bytes(
 
 /// Stores the range in the file of the string at an offset of a string table, which need not be UTF-8.
 #[unsafe(no_mangle)]
-pub extern "C" fn goblin_string_bytes(
+pub extern "C" fn goblin_c_string_bytes(
     bytes: &[u8],
     strings: &GoblinRange,
     offset: u64,
@@ -521,7 +522,7 @@ pub extern "C" fn goblin_string_bytes(
 
 /// Stores the number of 1, 2, 4 or 8 bytes at an offset, in the file's byte order.
 #[unsafe(no_mangle)]
-pub extern "C" fn goblin_number(
+pub extern "C" fn goblin_c_number(
     bytes: &[u8],
     header: &GoblinHeader,
     offset: u64,
@@ -537,7 +538,7 @@ pub extern "C" fn goblin_number(
 
 /// Stores the index of the symbol that an address lies in.
 #[unsafe(no_mangle)]
-pub extern "C" fn goblin_symbol_by_address(
+pub extern "C" fn goblin_c_symbol_by_address(
     bytes: &[u8],
     header: &GoblinHeader,
     table: &GoblinRange,

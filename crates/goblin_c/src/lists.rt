@@ -1,15 +1,15 @@
 //! Lists whose items are converted for C: how many there are, one at an index, and many at once, into a
 //! buffer of the caller's.
 ghost use Rattle.std.specs.Prelude.{◌≡◌, ◌-◌, ◌<◌, List, drop, length, min, slice_get};
-ghost use Rattle.goblin.specs.Refusal.{Answers};
+ghost use Rattle.goblin_c.specs.Refused.{Answers};
 ghost use Rattle.goblin_c.specs.Answers.{count_of, item_of, items_from};
 ghost use Rattle.goblin_c.specs.Laid.{laid};
 ghost use Rattle.goblin_c.specs.Status.{Fills, converted_list};
 
 use crate::kinds::{END, OK};
+use crate::refused::Result;
 use crate::status::refuse;
 use crate::types::GoblinRefusal;
-use goblin::error::Result;
 
 /// A list whose items can be converted for C.
 pub trait Listed: Drop {

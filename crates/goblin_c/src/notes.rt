@@ -1,13 +1,13 @@
 //! Notes, as the library reads them, and the names of their types.
 ghost use Rattle.std.specs.Prelude.{◌≡◌};
 ghost use Rattle.goblin.specs.NoteType.{note_type_name};
-ghost use Rattle.goblin.specs.Refusal.{Answers};
+ghost use Rattle.goblin_c.specs.Refused.{Answers};
 ghost use Rattle.goblin_c.specs.Notes.{note_expected};
 
 use crate::headers::ctx_of;
+use crate::refused::{Result, refused_at};
 use crate::types::{GoblinHeader, GoblinNote, GoblinRange};
 use goblin::elf::note::Note;
-use goblin::error::Result;
 
 /// Returns the note at an offset, among those of a range.
 pub fn note_from(
@@ -24,7 +24,7 @@ pub fn note_from(
         return Ok(None);
     }
     let ctx = (alignment as usize, ctx_of(header));
-    let (_, places) = Note::at(bytes, offset as usize, ctx)?;
+    let (_, places) = refused_at(offset, Note::at(bytes, offset as usize, ctx))?;
     Ok(Some(GoblinNote {
         name: GoblinRange {
             offset: offset + places.name as u64,

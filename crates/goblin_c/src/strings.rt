@@ -1,10 +1,10 @@
 //! Strings, and where they lie in the file.
 ghost use Rattle.std.specs.Prelude.{◌≡◌, ◌+◌, ◌≤◌, IfOk, length};
-ghost use Rattle.goblin.specs.Refusal.{Answers};
+ghost use Rattle.goblin_c.specs.Refused.{Answers};
 ghost use Rattle.goblin_c.specs.Answers.{string_expected, strings_expected};
 
+use crate::refused::{Result, refused_at};
 use crate::types::GoblinRange;
-use goblin::error::Result;
 use goblin::options::ParseMode;
 use goblin::strtab;
 use goblin::strtab::bytes_in_range;
@@ -16,12 +16,13 @@ pub fn strings_of<'a>(bytes: &'a [u8], range: &GoblinRange) -> Result<&'a [u8]>
         (strings_expected bytes.now range.now) }
     ensures fits { IfOk result (λ strings. range.now.offset + length strings.now ≤ length bytes.now) }
 {
-    bytes_in_range(
+    let strings = bytes_in_range(
         bytes,
         range.offset as usize,
         range.size as usize,
         ParseMode::Strict,
-    )
+    );
+    refused_at(range.offset, strings)
 }
 
 /// Returns the range in the file of the string at an offset of a string table.
@@ -30,10 +31,13 @@ pub fn string_at(bytes: &[u8], range: &GoblinRange, offset: u64) -> Result<Optio
 {
     let strings = strings_of(bytes, range)?;
     match strtab::string_at(strings, 0, offset as usize) {
-        Some(text) => Ok(Some(GoblinRange {
-            offset: range.offset + offset,
-            size: text?.len() as u64,
-        })),
+        Some(text) => {
+            let place = range.offset + offset;
+            Ok(Some(GoblinRange {
+                offset: place,
+                size: refused_at(place, text)?.len() as u64,
+            }))
+        }
         None => Ok(None),
     }
 }

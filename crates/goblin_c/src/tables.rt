@@ -1,16 +1,16 @@
 //! Symbols, relocations and what is found by its name, as the library reads them.
 ghost use Rattle.std.specs.Prelude.{◌≡◌, length, map, position};
-ghost use Rattle.goblin.specs.Refusal.{Answers};
+ghost use Rattle.goblin_c.specs.Refused.{Answers};
 ghost use Rattle.goblin_c.specs.Answers.{reloc_converted, relocs_expected, section_by_name_expected, symbol_by_address_expected, symbol_by_name_expected, is_named, symbol_converted, symbols_expected};
 
 use crate::headers::{ctx_of, sections_of};
 use crate::lists::Listed;
+use crate::refused::{Result, refused_at};
 use crate::strings::strings_of;
 use crate::types::{GoblinHeader, GoblinRange, GoblinReloc, GoblinSymbol};
 use goblin::elf::reloc::{Reloc, RelocSection, is_mips64el_in};
 use goblin::elf::section_header::SectionHeader;
 use goblin::elf::sym::{Sym, Symtab};
-use goblin::error::Result;
 
 fn convert_symbol(s: &Sym) -> GoblinSymbol
     ensures { result ≡ symbol_converted s.now }
@@ -48,7 +48,8 @@ pub fn symbols_of<'a>(
 {
     let ctx = ctx_of(header);
     let count = range.size as usize / Sym::size(ctx.container);
-    Symtab::parse(bytes, range.offset as usize, count, ctx)
+    let table = Symtab::parse(bytes, range.offset as usize, count, ctx);
+    refused_at(range.offset, table)
 }
 
 impl Listed for Symtab<'_> {
@@ -76,14 +77,15 @@ pub fn relocs_of<'a>(
         (relocs_expected bytes.now header.now range.now is_rela) }
 {
     let ctx = ctx_of(header);
-    RelocSection::parse_inner(
+    let relocs = RelocSection::parse_inner(
         bytes,
         range.offset as usize,
         range.size as usize,
         is_rela,
         ctx,
         is_mips64el_in(header.e_machine, ctx),
-    )
+    );
+    refused_at(range.offset, relocs)
 }
 
 impl Listed for RelocSection<'_> {

@@ -13,6 +13,8 @@ pub struct GoblinRefusal {
     pub second: u64,
     pub third: u64,
     pub fourth: u64,
+    /// The offset in the file at which the thing that is refused begins.
+    pub offset: u64,
 }
 
 /// A range of bytes of the file.

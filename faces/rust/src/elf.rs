@@ -46,7 +46,7 @@ impl<'a> Elf<'a> {
     /// # Errors
     /// If the file is too short, does not start with the magic number, or has an invalid class or byte order.
     pub fn parse(bytes: &'a [u8]) -> Result<Self> {
-        let header = sys::goblin_header(bytes)?.expect("a file that is not refused has a header");
+        let header = sys::goblin_c_header(bytes)?.expect("a file that is not refused has a header");
         Ok(Elf { file: File(bytes), header })
     }
 
@@ -75,7 +75,7 @@ impl<'a> Elf<'a> {
     /// # Errors
     /// If the program headers are not inside the file.
     pub fn program_header(&self, index: usize) -> Result<Option<ProgramHeader>> {
-        sys::goblin_segment(&self.file, &self.header, index as u64)
+        sys::goblin_c_segment(&self.file, &self.header, index as u64)
     }
 
     /// Returns all program headers.
@@ -91,7 +91,7 @@ impl<'a> Elf<'a> {
     /// # Errors
     /// If the section headers are not inside the file.
     pub fn section_header(&self, index: usize) -> Result<Option<SectionHeader>> {
-        sys::goblin_section(&self.file, &self.header, index as u64)
+        sys::goblin_c_section(&self.file, &self.header, index as u64)
     }
 
     /// Returns all section headers.
@@ -116,7 +116,7 @@ impl<'a> Elf<'a> {
     /// If the section headers or their names are not inside the file.
     pub fn section_by_name(&self, name: &str) -> Result<Option<usize>> {
         let names = self.shdr_strtab()?.range;
-        let index = sys::goblin_section_by_name(&self.file, &self.header, &names, name.as_bytes())?;
+        let index = sys::goblin_c_section_by_name(&self.file, &self.header, &names, name.as_bytes())?;
         Ok(index.map(|index| index as usize))
     }
 
@@ -125,7 +125,7 @@ impl<'a> Elf<'a> {
     /// # Errors
     /// If the section headers are not inside the file.
     pub fn section_by_type(&self, sh_type: u32, first: usize) -> Result<Option<usize>> {
-        let index = sys::goblin_section_by_type(&self.file, &self.header, sh_type, first as u64)?;
+        let index = sys::goblin_c_section_by_type(&self.file, &self.header, sh_type, first as u64)?;
         Ok(index.map(|index| index as usize))
     }
 
@@ -146,7 +146,7 @@ impl<'a> Elf<'a> {
     /// # Errors
     /// If they are not inside the file.
     pub fn section_data(&self, section: &SectionHeader) -> Result<Option<&'a [u8]>> {
-        let range = sys::goblin_section_bytes(&self.file, section)?;
+        let range = sys::goblin_c_section_bytes(&self.file, section)?;
         Ok(range.map(|range| self.file.slice(range)))
     }
 
@@ -155,7 +155,7 @@ impl<'a> Elf<'a> {
     /// # Errors
     /// If they are not inside the file.
     pub fn segment_data(&self, segment: &ProgramHeader) -> Result<Option<&'a [u8]>> {
-        let range = sys::goblin_segment_bytes(&self.file, segment)?;
+        let range = sys::goblin_c_segment_bytes(&self.file, segment)?;
         Ok(range.map(|range| self.file.slice(range)))
     }
 
@@ -175,7 +175,7 @@ impl<'a> Elf<'a> {
     /// # Errors
     /// If the bytes are not inside the file.
     pub fn number(&self, offset: u64, width: usize) -> Result<Option<u64>> {
-        sys::goblin_number(&self.file, &self.header, offset, width as u64)
+        sys::goblin_c_number(&self.file, &self.header, offset, width as u64)
     }
 
     /// Returns the string table of the section names. It is empty if the file has none: the index of its section is 0 or past the end,
@@ -184,7 +184,7 @@ impl<'a> Elf<'a> {
     /// # Errors
     /// If the section headers are not inside the file.
     pub fn shdr_strtab(&self) -> Result<Strtab<'a>> {
-        let names = sys::goblin_section_names(&self.file, &self.header)?.unwrap_or_default();
+        let names = sys::goblin_c_section_names(&self.file, &self.header)?.unwrap_or_default();
         Ok(self.strtab(&names))
     }
 
@@ -199,7 +199,7 @@ impl<'a> Elf<'a> {
     /// # Errors
     /// If the section headers are not inside the file.
     pub fn linked_section(&self, section: &SectionHeader) -> Result<Option<SectionHeader>> {
-        sys::goblin_linked_section(&self.file, &self.header, section.sh_link.into())
+        sys::goblin_c_linked_section(&self.file, &self.header, section.sh_link.into())
     }
 
     /// Returns the symbols of a section of type `SHT_SYMTAB` or `SHT_DYNSYM`. Their names are in the linked section
@@ -209,7 +209,7 @@ impl<'a> Elf<'a> {
     /// If the section has another type, or the section headers or the symbols are not inside the file.
     pub fn symtab(&self, section: &SectionHeader) -> Result<Symtab<'a>> {
         if ![SHT_SYMTAB, SHT_DYNSYM].contains(&section.sh_type) {
-            return Err(Error::section_type(section.sh_type, SYMBOLS));
+            return Err(Error::section_type(section, SYMBOLS));
         }
         let names = self.linked_section(section)?.unwrap_or_default();
         Symtab::of(self, section.range(), self.strtab(&names))
@@ -242,7 +242,7 @@ impl<'a> Elf<'a> {
     /// If the section has another type, or the relocations are not inside the file.
     pub fn relocs(&self, section: &SectionHeader) -> Result<RelocSection<'a>> {
         if !holds_relocs(section) {
-            return Err(Error::section_type(section.sh_type, RELOCATIONS));
+            return Err(Error::section_type(section, RELOCATIONS));
         }
         RelocSection::of(self, section.range(), section.sh_type == SHT_RELA)
     }

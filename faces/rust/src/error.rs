@@ -1,5 +1,5 @@
 //! Why a file is refused.
-use crate::section_header::sht_to_str;
+use crate::section_header::{sht_to_str, SectionHeader};
 use crate::{raw, sys};
 use std::{error, fmt, io, result};
 
@@ -149,19 +149,26 @@ pub enum Kind {
 }
 
 impl Error {
+    /// Returns where in the file the thing begins that is refused: 0 for the header, the offset of a list of headers, of a table or of
+    /// a string table, or that of the string, the note or the bytes.
+    pub fn offset(&self) -> u64 {
+        self.0.offset
+    }
+
     #[inline]
     pub(crate) fn new(why: raw::Refusal) -> Self {
         Error(why)
     }
 
-    /// Returns the error of a section with this type that was read as `SYMBOLS` or `RELOCATIONS`.
-    pub(crate) fn section_type(sh_type: u32, expected: u32) -> Self {
-        Error(raw::Refusal { kind: SECTION_TYPE, item: expected, first: sh_type.into(), ..raw::Refusal::default() })
+    /// Returns the error of a section that was read as `SYMBOLS` or `RELOCATIONS` and has another type.
+    pub(crate) fn section_type(section: &SectionHeader, expected: u32) -> Self {
+        let (first, offset) = (section.sh_type.into(), section.sh_offset);
+        Error(raw::Refusal { kind: SECTION_TYPE, item: expected, first, offset, ..raw::Refusal::default() })
     }
 
     /// Returns the kind of this error.
     pub fn kind(&self) -> Kind {
-        let raw::Refusal { kind, item, first, second, third, fourth } = self.0;
+        let raw::Refusal { kind, item, first, second, third, fourth, .. } = self.0;
         let (byte, overflow) = (first as u8, fourth != 0);
         let item = ["", "invalid utf8", "section headers", "program headers"].get(item as usize).copied().unwrap_or("");
         match kind {
@@ -260,7 +267,7 @@ pub(crate) mod tests {
         let refusals = constants_after("GOBLIN_END = 1,\n");
         assert_eq!(refusals.len(), 21);
         for (comment, name, number) in refusals {
-            let why = raw::Refusal { kind: number, item: 0, first: 101, second: 102, third: 103, fourth: 1 };
+            let why = raw::Refusal { kind: number, first: 101, second: 102, third: 103, fourth: 1, ..raw::Refusal::default() };
             let printed = format!("{:?}", Error::new(why).kind()).replace("true", "1");
             let camel: String = name.split('_').map(|word| word[..1].to_string() + &word[1..].to_lowercase()).collect();
             let words: Vec<_> = printed.split(|c: char| !c.is_alphanumeric()).filter(|word| !word.is_empty()).collect();
@@ -309,7 +316,7 @@ pub(crate) mod tests {
     #[test]
     fn texts_are_the_library_s() {
         for (kind, item, text) in TEXTS {
-            let why = raw::Refusal { kind, item, first: 31, second: 5, third: 6, fourth: 1 };
+            let why = raw::Refusal { kind, item, first: 31, second: 5, third: 6, fourth: 1, offset: 7 };
             assert_eq!(Error::new(why).to_string(), text, "{kind}");
         }
         let kinds: Vec<_> = constants_after("GOBLIN_END = 1,\n").iter().map(|(_, _, number)| *number).collect();
@@ -320,10 +327,13 @@ pub(crate) mod tests {
 
     #[test]
     fn texts_of_section_types() {
-        let strings = Error::section_type(3, SYMBOLS);
+        let of_type = |sh_type| SectionHeader { sh_type, sh_offset: 0x40, ..SectionHeader::default() };
+        let strings = Error::section_type(&of_type(3), SYMBOLS);
         assert_eq!(strings.kind(), Kind::SectionType { sh_type: 3, expected: "symbols" });
         assert_eq!(strings.to_string(), "A section of type 0x3 (SHT_STRTAB) holds no symbols");
-        assert_eq!(format!("{:?}", Error::section_type(0x40, RELOCATIONS)), "A section of type 0x40 (UNKNOWN_SHT) holds no relocations");
+        assert_eq!(strings.offset(), 0x40);
+        let other = Error::section_type(&of_type(0x40), RELOCATIONS);
+        assert_eq!(format!("{other:?}"), "A section of type 0x40 (UNKNOWN_SHT) holds no relocations");
     }
 
     #[test]

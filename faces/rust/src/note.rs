@@ -77,7 +77,7 @@ impl<'a> Notes<'a> {
     }
 
     fn read(&self, offset: u64) -> Result<Option<raw::Note>> {
-        sys::goblin_note(&self.file, &self.header, &self.range, self.alignment, offset)
+        sys::goblin_c_note(&self.file, &self.header, &self.range, self.alignment, offset)
     }
 }
 

@@ -96,7 +96,7 @@ pub type ProgramHeaderIterator<'a> = Items<ProgramHeaders<'a>>;
 
 impl<'a> ProgramHeaders<'a> {
     pub(crate) fn of(elf: Elf<'a>) -> Result<Self> {
-        let count = sys::goblin_segment_count(&elf.file, &elf.header)?;
+        let count = sys::goblin_c_segment_count(&elf.file, &elf.header)?;
         Ok(ProgramHeaders { elf, count: count.expect("headers that are not refused have a count") })
     }
 }
@@ -118,7 +118,7 @@ impl List for ProgramHeaders<'_> {
 
     #[inline]
     fn read(&self, index: u64) -> Result<Option<ProgramHeader>> {
-        sys::goblin_segment(&self.elf.file, &self.elf.header, index)
+        sys::goblin_c_segment(&self.elf.file, &self.elf.header, index)
     }
 
     fn fill(&self, first: u64, items: &mut [ProgramHeader]) -> Result<Option<u64>> {

@@ -21,7 +21,7 @@ macro_rules! records {
 
 records! {
     /// Why a file is refused.
-    Refusal { kind: u32, item: u32, first: u64, second: u64, third: u64, fourth: u64 }
+    Refusal { kind: u32, item: u32, first: u64, second: u64, third: u64, fourth: u64, offset: u64 }
     /// Some bytes of the file.
     Range { offset: u64, size: u64 }
     /// A file's header.
@@ -206,7 +206,7 @@ pub mod tests {
         let goblin_h = crate::error::tests::goblin_h();
         let interface = goblin_h.split("#define GOBLIN_VERSION ").nth(1).and_then(|line| line.lines().next());
         assert_eq!(interface, Some(version.to_string().as_str()));
-        assert_filled(&layout.refusal, layout.size_of_refusal, 6);
+        assert_filled(&layout.refusal, layout.size_of_refusal, 7);
         assert_filled(&layout.range, layout.size_of_range, 2);
         assert_filled(&layout.header, layout.size_of_header, 18);
         assert_filled(&layout.section, layout.size_of_section, 10);

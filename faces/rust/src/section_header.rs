@@ -77,7 +77,7 @@ pub type SectionHeaderIterator<'a> = Items<SectionHeaders<'a>>;
 
 impl<'a> SectionHeaders<'a> {
     pub(crate) fn of(elf: Elf<'a>) -> Result<Self> {
-        let count = sys::goblin_section_count(&elf.file, &elf.header)?;
+        let count = sys::goblin_c_section_count(&elf.file, &elf.header)?;
         Ok(SectionHeaders { elf, count: count.expect("headers that are not refused have a count") })
     }
 }
@@ -99,11 +99,11 @@ impl List for SectionHeaders<'_> {
 
     #[inline]
     fn read(&self, index: u64) -> Result<Option<SectionHeader>> {
-        sys::goblin_section(&self.elf.file, &self.elf.header, index)
+        sys::goblin_c_section(&self.elf.file, &self.elf.header, index)
     }
 
     fn fill(&self, first: u64, items: &mut [SectionHeader]) -> Result<Option<u64>> {
-        sys::goblin_sections(&self.elf.file, &self.elf.header, first, items)
+        sys::goblin_c_sections(&self.elf.file, &self.elf.header, first, items)
     }
 }
 

@@ -36,7 +36,7 @@ impl<'a> Strtab<'a> {
     /// If the table is not inside the file.
     #[inline]
     pub fn get_bytes(&self, offset: usize) -> Result<Option<&'a [u8]>> {
-        let range = sys::goblin_string_bytes(&self.file, &self.range, offset as u64)?;
+        let range = sys::goblin_c_string_bytes(&self.file, &self.range, offset as u64)?;
         Ok(range.map(|range| self.file.slice(range)))
     }
 }

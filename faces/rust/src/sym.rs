@@ -92,7 +92,7 @@ pub type SymIterator<'a> = Items<Symtab<'a>>;
 impl<'a> Symtab<'a> {
     pub(crate) fn of(elf: &Elf<'a>, range: raw::Range, strtab: Strtab<'a>) -> Result<Self> {
         let Elf { file, header } = *elf;
-        let count = sys::goblin_symbol_count(&file, &header, &range)?;
+        let count = sys::goblin_c_symbol_count(&file, &header, &range)?;
         Ok(Symtab { file, header, range, count: count.expect("a table that is not refused has a count"), strtab })
     }
 
@@ -123,7 +123,7 @@ impl<'a> Symtab<'a> {
     /// before the address: compare `st_value + st_size` with it, if `st_size` is not 0. `goblin_symbol_by_address` in `goblin.h` has
     /// the whole rule.
     pub fn at(&self, address: u64) -> Option<usize> {
-        let index = sys::goblin_symbol_by_address(&self.file, &self.header, &self.range, address);
+        let index = sys::goblin_c_symbol_by_address(&self.file, &self.header, &self.range, address);
         made(index).map(|index| index as usize)
     }
 
@@ -133,7 +133,7 @@ impl<'a> Symtab<'a> {
     /// If the string table is not inside the file.
     pub fn find(&self, name: &str) -> Result<Option<usize>> {
         let names = &self.strtab.range;
-        let index = sys::goblin_symbol_by_name(&self.file, &self.header, &self.range, names, name.as_bytes())?;
+        let index = sys::goblin_c_symbol_by_name(&self.file, &self.header, &self.range, names, name.as_bytes())?;
         Ok(index.map(|index| index as usize))
     }
 }
@@ -155,11 +155,11 @@ impl List for Symtab<'_> {
 
     #[inline]
     fn read(&self, index: u64) -> Result<Option<Sym>> {
-        sys::goblin_symbol(&self.file, &self.header, &self.range, index)
+        sys::goblin_c_symbol(&self.file, &self.header, &self.range, index)
     }
 
     fn fill(&self, first: u64, items: &mut [Sym]) -> Result<Option<u64>> {
-        sys::goblin_symbols(&self.file, &self.header, &self.range, first, items)
+        sys::goblin_c_symbols(&self.file, &self.header, &self.range, first, items)
     }
 }
 

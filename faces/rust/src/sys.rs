@@ -34,36 +34,36 @@ macro_rules! calls {
 }
 
 calls! {
-    fn goblin_header() -> Header;
-    fn goblin_section_count(header: &Header) -> u64;
-    fn goblin_section(header: &Header, index: u64) -> SectionHeader;
-    fn goblin_sections(header: &Header, first: u64) into [SectionHeader] -> u64;
-    fn goblin_linked_section(header: &Header, index: u64) -> SectionHeader;
-    fn goblin_section_names(header: &Header) -> SectionHeader;
-    fn goblin_section_by_name(header: &Header, names: &Range) by name -> u64;
-    fn goblin_segment(header: &Header, index: u64) -> ProgramHeader;
-    fn goblin_section_by_type(header: &Header, sh_type: u32, first: u64) -> u64;
-    fn goblin_section_bytes(section: &SectionHeader) -> Range;
-    fn goblin_segment_count(header: &Header) -> u64;
-    fn goblin_segment_bytes(segment: &ProgramHeader) -> Range;
-    fn goblin_symbol_count(header: &Header, table: &Range) -> u64;
-    fn goblin_reloc_count(header: &Header, relocs: &Range, is_rela: bool) -> u64;
-    fn goblin_string_bytes(strings: &Range, offset: u64) -> Range;
-    fn goblin_number(header: &Header, offset: u64, width: u64) -> u64;
-    fn goblin_symbol(header: &Header, table: &Range, index: u64) -> Sym;
-    fn goblin_symbols(header: &Header, table: &Range, first: u64) into [Sym] -> u64;
-    fn goblin_symbol_by_name(header: &Header, table: &Range, names: &Range) by name -> u64;
-    fn goblin_symbol_by_address(header: &Header, table: &Range, address: u64) -> u64;
-    fn goblin_reloc(header: &Header, relocs: &Range, is_rela: bool, index: u64) -> Reloc;
-    fn goblin_relocs(header: &Header, relocs: &Range, is_rela: bool, first: u64) into [Reloc] -> u64;
-    fn goblin_note(header: &Header, notes: &Range, alignment: u64, offset: u64) -> Note;
-    fn goblin_string(strings: &Range, offset: u64) -> Range;
+    fn goblin_c_header() -> Header;
+    fn goblin_c_section_count(header: &Header) -> u64;
+    fn goblin_c_section(header: &Header, index: u64) -> SectionHeader;
+    fn goblin_c_sections(header: &Header, first: u64) into [SectionHeader] -> u64;
+    fn goblin_c_linked_section(header: &Header, index: u64) -> SectionHeader;
+    fn goblin_c_section_names(header: &Header) -> SectionHeader;
+    fn goblin_c_section_by_name(header: &Header, names: &Range) by name -> u64;
+    fn goblin_c_segment(header: &Header, index: u64) -> ProgramHeader;
+    fn goblin_c_section_by_type(header: &Header, sh_type: u32, first: u64) -> u64;
+    fn goblin_c_section_bytes(section: &SectionHeader) -> Range;
+    fn goblin_c_segment_count(header: &Header) -> u64;
+    fn goblin_c_segment_bytes(segment: &ProgramHeader) -> Range;
+    fn goblin_c_symbol_count(header: &Header, table: &Range) -> u64;
+    fn goblin_c_reloc_count(header: &Header, relocs: &Range, is_rela: bool) -> u64;
+    fn goblin_c_string_bytes(strings: &Range, offset: u64) -> Range;
+    fn goblin_c_number(header: &Header, offset: u64, width: u64) -> u64;
+    fn goblin_c_symbol(header: &Header, table: &Range, index: u64) -> Sym;
+    fn goblin_c_symbols(header: &Header, table: &Range, first: u64) into [Sym] -> u64;
+    fn goblin_c_symbol_by_name(header: &Header, table: &Range, names: &Range) by name -> u64;
+    fn goblin_c_symbol_by_address(header: &Header, table: &Range, address: u64) -> u64;
+    fn goblin_c_reloc(header: &Header, relocs: &Range, is_rela: bool, index: u64) -> Reloc;
+    fn goblin_c_relocs(header: &Header, relocs: &Range, is_rela: bool, first: u64) into [Reloc] -> u64;
+    fn goblin_c_note(header: &Header, notes: &Range, alignment: u64, offset: u64) -> Note;
+    fn goblin_c_string(strings: &Range, offset: u64) -> Range;
 }
 
 /// Returns the string whose range `goblin_string` returns. It is not checked once more for being UTF-8.
 #[inline]
 pub fn string<'a>(bytes: &'a [u8], strings: &Range, offset: u64) -> Result<Option<&'a str>> {
-    let string = goblin_string(bytes, strings, offset)?.map(|range| File(bytes).slice(range));
+    let string = goblin_c_string(bytes, strings, offset)?.map(|range| File(bytes).slice(range));
     debug_assert!(string.map_or(true, |string| str::from_utf8(string).is_ok()));
     // SAFETY: a string that the library returns is UTF-8, which is proved.
     Ok(string.map(|string| unsafe { str::from_utf8_unchecked(string) }))
