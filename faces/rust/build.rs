@@ -1,5 +1,6 @@
-//! Links libgoblin_c.a. It looks in the folder that GOBLIN_C_LIB names. Without GOBLIN_C_LIB it looks where the library is installed with
-//! this crate, where `rt lib` puts it in the repository, and where pkg-config finds it. It skips a library for another processor.
+//! Links libgoblin_c.a. It looks in the folder that GOBLIN_C_LIB names; a relative name starts from the folder of this file. Without
+//! GOBLIN_C_LIB it looks where the library is installed with this crate, where `rt lib` puts it in the repository, and where pkg-config
+//! finds it. It skips a library for another processor.
 //!
 //! If it finds none, it warns, and says where it looked and how to get the library. Only linking needs the library: without it `cargo
 //! check`, `cargo clippy` and `cargo doc` succeed, and a build ends with rustc's error that the native static library is missing.
@@ -32,12 +33,18 @@ fn from_pkg_config() -> Option<PathBuf> {
     Some(PathBuf::from(folder.trim_end())).filter(|_| output.status.success())
 }
 
-/// Returns the folders to look in.
+/// Returns the value of GOBLIN_C_LIB, if it is set and not empty.
+fn named() -> Option<PathBuf> {
+    env::var_os("GOBLIN_C_LIB").filter(|folder| !folder.is_empty()).map(PathBuf::from)
+}
+
+/// Returns the folders to look in. They are absolute, since rustc may run in another folder than this program.
 fn folders() -> Vec<PathBuf> {
-    if let Some(folder) = env::var_os("GOBLIN_C_LIB") {
-        return vec![PathBuf::from(folder)];
+    let here = Path::new(env!("CARGO_MANIFEST_DIR"));
+    if let Some(folder) = named() {
+        return vec![here.join(folder)];
     }
-    let above = |levels| Path::new(env!("CARGO_MANIFEST_DIR")).ancestors().nth(levels);
+    let above = |levels| here.ancestors().nth(levels);
     let installed = above(3).map(|folder| folder.join("lib"));
     let built = above(2).map(|folder| folder.join("crates/goblin_c/out"));
     installed.into_iter().chain(built).chain(from_pkg_config()).collect()
@@ -46,14 +53,17 @@ fn folders() -> Vec<PathBuf> {
 /// Warns that the library is missing, and says where it was looked for and how to get it.
 fn warn(folders: &[PathBuf], processors: &str) {
     let target = format!("{}-unknown-linux-gnu", processors);
-    let is_named = env::var_os("GOBLIN_C_LIB").is_some();
+    let by = match named() {
+        Some(folder) if folder.is_relative() => format!("GOBLIN_C_LIB={}, which is ", folder.display()),
+        Some(_) => "GOBLIN_C_LIB=".to_string(),
+        None => String::new(),
+    };
     println!("cargo:warning={} is missing for {}: linking this crate will fail", LIBRARY, processors);
     for folder in folders {
-        let by = if is_named { "GOBLIN_C_LIB=" } else { "" };
         let fault = fault(folder, processors).unwrap_or_default();
         println!("cargo:warning=looked for in {}{}: {}", by, folder.display(), fault);
     }
-    if !is_named && from_pkg_config().is_none() {
+    if named().is_none() && from_pkg_config().is_none() {
         println!("cargo:warning=looked for by pkg-config: it finds no goblin_c; PKG_CONFIG_PATH names the folder of goblin_c.pc");
     }
     let archive = format!("goblin_c-{}-{}.tar.gz", env!("CARGO_PKG_VERSION"), target);
