@@ -164,11 +164,15 @@ if has "$linker" && bare cargo --version > "$folder/output" 2>&1 \
     fi
     # Without the library only linking fails, and cargo prints each folder that was searched.
     mv "$libdir/libgoblin_c.a" "$folder/"
-    for command in check doc; do
-        quietly with_cargo $command PKG_CONFIG_PATH=
+    commands='check doc'
+    if bare cargo clippy --version > "$folder/output" 2>&1; then commands="$commands clippy"; fi
+    for command in $commands; do
+        quietly with_cargo "$command" PKG_CONFIG_PATH=
         says_where "looked for in $libdir: "
-        quietly with_cargo $command GOBLIN_C_LIB="$folder/rust"
+        quietly with_cargo "$command" GOBLIN_C_LIB="$folder/rust"
         says_where "looked for in GOBLIN_C_LIB=$folder/rust: "
+        quietly with_cargo "$command" GOBLIN_C_LIB=none
+        says_where "looked for in GOBLIN_C_LIB=none, which is $there/share/goblin_c/rust/none: "
     done
     if with_cargo build PKG_CONFIG_PATH= > "$folder/output" 2>&1; then
         fail "cargo links the program, though the library is missing"
