@@ -1,6 +1,6 @@
 #!/bin/sh
 # Tests the crate of faces/rust: sh checks/faces/rust.sh FOLDER, after c.sh
-# It runs the crate's tests, its examples over the files that made.c makes, cargo package, and clippy if the machine has it.
+# It runs the crate's tests, its examples over the files that made.c makes, cargo package and cargo doc, and clippy if the machine has it.
 . checks/faces/shared.sh
 export GOBLIN_C_LIB="$folder" CARGO_TARGET_DIR="$folder/target"
 crate=faces/rust/Cargo.toml
@@ -21,6 +21,7 @@ for example in symbols relocations needed segments; do
     [ "$said" = "$example: $folder/short: Malformed entity: Too small" ] || { echo "$example.rs prints this of a short file: $said"; exit 1; }
 done
 quietly cargo package --offline --allow-dirty --manifest-path $crate
+quietly env RUSTDOCFLAGS='-D warnings' cargo doc --offline --manifest-path $crate
 if cargo clippy --version > "$folder/output" 2>&1; then
     quietly cargo clippy --offline --all-targets --manifest-path $crate -- -D warnings
     echo "rust: clippy reports nothing"
