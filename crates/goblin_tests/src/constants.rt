@@ -1,5 +1,5 @@
 //! The numbers of the constants, as goblin's documentation and the gABI have them.
-use crate::told::{holds, is};
+use crate::compare::{holds, is};
 use goblin::elf::{header, note, program_header, section_header, sym};
 use goblin::{elf32, elf64};
 use std::fmt::Debug;

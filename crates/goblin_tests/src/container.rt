@@ -1,5 +1,5 @@
 //! Cases with their answers: contexts.
-use crate::told::is;
+use crate::compare::is;
 use goblin_base::container::{BE, CONTAINER, Container, Ctx, Endian, LE, constants};
 
 // The contexts of both classes in either byte order.
@@ -23,12 +23,12 @@ pub(crate) const BIG64: Ctx = Ctx {
     le: BE,
 };
 
-// The class of a context by both that tell it, with the size of an address there.
+// The class of a context by both calls that report it, with the size of an address there.
 fn class_of(ctx: Ctx) -> (bool, bool, usize) {
     (ctx.is_big(), ctx.container.is_big(), ctx.size())
 }
 
-// Whether its order is the little one, by both that tell it.
+// Whether a context is little endian, by both calls that report it.
 fn is_little(ctx: Ctx) -> (bool, bool) {
     (ctx.is_little_endian(), ctx.le.is_little())
 }

@@ -1,9 +1,9 @@
 //! Calls over large tables of zero bytes, which are empty strings, and records whose fields are 0. Each takes a time in
 //! proportion to its table: one that read for each item all that lies before it would take longer than the 60 seconds that
 //! a test has.
+use crate::compare::{differs, is};
 use crate::container::LITTLE32;
 use crate::sym::ZERO;
-use crate::told::{differs, is};
 use goblin::elf::note::NoteDataIterator;
 use goblin::elf::reloc::{Reloc, RelocSection};
 use goblin::elf::section_header::SectionHeader;

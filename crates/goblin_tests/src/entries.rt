@@ -1,6 +1,6 @@
 //! What the counted views and the entries of a string table show of themselves: numbers, and none of their bytes. And the
 //! calls of a view, each by itself.
-use crate::told::{answers, differs, holds, is, says};
+use crate::compare::{differs, holds, is, reports, returns};
 use goblin_base::entries::{Entries, Looked, Probes};
 use goblin_base::options::ParseMode;
 use goblin_base::walk::walk;
@@ -189,13 +189,13 @@ fn has_range(
     range: (usize, usize),
 ) -> bool {
     let view = Looked::new(BYTES);
-    answers(rt, view.range(offset, len, mode), range) && is(rt, view.count(), 0)
+    returns(rt, view.range(offset, len, mode), range) && is(rt, view.count(), 0)
 }
 
 // Reports whether a view refuses a range in strict mode with this message.
 fn refuses_range(rt: HostRuntime, offset: usize, len: usize, text: &str) -> bool {
     let view = Looked::new(BYTES);
-    says(rt, view.range(offset, len, ParseMode::Strict), text)
+    reports(rt, view.range(offset, len, ParseMode::Strict), text)
 }
 
 #[test]

@@ -1,5 +1,5 @@
 //! Cases with their answers: texts of errors.
-use crate::told::{differs, holds, is, tells};
+use crate::compare::{differs, has_message, holds, is};
 use goblin_base::error::{Error, Fault};
 use goblin_base::scroll;
 use std::alloc::{AllocError, AllocFailed};
@@ -143,7 +143,7 @@ static ERRORS: [(Error, &str); 24] = [
     (Error::Memory(AllocError), "Out of memory"),
 ];
 
-// Whether `Display` tells an error, or a part of one, by this text.
+// Whether `Display` writes an error, or a part of one, as this text.
 fn shows<E: Display>(rt: HostRuntime, part: &E, text: &str) -> bool {
     match format!(in rt.alloc(); "{part}") {
         Ok(shown) => is(rt, shown.as_str(), text),
@@ -151,51 +151,51 @@ fn shows<E: Display>(rt: HostRuntime, part: &E, text: &str) -> bool {
     }
 }
 
-// Whether both `line` and `Display` tell an error by this text, and `Display` its part by its own.
-fn tells_all(rt: HostRuntime, error: &Error, text: &str) -> bool {
-    let is_told = tells(rt, error, text) && shows(rt, error, text);
+// Whether both `line` and `Display` write an error as this message, and `Display` writes its part without the prefix.
+fn has_messages(rt: HostRuntime, error: &Error, text: &str) -> bool {
+    let is_shown = has_message(rt, error, text) && shows(rt, error, text);
     match error {
         Error::Malformed(fault) => {
-            is_told
+            is_shown
                 && shows(
                     rt,
                     fault,
                     text.strip_prefix(MALFORMED).unwrap_or("no fault"),
                 )
         }
-        Error::Scroll(e) => is_told && shows(rt, e, text),
-        _ => is_told,
+        Error::Scroll(e) => is_shown && shows(rt, e, text),
+        _ => is_shown,
     }
 }
 
 #[test]
-fn tells_errors(rt: HostRuntime) {
+fn returns_the_messages_of_errors(rt: HostRuntime) {
     for (error, text) in &ERRORS {
-        assert!(rt; holds(rt, text, tells_all(rt, error, text)));
+        assert!(rt; holds(rt, text, has_messages(rt, error, text)));
     }
 }
 
 #[test]
 fn makes_errors_of_others(rt: HostRuntime) {
     let place = Error::from(scroll::Error::BadOffset(20));
-    assert!(rt; tells_all(rt, &place, "bad offset 20"));
+    assert!(rt; has_messages(rt, &place, "bad offset 20"));
     let long = Error::from(scroll::Error::TooBig { size: 64, len: 52 });
-    assert!(rt; tells_all(rt, &long, "type is too big (64) for 52"));
+    assert!(rt; has_messages(rt, &long, "type is too big (64) for 52"));
     let no_text = Error::from(scroll::Error::BadInput {
         size: 30,
         msg: "invalid utf8",
     });
-    assert!(rt; tells_all(rt, &no_text, "bad input invalid utf8 (30)"));
-    assert!(rt; tells_all(rt, &Error::from(AllocError), "Out of memory"));
+    assert!(rt; has_messages(rt, &no_text, "bad input invalid utf8 (30)"));
+    assert!(rt; has_messages(rt, &Error::from(AllocError), "Out of memory"));
     let failed = Error::from(AllocFailed { value: 5u8 });
-    assert!(rt; tells_all(rt, &failed, "Out of memory"));
+    assert!(rt; has_messages(rt, &failed, "Out of memory"));
     let text =
         "Malformed entity: Integer do not fit: out of range integral type conversion attempted";
     let misfit = u8::try_from(256u16).err().map(Error::from);
-    assert!(rt; matches!(misfit, Some(error) if tells_all(rt, &error, text)));
+    assert!(rt; matches!(misfit, Some(error) if has_messages(rt, &error, text)));
     let misfit = u8::try_from(256u16)
         .err()
         .map(Fault::IntegerFit)
         .map(Error::Malformed);
-    assert!(rt; matches!(misfit, Some(error) if tells_all(rt, &error, text)));
+    assert!(rt; matches!(misfit, Some(error) if has_messages(rt, &error, text)));
 }

@@ -1,7 +1,7 @@
 //! Cases with their answers: headers in their three forms, new headers, and names.
+use crate::compare::{are_unchanged, differs, has_written, holds, is, is_named, reports, returns};
 use crate::container::{BIG64, LITTLE32};
 use crate::record::{reads, writes};
-use crate::told::{answers, are_kept, differs, holds, is, is_named, says, stands};
 use goblin_base::container::{BE, Container, Ctx, Endian, LE};
 use goblin_base::scroll::{IntoCtx, SizeWith, TryFromCtx, TryIntoCtx};
 use goblin_headers::header::{
@@ -59,7 +59,7 @@ fn puts(rt: HostRuntime, ctx: Ctx, bytes: &[u8]) -> bool {
     let mut room = [0xaa; 70];
     Header::new(ctx).into_ctx(&mut room, ctx);
     let sizes = (Header::size(ctx), Header::size_with(&ctx));
-    stands(rt, &room, bytes) && is(rt, sizes, (bytes.len(), bytes.len()))
+    has_written(rt, &room, bytes) && is(rt, sizes, (bytes.len(), bytes.len()))
 }
 
 #[test]
@@ -74,10 +74,10 @@ fn reads_and_writes_headers(rt: HostRuntime) {
 #[test]
 fn reads_and_writes_raw_headers(rt: HostRuntime) {
     let raw = header64::Header::from(READ);
-    assert!(rt; reads(rt, BIG, LE, &raw) && answers(rt, header64::Header::parse(BIG), raw));
+    assert!(rt; reads(rt, BIG, LE, &raw) && returns(rt, header64::Header::parse(BIG), raw));
     assert!(rt; is(rt, Header::from(raw), READ));
     let raw = header32::Header::from(Header::new(LITTLE32));
-    assert!(rt; reads(rt, NEW32, BE, &raw) && answers(rt, header32::Header::parse(NEW32), raw));
+    assert!(rt; reads(rt, NEW32, BE, &raw) && returns(rt, header32::Header::parse(NEW32), raw));
     assert!(rt; writes(rt, raw, BE, NEW32));
     assert!(rt; is(rt, Header::from(raw), Header::new(LITTLE32)));
     assert!(rt; writes(rt, header64::Header::from(Header::new(BIG64)), LE, NEW64));
@@ -147,9 +147,9 @@ fn refuses(rt: HostRuntime, row: &Refused) -> bool {
     bytes[4] = class;
     bytes[5] = order;
     let cut = &bytes[..len.min(64)];
-    says(rt, Header::try_from_ctx(cut, BE), texts[0])
-        && says(rt, header64::Header::try_from_ctx(cut, BE), texts[1])
-        && says(rt, header64::Header::parse(cut), texts[2])
+    reports(rt, Header::try_from_ctx(cut, BE), texts[0])
+        && reports(rt, header64::Header::try_from_ctx(cut, BE), texts[1])
+        && reports(rt, header64::Header::parse(cut), texts[2])
 }
 
 #[test]
@@ -162,34 +162,34 @@ fn refuses_headers_in_order(rt: HostRuntime) {
 #[test]
 fn refuses_a_cut_32_bit_header(rt: HostRuntime) {
     let cut = &NEW32[..51];
-    assert!(rt; says(rt, header32::Header::parse(cut), CUT51));
-    assert!(rt; says(rt, header32::Header::try_from_ctx(cut, LE), CUT51));
-    assert!(rt; says(rt, Header::try_from_ctx(cut, LE), CUT51));
+    assert!(rt; reports(rt, header32::Header::parse(cut), CUT51));
+    assert!(rt; reports(rt, header32::Header::try_from_ctx(cut, LE), CUT51));
+    assert!(rt; reports(rt, Header::try_from_ctx(cut, LE), CUT51));
 }
 
 #[test]
 fn asks_a_header(rt: HostRuntime) {
-    assert!(rt; answers(rt, READ.container(), Container::Big));
-    assert!(rt; answers(rt, READ.endianness(), BE));
-    assert!(rt; answers(rt, READ.ctx(), BIG64));
+    assert!(rt; returns(rt, READ.container(), Container::Big));
+    assert!(rt; returns(rt, READ.endianness(), BE));
+    assert!(rt; returns(rt, READ.ctx(), BIG64));
     let new = Header::new(LITTLE32);
-    assert!(rt; answers(rt, new.container(), Container::Little));
-    assert!(rt; answers(rt, new.endianness(), LE));
-    assert!(rt; answers(rt, new.ctx(), LITTLE32));
+    assert!(rt; returns(rt, new.container(), Container::Little));
+    assert!(rt; returns(rt, new.endianness(), LE));
+    assert!(rt; returns(rt, new.ctx(), LITTLE32));
 }
 
 #[test]
-fn tells_a_bad_class_and_a_bad_order(rt: HostRuntime) {
+fn refuses_a_bad_class_and_a_bad_order(rt: HostRuntime) {
     let mut header = READ;
     header.e_ident[4] = 10;
     header.e_ident[5] = 11;
     let text = "Malformed entity: Invalid class in Header: 10";
-    assert!(rt; says(rt, header.container(), text));
-    assert!(rt; says(rt, header.ctx(), text));
+    assert!(rt; reports(rt, header.container(), text));
+    assert!(rt; reports(rt, header.ctx(), text));
     let text = "Malformed entity: Invalid endianness in Header: 11";
-    assert!(rt; says(rt, header.endianness(), text));
+    assert!(rt; reports(rt, header.endianness(), text));
     header.e_ident[4] = 1;
-    assert!(rt; says(rt, header.ctx(), text));
+    assert!(rt; reports(rt, header.ctx(), text));
 }
 
 #[test]
@@ -200,7 +200,7 @@ fn keeps_low_bits(rt: HostRuntime) {
     assert!(rt; is(rt, header64::Header::from(wide).e_entry, 0x1_2345_6789));
 }
 
-// Little byte order, whatever the data byte says.
+// Little endian, whatever the data byte says.
 #[test]
 fn reads_headers_from_their_bytes(rt: HostRuntime) {
     let header = header32::Header::from_bytes(NEW32);
@@ -237,17 +237,22 @@ fn header_with(class: u8, order: u8) -> Header {
 }
 
 // Reports whether writing a header over so many bytes has this result, and writes nothing if it is refused.
-fn is_told<R: TryIntoCtx<Endian>>(rt: HostRuntime, header: R, len: usize, text: &str) -> bool {
+fn is_written_or_refused<R: TryIntoCtx<Endian>>(
+    rt: HostRuntime,
+    header: R,
+    len: usize,
+    text: &str,
+) -> bool {
     let mut room = [0xaa; 52];
     let room = &mut room[..len.min(52)];
     let written = header.try_into_ctx(room, BE);
-    says(rt, written, text) && is(rt, are_kept(room), text != OK)
+    reports(rt, written, text) && is(rt, are_unchanged(room), text != OK)
 }
 
 fn refuses_to_write(rt: HostRuntime, row: &Unwritten) -> bool {
     let header = header_with(row.0, row.1);
-    is_told(rt, header, row.2, row.3[0])
-        && is_told(rt, header32::Header::from(header), row.2, row.3[1])
+    is_written_or_refused(rt, header, row.2, row.3[0])
+        && is_written_or_refused(rt, header32::Header::from(header), row.2, row.3[1])
 }
 
 #[test]
@@ -263,7 +268,7 @@ fn reads_back(rt: HostRuntime, ctx: Ctx) -> bool {
     header.e_shstrndx = 0xffff;
     let mut room = [0; 64];
     match header.try_into_ctx(&mut room, LE) {
-        Ok(size) => answers(rt, Header::try_from_ctx(&room, LE), (header, size)),
+        Ok(size) => returns(rt, Header::try_from_ctx(&room, LE), (header, size)),
         Err(e) => differs(rt, &e, &header),
     }
 }

@@ -3,6 +3,8 @@
 #![tactic(auto)]
 
 #[cfg(test)]
+mod compare;
+#[cfg(test)]
 mod constants;
 #[cfg(test)]
 mod container;
@@ -40,8 +42,6 @@ mod strtab;
 mod sym;
 #[cfg(test)]
 mod table;
-#[cfg(test)]
-mod told;
 #[cfg(test)]
 mod traits;
 #[cfg(test)]

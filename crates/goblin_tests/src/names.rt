@@ -1,5 +1,5 @@
 //! Cases with their answers: names by a table.
-use crate::told::is;
+use crate::compare::is;
 use goblin_base::names::name_of;
 
 // A table of names in which one number stands twice.

@@ -2,9 +2,9 @@
 ghost use Rattle.std.specs.Prelude.{◌≡◌, length};
 ghost use Rattle.goblin.specs.Notes.{items_left};
 
+use crate::compare::{are_alike, differs, holds, is, number, reports, returns};
 use crate::container::{BIG32, LITTLE64};
 use crate::record::{refuses, writes};
-use crate::told::{answers, are_alike, differs, holds, is, number, says};
 use goblin::elf::note::{
     NT_GNU_BUILD_ID, NT_SIGINFO, Note, NoteDataIterator, NoteIterator, NotePlaces,
 };
@@ -78,9 +78,9 @@ fn calls_the_laws_of_notes() {
 #[test]
 fn refuses_cut_note_headers(rt: HostRuntime) {
     let cut = Nhdr64::try_from_ctx(&HEADER_LITTLE64[..23], LE);
-    assert!(rt; says(rt, cut, "type is too big (24) for 23"));
+    assert!(rt; reports(rt, cut, "type is too big (24) for 23"));
     let cut = Nhdr32::try_from_ctx(&HEADER_LITTLE32[..11], LE);
-    assert!(rt; says(rt, cut, "type is too big (12) for 11"));
+    assert!(rt; reports(rt, cut, "type is too big (12) for 11"));
     let header = Nhdr64 {
         n_namesz: u64::MAX,
         n_descsz: 0,
@@ -151,7 +151,7 @@ fn lies(rt: HostRuntime, offset: usize, alignment: usize, places: NotePlaces) ->
 }
 
 #[test]
-fn tells_the_places_of_notes(rt: HostRuntime) {
+fn finds_the_places_of_notes(rt: HostRuntime) {
     let second = NotePlaces {
         n_type: 3,
         name: 12,
@@ -162,8 +162,8 @@ fn tells_the_places_of_notes(rt: HostRuntime) {
     };
     assert!(rt; lies(rt, 32, 4, second));
     assert!(rt; lies(rt, 32, 8, NotePlaces { next: 40, ..second }));
-    let behind = Note::at(THREE, 132, (4, LITTLE64));
-    assert!(rt; says(rt, behind, "bad offset 132"));
+    let after_last = Note::at(THREE, 132, (4, LITTLE64));
+    assert!(rt; reports(rt, after_last, "bad offset 132"));
 }
 
 const SIXTEEN: &str = "Malformed entity: Notes has unimplemented alignment requirement: 0x10";
@@ -195,7 +195,7 @@ const REFUSED: &[(&[u8], usize, &str)] = &[
 fn refuses_what_is_no_note(rt: HostRuntime) {
     for row in REFUSED {
         let answer = Note::try_from_ctx(row.0, (row.1, LITTLE64));
-        assert!(rt; holds(rt, row, says(rt, answer, row.2)));
+        assert!(rt; holds(rt, row, reports(rt, answer, row.2)));
     }
 }
 
@@ -225,8 +225,8 @@ fn is_last(rt: HostRuntime, item: Option<Result<Note<'_>>>) -> bool {
     }
 }
 
-// Whether a range gives notes of just these types.
-fn gives(rt: HostRuntime, mut notes: NoteDataIterator, types: &[u32]) -> bool {
+// Whether the notes of a range have just these types.
+fn has_types(rt: HostRuntime, mut notes: NoteDataIterator, types: &[u32]) -> bool {
     for n_type in types {
         if !is_next(rt, notes.next(), *n_type) {
             return false;
@@ -235,8 +235,8 @@ fn gives(rt: HostRuntime, mut notes: NoteDataIterator, types: &[u32]) -> bool {
     is_last(rt, notes.next())
 }
 
-// Whether ranges give notes of just these types, one range after another.
-fn all_give(rt: HostRuntime, mut notes: NoteIterator, types: &[u32]) -> bool {
+// Whether the notes of ranges, one range after another, have just these types.
+fn all_have_types(rt: HostRuntime, mut notes: NoteIterator, types: &[u32]) -> bool {
     for n_type in types {
         if !is_next(rt, notes.next(), *n_type) {
             return false;
@@ -263,15 +263,20 @@ fn ranges(
     Ok(NoteIterator { iters, index })
 }
 
-// Whether these ranges of a program's notes, from the range with an index on, give notes of just these types.
-fn ranges_give(rt: HostRuntime, ends: &[(usize, usize)], index: usize, types: &[u32]) -> bool {
+// Whether these ranges of a program's notes, from the range with an index on, have notes of just these types.
+fn ranges_have_types(
+    rt: HostRuntime,
+    ends: &[(usize, usize)],
+    index: usize,
+    types: &[u32],
+) -> bool {
     match ranges(rt.alloc(), ends, index) {
-        Ok(notes) => all_give(rt, notes, types),
+        Ok(notes) => all_have_types(rt, notes, types),
         Err(e) => differs(rt, &e, &types),
     }
 }
 
-// Ranges, the index of the first one, and the types of the notes that they give.
+// Ranges, the index of the first one, and the types of their notes.
 const RANGES: &[(&[(usize, usize)], usize, &[u32])] = &[
     (&[(0, 132)], 0, &[1, 3, 5]),
     (PARTS, 0, &[1, 3, 5]),
@@ -283,10 +288,10 @@ const RANGES: &[(&[(usize, usize)], usize, &[u32])] = &[
 ];
 
 #[test]
-fn gives_the_notes_of_ranges(rt: HostRuntime) {
-    assert!(rt; gives(rt, range(THREE, 0, 132, 4), &[1, 3, 5]));
+fn returns_the_notes_of_ranges(rt: HostRuntime) {
+    assert!(rt; has_types(rt, range(THREE, 0, 132, 4), &[1, 3, 5]));
     for row in RANGES {
-        assert!(rt; holds(rt, row, ranges_give(rt, row.0, row.1, row.2)));
+        assert!(rt; holds(rt, row, ranges_have_types(rt, row.0, row.1, row.2)));
     }
 }
 
@@ -295,7 +300,7 @@ fn gives_the_notes_of_ranges(rt: HostRuntime) {
 fn ends_with(rt: HostRuntime, mut notes: NoteDataIterator, text: &str) -> bool {
     match notes.next() {
         Some(item) => {
-            says(rt, item, text) && is_last(rt, notes.next()) && is(rt, notes.offset, notes.size)
+            reports(rt, item, text) && is_last(rt, notes.next()) && is(rt, notes.offset, notes.size)
         }
         None => differs(rt, &"no note", &text),
     }
@@ -338,7 +343,7 @@ fn count(notes: NoteDataIterator) -> usize
     notes.count()
 }
 
-// The descriptor of the first note that tells a build, if each note before it can be read.
+// The descriptor of the first note with a build ID, if each note before it can be read.
 fn build_of(notes: NoteDataIterator<'_>) -> Result<Option<&[u8]>> {
     for note in notes {
         let note = note?;
@@ -367,9 +372,9 @@ fn bytes_of(rt: HostRuntime, ends: &[(usize, usize)]) -> Result<usize> {
 fn serves_a_loop_and_a_count(rt: HostRuntime) {
     assert!(rt; is(rt, count(range(THREE, 0, 132, 4)), 3));
     assert!(rt; is(rt, count(range(THREE, 0, usize::MAX, 4)), 4));
-    assert!(rt; answers(rt, build_of(range(THREE, 0, 132, 4)), Some(&THREE[48..68])));
-    assert!(rt; says(rt, build_of(range(CUT_NAME, 0, 16, 4)), "bad offset 20"));
-    assert!(rt; answers(rt, bytes_of(rt, &[(0, 32), (32, 68)]), 36));
+    assert!(rt; returns(rt, build_of(range(THREE, 0, 132, 4)), Some(&THREE[48..68])));
+    assert!(rt; reports(rt, build_of(range(CUT_NAME, 0, 16, 4)), "bad offset 20"));
+    assert!(rt; returns(rt, bytes_of(rt, &[(0, 32), (32, 68)]), 36));
 }
 
 // Whether a note of a row's name and type has the row's name of its type.
@@ -413,11 +418,11 @@ fn leads_to_the_headers_of_notes(rt: HostRuntime) {
     assert!(rt; is(rt, sizes, (12, 24)));
 }
 
-// A note as its layout says it, in numbers that no sum passes: type, name, descriptor, and how many bytes it takes.
-type PlainNote<'a> = (u128, &'a [u8], &'a [u8], u128);
+// A note as its layout defines it, in numbers that no sum overflows: type, name, descriptor, and how many bytes it takes.
+type NaiveNote<'a> = (u128, &'a [u8], &'a [u8], u128);
 
 // The number that the four bytes at a place stand for; bytes that there aren't are zeros.
-fn plain_number(bytes: &[u8], places: [usize; 4], order: Endian) -> u128 {
+fn naive_number(bytes: &[u8], places: [usize; 4], order: Endian) -> u128 {
     let [first, second, third, fourth] = places;
     let ranked = match order {
         Endian::Little => [fourth, third, second, first],
@@ -437,7 +442,7 @@ fn bad_offset(place: u128) -> Error {
 }
 
 // The bytes of a size at a place, or the fault of room.
-fn plain_part(bytes: &[u8], place: u128, size: u128) -> Result<&[u8]> {
+fn naive_part(bytes: &[u8], place: u128, size: u128) -> Result<&[u8]> {
     let len = bytes.len() as u128;
     if place > len || (place == len && size > 0) {
         return Err(bad_offset(place));
@@ -454,7 +459,7 @@ fn plain_part(bytes: &[u8], place: u128, size: u128) -> Result<&[u8]> {
 }
 
 // The least multiple of 4, or of 8, from a place on.
-fn plain_multiple(place: u128, align: usize) -> u128 {
+fn naive_multiple(place: u128, align: usize) -> u128 {
     let mut up = place;
     for _ in 0..8 {
         if up % 4 == 0 && (align == 4 || up % 8 == 0) {
@@ -466,17 +471,17 @@ fn plain_multiple(place: u128, align: usize) -> u128 {
 }
 
 // The note at the start of the bytes.
-fn plain_note(bytes: &[u8], alignment: usize, order: Endian) -> Result<PlainNote<'_>> {
+fn naive_note(bytes: &[u8], alignment: usize, order: Endian) -> Result<NaiveNote<'_>> {
     let align = alignment.max(4);
     if align != 4 && align != 8 {
         return Err(Error::Malformed(Fault::NoteAlign(align)));
     }
-    let _ = plain_part(bytes, 0, 12)?;
-    let namesz = plain_number(bytes, [0, 1, 2, 3], order);
-    let descsz = plain_number(bytes, [4, 5, 6, 7], order);
-    let n_type = plain_number(bytes, [8, 9, 10, 11], order);
+    let _ = naive_part(bytes, 0, 12)?;
+    let namesz = naive_number(bytes, [0, 1, 2, 3], order);
+    let descsz = naive_number(bytes, [4, 5, 6, 7], order);
+    let n_type = naive_number(bytes, [8, 9, 10, 11], order);
     let named = if namesz > 0 { namesz - 1 } else { 0 };
-    let name = plain_part(bytes, 12, named)?;
+    let name = naive_part(bytes, 12, named)?;
     // A name of these cases is either ASCII or not UTF-8.
     if name.iter().any(|byte| *byte >= 0x80) {
         return Err(Error::Scroll(scroll::Error::BadInput {
@@ -484,42 +489,46 @@ fn plain_note(bytes: &[u8], alignment: usize, order: Endian) -> Result<PlainNote
             msg: "invalid utf8",
         }));
     }
-    let place = plain_multiple(namesz.wrapping_add(12), align);
-    let desc = plain_part(bytes, place, descsz)?;
+    let place = naive_multiple(namesz.wrapping_add(12), align);
+    let desc = naive_part(bytes, place, descsz)?;
     Ok((
         n_type,
         name,
         desc,
-        plain_multiple(place.wrapping_add(descsz), align),
+        naive_multiple(place.wrapping_add(descsz), align),
     ))
 }
 
 // The note at an offset.
-fn plain_note_at(
+fn naive_note_at(
     bytes: &[u8],
     offset: u128,
     alignment: usize,
     order: Endian,
-) -> Result<PlainNote<'_>> {
+) -> Result<NaiveNote<'_>> {
     if offset >= bytes.len() as u128 {
         return Err(bad_offset(offset));
     }
-    plain_note(&bytes[offset as usize..], alignment, order)
+    naive_note(&bytes[offset as usize..], alignment, order)
 }
 
-// Whether an item at an offset is the plain one.
-fn is_item(rt: HostRuntime, item: Option<Result<Note<'_>>>, plain: &Result<PlainNote<'_>>) -> bool {
-    match (item, plain) {
+// Whether an item at an offset is the expected one.
+fn is_item(
+    rt: HostRuntime,
+    item: Option<Result<Note<'_>>>,
+    expected: &Result<NaiveNote<'_>>,
+) -> bool {
+    match (item, expected) {
         (Some(Ok(note)), Ok((n_type, name, desc, _))) => {
             let came = (u128::from(note.n_type), note.name.as_bytes(), note.desc);
             is(rt, came, (*n_type, *name, *desc))
         }
         (Some(Err(e)), Err(fault)) => are_alike(rt, &e, fault),
-        (item, plain) => differs(rt, &item, plain),
+        (item, expected) => differs(rt, &item, expected),
     }
 }
 
-// Whether the items of a range, and where its offset is after each, are the plain ones.
+// Whether the items of a range, and where its offset is after each, are the expected ones.
 fn agrees(rt: HostRuntime, mut notes: NoteDataIterator) -> bool {
     let (alignment, ctx) = notes.ctx;
     for _ in 0..8 {
@@ -528,12 +537,12 @@ fn agrees(rt: HostRuntime, mut notes: NoteDataIterator) -> bool {
         if offset >= notes.size as u128 {
             return is_last(rt, item) && is(rt, notes.offset as u128, offset);
         }
-        let plain = plain_note_at(notes.bytes, offset, alignment, ctx.le);
-        let next = match &plain {
-            Ok(plain) => offset.wrapping_add(plain.3),
+        let expected = naive_note_at(notes.bytes, offset, alignment, ctx.le);
+        let next = match &expected {
+            Ok(expected) => offset.wrapping_add(expected.3),
             Err(_) => notes.size as u128,
         };
-        if !is_item(rt, item, &plain) || !is(rt, notes.offset as u128, next) {
+        if !is_item(rt, item, &expected) || !is(rt, notes.offset as u128, next) {
             return false;
         }
     }
@@ -589,7 +598,7 @@ const HOSTILE: &[(&[u8], Ctx)] = &[
 ];
 
 #[test]
-fn gives_the_plain_notes_of_hostile_ranges(rt: HostRuntime) {
+fn returns_the_naive_notes_of_hostile_ranges(rt: HostRuntime) {
     for notes in HOSTILE {
         assert!(rt; agree(rt, notes.0, notes.1));
     }

@@ -1,5 +1,5 @@
 //! Cases with their answers: numbers read and put.
-use crate::told::is;
+use crate::compare::is;
 use goblin_base::container::{BE, Endian, LE};
 use goblin_base::number::{
     get_i32, get_i64, get_u8, get_u16, get_u32, get_u64, put_i32, put_i64, put_u8, put_u16,

@@ -1,5 +1,5 @@
 //! Cases with their answers: options.
-use crate::told::is;
+use crate::compare::is;
 use goblin_base::options::{ParseMode, ParseOptions};
 
 // The mode of options, and whether it is permissive.

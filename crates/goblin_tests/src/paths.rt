@@ -1,6 +1,6 @@
 //! What goblin's paths lead to: each public item is reached once by its path, with its type.
+use crate::compare::{differs, is, returns};
 use crate::container::{BIG32, LITTLE32, LITTLE64};
-use crate::told::{answers, differs, is};
 use goblin::container::{BE, CONTAINER, Container, Ctx, Endian, LE};
 use goblin::error::{Error, Fault};
 use goblin::options::{ParseMode, ParseOptions};
@@ -216,7 +216,7 @@ fn leads_to_what_all_modules_share(rt: HostRuntime) {
 fn leads_to_the_traits_of_writing(rt: HostRuntime) {
     let mut bytes = [1u8; 16];
     let written = elf::sym::Sym::default().try_into_ctx(&mut bytes, LITTLE32);
-    assert!(rt; answers(rt, written, 16) && is(rt, bytes, [0u8; 16]));
+    assert!(rt; returns(rt, written, 16) && is(rt, bytes, [0u8; 16]));
     let mut bytes = [1u8; 40];
     elf::section_header::SectionHeader::default().into_ctx(&mut bytes, LITTLE32);
     assert!(rt; is(rt, bytes, [0u8; 40]));

@@ -1,7 +1,7 @@
 //! Cases with their answers: program headers.
+use crate::compare::{holds, is, is_named, reports, returns, returns_list};
 use crate::container::{BIG64, LITTLE32};
 use crate::record::{SHORT, has_form, lacks_room, lists};
-use crate::told::{answers, gives, holds, is, is_named, says};
 use goblin_base::container::{BE, Container, Ctx, LE};
 use goblin_base::error::Result as Answer;
 use goblin_base::scroll::TryIntoCtx;
@@ -139,7 +139,7 @@ fn has_ranges(
 }
 
 #[test]
-fn tells_ranges(rt: HostRuntime) {
+fn returns_ranges(rt: HostRuntime) {
     assert!(rt; has_ranges(rt, &segment(), 0x1000..0x1040, 0x402000..0x402050));
     let far = ProgramHeader {
         p_offset: u64::MAX - 1,
@@ -200,11 +200,11 @@ fn file() -> [u8; 72] {
 #[test]
 fn reads_the_program_headers_of_a_file(rt: HostRuntime) {
     let one = ProgramHeader::parse(rt.alloc(), &file(), 16, 1, BIG64);
-    assert!(rt; gives(rt, one, &[segment()]));
-    assert!(rt; gives(rt, listed(rt, &file(), 16, 1, BIG64), &[segment()]));
+    assert!(rt; returns_list(rt, one, &[segment()]));
+    assert!(rt; returns_list(rt, listed(rt, &file(), 16, 1, BIG64), &[segment()]));
     let raw = program_header64::ProgramHeader::from(segment());
     let one = program_header64::ProgramHeader::parse(rt.alloc(), &file(), 16, 1, BE);
-    assert!(rt; gives(rt, one, &[raw]));
+    assert!(rt; returns_list(rt, one, &[raw]));
 }
 
 fn lists32(rt: HostRuntime, count: usize, wanted: Result<usize, &str>) -> bool {
@@ -218,7 +218,7 @@ fn reads_raw_program_headers_up_to_the_end(rt: HostRuntime) {
     assert!(rt; lists32(rt, 3, Err("bad offset 64")));
     assert!(rt; lists32(rt, usize::MAX, Err("bad offset 64")));
     let none = program_header64::ProgramHeader::parse(rt.alloc(), &[0; 112], usize::MAX, 0, BE);
-    assert!(rt; gives(rt, none, &[]));
+    assert!(rt; returns_list(rt, none, &[]));
 }
 
 #[test]
@@ -232,9 +232,9 @@ fn reads_raw_program_headers_of_zeros(rt: HostRuntime) {
         )
     );
     let two = program_header32::ProgramHeader::parse(rt.alloc(), &[0; 64], 0, 2, LE);
-    assert!(rt; gives(rt, two, &[zeros, zeros]));
+    assert!(rt; returns_list(rt, two, &[zeros, zeros]));
     let two = program_header32::ProgramHeader::from_bytes(rt.alloc(), &[0; 64], 2);
-    assert!(rt; gives(rt, two, &[zeros, zeros]));
+    assert!(rt; returns_list(rt, two, &[zeros, zeros]));
     let zeros = program_header64::default_is_zeros();
     assert!(rt;
         is(
@@ -244,9 +244,9 @@ fn reads_raw_program_headers_of_zeros(rt: HostRuntime) {
         )
     );
     let two = program_header64::ProgramHeader::parse(rt.alloc(), &[0; 112], 0, 2, BE);
-    assert!(rt; gives(rt, two, &[zeros, zeros]));
+    assert!(rt; returns_list(rt, two, &[zeros, zeros]));
     let two = program_header64::ProgramHeader::from_bytes(rt.alloc(), &[0; 112], 2);
-    assert!(rt; gives(rt, two, &[zeros, zeros]));
+    assert!(rt; returns_list(rt, two, &[zeros, zeros]));
 }
 
 static TYPES: [(u32, &str); 17] = [
@@ -296,10 +296,10 @@ fn alone(count: usize, index: usize) -> Answer<Option<u32>> {
 
 #[test]
 fn reads_each_program_header_alone(rt: HostRuntime) {
-    assert!(rt; answers(rt, alone(2, 0), Some(7)) && answers(rt, alone(2, 2), None));
-    assert!(rt; answers(rt, alone(0, 0), None));
-    assert!(rt; says(rt, alone(2, 1), "type is too big (32) for 31"));
-    assert!(rt; says(rt, alone(9, 2), "bad offset 68"));
+    assert!(rt; returns(rt, alone(2, 0), Some(7)) && returns(rt, alone(2, 2), None));
+    assert!(rt; returns(rt, alone(0, 0), None));
+    assert!(rt; reports(rt, alone(2, 1), "type is too big (32) for 31"));
+    assert!(rt; reports(rt, alone(9, 2), "bad offset 68"));
 }
 
 #[test]
@@ -334,14 +334,14 @@ fn loaded_from(address: u64) -> Answer<Option<usize>> {
 
 #[test]
 fn finds_offsets_by_addresses(rt: HostRuntime) {
-    assert!(rt; answers(rt, loaded_from(0xfff), None));
-    assert!(rt; answers(rt, loaded_from(0x1000), Some(0x40)));
-    assert!(rt; answers(rt, loaded_from(0x100f), Some(0x4f)));
-    assert!(rt; answers(rt, loaded_from(0x1010), Some(0x88)));
-    assert!(rt; answers(rt, loaded_from(0x1027), Some(0x9f)));
-    assert!(rt; answers(rt, loaded_from(0x1028), None));
-    assert!(rt; answers(rt, loaded_from(0x9001), Some(usize::MAX)));
-    assert!(rt; answers(rt, loaded_from(0x9008), Some(usize::MAX)));
+    assert!(rt; returns(rt, loaded_from(0xfff), None));
+    assert!(rt; returns(rt, loaded_from(0x1000), Some(0x40)));
+    assert!(rt; returns(rt, loaded_from(0x100f), Some(0x4f)));
+    assert!(rt; returns(rt, loaded_from(0x1010), Some(0x88)));
+    assert!(rt; returns(rt, loaded_from(0x1027), Some(0x9f)));
+    assert!(rt; returns(rt, loaded_from(0x1028), None));
+    assert!(rt; returns(rt, loaded_from(0x9001), Some(usize::MAX)));
+    assert!(rt; returns(rt, loaded_from(0x9008), Some(usize::MAX)));
 }
 
 #[test]

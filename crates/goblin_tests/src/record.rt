@@ -1,5 +1,5 @@
 //! What is asked of records of every kind: how they are read and written, and where there is no room for one.
-use crate::told::{answers, differs, is, says, stands, tells};
+use crate::compare::{differs, has_message, has_written, is, reports, returns};
 use goblin_base::error::Result;
 use goblin_base::scroll::{SizeWith, TryFromCtx, TryIntoCtx};
 use std::fmt::Debug;
@@ -37,7 +37,7 @@ pub(crate) fn writes<R: TryIntoCtx<C>, C>(
 ) -> bool {
     let mut room = [0xaa; 70];
     let written = record.try_into_ctx(&mut room, ctx);
-    answers(rt, written, bytes.len()) && stands(rt, &room, bytes)
+    returns(rt, written, bytes.len()) && has_written(rt, &room, bytes)
 }
 
 // Bytes, the first of which are too few for a record.
@@ -51,7 +51,7 @@ pub(crate) fn lacks_room<'a, R: TryFromCtx<'a, C> + TryIntoCtx<C> + Debug + Drop
     bytes: &'a [u8],
     text: &str,
 ) -> bool {
-    says(rt, R::try_from_ctx(bytes, ctx), text) && refuses(rt, record, ctx, bytes.len(), text)
+    reports(rt, R::try_from_ctx(bytes, ctx), text) && refuses(rt, record, ctx, bytes.len(), text)
 }
 
 // Whether writing a record over so many bytes is refused with this text, and nothing is written.
@@ -64,7 +64,7 @@ pub(crate) fn refuses<R: TryIntoCtx<C>, C>(
 ) -> bool {
     let mut room = [0xaa; 64];
     let room = &mut room[..len.min(64)];
-    says(rt, record.try_into_ctx(room, ctx), text) && stands(rt, room, b"")
+    reports(rt, record.try_into_ctx(room, ctx), text) && has_written(rt, room, b"")
 }
 
 // Whether so many are counted, or the answer is an error with this text.
@@ -75,7 +75,7 @@ pub(crate) fn counts(
 ) -> bool {
     match (count, wanted) {
         (Ok(count), Ok(wanted)) => is(rt, count, *wanted),
-        (Err(e), Err(text)) => tells(rt, &e, text),
+        (Err(e), Err(text)) => has_message(rt, &e, text),
         (count, _) => differs(rt, &count, wanted),
     }
 }

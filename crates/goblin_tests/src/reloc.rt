@@ -1,8 +1,8 @@
 //! Cases with their answers: relocations in their forms, the parts of an `r_info`, and relocation sections.
+use crate::compare::{differs, has_written, holds, is, reports, returns, returns_list};
 use crate::container::{BIG32, BIG64, LITTLE32, LITTLE64};
 use crate::record::{counts, has_form, reads, refuses, writes};
 use crate::table::yields;
-use crate::told::{answers, differs, gives, holds, is, says, stands};
 use goblin::elf::header::{EI_CLASS, EM_MIPS, EM_MIPS_RS3_LE, Header};
 use goblin::elf::reloc::{RelocIterator, RelocSection, is_mips64el, is_mips64el_in};
 use goblin::{elf, elf32, elf64};
@@ -48,7 +48,7 @@ fn without(ctx: Ctx, is_mips64el: bool) -> RelocCtx {
 }
 
 // A relocation without an addend.
-fn plain(r_offset: u64, r_sym: usize, r_type: u32) -> Reloc {
+fn without_addend(r_offset: u64, r_sym: usize, r_type: u32) -> Reloc {
     Reloc {
         r_offset,
         r_addend: None,
@@ -71,10 +71,10 @@ fn reads_and_writes_a_relocation_of_each_class_and_order(rt: HostRuntime) {
         assert!(rt; has_form(rt, CALL, (true, *ctx), bytes));
     }
     let none = Reloc::try_from_ctx(b"", (true, LITTLE32));
-    assert!(rt; says(rt, none, "bad offset 0"));
+    assert!(rt; reports(rt, none, "bad offset 0"));
     let mut room = [0xaa; 13];
     CALL.into_ctx(&mut room, (true, LITTLE32));
-    assert!(rt; stands(rt, &room, RELA_LITTLE));
+    assert!(rt; has_written(rt, &room, RELA_LITTLE));
 }
 
 // Whether a relocation without an addend is read from these bytes and written as them, through the pair or not, which
@@ -88,17 +88,33 @@ fn goes_through(
 ) -> bool {
     let mut room = [0xaa; 16];
     let written = reloc.write_inner(&mut room, (false, ctx), is_pair);
-    answers(rt, written, bytes.len())
-        && stands(rt, &room, bytes)
+    returns(rt, written, bytes.len())
+        && has_written(rt, &room, bytes)
         && has_form(rt, reloc, without(ctx, is_pair), bytes)
 }
 
 #[test]
 fn goes_through_the_pair_where_asked(rt: HostRuntime) {
-    assert!(rt; goes_through(rt, plain(0, 2, 1), LITTLE32, false, REL));
-    assert!(rt; goes_through(rt, plain(0, 1, 33554432), LITTLE32, true, REL));
-    assert!(rt; goes_through(rt, plain(0x150f0, 51511296, 0), LITTLE64, false, REL_MIPS));
-    assert!(rt; goes_through(rt, plain(0x150f0, 0, 0x1203), LITTLE64, true, REL_MIPS));
+    assert!(rt; goes_through(rt, without_addend(0, 2, 1), LITTLE32, false, REL));
+    assert!(rt; goes_through(rt, without_addend(0, 1, 33554432), LITTLE32, true, REL));
+    assert!(rt;
+        goes_through(
+            rt,
+            without_addend(0x150f0, 51511296, 0),
+            LITTLE64,
+            false,
+            REL_MIPS
+        )
+    );
+    assert!(rt;
+        goes_through(
+            rt,
+            without_addend(0x150f0, 0, 0x1203),
+            LITTLE64,
+            true,
+            REL_MIPS
+        )
+    );
 }
 
 #[test]
@@ -130,7 +146,14 @@ fn reads_raw_relocations(rt: HostRuntime) {
 #[test]
 fn writes_the_low_bits_and_a_missing_addend_as_0(rt: HostRuntime) {
     let bytes = b"\x10\0\0\0\xff\x56\x34\x12\0\0\0\0";
-    assert!(rt; writes(rt, plain(16, 0x123456, 0x1ff), (true, LITTLE32), bytes));
+    assert!(rt;
+        writes(
+            rt,
+            without_addend(16, 0x123456, 0x1ff),
+            (true, LITTLE32),
+            bytes
+        )
+    );
 }
 
 #[test]
@@ -172,7 +195,7 @@ fn converts_to_raw_relocations_and_back(rt: HostRuntime) {
         Reloc::from(reloc64::Rela::from(CALL)),
     ];
     assert!(rt; is(rt, with, [CALL; 2]));
-    let bare = plain(16, 2, 1);
+    let bare = without_addend(16, 2, 1);
     let without = [
         Reloc::from(reloc32::Rel::from(CALL)),
         Reloc::from(reloc64::Rel::from(CALL)),
@@ -245,7 +268,7 @@ const MIPS: &[u8] = b"\0\0\0\0\0\0\0\0\0\0\0\0\0\0\0\0\0\0\0\0\0\0\0\0\0\0\0\0\0
 \xf0\x50\x01\0\0\0\0\0\0\0\0\0\0\0\x12\x03";
 
 // The relocation after the zeros, with the pair or without, as a section of its own.
-fn behind(bytes: &[u8], is_mips64el: bool) -> Result<RelocSection<'_>> {
+fn after_zeros(bytes: &[u8], is_mips64el: bool) -> Result<RelocSection<'_>> {
     RelocSection::parse_inner(bytes, 64, 16, false, LITTLE64, is_mips64el)
 }
 
@@ -275,7 +298,7 @@ static COUNTED: [(usize, usize, usize, std::result::Result<usize, &str>); 10] = 
 ];
 
 #[test]
-fn counts_whole_relocations_or_tells_the_fault(rt: HostRuntime) {
+fn counts_whole_relocations_or_refuses(rt: HostRuntime) {
     for row in &COUNTED {
         let bytes = &[0; 50][..row.0.min(50)];
         let count = match RelocSection::parse(bytes, row.1, row.2, true, LITTLE64) {
@@ -300,28 +323,28 @@ fn loops_over_one(rt: HostRuntime, section: &RelocSection, want: &Reloc) -> bool
 
 // Reports whether the section after the zeros has just this relocation, by each way of reading it.
 fn has_one(rt: HostRuntime, is_mips64el: bool, want: &Reloc) -> bool {
-    match behind(MIPS, is_mips64el) {
+    match after_zeros(MIPS, is_mips64el) {
         Ok(section) => {
             loops_over_one(rt, &section, want)
                 && yields(rt, section.iter(), &[*want])
                 && is(rt, (section.get(0), section.get(1)), (Some(*want), None))
                 && is(rt, (section.len(), section.is_empty()), (1, false))
-                && gives(rt, section.to_vec(rt.alloc()), &[*want])
+                && returns_list(rt, section.to_vec(rt.alloc()), &[*want])
         }
         Err(e) => differs(rt, &e, want),
     }
 }
 
 #[test]
-fn gives_a_relocation_through_the_pair_by_each_way_of_asking(rt: HostRuntime) {
+fn returns_a_relocation_of_the_pair_in_each_way(rt: HostRuntime) {
     elf::reloc::laws();
-    assert!(rt; has_one(rt, false, &plain(0x150f0, 51511296, 0)));
-    assert!(rt; has_one(rt, true, &plain(0x150f0, 0, 0x1203)));
+    assert!(rt; has_one(rt, false, &without_addend(0x150f0, 51511296, 0)));
+    assert!(rt; has_one(rt, true, &without_addend(0x150f0, 0, 0x1203)));
 }
 
 // The relocations that are left live as long as the bytes, and not only as long as the section.
 fn relocs_of(bytes: &[u8]) -> Option<RelocIterator<'_>> {
-    let section = behind(bytes, false).ok()?;
+    let section = after_zeros(bytes, false).ok()?;
     Some(section.iter())
 }
 
@@ -350,7 +373,7 @@ fn counts_with_the_iterator_alone(rt: HostRuntime) {
         )
     );
     let left = relocs_of(MIPS).and_then(|mut left| left.next());
-    assert!(rt; is(rt, left, Some(plain(0x150f0, 51511296, 0))));
+    assert!(rt; is(rt, left, Some(without_addend(0x150f0, 51511296, 0))));
 }
 
 #[test]

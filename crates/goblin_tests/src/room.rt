@@ -1,5 +1,5 @@
 //! Whether there is room, in rows.
-use crate::told::{holds, says};
+use crate::compare::{holds, reports};
 use goblin_base::error::Error;
 use goblin_base::number;
 use goblin_base::room::room;
@@ -21,10 +21,10 @@ static ROOMS: [(usize, usize, usize, &str); 10] = [
 ];
 
 #[test]
-fn has_room_or_tells_the_fault(rt: HostRuntime) {
+fn has_room_or_is_refused(rt: HostRuntime) {
     for row in &ROOMS {
         let answer = room(row.0, row.1, row.2).map_err(Error::from);
-        assert!(rt; holds(rt, row, says(rt, answer, row.3)));
+        assert!(rt; holds(rt, row, reports(rt, answer, row.3)));
     }
 }
 
@@ -32,6 +32,6 @@ fn has_room_or_tells_the_fault(rt: HostRuntime) {
 fn is_reached_through_numbers_too(rt: HostRuntime) {
     for row in &ROOMS {
         let answer = number::room(row.0, row.1, row.2).map_err(Error::from);
-        assert!(rt; holds(rt, row, says(rt, answer, row.3)));
+        assert!(rt; holds(rt, row, reports(rt, answer, row.3)));
     }
 }

@@ -1,7 +1,7 @@
 //! Cases with their answers: section headers.
+use crate::compare::{has_written, holds, is, is_named, reports, returns, returns_list};
 use crate::container::{BIG64, LITTLE32};
 use crate::record::{SHORT, has_form, lacks_room, lists};
-use crate::told::{answers, gives, holds, is, is_named, says, stands};
 use goblin_base::container::{BE, Ctx, LE};
 use goblin_base::error::Result as Answer;
 use goblin_base::scroll::IntoCtx;
@@ -46,7 +46,7 @@ fn section() -> SectionHeader {
 fn is_written(rt: HostRuntime, ctx: Ctx, bytes: &'static [u8]) -> bool {
     let mut room = [0xaa; 70];
     section().into_ctx(&mut room, ctx);
-    stands(rt, &room, bytes)
+    has_written(rt, &room, bytes)
         && is(rt, SectionHeader::size(ctx), bytes.len())
         && has_form(rt, section(), ctx, bytes)
 }
@@ -164,7 +164,7 @@ fn has_ranges(
 }
 
 #[test]
-fn tells_ranges(rt: HostRuntime) {
+fn returns_ranges(rt: HostRuntime) {
     let memory = 0x401000..0x401020;
     assert!(rt; has_ranges(rt, &section(), Some(0x1000..0x1020), memory));
     let memory = 0x401000..0x401020;
@@ -216,9 +216,9 @@ fn checks(rt: HostRuntime, row: &(u32, u64, u64, &str)) -> bool {
         sh_addr: row.2,
         ..section()
     };
-    says(rt, header.check_size(120), row.3)
-        && says(rt, header.check_size_with_opts(120, false), row.3)
-        && says(rt, header.check_size_with_opts(120, true), OK)
+    reports(rt, header.check_size(120), row.3)
+        && reports(rt, header.check_size_with_opts(120, false), row.3)
+        && reports(rt, header.check_size_with_opts(120, true), OK)
 }
 
 #[test]
@@ -236,7 +236,7 @@ fn checks_no_empty_section(rt: HostRuntime) {
         sh_addr: u64::MAX,
         ..section()
     };
-    assert!(rt; says(rt, empty.check_size(120), "Ok"));
+    assert!(rt; reports(rt, empty.check_size(120), "Ok"));
 }
 
 // How many zero bytes there are, what `sh_size` of the header at their start is, the offset, the
@@ -307,7 +307,7 @@ fn first() -> SectionHeader {
 
 fn read(rt: HostRuntime, count: usize, headers: &[SectionHeader]) -> bool {
     let answer = SectionHeader::parse(rt.alloc(), &file(), 16, count, BIG64);
-    gives(rt, answer, headers) && gives(rt, listed(rt, &file(), 16, count), headers)
+    returns_list(rt, answer, headers) && returns_list(rt, listed(rt, &file(), 16, count), headers)
 }
 
 // Where the count is 0, the first header's size is the count.
@@ -321,9 +321,9 @@ fn reads_the_section_headers_of_a_file(rt: HostRuntime) {
 #[test]
 fn reads_one_section_header_of_zeros(rt: HostRuntime) {
     let one = SectionHeader::parse_from(rt.alloc(), &[0; 64], 0, 0, BIG64);
-    assert!(rt; gives(rt, one, &[SectionHeader::default()]));
+    assert!(rt; returns_list(rt, one, &[SectionHeader::default()]));
     let one = SectionHeader::parse_from(rt.alloc(), &[0; 40], 0, 0, LITTLE32);
-    assert!(rt; gives(rt, one, &[SectionHeader::default()]));
+    assert!(rt; returns_list(rt, one, &[SectionHeader::default()]));
 }
 
 // 40 zero bytes, and a section of four bytes of names at 52.
@@ -343,7 +343,7 @@ fn reads_raw_section_headers_from_bytes(rt: HostRuntime) {
         ..none
     };
     let two = section_header32::SectionHeader::from_bytes(rt.alloc(), NAMES, 2);
-    assert!(rt; gives(rt, two, &[none, names]));
+    assert!(rt; returns_list(rt, two, &[none, names]));
 }
 
 #[test]
@@ -357,7 +357,7 @@ fn reads_raw_section_headers_of_zeros(rt: HostRuntime) {
         )
     );
     let two = section_header32::SectionHeader::from_bytes(rt.alloc(), &[0; 80], 2);
-    assert!(rt; gives(rt, two, &[zeros, zeros]));
+    assert!(rt; returns_list(rt, two, &[zeros, zeros]));
     let zeros = section_header64::default_is_zeros();
     assert!(rt;
         is(
@@ -367,7 +367,7 @@ fn reads_raw_section_headers_of_zeros(rt: HostRuntime) {
         )
     );
     let two = section_header64::SectionHeader::from_bytes(rt.alloc(), &[0; 128], 2);
-    assert!(rt; gives(rt, two, &[zeros, zeros]));
+    assert!(rt; returns_list(rt, two, &[zeros, zeros]));
 }
 
 static TYPES: [(u32, &str); 18] = [
@@ -512,13 +512,13 @@ fn whole(offset: usize, count: usize) -> Answer<usize> {
 
 #[test]
 fn reads_each_section_header_alone(rt: HostRuntime) {
-    assert!(rt; answers(rt, alone(8, 3, 0), Some(1)) && answers(rt, alone(8, 3, 1), Some(2)));
-    assert!(rt; says(rt, alone(8, 3, 2), "type is too big (40) for 39"));
-    assert!(rt; answers(rt, alone(8, 3, 3), None) && answers(rt, alone(8, 1, 1), None));
-    assert!(rt; says(rt, alone(8, 5, 3), "bad offset 128"));
+    assert!(rt; returns(rt, alone(8, 3, 0), Some(1)) && returns(rt, alone(8, 3, 1), Some(2)));
+    assert!(rt; reports(rt, alone(8, 3, 2), "type is too big (40) for 39"));
+    assert!(rt; returns(rt, alone(8, 3, 3), None) && returns(rt, alone(8, 1, 1), None));
+    assert!(rt; reports(rt, alone(8, 5, 3), "bad offset 128"));
     let last = usize::MAX;
     assert!(rt;
-        says(
+        reports(
             rt,
             alone(8, last, last - 1),
             "bad offset 18446744073709551615"
@@ -528,19 +528,19 @@ fn reads_each_section_header_alone(rt: HostRuntime) {
 
 #[test]
 fn counts_section_headers_by_the_first(rt: HostRuntime) {
-    assert!(rt; answers(rt, alone(8, 0, 1), Some(2)) && answers(rt, alone(8, 0, 3), None));
-    assert!(rt; says(rt, alone(8, 0, 2), "type is too big (40) for 39"));
-    assert!(rt; answers(rt, alone(48, 0, 0), Some(2)) && answers(rt, alone(48, 0, 1), None));
-    assert!(rt; says(rt, alone(100, 0, 7), "type is too big (40) for 27"));
-    assert!(rt; answers(rt, alone(0, 3, 0), None));
+    assert!(rt; returns(rt, alone(8, 0, 1), Some(2)) && returns(rt, alone(8, 0, 3), None));
+    assert!(rt; reports(rt, alone(8, 0, 2), "type is too big (40) for 39"));
+    assert!(rt; returns(rt, alone(48, 0, 0), Some(2)) && returns(rt, alone(48, 0, 1), None));
+    assert!(rt; reports(rt, alone(100, 0, 7), "type is too big (40) for 27"));
+    assert!(rt; returns(rt, alone(0, 3, 0), None));
 }
 
 #[test]
 fn counts_whole_section_headers(rt: HostRuntime) {
-    assert!(rt; answers(rt, whole(8, 3), 2) && answers(rt, whole(8, 1), 1));
-    assert!(rt; answers(rt, whole(8, 0), 2) && answers(rt, whole(0, 3), 0));
-    assert!(rt; answers(rt, whole(100, 3), 0) && answers(rt, whole(300, 3), 0));
-    assert!(rt; says(rt, whole(100, 0), "type is too big (40) for 27"));
+    assert!(rt; returns(rt, whole(8, 3), 2) && returns(rt, whole(8, 1), 1));
+    assert!(rt; returns(rt, whole(8, 0), 2) && returns(rt, whole(0, 3), 0));
+    assert!(rt; returns(rt, whole(100, 3), 0) && returns(rt, whole(300, 3), 0));
+    assert!(rt; reports(rt, whole(100, 0), "type is too big (40) for 27"));
 }
 
 // The `sh_name` of the section that is a table at an index, in a list and in a lazy table: the sections have the types
@@ -577,7 +577,7 @@ fn links_to_sections_with_bytes(rt: HostRuntime) {
     assert!(rt; is(rt, linked(3), [None; 2]));
 }
 
-// What a header's `e_shstrndx` says, the `sh_link` of the first section if there is one, and the index of the section
+// A header's `e_shstrndx`, the `sh_link` of the first section if there is one, and the index of the section
 // that holds the names.
 static NAMES_AT: [(u16, Option<u32>, usize); 5] = [
     (2, Some(7), 2),
@@ -601,7 +601,7 @@ fn names_at(e_shstrndx: u16, link: Option<u32>) -> usize {
 }
 
 #[test]
-fn tells_where_the_names_are(rt: HostRuntime) {
+fn finds_the_section_of_the_names(rt: HostRuntime) {
     for row in &NAMES_AT {
         assert!(rt; holds(rt, row, is(rt, names_at(row.0, row.1), row.2)));
     }

@@ -1,5 +1,5 @@
 //! Cases of string tables with their answers.
-use crate::told::{answers, differs, gives, holds, is, says};
+use crate::compare::{differs, holds, is, reports, returns, returns_list};
 use goblin_base::error::Result;
 use goblin_base::options::{ParseMode, ParseOptions};
 use goblin_base::strtab::{Strtab, WantedName, bytes_in_range, laws, string_at};
@@ -18,7 +18,7 @@ const BUSTA: [&str; 4] = ["", "printf", "memmove", "busta"];
 // Whether the table has these strings.
 fn has_strings(rt: HostRuntime, table: Result<Strtab<'_>>, strings: &[&str]) -> bool {
     match table {
-        Ok(table) => gives(rt, table.to_vec(rt.alloc()), strings),
+        Ok(table) => returns_list(rt, table.to_vec(rt.alloc()), strings),
         Err(e) => differs(rt, &e, &strings),
     }
 }
@@ -29,9 +29,9 @@ fn splits(rt: HostRuntime, bytes: &[u8], delim: u8, strings: &[&str]) -> bool {
 }
 
 #[test]
-fn tells_the_strings(rt: HostRuntime) {
+fn lists_the_strings(rt: HostRuntime) {
     assert!(rt; splits(rt, NAMES, 0, SECTIONS));
-    assert!(rt; gives(rt, Strtab::new(NAMES, 0).to_vec(rt.alloc()), SECTIONS));
+    assert!(rt; returns_list(rt, Strtab::new(NAMES, 0).to_vec(rt.alloc()), SECTIONS));
     assert!(rt; splits(rt, b"\0printf\0memmove\0busta", 0, &BUSTA));
     assert!(rt; splits(rt, b"printf\0memmove\0busta", 0, &BUSTA[1..]));
 }
@@ -42,13 +42,13 @@ fn calls_the_laws_of_string_tables() {
 }
 
 #[test]
-fn tells_the_strings_between_delimiters(rt: HostRuntime) {
+fn lists_the_strings_between_delimiters(rt: HostRuntime) {
     assert!(rt; splits(rt, b"\0printf\0memmove\0busta\0", 0, &BUSTA));
     assert!(rt; splits(rt, b"\nprintf\nmemmove\nbusta\n", b'\n', &BUSTA));
     assert!(rt; splits(rt, b"\xC6\x92oo", b'\n', &["\u{192}oo"]));
 }
 
-// Offsets, and what looking them up answers.
+// Offsets, and what looking them up returns.
 const IN_NAMES: &[(usize, Option<&str>)] = &[
     (3, Some("ext")),
     (6, Some("")),
@@ -75,8 +75,8 @@ const IN_FOO: &[(usize, Option<&str>)] = &[
 ];
 
 // Whether looking up each offset of a table has its answer.
-fn looks_up(rt: HostRuntime, table: &Strtab<'_>, answers: &[(usize, Option<&str>)]) -> bool {
-    for row in answers {
+fn looks_up(rt: HostRuntime, table: &Strtab<'_>, expected: &[(usize, Option<&str>)]) -> bool {
+    for row in expected {
         if !holds(rt, row, is(rt, table.get_at(row.0), row.1)) {
             return false;
         }
@@ -89,11 +89,11 @@ fn looks_up_in(
     rt: HostRuntime,
     bytes: &[u8],
     delim: u8,
-    answers: &[(usize, Option<&str>)],
+    expected: &[(usize, Option<&str>)],
 ) -> bool {
     match Strtab::new_preparsed(rt.alloc(), bytes, delim) {
-        Ok(table) => looks_up(rt, &table, answers),
-        Err(e) => differs(rt, &e, &answers),
+        Ok(table) => looks_up(rt, &table, expected),
+        Err(e) => differs(rt, &e, &expected),
     }
 }
 
@@ -105,7 +105,7 @@ fn looks_up_offsets(rt: HostRuntime) {
     assert!(rt; looks_up_in(rt, FOO, b'\n', IN_FOO));
 }
 
-// Whether the plain reading, `get_unsafe` and `index` have this text, in a table of so many bytes.
+// Whether `get`, `get_unsafe` and `index` return this text, in a table of so many bytes.
 fn reads(rt: HostRuntime, table: &Strtab<'_>, len: usize, offset: usize, text: &str) -> bool {
     match table.get(offset) {
         Some(Ok(found)) => is(
@@ -122,15 +122,15 @@ fn reads(rt: HostRuntime, table: &Strtab<'_>, len: usize, offset: usize, text: &
     }
 }
 
-// Whether a plain reading refuses with this text.
+// Whether `get` fails with this message.
 fn cannot_read(rt: HostRuntime, read: Option<Result<&str>>, text: &str) -> bool {
     match read {
-        Some(answer) => says(rt, answer, text),
+        Some(answer) => reports(rt, answer, text),
         None => differs(rt, &"nothing", &text),
     }
 }
 
-// Whether the plain reading and `get_unsafe` have nothing, in a table of so many bytes.
+// Whether `get` and `get_unsafe` return nothing, in a table of so many bytes.
 fn has_none(rt: HostRuntime, table: &Strtab<'_>, len: usize, offset: usize) -> bool {
     match table.get(offset) {
         Some(answer) => differs(rt, &answer, &"nothing"),
@@ -166,7 +166,7 @@ const NAMED: &[(usize, &[u8], bool)] = &[
     (13, b"", false),
 ];
 
-// The same as the table tells it, a search of the table, and a search of its bytes.
+// The same by the table, by a search of the table, and by a search of its bytes.
 fn has_name(offset: usize, name: &[u8]) -> [bool; 3] {
     let table = Strtab::new(NAMES, 0);
     [
@@ -177,7 +177,7 @@ fn has_name(offset: usize, name: &[u8]) -> [bool; 3] {
 }
 
 #[test]
-fn tells_whether_a_string_is_a_name(rt: HostRuntime) {
+fn compares_strings_with_names(rt: HostRuntime) {
     for row in NAMED {
         assert!(rt; holds(rt, row, is(rt, has_name(row.0, row.1), [row.2; 3])));
     }
@@ -222,7 +222,7 @@ const REFUSED: &[(usize, usize, &str)] = &[
 
 // Whether these bytes are refused as a table with this line.
 fn refuses_table(rt: HostRuntime, bytes: &[u8], offset: usize, len: usize, line: &str) -> bool {
-    says(rt, Strtab::parse(rt.alloc(), bytes, offset, len, 0), line)
+    reports(rt, Strtab::parse(rt.alloc(), bytes, offset, len, 0), line)
 }
 
 // The bytes of a table in zeros.
@@ -233,7 +233,7 @@ fn range(offset: usize, len: usize, mode: ParseMode) -> Result<&'static [u8]> {
 // Whether a range of zeros is refused with this line, as a table and as its bytes.
 fn refuses_range(rt: HostRuntime, offset: usize, len: usize, line: &str) -> bool {
     refuses_table(rt, ZEROS, offset, len, line)
-        && says(rt, range(offset, len, ParseMode::Strict), line)
+        && reports(rt, range(offset, len, ParseMode::Strict), line)
 }
 
 #[test]
@@ -244,7 +244,7 @@ fn refuses_a_range_past_the_file(rt: HostRuntime) {
     assert!(rt; has_strings(rt, Strtab::parse(rt.alloc(), ZEROS, 4, 0, 0), &[]));
     assert!(rt; refuses_table(rt, b"\x80\x80", 0, 2, "bad input invalid utf8 (2)"));
     let data = bytes_in_range(NAMES, 7, 5, ParseMode::Strict);
-    assert!(rt; answers(rt, data, b".data"));
+    assert!(rt; returns(rt, data, b".data"));
 }
 
 // Whether the permissive table has this length, and so have its bytes.
@@ -254,7 +254,7 @@ fn is_cut_to(rt: HostRuntime, offset: usize, len: usize, rest: usize) -> bool {
         Ok(table) => {
             let bytes = ZEROS.get(..rest).unwrap_or(b"too few");
             is(rt, table.len(), rest)
-                && answers(rt, range(offset, len, ParseMode::Permissive), bytes)
+                && returns(rt, range(offset, len, ParseMode::Permissive), bytes)
         }
         Err(e) => differs(rt, &e, &rest),
     }
@@ -270,11 +270,11 @@ fn cuts_a_range_to_the_file(rt: HostRuntime) {
 }
 
 // Whether looking up each offset of a damaged table, read by permissive options, has its answer.
-fn looks_up_in_damaged(rt: HostRuntime, bytes: &[u8], answers: &[(usize, Option<&str>)]) -> bool {
+fn looks_up_in_damaged(rt: HostRuntime, bytes: &[u8], expected: &[(usize, Option<&str>)]) -> bool {
     let opts = ParseOptions::permissive();
     match Strtab::parse_with_opts(rt.alloc(), bytes, 0, bytes.len(), 0, &opts) {
-        Ok(table) => looks_up(rt, &table, answers),
-        Err(e) => differs(rt, &e, &answers),
+        Ok(table) => looks_up(rt, &table, expected),
+        Err(e) => differs(rt, &e, &expected),
     }
 }
 

@@ -1,9 +1,9 @@
 //! Cases with their answers: symbols in their forms, lists and tables of them, their parts and names, and the symbol
 //! that an address lies in.
+use crate::compare::{differs, has_written, holds, is, reports, returns_list};
 use crate::container::{BIG32, BIG64, LITTLE32, LITTLE64};
 use crate::record::{SHORT, has_form, lacks_room, lists, refuses, writes};
 use crate::table::yields;
-use crate::told::{differs, gives, holds, is, says, stands};
 use goblin::elf;
 use goblin::elf::sym::Symtab;
 use goblin_base::container::{BE, Ctx, LE};
@@ -67,7 +67,7 @@ const FORMS: &[(Ctx, &[u8])] = &[
 // Whether the function has this form, and is the one symbol that is read there.
 fn is_function_in(rt: HostRuntime, ctx: Ctx, bytes: &'static [u8]) -> bool {
     has_form(rt, FUNCTION, ctx, bytes)
-        && gives(rt, Sym::parse(rt.alloc(), bytes, 0, 1, ctx), &[FUNCTION])
+        && returns_list(rt, Sym::parse(rt.alloc(), bytes, 0, 1, ctx), &[FUNCTION])
 }
 
 #[test]
@@ -77,7 +77,7 @@ fn reads_and_writes_a_symbol(rt: HostRuntime) {
     }
     let mut written = [0xaa; 25];
     FUNCTION.into_ctx(&mut written, BIG64);
-    assert!(rt; stands(rt, &written, IN_BIG64));
+    assert!(rt; has_written(rt, &written, IN_BIG64));
 }
 
 #[test]
@@ -186,12 +186,12 @@ fn parsed(rt: HostRuntime, offset: usize, count: usize) -> Result<Vec<Sym>> {
 }
 
 #[test]
-fn parses_or_tells_the_fault(rt: HostRuntime) {
+fn parses_or_refuses(rt: HostRuntime) {
     for row in &READ {
         assert!(rt; holds(rt, row, lists(rt, parsed(rt, row.0, row.1), &row.2)));
     }
-    assert!(rt; gives(rt, parsed(rt, 0, 2), &[ZERO, ZERO]));
-    assert!(rt; gives(rt, parsed(rt, 24, 1), &[ZERO]));
+    assert!(rt; returns_list(rt, parsed(rt, 0, 2), &[ZERO, ZERO]));
+    assert!(rt; returns_list(rt, parsed(rt, 24, 1), &[ZERO]));
 }
 
 // How many symbols of a table are functions.
@@ -229,7 +229,7 @@ fn symbol_of(st_info: u8, st_value: u64) -> Sym {
 }
 
 // Reports whether each function that reads a part of this information returns the expected one.
-fn tells_parts(rt: HostRuntime, info: u8, bind: u8, typ: u8) -> bool {
+fn has_parts(rt: HostRuntime, info: u8, bind: u8, typ: u8) -> bool {
     let symbol = symbol_of(info, 0);
     let binds = [symbol.st_bind(), st_bind(info), sym32::st_bind(info)];
     let types = [symbol.st_type(), st_type(info), sym64::st_type(info)];
@@ -241,7 +241,7 @@ fn tells_parts(rt: HostRuntime, info: u8, bind: u8, typ: u8) -> bool {
     is(rt, (binds, types), ([bind; 3], [typ; 3])) && is(rt, is_function, [typ == STT_FUNC; 3])
 }
 
-// Whether each of the methods answers so whether a symbol with this information and value is an import.
+// Whether each method reports this for a symbol with this information and value: that it is an import, or that it is not.
 fn imports(rt: HostRuntime, info: u8, value: u64, wanted: bool) -> bool {
     let symbol = symbol_of(info, value);
     let is_import = [
@@ -266,9 +266,9 @@ fn calls_the_laws_of_symbols() {
 }
 
 #[test]
-fn tells_what_symbols_are(rt: HostRuntime) {
+fn reads_the_parts_of_symbols(rt: HostRuntime) {
     for (info, bind, typ) in [(0x12, 1, 2), (0x30, 3, 0), (0xfe, 15, 14)] {
-        assert!(rt; tells_parts(rt, info, bind, typ));
+        assert!(rt; has_parts(rt, info, bind, typ));
     }
     assert!(rt;
         is(
@@ -289,7 +289,7 @@ const IMPORTS: &[(u8, u64, bool)] = &[
 ];
 
 #[test]
-fn tells_imports(rt: HostRuntime) {
+fn finds_imports(rt: HostRuntime) {
     for row in IMPORTS {
         assert!(rt; holds(rt, row, imports(rt, row.0, row.1, row.2)));
     }
@@ -403,7 +403,7 @@ fn is_accepted(
                 && is(rt, (table.offset(), *table.ctx()), (offset, LITTLE64))
                 && is(rt, table.iter().count(), *count)
         }
-        (answer, Err(line)) => says(rt, answer, line),
+        (answer, Err(line)) => reports(rt, answer, line),
         (answer, wanted) => differs(rt, &answer, wanted),
     }
 }
@@ -525,15 +525,15 @@ fn table_of(bytes: &[u8], offset: usize, count: usize, ctx: Ctx) -> Symtab<'_> {
     Symtab::parse(bytes, offset, count, ctx).unwrap_or(Symtab::default())
 }
 
-// Whether the two symbols are had by index, as a vector, and one after another.
-fn gives_both(rt: HostRuntime, ctx: Ctx) -> bool {
+// Whether the two symbols are returned by index, as a vector and in turn.
+fn has_both(rt: HostRuntime, ctx: Ctx) -> bool {
     let bytes = two_symbols(ctx);
     let table = table_of(&bytes, 1, 2, ctx);
     is(
         rt,
         [table.get(0), table.get(1), table.get(2)],
         [Some(ONE), Some(OTHER), None],
-    ) && gives(rt, table.to_vec(rt.alloc()), &[ONE, OTHER])
+    ) && returns_list(rt, table.to_vec(rt.alloc()), &[ONE, OTHER])
         && yields(rt, table_of(&bytes, 1, 2, ctx).iter(), &[ONE, OTHER])
 }
 
@@ -548,12 +548,12 @@ fn values(ctx: Ctx) -> u64 {
 }
 
 #[test]
-fn gives_the_symbols_in_three_ways(rt: HostRuntime) {
+fn returns_the_symbols_in_three_ways(rt: HostRuntime) {
     for (ctx, _) in FORMS {
-        assert!(rt; gives_both(rt, *ctx) && is(rt, values(*ctx), 0x1000));
+        assert!(rt; has_both(rt, *ctx) && is(rt, values(*ctx), 0x1000));
     }
     let zeros = table_of(&ZEROS, 0, 2, LITTLE64);
-    assert!(rt; gives(rt, zeros.to_vec(rt.alloc()), &[ZERO, ZERO]));
+    assert!(rt; returns_list(rt, zeros.to_vec(rt.alloc()), &[ZERO, ZERO]));
 }
 
 #[test]

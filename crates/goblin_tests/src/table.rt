@@ -2,9 +2,9 @@
 //! bytes and of `usize`, each answer against its rule, which is written plainly over u128.
 ghost use Rattle.std.specs.Prelude.{◌≡◌, ◌≤◌, length};
 
+use crate::compare::{are_alike, differs, holds, is, number, reports, returns_list};
 use crate::container::{BIG32, BIG64, LITTLE32, LITTLE64};
 use crate::sym::{FUNCTION, WIDE, ZERO};
-use crate::told::{are_alike, differs, gives, holds, is, number, says};
 use goblin::elf::program_header::{ProgramHeader, program_header32, program_header64};
 use goblin::elf::reloc::{Reloc, RelocSection};
 use goblin::elf::section_header::{SectionHeader, section_header32, section_header64};
@@ -21,7 +21,7 @@ use goblin_base::table::{Table, TableIter, read_back, same_range};
 use goblin_base::walk::walk;
 use std::fmt::Debug;
 
-// Whether an iterator gives these records one after another, tells how many are left, and then gives none.
+// Whether an iterator returns these records one after another, reports how many are left, and then returns `None`.
 pub(crate) fn yields<R: Record<C> + Copy + PartialEq + Debug, C: Copy>(
     rt: HostRuntime,
     mut left: TableIter<'_, R, C>,
@@ -65,12 +65,12 @@ fn has_all(rt: HostRuntime, table: &Table<'_, Sym, Ctx>, wanted: &[Sym]) -> bool
         (table.len(), table.is_empty()),
         (wanted.len(), wanted.is_empty()),
     ) && is(rt, table.get(wanted.len()), None)
-        && gives(rt, table.to_vec(rt.alloc()), wanted)
+        && returns_list(rt, table.to_vec(rt.alloc()), wanted)
         && yields(rt, table.iter(), wanted)
 }
 
-// The same of a table that may be refused.
-fn gives_all(rt: HostRuntime, table: Result<Table<'_, Sym, Ctx>>, wanted: &[Sym]) -> bool {
+// Whether a table is accepted and has these records.
+fn is_table_of(rt: HostRuntime, table: Result<Table<'_, Sym, Ctx>>, wanted: &[Sym]) -> bool {
     match table {
         Ok(table) => has_all(rt, &table, wanted),
         Err(e) => differs(rt, &e, &wanted),
@@ -84,15 +84,15 @@ fn tabulates(rt: HostRuntime, ctx: Ctx) -> bool {
         Ok(()) => {
             let size = Sym::size(ctx.container);
             has_all(rt, &Table::of(&bytes, 3, ctx), THREE)
-                && gives_all(rt, Table::in_range(&bytes, size, 2, ctx), &THREE[1..])
-                && gives_all(rt, Table::counted(&bytes, 0, 3, ctx, "symbols"), THREE)
+                && is_table_of(rt, Table::in_range(&bytes, size, 2, ctx), &THREE[1..])
+                && is_table_of(rt, Table::counted(&bytes, 0, 3, ctx, "symbols"), THREE)
         }
         Err(e) => differs(rt, &e, &"three symbols"),
     }
 }
 
 #[test]
-fn gives_symbols_by_index_as_a_vector_and_in_turn(rt: HostRuntime) {
+fn returns_symbols_by_index_as_a_vector_and_in_turn(rt: HostRuntime) {
     for ctx in [LITTLE32, BIG32, LITTLE64, BIG64] {
         assert!(rt; tabulates(rt, ctx));
     }
@@ -323,7 +323,7 @@ fn no_room(len: u128, place: u128, size: u128) -> Expected {
     }))
 }
 
-// Records that are read one after another: the first one without room gives its fault.
+// Records that are read one after another: the first one without room is refused.
 fn in_turn(case: &Case, size: usize) -> Expected {
     let [len, offset, count, size] = numbers(case, size);
     let held = whole(len.saturating_sub(offset), size);
@@ -343,8 +343,8 @@ fn counted(case: &Case, size: usize, items: &'static str) -> Expected {
     }
 }
 
-// What the sh_size of the section header at the offset tells, if there is one.
-fn first_tells(case: &Case) -> usize {
+// The sh_size of the section header at the offset, or 0 if there is none.
+fn size_of_first(case: &Case) -> usize {
     let here = case.0.get(case.1..).unwrap_or(b"");
     match SectionHeader::try_from_ctx(here, case.3) {
         Ok((first, _)) => first.sh_size as usize,
@@ -352,7 +352,7 @@ fn first_tells(case: &Case) -> usize {
     }
 }
 
-// Section headers: the first must have room, and what it tells stands for a count of 0.
+// Section headers: the first must have room, and its sh_size is the count if the count is 0.
 fn section_headers(case: &Case, size: usize) -> Expected {
     let [len, offset, count, wide] = numbers(case, size);
     if offset.saturating_add(wide) > len {
@@ -360,7 +360,7 @@ fn section_headers(case: &Case, size: usize) -> Expected {
     }
     let mut meant = *case;
     if count == 0 {
-        meant.2 = first_tells(case).max(1);
+        meant.2 = size_of_first(case).max(1);
     }
     counted(&meant, size, "section headers")
 }
@@ -593,7 +593,7 @@ fn piece(bytes: &[u8], place: usize) -> &[u8] {
 }
 
 // Reports whether a string table returns the piece at each offset of these bytes, and `None` after them.
-fn gives_pieces(rt: HostRuntime, table: &Strtab<'_>, bytes: &[u8]) -> bool {
+fn returns_pieces(rt: HostRuntime, table: &Strtab<'_>, bytes: &[u8]) -> bool {
     for place in 0..bytes.len() {
         let is_piece = match table.get_at(place) {
             Some(text) => is(rt, text.as_bytes(), piece(bytes, place)),
@@ -617,7 +617,7 @@ fn strtab(rt: HostRuntime, case: &Case, is_cut: bool) -> bool {
     let (bytes, offset, count, _) = *case;
     match Strtab::parse_with_opts(rt.alloc(), bytes, offset, count, 0, &opts(is_cut)) {
         Ok(table) => {
-            are_expected(rt, table.len(), &expected) && gives_pieces(rt, &table, cut(case))
+            are_expected(rt, table.len(), &expected) && returns_pieces(rt, &table, cut(case))
         }
         Err(e) => is_refusal(rt, &e, &expected),
     }
@@ -638,7 +638,7 @@ enum Call {
     Strtab(bool),
 }
 
-// Whether a call answers as its rule says.
+// Whether a call returns what its rule says.
 fn agrees(rt: HostRuntime, call: Call, case: &Case) -> bool {
     match call {
         Call::Segments => segments(rt, case),
@@ -712,20 +712,20 @@ fn keep_their_rules(rt: HostRuntime) {
 
 // Whether so many symbols at an offset of 48 zeros are refused with this text.
 fn refuses(rt: HostRuntime, offset: usize, count: usize, text: &str) -> bool {
-    says(rt, Symtab::parse(&[0; 48], offset, count, LITTLE64), text)
+    reports(rt, Symtab::parse(&[0; 48], offset, count, LITTLE64), text)
 }
 
 #[test]
 fn refuses_with_the_numbers_of_the_ends(rt: HostRuntime) {
-    let past =
+    let too_many =
         "Malformed entity: Symbol table extends beyond file boundary (requested: 1128, available: 48)";
-    assert!(rt; refuses(rt, 0, 47, past));
+    assert!(rt; refuses(rt, 0, 47, too_many));
     let many = "Malformed entity: Too many ELF symbols (offset 0x2f, count 18446744073709551615)";
     assert!(rt; refuses(rt, 47, usize::MAX, many));
     let at_end = "Malformed entity: Symbol table offset (48) is beyond file boundary (48)";
     assert!(rt; refuses(rt, 48, usize::MAX, at_end));
-    let behind = "Malformed entity: Symbol table offset (49) is beyond file boundary (48)";
-    assert!(rt; refuses(rt, 49, 0, behind));
+    let after_end = "Malformed entity: Symbol table offset (49) is beyond file boundary (48)";
+    assert!(rt; refuses(rt, 49, 0, after_end));
     let one = ProgramHeader::parse(rt.alloc(), &[0; 64], 9, 1, LITTLE64);
-    assert!(rt; says(rt, one, "type is too big (56) for 55"));
+    assert!(rt; reports(rt, one, "type is too big (56) for 55"));
 }

@@ -12,7 +12,7 @@ use goblin::strtab::Strtab;
 use goblin::{elf32, elf64, scroll};
 use std::fmt::{Debug, Display};
 
-fn is_plain<T: Copy + PartialEq + Debug>() {}
+fn is_value<T: Copy + PartialEq + Debug>() {}
 
 fn is_copied<T: Copy + PartialEq + Default + Debug>() {}
 
@@ -26,13 +26,13 @@ fn is_eq<T: Eq>() {}
 
 fn is_copy<T: Copy + Debug>() {}
 
-fn is_told<T: Display + Debug>() {}
+fn is_displayed<T: Display + Debug>() {}
 
 fn is_error<T: std::error::Error + Display + Debug>() {}
 
 #[test]
 fn derives_of_unified_records() {
-    is_plain::<Header>();
+    is_value::<Header>();
     is_cloned::<ProgramHeader>();
     is_cloned::<SectionHeader>();
     is_copied::<Sym>();
@@ -70,7 +70,7 @@ fn derives_of_other_types() {
     is_eq::<ParseOptions>();
     is_error::<Error>();
     is_error::<scroll::Error>();
-    is_told::<Fault>();
+    is_displayed::<Fault>();
     is_defaulted::<Symtab>();
     is_defaulted::<RelocSection>();
     is_defaulted::<Strtab>();

@@ -1,6 +1,6 @@
 //! Cases of the walk and the search with their counts, and all short strings against a plain walk that tries
 //! the whole piece at every byte.
-use crate::told::{differs, holds, is};
+use crate::compare::{differs, holds, is};
 use goblin_base::entries::{Entries, Looked, Probes};
 use goblin_base::error::{Error, Result};
 use goblin_base::find::find;
@@ -37,7 +37,7 @@ fn is_within(rt: HostRuntime, count: u128, most: u128) -> bool {
     count <= most || differs(rt, &count, &most)
 }
 
-// Whether the permissive walk gives these entries within so many looks.
+// Whether the permissive walk finds these entries within so many looks.
 fn walks(rt: HostRuntime, bytes: &[u8], delim: u8, most: u128, want: &[(usize, &str)]) -> bool {
     let mut view = Looked::new(bytes);
     match walk(rt.alloc(), &mut view, delim, ParseMode::Permissive) {
@@ -226,7 +226,7 @@ fn pieces(alloc: Global, bytes: &[u8], delim: u8) -> Option<Vec<Option<&str>>> {
     Some(pieces)
 }
 
-// The naive walk. Returns the offset and the text of each entry, and the first offset whose piece is not UTF-8.
+// The plain walk. Returns the offset and the text of each entry, and the first offset whose piece is not UTF-8.
 fn plain_walk<'a>(
     alloc: Global,
     pieces: &[Option<&'a str>],
@@ -286,7 +286,7 @@ fn digits(number: usize) -> u64 {
     u64::from(usize::BITS.saturating_sub(number.leading_zeros()))
 }
 
-// Whether the walk in both modes gives what the plain one does, within five looks at each byte.
+// Whether the walk in both modes finds what the plain one does, within five looks at each byte.
 fn walks_plainly(
     rt: HostRuntime,
     bytes: &[u8],
