@@ -19,7 +19,7 @@ python3 faces/constants.py --check
 echo "the constants in C, Rust and JavaScript are the library's"
 try library
 if ! command -v cc > /dev/null; then
-    echo "no cc here: C and Rust are not tested, since cc links both"
+    echo "cc is not installed, so the calls from C, Rust and JavaScript are not tested: install a C compiler"
     exit 0
 fi
 for subject in c rust archive aarch64 webassembly; do try $subject; done

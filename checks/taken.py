@@ -39,7 +39,7 @@ def sources(folder, how, crate):
 
 
 def are_proved(names, said):
-    """Waits until a run that says this has proved these crates, and answers whether it did."""
+    """Waits until a run that says this has proved these crates, and returns whether it did."""
     while True:
         # (first, since a run that ends now may just have said more)
         has_ended = os.path.exists(f'{said}.ended')
@@ -61,7 +61,7 @@ def is_younger(folder, start):
 
 
 def take(proved, copy, names):
-    """Copies the libraries of this run with their stamps, if all of them are there, and answers whether they are."""
+    """Copies the libraries of this run with their stamps, if all of them are there, and returns whether they are."""
     stamp_of, start = stamps(copy), os.path.getmtime(f'{copy}/crates.txt')
     libraries = {name: f'crates/{name}/out/rlib/{name}.rlib' for name in names}
     if not stamp_of or not all(os.path.isdir(f'{proved}/{library}') for library in libraries.values()):
@@ -86,7 +86,7 @@ def main(arguments):
     if not take(proved, copy, names):
         print(f'taken: the run has left no libraries that can be taken, so {crate} is proved with all that it stands on')
     if sources(proved, '--sum', crate) != sources(copy, '--sum', crate):
-        print('taken: the sources have changed since they were copied')
+        print('taken: the sources have changed since they were copied: run this again')
         return 1
     return 0
 

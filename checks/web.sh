@@ -35,10 +35,10 @@ if flag=$(sh checks/node_flag.sh); then
         tsc --noEmit --strict --target es2020 --module es2022 --moduleResolution node --lib es2020,dom "$folder/app/use.ts"
         echo "TypeScript accepts a program over goblin.d.ts"
     else
-        echo "no tsc here: goblin.d.ts is not compiled"
+        echo "tsc is not installed, so goblin.d.ts is not compiled: install TypeScript"
     fi
 else
-    echo "node has no 64-bit memories here: the module for WebAssembly is not called"
+    echo "node has no 64-bit memories, so the module for WebAssembly is not called: install Node.js 24"
 fi
 
 # The page, which headless browsers open as a file.

@@ -7,7 +7,7 @@ target=aarch64-unknown-linux-gnu
 other=$folder/aarch64
 
 if ! has aarch64-linux-gnu-gcc || ! has qemu-aarch64; then
-    echo "no aarch64-linux-gnu-gcc and qemu-aarch64 here: the library for aarch64 is not tested"
+    echo "aarch64-linux-gnu-gcc or qemu-aarch64 is not installed, so the library for aarch64 is not tested"
     exit 0
 fi
 mkdir "$other"

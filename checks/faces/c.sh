@@ -48,7 +48,7 @@ check_header() {
             -x none -L"$folder" -lgoblin_c
         quietly strictly c++ -x c++ -std=c++11 -Ifaces/c -c -o "$folder/assertions.o" "$folder/assertions.c"
     else
-        echo "no c++ here: goblin.h is only compiled as C"
+        echo "c++ is not installed, so goblin.h is not compiled as C++"
     fi
     "$folder/layout"
 }
@@ -75,7 +75,7 @@ check_examples() {
 # of types and machines are left out, since they differ from version to version.
 check_constants() {
     if ! echo '#include <elf.h>' | cc -E - > "$folder/output" 2>&1; then
-        echo "no elf.h here: the constants of goblin.h are not compared"
+        echo "elf.h is not installed, so the constants of goblin.h are not compared"
         return
     fi
     awk 'BEGIN { print "#include \"goblin.h\"\n#include <elf.h>" }
@@ -123,7 +123,7 @@ check_damaged() {
     echo 'int main(void) { return 0; }' > "$folder/empty.c"
     set -- -fsanitize=address,undefined -fno-sanitize-recover=all
     if ! { cc "$@" -o "$folder/empty" "$folder/empty.c" && "$folder/empty"; } > "$folder/output" 2>&1; then
-        echo "cc has no sanitizers here: damaged files are read without them"
+        echo "cc has no sanitizers, so damaged files are read without them"
         set --
     fi
     build damaged -std=c99 "$@"

@@ -186,6 +186,6 @@ if has size; then compare_sizes "$count"; else echo "comparison: sizes are skipp
 if has addr2line; then compare_addresses; else echo "comparison: addresses are skipped, because addr2line is not installed"; fi
 if [ -x "$examples/relocations" ]; then compare_relocations "$count"; fi
 in_js=
-find_web || echo "no node with 64-bit memories here: no examples in JavaScript are compared"
+find_web || echo "node is missing or has no 64-bit memories, so the examples in JavaScript are not compared: install Node.js 24"
 compare_needed
 compare_segments

@@ -3,7 +3,7 @@
 . checks/faces/shared.sh
 
 if ! has node; then
-    echo "no node here: the module for WebAssembly is not tested"
+    echo "node is not installed, so the module for WebAssembly is not tested: install Node.js 24"
     exit 0
 fi
 quietly env LIBRARY= CPU= TARGET=wasm64-unknown-unknown sh faces/install.sh --archive "$folder/goblin_web.tar.gz"
