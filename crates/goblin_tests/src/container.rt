@@ -1,4 +1,4 @@
-//! Cases with their answers: contexts.
+//! Cases with their results: contexts.
 use crate::compare::is;
 use goblin_base::container::{BE, CONTAINER, Container, Ctx, Endian, LE, constants};
 

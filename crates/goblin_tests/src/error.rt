@@ -1,4 +1,4 @@
-//! Cases with their answers: texts of errors.
+//! Cases with their results: texts of errors.
 use crate::compare::{differs, has_message, holds, is};
 use goblin_base::error::{Error, Fault};
 use goblin_base::scroll;

@@ -1,4 +1,4 @@
-//! Cases with their answers: headers in their three forms, new headers, and names.
+//! Cases with their results: headers in their three forms, new headers, and names.
 use crate::compare::{are_unchanged, differs, has_written, holds, is, is_named, reports, returns};
 use crate::container::{BIG64, LITTLE32};
 use crate::record::{reads, writes};
@@ -46,7 +46,7 @@ const NEW64: &[u8; 64] = b"\x7fELF\x02\x02\x01\0\0\0\0\0\0\0\0\0\
     \x00\x03\x00\x00\x00\x00\x00\x01\0\0\0\0\0\0\0\0\0\0\0\0\0\0\0\0\0\0\0\0\0\0\0\0\0\0\0\0\
     \x00\x40\x00\x38\x00\x00\x00\x40\x00\x00\x00\x00";
 
-// Whether a header has this form, whose class and order its own bytes tell: the order that is passed is ignored.
+// Whether a header has this form. Its own bytes name its class and its order: the order that is passed is ignored.
 fn has_either_form(rt: HostRuntime, header: Header, bytes: &'static [u8]) -> bool {
     reads(rt, bytes, LE, &header)
         && reads(rt, bytes, BE, &header)

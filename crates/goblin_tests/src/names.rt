@@ -1,4 +1,4 @@
-//! Cases with their answers: names by a table.
+//! Cases with their results: names by a table.
 use crate::compare::is;
 use goblin_base::names::name_of;
 

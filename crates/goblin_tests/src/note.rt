@@ -1,4 +1,4 @@
-//! Cases with their answers: the headers of notes, notes, and loops over them as a user writes them.
+//! Cases with their results: the headers of notes, notes, and loops over them as a user writes them.
 ghost use Rattle.std.specs.Prelude.{◌≡◌, length};
 ghost use Rattle.goblin.specs.Notes.{items_left};
 

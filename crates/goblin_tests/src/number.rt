@@ -1,4 +1,4 @@
-//! Cases with their answers: numbers read and put.
+//! Cases with their results: numbers read and put.
 use crate::compare::is;
 use goblin_base::container::{BE, Endian, LE};
 use goblin_base::number::{

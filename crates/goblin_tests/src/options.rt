@@ -1,4 +1,4 @@
-//! Cases with their answers: options.
+//! Cases with their results: options.
 use crate::compare::is;
 use goblin_base::options::{ParseMode, ParseOptions};
 

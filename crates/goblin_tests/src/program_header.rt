@@ -1,4 +1,4 @@
-//! Cases with their answers: program headers.
+//! Cases with their results: program headers.
 use crate::compare::{holds, is, is_named, reports, returns, returns_list};
 use crate::container::{BIG64, LITTLE32};
 use crate::record::{SHORT, has_form, lacks_room, lists};

@@ -1,4 +1,4 @@
-//! Cases with their answers: relocations in their forms, the parts of an `r_info`, and relocation sections.
+//! Cases with their results: relocations in their forms, the parts of an `r_info`, and relocation sections.
 use crate::compare::{differs, has_written, holds, is, reports, returns, returns_list};
 use crate::container::{BIG32, BIG64, LITTLE32, LITTLE64};
 use crate::record::{counts, has_form, reads, refuses, writes};
@@ -77,8 +77,8 @@ fn reads_and_writes_a_relocation_of_each_class_and_order(rt: HostRuntime) {
     assert!(rt; has_written(rt, &room, RELA_LITTLE));
 }
 
-// Whether a relocation without an addend is read from these bytes and written as them, through the pair or not, which
-// its context and a flag of its own tell alike.
+// Whether a relocation without an addend is read from these bytes and written as them, through the pair or not. That is
+// asked for by its context, and by a flag of its own.
 fn goes_through(
     rt: HostRuntime,
     reloc: Reloc,

@@ -1,4 +1,4 @@
-//! Cases of string tables with their answers.
+//! Cases of string tables with their results.
 use crate::compare::{differs, holds, is, reports, returns, returns_list};
 use goblin_base::error::Result;
 use goblin_base::options::{ParseMode, ParseOptions};
@@ -74,7 +74,7 @@ const IN_FOO: &[(usize, Option<&str>)] = &[
     (26, None),
 ];
 
-// Whether looking up each offset of a table has its answer.
+// Whether looking up each offset of a table has its result.
 fn looks_up(rt: HostRuntime, table: &Strtab<'_>, expected: &[(usize, Option<&str>)]) -> bool {
     for row in expected {
         if !holds(rt, row, is(rt, table.get_at(row.0), row.1)) {

@@ -1,4 +1,4 @@
-//! Cases with their answers: symbols in their forms, lists and tables of them, their parts and names, and the symbol
+//! Cases with their results: symbols in their forms, lists and tables of them, their parts and names, and the symbol
 //! that an address lies in.
 use crate::compare::{differs, has_written, holds, is, reports, returns_list};
 use crate::container::{BIG32, BIG64, LITTLE32, LITTLE64};
@@ -241,7 +241,7 @@ fn has_parts(rt: HostRuntime, info: u8, bind: u8, typ: u8) -> bool {
     is(rt, (binds, types), ([bind; 3], [typ; 3])) && is(rt, is_function, [typ == STT_FUNC; 3])
 }
 
-// Whether each method reports this for a symbol with this information and value: that it is an import, or that it is not.
+// Whether each method reports that a symbol with this information and value is an import, or that it is not.
 fn imports(rt: HostRuntime, info: u8, value: u64, wanted: bool) -> bool {
     let symbol = symbol_of(info, value);
     let is_import = [

@@ -1,5 +1,5 @@
 //! What all lists of records share: tables asked in each way; lists of many lengths; and tables at the ends of their
-//! bytes and of `usize`, each answer against its rule, which is written plainly over u128.
+//! bytes and of `usize`, each result against its rule, which is written out over u128.
 ghost use Rattle.std.specs.Prelude.{◌≡◌, ◌≤◌, length};
 
 use crate::compare::{are_alike, differs, holds, is, number, reports, returns_list};
@@ -251,8 +251,8 @@ fn lists_each_count_of_strings(rt: HostRuntime) {
     }
 }
 
-// Bytes that tell the places apart, and ASCII. Where section headers at the offsets 0 and 1 keep their
-// sh_size, in one order or the other, stands a 2.
+// Bytes that differ at each place, and ASCII. A 2 stands in the sh_size of the section headers at the offsets 0 and 1,
+// in one order or the other.
 static BYTES: &[u8] =
     b"\x01\x03\x04\x05\x06\x07\x08\x09\x0a\x0b\x0c\x0d\x0e\x0f\x10\x11\x12\x13\x14\x15\x02\0\0\0\
     \x02\x1a\x1b\x1c\x1d\x1e\x1f\x20\x02\0\0\0\0\0\0\0\x02\x2a\x2b\x2c\x2d\x2e\x2f\x30\x31\x32\
@@ -303,7 +303,7 @@ fn size_in(case: &Case, little: usize, big: usize) -> usize {
     }
 }
 
-// What a table answers: so many records, or a refusal.
+// What a table returns: so many records, or a refusal.
 type Expected = std::result::Result<u128, Error>;
 
 // How many whole records so many bytes hold.

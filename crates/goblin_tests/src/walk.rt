@@ -307,7 +307,7 @@ fn walks_plainly(
     same && is_within(rt, view.count(), most) && walks(rt, bytes, delim, most, want)
 }
 
-// Whether looking up each offset up to the length of the bytes, in the table that they are, answers what the plain
+// Whether looking up each offset up to the length of the bytes, in the table that they are, returns what the plain
 // look-up does.
 fn looks_up_plainly(rt: HostRuntime, bytes: &[u8], delim: u8, pieces: &[Option<&str>]) -> bool {
     let options = ParseOptions::permissive();
@@ -324,7 +324,7 @@ fn looks_up_plainly(rt: HostRuntime, bytes: &[u8], delim: u8, pieces: &[Option<&
     true
 }
 
-// Whether searching for one offset answers what the plain search does, within the digits of the number of entries.
+// Whether searching for one offset returns what the plain search does, within the digits of the number of entries.
 fn finds_one_plainly(
     rt: HostRuntime,
     entries: &Entries<'_>,
