@@ -97,11 +97,11 @@ function run(command, ...words) {
 const sum = (text, pattern) => [...text.matchAll(pattern)].reduce((all, [, count]) => all + Number(count), 0);
 
 function counts_of(path) {
-    const told = run('readelf', '-W', '-h', '-s', '-r', '-n', path);
+    const output = run('readelf', '-W', '-h', '-s', '-r', '-n', path);
     return {
-        sections: sum(told, /Number of section headers: +(\d+)/g), segments: sum(told, /Number of program headers: +(\d+)/g),
-        symbols: sum(told, /Symbol table .* contains (\d+) entr/g), relocations: sum(told, /Relocation section .* contains (\d+) entr/g),
-        notes: [...told.matchAll(/^ {2}\S+ +0x[0-9a-f]{8}\t/gm)].length,
+        sections: sum(output, /Number of section headers: +(\d+)/g), segments: sum(output, /Number of program headers: +(\d+)/g),
+        symbols: sum(output, /Symbol table .* contains (\d+) entr/g), relocations: sum(output, /Relocation section .* contains (\d+) entr/g),
+        notes: [...output.matchAll(/^ {2}\S+ +0x[0-9a-f]{8}\t/gm)].length,
     };
 }
 
@@ -137,17 +137,17 @@ async function check_counts(path) {
     assert.deepEqual(shown, names.slice(0, shown.length), path);
 }
 
-const told_of = (path) => run(dump, path).split('\n')[1];
+const refusal_line = (path) => run(dump, path).split('\n')[1];
 
 async function check_refusal(content, what, ...words) {
-    const path = await pick_written('refused', content), told = told_of(path);
-    assert.match(told, /^goblin_header kind=/);
+    const path = await pick_written('refused', content), line = refusal_line(path);
+    assert.match(line, /^goblin_header kind=/);
     const text = await text_of('#refused:not([hidden]) h3');
-    assert.ok(text?.startsWith('Refused: ') && told.endsWith(text.slice('Refused: '.length)), `${text}, ${told}`);
+    assert.ok(text?.startsWith('Refused: ') && line.endsWith(text.slice('Refused: '.length)), `${text}, ${line}`);
     const said = await text_of('#refused');
     for (const word of [what, ...words]) assert.ok(said.includes(word), said);
     assert.equal(said.includes('This is not an ELF file'), words.length > 0);
-    assert.equal(await evaluate(`document.getElementById('told').hidden`), true);
+    assert.equal(await evaluate(`document.getElementById('shown').hidden`), true);
 }
 
 // A file that is not read: the page shows why, instead of the previous file.
@@ -155,7 +155,7 @@ async function check_trouble(content) {
     await pick(made);
     await pick_written('empty', '');
     assert.equal(await text_of('#trouble:not([hidden])'), 'The file is empty: it has 0 bytes.');
-    assert.equal(await evaluate(`document.getElementById('told').hidden && document.getElementById('refused').hidden`), true);
+    assert.equal(await evaluate(`document.getElementById('shown').hidden && document.getElementById('refused').hidden`), true);
     const large = join(folder, 'large');
     writeFileSync(large, content);
     truncateSync(large, 2 ** 31 + 1);
@@ -163,7 +163,7 @@ async function check_trouble(content) {
     await pick(large);
     assert.equal(await text_of('#trouble:not([hidden])'),
         'The file has 2,147,483,649 bytes. This page reads files of at most 2 GiB (2,147,483,648 bytes).');
-    assert.equal(await evaluate(`document.getElementById('told').hidden`), true);
+    assert.equal(await evaluate(`document.getElementById('shown').hidden`), true);
     assert.match(await text_of('#start .drop'), /at most 2 GiB/);
 }
 
@@ -328,7 +328,7 @@ async function check_symbol_links() {
 }
 
 // A link to a location leads there once the file is picked.
-async function check_kept_link() {
+async function check_early_link() {
     const { index } = sections_of(dump)['.dynstr'];
     await browser.open(`${url}#sections/${index}`);
     await pick(dump);
@@ -593,7 +593,7 @@ async function check_widths() {
             }).map(([word]) => word))`), [], `${width}`);
         await open_tab('symbols');
         assert.equal((await evaluate(`[...document.querySelectorAll('#panel [role=columnheader]')].map((cell) => cell.textContent)`))[1], 'Name');
-        const bars = await evaluate(`[...document.querySelectorAll('html, body, main, #told, .columns, .lists, #panel, .grid')]
+        const bars = await evaluate(`[...document.querySelectorAll('html, body, main, #shown, .columns, .lists, #panel, .grid')]
             .filter((box) => box.offsetParent !== null || box.matches('html, body')).filter((box) => box.scrollHeight > box.clientHeight + 1
                 && !['visible', 'hidden'].includes(getComputedStyle(box).overflowY)).map((box) => box.className || box.tagName)`);
         assert.ok(bars.length <= 1 && bars.every((name) => name === 'grid'), `${width}: ${bars}`);
@@ -742,9 +742,9 @@ async function check_hearing() {
 }
 
 async function check_requests() {
-    const blocked = await evaluate(`new Promise((told) => {
-        document.addEventListener('securitypolicyviolation', ({ blockedURI }) => told(blockedURI));
-        fetch('http://127.0.0.1:9/asked').catch(() => setTimeout(() => told('not refused by the policy'), 500));
+    const blocked = await evaluate(`new Promise((resolve) => {
+        document.addEventListener('securitypolicyviolation', ({ blockedURI }) => resolve(blockedURI));
+        fetch('http://127.0.0.1:9/asked').catch(() => setTimeout(() => resolve('not refused by the policy'), 500));
     })`);
     assert.match(blocked, /^http:\/\/127\.0\.0\.1:9\//);
     for (const end = Date.now() + PATIENCE; browser.refusals.length === 0 && Date.now() < end;) await evaluate('null');
@@ -765,7 +765,7 @@ const checks = {
         await check_refusal(Buffer.from('text\n'), 'the file header', 'This is not an ELF file', '74 65 78 74 0a');
     },
     trouble: () => check_trouble(content), unknown: () => check_unknown(content), segments: check_segments, labels: check_labels,
-    loading: () => check_loading(content), symbol_links: check_symbol_links, kept_link: check_kept_link, section_links: check_section_links,
+    loading: () => check_loading(content), symbol_links: check_symbol_links, early_link: check_early_link, section_links: check_section_links,
     history: check_history, relocation_links: check_relocation_links, goto: check_goto, search: check_search, relocation_names: check_relocation_names,
     section_indices: check_section_indices, copies: check_copies, words: check_words, cells: check_cells, widths: check_widths,
     map: check_map, themes: check_themes, names: check_names, keys: check_keys, requests: check_requests, unsupported: check_unsupported,
@@ -777,7 +777,7 @@ const is_able = `WebAssembly.validate(new Uint8Array([0, 97, 115, 109, 1, 0, 0, 
 async function run_checks() {
     await check_hearing();
     if (!await evaluate(is_able)) {
-        console.log(`${browser.constructor.title} has no 64-bit memories here: the page is not tested in it`);
+        console.log(`${browser.constructor.title} has no 64-bit memories, so the page is not tested in it`);
         return;
     }
     await browser.resize(1400, 1600);

@@ -99,8 +99,8 @@ class Browser {
 
     /** Returns the value of an expression, which may be a promise. */
     async evaluate(expression) {
-        const told = await this.run(`(async () => JSON.stringify(await (${expression})) ?? 'null')()`);
-        return JSON.parse(told);
+        const text = await this.run(`(async () => JSON.stringify(await (${expression})) ?? 'null')()`);
+        return JSON.parse(text);
     }
 
     /** Waits until an expression is true. */
@@ -263,9 +263,9 @@ export class Firefox extends Browser {
 
     async run(expression) {
         const target = { context: this.tab };
-        const told = await this.#ask('script.evaluate', { expression, target, awaitPromise: true, userActivation: true });
-        if (told.type === 'exception') throw new Error(told.exceptionDetails.text);
-        return told.result.value;
+        const answer = await this.#ask('script.evaluate', { expression, target, awaitPromise: true, userActivation: true });
+        if (answer.type === 'exception') throw new Error(answer.exceptionDetails.text);
+        return answer.result.value;
     }
 
     async pick(selector, path) {

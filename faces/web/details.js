@@ -2,14 +2,14 @@
 import * as goblin from './goblin.js';
 import {
     called, file, GROUP, is_wide, part, RELOCATION_TYPES, section_at, section_refusal, sections, segment_refusal,
-    size_of, SYMBOL_TYPES, told_or,
+    size_of, SYMBOL_TYPES, read_or,
 } from './file.js';
 import * as labels from './labels.js';
 import { addend, section_word, symbol_of_relocation } from './lists.js';
 import { title_of } from './notes.js';
 import { kind_of, kind_of_segment, part_at, parts, pieces_at, title_of_segment } from './pieces.js';
 import {
-    address_of_offset, address_of_symbol, behind, bytes_of_symbol, has_addresses, name_of_symbol, offset_of_address, place_of_relocation,
+    address_of_offset, address_of_symbol, with_offset, bytes_of_symbol, has_addresses, name_of_symbol, offset_of_address, place_of_relocation,
     section_of_address, section_of_symbol, segments_of_address, symbol_of_address, symtab_at, to_address, to_offset, to_section, to_symbol,
 } from './resolve.js';
 import { count, hex } from './text.js';
@@ -31,8 +31,8 @@ function entry(of, index, kind) {
 
 // Returns the bytes of a range, or their refusal.
 function block(word, range, refused) {
-    const told = part(() => range() ?? {}, refused);
-    return told.offset === undefined ? { word, ...told } : { word, at: Number(told.offset), size: Number(told.size) };
+    const found = part(() => range() ?? {}, refused);
+    return found.offset === undefined ? { word, ...found } : { word, at: Number(found.offset), size: Number(found.size) };
 }
 
 const from_place = (section) => (section === undefined ? 'from its place on' : `from its place in ${called(section)} on`);
@@ -47,7 +47,7 @@ function info_link({ sh_type, sh_flags, sh_info, sh_link }) {
 }
 
 function symbol_link(table, index) {
-    const symbol = index ? told_or(undefined, () => symtab_at(table)?.get(index)) : undefined;
+    const symbol = index ? read_or(undefined, () => symtab_at(table)?.get(index)) : undefined;
     if (!symbol) return undefined;
     return to_symbol({ table, index, name: name_of_symbol(table, index, symbol) || `symbol ${index}` });
 }
@@ -124,7 +124,7 @@ function symbol_details(item, index, table) {
         title: name_of_symbol(table, index, item) || `symbol ${index}`, what: `symbol ${count(index)} of ${called(table)}`,
         kind: of === undefined || !section_at(of) ? undefined : kind_of(section_at(of)),
         fields: [
-            field('st_name', hex(st_name)), field('st_value', hex(st_value), place ? behind(called(of), place.from) : '', address),
+            field('st_name', hex(st_name)), field('st_value', hex(st_value), place ? with_offset(called(of), place.from) : '', address),
             field('st_size', st_size, bytes_word(st_size)), field('st_info', hex(st_info), info),
             field('st_other', hex(st_other), `${prefixed('STV_', labels.symbol_visibility(visibility))} (${visibility})`),
             field('st_shndx', hex(item.st_shndx), of === undefined ? section_word(table, index, item) : `section ${of}`,
@@ -140,7 +140,7 @@ function symbol_details(item, index, table) {
 function relocation_details(item, index, of) {
     const section = section_at(of), { r_offset, r_type, r_sym } = item;
     const place = place_of_relocation(section, item), name = symbol_of_relocation(section.sh_link, item);
-    const target = !has_addresses() && place ? { ...to_offset(place.at), text: behind(called(place.section), place.from) } : undefined;
+    const target = !has_addresses() && place ? { ...to_offset(place.at), text: with_offset(called(place.section), place.from) } : undefined;
     const changed = has_addresses() ? symbol_of_address(r_offset) : undefined;
     return {
         title: name || labels.relocation_type(r_type), what: `relocation ${count(index)} of ${called(of)}`, kind: 'relocations',
@@ -203,7 +203,7 @@ export const item_details = (source, { list, index, of }) => LISTS[list](source.
 export function offset_details(offset) {
     const index = part_at(offset), { starts } = parts(), pieces = pieces_at(index);
     const end = pieces[0]?.end ?? starts[index + 1], address = address_of_offset(offset);
-    const inside = pieces.map(({ title, to, start }) => ({ text: behind(title, BigInt(offset - start)), to }));
+    const inside = pieces.map(({ title, to, start }) => ({ text: with_offset(title, BigInt(offset - start)), to }));
     const symbol = address === undefined ? undefined : symbol_of_address(address);
     return {
         title: `offset ${hex(offset)}`, what: pieces[0] ? `in ${pieces[0].title}` : 'in a gap', kind: pieces[0]?.kind,
@@ -225,9 +225,9 @@ export function address_details(address) {
     const inside = segments_of_address(address), section = section_of_address(address), symbol = symbol_of_address(address);
     const at = offset_of_address(address);
     const segment = ({ index, segment: item }) =>
-        ({ text: behind(title_of_segment(index, item), address - item.p_vaddr), to: `segments/${index}` });
+        ({ text: with_offset(title_of_segment(index, item), address - item.p_vaddr), to: `segments/${index}` });
     const of = section === undefined ? undefined
-        : { text: behind(called(section), address - section_at(section).sh_addr), to: `sections/${section}` };
+        : { text: with_offset(called(section), address - section_at(section).sh_addr), to: `sections/${section}` };
     const pieces = at === undefined ? [] : pieces_at(part_at(at));
     return {
         title: `address ${hex(address)}`, what: symbol ? `in ${symbol.name}` : of ? `in ${called(section)}` : 'in memory',
@@ -269,7 +269,7 @@ function header_meanings({ ei_class, ei_data, ei_osabi, e_type, e_machine }) {
 
 const header_links = ({ e_entry, e_phoff, e_shoff, e_shstrndx }) => ({
     e_entry: at_address(e_entry), e_phoff: e_phoff ? at_offset(e_phoff) : undefined, e_shoff: e_shoff ? at_offset(e_shoff) : undefined,
-    e_shstrndx: told_or(undefined, () => to_section_number(e_shstrndx)),
+    e_shstrndx: read_or(undefined, () => to_section_number(e_shstrndx)),
 });
 
 /** Returns the header's fields, each with its bytes. */

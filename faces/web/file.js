@@ -25,9 +25,9 @@ export const RELOCATION_TYPES = [goblin.SHT_REL, goblin.SHT_RELA];
 // ---- refusals ----
 
 /** Returns the result of reading a part, or its refusal. */
-export function part(told, refused) {
+export function part(read, refused) {
     try {
-        return told();
+        return read();
     } catch (error) {
         if (!(error instanceof GoblinError)) throw error;
         return { refused: refused(error) };
@@ -35,9 +35,9 @@ export function part(told, refused) {
 }
 
 /** Returns the result of reading a part, or a default if it is refused. */
-export function told_or(other, told) {
+export function read_or(other, read) {
     try {
-        return told();
+        return read();
     } catch (error) {
         if (!(error instanceof GoblinError)) throw error;
         return other;
@@ -64,23 +64,23 @@ const FIELDS = {
 export function list_refusal(error, what, offset, number) {
     const { header } = file.elf;
     const mark = (name) => { const [at, size] = FIELDS[name][Number(is_wide())]; return { at, size }; };
-    const told = `${number} ${count(header[number])}, ${offset} ${hex(header[offset])}, file size ${count(file.content.length)} bytes`;
-    return refusal(error, `${what}: ${told}`, [mark(offset), mark(number)]);
+    const values = `${number} ${count(header[number])}, ${offset} ${hex(header[offset])}, file size ${count(file.content.length)} bytes`;
+    return refusal(error, `${what}: ${values}`, [mark(offset), mark(number)]);
 }
 
 export function section_refusal(error, what, index) {
     const { sh_offset, sh_size } = section_at(index);
-    const told = `${what} of section ${index}: offset ${hex(sh_offset)}, size ${hex(sh_size)}`;
+    const values = `${what} of section ${index}: offset ${hex(sh_offset)}, size ${hex(sh_size)}`;
     const at = Number(file.elf.header.e_shoff) + index * size_of('section');
     const mark = { at: at + (is_wide() ? 0x18 : 0x10), size: is_wide() ? 16 : 8 };
-    return refusal(error, `${told}, in a file of ${count(file.content.length)} bytes`, [mark]);
+    return refusal(error, `${values}, in a file of ${count(file.content.length)} bytes`, [mark]);
 }
 
 export function segment_refusal(error, index) {
     const { p_offset, p_filesz } = file.elf.program_header(index);
     const size = size_of('segment'), at = Number(file.elf.header.e_phoff) + index * size;
-    const told = `the bytes of segment ${index}: offset ${hex(p_offset)}, file size ${hex(p_filesz)}`;
-    return refusal(error, `${told}, in a file of ${count(file.content.length)} bytes`, [{ at, size }]);
+    const values = `the bytes of segment ${index}: offset ${hex(p_offset)}, file size ${hex(p_filesz)}`;
+    return refusal(error, `${values}, in a file of ${count(file.content.length)} bytes`, [{ at, size }]);
 }
 
 // ---- sections ----
@@ -89,21 +89,21 @@ export const section_at = (index) => file.elf.section_header(index);
 
 /** Returns all sections with their indices, or none if they are refused. */
 export function* sections() {
-    const list = told_or(undefined, () => file.elf.section_headers());
+    const list = read_or(undefined, () => file.elf.section_headers());
     if (!list) return;
     for (const [index, section] of list.entries()) yield { index, section };
 }
 
 /** Returns all segments with their indices, or none if they are refused. */
 export function* segments() {
-    const list = told_or(undefined, () => file.elf.program_headers());
+    const list = read_or(undefined, () => file.elf.program_headers());
     if (!list) return;
     for (const [index, segment] of list.entries()) yield { index, segment };
 }
 
 /** Returns the name at an offset of a table, cut if it is long, or an empty text if there is none or the table is refused. */
 export function name_at(strtab, offset) {
-    const bytes = told_or(undefined, () => strtab.get_start(offset, NAME + 1));
+    const bytes = read_or(undefined, () => strtab.get_start(offset, NAME + 1));
     return bytes ? name_of(bytes) : '';
 }
 

@@ -1,5 +1,5 @@
 // Finds what a text means: an offset, an address, or names. Each result is { title, detail, to }.
-import { file, name_of_section, sections, SYMBOL_TYPES, told_or } from './file.js';
+import { file, name_of_section, sections, SYMBOL_TYPES, read_or } from './file.js';
 import { address_details, header_fields, is_address, offset_details } from './details.js';
 import { go_over, open_source } from './lists.js';
 import { notes_of, title_of } from './notes.js';
@@ -61,7 +61,7 @@ export async function find(text, is_wanted) {
     add_small(found);
     for (const { index: table, section } of sections()) {
         if (!SYMBOL_TYPES.includes(section.sh_type)) continue;
-        const source = told_or(undefined, () => symtab_at(table)) && open_source('symbols', table);
+        const source = read_or(undefined, () => symtab_at(table)) && open_source('symbols', table);
         if (!source || source.refused) continue;
         const name = source.columns[0].text, of = name_of_section(section) || `section ${table}`;
         const is_done = await go_over(source, 'find', is_wanted, (item, index) =>

@@ -2,7 +2,7 @@
 // whether an item holds an offset or address.
 import * as goblin from './goblin.js';
 import {
-    called, file, name_of_section, part, refusal, RELOCATION_TYPES, section_at, section_refusal, SYMBOL_TYPES, told_or,
+    called, file, name_of_section, part, refusal, RELOCATION_TYPES, section_at, section_refusal, SYMBOL_TYPES, read_or,
 } from './file.js';
 import * as labels from './labels.js';
 import { notes_of } from './notes.js';
@@ -27,7 +27,7 @@ export const addend = ({ r_addend }) => (r_addend === undefined ? 'in place' : r
 
 /** Returns the name of a relocation's symbol. */
 export function symbol_of_relocation(table, { r_sym }) {
-    const symbol = r_sym ? told_or(undefined, () => symtab_at(table)?.get(r_sym)) : undefined;
+    const symbol = r_sym ? read_or(undefined, () => symtab_at(table)?.get(r_sym)) : undefined;
     return symbol ? name_of_symbol(table, r_sym, symbol) : r_sym ? `symbol ${r_sym}` : '';
 }
 

@@ -16,7 +16,7 @@ export function show_map(parts, size) {
     get('canvas').setAttribute('aria-valuemax', Math.max(map.kinds.length - 1, 0));
     show_legend();
     fit();
-    tell_part(-1);
+    describe_part(-1);
 }
 
 function show_legend() {
@@ -180,8 +180,8 @@ function ask_names(missing) {
     if (missing.length === 0) return;
     const { titles } = map;
     missing.forEach((part) => titles.set(part, ''));
-    ask('titles', missing).then((told) => {
-        missing.forEach((part, i) => titles.set(part, visible(told[i])));
+    ask('titles', missing).then((found) => {
+        missing.forEach((part, i) => titles.set(part, visible(found[i])));
         if (titles === map.titles) draw_map();
     });
 }
@@ -197,17 +197,17 @@ function outline(pen, from, to, shade, width) {
 const name_of = ({ title, kind }) => `${title ?? 'gap'} · ${kind ? words_of(kind) : 'in no section or segment'}`;
 
 // Describes a part in the line above the map, or how the map is drawn if there is none.
-async function tell_part(part) {
+async function describe_part(part) {
     const readout = get('readout');
     if (part < 0) {
         readout.textContent = `${plural(map.kinds.length, 'part')}, drawn to scale; each row has ${number(map.view.each)} bytes`;
         return;
     }
-    const { reader } = shown_file, told = await ask('item', { list: 'layout', index: part });
+    const { reader } = shown_file, item = await ask('item', { list: 'layout', index: part });
     if (map.over !== part || reader !== shown_file.reader) return;
     const [start, end] = [map.starts[part], map.starts[part + 1]];
     const depth = map.depths[part] > 1 ? ` · ${map.depths[part]} pieces overlap` : '';
-    put_text(readout, `${name_of(told)} · ${hex(start)} to ${hex(end)} · ${plural(end - start, 'byte')}${depth}`);
+    put_text(readout, `${name_of(item)} · ${hex(start)} to ${hex(end)} · ${plural(end - start, 'byte')}${depth}`);
     readout.title = readout.textContent;
 }
 
@@ -236,7 +236,7 @@ function look(byte, each) {
     const start = Math.min(Math.max(Math.floor((byte - each * map.rows / 2) / each) * each, 0), last);
     map.view = { start: each === map.whole ? 0 : start, each };
     draw_map();
-    tell_part(-1);
+    describe_part(-1);
 }
 
 const middle = () => (map.part >= 0 ? map.starts[map.part] : map.view.start + map.view.each * map.rows / 2);
@@ -252,7 +252,7 @@ function hover(part) {
     if (part === map.over) return;
     map.over = part;
     draw_map();
-    tell_part(part);
+    describe_part(part);
 }
 
 function key(event) {

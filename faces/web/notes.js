@@ -1,6 +1,6 @@
 // The notes of sections or segments.
 import * as goblin from './goblin.js';
-import { called, ET_CORE, file, is_wide, refusal, sections, segments, told_or } from './file.js';
+import { called, ET_CORE, file, is_wide, refusal, sections, segments, read_or } from './file.js';
 import { note_type } from './labels.js';
 import { hex } from './text.js';
 
@@ -51,7 +51,7 @@ function name_threads(items) {
     for (const item of items) {
         const { note } = item, type = note_type(note);
         if (note.name === 'CORE' && type === 'PRSTATUS') {
-            thread = told_or(undefined, () => file.elf.number(note.desc_range.offset + (is_wide() ? 32n : 24n), 4));
+            thread = read_or(undefined, () => file.elf.number(note.desc_range.offset + (is_wide() ? 32n : 24n), 4));
         }
         if (!OF_PROCESS.has(type)) item.thread = thread;
     }

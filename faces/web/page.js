@@ -37,7 +37,7 @@ function tab_of(place) {
     return { name, index: whole(first) };
 }
 
-const first_tab = () => (shown_file.told.sections.refused || shown_file.told.sections.length === 0 ? 'header' : 'sections');
+const first_tab = () => (shown_file.summary.sections.refused || shown_file.summary.sections.length === 0 ? 'header' : 'sections');
 
 // Returns what is shown of an item of a tab.
 async function item_of({ name, of, field, index }) {
@@ -50,7 +50,7 @@ async function item_of({ name, of, field, index }) {
 let shown_places = 0;
 async function show_place(place) {
     const mine = ++shown_places;
-    if (!shown_file.told) return;
+    if (!shown_file.summary) return;
     const [name, first] = place.split('/');
     let details;
     if (Object.hasOwn(PLACES, name)) {
@@ -89,8 +89,8 @@ async function open(file) {
     if (wrong) { trouble(file, wrong); return; }
     const reader = loading = new Reader(), stop = show_loading(file, reader);
     try {
-        const told = await reader.open(file);
-        if (told.refused) await show_refusal(file, reader, told); else await show_file(file, reader, told);
+        const summary = await reader.open(file);
+        if (summary.refused) await show_refusal(file, reader, summary); else await show_file(file, reader, summary);
     } catch (error) {
         if (loading === reader) trouble(file, `The file can’t be read: ${error.message}`);
     } finally {
@@ -122,8 +122,8 @@ function show_loading(file, reader) {
 
 // Shows only one of the page's parts, and the name of its file in the bar.
 function show_part(part, file, ...words) {
-    for (const name of ['start', 'refused', 'told']) get(name).hidden = name !== part;
-    get('search').hidden = part !== 'told';
+    for (const name of ['start', 'refused', 'shown']) get(name).hidden = name !== part;
+    get('search').hidden = part !== 'shown';
     get('trouble').hidden = true;
     document.body.classList.remove('chosen');
     document.title = `${visible(file.name)}: goblin`;
@@ -132,9 +132,9 @@ function show_part(part, file, ...words) {
 }
 
 // Replaces the previous file, whose worker ends.
-function replace(reader, file, told) {
+function replace(reader, file, summary) {
     shown_file.reader?.end();
-    Object.assign(shown_file, { reader, told, size: file.size, title: file.name });
+    Object.assign(shown_file, { reader, summary, size: file.size, title: file.name });
 }
 
 function trouble(file, text) {
@@ -165,16 +165,16 @@ async function show_refusal(file, reader, { refused, start }) {
 }
 
 let is_first = true;
-async function show_file(file, reader, told) {
-    replace(reader, file, told);
+async function show_file(file, reader, summary) {
+    replace(reader, file, summary);
     // (the location that the page is opened with belongs to the first file)
     if (!is_first) note_place('');
     is_first = false;
-    show_part('told', file, ...told.words);
-    show_map(told.map, file.size);
+    show_part('shown', file, ...summary.words);
+    show_map(summary.map, file.size);
     show_tabs();
     get('panel').replaceChildren();
-    const blocks = [{ word: 'bytes', at: 0, size: told.header_size }];
+    const blocks = [{ word: 'bytes', at: 0, size: summary.header_size }];
     await show_side({ title: 'ELF header', kind: 'header', what: 'at the start of the file', blocks });
     await show_place(current_place());
 }

@@ -1,6 +1,6 @@
 // The pieces of the file, and the parts that the ends of pieces divide it into.
 import * as goblin from './goblin.js';
-import { called, file, RELOCATION_TYPES, section_at, sections, segments, size_of, STRTAB, SYMBOL_TYPES, told_or } from './file.js';
+import { called, file, RELOCATION_TYPES, section_at, sections, segments, size_of, STRTAB, SYMBOL_TYPES, read_or } from './file.js';
 import { segment_type } from './labels.js';
 import { notes_of, title_of } from './notes.js';
 
@@ -40,10 +40,10 @@ function pieces_of_sections() {
     const { e_phoff, e_phnum, e_shoff } = file.elf.header;
     add(0, size_of('header'), { title: 'ELF header', kind: 'header', to: 'header' });
     if (e_phnum) add(Number(e_phoff), e_phnum * size_of('segment'), { title: 'Program headers', kind: 'tables', to: 'segments' });
-    const length = told_or(0, () => file.elf.section_headers().length);
+    const length = read_or(0, () => file.elf.section_headers().length);
     if (length) add(Number(e_shoff), length * size_of('section'), { title: 'Section headers', kind: 'tables', to: 'sections' });
     for (const { index, section } of sections()) {
-        const range = told_or(undefined, () => file.elf.section_range(section));
+        const range = read_or(undefined, () => file.elf.section_range(section));
         if (range) add(Number(range.offset), Number(range.size), { section: index, kind: kind_of(section), to: `sections/${index}` });
     }
     return found;
@@ -53,7 +53,7 @@ function pieces_of_sections() {
 function pieces_of_segments() {
     const { found, add } = collector();
     for (const { index, segment } of segments()) {
-        const range = told_or(undefined, () => file.elf.segment_range(segment));
+        const range = read_or(undefined, () => file.elf.segment_range(segment));
         const title = title_of_segment(index, segment);
         if (range) add(Number(range.offset), Number(range.size), { title, kind: kind_of_segment(segment), to: `segments/${index}` });
     }

@@ -29,7 +29,7 @@ export class Reader {
         if (data.progress) return this.on_progress(data);
         const { resolve, reject } = this.#waiting.get(data.id);
         this.#waiting.delete(data.id);
-        return 'failed' in data ? reject(new Error(data.failed)) : resolve(data.told);
+        return 'failed' in data ? reject(new Error(data.failed)) : resolve(data.result);
     }
 
     #fail(error) {
@@ -51,7 +51,7 @@ export class Reader {
 }
 
 /** The file that is shown: its reader, its size, and the worker's first result. */
-export const shown_file = { reader: undefined, size: 0, told: undefined };
+export const shown_file = { reader: undefined, size: 0, summary: undefined };
 
 /** Calls the worker of the file that is shown. */
 export const ask = (call, given) => shown_file.reader.ask(call, given);

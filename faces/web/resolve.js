@@ -1,6 +1,6 @@
 // Resolves symbols, relocations and addresses: to sections, segments, symbols and bytes of the file.
 import * as goblin from './goblin.js';
-import { called, EM_ARM, ET_REL, file, name_at, section_at, sections, segments, SYMBOL_TYPES, SYMTAB_SHNDX, told_or } from './file.js';
+import { called, EM_ARM, ET_REL, file, name_at, section_at, sections, segments, SYMBOL_TYPES, SYMTAB_SHNDX, read_or } from './file.js';
 import { hex } from './text.js';
 
 const STT_SECTION = 3, STT_FUNC = 2, STT_TLS = 6, PT_LOAD = 1, PT_TLS = 7, SHF_ALLOC = 2n, SHF_TLS = 0x400n;
@@ -36,7 +36,7 @@ export function section_of_symbol(table, index, { st_shndx }) {
     if (st_shndx === SHN_XINDEX) {
         const indices = extended_of(table);
         if (!indices || BigInt(index) * 4n + 4n > indices.sh_size) return undefined;
-        return Number(told_or(undefined, () => file.elf.number(indices.sh_offset + BigInt(index) * 4n, 4)) ?? 0) || undefined;
+        return Number(read_or(undefined, () => file.elf.number(indices.sh_offset + BigInt(index) * 4n, 4)) ?? 0) || undefined;
     }
     return st_shndx === 0n || st_shndx >= SHN_LORESERVE ? undefined : Number(st_shndx);
 }
@@ -138,7 +138,7 @@ export function symbol_of_address(address) {
     for (const { index: table, section } of sections()) {
         if (!SYMBOL_TYPES.includes(section.sh_type)) continue;
         const thumb = file.elf.header.e_machine === EM_ARM ? 1n : 0n;
-        const index = told_or(undefined, () => symtab_at(table).by_address(address | thumb));
+        const index = read_or(undefined, () => symtab_at(table).by_address(address | thumb));
         if (index === undefined) continue;
         const symbol = symtab_at(table).get(index), start = address_of_symbol(symbol);
         if (address !== start && !holds(start, symbol.st_size, address)) continue;
@@ -150,9 +150,9 @@ export function symbol_of_address(address) {
 // ---- links ----
 
 /** Returns a name with a distance from its start. */
-export const behind = (name, from) => (from > 0n ? `${name} + ${hex(from)}` : name);
+export const with_offset = (name, from) => (from > 0n ? `${name} + ${hex(from)}` : name);
 
 export const to_section = (index) => ({ text: called(index), to: `sections/${index}` });
-export const to_symbol = ({ table, index, name, from = 0n }) => ({ text: behind(name, from), to: `symbols/${table}/${index}` });
+export const to_symbol = ({ table, index, name, from = 0n }) => ({ text: with_offset(name, from), to: `symbols/${table}/${index}` });
 export const to_address = (address) => ({ text: hex(address), to: `address/${hex(address)}` });
 export const to_offset = (offset) => ({ text: hex(offset), to: `offset/${hex(offset)}` });

@@ -46,7 +46,7 @@ export const is_list = (name) => Object.hasOwn(COLUMNS, name);
 
 // Returns the columns of a list of the file that is shown. Numbers fit in their columns, but for some of damaged files.
 function columns_of(name) {
-    const { address, offset, align, index } = shown_file.told.signs;
+    const { address, offset, align, index } = shown_file.summary.signs;
     const room = (signs, least) => Math.max(Math.ceil(7.6 * signs) + 1, least);
     const rooms = { address: room(address, 60), offset: room(offset, 60), align: room(Math.min(align, 10), 36), index: room(index, 32) };
     return COLUMNS[name](rooms);
@@ -73,12 +73,12 @@ function notes_sum({ sections, segments }) {
 
 /** Shows the tabs, each with its number of items or as refused. */
 export function show_tabs() {
-    const { told } = shown_file, length = ({ refused, length: count }) => (refused ? 'refused' : number(count));
+    const { summary } = shown_file, length = ({ refused, length: count }) => (refused ? 'refused' : number(count));
     open = { name: undefined };
     const list = [
-        ['header', 'Header', ''], ['sections', 'Sections', length(told.sections)], ['segments', 'Segments', length(told.segments)],
-        ['symbols', 'Symbols', sum_of(told.symbols)], ['relocations', 'Relocations', sum_of(told.relocations)],
-        ['notes', 'Notes', notes_sum(told.notes)], ['layout', 'Layout', number(told.map.kinds.length)],
+        ['header', 'Header', ''], ['sections', 'Sections', length(summary.sections)], ['segments', 'Segments', length(summary.segments)],
+        ['symbols', 'Symbols', sum_of(summary.symbols)], ['relocations', 'Relocations', sum_of(summary.relocations)],
+        ['notes', 'Notes', notes_sum(summary.notes)], ['layout', 'Layout', number(summary.map.kinds.length)],
     ];
     get('tabs').replaceChildren(...list.map(([name, title, count]) => make('button', {
         type: 'button', role: 'tab', id: `tab-${name}`, 'aria-controls': 'panel', 'aria-selected': 'false', tabindex: '-1',
@@ -133,7 +133,7 @@ export async function open_tab(name, of) {
 // ---- the header ----
 
 function header_panel() {
-    const rows = shown_file.told.header.map(({ name, at, size, words, ...field }) => {
+    const rows = shown_file.summary.header.map(({ name, at, size, words, ...field }) => {
         const row = make('tr', { tabindex: '0', 'data-field': name }, make('th', { scope: 'row' }, name), value_of(field),
             make('td', { class: 'words' }, words), make('td', { class: 'dim' }, `${hex(at)}, ${plural(size, 'byte')}`));
         row.addEventListener('click', (event) => { if (!event.target.closest('a')) go(`header/${name}`); });
@@ -151,7 +151,7 @@ function header_panel() {
 /** Marks a field of the header as chosen, and returns what is shown of it, or nothing if there is no such field. */
 export function choose_field(wanted) {
     for (const row of get('panel').querySelectorAll('[data-field]')) row.setAttribute('aria-selected', row.dataset.field === wanted);
-    const field = shown_file.told.header.find(({ name }) => name === wanted);
+    const field = shown_file.summary.header.find(({ name }) => name === wanted);
     if (!field) return undefined;
     const { name, at, size, words, value, meaning, links } = field;
     const [fields, blocks] = [[{ name: 'value', value, meaning, links }], [{ word: 'bytes', at, size }]];
@@ -162,10 +162,10 @@ export function choose_field(wanted) {
 
 // Returns the tables of symbols, relocations or notes to choose from.
 function choices(name) {
-    const { told } = shown_file;
+    const { summary } = shown_file;
     const choice = (of, title, length) => ({ of, length, text: `${title} (${length === undefined ? 'refused' : number(length)})` });
-    if (name === 'notes') return ['sections', 'segments'].map((of) => choice(of, `of ${of}`, told.notes[of].length));
-    return told[name].found.map(({ index, name: title, length }) => choice(index, title, length));
+    if (name === 'notes') return ['sections', 'segments'].map((of) => choice(of, `of ${of}`, summary.notes[of].length));
+    return summary[name].found.map(({ index, name: title, length }) => choice(index, title, length));
 }
 
 const NONE = {
@@ -174,8 +174,8 @@ const NONE = {
 };
 
 async function list_panel(mine, wanted) {
-    const { name } = mine, { told } = shown_file;
-    if (told[name]?.refused) return [await refusal_of(told[name].refused)];
+    const { name } = mine, { summary } = shown_file;
+    if (summary[name]?.refused) return [await refusal_of(summary[name].refused)];
     let list = Object.hasOwn(NONE, name) || name === 'notes' ? choices(name) : [{ of: undefined }];
     if (wanted !== undefined && !list.some(({ of }) => of === wanted)) list = [{ of: wanted, text: `section ${wanted}` }, ...list];
     if (list.length === 0) return [make('p', { class: 'empty' }, NONE[name]), ...others_of(name)];
@@ -222,14 +222,14 @@ async function notices_of({ name, of }, { refused, is_none }) {
 
 // Returns the message for relocation sections that are not listed.
 function others_of(name) {
-    const { others = [] } = shown_file.told[name] ?? {};
+    const { others = [] } = shown_file.summary[name] ?? {};
     if (!others.length) return [];
     return [make('p', { class: 'others' }, 'Not listed are the packed relocations (SHT_RELR) of ', ...others.map(link_to))];
 }
 
 const MOST_REFUSALS = 3;
 async function note_refusals(by) {
-    const { refusals, is_cut } = shown_file.told.notes[by];
+    const { refusals, is_cut } = shown_file.summary.notes[by];
     const boxes = await Promise.all(refusals.slice(0, MOST_REFUSALS).map((refusal) => refusal_of(refusal)));
     return is_cut ? [...boxes, make('p', { class: 'empty' }, 'There are more notes, which are not read.')] : boxes;
 }
@@ -275,7 +275,7 @@ function tools(mine) {
         choice.addEventListener('change', () => go(`${name}/${list[choice.selectedIndex].of}`));
         bar.append(choice);
     }
-    const hidden = (shown_file.told[name]?.all ?? 0) - (shown_file.told[name]?.found?.length ?? 0);
+    const hidden = (shown_file.summary[name]?.all ?? 0) - (shown_file.summary[name]?.found?.length ?? 0);
     if (hidden > 0) bar.append(make('span', {}, `and ${number(hidden)} more: choose them among the sections`));
     bar.append(mine.search = search_field(mine), output, make('span', { class: 'saving' },
         button('Copy cell', () => copy_active(grid, ({ [grid.column]: cell }) => cell, 'the cell')),

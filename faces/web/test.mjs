@@ -83,10 +83,10 @@ class Dump {
     lines = [];
 
     // Adds the line of a call: its result, or none, or its refusal. Returns whether it has a result.
-    ask(what, told, put = (item) => (typeof item === 'object' ? fields(item) : ` ${hex(item)}`)) {
+    ask(what, read, put = (item) => (typeof item === 'object' ? fields(item) : ` ${hex(item)}`)) {
         let item;
         try {
-            item = told();
+            item = read();
         } catch (error) {
             if (!(error instanceof goblin.GoblinError)) throw error;
             const { kind, item, numbers: [first, second, third, fourth], offset, message } = error;
@@ -98,15 +98,15 @@ class Dump {
     }
 
     string(strtab, offset) {
-        const text = this.ask('goblin_string', () => strtab.get(offset), (told) => bytes(Buffer.from(told)));
+        const text = this.ask('goblin_string', () => strtab.get(offset), (string) => bytes(Buffer.from(string)));
         this.ask('goblin_string_bytes', () => strtab.get_bytes(offset), bytes);
         return text;
     }
 
-    symbol(symtab, index, told = () => symtab.get(index)) {
+    symbol(symtab, index, read = () => symtab.get(index)) {
         const names = ({ st_info, st_other }) => ` ${goblin.bind_to_str(goblin.st_bind(st_info))} `
             + `${goblin.type_to_str(goblin.st_type(st_info))} ${goblin.visibility_to_str(goblin.st_visibility(st_other))}`;
-        const symbol = this.ask('goblin_symbol', told, (item) => fields(item) + names(item));
+        const symbol = this.ask('goblin_symbol', read, (item) => fields(item) + names(item));
         if (!symbol) return;
         const name = this.string(symtab.strtab, symbol.st_name);
         if (name !== undefined) this.ask('goblin_symbol_by_name', () => symtab.by_name(name));
@@ -253,10 +253,10 @@ try {
         const content = readFileSync(file);
         const paths = Array.from({ length: content.length > 0x4000 ? COPIES / 10 : COPIES }, (_, i) => join(folder, `${i}`));
         for (const path of paths) writeFileSync(path, damaged(content));
-        const told = compare(paths);
+        const compared = compare(paths);
         copies += paths.length;
-        lines += told.length;
-        refusals += told.filter((line) => line.includes(' kind=')).length;
+        lines += compared.length;
+        refusals += compared.filter((line) => line.includes(' kind=')).length;
     }
     assert.ok(copies >= 4 * COPIES && refusals > copies && lines > 100 * copies, 'too little was compared');
     console.log(`goblin.js returns the same as C for ${files.length} files and ${copies} damaged copies: ${lines} lines, ${refusals} refusals`);

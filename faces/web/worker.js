@@ -1,10 +1,10 @@
-// Reads a file for the page, so that the page stays responsive. A worker reads one file. It answers a message { id, call, given } by
-// { id, told } or { id, failed }. A refusal of the library is { refused } in `told`. What takes long is done in steps, and ends if the same is
-// requested again.
+// Reads a file for the page, so that the page stays responsive. A worker reads one file. It answers a message { id, call, given } with
+// { id, result } or { id, failed }. A refusal of the library is { refused } in `result`. What takes long is done in steps, and ends if
+// the same is requested again.
 import init, * as goblin from './goblin.js';
 import { address_details, header_fields, is_address, item_details, offset_details } from './details.js';
 import {
-    called, file, header_refusal, is_wide, list_refusal, part, RELOCATION_TYPES, RELR, sections, segments, SYMBOL_TYPES, told_or,
+    called, file, header_refusal, is_wide, list_refusal, part, RELOCATION_TYPES, RELR, sections, segments, SYMBOL_TYPES, read_or,
 } from './file.js';
 import { find } from './find.js';
 import * as labels from './labels.js';
@@ -38,7 +38,7 @@ function tables(types, list_of) {
     for (const { index, section } of sections()) {
         if (!types.includes(section.sh_type) || ++all > MOST_TABLES) continue;
         // (a refusal is shown once the section is chosen)
-        found.push({ index, name: called(index, section), length: told_or(undefined, () => list_of(section, index).length) });
+        found.push({ index, name: called(index, section), length: read_or(undefined, () => list_of(section, index).length) });
     }
     return { found, all };
 }
@@ -47,7 +47,7 @@ function tables(types, list_of) {
 const packed_relocations = () => [...sections()].filter(({ section }) => section.sh_type === RELR).slice(0, MOST_TABLES)
     .map(({ index, section }) => ({ text: called(index, section), to: `sections/${index}` }));
 
-function notes_told(by, headers) {
+function notes_summary(by, headers) {
     if (headers.refused) return { length: undefined, refusals: [headers.refused] };
     const { items, refusals, is_cut } = notes_of(by);
     return { length: items.length, refusals, is_cut };
@@ -91,7 +91,7 @@ function overview() {
             labels.machine(header.e_machine), `entry ${hex(header.e_entry)}`],
         symbols: refused ? { refused } : tables(SYMBOL_TYPES, (section, index) => symtab_at(index)),
         relocations: refused ? { refused } : { ...tables(RELOCATION_TYPES, (section) => elf.relocs(section)), others: packed_relocations() },
-        notes: { sections: notes_told('sections', headers.sections), segments: notes_told('segments', headers.segments) },
+        notes: { sections: notes_summary('sections', headers.sections), segments: notes_summary('segments', headers.segments) },
         map: map(), signs: signs(),
     };
 }
@@ -190,8 +190,8 @@ const calls = {
 
 onmessage = async ({ data: { id, call, given } }) => {
     try {
-        const told = await calls[call](given);
-        postMessage({ id, told });
+        const result = await calls[call](given);
+        postMessage({ id, result });
     } catch (error) {
         postMessage({ id, failed: `${error?.message ?? error}` });
     }
