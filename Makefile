@@ -35,7 +35,7 @@ gate:
 	@python3 checks/took.py whole $(MAKE) --no-print-directory -j1 tested tried left WHOLE=whole
 
 # First what takes seconds. Then side by side, so that two processors have work up to the end: every proof that the toolchain
-# hasn't kept on this machine, with the tests and the stored runs, and after it the program's words, real files, and what hostile
+# hasn't cached on this machine, with the tests and the stored runs, and after it the program's words, real files, and what hostile
 # files may take; the must-fail edits of each crate that is proved, at a low priority, since the longest proof waits for the crates;
 # the library for C, which is made in a copy over the libraries that are proved, and then called from C, Rust and JavaScript; and
 # allocations that fail.
@@ -92,8 +92,8 @@ faces:
 	$(has_rt)
 	@sh checks/faces.sh
 
-# The edits alone, of all crates or of some, over what earlier checks kept; those of another folder, which has a folder for
-# each crate; or one, by its name: make edits CRATES=goblin_base; make edits FROM=/tmp/bugs; make edits EDIT=one_early
+# The edits alone, of all crates or of some, over the proofs that earlier checks cached; those of another folder, which has a
+# folder for each crate; or one, by its name: make edits CRATES=goblin_base; make edits FROM=/tmp/bugs; make edits EDIT=one_early
 edits:
 	$(has_rt)
 	@python3 checks/edits $(CRATES) $(if $(FROM),--from '$(FROM)') $(if $(EDIT),--edit '$(EDIT)')

@@ -3,7 +3,7 @@
 repository's root.
 
 Each crate of crates.txt, or each one named, is checked without its tests: at the full limits, unless earlier checks on this machine
-have kept that, and then at half of them. A function is open where a goal of its own stays open then: the next toolchain, or one
+have cached that, and then at half of them. A function is open where a goal of its own stays open then: the next toolchain, or one
 field more, may leave it open at the full limits too. One that only calls an open function isn't listed. The libraries below a
 crate are proved at the full limits.
 
@@ -25,7 +25,7 @@ SLOWEST = 10
 
 
 def copy(room):
-    """Copies the crates with their built libraries, but without what checks keep, which a check at half limits would replace."""
+    """Copies the crates with their built libraries, but without what checks cache, which a check at half limits would replace."""
     shutil.copytree('crates', f'{room}/crates', ignore=shutil.ignore_patterns('target', 'incremental'), symlinks=True)
     for name in ('HANDLES', 'crates.txt'):
         shutil.copy(name, room)

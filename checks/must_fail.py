@@ -65,7 +65,7 @@ def refusals_in(said, functions):
 
 
 def try_edits(crate, folder, known):
-    """Tries a crate's edits, and answers how many there are and which are not refused."""
+    """Tries a crate's edits, and returns how many there are and which are not refused."""
     edits, wrong = edits_of(f'crates/{crate}/must-fail', crate, f'crates/{crate}')
     functions = {edit.name: {path_among(name, known) for name in edit.functions()} - {None} for edit in edits}
     wrong += [f'{crate}/{edit.name}' for edit in edits if not functions[edit.name]]

@@ -37,7 +37,7 @@ def part(name, command):
 
 
 def unit():
-    """Proves a crate that the toolchain brings, from nothing: no other check has kept anything of one of that name."""
+    """Proves a crate that the toolchain brings, from nothing: no other check has cached anything of a crate with that name."""
     with tempfile.TemporaryDirectory(prefix='unit-') as folder:
         crate, said = f'{folder}/unit_{os.getpid()}', f'{folder}/said'
         status = subprocess.run(['rt', 'new', crate, 'start_io'], stdout=subprocess.DEVNULL).returncode

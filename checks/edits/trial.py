@@ -106,7 +106,7 @@ class Trial:
         return found
 
     def try_group(self, group, pending):
-        """Judges the edits of a group, and answers those that are still to be judged."""
+        """Judges the edits of a group, and returns those that are still to be judged."""
         if len(group) == 1:
             self.try_alone(group[0])
             return [edit for edit in pending if edit is not group[0]]
