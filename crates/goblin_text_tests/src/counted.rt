@@ -4,7 +4,7 @@ use goblin_text::streams::{Sink, Source};
 use std::io;
 use std::io::{ErrorKind, Read, Write};
 
-// A reader that gives one zero a call, so many, and a writer that takes one byte a call.
+// A reader that reads one zero a call, so many, and a writer that takes one byte a call.
 #[derive(Drop)]
 struct Single {
     left: u64,
@@ -35,7 +35,7 @@ impl Write for Single {
     }
 }
 
-// Whether each read call gives a zero and is counted by itself, up to the one that tells the end.
+// Whether each read call reads a zero and is counted by itself, up to the one that reports the end.
 fn counts_reads(bytes: u64) -> bool {
     let mut counted = Counted::new(Single {
         left: bytes,
@@ -100,12 +100,12 @@ impl Write for Turning {
     }
 }
 
-// Whether each read of so many bytes at most is one call inside, whose answer it hands on.
-fn hands_reads_on(room: &mut [u8]) -> bool {
-    let given = room.len().min(1);
+// Whether each read of so many bytes at most is one call inside, whose result it returns.
+fn passes_reads_on(buffer: &mut [u8]) -> bool {
+    let given = buffer.len().min(1);
     let mut counted = Counted::new(Turning { calls: 0 });
     for call in 0..9_u64 {
-        let is_handed_on = match Source::read(&mut counted, room) {
+        let is_passed_on = match Source::read(&mut counted, buffer) {
             Ok(count) => call % 3 == 2 && count == given,
             Err(e) => call % 3 < 2 && (e.kind() == ErrorKind::Interrupted) == (call % 3 == 0),
         };
@@ -114,7 +114,7 @@ fn hands_reads_on(room: &mut [u8]) -> bool {
         let is_marked = counted.reported_error()
             && counted.reported_failure() == (call > 0)
             && !counted.reported_end();
-        if !is_handed_on || !is_counted || !is_marked {
+        if !is_passed_on || !is_counted || !is_marked {
             return false;
         }
     }
@@ -122,7 +122,7 @@ fn hands_reads_on(room: &mut [u8]) -> bool {
 }
 
 // Whether a write goes on after an interruption and ends at a failure, and a flush is one call.
-fn hands_writes_on(bytes: &[u8]) -> bool {
+fn passes_writes_on(bytes: &[u8]) -> bool {
     let mut counted = Counted::new(Turning { calls: 0 });
     let is_ended = Sink::write_all(&mut counted, bytes).is_err() && counted.reported_error();
     let at_failure = counted.inner().calls;
@@ -131,12 +131,12 @@ fn hands_writes_on(bytes: &[u8]) -> bool {
 }
 
 #[test]
-fn hands_each_answer_on(rt: HostRuntime) {
-    assert!(rt; hands_reads_on(&mut []), "into no room");
-    assert!(rt; hands_reads_on(&mut [1]), "into room for one byte");
-    assert!(rt; hands_reads_on(&mut [1; 8]), "into room for eight bytes");
-    assert!(rt; hands_writes_on(b"0"), "of one byte");
-    assert!(rt; hands_writes_on(b"01234567"), "of eight bytes");
+fn passes_each_result_on(rt: HostRuntime) {
+    assert!(rt; passes_reads_on(&mut []), "into an empty buffer");
+    assert!(rt; passes_reads_on(&mut [1]), "into one byte");
+    assert!(rt; passes_reads_on(&mut [1; 8]), "into eight bytes");
+    assert!(rt; passes_writes_on(b"0"), "of one byte");
+    assert!(rt; passes_writes_on(b"01234567"), "of eight bytes");
 }
 
 #[test]

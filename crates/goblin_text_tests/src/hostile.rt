@@ -119,51 +119,51 @@ fn refuses_cut_files(rt: HostRuntime) {
     assert!(rt; are_refused(rt.alloc(), &PERMISSIVE));
 }
 
-// An error, by its kind or by the number that the system gives it.
+// An error, by its kind or by its number in the system.
 #[derive(Clone, Copy)]
-enum Told {
+enum IoError {
     Kind(ErrorKind),
     Number(i32),
 }
 
-impl Told {
+impl IoError {
     fn error(self) -> io::Error {
         match self {
-            Told::Kind(kind) => io::Error::from(kind),
-            Told::Number(number) => io::Error::from_raw_os_error(number),
+            IoError::Kind(kind) => io::Error::from(kind),
+            IoError::Number(number) => io::Error::from_raw_os_error(number),
         }
     }
 }
 
 // Errors that are no interruption: 5 is a device's, 9 a closed file's, 21 a folder's.
-const FAILURES: [Told; 15] = [
-    Told::Kind(ErrorKind::NotFound),
-    Told::Kind(ErrorKind::PermissionDenied),
-    Told::Kind(ErrorKind::ConnectionReset),
-    Told::Kind(ErrorKind::BrokenPipe),
-    Told::Kind(ErrorKind::InvalidInput),
-    Told::Kind(ErrorKind::InvalidData),
-    Told::Kind(ErrorKind::TimedOut),
-    Told::Kind(ErrorKind::WriteZero),
-    Told::Kind(ErrorKind::WouldBlock),
-    Told::Kind(ErrorKind::UnexpectedEof),
-    Told::Kind(ErrorKind::OutOfMemory),
-    Told::Kind(ErrorKind::Other),
-    Told::Number(5),
-    Told::Number(9),
-    Told::Number(21),
+const FAILURES: [IoError; 15] = [
+    IoError::Kind(ErrorKind::NotFound),
+    IoError::Kind(ErrorKind::PermissionDenied),
+    IoError::Kind(ErrorKind::ConnectionReset),
+    IoError::Kind(ErrorKind::BrokenPipe),
+    IoError::Kind(ErrorKind::InvalidInput),
+    IoError::Kind(ErrorKind::InvalidData),
+    IoError::Kind(ErrorKind::TimedOut),
+    IoError::Kind(ErrorKind::WriteZero),
+    IoError::Kind(ErrorKind::WouldBlock),
+    IoError::Kind(ErrorKind::UnexpectedEof),
+    IoError::Kind(ErrorKind::OutOfMemory),
+    IoError::Kind(ErrorKind::Other),
+    IoError::Number(5),
+    IoError::Number(9),
+    IoError::Number(21),
 ];
 
 // Interruptions, by kind and by the system's number.
-const INTERRUPTIONS: [Told; 2] = [Told::Kind(ErrorKind::Interrupted), Told::Number(4)];
+const INTERRUPTIONS: [IoError; 2] = [IoError::Kind(ErrorKind::Interrupted), IoError::Number(4)];
 
-// A reader that gives few bytes at once, and this error at one call.
+// A reader that returns few bytes at once, and this error at one call.
 #[derive(Drop)]
 struct Parts<'a> {
     left: &'a [u8],
     calls: usize,
     error_at: usize,
-    error: Told,
+    error: IoError,
 }
 
 impl Read for Parts<'_> {
@@ -180,9 +180,9 @@ impl Read for Parts<'_> {
     }
 }
 
-// Whether a run over these bytes fails and writes nothing, where any of so many read calls answers
+// Whether a run over these bytes fails and writes nothing, where any of so many read calls returns
 // this error, and writes this text where the next one would.
-fn heeds_reads(alloc: Global, bytes: &[u8], error: Told, calls: usize, text: &str) -> bool {
+fn heeds_reads(alloc: Global, bytes: &[u8], error: IoError, calls: usize, text: &str) -> bool {
     for error_at in 1..calls.saturating_add(1) {
         let reader = Parts {
             left: bytes,
@@ -227,7 +227,7 @@ fn fails_where_any_read_does(rt: HostRuntime) {
 struct Halting<R> {
     inner: R,
     is_next: bool,
-    error: Told,
+    error: IoError,
 }
 
 impl<R: Read> Read for Halting<R> {
@@ -242,7 +242,7 @@ impl<R: Read> Read for Halting<R> {
 }
 
 // Whether a run over these bytes, interrupted at each other call, ends so.
-fn goes_on(alloc: Global, bytes: &[u8], error: Told, outcome: Outcome, text: &str) -> bool {
+fn goes_on(alloc: Global, bytes: &[u8], error: IoError, outcome: Outcome, text: &str) -> bool {
     for is_next in [false, true] {
         let inner = Parts {
             left: bytes,
@@ -282,7 +282,7 @@ fn reads_on_after_each_other_call(rt: HostRuntime) {
 }
 
 // Whether a reader that is interrupted at each of its first calls is asked as often as the limit
-// says, and no more, and whether its end is heeded where the last of these calls tells it.
+// says, and no more, and whether its end is heeded if the last of these calls reports it.
 fn asks_as_often(alloc: Global, limit: u32) -> bool {
     let mut reader = Counted::new(Interrupted { left: 1_000 });
     let input = input_within(alloc, &mut reader, u64::from(limit));
@@ -323,7 +323,7 @@ fn gives_up_after_33554432_reads(rt: HostRuntime) {
     assert!(rt; gives_up(rt.alloc()));
 }
 
-// A reader that gives a zero at each call.
+// A reader that reads a zero at each call.
 #[derive(Drop)]
 struct Drops {
     given: u32,
@@ -350,11 +350,11 @@ fn is_too_long(alloc: Global) -> bool {
         && writer.into_inner().as_slice() == line.as_bytes()
 }
 
-// Whether reading such a reader is in vain where each other call is an interruption, and the last
-// call gives a zero: whether it gave so many.
+// Whether reading such a reader comes to no end if each other call is an interruption, and the last
+// call reads a zero: whether it read so many.
 fn comes_to_no_end(alloc: Global, limit: u64, given: u32) -> bool {
     let inner = Drops { given: 0 };
-    let error = Told::Kind(ErrorKind::Interrupted);
+    let error = IoError::Kind(ErrorKind::Interrupted);
     let mut reader = Counted::new(Halting {
         inner,
         is_next: true,
@@ -374,7 +374,7 @@ fn takes_no_zeros_without_end(rt: HostRuntime) {
 // What a writer does in the place of taking some bytes.
 #[derive(Clone, Copy)]
 enum Balk {
-    Tells(Told),
+    Fails(IoError),
     TakesNone,
 }
 
@@ -392,7 +392,7 @@ impl Write for Balking {
         self.writes = self.writes.saturating_add(1);
         if self.writes == self.balk_at {
             return match self.balk {
-                Balk::Tells(error) => Err(error.error()),
+                Balk::Fails(error) => Err(error.error()),
                 Balk::TakesNone => Ok(0),
             };
         }
@@ -435,7 +435,7 @@ fn heeds_balks(alloc: Global, file: &str, outcome: Outcome, text: &str) -> bool 
         return false;
     };
     for error in FAILURES {
-        if !heeds_writes(alloc, bytes.as_slice(), Balk::Tells(error), outcome, text) {
+        if !heeds_writes(alloc, bytes.as_slice(), Balk::Fails(error), outcome, text) {
             return false;
         }
     }
@@ -452,7 +452,7 @@ fn fails_where_any_write_does(rt: HostRuntime) {
 // A writer that fails where it is flushed.
 #[derive(Drop)]
 struct Unflushed {
-    error: Told,
+    error: IoError,
 }
 
 impl Write for Unflushed {
@@ -465,8 +465,8 @@ impl Write for Unflushed {
     }
 }
 
-// Whether a run over these bytes fails where the flush tells any of these errors.
-fn heeds_flushes(alloc: Global, file: &str, errors: &[Told]) -> bool {
+// Whether a run over these bytes fails if the flush returns any of these errors.
+fn heeds_flushes(alloc: Global, file: &str, errors: &[IoError]) -> bool {
     let Some(bytes) = bytes_of(alloc, file) else {
         return false;
     };
@@ -506,7 +506,7 @@ impl<W: Write> Write for Halting<W> {
 
 // Whether a run over these bytes ends so and writes this text, where each other write is an
 // interruption.
-fn writes_on(alloc: Global, bytes: &[u8], error: Told, outcome: Outcome, text: &str) -> bool {
+fn writes_on(alloc: Global, bytes: &[u8], error: IoError, outcome: Outcome, text: &str) -> bool {
     for is_next in [false, true] {
         let held = Vec::new(alloc);
         let inner = Balking {

@@ -1,4 +1,4 @@
-//! Names from tables that begin and end at the edges of the file's blocks. What is cached gives the same names as a walk
+//! Names from tables that begin and end at the edges of the file's blocks. What is cached leads to the same names as a walk
 //! over each table, as `Strtab::parse_with_opts` makes it, or the same refusal.
 use crate::runs::{PERMISSIVE, STRICT};
 use goblin::error::Result;

@@ -321,7 +321,7 @@ fn refuses_cut(alloc: Global, file: &str, length: usize, line: &str) -> bool {
 }
 
 #[test]
-fn tells_why_a_header_is_refused(rt: HostRuntime) {
+fn reports_why_a_header_is_refused(rt: HostRuntime) {
     let line = "refused: Malformed entity: Too small\n";
     assert!(rt; refuses(rt.alloc(), &STRICT, "", &[], line));
     let line = "refused: Invalid magic number: 0x3736353433323130\n";
@@ -336,7 +336,7 @@ fn tells_why_a_header_is_refused(rt: HostRuntime) {
 }
 
 #[test]
-fn tells_why_sections_are_refused(rt: HostRuntime) {
+fn reports_why_sections_are_refused(rt: HostRuntime) {
     // A fourth section header, of which there is no byte.
     let line = "refused: bad offset 208\n";
     assert!(rt; refuses(rt.alloc(), &STRICT, SYMBOLS, &[(48, 4)], line));
@@ -364,7 +364,7 @@ const GREATEST_ADDRESS: &[(usize, u8)] = &[
 ];
 
 #[test]
-fn tells_why_an_address_is_refused(rt: HostRuntime) {
+fn reports_why_an_address_is_refused(rt: HostRuntime) {
     let line = "refused: Malformed entity: Section 0 size (16) + addr (18446744073709551615) is \
         out of bounds. Overflowed: true\n";
     assert!(rt; refuses(rt.alloc(), &STRICT, PAIR, GREATEST_ADDRESS, line));
@@ -428,7 +428,7 @@ fn shows_names_longer_than_what_is_written_at_once(rt: HostRuntime) {
     assert!(rt; shows_long_name(rt.alloc(), "\x07", "\u{e9}", lines) == Some(true));
 }
 
-// A reader that gives zeros, `left` of them, and this error at one call.
+// A reader that reads zeros, `left` of them, and this error at one call.
 #[derive(Drop)]
 struct Zeros {
     left: usize,
@@ -475,7 +475,7 @@ fn takes_as_many_bytes_as_the_limit(rt: HostRuntime) {
 }
 
 // Whether a run over 100,000 zeros, which takes three read calls, fails and writes nothing where
-// any of the calls answers this error.
+// any of the calls returns this error.
 fn fails_at_each_call(alloc: Global, error: ErrorKind) -> bool {
     (1..4).all(|call| ends(
         alloc,
@@ -504,7 +504,7 @@ fn tries_an_interrupted_read_again(rt: HostRuntime) {
     );
 }
 
-// A reader that is interrupted so many times before it tells its end.
+// A reader that is interrupted so many times before it reports its end.
 #[derive(Drop)]
 pub(crate) struct Interrupted {
     pub(crate) left: u32,
@@ -553,7 +553,7 @@ impl Slow {
         }
     }
 
-    fn told(&mut self) -> io::Result<()> {
+    fn count_call(&mut self) -> io::Result<()> {
         self.calls = self.calls.saturating_add(1);
         if self.calls == self.error_at {
             return Err(io::Error::from(ErrorKind::BrokenPipe));
@@ -564,14 +564,14 @@ impl Slow {
 
 impl Write for Slow {
     fn write(&mut self, buf: &[u8]) -> io::Result<usize> {
-        self.told()?;
+        self.count_call()?;
         let count = buf.len().min(self.at_once);
         self.held.extend_from_slice(&buf[..count])?;
         Ok(count)
     }
 
     fn flush(&mut self) -> io::Result<()> {
-        self.told()
+        self.count_call()
     }
 }
 
