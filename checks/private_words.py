@@ -1,9 +1,9 @@
 #!/usr/bin/env python3
 """Lists words that only this repository understood: python3 checks/private_words.py [PATH ..], from the repository's root.
 
-It reads the pages without their code, and the comments of the code, of the files that git tracks below each PATH (default: all). Its
-own file, which has the list, is not read. It prints a line for each word found, with the file, the line and what to say instead, and
-exits with 1 if it found any.
+It reads the pages without their code, and the comments of the code, of the files that git tracks below each PATH (default: all). In
+the code it reads the names. Its own file, which has the lists, is not read. It prints a line for each word found, with the file, the
+line and what to say instead, and exits with 1 if it found any.
 """
 import bisect
 import io
@@ -18,7 +18,7 @@ OWN = 'checks/private_words.py'
 WORDS = {
     r'want of memory|memory (is|was) (wanting|wanted)': 'out of memory',
     r'growths?': 'allocation',
-    r'(is|are|was|were|be|been|being) told': 'is reported, is converted, is printed',
+    r'told|tells?|telling': 'reports, returns, converts, prints',
     r'lowest byte (comes )?first|little order': 'little endian',
     r'highest byte (comes )?first|big order': 'big endian',
     r'where (it|they|there|one) (has|have|is|are) (none|such)': 'if there is none, or `None`',
@@ -27,10 +27,15 @@ WORDS = {
     r'behind': 'after',
     r'as far as(?! possible)': 'a sentence of its own',
     r'by turns': 'in turn',
-    r'(kept|keeps|keep) in mind': 'is cached',
+    r'(kept|keeps|keep) in mind|(has|have|hasn.t|haven.t|checks|proofs) (kept|keep|keeps)': 'is cached',
+    r'naive': 'plain',
+    r'in vain': 'without an end, without a result',
+    r'(and|which|that) answers|answers (it|what|how|whether|those|this|the|so)': 'returns',
 }
 ANY = re.compile('|'.join(rf'(\b(?:{word})\b)'.replace(' ', r'\s+') for word in
                           (re.sub(r'\((?!\?)', '(?:', word) for word in WORDS)), re.IGNORECASE)
+# What must not be a name, or a part of one, in code. (The toolchain names facts that begin with `c.told`.)
+NAMES = re.compile(r'(?<![a-z])(?<!\bc\.)(told|tells|growths)(?![a-z])', re.IGNORECASE)
 
 BLOCK = r'/\*.*?\*/'
 LINE = r'//[^\n]*'
@@ -84,6 +89,23 @@ def prose(path, text):
     return NOISE.sub(blank, text)
 
 
+def found_in(text, pattern):
+    """Each match of a pattern with its line."""
+    starts = [found.end() for found in re.finditer('\n', text)]
+    return [(bisect.bisect_right(starts, found.start()) + 1, found) for found in pattern.finditer(text)]
+
+
+def wrong_in(path, whole):
+    """The private words of a file: the line of each, the word and what to do instead. A line of prose isn't read for names again."""
+    text = prose(path, whole)
+    wrong = [(line, found[0], f'say {list(WORDS.values())[found.lastindex - 1]}') for line, found in found_in(text, ANY)]
+    lines = {line for line, _, _ in wrong}
+    if not path.endswith('.md'):
+        wrong += [(line, found[0], 'name what is returned, stored or allocated')
+                  for line, found in found_in(whole, NAMES) if line not in lines]
+    return bool(text.strip()), wrong
+
+
 def main(paths):
     listed = subprocess.run(['git', 'ls-files', '-z', '--', *paths], check=True, capture_output=True, text=True).stdout
     files = count = 0
@@ -92,19 +114,17 @@ def main(paths):
             continue
         try:
             with open(path, encoding='utf-8') as file:
-                text = prose(path, file.read())
+                is_read, wrong = wrong_in(path, file.read())
         except (UnicodeDecodeError, FileNotFoundError):
             continue
-        files += bool(text.strip())
-        starts = [found.end() for found in re.finditer('\n', text)]
-        for found in ANY.finditer(text):
-            line, instead = bisect.bisect_right(starts, found.start()) + 1, list(WORDS.values())[found.lastindex - 1]
-            print(f'{path}:{line}: "{" ".join(found[0].split())}": say {instead}')
-            count += 1
+        files += is_read
+        for line, word, instead in wrong:
+            print(f'{path}:{line}: "{" ".join(word.split())}": {instead}')
+        count += len(wrong)
     if count:
-        print(f'private words: {count} stand in pages or comments')
+        print(f'private words: {count} stand in pages, comments or names. Replace each as its line says')
         return 1
-    print(f'private words: none stands in the pages and comments of {files} files')
+    print(f'private words: none stands in the pages, the comments and the names of {files} files')
     return 0
 
 

@@ -40,7 +40,7 @@ pub record ReadsInVain (limit : ℕ) (before after : Marks) : Type 0 where
   pub calls : min (before.read_calls + limit) (2 ^ 64 - 1) ≤ after.read_calls
   pub endless : after.reported_end ≡ before.reported_end
 
--- The reader reported an error that was no interruption, or it was called as often as it may be, in vain.
+-- The reader reported an error that was no interruption, or it was called as often as it may be, without an end.
 pub record FailsToRead (before after : Marks) : Type 0 where
   pub error : IsTrue after.reported_error
   pub reason : IsTrue after.reported_failure ⊎ ReadsInVain read_limit before after
