@@ -114,9 +114,9 @@ module _ (bytes : List ℕ) (d : ℕ) where
   unfolding is_readable
   readable_is o u = is_utf8-from_IsUtf8 _ u
 
-  readable_tells : (o : ℕ) → is_readable bytes d o ≡ true → IsUtf8 (piece bytes d o)
+  readable_utf8 : (o : ℕ) → is_readable bytes d o ≡ true → IsUtf8 (piece bytes d o)
   unfolding is_readable
-  readable_tells o r = IsUtf8-from_is_utf8 _ r
+  readable_utf8 o r = IsUtf8-from_is_utf8 _ r
 
   -- the look-up at o, if p is the offset of the last entry at or before o
   pub record IsLookUp (p o : ℕ) : Type 0 where
@@ -135,13 +135,13 @@ module _ (bytes : List ℕ) (d : ℕ) where
         at_boundary = λ b.
             let text : IsUtf8 (piece bytes d o) =
             subst IsUtf8 rest
-            (IsUtf8-drop (piece bytes d p) (o - p) (readable_tells p r) (subst (λ t. IsCharBoundary t (o - p)) e b)) in
+            (IsUtf8-drop (piece bytes d p) (o - p) (readable_utf8 p r) (subst (λ t. IsCharBoundary t (o - p)) e b)) in
             text_at_readable o n (readable_is o text) ∙ ap Some (sym (ap (drop (o - p)) e ∙ rest));
         inside = λ b.
             let bad : is_readable bytes d o ≡ false = false_from_ne_true _ (λ (s : is_readable bytes d o ≡ true).
             b (subst (λ t. IsCharBoundary t (o - p)) (sym e)
             (IsCharBoundary-from_drop (piece bytes d p) (o - p) (omega (arith, length-piece bytes d p))
-            (subst IsUtf8 (sym rest) (readable_tells o s))))) in
+            (subst IsUtf8 (sym rest) (readable_utf8 o s))))) in
             let earlier : p < o =
             ⊎_elim (λ (x : p < o). x)
             (λ (x : o ≤ p). let same : o ≡ p = omega arith in
