@@ -16,7 +16,7 @@ ghost use Rattle.goblin_headers.specs.ProgramHeaders.{loaded_from, loads, new_pr
 ghost use Rattle.goblin_headers.specs.Ranges.{span};
 
 pub use crate::{program_header32, program_header64};
-use goblin_base::container::{Container, Ctx};
+use goblin_base::container::{Container, Ctx, Endian};
 use goblin_base::error::Result;
 use goblin_base::record::Record;
 use goblin_base::room::room;
@@ -225,13 +225,14 @@ impl ProgramHeader {
     }
 
     // Reads the program header at the start of the bytes.
-    fn at(bytes: &[u8], ctx: Ctx) -> ProgramHeader
-        requires { program_header_size ctx.container ≤ length bytes.now }
-        ensures { result ≡ program_header_of ctx.container ctx.le bytes.now }
+    #[inline(always)]
+    fn at(bytes: &[u8], class: Container, order: Endian) -> ProgramHeader
+        requires { program_header_size class ≤ length bytes.now }
+        ensures { result ≡ program_header_of class order bytes.now }
     {
-        match ctx.container {
-            Container::Little => program_header32::ProgramHeader::at(bytes, ctx.le).into(),
-            Container::Big => program_header64::ProgramHeader::at(bytes, ctx.le).into(),
+        match class {
+            Container::Little => program_header32::ProgramHeader::at(bytes, order).into(),
+            Container::Big => program_header64::ProgramHeader::at(bytes, order).into(),
         }
     }
 }
@@ -287,9 +288,14 @@ impl Record<Ctx> for ProgramHeader {
     ghost fits = { λ ctx. ProgramHeaderFits ctx.container };
 
     #[tactic(auto, using(goblin_base::specs::RecordLaws::record_answers))]
+    #[inline]
     fn read_record(bytes: &[u8], ctx: Ctx) -> Result<Self> {
         room(bytes.len(), 0, ProgramHeader::size(ctx))?;
-        Ok(ProgramHeader::at(bytes, ctx))
+        // (asked here, the byte order isn't asked at each field)
+        match ctx.le {
+            Endian::Little => Ok(ProgramHeader::at(bytes, ctx.container, Endian::Little)),
+            Endian::Big => Ok(ProgramHeader::at(bytes, ctx.container, Endian::Big)),
+        }
     }
 
     ghost laws = { λ ctx. obeys (program_header_laws ctx.container ctx.le) };

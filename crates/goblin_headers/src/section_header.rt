@@ -18,7 +18,7 @@ ghost use Rattle.goblin_headers.specs.SectionHeaders.{new_section_header, count_
 ghost use Rattle.goblin_headers.specs.SectionNames.{section_flag_names};
 
 pub use crate::{section_header32, section_header64};
-use goblin_base::container::{Container, Ctx};
+use goblin_base::container::{Container, Ctx, Endian};
 use goblin_base::error::{Error, Fault, Result};
 use goblin_base::record::Record;
 use goblin_base::room::room;
@@ -452,13 +452,14 @@ impl SectionHeader {
     }
 
     // Reads the section header at the start of the bytes.
-    fn at(bytes: &[u8], ctx: Ctx) -> SectionHeader
-        requires { section_header_size ctx.container ≤ length bytes.now }
-        ensures { result ≡ section_header_of ctx.container ctx.le bytes.now }
+    #[inline(always)]
+    fn at(bytes: &[u8], class: Container, order: Endian) -> SectionHeader
+        requires { section_header_size class ≤ length bytes.now }
+        ensures { result ≡ section_header_of class order bytes.now }
     {
-        match ctx.container {
-            Container::Little => section_header32::SectionHeader::at(bytes, ctx.le).into(),
-            Container::Big => section_header64::SectionHeader::at(bytes, ctx.le).into(),
+        match class {
+            Container::Little => section_header32::SectionHeader::at(bytes, order).into(),
+            Container::Big => section_header64::SectionHeader::at(bytes, order).into(),
         }
     }
 
@@ -536,9 +537,14 @@ impl Record<Ctx> for SectionHeader {
     ghost fits = { λ ctx. SectionHeaderFits ctx.container };
 
     #[tactic(auto, using(goblin_base::specs::RecordLaws::record_answers))]
+    #[inline]
     fn read_record(bytes: &[u8], ctx: Ctx) -> Result<Self> {
         room(bytes.len(), 0, SectionHeader::size(ctx))?;
-        Ok(SectionHeader::at(bytes, ctx))
+        // (asked here, the byte order isn't asked at each field)
+        match ctx.le {
+            Endian::Little => Ok(SectionHeader::at(bytes, ctx.container, Endian::Little)),
+            Endian::Big => Ok(SectionHeader::at(bytes, ctx.container, Endian::Big)),
+        }
     }
 
     ghost laws = { λ ctx. obeys (section_header_laws ctx.container ctx.le) };

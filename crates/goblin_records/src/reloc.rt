@@ -6,7 +6,7 @@ ghost use Rattle.goblin_base.specs.Steps.{with_size};
 ghost use Rattle.goblin_records.specs.Reloc.{reloc_size, reloc_of, reloc_image, as_meant, as_stored, reloc_in, reloc_image_in, OneImage, SameInEachClass, reloc_ctx_default, reloc_zero};
 
 pub use crate::{reloc32, reloc64};
-use goblin_base::container::{Container, Ctx};
+use goblin_base::container::{Container, Ctx, Endian};
 use goblin_base::error::Result;
 use goblin_base::record::Record;
 use goblin_base::room::room;
@@ -76,11 +76,24 @@ impl Reloc {
         requires { reloc_size is_rela ctx.container ≤ length bytes.now }
         ensures { result ≡ reloc_of is_rela ctx.container ctx.le bytes.now }
     {
-        match (ctx.container, is_rela) {
-            (Container::Little, true) => reloc32::Rela::at(bytes, ctx.le).into(),
-            (Container::Little, false) => reloc32::Rel::at(bytes, ctx.le).into(),
-            (Container::Big, true) => reloc64::Rela::at(bytes, ctx.le).into(),
-            (Container::Big, false) => reloc64::Rel::at(bytes, ctx.le).into(),
+        // (asked here, the byte order isn't asked at each field)
+        match ctx.le {
+            Endian::Little => Reloc::at_in(bytes, is_rela, ctx.container, Endian::Little),
+            Endian::Big => Reloc::at_in(bytes, is_rela, ctx.container, Endian::Big),
+        }
+    }
+
+    // Reads the relocation of a class and a byte order at the start of the bytes.
+    #[inline(always)]
+    fn at_in(bytes: &[u8], is_rela: bool, class: Container, order: Endian) -> Reloc
+        requires { reloc_size is_rela class ≤ length bytes.now }
+        ensures { result ≡ reloc_of is_rela class order bytes.now }
+    {
+        match (class, is_rela) {
+            (Container::Little, true) => reloc32::Rela::at(bytes, order).into(),
+            (Container::Little, false) => reloc32::Rel::at(bytes, order).into(),
+            (Container::Big, true) => reloc64::Rela::at(bytes, order).into(),
+            (Container::Big, false) => reloc64::Rel::at(bytes, order).into(),
         }
     }
 
@@ -192,6 +205,7 @@ impl Record<(bool, Ctx)> for Reloc {
     ghost fits = { λ c. RelocFits c.0 c.1.container };
 
     #[tactic(auto, using(goblin_base::specs::RecordLaws::record_answers))]
+    #[inline]
     fn read_record(bytes: &[u8], ctx: (bool, Ctx)) -> Result<Self> {
         room(bytes.len(), 0, Reloc::size(ctx.0, ctx.1))?;
         Ok(Reloc::at(bytes, ctx.0, ctx.1))
@@ -244,6 +258,7 @@ impl Record<RelocCtx> for Reloc {
     ghost fits = { RelocFitsIn };
 
     #[tactic(auto, using(goblin_base::specs::RecordLaws::record_answers))]
+    #[inline]
     fn read_record(bytes: &[u8], ctx: RelocCtx) -> Result<Self> {
         room(bytes.len(), 0, Reloc::size(ctx.is_rela, ctx.ctx))?;
         let read = Reloc::at(bytes, ctx.is_rela, ctx.ctx);

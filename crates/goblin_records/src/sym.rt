@@ -13,7 +13,7 @@ ghost use Rattle.goblin_records.specs.SymParts.{bind_of, type_of, visibility_of,
 ghost use Rattle.goblin_records.specs.declared.sym.Sym.{Sym};
 
 pub use crate::{sym32, sym64};
-use goblin_base::container::{Container, Ctx};
+use goblin_base::container::{Container, Ctx, Endian};
 use goblin_base::error::Result;
 use goblin_base::record::Record;
 use goblin_base::room::room;
@@ -110,6 +110,18 @@ impl Sym {
         read_all(alloc, bytes, offset, count, ctx, "symbols")
     }
 
+    // Reads the symbol at the start of the bytes.
+    #[inline(always)]
+    fn at(bytes: &[u8], class: Container, order: Endian) -> Sym
+        requires { sym_size class ≤ length bytes.now }
+        ensures { result ≡ sym_of class order bytes.now }
+    {
+        match class {
+            Container::Little => sym32::Sym::at(bytes, order).into(),
+            Container::Big => sym64::Sym::at(bytes, order).into(),
+        }
+    }
+
     // Writes the symbol at the start of the bytes.
     fn put(self, bytes: &mut [u8], ctx: Ctx)
         requires { sym_size ctx.container ≤ length bytes.old }
@@ -181,9 +193,10 @@ impl Record<Ctx> for Sym {
     #[tactic(auto, using(goblin_base::specs::RecordLaws::record_answers))]
     fn read_record(bytes: &[u8], ctx: Ctx) -> Result<Self> {
         room(bytes.len(), 0, Sym::size(ctx.container))?;
-        match ctx.container {
-            Container::Little => Ok(sym32::Sym::at(bytes, ctx.le).into()),
-            Container::Big => Ok(sym64::Sym::at(bytes, ctx.le).into()),
+        // (asked here, the byte order isn't asked at each field)
+        match ctx.le {
+            Endian::Little => Ok(Sym::at(bytes, ctx.container, Endian::Little)),
+            Endian::Big => Ok(Sym::at(bytes, ctx.container, Endian::Big)),
         }
     }
 
