@@ -176,6 +176,13 @@ take_same size read n bytes = sym (records-take size read n bytes)
 -- for the functions that read lists, and for the law of a range
 pub ruleset lists = (no_records, take_rest, read_field, fits-room_of)
 
+-- as many records fit as the division says
+pub fit-div : (len size count : ℕ)
+    → 0 < size → (count ≤ len / size → count * size ≤ len) × (count * size ≤ len → count ≤ len / size)
+fit-div len size count some = le-div_iff_mul-le {k = size} {x = count} {y = len} some
+
+pub ruleset quotients = (fit-div)
+
 pub ruleset rooms = (all_fit, first_without)
 
 pub ruleset same = (take_same)

@@ -97,8 +97,7 @@ impl<'a, R: Record<C>, C: Copy> Table<'a, R, C> {
             records_from (R.size_of ctx) (R.read ctx) bytes.now offset count items.now in
             Answers (λ table. table) result expected }
     {
-        let most = bytes.len() / R::size_with(&ctx);
-        if count <= most {
+        if fit(bytes.len(), R::size_with(&ctx), count) {
             Table::in_range(bytes, offset, count, ctx)
         } else {
             Err(Error::BufferTooShort(count, items))
@@ -333,11 +332,23 @@ fn room_for_each(
     if offset > len {
         return room(len, offset, size);
     }
-    let fitting = (len - offset) / size;
-    if count <= fitting {
+    if fit(len - offset, size, count) {
         return Ok(());
     }
+    let fitting = (len - offset) / size;
     room(len, offset + fitting * size, size)
+}
+
+// Reports whether `len` bytes hold `count` records of a size. It multiplies, since a division takes longer.
+#[tactic(auto, using(crate::proofs::Eager::quotients))]
+fn fit(len: usize, size: usize, count: usize) -> bool
+    requires { 0 < size }
+    ensures { IsTrue result ↔ (count ≤ len / size) }
+{
+    match count.checked_mul(size) {
+        Some(all) => all <= len,
+        None => false,
+    }
 }
 
 /// Reads the records of [`Table::in_range`] into a vector.

@@ -11,6 +11,7 @@ use crate::types::{GoblinHeader, GoblinRange, GoblinReloc, GoblinSymbol};
 use goblin::elf::reloc::{Reloc, RelocSection, is_mips64el_in};
 use goblin::elf::section_header::SectionHeader;
 use goblin::elf::sym::{Sym, Symtab};
+use goblin::options::ParseOptions;
 
 fn convert_symbol(s: &Sym) -> GoblinSymbol
     ensures { result ≡ symbol_converted s.now }
@@ -46,9 +47,8 @@ pub fn symbols_of<'a>(
     ensures { Answers (λ table. table.symbols) result
         (symbols_expected bytes.now header.now range.now) }
 {
-    let ctx = ctx_of(header);
-    let count = range.size as usize / Sym::size(ctx.container);
-    let table = Symtab::parse(bytes, range.offset as usize, count, ctx);
+    let (offset, size) = (range.offset as usize, range.size as usize);
+    let table = Symtab::in_range(bytes, offset, size, ctx_of(header), &ParseOptions::strict());
     refused_at(range.offset, table)
 }
 

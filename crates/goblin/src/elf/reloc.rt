@@ -1,8 +1,9 @@
 //! Relocations and relocation sections: System V gABI, "Relocation".
-ghost use Rattle.std.specs.Prelude.{◌≡◌, ◌<◌, ◌^◌, ◌↔◌, [], false, length, slice_get, IsTrue, IfOk, IfErr, IsOk, alloc_error};
+ghost use Rattle.std.specs.Prelude.{◌≡◌, ◌<◌, ◌/◌, ◌^◌, ◌↔◌, [], false, length, slice_get, IsTrue, IfOk, IfErr, IsOk, alloc_error};
 ghost use Rattle.goblin.specs.RelocSection.{relocs_of, is_mips64el_in, is_of_mips64el, DependsOnItsRange, WritesItsBytes};
+ghost use Rattle.goblin_records.specs.Reloc.{reloc_size};
 
-use goblin_base::container::Ctx;
+use goblin_base::container::{Container, Ctx};
 use goblin_base::error::{Error, Result};
 use goblin_base::room::room;
 use goblin_base::table::{Table, TableIter};
@@ -93,7 +94,7 @@ impl<'a> RelocSection<'a> {
         room(bytes.len(), offset, filesz)?;
         let part = &bytes[offset..offset + filesz];
         Ok(RelocSection {
-            table: Table::of(part, filesz / Reloc::size(is_rela, ctx), layout),
+            table: Table::of(part, count_in(filesz, is_rela, ctx.container), layout),
         })
     }
 
@@ -135,6 +136,18 @@ impl<'a> RelocSection<'a> {
         ensures none { (self.now ≡ []) → IsOk result }
     {
         self.table.to_vec(alloc)
+    }
+}
+
+// Returns how many relocations a size holds. A division by a constant takes a fraction of the time.
+fn count_in(size: usize, is_rela: bool, class: Container) -> usize
+    ensures { result ≡ size / reloc_size is_rela class }
+{
+    match (class, is_rela) {
+        (Container::Little, true) => size / reloc32::SIZEOF_RELA,
+        (Container::Little, false) => size / reloc32::SIZEOF_REL,
+        (Container::Big, true) => size / reloc64::SIZEOF_RELA,
+        (Container::Big, false) => size / reloc64::SIZEOF_REL,
     }
 }
 

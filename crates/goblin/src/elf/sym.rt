@@ -7,7 +7,7 @@ ghost use Rattle.goblin_base.specs.Strtab.{has_name, unparsed};
 ghost use Rattle.goblin_records.specs.Constants.{bind_numbers, type_numbers, visibility_numbers};
 ghost use Rattle.goblin_records.specs.Sym.{sym_size};
 
-use goblin_base::container::Ctx;
+use goblin_base::container::{Container, Ctx};
 use goblin_base::error::{Error, Fault, Result};
 use goblin_base::options::{ParseMode, ParseOptions};
 use goblin_base::strtab::{Strtab, WantedName};
@@ -134,7 +134,11 @@ impl<'a> Symtab<'a> {
     ) -> Result<Symtab<'a>>
         ensures exact { result ≡ symtab_in opts.now.parse_mode bytes.now offset size ctx }
     {
-        let count = size / Sym::size(ctx.container);
+        // (a division by a constant takes a fraction of the time)
+        let count = match ctx.container {
+            Container::Little => size / sym32::SIZEOF_SYM,
+            Container::Big => size / sym64::SIZEOF_SYM,
+        };
         Symtab::parse_with_opts(bytes, offset, count, ctx, opts)
     }
 
