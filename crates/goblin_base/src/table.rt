@@ -122,6 +122,7 @@ impl<'a, R: Record<C>, C: Copy> Table<'a, R, C> {
     }
 
     /// Returns the record at an index, or `None` from `len()` on.
+    #[inline(always)]
     #[tactic(auto, using(crate::proofs::Records::record_steps))]
     pub fn get(&self, index: usize) -> Option<R>
         ensures { result ≡ slice_get self.now index }

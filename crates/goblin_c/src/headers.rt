@@ -122,6 +122,7 @@ impl Listed for Table<'_, SectionHeader, Ctx> {
         self.len()
     }
 
+    #[inline(always)]
     fn converted(&self, index: usize) -> Option<GoblinSection> {
         Some(convert_section(&self.get(index)?))
     }
@@ -212,6 +213,7 @@ impl Listed for Table<'_, ProgramHeader, Ctx> {
         self.len()
     }
 
+    #[inline(always)]
     fn converted(&self, index: usize) -> Option<GoblinSegment> {
         Some(convert_segment(&self.get(index)?))
     }

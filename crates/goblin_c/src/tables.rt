@@ -97,6 +97,7 @@ impl Listed for RelocSection<'_> {
         self.len()
     }
 
+    #[inline(always)]
     fn converted(&self, index: usize) -> Option<GoblinReloc> {
         Some(convert_reloc(&self.get(index)?))
     }

@@ -99,6 +99,7 @@ impl<'a> RelocSection<'a> {
     }
 
     /// Returns the relocation at an index, or `None` past the end.
+    #[inline(always)]
     pub fn get(&self, index: usize) -> Option<Reloc>
         ensures { result ≡ slice_get self.now index }
     {
