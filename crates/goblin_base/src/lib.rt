@@ -13,6 +13,7 @@ mod marks;
 pub mod names;
 pub mod number;
 pub mod options;
+mod places;
 pub mod record;
 pub mod room;
 pub mod scroll;
