@@ -1,6 +1,6 @@
 /* Times the library beside libelf and plain C, in one process: bench FILE..
-   It uses the longest symbol table of each file, which must be 64-bit and little endian. Each time is the best of nine runs; the runs
-   of all rows alternate. */
+   It uses the longest symbol table of each file, which must be 64-bit and little endian, its longest table of relocations with
+   addends, and its first note, if it has them. Each time is the best of nine runs; the runs of two that are compared alternate. */
 #define _POSIX_C_SOURCE 199309L
 #include "goblin.h"
 #include <gelf.h>
@@ -9,30 +9,68 @@
 #include <string.h>
 #include <time.h>
 
-enum { RUNS = 9, MOST = 4096 };
+enum { RUNS = 9, MOST = 4096, CALLS = 100000 };
 
 static const uint8_t none[] = "_ZNSt8no_suchD0Ev"; /* a name that no symbol has */
 static uint8_t *bytes;
 static uint64_t len, count, *offsets; /* the number of symbols, and the offset of each symbol's name in the strings */
+static uint64_t relocs;               /* the number of relocations */
 static goblin_header_t header;
-static goblin_section_t table, strings, sections[MOST];
+static goblin_section_t table, strings, relas, notes, sections[MOST];
 static goblin_symbol_t symbols[MOST];
 static goblin_refusal_t why;
 static Elf *elf;
-static Elf_Data *data;
+static Elf_Data *data, *rela_data, *note_data;
 
-/* What is timed: an action on all symbols or on all section headers. */
-enum { ONE, ARRAY_64, ARRAY_4096, GELF, NAME, STRLEN, STRPTR, SEARCH, STRCMP, HEADERS, ELF_HEADERS };
+/* What is timed: an action on all symbols, relocations or section headers, or many calls for one item. */
+enum { ONE, ARRAY_64, ARRAY_4096, GELF, NAME, BYTES, STRLEN, STRPTR, SEARCH, STRCMP, HEADERS, ELF_HEADERS };
+enum { RELOC = ELF_HEADERS + 1, GELF_RELA, NOTE, GELF_NOTE, HEADER, GELF_EHDR, SECTION, GELF_SHDR };
 static const struct { const char *what, *than; int ours, theirs; } rows[] = {
     {"a symbol by one call", "gelf_getsym", ONE, GELF},
     {"a symbol, 64 at once", "gelf_getsym", ARRAY_64, GELF},
     {"a symbol, 4,096 at once", "gelf_getsym", ARRAY_4096, GELF},
     {"a name", "strlen", NAME, STRLEN},
     {"a name", "elf_strptr and strlen", NAME, STRPTR},
+    {"a name that may not be UTF-8", "strlen", BYTES, STRLEN},
     {"a symbol passed in a search", "strcmp", SEARCH, STRCMP},
     {"header and sections of a file", "elf_memory and gelf_getshdr", HEADERS, ELF_HEADERS},
+    {"a relocation by one call", "gelf_getrela", RELOC, GELF_RELA},
+    {"a note by one call", "gelf_getnote", NOTE, GELF_NOTE},
+    {"the header by one call", "gelf_getehdr", HEADER, GELF_EHDR},
+    {"a section by one call", "elf_getscn and gelf_getshdr", SECTION, GELF_SHDR},
 };
 enum { ROWS = sizeof rows / sizeof rows[0] };
+
+/* Reads relocations, notes or headers one by one, and returns the sum of what it reads. */
+static uint64_t run_one(int what) {
+    uint64_t sum = 0;
+    size_t name, desc;
+    goblin_reloc_t reloc;
+    goblin_note_t note;
+    goblin_header_t read;
+    GElf_Rela rela;
+    GElf_Nhdr nhdr;
+    GElf_Ehdr ehdr;
+    GElf_Shdr section;
+    if (what == RELOC)
+        for (uint64_t i = 0; !goblin_reloc(bytes, len, &header, &relas.file, true, i, &reloc, &why); i++)
+            sum += reloc.r_offset + (uint64_t)reloc.r_addend + reloc.r_sym;
+    if (what == GELF_RELA)
+        for (int i = 0; gelf_getrela(rela_data, i, &rela); i++)
+            sum += rela.r_offset + (uint64_t)rela.r_addend + GELF_R_SYM(rela.r_info);
+    for (int i = 0; what >= NOTE && what <= GELF_EHDR && i < CALLS; i++) {
+        if (what == NOTE && !goblin_note(bytes, len, &header, &notes.file, notes.sh_addralign, notes.file.offset, &note, &why))
+            sum += note.desc.size + note.n_type;
+        if (what == GELF_NOTE && gelf_getnote(note_data, 0, &nhdr, &name, &desc)) sum += nhdr.n_descsz + nhdr.n_type;
+        if (what == HEADER && !goblin_header(bytes, len, &read, &why)) sum += read.e_shoff + read.e_shnum;
+        if (what == GELF_EHDR && gelf_getehdr(elf, &ehdr)) sum += ehdr.e_shoff + ehdr.e_shnum;
+    }
+    if (what == SECTION)
+        for (uint64_t i = 0; !goblin_section(bytes, len, &header, i, sections, &why); i++) sum += sections->file.size;
+    if (what == GELF_SHDR)
+        for (size_t i = 0; i < header.e_shnum; i++) sum += gelf_getshdr(elf_getscn(elf, i), &section)->sh_size;
+    return sum;
+}
 
 /* Does an action, and returns the sum of what it reads. Two actions that are compared have the same sum. */
 static uint64_t run(int what) {
@@ -53,6 +91,9 @@ static uint64_t run(int what) {
     if (what == NAME)
         for (uint64_t i = 0; i < count; i++)
             sum += goblin_string(bytes, len, &strings.file, offsets[i], &name, &why) ? 0 : name.size;
+    if (what == BYTES)
+        for (uint64_t i = 0; i < count; i++)
+            sum += goblin_string_bytes(bytes, len, &strings.file, offsets[i], &name, &why) ? 0 : name.size;
     if (what == STRLEN)
         for (uint64_t i = 0; i < count; i++) sum += strlen(text + offsets[i]);
     if (what == STRPTR)
@@ -69,7 +110,7 @@ static uint64_t run(int what) {
         while (n > 0) sum += sections[--n].file.size;
     for (Elf_Scn *s = NULL; file && (s = elf_nextscn(file, s));) sum += gelf_getshdr(s, &section)->sh_size;
     elf_end(file);
-    return sum;
+    return sum + (what > ELF_HEADERS ? run_one(what) : 0);
 }
 
 static double time_of(int what, uint64_t *sum) {
@@ -80,24 +121,43 @@ static double time_of(int what, uint64_t *sum) {
     return 1e9 * (double)(end.tv_sec - start.tv_sec) + (double)(end.tv_nsec - start.tv_nsec);
 }
 
-static int bench(const char *path) {
-    goblin_section_t section;
-    uint64_t sums[2], index = 0;
-    if (goblin_header(bytes, len, &header, &why) || header.ei_class != 2 || header.ei_data != 1) return 1;
-    memset(&table, 0, sizeof table);
+/* Finds the longest of the sections of two types, and what libelf has of it. */
+static goblin_section_t longest(uint32_t one, uint32_t other, Elf_Data **found) {
+    goblin_section_t section, most;
+    uint64_t index = 0;
+    memset(&most, 0, sizeof most);
     for (uint64_t i = 0; !goblin_section(bytes, len, &header, i, &section, &why); i++)
-        if ((section.sh_type == SHT_SYMTAB || section.sh_type == SHT_DYNSYM) && section.file.size > table.file.size)
-            table = section, index = i;
+        if ((section.sh_type == one || section.sh_type == other) && section.file.size > most.file.size) most = section, index = i;
+    *found = elf_getdata(elf_getscn(elf, index), NULL);
+    return most;
+}
+
+/* The number of items that an action reads. */
+static uint64_t items(int what) {
+    if (what == HEADERS) return 1;
+    if (what == RELOC) return relocs;
+    if (what == NOTE) return notes.file.size ? CALLS : 0;
+    if (what == HEADER) return CALLS;
+    return what == SECTION ? header.e_shnum : count;
+}
+
+static int bench(const char *path) {
+    uint64_t sums[2];
+    if (goblin_header(bytes, len, &header, &why) || header.ei_class != 2 || header.ei_data != 1) return 1;
+    elf = elf_memory((char *)bytes, len);
+    table = longest(SHT_SYMTAB, SHT_DYNSYM, &data);
+    relas = longest(SHT_RELA, SHT_RELA, &rela_data);
+    notes = longest(SHT_NOTE, SHT_NOTE, &note_data);
+    relocs = relas.file.size / 24;
     if (goblin_linked_section(bytes, len, &header, table.sh_link, &strings, &why)) return 1;
     if (goblin_symbol_count(bytes, len, &header, &table.file, &count, &why)) return 1;
     if (!(offsets = malloc((count + 1) * sizeof *offsets))) return 1;
     for (uint64_t i = 0; i < count && !goblin_symbol(bytes, len, &header, &table.file, i, symbols, &why); i++)
         offsets[i] = symbols->st_name;
-    elf = elf_memory((char *)bytes, len);
-    data = elf_getdata(elf_getscn(elf, index), NULL);
     printf("%s, %llu symbols, nanoseconds each:\n", path, (unsigned long long)count);
     for (int row = 0; row < ROWS; row++) {
-        double least[2] = {1e18, 1e18}, each = rows[row].ours == HEADERS ? 1 : (double)count;
+        double least[2] = {1e18, 1e18}, each = (double)items(rows[row].ours);
+        if (each < 1) continue;
         for (int turn = 0; turn < 2 * RUNS; turn++) {
             double took = time_of(turn % 2 ? rows[row].theirs : rows[row].ours, &sums[turn % 2]) / each;
             if (took < least[turn % 2]) least[turn % 2] = took;
