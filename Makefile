@@ -104,7 +104,8 @@ margin:
 	$(has_rt)
 	@python3 checks/margin.py $(CRATES)
 
-# Times the program, once it is built, over files that ask for much work, and over a FILE: make bench FILE=/bin/true
+# Times the program, once it is built, over files that ask for much work, and over a FILE: make bench FILE=/bin/true. Then times
+# calls of the library.
 bench:
 	@sh checks/bench.sh
 

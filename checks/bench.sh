@@ -2,7 +2,8 @@
 # Times the built program over the files of checks/hostile.py and over a FILE: SHOWN=FILE sh checks/bench.sh. If readelf is
 # installed, it is timed too. Prints a line for each file: the least time of RUNS runs (15 by default) of each program in
 # milliseconds, and readelf's time divided by the strict one. The programs run in turn. readelf is stopped after 10 seconds. A file
-# whose text is endless is timed up to the first 100 MB of the text. Run from the repository's root.
+# whose text is endless is timed up to the first 100 MB of the text. Then times calls of the library, by the program of
+# checks/bench.main, which is proved first. Run from the repository's root.
 set -eu
 export LC_ALL=C
 runs=${RUNS:-15}
@@ -47,3 +48,16 @@ for file in "$folder"/*; do
     echo "${file##*/} $s $p $r" | awk '{ printf "%-20s %10.1f %10.1f ", $1, $2 / 1000, $3 / 1000
         if ($4 == 0 || $4 >= 9000000) printf "%10s %8s\n", "-", "-"; else printf "%10.1f %8.2f\n", $4 / 1000, $4 / $2 }'
 done
+
+# Puts the program together over the libraries that stand here. Those that are not proved from these sources are proved.
+cp -R --parents crates.txt HANDLES crates/*/src crates/*/specs crates/*/proofs crates/*/out/rlib "$folder"
+echo 'goblin_bench: goblin goblin_base' >> "$folder/crates.txt"
+mkdir -p "$folder/crates/goblin_bench/src"
+cp checks/bench.main "$folder/crates/goblin_bench/src/main.rt"
+if ! (cd "$folder/crates/goblin_bench" && rt run) > "$folder/said" 2>&1; then
+    tail -n 40 "$folder/said" >&2
+    exit 2
+fi
+echo
+echo "times in nanoseconds, best of 9 runs"
+"$folder/crates/goblin_bench/out/goblin_bench"
