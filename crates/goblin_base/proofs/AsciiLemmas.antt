@@ -41,12 +41,12 @@ pub run_is : (d : ℕ) (v z : List ℕ) (r : ℕ)
 run_is d v z r long lanes found =
     found ∙ ap (λ m. lowest_set m 16) (mask_is d v z long lanes) ∙ first_set_mask_l (ends_run d) v 16 long (omega arith)
 
--- a run from an offset on: it ends in the next 16 bytes, or goes on after them
-pub ends_here : (d : ℕ) (bytes : List ℕ) (at : ℕ)
-    → at + 16 ≤ length bytes → position_or_len (ends_run d) (take 16 (drop at bytes)) < 16
-    → position_or_len (ends_run d) (drop at bytes) ≡ position_or_len (ends_run d) (take 16 (drop at bytes))
-ends_here d bytes at room short =
-    let p : ℕ → Bool = λ b. not (ends_run d b) in
+-- what stands before the first byte of a kind, from an offset on: it ends in the next 16 bytes, or goes on after them
+pub stops_here : (test : ℕ → Bool) (bytes : List ℕ) (at : ℕ)
+    → at + 16 ≤ length bytes → position_or_len test (take 16 (drop at bytes)) < 16
+    → position_or_len test (drop at bytes) ≡ position_or_len test (take 16 (drop at bytes))
+stops_here test bytes at room short =
+    let p : ℕ → Bool = λ b. not (test b) in
     let long = length-chunk at 16 bytes room in
     let apart : ¬ (prefix_len p (chunk at 16 bytes) ≡ length (chunk at 16 bytes)) =
     λ e. absurd (omega (arith, e, long, short)) in
@@ -54,11 +54,11 @@ ends_here d bytes at room short =
     ∙ prefix_len-append p (chunk at 16 bytes) (drop (at + 16) bytes)
     ∙ cond-false _ _ _ (ne_eqb _ _ apart)
 
-pub goes_on : (d : ℕ) (bytes : List ℕ) (at : ℕ)
-    → at + 16 ≤ length bytes → 16 ≤ position_or_len (ends_run d) (take 16 (drop at bytes))
-    → position_or_len (ends_run d) (drop at bytes) ≡ 16 + position_or_len (ends_run d) (drop (at + 16) bytes)
-goes_on d bytes at room all =
-    let p : ℕ → Bool = λ b. not (ends_run d b) in
+pub passes_on : (test : ℕ → Bool) (bytes : List ℕ) (at : ℕ)
+    → at + 16 ≤ length bytes → 16 ≤ position_or_len test (take 16 (drop at bytes))
+    → position_or_len test (drop at bytes) ≡ 16 + position_or_len test (drop (at + 16) bytes)
+passes_on test bytes at room all =
+    let p : ℕ → Bool = λ b. not (test b) in
     let long = length-chunk at 16 bytes room in
     let same : prefix_len p (chunk at 16 bytes) ≡ length (chunk at 16 bytes) =
     omega (arith, long, all, prefix_len-le-length p (chunk at 16 bytes)) in
@@ -67,7 +67,33 @@ goes_on d bytes at room all =
     ∙ cond-true _ _ _ (eq-eqb _ _ same)
     ∙ ap (λ n. n + prefix_len p (drop (at + 16) bytes)) long
 
+-- so it is with a run
+pub ends_here : (d : ℕ) (bytes : List ℕ) (at : ℕ)
+    → at + 16 ≤ length bytes → position_or_len (ends_run d) (take 16 (drop at bytes)) < 16
+    → position_or_len (ends_run d) (drop at bytes) ≡ position_or_len (ends_run d) (take 16 (drop at bytes))
+ends_here d = stops_here (ends_run d)
+
+pub goes_on : (d : ℕ) (bytes : List ℕ) (at : ℕ)
+    → at + 16 ≤ length bytes → 16 ≤ position_or_len (ends_run d) (take 16 (drop at bytes))
+    → position_or_len (ends_run d) (drop at bytes) ≡ 16 + position_or_len (ends_run d) (drop (at + 16) bytes)
+goes_on d = passes_on (ends_run d)
+
 pub ruleset runs = (ends_here, goes_on, first_or_length, take_rest)
+
+-- and with the bytes before the first delimiter
+pub before_here : (d : ℕ) (bytes : List ℕ) (at : ℕ)
+    → at + 16 ≤ length bytes → position_or_len (λ b. b == d) (take 16 (drop at bytes)) < 16
+    → position_or_len (λ b. b == d) (drop at bytes) ≡ position_or_len (λ b. b == d) (take 16 (drop at bytes))
+before_here d = stops_here (λ b. b == d)
+
+pub ruleset stops = (before_here, first_or_length, take_rest)
+
+-- the lowest bit of a mask of the delimiters is at the first of them
+pub delim_is : (d : ℕ) (v : List ℕ) (mask r : ℕ)
+    → length v ≡ 16 → mask ≡ mask_l (map (λ b. eqb b d) v) → r ≡ lowest_set mask 16
+    → r ≡ position_or_len (λ b. b == d) v
+delim_is d v mask r long marked found =
+    found ∙ ap (λ m. lowest_set m 16) marked ∙ first_set_mask_l (λ b. eqb b d) v 16 long (omega arith)
 
 -- the bytes of a run, and the one that ends it
 module _ (d n : ℕ) (bytes : List ℕ) (is : n ≡ position_or_len (ends_run d) bytes) where

@@ -1,9 +1,10 @@
-//! The ASCII bytes at the start of a string, read sixteen at a time.
-ghost use Rattle.std.specs.Prelude.{◌≡◌, ◌≤◌, ◌+◌, Ok, IfSome, length, take, drop};
+//! The bytes at the start of a string, read sixteen at a time: up to the delimiter, and as long as they are ASCII.
+ghost use Rattle.std.specs.Prelude.{◌≡◌, ◌≤◌, ◌+◌, ◌==◌, Ok, IfSome, length, take, drop};
 ghost use Rattle.std.specs.List.{position, position_or_len};
 ghost use Rattle.goblin_base.specs.Ascii.{ends_run, lowest_set};
 ghost use Rattle.goblin_base.specs.Strtab.{plain};
 
+use crate::strtab::position;
 use std::simd::prelude::*;
 
 const LANES: usize = 16;
@@ -46,6 +47,33 @@ fn run_in(bytes: &[u8], at: usize, delim: u8) -> usize
     let lanes = u8x16::from_slice(&bytes[at..]);
     let ends = lanes.simd_eq(u8x16::splat(delim)) | lanes.simd_ge(u8x16::splat(0x80));
     lowest_set(ends.to_bitmask(), LANES)
+}
+
+/// Returns how many bytes come before the first delimiter, or how many there are if none is the delimiter.
+#[tactic(auto, using(crate::proofs::AsciiLemmas::stops))]
+pub(crate) fn len_before(bytes: &[u8], delim: u8) -> usize
+    ensures { result ≡ position_or_len (λ b. b == delim) bytes.now }
+{
+    let mut at = 0;
+    while LANES <= bytes.len() - at {
+        let len = len_in(bytes, at, delim);
+        if len < LANES {
+            return at + len;
+        }
+        at += LANES;
+    }
+    let rest = &bytes[at..];
+    at + position(rest, delim).unwrap_or(rest.len())
+}
+
+// Does the same for the sixteen bytes at an offset. Returns 16 if none of them is the delimiter.
+#[inline(always)]
+fn len_in(bytes: &[u8], at: usize, delim: u8) -> usize
+    requires { at + LANES ≤ length bytes.now }
+    ensures { result ≡ position_or_len (λ b. b == delim) (take LANES (drop at bytes.now)) }
+{
+    let lanes = u8x16::from_slice(&bytes[at..]);
+    lowest_set(lanes.simd_eq(u8x16::splat(delim)).to_bitmask(), LANES)
 }
 
 // Returns the index of the lowest bit that is set, or `other` if none is.

@@ -16,7 +16,7 @@ ghost use Rattle.goblin_base.specs.StrtabLaws.{ClosedForm, DependsOnRange, Digit
 ghost use Rattle.goblin_base.specs.StrtabLaws.{PermissiveAccepts, StrictIsPermissive, StrictLookUpIsPlain, TextIsUtf8};
 ghost use Rattle.goblin_base.specs.StrtabLaws.{NamesArePlain, TextIsTaken};
 
-use crate::ascii::ascii_piece;
+use crate::ascii::{ascii_piece, len_before};
 use crate::entries::{Entries, Looked, Probes};
 use crate::error::{Error, Fault, Result};
 use crate::find::find;
@@ -66,14 +66,13 @@ fn get_str(offset: usize, bytes: &[u8], delim: u8) -> Result<&str>
 }
 
 /// Returns the length of the piece at an offset: the number of bytes before the next delimiter, or
-/// before the end if there is none.
+/// before the end if there is none. It reads sixteen bytes at a time.
 #[tactic(auto, using(crate::proofs::StrtabLemmas::rests), unfolding(crate::specs::Pieces::piece))]
 pub fn piece_len(bytes: &[u8], offset: usize, delim: u8) -> usize
     requires { offset ≤ length bytes.now }
     ensures { result ≡ length (piece bytes.now delim offset) }
 {
-    let rest = &bytes[offset..];
-    position(rest, delim).unwrap_or(rest.len())
+    len_before(&bytes[offset..], delim)
 }
 
 // Returns the offset of the first delimiter.
