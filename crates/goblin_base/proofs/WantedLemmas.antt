@@ -8,13 +8,14 @@ use Rattle.std.proofs.lemmas.List.{get_or-take, length-take-le, length-take}
 use Rattle.std.proofs.lemmas.List.Folds.{list_any_at, list_any_none}
 use Rattle.std.proofs.lemmas.List.Sums.{prefix_len-le-length, fails_before_first, passes_at_first, position_or_len_is}
 use Rattle.std.proofs.lemmas.Slice.Eq.{bytes_eq-Decides}
+use Rattle.std.proofs.Math.Seq.{take-take}
 use Rattle.std.specs.Bool.{Decides}
 use Rattle.std.specs.List.{position_or_len, list_any}
-use Rattle.std.specs.Str.{is_utf8}
+use Rattle.std.specs.Str.{bytes_eq, is_utf8}
 use Rattle.goblin_base.specs.Pieces.{piece}
 use Rattle.goblin_base.specs.Refusal.{Refusal}
 use Rattle.goblin_base.specs.Strtab.{StringTable, has_name, is_text_of}
-use Rattle.goblin_base.specs.Wanted.{can_be_string, stands_at}
+use Rattle.goblin_base.specs.Wanted.{begins_at, can_be_string, is_apart, is_piece, stands_at, starts_piece}
 
 module _ (bytes : List ℕ) (d o : ℕ) where
   abbrev ends : ℕ → Bool
@@ -61,6 +62,72 @@ module _ (bytes : List ℕ) (d o : ℕ) where
       (λ k e l. ap ends (get_or-take n rest k e (omega (arith, size)))
       ∙ fails_before_first ends rest k e (omega (arith, size)))
 
+  -- a text stands at an offset without the delimiter in it exactly if it is the piece there
+  piece_Decides : (text : List ℕ)
+      → Decides (bytes_eq (piece bytes d o) text) ((stands_at bytes d o text && is_apart d text) ≡ true)
+  unfolding is_apart
+  piece_Decides text = (
+    (λ t.
+        let is = (bytes_eq-Decides (piece bytes d o) text).0 t in
+        subst (λ x. (stands_at bytes d o x && is_apart d x) ≡ true) is
+        (and_from _ _ piece-stands (not_from_false _ piece-apart))),
+    (λ h.
+        let parts = and_parts _ _ h in
+        (bytes_eq-Decides (piece bytes d o) text).1 (piece-name text parts.0 (not-true _ parts.1))),
+  )
+
+  -- a text without the delimiter with which the bytes at an offset begin begins the piece there
+  text-starts : (text : List ℕ)
+      → take (length text) rest ≡ text → list_any ends text ≡ false → take (length text) (piece bytes d o) ≡ text
+  unfolding piece
+  text-starts text same none =
+      let n = length text in
+      let within : n ≤ length rest = omega (arith, ap length same, length-take n rest) in
+      let long : n ≤ position_or_len ends rest = ⊎_elim
+      (λ (l : position_or_len ends rest < n).
+      let k = position_or_len ends rest in
+      let at : ends (get_or text k 0) ≡ true =
+      ap ends (ap (λ xs. get_or xs k 0) (sym same) ∙ get_or-take n rest k 0 l)
+      ∙ passes_at_first ends rest 0 (omega (arith, l, within)) in
+      absurd (both_ways _ none (list_any_at ends text k 0 l at)))
+      (λ (l : n ≤ position_or_len ends rest). l)
+      (cases_lt (position_or_len ends rest) n) in
+      take-take n (position_or_len ends rest) rest long ∙ same
+
+  -- and if the piece begins with a text, so do the bytes, and the text doesn't contain the delimiter
+  starts-text : (text : List ℕ)
+      → take (length text) (piece bytes d o) ≡ text
+      → (take (length text) rest ≡ text) × (list_any ends text ≡ false)
+  unfolding piece
+  starts-text text same =
+      let n = length text in
+      let p = position_or_len ends rest in
+      let le : p ≤ length rest = prefix_len-le-length (λ b. not (ends b)) rest in
+      let long : n ≤ p =
+      omega (arith, ap length same, length-take n (take p rest), length-take-le p rest le) in
+      let here : take n rest ≡ text = sym (take-take n p rest long) ∙ same in
+      let size : length (take n rest) ≡ n = ap length here in (
+        here,
+        ap (list_any ends) (sym here)
+            ∙ list_any_none ends (take n rest)
+            (λ k e l. ap ends (get_or-take n rest k e (omega (arith, size, l)))
+            ∙ fails_before_first ends rest k e (omega (arith, size, l, long))),
+      )
+
+  begins_Decides : (text : List ℕ)
+      → Decides (bytes_eq (take (length text) (piece bytes d o)) text)
+      ((begins_at bytes o text && is_apart d text) ≡ true)
+  unfolding is_apart begins_at
+  begins_Decides text = (
+    (λ t.
+        let is = starts-text text ((bytes_eq-Decides _ text).0 t) in
+        and_from _ _ ((bytes_eq-Decides (take (length text) rest) text).1 is.0) (not_from_false _ is.1)),
+    (λ h.
+        let parts = and_parts _ _ h in
+        let same = (bytes_eq-Decides (take (length text) rest) text).0 parts.0 in
+        (bytes_eq-Decides _ text).1 (text-starts text same (not-true _ parts.1))),
+  )
+
   -- a name stands at an offset and can be a string exactly if the piece there is UTF-8 and the name
   stands_Decides : (name : List ℕ)
       → Decides (stands_at bytes d o name && can_be_string d name)
@@ -90,3 +157,33 @@ name_is_standing t o name =
     ap (λ b. ltb o (length t.bytes) && b)
     (same_from_decides _ _ (reading_Decides (is_utf8 (piece t.bytes t.delim o)) (piece t.bytes t.delim o) name _)
     (stands_Decides t.bytes t.delim o name))
+
+-- so the tests of the piece at an offset are those of the bytes there
+bool_Decides : (b : Bool) → Decides b (b ≡ true)
+bool_Decides b = ((λ t. t), (λ t. t))
+
+pub piece_is_standing : (bytes : List ℕ) (d o : ℕ) (text : List ℕ)
+    → is_piece bytes d o text ≡ (ltb o (length bytes) && (stands_at bytes d o text && is_apart d text))
+unfolding is_piece
+piece_is_standing bytes d o text =
+    ap (λ b. ltb o (length bytes) && b)
+    (same_from_decides _ _ (piece_Decides bytes d o text) (bool_Decides (stands_at bytes d o text && is_apart d text)))
+
+pub piece_begins : (bytes : List ℕ) (d o : ℕ) (text : List ℕ)
+    → starts_piece bytes d o text ≡ (ltb o (length bytes) && (begins_at bytes o text && is_apart d text))
+unfolding starts_piece
+piece_begins bytes d o text =
+    ap (λ b. ltb o (length bytes) && b)
+    (same_from_decides _ _ (begins_Decides bytes d o text) (bool_Decides (begins_at bytes o text && is_apart d text)))
+
+-- bytes that are fewer than those of a text don't begin with it
+pub too_few : (rest text : List ℕ) → length rest < length text → bytes_eq (take (length text) rest) text ≡ false
+too_few rest text few =
+    false_from_ne_true _ (λ t. absurd (omega (
+      arith,
+      few,
+      length-take (length text) rest,
+      ap length ((bytes_eq-Decides (take (length text) rest) text).0 t),
+    )))
+
+pub ruleset begins = (too_few)

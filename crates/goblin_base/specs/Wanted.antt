@@ -1,7 +1,8 @@
 -- A name that is searched for among the strings of a table.
-use Rattle.std.specs.Prelude.{ℕ, Bool, not, ◌&&◌, ◌||◌, ◌==◌, List, length, take, drop, slice_index, nat_le}
+use Rattle.std.specs.Prelude.{ℕ, Bool, not, ◌&&◌, ◌||◌, ◌==◌, List, length, take, drop, slice_index, nat_le, nat_lt}
 use Rattle.std.specs.List.{list_any}
 use Rattle.std.specs.Str.{bytes_eq, is_utf8}
+use Rattle.goblin_base.specs.Pieces.{piece}
 use Rattle.goblin_base.specs.Strtab.{StringTable}
 
 -- the bytes of a name, and the delimiter of the strings that are searched
@@ -13,6 +14,21 @@ pub record Name : Type 0 where
 pub record Search : Type 0 where
   pub table : StringTable
   pub name : List ℕ
+
+-- a text doesn't contain the delimiter
+unfoldable pub is_apart : ℕ → List ℕ → Bool
+is_apart delim text = not (list_any (λ b. b == delim) text)
+
+-- the bytes at o begin with a text
+unfoldable pub begins_at : List ℕ → ℕ → List ℕ → Bool
+begins_at bytes o text = bytes_eq (take (length text) (drop o bytes)) text
+
+-- the piece at o is this text, and the piece at o begins with it; past the bytes there is no piece
+unfoldable pub is_piece : List ℕ → ℕ → ℕ → List ℕ → Bool
+is_piece bytes delim o text = nat_lt o (length bytes) && bytes_eq (piece bytes delim o) text
+
+unfoldable pub starts_piece : List ℕ → ℕ → ℕ → List ℕ → Bool
+starts_piece bytes delim o text = nat_lt o (length bytes) && bytes_eq (take (length text) (piece bytes delim o)) text
 
 -- a string can have these bytes: they are UTF-8, and don't contain the delimiter
 unfoldable pub can_be_string : ℕ → List ℕ → Bool

@@ -11,7 +11,7 @@ ghost use Rattle.goblin_base.specs.Search.{IsLastUpTo};
 ghost use Rattle.goblin_base.specs.Steps.{refuse_as};
 ghost use Rattle.goblin_base.specs.Strtab.{RefusesFirst, has_name, look_up, plain, range_in, strings_of, strtab_of};
 ghost use Rattle.goblin_base.specs.Strtab.{table_of, texts_of, unparsed};
-ghost use Rattle.goblin_base.specs.Wanted.{can_be_string, stands_at};
+ghost use Rattle.goblin_base.specs.Wanted.{begins_at, can_be_string, is_apart, is_piece, stands_at, starts_piece};
 ghost use Rattle.goblin_base.specs.StrtabLaws.{ClosedForm, DependsOnRange, DigitsCount, JoinsAgain, LookUpHasPlain};
 ghost use Rattle.goblin_base.specs.StrtabLaws.{PermissiveAccepts, StrictIsPermissive, StrictLookUpIsPlain, TextIsUtf8};
 ghost use Rattle.goblin_base.specs.StrtabLaws.{NamesArePlain, TextIsTaken};
@@ -424,6 +424,48 @@ fn stands_at(bytes: &[u8], delim: u8, offset: usize, name: &[u8]) -> bool
         Some(end) => *end == delim && &rest[..name.len()] == name,
         None => rest == name,
     }
+}
+
+// Reports whether a text doesn't contain the delimiter.
+#[tactic(auto, unfolding(crate::specs::Wanted::is_apart))]
+fn is_apart(delim: u8, text: &[u8]) -> bool
+    ensures { result ≡ is_apart delim text.now }
+{
+    !text.contains(&delim)
+}
+
+// Reports whether the bytes at an offset begin with a text.
+#[tactic(auto, using(crate::proofs::WantedLemmas::begins), unfolding(crate::specs::Wanted::begins_at))]
+fn begins_at(bytes: &[u8], offset: usize, text: &[u8]) -> bool
+    requires { offset ≤ length bytes.now }
+    ensures { result ≡ begins_at bytes.now offset text.now }
+{
+    match bytes[offset..].get(..text.len()) {
+        Some(start) => start == text,
+        None => false,
+    }
+}
+
+/// Reports whether the piece at an offset of bytes that a delimiter cuts into strings is this text, UTF-8 or not. It
+/// is not if the text contains the delimiter, or if the offset is not below the number of bytes.
+///
+/// It reads at most one byte more of the piece than the text has.
+#[tactic(auto, using(crate::proofs::WantedLemmas::piece_is_standing))]
+pub fn is_piece(bytes: &[u8], delim: u8, offset: usize, text: &[u8]) -> bool
+    ensures { result ≡ is_piece bytes.now delim offset text.now }
+{
+    offset < bytes.len() && stands_at(bytes, delim, offset, text) && is_apart(delim, text)
+}
+
+/// Reports whether the piece at an offset of bytes that a delimiter cuts into strings begins with this text, UTF-8 or
+/// not. It does not if the text contains the delimiter, or if the offset is not below the number of bytes.
+///
+/// It reads no more of the piece than the text has.
+#[tactic(auto, using(crate::proofs::WantedLemmas::piece_begins))]
+pub fn starts_piece(bytes: &[u8], delim: u8, offset: usize, text: &[u8]) -> bool
+    ensures { result ≡ starts_piece bytes.now delim offset text.now }
+{
+    offset < bytes.len() && begins_at(bytes, offset, text) && is_apart(delim, text)
 }
 
 /// Returns the table of no bytes, with the delimiter 0, which isn't parsed.
