@@ -1,7 +1,7 @@
 //! Symbols and symbol tables: System V gABI, "Symbol Table".
 ghost use Rattle.std.specs.Prelude.{◌≡◌, ◌≤◌, ◌<◌, ◌-◌, ◌*◌, ◌^◌, ◌↔◌, [], ◌∷◌, length, slice_get, IsTrue, IfOk, IfErr, IsOk, alloc_error, position};
 ghost use Rattle.std.specs.Option.{option_map};
-ghost use Rattle.goblin.specs.Addresses.{is_below, reaches, symbol_at, taken, SymbolAtComesFirst};
+ghost use Rattle.goblin.specs.Addresses.{has_place, is_below, reaches, symbol_at, taken, SymbolAtComesFirst};
 ghost use Rattle.goblin.specs.Symtab.{symbols_at, symtab_by, symtab_in, symtab_of, DependsOnItsRange, PermissiveKeepsStrict};
 ghost use Rattle.goblin_base.specs.Strtab.{has_name, unparsed};
 ghost use Rattle.goblin_records.specs.Constants.{bind_numbers, type_numbers, visibility_numbers};
@@ -22,6 +22,8 @@ pub use goblin_records::sym::{
 };
 use std::alloc::Global;
 use std::marker::Model;
+
+mod address_index;
 
 /// A symbol table. Each symbol is read from the file's bytes when it is asked for.
 ///
@@ -254,9 +256,9 @@ impl<'a> Symtab<'a> {
     }
 }
 
-// Reports whether a symbol of a section is at an address or below it.
-fn is_below(address: u64, symbol: &Sym) -> bool
-    ensures { result ≡ is_below address symbol.now }
+// Reports whether a symbol has an address in a section.
+fn has_place(symbol: &Sym) -> bool
+    ensures { result ≡ has_place symbol.now }
 {
     let typ = symbol.st_type();
     let shndx = symbol.st_shndx;
@@ -265,7 +267,14 @@ fn is_below(address: u64, symbol: &Sym) -> bool
         || typ == STT_OBJECT
         || typ == STT_FUNC
         || typ == STT_GNU_IFUNC;
-    is_of_section && is_of_bytes && symbol.st_value <= address
+    is_of_section && is_of_bytes
+}
+
+// Reports whether a symbol that has a place is at an address or below it.
+fn is_below(address: u64, symbol: &Sym) -> bool
+    ensures { result ≡ is_below address symbol.now }
+{
+    has_place(symbol) && symbol.st_value <= address
 }
 
 // Reports whether the bytes of a symbol reach past an address.
