@@ -620,3 +620,52 @@ fn finds_the_symbol_at_an_address(rt: HostRuntime) {
         assert!(rt; holds(rt, row, is(rt, table.at(row.0), row.1)));
     }
 }
+
+// A symbol of nothing, and six functions: at 0x30; four at 0x10, of 8, 4, 8 and 16 bytes; and one of no size at 0x30.
+const INDEXED: &[u8; 112] = b"\0\0\0\0\0\0\0\0\0\0\0\0\0\0\0\0\
+    \x01\0\0\0\x30\0\0\0\x04\0\0\0\x12\0\x01\0\
+    \x01\0\0\0\x10\0\0\0\x08\0\0\0\x12\0\x01\0\
+    \x01\0\0\0\x10\0\0\0\x04\0\0\0\x12\0\x01\0\
+    \x01\0\0\0\x10\0\0\0\x08\0\0\0\x12\0\x01\0\
+    \x01\0\0\0\x10\0\0\0\x10\0\0\0\x12\0\x01\0\
+    \x01\0\0\0\x30\0\0\0\0\0\0\0\x12\0\x01\0";
+
+// Addresses, and the index of the symbol for each of them.
+static INDEXED_ADDRESSES: [(u64, Option<usize>); 7] = [
+    (0xf, None),
+    (0x10, Some(2)),
+    (0x17, Some(2)),
+    (0x18, Some(5)),
+    (0x20, Some(2)),
+    (0x33, Some(1)),
+    (18446744073709551615, Some(1)),
+];
+
+// Whether a buffer that is too short stays as it is, and the number that is needed is returned.
+fn needs_six(table: &Symtab<'_>) -> bool {
+    let mut short = [9; 5];
+    table.address_index(&mut short) == Err(6) && short == [9; 5]
+}
+
+// Whether an index has an entry for each symbol that can be found, in the order of the addresses.
+fn is_in_order(table: &Symtab<'_>, index: &mut [u64; 7]) -> bool {
+    table.address_index(index) == Ok(3) && index[..3] == [2, 5, 1] && index[6] == 9
+}
+
+#[test]
+fn finds_the_symbol_in_an_index(rt: HostRuntime) {
+    let table = table_of(INDEXED, 0, 7, LITTLE32);
+    let mut index = [9; 7];
+    assert!(rt; needs_six(&table));
+    assert!(rt; is_in_order(&table, &mut index));
+    for row in &INDEXED_ADDRESSES {
+        assert!(rt; holds(rt, row, is(rt, table.at_in(&index[..3], row.0), row.1)));
+    }
+}
+
+#[test]
+fn finds_nothing_in_what_is_no_index(rt: HostRuntime) {
+    let table = table_of(INDEXED, 0, 7, LITTLE32);
+    assert!(rt; table.at_in(&[], 0x10).is_none());
+    assert!(rt; table.at_in(&[7, 18446744073709551615, 0], 0x10).is_none());
+}
