@@ -268,7 +268,8 @@ module _ (symbols : List Sym) (old new : List ℕ) (i kept : ℕ) (sorted : AreS
       rising = λ j k l m.
           elim (cases_lt k kept) [
             | inl before ↦
-                subst (λ (e : ℕ). StandsBefore symbols e (slice_index next k)) (sym (before_it j (omega (arith, l, before))))
+                subst (λ (e : ℕ). StandsBefore symbols e (slice_index next k))
+                (sym (before_it j (omega (arith, l, before))))
                 (subst (λ (e : ℕ). StandsBefore symbols (slice_index new j) e) (sym (before_it k before))
                 (so.rising j k l before))
             | inr late ↦
@@ -349,7 +350,8 @@ is_index symbols placed sorted new kept all each moved as_long is =
           let low : i < kept = omega (arith, l, length_is) in
           let from = is.same i low in
           subst (IsPlaced symbols) (sym from.2 ∙ here i low)
-          (All-get_or (IsPlaced symbols) sorted from.0 0 from.1 (All-permutation (IsPlaced symbols) placed sorted moved all));
+          (All-get_or (IsPlaced symbols) sorted from.0 0 from.1
+          (All-permutation (IsPlaced symbols) placed sorted moved all));
       rising = λ i j l m.
           let low : j < kept = omega (arith, m, length_is) in
           let lower : i < kept = omega (arith, l, low) in

@@ -1,7 +1,9 @@
 use Rattle.std.proofs.Common.{sym, ◌∙◌, refl, arith}
 use Rattle.goblin.proofs.AddressIndexSteps.{kept_more, kept_same}
 use Rattle.goblin.proofs.elf.sym.Symtab.keep_larger.Goals as goal
-use Rattle.goblin.proofs.elf.sym.Symtab.keep_larger.Goals.{then-kept-eq0, then-kept-eq0-via-then-kept-eq0, then-kept-eq0-via-else-kept-eq0+then-is_higher_or_larger, else-kept-eq0+else-is_higher_or_larger}
+use Rattle.goblin.proofs.elf.sym.Symtab.keep_larger.Goals.{then-kept-eq0, then-kept-eq0-via-then-kept-eq0}
+use Rattle.goblin.proofs.elf.sym.Symtab.keep_larger.Goals.{then-kept-eq0-via-else-kept-eq0+then-is_higher_or_larger}
+use Rattle.goblin.proofs.elf.sym.Symtab.keep_larger.Goals.{else-kept-eq0+else-is_higher_or_larger}
 
 pub loop-i-preserved : goal.loop-i-preserved
 loop-i-preserved c =
