@@ -73,12 +73,15 @@ static void *blank(void *item, size_t size) {
     return memset(item, 0x5a, size);
 }
 
-/* Reads the text of a refusal, and checks that no byte after the buffer is changed. */
+/* Reads the text of a refusal, and checks that a zero byte closes it and that no byte after the buffer is changed. */
 static void text_of_refusal(uint32_t status) {
     uint8_t text[64];
     size_t capacity = (size_t)any(60);
     memset(text, 0x5a, sizeof text);
-    if (goblin_refusal_text(&why, text, capacity) < strlen("bad offset 0")) wrong("a text's size", status);
+    uint64_t size = goblin_refusal_text(&why, text, capacity);
+    if (size < strlen("bad offset 0")) wrong("a text's size", status);
+    if (size < capacity ? text[size] != 0 || !is_blank(text + size + 1, capacity - (size_t)size - 1) : memchr(text, 0, capacity) != NULL)
+        wrong("the end of a text", status);
     if (!is_blank(text + capacity, sizeof text - capacity)) wrong("a text", status);
     add(&why, sizeof why), add(text, capacity);
 }

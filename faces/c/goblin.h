@@ -457,46 +457,47 @@ GOBLIN_CALL uint32_t goblin_number(const uint8_t *bytes, size_t len, const gobli
 
 /* ---- texts ----
 
-   Each of these calls writes a text into `capacity` bytes, or as much of it as fits, and returns the length of the whole text. It
-   writes no zero byte after the text, and no byte after it changes. So start with `char text[160] = {0}` and pass one byte less:
-   then the text ends with a zero byte. These calls never fail. */
+   Each of these calls writes a text and a zero byte after it into `capacity` bytes, or as much of both as fits. It returns the length
+   of the whole text, without the zero byte. No byte after them changes. If the returned length is below `capacity`, the buffer has all
+   of the text and the zero byte, so `%s` prints it. If not, the text is cut and has no zero byte. 160 bytes are enough for each of
+   these texts. These calls never fail. */
 
 /* Writes the name of a class (ei_class): NONE, ELF32, ELF64, or UNKNOWN_CLASS.
-   Example: goblin_class_to_str(header.ei_class, text, sizeof text - 1); */
+   Example: goblin_class_to_str(header.ei_class, text, sizeof text); */
 uint64_t goblin_class_to_str(uint8_t ei_class, void *text, size_t capacity);
 /* Writes the name of a file's type (e_type), such as DYN, or UNKNOWN_ET.
-   Example: goblin_et_to_str(header.e_type, text, sizeof text - 1); */
+   Example: goblin_et_to_str(header.e_type, text, sizeof text); */
 uint64_t goblin_et_to_str(uint16_t e_type, void *text, size_t capacity);
 /* Writes the name of a machine (e_machine), such as X86_64, or EM_UNKNOWN.
-   Example: goblin_machine_to_str(header.e_machine, text, sizeof text - 1); */
+   Example: goblin_machine_to_str(header.e_machine, text, sizeof text); */
 uint64_t goblin_machine_to_str(uint16_t e_machine, void *text, size_t capacity);
 /* Writes the name of a segment's type (p_type), such as PT_LOAD, or UNKNOWN_PT.
-   Example: goblin_pt_to_str(segment.p_type, text, sizeof text - 1); */
+   Example: goblin_pt_to_str(segment.p_type, text, sizeof text); */
 uint64_t goblin_pt_to_str(uint32_t p_type, void *text, size_t capacity);
 /* Writes the name of a section's type (sh_type), such as SHT_PROGBITS, or UNKNOWN_SHT. The names are goblin's: 19 is SHT_NUM, which
    newer tools print as RELR, and 0x70000001 is SHT_X86_64_UNWIND for every machine.
-   Example: goblin_sht_to_str(section.sh_type, text, sizeof text - 1); */
+   Example: goblin_sht_to_str(section.sh_type, text, sizeof text); */
 uint64_t goblin_sht_to_str(uint32_t sh_type, void *text, size_t capacity);
 /* Writes the name of one flag of a section (a single bit of sh_flags), such as SHF_WRITE, or SHF_UNKNOWN.
-   Example: goblin_shf_to_str(GOBLIN_SHF_WRITE, text, sizeof text - 1); */
+   Example: goblin_shf_to_str(GOBLIN_SHF_WRITE, text, sizeof text); */
 uint64_t goblin_shf_to_str(uint32_t flag, void *text, size_t capacity);
 /* Writes the name of a symbol's binding (st_info >> 4), such as GLOBAL, or UNKNOWN_STB.
-   Example: goblin_bind_to_str(symbol.st_info >> 4, text, sizeof text - 1); */
+   Example: goblin_bind_to_str(symbol.st_info >> 4, text, sizeof text); */
 uint64_t goblin_bind_to_str(uint8_t binding, void *text, size_t capacity);
 /* Writes the name of a symbol's type (st_info & 15), such as FUNC, or UNKNOWN_STT.
-   Example: goblin_type_to_str(symbol.st_info & 15, text, sizeof text - 1); */
+   Example: goblin_type_to_str(symbol.st_info & 15, text, sizeof text); */
 uint64_t goblin_type_to_str(uint8_t type, void *text, size_t capacity);
 /* Writes the name of a symbol's visibility (st_other & 7), such as HIDDEN, or UNKNOWN_STV.
-   Example: goblin_visibility_to_str(symbol.st_other & 7, text, sizeof text - 1); */
+   Example: goblin_visibility_to_str(symbol.st_other & 7, text, sizeof text); */
 uint64_t goblin_visibility_to_str(uint8_t visibility, void *text, size_t capacity);
 /* Writes the name of a note's type (n_type), such as NT_GNU_BUILD_ID, or NT_UNKNOWN. It depends on the note's name. The names are
    goblin's: type 3 is NT_GNU_BUILD_ID for every name but CORE.
-   Example: goblin_note_type_to_str("GNU", 3, note.n_type, text, sizeof text - 1); */
+   Example: goblin_note_type_to_str("GNU", 3, note.n_type, text, sizeof text); */
 uint64_t goblin_note_type_to_str(const void *name, size_t name_len, uint32_t n_type, void *text, size_t capacity);
 /* Writes the text of a refusal in the library's words, such as "type is too big (64) for 52". It depends on `*why` alone, which a
    caller may fill itself: a `fourth` that means yes or no is yes unless it is 0; an `item` that is none of GOBLIN_INVALID_UTF8 and
    the like has the empty name; a `kind` that is no refusal has the empty text.
-   Example: goblin_refusal_text(&why, text, sizeof text - 1); */
+   Example: goblin_refusal_text(&why, text, sizeof text); */
 uint64_t goblin_refusal_text(const goblin_refusal_t *why, void *text, size_t capacity);
 
 /* ---- the calls of the library ----

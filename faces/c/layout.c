@@ -297,6 +297,26 @@ static void call_with_nulls(goblin_refusal_t *why) {
     same("no name", goblin_symbol_by_name(file, sizeof file, &h, &symbols, &empty, NULL, 0, &number, why), GOBLIN_END);
 }
 
+/* Tests that 160 bytes hold the longest text of each kind of refusal and the zero byte after it, and that a text that fills the buffer
+   has none. */
+static void close_texts(void) {
+    char text[161];
+    goblin_refusal_t why = {0, 0, UINT64_MAX, UINT64_MAX, UINT64_MAX, 0, 0};
+    for (why.kind = 0; why.kind <= GOBLIN_INTEGER_FIT + 1; why.kind++)
+        for (why.item = 0; why.item <= GOBLIN_PROGRAM_HEADERS; why.item++) {
+            memset(text, 0xee, sizeof text);
+            uint64_t size = goblin_refusal_text(&why, text, 160);
+            same("a text fits", size < 160, true);
+            same("a closed text", strlen(text), size);
+            memset(text, 0xee, sizeof text);
+            goblin_refusal_text(&why, text, (size_t)size);
+            same("a full buffer", (uint8_t)text[size], 0xee);
+        }
+    memset(text, 0xee, sizeof text);
+    same("a class", goblin_class_to_str(2, text, 6), strlen("ELF64"));
+    same("a closed class", strcmp(text, "ELF64"), 0);
+}
+
 /* Tests each byte of a field that goblin_layout has filled. */
 static void filled(const char *what, const void *field, size_t size, uint8_t number) {
     for (size_t i = 0; i < size; i++) same(what, ((const uint8_t *)field)[i], number);
@@ -338,6 +358,7 @@ int main(int argc, char **argv) {
 #include "fields.h"
 #undef FIELD
 #undef STRUCT
+    close_texts();
     for (int kind = 0; kind < 4; kind++) {
         wide = kind < 2 ? 8 : 4, is_big = kind % 2;
         read_all();

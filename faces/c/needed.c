@@ -51,8 +51,8 @@ static int list(const uint8_t *bytes, size_t len) {
     if (status == GOBLIN_OK) status = list_interpreter(bytes, len, &header);
     if (status <= GOBLIN_END) status = list_dynamic(bytes, len, &header);
     if (status <= GOBLIN_END) return 0;
-    char text[160] = {0};
-    goblin_refusal_text(&why, text, sizeof text - 1);
+    char text[160];
+    goblin_refusal_text(&why, text, sizeof text);
     fprintf(stderr, "needed: %s\n", text);
     return 1;
 }

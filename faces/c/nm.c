@@ -16,8 +16,8 @@ static goblin_section_t names_of_sections;
 static goblin_refusal_t why;
 
 static int refused(const char *what) {
-    char text[160] = {0};
-    goblin_refusal_text(&why, text, sizeof text - 1);
+    char text[160];
+    goblin_refusal_text(&why, text, sizeof text);
     fprintf(stderr, "nm: %s: %s\n", what, text);
     return 1;
 }

@@ -22,8 +22,8 @@ static uint8_t *load(const char *path, size_t *len) {
 }
 
 static int refused(const char *path, const goblin_refusal_t *why) {
-    char text[160] = {0};
-    goblin_refusal_text(why, text, sizeof text - 1);
+    char text[160];
+    goblin_refusal_text(why, text, sizeof text);
     fprintf(stderr, "size: %s: %s\n", path, text);
     return 1;
 }

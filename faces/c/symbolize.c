@@ -10,8 +10,8 @@ static goblin_header_t header;
 static goblin_refusal_t why;
 
 static int refused(const char *what) {
-    char text[160] = {0};
-    goblin_refusal_text(&why, text, sizeof text - 1);
+    char text[160];
+    goblin_refusal_text(&why, text, sizeof text);
     fprintf(stderr, "symbolize: %s: %s\n", what, text);
     return 1;
 }

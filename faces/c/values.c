@@ -6,8 +6,8 @@
 static goblin_refusal_t why;
 
 static int refused(void) {
-    char text[160] = {0};
-    goblin_refusal_text(&why, text, sizeof text - 1);
+    char text[160];
+    goblin_refusal_text(&why, text, sizeof text);
     fprintf(stderr, "values: %s\n", text);
     return 1;
 }

@@ -9,7 +9,7 @@ use Rattle.std.proofs.lemmas.Slice.{take-put_mid}
 use borrow.Rule.Slice.PartMut.{put_mid}
 use Rattle.goblin.proofs.Positions.{some-within}
 use Rattle.goblin_c.specs.Laid.{laid}
-use Rattle.goblin_c.specs.Laws.{IsFilled, BufferIsFilled}
+use Rattle.goblin_c.specs.Laws.{IsFilled, BufferIsFilled, TextIsClosed}
 
 -- one item more
 pub laid-more : {X : Type 0} (xs old : List X) (x : X)
@@ -122,5 +122,14 @@ is_filled items old = (laid-length items old, laid-before items old, laid-after 
 
 pub buffer_is_filled : BufferIsFilled
 buffer_is_filled = record { bytes = is_filled; sections = is_filled; symbols = is_filled; relocs = is_filled }
+
+-- a text and the zero byte after it
+pub text_is_closed : TextIsClosed
+text_is_closed [] [] h = absurd (omega arith)
+text_is_closed [] (o ∷ old) h = (refl, refl)
+text_is_closed (x ∷ text) [] h = absurd (omega arith)
+text_is_closed (x ∷ text) (o ∷ old) h =
+    let rest = text_is_closed text old (omega arith) in
+    (ap (λ xs. x ∷ xs) rest.0, rest.1)
 
 pub ruleset laid_steps = (laid-enough, laid-step, laid-into, laid-past)

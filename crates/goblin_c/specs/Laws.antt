@@ -29,7 +29,7 @@ use Rattle.goblin_c.specs.Answers.{reloc_count_expected, sections_from_expected,
 use Rattle.goblin_c.specs.Answers.{relocs_from_expected, section_names_expected, section_by_name_expected}
 use Rattle.goblin_c.specs.Answers.{symbol_by_name_expected, strings_expected, table_of, table_expected}
 use Rattle.goblin_c.specs.Bytes.{section_bytes_expected, segment_bytes_expected, string_bytes_expected}
-use Rattle.goblin_c.specs.Laid.{laid}
+use Rattle.goblin_c.specs.Laid.{closed, laid}
 use Rattle.goblin_c.specs.Notes.{note_expected}
 use Rattle.goblin_c.specs.Status.{refusal_converted}
 use Rattle.goblin_c.specs.declared.types.GoblinHeader.{GoblinHeader}
@@ -307,3 +307,10 @@ abbrev pub StringsAreBytes : Type 0
 StringsAreBytes =
     (bytes : List ℕ) (range : GoblinRange) (offset : ℕ) (found : GoblinRange)
     → string_expected bytes range offset ≡ Ok (Some found) → string_bytes_expected bytes range offset ≡ Ok (Some found)
+
+-- a text that is shorter than the buffer stands at its start, and a zero byte after it
+abbrev pub TextIsClosed : Type 0
+TextIsClosed =
+    (text old : List ℕ) → length text < length old
+    → (take (length text) (laid (closed text) old) ≡ text)
+    × (slice_get (laid (closed text) old) (length text) ≡ Some 0)

@@ -1,6 +1,6 @@
 //! Laws of the calls: the items that they store one by one are those that the library reads at once.
 ghost use Rattle.goblin_c.specs.TextLaws.{RefusalsHaveSameText};
-ghost use Rattle.goblin_c.specs.Laws.{NotesAreItems, NotesInARow, NotesLieInFile, ContextIsTheHeaders, SectionsByIndex, SegmentsByIndex, SymbolsByIndex, RelocsByIndex, FilledByIndex, BufferIsFilled, NamesByIndex, StringsAreThere, StringsLieInFile, SectionsByName, SymbolsByName, SectionsByType, BytesLieInFile, StringsAreBytes, TablesByIndex, KindsAreAnswers};
+ghost use Rattle.goblin_c.specs.Laws.{TextIsClosed, NotesAreItems, NotesInARow, NotesLieInFile, ContextIsTheHeaders, SectionsByIndex, SegmentsByIndex, SymbolsByIndex, RelocsByIndex, FilledByIndex, BufferIsFilled, NamesByIndex, StringsAreThere, StringsLieInFile, SectionsByName, SymbolsByName, SectionsByType, BytesLieInFile, StringsAreBytes, TablesByIndex, KindsAreAnswers};
 
 /// Laws: calls of `goblin_note` at a range's start and then at each `next` store exactly the notes of the
 /// library's iterator over the range, in its order, up to the end or the first refusal. The ranges that
@@ -50,10 +50,12 @@ pub fn names()
 
 /// Laws: `goblin_sections`, `goblin_symbols` and `goblin_relocs` store from each index on what the calls
 /// for one item store there, one after another, and at least one before the end. The buffer holds as many
-/// as fit, and is unchanged after them. So it is with each text.
+/// as fit, and is unchanged after them. So it is with each text. If the buffer is longer than the text, a zero byte
+/// stands after the text.
 pub fn buffers()
     ensures items { FilledByIndex }
     ensures held { BufferIsFilled }
+    ensures closed { TextIsClosed }
 {}
 
 /// Laws: the range that `goblin_string` stores has the string that the library reads there, and lies in

@@ -5,7 +5,7 @@
 ghost use Rattle.std.specs.Prelude.{◌≡◌, length};
 ghost use Rattle.goblin_c.specs.Answers.{header_expected, reloc_count_expected, reloc_expected, section_by_type_expected, section_count_expected, section_expected, segment_count_expected, segment_expected, string_expected, symbol_count_expected, symbol_expected, relocs_from_expected, sections_from_expected, symbols_from_expected, section_by_name_expected, section_names_expected, symbol_by_address_expected, symbol_by_name_expected, table_expected};
 ghost use Rattle.goblin_c.specs.Bytes.{number_expected, section_bytes_expected, segment_bytes_expected, string_bytes_expected};
-ghost use Rattle.goblin_c.specs.Laid.{laid};
+ghost use Rattle.goblin_c.specs.Laid.{closed, laid};
 ghost use Rattle.goblin_c.specs.Layout.{layout};
 ghost use Rattle.goblin_c.specs.Notes.{note_expected};
 ghost use Rattle.goblin_c.specs.Status.{Fills, Stores};
@@ -202,7 +202,7 @@ pub extern "C" fn goblin_c_note(
 /// Writes the name of a class.
 #[unsafe(no_mangle)]
 pub extern "C" fn goblin_class_to_str(ei_class: u8, text: &mut [u8]) -> u64
-    ensures written { text.new ≡ laid (class_name ei_class) text.old }
+    ensures written { text.new ≡ laid (closed (class_name ei_class)) text.old }
     ensures exact { result ≡ length (class_name ei_class) }
 {
     write_text(class_to_str(ei_class), text)
@@ -211,7 +211,7 @@ pub extern "C" fn goblin_class_to_str(ei_class: u8, text: &mut [u8]) -> u64
 /// Writes the name of a file's type.
 #[unsafe(no_mangle)]
 pub extern "C" fn goblin_et_to_str(e_type: u16, text: &mut [u8]) -> u64
-    ensures written { text.new ≡ laid (file_type_name e_type) text.old }
+    ensures written { text.new ≡ laid (closed (file_type_name e_type)) text.old }
     ensures exact { result ≡ length (file_type_name e_type) }
 {
     write_text(et_to_str(e_type), text)
@@ -220,7 +220,7 @@ pub extern "C" fn goblin_et_to_str(e_type: u16, text: &mut [u8]) -> u64
 /// Writes the name of a machine.
 #[unsafe(no_mangle)]
 pub extern "C" fn goblin_machine_to_str(e_machine: u16, text: &mut [u8]) -> u64
-    ensures written { text.new ≡ laid (machine_name e_machine) text.old }
+    ensures written { text.new ≡ laid (closed (machine_name e_machine)) text.old }
     ensures exact { result ≡ length (machine_name e_machine) }
 {
     write_text(machine_to_str(e_machine), text)
@@ -229,7 +229,7 @@ pub extern "C" fn goblin_machine_to_str(e_machine: u16, text: &mut [u8]) -> u64
 /// Writes the name of a segment's type.
 #[unsafe(no_mangle)]
 pub extern "C" fn goblin_pt_to_str(p_type: u32, text: &mut [u8]) -> u64
-    ensures written { text.new ≡ laid (segment_name p_type) text.old }
+    ensures written { text.new ≡ laid (closed (segment_name p_type)) text.old }
     ensures exact { result ≡ length (segment_name p_type) }
 {
     write_text(pt_to_str(p_type), text)
@@ -238,7 +238,7 @@ pub extern "C" fn goblin_pt_to_str(p_type: u32, text: &mut [u8]) -> u64
 /// Writes the name of a section's type.
 #[unsafe(no_mangle)]
 pub extern "C" fn goblin_sht_to_str(sh_type: u32, text: &mut [u8]) -> u64
-    ensures written { text.new ≡ laid (section_name sh_type) text.old }
+    ensures written { text.new ≡ laid (closed (section_name sh_type)) text.old }
     ensures exact { result ≡ length (section_name sh_type) }
 {
     write_text(sht_to_str(sh_type), text)
@@ -247,7 +247,7 @@ pub extern "C" fn goblin_sht_to_str(sh_type: u32, text: &mut [u8]) -> u64
 /// Writes the name of one flag of a section.
 #[unsafe(no_mangle)]
 pub extern "C" fn goblin_shf_to_str(flag: u32, text: &mut [u8]) -> u64
-    ensures written { text.new ≡ laid (section_flag_name flag) text.old }
+    ensures written { text.new ≡ laid (closed (section_flag_name flag)) text.old }
     ensures exact { result ≡ length (section_flag_name flag) }
 {
     write_text(shf_to_str(flag), text)
@@ -256,7 +256,7 @@ pub extern "C" fn goblin_shf_to_str(flag: u32, text: &mut [u8]) -> u64
 /// Writes the name of a symbol's binding.
 #[unsafe(no_mangle)]
 pub extern "C" fn goblin_bind_to_str(binding: u8, text: &mut [u8]) -> u64
-    ensures written { text.new ≡ laid (bind_name binding) text.old }
+    ensures written { text.new ≡ laid (closed (bind_name binding)) text.old }
     ensures exact { result ≡ length (bind_name binding) }
 {
     write_text(bind_to_str(binding), text)
@@ -265,7 +265,7 @@ pub extern "C" fn goblin_bind_to_str(binding: u8, text: &mut [u8]) -> u64
 /// Writes the name of a symbol's type.
 #[unsafe(no_mangle)]
 pub extern "C" fn goblin_type_to_str(typ: u8, text: &mut [u8]) -> u64
-    ensures written { text.new ≡ laid (type_name typ) text.old }
+    ensures written { text.new ≡ laid (closed (type_name typ)) text.old }
     ensures exact { result ≡ length (type_name typ) }
 {
     write_text(type_to_str(typ), text)
@@ -274,7 +274,7 @@ pub extern "C" fn goblin_type_to_str(typ: u8, text: &mut [u8]) -> u64
 /// Writes the name of a symbol's visibility.
 #[unsafe(no_mangle)]
 pub extern "C" fn goblin_visibility_to_str(visibility: u8, text: &mut [u8]) -> u64
-    ensures written { text.new ≡ laid (visibility_name visibility) text.old }
+    ensures written { text.new ≡ laid (closed (visibility_name visibility)) text.old }
     ensures exact { result ≡ length (visibility_name visibility) }
 {
     write_text(visibility_to_str(visibility), text)
@@ -283,7 +283,7 @@ pub extern "C" fn goblin_visibility_to_str(visibility: u8, text: &mut [u8]) -> u
 /// Writes the name of a note's type, whose meaning depends on the note's name.
 #[unsafe(no_mangle)]
 pub extern "C" fn goblin_note_type_to_str(name: &[u8], n_type: u32, text: &mut [u8]) -> u64
-    ensures written { text.new ≡ laid (note_type_name name.now n_type) text.old }
+    ensures written { text.new ≡ laid (closed (note_type_name name.now n_type)) text.old }
     ensures exact { result ≡ length (note_type_name name.now n_type) }
 {
     write_text(note_type(name, n_type), text)
@@ -292,7 +292,7 @@ pub extern "C" fn goblin_note_type_to_str(name: &[u8], n_type: u32, text: &mut [
 /// Writes the text of a refusal.
 #[unsafe(no_mangle)]
 pub extern "C" fn goblin_refusal_text(why: &GoblinRefusal, text: &mut [u8]) -> u64
-    ensures written { text.new ≡ laid (converted_text why.now) text.old }
+    ensures written { text.new ≡ laid (closed (converted_text why.now)) text.old }
     ensures exact { result ≡ length (converted_text why.now) }
 {
     write_refusal(why, text)

@@ -523,6 +523,22 @@ fn writes_faults(rt: HostRuntime) {
     assert!(rt; says(21, 0, [u64::MAX, 1, 4, 1], range));
 }
 
+// The text written into a buffer of eight bytes, of which all are 9 before.
+fn closed_text(class: u8) -> ([u8; 8], u64) {
+    let mut room = [9; 8];
+    let len = goblin_class_to_str(class, &mut room);
+    (room, len)
+}
+
+#[test]
+fn closes_texts(rt: HostRuntime) {
+    assert!(rt; closed_text(1) == (*b"ELF32\0\x09\x09", 5));
+    assert!(rt; closed_text(3) == (*b"UNKNOWN_", 13));
+    let mut room = [9; 3];
+    let why = marked_layout().refusal;
+    assert!(rt; goblin_refusal_text(&why, &mut room) == 0 && room == [0, 9, 9]);
+}
+
 // The text written into a buffer of four bytes, and the length that is returned.
 fn cut_text() -> ([u8; 4], u64) {
     let mut room = [9; 4];

@@ -2,27 +2,13 @@
 ghost use Rattle.std.specs.Prelude.{◌≡◌, ◌+◌, ◌≤◌, ◌<◌, ◌^◌, ◌++◌, IsTrue, false, drop, length, take};
 ghost use Rattle.std.specs.Fmt.{digit_glyph, digits};
 ghost use Rattle.goblin_base.specs.Texts.{facts_of, is_short, facts_text, part_text, word_of};
-ghost use Rattle.goblin_c.specs.Laid.{laid};
+ghost use Rattle.goblin_c.specs.Laid.{closed, laid};
 ghost use Rattle.goblin_c.specs.Texts.{converted_text, facts_from, item_text, TextIsSame};
 
 use crate::kinds;
 use crate::types::GoblinRefusal;
-use crate::writer::write_bytes;
+use crate::writer::{write_after, write_text};
 use goblin_base::texts::{Kind, Part, Report};
-
-// Writes as much of a text after the bytes so far as the buffer holds. Returns how many bytes there are
-// then, if none is cut.
-#[tactic(auto, using(crate::proofs::LaidLemmas::laid_steps))]
-fn write_after(text: &[u8], len: u64, buffer: &mut [u8]) -> u64
-    requires { len + length text.now < 2 ^ 64 }
-    ensures written { buffer.new ≡ take len buffer.old ++ laid text.now (drop len buffer.old) }
-    ensures exact { result ≡ len + length text.now }
-{
-    if len < buffer.len() as u64 {
-        write_bytes(text, &mut buffer[len as usize..]);
-    }
-    len + text.len() as u64
-}
 
 // Returns the digit of a number below 16.
 fn digit(n: u64) -> u8
@@ -110,16 +96,29 @@ fn write_part(report: &Report, part: &Part, len: u64, buffer: &mut [u8]) -> u64
 }
 
 // Writes as much of the text of an error as the buffer holds. Returns the length of the whole text.
-fn write_report(report: &Report, buffer: &mut [u8]) -> u64
+fn write_parts(report: &Report, buffer: &mut [u8]) -> u64
     requires item { length report.now.item.now ≤ 15 }
     ensures written { buffer.new ≡ laid (facts_text (facts_of report.now)) buffer.old }
     ensures exact { result ≡ length (facts_text (facts_of report.now)) }
+    ensures bound { result ≤ 1700 }
 {
     let mut len = write_after(report.kind.prefix().as_bytes(), 0, buffer);
     let parts = report.kind.parts();
     for part in parts {
         len = write_part(report, part, len, buffer);
     }
+    len
+}
+
+// Writes the text of an error with a zero byte after it, or as much of them as the buffer holds. Returns the length of
+// the text.
+fn write_report(report: &Report, buffer: &mut [u8]) -> u64
+    requires item { length report.now.item.now ≤ 15 }
+    ensures written { buffer.new ≡ laid (closed (facts_text (facts_of report.now))) buffer.old }
+    ensures exact { result ≡ length (facts_text (facts_of report.now)) }
+{
+    let len = write_parts(report, buffer);
+    write_after(b"\0", len, buffer);
     len
 }
 
@@ -138,14 +137,15 @@ fn report_from(why: &GoblinRefusal, kind: Kind) -> Report
     }
 }
 
-/// Writes as much of the text of a refusal as the buffer holds. Returns the length of the whole text.
+/// Writes the text of a refusal with a zero byte after it, or as much of them as the buffer holds. Returns the length of
+/// the text.
 pub fn write_refusal(why: &GoblinRefusal, text: &mut [u8]) -> u64
-    ensures written { text.new ≡ laid (converted_text why.now) text.old }
+    ensures written { text.new ≡ laid (closed (converted_text why.now)) text.old }
     ensures exact { result ≡ length (converted_text why.now) }
 {
     match Kind::with_number(why.kind) {
         Some(kind) => write_report(&report_from(why, kind), text),
-        None => 0,
+        None => write_text("", text),
     }
 }
 

@@ -1,27 +1,9 @@
-use Rattle.std.proofs.Common.{ℕ, ◌++◌, ◌+◌, ◌∙◌, ap, append_assoc, arith, sym, take}
-use Rattle.goblin_base.specs.Texts.{facts_of, joined, prefix}
-use Rattle.goblin_base.proofs.PartsLemmas.{joined_more}
-use Rattle.goblin_c.proofs.TextLemmas.{laid-part, long-part, short_parts}
+use Rattle.std.proofs.Common.{[], ◌∷◌, refl}
+use Rattle.goblin_base.specs.Texts.{facts_of, facts_text}
+use Rattle.goblin_c.proofs.TextLemmas.{laid-part}
 use Rattle.goblin_c.proofs.texts.write_report.Goals as goal
 
-pub write_part-len-requires-clause-part : goal.write_part-len-requires-clause-part
-write_part-len-requires-clause-part c =
-    (short_parts c.parts-parts.result.now c.parts-parts.ensures.bound).1 c.loop-part.part-index _ c.loop-part-test.true
-
-pub loop-part-preserved : goal.loop-part-preserved
-loop-part-preserved c =
-    let l = c.loop-part in
-    let facts = facts_of c.args.report.now in
-    let parts = c.parts-parts.result.now in
-    let done = c.write_part-len.ensures in
-    let text = λ (n : ℕ). prefix c.args.report.now.kind ++ joined facts (take n parts) in
-    let more =
-    ap (λ rest. prefix c.args.report.now.kind ++ rest) (joined_more facts parts l.part-index _ c.loop-part-test.true)
-    ∙ sym (append_assoc (prefix c.args.report.now.kind) (joined facts (take l.part-index parts)) _) in (
-      laid-part (text l.part-index)
-          (text (l.part-index + 1)) _ c.args.buffer.now l.buffer c.write_part-len.new.buffer l.len more l.invariant.0
-          l.invariant.1 done.written,
-      long-part (text l.part-index)
-          (text (l.part-index + 1)) _ c.write_part-len.result l.len more l.invariant.1 done.exact,
-      omega arith,
-    )
+pub returns-clause-written : goal.returns-clause-written
+returns-clause-written c =
+    laid-part (facts_text (facts_of c.args.report.now)) _ (0 ∷ []) c.args.buffer.now _ _ _ refl
+    c.write_parts-len.ensures.written c.write_parts-len.ensures.exact c.write_after.ensures.written

@@ -1,7 +1,7 @@
 use Rattle.std.proofs.Common.{◌≡◌, ◌≤◌, ◌+◌, ◌*◌, ◌++◌, length, take}
 use Rattle.goblin_base.specs.Texts.{facts_of, joined, prefix}
 use Rattle.goblin_c.specs.Laid.{laid}
-use Rattle.goblin_c.proofs.texts.write_report.Given as goal
+use Rattle.goblin_c.proofs.texts.write_parts.Given as goal
 
 abbrev pub invariant-loop-part : goal.invariant-loop-part
 invariant-loop-part l =
