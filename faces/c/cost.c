@@ -1,5 +1,6 @@
 /* Tests that calls over many items take a time in proportion to the number of items: cost
-   It makes a file of zero bytes, in which each range can be read as sections, symbols, relocations, segments, notes or empty strings.
+   It makes a file of zero bytes, in which each range can be read as sections, symbols, relocations, segments, notes or empty strings,
+   and long strings after them.
    A library that was changed to walk from the first symbol to each other one took more than ten times the limit. */
 #include "goblin.h"
 #include <elf.h>
@@ -11,6 +12,9 @@
 
 /* The numbers of items, and the limit for a list of them in microseconds. */
 enum { ITEMS = 100000, SEGMENTS = 65535, LIMIT = 500000 };
+
+/* Where the long strings are, and their size with the zero byte before each. */
+enum { LONG_AT = 64 + ITEMS * 64, LONG_SIZE = 4000000 };
 
 static uint8_t *bytes;
 static size_t len;
@@ -111,6 +115,26 @@ static uint64_t bytes_of_each_string(void) {
     return i;
 }
 
+/* A range of few strings, each of four million bytes and more. Its first byte is the last zero byte before them. */
+static goblin_range_t long_strings(void) {
+    goblin_range_t strings = {LONG_AT, 4 * LONG_SIZE};
+    return strings;
+}
+
+static uint64_t each_compared(void) {
+    goblin_range_t strings = long_strings();
+    uint64_t i = 0;
+    while (i < ITEMS && goblin_string_is(bytes, len, &strings, i % 4 * LONG_SIZE + 1, "aaaaaaaa", 8, &why) == GOBLIN_END) i++;
+    return i;
+}
+
+static uint64_t each_start_compared(void) {
+    goblin_range_t strings = long_strings();
+    uint64_t i = 0;
+    while (i < ITEMS && goblin_string_starts(bytes, len, &strings, i % 4 * LONG_SIZE + 1, "aaaaaaaa", 8, &why) == GOBLIN_OK) i++;
+    return i;
+}
+
 /* Returns whether a list has the expected number of items and is read within the limit. */
 static int takes_little(const char *what, uint64_t (*list)(void), uint64_t items) {
     clock_t start = clock();
@@ -125,11 +149,12 @@ int main(void) {
     int right = 1;
     memset(&first, 0, sizeof first);
     first.sh_size = ITEMS;
-    len = 64 + ITEMS * sizeof first;
+    len = LONG_AT + 4 * LONG_SIZE;
     bytes = (uint8_t *)calloc(1, len);
     array = malloc(ITEMS * sizeof(goblin_section_t));
     if (!bytes || !array) return 2;
     memcpy(bytes + 64, &first, sizeof first);
+    for (size_t i = LONG_AT; i < len; i++) bytes[i] = (i - LONG_AT) % LONG_SIZE == 0 ? 0 : 'a';
     header.ei_class = 2, header.ei_data = 1, header.e_shoff = 64, header.e_phoff = 128, header.e_phnum = SEGMENTS;
     right &= takes_little("each section", each_section, ITEMS);
     right &= takes_little("all sections", all_sections, ITEMS);
@@ -143,6 +168,8 @@ int main(void) {
     right &= takes_little("each note", each_note, ITEMS);
     right &= takes_little("each string", each_string, ITEMS);
     right &= takes_little("the bytes of each string", bytes_of_each_string, ITEMS);
+    right &= takes_little("each long string compared", each_compared, ITEMS);
+    right &= takes_little("the start of each long string compared", each_start_compared, ITEMS);
     free(array);
     free(bytes);
     return right ? 0 : 1;

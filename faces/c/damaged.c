@@ -176,7 +176,24 @@ static void table(const goblin_header_t *h, goblin_range_t range, goblin_range_t
         begins(names.offset, names.offset + near);
         goblin_range_t same_bytes;
         bool is_string = READS(goblin_string_bytes, same_bytes, &names, near);
-        if (is_string) inside("bytes of a string", same_bytes);
+        if (is_string) {
+            /* The string is its own bytes and begins with its first ones. It is not they with a byte more or less. */
+            const uint8_t *string = bytes + same_bytes.offset;
+            size_t size = (size_t)same_bytes.size, some = (size_t)any(same_bytes.size + 1);
+            inside("bytes of a string", same_bytes);
+            if (goblin_string_is(bytes, len, &names, near, string, size, NULL) != GOBLIN_OK
+                || (some < size && goblin_string_is(bytes, len, &names, near, string, some, &why) != GOBLIN_END)
+                || (same_bytes.offset + size < len && goblin_string_is(bytes, len, &names, near, string, size + 1, &why) != GOBLIN_END))
+                wrong("goblin_string_is", GOBLIN_OK);
+            if (goblin_string_starts(bytes, len, &names, near, string, some, NULL) != GOBLIN_OK
+                || goblin_string_starts(bytes, len, &names, near, "\0", 1, &why) != GOBLIN_END)
+                wrong("goblin_string_starts", GOBLIN_OK);
+        }
+        uint32_t is = goblin_string_is(bytes, len, &names, near, "main", 4, &why);
+        check("goblin_string_is", is, NULL, 0, goblin_string_is(bytes, len, &names, near, "main", 4, NULL));
+        memset(&why, 0x5a, sizeof why);
+        is = goblin_string_starts(bytes, len, &names, near, "ma", 2, &why);
+        check("goblin_string_starts", is, NULL, 0, goblin_string_starts(bytes, len, &names, near, "ma", 2, NULL));
         if (READS(goblin_string, name, &names, near)) {
             inside("string", name);
             if (!is_string || name.offset != same_bytes.offset || name.size != same_bytes.size)

@@ -446,6 +446,20 @@ GOBLIN_CALL uint32_t goblin_string(const uint8_t *bytes, size_t len, const gobli
 GOBLIN_CALL uint32_t goblin_string_bytes(const uint8_t *bytes, size_t len, const goblin_range_t *strings, uint64_t offset,
                                          goblin_range_t *string, goblin_refusal_t *why);
 
+/* Tests whether the string at an offset of a string table is a text, UTF-8 or not: GOBLIN_OK if so, and else GOBLIN_END. `strings`
+   and `offset` are as for goblin_string. The text is `text_len` bytes, without a zero byte at its end: no string has a zero byte in it.
+   GOBLIN_END also if the offset is not below the size of the table. Refused as goblin_string_bytes is. At most one byte more of the
+   string is read than the text has.
+   Example: if (goblin_string_is(bytes, len, &names.file, section.sh_name, ".text", 5, &why) == GOBLIN_OK) count++; */
+GOBLIN_CALL uint32_t goblin_string_is(const uint8_t *bytes, size_t len, const goblin_range_t *strings, uint64_t offset,
+                                      const void *text, size_t text_len, goblin_refusal_t *why);
+
+/* Tests whether the string at an offset of a string table begins with a text, as goblin_string_is tests whether it is one. Every
+   string begins with the empty text, and none with a text that has a zero byte in it. No more of the string is read than the text has.
+   Example: if (goblin_string_starts(bytes, len, &names.file, section.sh_name, ".debug_", 7, &why) == GOBLIN_OK) count++; */
+GOBLIN_CALL uint32_t goblin_string_starts(const uint8_t *bytes, size_t len, const goblin_range_t *strings, uint64_t offset,
+                                          const void *text, size_t text_len, goblin_refusal_t *why);
+
 /* ---- numbers ---- */
 
 /* Reads the number in `width` bytes at an offset of the file, in the byte order of the header. `width` is 1, 2, 4 or 8. GOBLIN_END
@@ -675,6 +689,20 @@ GOBLIN_CALL uint32_t goblin_string_bytes(const uint8_t *bytes, size_t len, const
                                          goblin_range_t *string, goblin_refusal_t *why) {
     goblin_refusal_t unread;
     return goblin_c_string_bytes(bytes, len, strings, offset, string, why ? why : &unread);
+}
+uint32_t goblin_c_string_is(const uint8_t *bytes, size_t len, const goblin_range_t *strings, uint64_t offset, const void *text,
+                            size_t text_len, goblin_refusal_t *why);
+GOBLIN_CALL uint32_t goblin_string_is(const uint8_t *bytes, size_t len, const goblin_range_t *strings, uint64_t offset,
+                                      const void *text, size_t text_len, goblin_refusal_t *why) {
+    goblin_refusal_t unread;
+    return goblin_c_string_is(bytes, len, strings, offset, text, text_len, why ? why : &unread);
+}
+uint32_t goblin_c_string_starts(const uint8_t *bytes, size_t len, const goblin_range_t *strings, uint64_t offset, const void *text,
+                                size_t text_len, goblin_refusal_t *why);
+GOBLIN_CALL uint32_t goblin_string_starts(const uint8_t *bytes, size_t len, const goblin_range_t *strings, uint64_t offset,
+                                          const void *text, size_t text_len, goblin_refusal_t *why) {
+    goblin_refusal_t unread;
+    return goblin_c_string_starts(bytes, len, strings, offset, text, text_len, why ? why : &unread);
 }
 uint32_t goblin_c_number(const uint8_t *bytes, size_t len, const goblin_header_t *header, uint64_t offset, uint64_t width,
                          uint64_t *value, goblin_refusal_t *why);

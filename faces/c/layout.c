@@ -269,6 +269,8 @@ static void call_with_nulls(goblin_refusal_t *why) {
     same("null: symbol count", goblin_symbol_count(NULL, 0, &h, &none, &number, why), GOBLIN_SYMTAB_OFFSET);
     same("null: reloc count", goblin_reloc_count(NULL, 0, &h, &none, true, &number, why), GOBLIN_OK);
     same("null: string bytes", goblin_string_bytes(NULL, 0, &none, 0, &text, why), GOBLIN_END);
+    same("null: string is", goblin_string_is(NULL, 0, &none, 0, NULL, 0, why), GOBLIN_END);
+    same("null: string starts", goblin_string_starts(NULL, 0, &some, 0, NULL, 0, why), GOBLIN_STRTAB_RANGE);
     same("null: number", goblin_number(NULL, 0, &h, 0, 8, &number, why), GOBLIN_BAD_OFFSET);
     same("null: string", goblin_string(NULL, 0, &none, 0, &text, why), GOBLIN_END);
     same("null: string", goblin_string(NULL, 0, &some, 0, &text, why), GOBLIN_STRTAB_RANGE);
@@ -317,6 +319,27 @@ static void close_texts(void) {
     same("a closed class", strcmp(text, "ELF64"), 0);
 }
 
+/* Tests the calls that compare a string: here the strings are "", "ab", "abc" and "x", whose end is that of the table. */
+static void compare_strings(void) {
+    static const uint8_t strings[] = "\0ab\0abc\0x";
+    goblin_range_t table = {0, 9}, past = {1, sizeof strings};
+    goblin_refusal_t why;
+#define IS(offset, text, size) goblin_string_is(strings, sizeof strings, &table, offset, text, size, &why)
+#define STARTS(offset, text, size) goblin_string_starts(strings, sizeof strings, &table, offset, text, size, &why)
+    same("is", IS(1, "ab", 2), GOBLIN_OK), same("is", IS(1, "abc", 3), GOBLIN_END), same("is", IS(4, "ab", 2), GOBLIN_END);
+    same("is", IS(5, "bc", 2), GOBLIN_OK), same("is", IS(0, NULL, 0), GOBLIN_OK), same("is", IS(1, NULL, 0), GOBLIN_END);
+    same("is", IS(8, "x", 1), GOBLIN_OK), same("is", IS(8, "x", 2), GOBLIN_END), same("is", IS(1, "ab", 3), GOBLIN_END);
+    same("is", IS(9, "", 0), GOBLIN_END), same("is", IS(UINT64_MAX, "", 0), GOBLIN_END);
+    same("starts", STARTS(4, "ab", 2), GOBLIN_OK), same("starts", STARTS(4, "abc", 3), GOBLIN_OK);
+    same("starts", STARTS(4, "ac", 2), GOBLIN_END), same("starts", STARTS(1, "abc", 3), GOBLIN_END);
+    same("starts", STARTS(1, "ab", 3), GOBLIN_END), same("starts", STARTS(8, "x", 2), GOBLIN_END);
+    same("starts", STARTS(8, NULL, 0), GOBLIN_OK), same("starts", STARTS(9, NULL, 0), GOBLIN_END);
+    table = past;
+    refused("is", IS(0, "ab", 2), GOBLIN_STRTAB_RANGE, &why, 1), refused("starts", STARTS(9, "ab", 2), GOBLIN_STRTAB_RANGE, &why, 1);
+#undef IS
+#undef STARTS
+}
+
 /* Tests each byte of a field that goblin_layout has filled. */
 static void filled(const char *what, const void *field, size_t size, uint8_t number) {
     for (size_t i = 0; i < size; i++) same(what, ((const uint8_t *)field)[i], number);
@@ -359,6 +382,7 @@ int main(int argc, char **argv) {
 #undef FIELD
 #undef STRUCT
     close_texts();
+    compare_strings();
     for (int kind = 0; kind < 4; kind++) {
         wide = kind < 2 ? 8 : 4, is_big = kind % 2;
         read_all();

@@ -39,7 +39,7 @@ in_front test n all =
     sym (take-take (length (take end part)) n all few) ∙ ap (λ (k : ℕ). take k part) long ∙ take_min end part
 
 -- so does the piece at an offset of a range, at its offset in the file
-piece_there : (bytes : List ℕ) (range : GoblinRange) (offset : ℕ)
+pub piece_there : (bytes : List ℕ) (range : GoblinRange) (offset : ℕ)
     → offset < length (bytes_in bytes range)
     → take (length (piece (bytes_in bytes range) 0 offset)) (drop (range.offset + offset) bytes)
     ≡ piece (bytes_in bytes range) 0 offset

@@ -1,6 +1,6 @@
 -- Laws of the calls: the items that they store one by one are those that the library reads at once.
-use Rattle.std.specs.Prelude.{◌≡◌, ◌≢◌, ◌⊎◌, ◌+◌, ◌/◌, ◌<◌, ◌≤◌, ℕ, zero, suc, min, Bool, List, [], ◌∷◌, length, take}
-use Rattle.std.specs.Prelude.{drop, slice_get, Option, Some, None, Result, Ok, Err}
+use Rattle.std.specs.Prelude.{◌≡◌, ◌≢◌, ◌↔◌, ◌⊎◌, ◌+◌, ◌/◌, ◌<◌, ◌≤◌, ℕ, zero, suc, min, Bool, List, [], ◌∷◌, length}
+use Rattle.std.specs.Prelude.{take, drop, slice_get, Option, Some, None, Result, Ok, Err}
 use Rattle.std.specs.Option.{option_map}
 use Rattle.goblin_base.specs.declared.container.Ctx.{Ctx}
 use Rattle.goblin_base.specs.declared.error.Fault.TheVariants.{InvalidClass, InvalidEndianness}
@@ -29,6 +29,7 @@ use Rattle.goblin_c.specs.Answers.{reloc_count_expected, sections_from_expected,
 use Rattle.goblin_c.specs.Answers.{relocs_from_expected, section_names_expected, section_by_name_expected}
 use Rattle.goblin_c.specs.Answers.{symbol_by_name_expected, strings_expected, table_of, table_expected}
 use Rattle.goblin_c.specs.Bytes.{section_bytes_expected, segment_bytes_expected, string_bytes_expected}
+use Rattle.goblin_c.specs.Bytes.{string_is_expected, string_starts_expected}
 use Rattle.goblin_c.specs.Laid.{closed, laid}
 use Rattle.goblin_c.specs.Notes.{note_expected}
 use Rattle.goblin_c.specs.Status.{refusal_converted}
@@ -314,3 +315,13 @@ TextIsClosed =
     (text old : List ℕ) → length text < length old
     → (take (length text) (laid (closed text) old) ≡ text)
     × (slice_get (laid (closed text) old) (length text) ≡ Some 0)
+
+-- a call reports that a string is a text, or begins with one, where the bytes of the range that is stored for it are
+-- this text, or begin with it
+abbrev pub StringsAreCompared : Type 0
+StringsAreCompared =
+    (bytes : List ℕ) (range : GoblinRange) (offset : ℕ) (text : List ℕ) (found : GoblinRange)
+    → string_bytes_expected bytes range offset ≡ Ok (Some found)
+    → (string_is_expected bytes range offset text ≡ Ok (Some tt) ↔ (bytes_in bytes found ≡ text))
+    × (string_starts_expected bytes range offset text ≡ Ok (Some tt)
+    ↔ (take (length text) (bytes_in bytes found) ≡ text))

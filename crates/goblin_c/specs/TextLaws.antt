@@ -29,6 +29,7 @@ use Rattle.goblin_c.specs.Answers.{symbols_from_expected, symbols_expected}
 use Rattle.goblin_c.specs.Answers.{count_of, each_converted, item_of, items_from, reloc_converted, section_converted}
 use Rattle.goblin_c.specs.Answers.{segment_converted, symbol_converted, table_expected}
 use Rattle.goblin_c.specs.Bytes.{number_expected, section_bytes_expected, segment_bytes_expected, string_bytes_expected}
+use Rattle.goblin_c.specs.Bytes.{string_is_expected, string_starts_expected}
 use Rattle.goblin_c.specs.Notes.{note_expected}
 use Rattle.goblin_c.specs.Status.{refusal_converted}
 use Rattle.goblin_c.specs.Texts.{NamesKnown, TextIsSame, converted_text}
@@ -154,6 +155,8 @@ pub record HaveSameText
   pub section_bytes : HasSameText (section_bytes_expected bytes s)
   pub segment_bytes : HasSameText (segment_bytes_expected bytes p)
   pub string_bytes : HasSameText (string_bytes_expected bytes range offset)
+  pub string_is : HasSameText (string_is_expected bytes range offset name)
+  pub string_starts : HasSameText (string_starts_expected bytes range offset name)
   pub number : HasSameText (number_expected bytes h offset width)
 
 -- so does each refusal of each call
@@ -197,5 +200,8 @@ refusals_have_same_text bytes h range names name is_rela index offset address al
       section_bytes = same_text (section_bytes_expected bytes s) (grind (arith, known_room));
       segment_bytes = same_text (segment_bytes_expected bytes p) (grind (arith, known_room));
       string_bytes = same_text (string_bytes_expected bytes range offset) (known_string_bytes bytes range offset);
+      string_is = same_text (string_is_expected bytes range offset name) (grind (arith, known_strings bytes range));
+      string_starts =
+          same_text (string_starts_expected bytes range offset name) (grind (arith, known_strings bytes range));
       number = same_text (number_expected bytes h offset width) (grind (arith, known_room));
     }

@@ -128,6 +128,24 @@ fn finds_strings_that_are_not_utf8(rt: HostRuntime) {
     );
 }
 
+// Whether the string at an offset is a text, and whether it begins with it: the statuses.
+fn compared(offset: u64, text: &[u8]) -> (u32, u32) {
+    let mut why = marked_layout().refusal;
+    let is = goblin_c_string_is(FILE, &STRINGS, offset, text, &mut why);
+    (
+        is,
+        goblin_c_string_starts(FILE, &STRINGS, offset, text, &mut why),
+    )
+}
+
+#[test]
+fn compares_strings(rt: HostRuntime) {
+    assert!(rt; compared(1, b"ab") == (0, 0) && compared(1, b"a") == (1, 0));
+    assert!(rt; compared(4, b"\xff\xfe") == (0, 0) && compared(4, b"\xff\xfe\0") == (1, 1));
+    assert!(rt; compared(7, b"c") == (0, 0) && compared(7, b"cc") == (1, 1));
+    assert!(rt; compared(0, b"") == (0, 0) && compared(8, b"") == (1, 1));
+}
+
 // Where what is refused begins, by the refusal of a call that is refused.
 fn begins<T: Drop>((status, _, why): (u32, T, GoblinRefusal)) -> u64 {
     if status > 1 { why.offset } else { u64::MAX }
@@ -143,7 +161,10 @@ fn strings_begin() -> bool {
 }
 
 fn searches_begin(symbols: &GoblinRange, names: &GoblinRange) -> u64 {
-    begins(called!(goblin_c_symbol_by_name(FILE, &header(), symbols, names, b"ab"), 9))
+    begins(called!(
+        goblin_c_symbol_by_name(FILE, &header(), symbols, names, b"ab"),
+        9
+    ))
 }
 
 fn headers_begin() -> bool {
@@ -158,9 +179,15 @@ fn headers_begin() -> bool {
 
 fn parts_begin() -> bool {
     let notes = &range(300, 8);
-    let note = begins(called!(goblin_c_note(FILE, &header(), notes, 4, 304), marked_layout().note));
+    let note = begins(called!(
+        goblin_c_note(FILE, &header(), notes, 4, 304),
+        marked_layout().note
+    ));
     let number = begins(called!(goblin_c_number(FILE, &header(), 305, 4), 9));
-    let relocs = begins(called!(goblin_c_reloc_count(FILE, &header(), &range(299, 16), false), 9));
+    let relocs = begins(called!(
+        goblin_c_reloc_count(FILE, &header(), &range(299, 16), false),
+        9
+    ));
     note == 304 && number == 305 && relocs == 299
 }
 

@@ -1,6 +1,6 @@
 //! Laws of the calls: the items that they store one by one are those that the library reads at once.
 ghost use Rattle.goblin_c.specs.TextLaws.{RefusalsHaveSameText};
-ghost use Rattle.goblin_c.specs.Laws.{TextIsClosed, NotesAreItems, NotesInARow, NotesLieInFile, ContextIsTheHeaders, SectionsByIndex, SegmentsByIndex, SymbolsByIndex, RelocsByIndex, FilledByIndex, BufferIsFilled, NamesByIndex, StringsAreThere, StringsLieInFile, SectionsByName, SymbolsByName, SectionsByType, BytesLieInFile, StringsAreBytes, TablesByIndex, KindsAreAnswers};
+ghost use Rattle.goblin_c.specs.Laws.{StringsAreCompared, TextIsClosed, NotesAreItems, NotesInARow, NotesLieInFile, ContextIsTheHeaders, SectionsByIndex, SegmentsByIndex, SymbolsByIndex, RelocsByIndex, FilledByIndex, BufferIsFilled, NamesByIndex, StringsAreThere, StringsLieInFile, SectionsByName, SymbolsByName, SectionsByType, BytesLieInFile, StringsAreBytes, TablesByIndex, KindsAreAnswers};
 
 /// Laws: calls of `goblin_note` at a range's start and then at each `next` store exactly the notes of the
 /// library's iterator over the range, in its order, up to the end or the first refusal. The ranges that
@@ -80,8 +80,10 @@ pub fn types()
 {}
 
 /// Laws: the ranges that `goblin_section_bytes`, `goblin_segment_bytes` and `goblin_string_bytes` store lie
-/// in the file. If `goblin_string` stores a range, `goblin_string_bytes` stores the same one.
+/// in the file. If `goblin_string` stores a range, `goblin_string_bytes` stores the same one. `goblin_string_is` returns
+/// 0 for a text that the bytes of this range are, and `goblin_string_starts` for one that they begin with.
 pub fn places()
     ensures within { BytesLieInFile }
     ensures same { StringsAreBytes }
+    ensures compared { StringsAreCompared }
 {}

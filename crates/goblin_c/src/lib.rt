@@ -4,7 +4,7 @@
 
 ghost use Rattle.std.specs.Prelude.{◌≡◌, length};
 ghost use Rattle.goblin_c.specs.Answers.{header_expected, reloc_count_expected, reloc_expected, section_by_type_expected, section_count_expected, section_expected, segment_count_expected, segment_expected, string_expected, symbol_count_expected, symbol_expected, relocs_from_expected, sections_from_expected, symbols_from_expected, section_by_name_expected, section_names_expected, symbol_by_address_expected, symbol_by_name_expected, table_expected};
-ghost use Rattle.goblin_c.specs.Bytes.{number_expected, section_bytes_expected, segment_bytes_expected, string_bytes_expected};
+ghost use Rattle.goblin_c.specs.Bytes.{number_expected, section_bytes_expected, segment_bytes_expected, string_bytes_expected, string_is_expected, string_starts_expected};
 ghost use Rattle.goblin_c.specs.Laid.{closed, laid};
 ghost use Rattle.goblin_c.specs.Layout.{layout};
 ghost use Rattle.goblin_c.specs.Notes.{note_expected};
@@ -36,7 +36,7 @@ mod texts;
 pub mod types;
 mod writer;
 
-use bytes::{number, section_bytes, segment_bytes, string_bytes};
+use bytes::{number, section_bytes, segment_bytes, string_bytes, string_is, string_starts};
 use goblin::elf::header::{class_to_str, et_to_str, machine_to_str};
 use goblin::elf::program_header::pt_to_str;
 use goblin::elf::section_header::{shf_to_str, sht_to_str};
@@ -518,6 +518,36 @@ pub extern "C" fn goblin_c_string_bytes(
         string.old why.old result string.new why.new }
 {
     store(string_bytes(bytes, strings, offset), string, why)
+}
+
+/// Returns whether the string at an offset of a string table is a text.
+#[unsafe(no_mangle)]
+pub extern "C" fn goblin_c_string_is(
+    bytes: &[u8],
+    strings: &GoblinRange,
+    offset: u64,
+    text: &[u8],
+    why: &mut GoblinRefusal,
+) -> u32
+    ensures { Stores (string_is_expected bytes.now strings.now offset text.now)
+        tt why.old result tt why.new }
+{
+    store(string_is(bytes, strings, offset, text), &mut (), why)
+}
+
+/// Returns whether the string at an offset of a string table begins with a text.
+#[unsafe(no_mangle)]
+pub extern "C" fn goblin_c_string_starts(
+    bytes: &[u8],
+    strings: &GoblinRange,
+    offset: u64,
+    text: &[u8],
+    why: &mut GoblinRefusal,
+) -> u32
+    ensures { Stores (string_starts_expected bytes.now strings.now offset text.now)
+        tt why.old result tt why.new }
+{
+    store(string_starts(bytes, strings, offset, text), &mut (), why)
 }
 
 /// Stores the number of 1, 2, 4 or 8 bytes at an offset, in the file's byte order.
