@@ -108,13 +108,23 @@ check_programs() {
         quietly diff "$folder/wanted" "$folder/listed"
         "$folder/values" "$file" > "$folder/listed"
         [ "$(grep -c -x -e '12 function' -e '18 été' "$folder/listed")" -eq 2 ] || fail "values.c does not list the symbols of $file"
+        "$folder/strings" "$file" .strtab > "$folder/listed"
+        [ "$(sed 's/^ *[0-9a-f]*  //' "$folder/listed" | grep -c -x -e made.c -e function -e été)" -eq 3 ] || fail "strings.c does not list the strings of $file"
     done
+    if has readelf; then
+        readelf -p .comment "$folder/nm" | sed -n 's/^ *\[ *\([0-9a-f]*\)\]  /\1  /p' > "$folder/wanted"
+        "$folder/strings" "$folder/nm" .comment | sed 's/^ *//' > "$folder/listed"
+        quietly diff "$folder/wanted" "$folder/listed"
+    else
+        echo "no readelf here: strings.c is not compared with it"
+    fi
     short=$folder/short
     head -c 15 "$file" > "$short"
     [ "$("$folder/nm" "$short" 2>&1)" = 'nm: header: Malformed entity: Too small' ] || fail "nm.c does not refuse a short file as it should"
     [ "$("$folder/values" "$short" 2>&1)" = 'values: Malformed entity: Too small' ] || fail "values.c does not refuse a short file as it should"
     [ "$("$folder/needed" "$short" 2>&1)" = 'needed: Malformed entity: Too small' ] || fail "needed.c does not refuse a short file as it should"
     [ "$("$folder/size" "$short" 2>&1 > "$folder/output")" = "size: $short: Malformed entity: Too small" ] || fail "size.c does not refuse a short file as it should"
+    [ "$("$folder/strings" "$short" .names 2>&1)" = 'strings: Malformed entity: Too small, at offset 0' ] || fail "strings.c does not refuse a short file as it should"
     echo "nm.c lists $(echo "$symbols_made" | wc -l) symbols in each class and byte order"
 }
 
@@ -134,7 +144,7 @@ check_damaged() {
 check_header
 check_examples
 check_constants
-for program in nm size symbolize values made search cost needed; do build $program -std=c99; done
+for program in nm size symbolize values made search cost needed strings; do build $program -std=c99; done
 quietly "$folder/search"
 echo "c: $(wc -l < "$folder/output") searches among long names take less than their limit (search.c)"
 quietly "$folder/cost"
