@@ -1,9 +1,10 @@
 -- Notes: the note that bytes are read as, and the notes of a range (System V gABI, "Note Section").
 use Rattle.std.specs.Prelude.{◌+◌, ◌-◌, ◌==◌, ◌||◌, max, ℕ, zero, suc, nat_le, if◌then◌else◌, List, [], ◌∷◌, length}
-use Rattle.std.specs.Prelude.{take, drop, Result, Ok, Err}
+use Rattle.std.specs.Prelude.{◌≡◌, take, drop, Option, Some, None, Result, Ok, Err}
 use Rattle.std.specs.Int.{next_multiple_of}
 use Rattle.goblin_base.specs.declared.container.Ctx.{Ctx}
 use Rattle.goblin_base.specs.declared.container.Endian.{Endian}
+use Rattle.goblin_base.specs.declared.error.Error.{Error}
 use Rattle.goblin_base.specs.declared.error.Fault.TheVariants.{NoteAlign}
 use Rattle.goblin_base.specs.Record.{read_within}
 use Rattle.goblin_base.specs.Refusal.{Refusal, bad_offset, malformed, misplaced, refusal_of}
@@ -13,7 +14,10 @@ use Rattle.goblin_base.specs.Utf8.{text_or_fault}
 use Rattle.goblin_records.specs.Nhdr.{nhdr32_of, nhdr32_size}
 use Rattle.goblin_records.specs.declared.note.Nhdr32.{Nhdr32}
 use Rattle.goblin.specs.declared.elf.note.Note.{Note}
+use Rattle.goblin.specs.declared.elf.note.NotePart.{NotePart}
+use Rattle.goblin.specs.declared.elf.note.NotePart.TheVariants.{Header, Name, Desc}
 use Rattle.goblin.specs.declared.elf.note.NotePlaces.{NotePlaces}
+use Rattle.goblin.specs.declared.elf.note.NoteRefusal.{NoteRefusal}
 
 -- the parts of a note: its type, its name without the closing zero byte, and its descriptor
 pub record NoteParts : Type 0 where
@@ -71,6 +75,40 @@ read_places alignment order bytes = do
   _ ← text_at bytes places.name places.name_size
   _ ← bytes_at bytes places.desc places.desc_size
   Ok places
+
+-- a part of a note that the bytes don't hold, or none where the alignment is refused, and the refusal
+pub record PartRefusal : Type 0 where
+  pub part : Option NotePart
+  pub refusal : Refusal
+
+abbrev pub of_part : {X : Type 0} → Option NotePart → Result X Refusal → Result X PartRefusal
+of_part part (Ok x) = Ok x
+of_part part (Err refusal) = Err (record { part = part; refusal = refusal })
+
+-- the same of the program's error
+abbrev pub with_part : {X : Type 0} → Option NotePart → Result X Error → Result X NoteRefusal
+with_part part (Ok x) = Ok x
+with_part part (Err e) = Err (record { part = part; error = e })
+
+-- the places of the parts of a note with a header, with all of its name: the closing byte belongs to it
+abbrev pub whole_places_of : ℕ → Nhdr32 → NotePlaces
+whole_places_of align header = record (places_of align header) { name_size = header.n_namesz }
+
+-- the places of the whole note at the start of some bytes, which must hold its header, its name and its descriptor; the
+-- name need not be UTF-8
+unfoldable pub whole_places : ℕ → Endian → List ℕ → Result NotePlaces PartRefusal
+whole_places alignment order bytes = do
+  align ← of_part None (note_align alignment)
+  header ← of_part (Some Header) (refuse_as refusal_of (read_within nhdr32_size (nhdr32_of order) bytes))
+  places ← Ok (whole_places_of align header)
+  _ ← of_part (Some Name) (bytes_at bytes places.name places.name_size)
+  _ ← of_part (Some Desc) (bytes_at bytes places.desc places.desc_size)
+  Ok places
+
+-- a result is the expected one, an error too
+abbrev pub FindsParts : Result NotePlaces NoteRefusal → Result NotePlaces PartRefusal → Type 0
+FindsParts (Ok places) expected = expected ≡ Ok places
+FindsParts (Err e) expected = expected ≡ Err (record { part = e.part; refusal = refusal_of e.error })
 
 -- the note in some bytes at these places
 abbrev pub note_there : List ℕ → NotePlaces → NoteParts

@@ -1,25 +1,26 @@
 -- Laws of notes and of the notes of a range.
 use Rattle.std.proofs.Common.{◌≡◌, ◌+◌, ◌-◌, ◌<◌, ◌≤◌, ℕ, zero, suc, Bool, true, false, nat_le, List, [], ◌∷◌, length}
-use Rattle.std.proofs.Common.{take, drop, Result, Ok, Err, IfOk, inl, inr, refl, sym, ap, ◌∙◌, arith}
+use Rattle.std.proofs.Common.{take, drop, Result, Ok, Err, IfOk, inl, inr, refl, sym, ap, subst, ◌∙◌, arith}
 use Rattle.std.proofs.lemmas.Bool.{cases_lt, le-leb, lt-leb, leb-false}
 use Rattle.std.proofs.lemmas.Bool.Decides.{nat_tests}
-use Rattle.std.proofs.lemmas.List.{length-drop}
+use Rattle.std.proofs.lemmas.List.{length-drop, length-take, take-append-drop}
 use Rattle.std.specs.Int.{div_ceil, next_multiple_of}
 use Rattle.goblin_base.specs.declared.container.Ctx.{Ctx}
 use Rattle.goblin_base.specs.declared.container.Endian.{Endian}
 use Rattle.goblin_base.specs.declared.scroll.Error.{Error as Misplaced}
-use Rattle.goblin_base.specs.Record.{read_within}
+use Rattle.goblin_base.specs.FieldLaws.{values_at-append}
+use Rattle.goblin_base.specs.Record.{read_within, unless_fault}
 use Rattle.goblin_base.specs.RecordLaws.{fits-room_of}
 use Rattle.goblin_base.specs.Refusal.{Refusal, refusal_of, misplaced, bad_offset}
 use Rattle.goblin_base.specs.Room.{room_of}
 use Rattle.goblin_base.specs.Steps.{◌>>=◌, refuse_as, refuse_if}
 use Rattle.goblin_base.specs.Utf8.{text_or_fault}
 use Rattle.goblin_records.specs.declared.note.Nhdr32.{Nhdr32}
-use Rattle.goblin_records.specs.Nhdr.{nhdr32_of, nhdr32_size}
+use Rattle.goblin_records.specs.Nhdr.{nhdr32_of, nhdr32_of_values, nhdr32_size, nhdr32_widths}
 use Rattle.goblin.specs.declared.elf.note.NotePlaces.{NotePlaces}
 use Rattle.goblin.specs.Note.{NoteParts, note_align, bytes_at, text_at, places_of, read_places, places_at, note_at}
-use Rattle.goblin.specs.Note.{item_and_rest, items_within, note_items}
-use Rattle.goblin.specs.Notes.{LieWithin, PlacesLieWithin, NoteByNote, NotesAdvance, FewNotes}
+use Rattle.goblin.specs.Note.{item_and_rest, items_within, note_items, whole_places, whole_places_of}
+use Rattle.goblin.specs.Notes.{LieWithin, PlacesLieWithin, WholeIsNote, NoteByNote, NotesAdvance, FewNotes}
 
 -- a property that holds after each value of the first step holds after both
 if_ok_then : {A B E : Type 0} (first : Result A E) (next : A → Result B E) (P : B → Type 0)
@@ -91,6 +92,84 @@ read_places-fits alignment order bytes =
     if_ok_then (bytes_at bytes p.desc p.desc_size) _ _ λ desc described.
     places_fit (length bytes) align h (align_range alignment align aligned)
     (text_at-fits bytes p.name p.name_size name named) (bytes_at-fits bytes p.desc p.desc_size desc described)
+
+-- what was read of a note
+read_last : (text desc : Result (List ℕ) Refusal) (p places : NotePlaces)
+    → (text >>= λ _. desc >>= λ _. Ok p) ≡ Ok places → (places ≡ p) × ((part : List ℕ) × (desc ≡ Ok part))
+read_last (Ok t) (Ok part) p places is = (cc, (part, refl))
+read_last (Ok t) (Err e) p places is = absurd (cc)
+read_last (Err e) desc p places is = absurd (cc)
+
+read_steps : (align : Result ℕ Refusal) (room : Result (Unit {0}) Misplaced) (header : Nhdr32) (bytes : List ℕ)
+    (places : NotePlaces)
+    → (align >>= λ a. refuse_as refusal_of (unless_fault room header) >>= λ h. Ok (places_of a h) >>= λ p.
+    text_at bytes p.name p.name_size >>= λ _. bytes_at bytes p.desc p.desc_size >>= λ _. Ok p) ≡ Ok places
+    → (a : ℕ) × (align ≡ Ok a) × (places ≡ places_of a header)
+    × ((part : List ℕ) × (bytes_at bytes places.desc places.desc_size ≡ Ok part))
+read_steps (Ok a) (Ok u) header bytes places is =
+    let p = places_of a header in
+    let last = read_last (text_at bytes p.name p.name_size) (bytes_at bytes p.desc p.desc_size) p places is in (
+      a,
+      refl,
+      last.0,
+      subst (λ (q : NotePlaces). (part : List ℕ) × (bytes_at bytes q.desc q.desc_size ≡ Ok part))
+          (sym last.0) last.1,
+    )
+read_steps (Ok a) (Err e) header bytes places is = absurd (cc)
+read_steps (Err e) room header bytes places is = absurd (cc)
+
+room_of-fits : (len offset size : ℕ) → offset + size ≤ len → room_of len offset size ≡ Ok tt
+unfolding room_of
+room_of-fits len offset size fits = grind (arith, nat_tests)
+
+-- the header of some bytes is that of the first of them
+header_first : (order : Endian) (bytes : List ℕ) (size : ℕ)
+    → nhdr32_size ≤ length (take size bytes) → nhdr32_of order (take size bytes) ≡ nhdr32_of order bytes
+header_first order bytes size room =
+    sym (ap nhdr32_of_values (values_at-append order (take size bytes) (drop size bytes) 0 nhdr32_widths room))
+    ∙ ap (nhdr32_of order) (take-append-drop size bytes)
+
+-- the whole note of some bytes that hold its parts
+whole_there : (alignment align : ℕ) (order : Endian) (bytes : List ℕ)
+    → note_align alignment ≡ Ok align → nhdr32_size ≤ length bytes
+    → (let p = whole_places_of align (nhdr32_of order bytes) in
+    (p.name + p.name_size ≤ length bytes) → (p.desc + p.desc_size ≤ length bytes)
+    → whole_places alignment order bytes ≡ Ok p)
+unfolding whole_places read_within
+whole_there alignment align order bytes aligned begins name desc =
+    let p = whole_places_of align (nhdr32_of order bytes) in
+    rw (
+      aligned,
+      room_of-fits (length bytes) 0 nhdr32_size begins,
+      room_of-fits (length bytes) p.name p.name_size name,
+      room_of-fits (length bytes) p.desc p.desc_size desc,
+    ) refl
+
+pub whole_is_note : WholeIsNote
+unfolding read_places read_within
+whole_is_note alignment order bytes size places is room =
+    let header = nhdr32_of order bytes in
+    let steps =
+    read_steps (note_align alignment) (room_of (length bytes) 0 nhdr32_size) header bytes places is in
+    let p = whole_places_of steps.0 header in
+    let range = align_range alignment steps.0 steps.1 in
+    let fits = bytes_at-fits bytes places.desc places.desc_size steps.3.0 steps.3.1 in
+    let same : places ≡ places_of steps.0 header = steps.2 in
+    let end : p.desc + p.desc_size ≡ places.desc + places.desc_size =
+    sym (ap (λ (q : NotePlaces). q.desc + q.desc_size) same) in
+    let long = length-take size bytes in
+    let first = multiple_range (nhdr32_size + header.n_namesz) steps.0 range.0 in
+    let desc : p.desc + p.desc_size ≤ length (take size bytes) = omega (arith, end, fits, room, long) in
+    let begins : nhdr32_size ≤ length (take size bytes) = omega (arith, desc, first.0) in
+    let named : p.name + p.name_size ≤ length (take size bytes) = omega (arith, desc, first.0) in
+    let of_first = header_first order bytes size begins in
+    let whole = subst (λ (h : Nhdr32). let q = whole_places_of steps.0 h in
+    (q.name + q.name_size ≤ length (take size bytes)) → (q.desc + q.desc_size ≤ length (take size bytes))
+    → whole_places alignment order (take size bytes) ≡ Ok q) of_first
+    (whole_there alignment steps.0 order (take size bytes) steps.1 begins) named desc in (
+      ap (λ (q : NotePlaces). q.name_size) same,
+      whole ∙ ap (λ (q : NotePlaces). Ok (record q { name_size = header.n_namesz })) (sym same),
+    )
 
 -- a property of each value holds of this one
 pub at_ok : {A E : Type 0} (answer : Result A E) (x : A) (P : A → Type 0) → answer ≡ Ok x → IfOk answer P → P x

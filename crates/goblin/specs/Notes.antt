@@ -5,14 +5,16 @@ use Rattle.std.specs.Iterator.{YieldsFirstBy}
 use Rattle.std.specs.Int.{div_ceil}
 use Rattle.std.specs.List.{position_or_len}
 use Rattle.goblin_base.specs.declared.container.Ctx.{Ctx}
+use Rattle.goblin_base.specs.declared.container.Endian.{Endian}
 use Rattle.goblin_base.specs.declared.error.Error.{Error}
 use Rattle.goblin_base.specs.Refusal.{Refusal, refusal_of}
-use Rattle.goblin_records.specs.Nhdr.{nhdr32_size}
+use Rattle.goblin_records.specs.Nhdr.{nhdr32_of, nhdr32_size}
 use Rattle.goblin.specs.declared.elf.note.Note.{Note}
 use Rattle.goblin.specs.declared.elf.note.NoteDataIterator.{NoteDataIterator}
 use Rattle.goblin.specs.declared.elf.note.NoteIterator.{NoteIterator}
 use Rattle.goblin.specs.declared.elf.note.NotePlaces.{NotePlaces}
-use Rattle.goblin.specs.Note.{NoteParts, parts_of, places_at, note_at, note_items, item_and_rest}
+use Rattle.goblin.specs.Note.{NoteParts, parts_of, places_at, note_at, note_items, item_and_rest, read_places}
+use Rattle.goblin.specs.Note.{whole_places}
 
 -- the parts of a note, or the refusal of an error
 abbrev pub item_of : Result Note Error → Result NoteParts Refusal
@@ -92,6 +94,16 @@ pub record LieWithin (size offset : ℕ) (places : NotePlaces) : Type 0 where
 abbrev pub PlacesLieWithin : Type 0
 PlacesLieWithin =
     (bytes : List ℕ) (offset : ℕ) (ctx : ℕ × Ctx) → IfOk (places_at bytes offset ctx) (LieWithin (length bytes) offset)
+
+-- a note that is read is also the whole note of the first bytes, if these hold its descriptor; only its name is longer,
+-- by the byte that closes it
+abbrev pub WholeIsNote : Type 0
+WholeIsNote =
+    (alignment : ℕ) (order : Endian) (bytes : List ℕ) (size : ℕ) (places : NotePlaces)
+    → read_places alignment order bytes ≡ Ok places → places.desc + places.desc_size ≤ size
+    → let name_size = (nhdr32_of order bytes).n_namesz in
+    (places.name_size ≡ name_size - 1)
+    × (whole_places alignment order (take size bytes) ≡ Ok (record places { name_size = name_size }))
 
 -- the size of a note is at least its header's, and at most 7 more than the bytes'
 abbrev pub NotesAdvance : Type 0

@@ -3,9 +3,9 @@ ghost use Rattle.std.specs.Prelude.{⊤, ◌≡◌, ◌+◌, ◌≤◌, ◌<◌,
 ghost use Rattle.std.specs.Iterator.{MakesProgress, UpTo, YieldsFirstBy, at_most};
 ghost use Rattle.std.specs.Iterator.SizeHint.{IsWithinCount};
 ghost use Rattle.goblin_base.specs.Refusal.{Answers};
-ghost use Rattle.goblin.specs.Notes.{NoteByNote, NotesAdvance, FewNotes, PlacesLieWithin};
+ghost use Rattle.goblin.specs.Notes.{NoteByNote, NotesAdvance, FewNotes, PlacesLieWithin, WholeIsNote};
 ghost use Rattle.goblin.specs.NoteType.{note_type_name};
-ghost use Rattle.goblin.specs.Note.{bytes_at, note_at, text_at};
+ghost use Rattle.goblin.specs.Note.{FindsParts, bytes_at, note_at, text_at, whole_places, with_part};
 
 use goblin_base::container::Ctx;
 use goblin_base::error::{Error, Fault, Result};
@@ -18,6 +18,7 @@ pub use goblin_records::note::{
     NT_FILE, NT_GNU_ABI_TAG, NT_GNU_BUILD_ID, NT_GNU_GOLD_VERSION, NT_GNU_HWCAP,
     NT_GNU_PROPERTY_TYPE_0, NT_PRPSINFO, NT_PRSTATUS, NT_SIGINFO, Nhdr32, Nhdr64,
 };
+use std::result;
 
 /// An iterator over the notes of a range of bytes.
 ///
@@ -167,6 +168,81 @@ pub struct NotePlaces {
     pub next: usize,
 }
 
+impl NotePlaces {
+    ghost use Rattle.goblin.specs.Notes.{LieWithin};
+
+    /// Finds the parts of the note at the start of the bytes, whose name need not be UTF-8. `name_size` is the size of
+    /// the whole name, as the header has it, with the zero byte that closes it.
+    ///
+    /// # Errors
+    ///
+    /// The first of these that applies, with the part that it is about, and offsets relative to the note's start:
+    ///
+    /// - `NoteAlign`: the alignment is neither 4 nor 8. This is about no part.
+    /// - The fault of `room`: the bytes don't hold the header, the name or the descriptor.
+    #[tactic(auto, unfolding(crate::specs::Note::whole_places))]
+    pub fn whole(bytes: &[u8], ctx: (usize, Ctx)) -> result::Result<NotePlaces, NoteRefusal>
+        ensures exact { FindsParts result (whole_places ctx.0 ctx.1.le bytes.now) }
+        ensures within { IfOk result (LieWithin (length bytes.now) 0) }
+    {
+        let (alignment, ctx) = ctx;
+        let align = alignment.max(4);
+        if align != 4 && align != 8 {
+            return Err(NoteRefusal {
+                part: None,
+                error: Error::Malformed(Fault::NoteAlign(align)),
+            });
+        }
+        let (header, start) = about(NotePart::Header, Nhdr32::try_from_ctx(bytes, ctx.le))?;
+        let name_size = header.n_namesz as usize;
+        about(NotePart::Name, bytes_at(bytes, start, name_size))?;
+        let desc = (start + name_size).next_multiple_of(align);
+        let desc_size = header.n_descsz as usize;
+        about(NotePart::Desc, bytes_at(bytes, desc, desc_size))?;
+        Ok(NotePlaces {
+            n_type: header.n_type,
+            name: start,
+            name_size,
+            desc,
+            desc_size,
+            next: (desc + desc_size).next_multiple_of(align),
+        })
+    }
+}
+
+/// A part of a note.
+#[derive(Clone, Copy, Debug, PartialEq)]
+pub enum NotePart {
+    /// Its header: the sizes of name and descriptor, and the type.
+    Header,
+    /// Its name.
+    Name,
+    /// Its descriptor.
+    Desc,
+}
+
+/// Why the parts of a note can't be found.
+#[derive(Debug, Drop)]
+pub struct NoteRefusal {
+    /// The part that the bytes don't hold, or `None` if the alignment is refused.
+    pub part: Option<NotePart>,
+    /// The error.
+    pub error: Error,
+}
+
+// Returns a result whose error is about a part.
+fn about<T>(part: NotePart, answer: Result<T>) -> result::Result<T, NoteRefusal>
+    ensures { result ≡ with_part (Some part) answer }
+{
+    match answer {
+        Ok(found) => Ok(found),
+        Err(error) => Err(NoteRefusal {
+            part: Some(part),
+            error,
+        }),
+    }
+}
+
 /// A note of either class.
 #[derive(Debug, Drop)]
 pub struct Note<'a> {
@@ -308,10 +384,11 @@ pub fn constants()
 {}
 
 /// Laws of notes: how the items of a range follow one another, where the parts of a note are, where
-/// it ends, and how many items a range has.
+/// it ends, how many items a range has, and which note is a whole note.
 pub fn laws()
     ensures items { NoteByNote }
     ensures places { PlacesLieWithin }
     ensures advance { NotesAdvance }
     ensures few { FewNotes }
+    ensures whole { WholeIsNote }
 {}

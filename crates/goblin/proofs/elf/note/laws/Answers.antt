@@ -1,4 +1,4 @@
-use Rattle.goblin.specs.NoteLaws.{note_by_note, notes_advance, few_notes, places_lie_within}
+use Rattle.goblin.specs.NoteLaws.{note_by_note, notes_advance, few_notes, places_lie_within, whole_is_note}
 use Rattle.goblin.proofs.elf.note.laws.Goals as goal
 
 pub returns-clause-items : goal.returns-clause-items
@@ -12,3 +12,6 @@ returns-clause-advance c = notes_advance
 
 pub returns-clause-few : goal.returns-clause-few
 returns-clause-few c = few_notes
+
+pub returns-clause-whole : goal.returns-clause-whole
+returns-clause-whole c = whole_is_note
