@@ -132,7 +132,18 @@ static void inside(const char *what, goblin_range_t range) {
 static void notes(const goblin_header_t *h, goblin_range_t range) {
     goblin_note_t note;
     uint64_t offset = any(8) ? range.offset : odd(), alignment = any(8) ? 4 + any(2) * 4 : odd();
+    begins(offset, offset);
+    READS(goblin_note_bytes, note, h, &range, alignment, offset);
     for (int i = 0; i < 8 && (begins(offset, offset), READS(goblin_note, note, h, &range, alignment, offset)); i++) {
+        goblin_note_t whole;
+        bool is_whole = READS(goblin_note_bytes, whole, h, &range, alignment, offset);
+        if (!is_whole && range.size <= UINT64_MAX - range.offset && note.desc.offset + note.desc.size <= range.offset + range.size)
+            wrong("goblin_note_bytes", GOBLIN_OK);
+        if (is_whole) inside("whole name", whole.name), inside("whole desc", whole.desc);
+        if (is_whole && (whole.desc.offset != note.desc.offset || whole.desc.size != note.desc.size || whole.next != note.next
+                         || whole.n_type != note.n_type || whole.name.offset != note.name.offset
+                         || note.name.size != whole.name.size - (whole.name.size > 0)))
+            wrong("goblin_note_bytes", GOBLIN_OK);
         inside("name", note.name), inside("desc", note.desc);
         if (note.next <= offset) wrong("next", GOBLIN_OK);
         offset = note.next;

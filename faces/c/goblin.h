@@ -126,7 +126,11 @@ enum {
 enum {
     GOBLIN_INVALID_UTF8 = 1,
     GOBLIN_SECTION_HEADERS = 2,
-    GOBLIN_PROGRAM_HEADERS = 3
+    GOBLIN_PROGRAM_HEADERS = 3,
+    /* The part of a note that goblin_note_bytes does not find. goblin_refusal_text has no words for these. */
+    GOBLIN_NOTE_HEADER = 4,
+    GOBLIN_NOTE_NAME = 5,
+    GOBLIN_NOTE_DESC = 6
 };
 
 /* Why a file is refused. */
@@ -215,7 +219,7 @@ typedef struct {
 
 /* A note. */
 typedef struct {
-    goblin_range_t name; /* its name, which is UTF-8, without the zero byte at its end */
+    goblin_range_t name; /* its name, which is UTF-8, without the zero byte at its end; of goblin_note_bytes the whole name */
     goblin_range_t desc; /* its descriptor */
     uint64_t next;       /* the offset to read the next note at, which may lie past the end of the file */
     uint32_t n_type;     /* its type, whose meaning depends on the name */
@@ -428,6 +432,17 @@ GOBLIN_CALL uint32_t goblin_relocs(const uint8_t *bytes, size_t len, const gobli
    Example: goblin_note(bytes, len, &header, &section.file, section.sh_addralign, section.file.offset, &note, &why); */
 GOBLIN_CALL uint32_t goblin_note(const uint8_t *bytes, size_t len, const goblin_header_t *header, const goblin_range_t *notes,
                                  uint64_t alignment, uint64_t offset, goblin_note_t *note, goblin_refusal_t *why);
+
+/* Reads the note at an offset of the file as goblin_note does, with two differences. Its name need not be UTF-8, and `name` is all of
+   it, as many bytes as the note says: with the zero byte that closes it and any others at its end. And the note must lie in the range:
+   its header, its name and its descriptor must be inside both the range and the file.
+   GOBLIN_END as for goblin_note. Then, in this order. GOBLIN_NOTE_ALIGN: the alignment is neither 4 nor 8. GOBLIN_BAD_OFFSET or
+   GOBLIN_TOO_BIG: the header, the name or the descriptor is not inside. `item` is then GOBLIN_NOTE_HEADER, GOBLIN_NOTE_NAME or
+   GOBLIN_NOTE_DESC, and the numbers count from the start of the note up to the end of the range or of the file.
+   If goblin_note finds a note whose descriptor is inside the range, this call finds the same one, with its longer name.
+   Example: goblin_note_bytes(bytes, len, &header, &section.file, section.sh_addralign, section.file.offset, &note, &why); */
+GOBLIN_CALL uint32_t goblin_note_bytes(const uint8_t *bytes, size_t len, const goblin_header_t *header, const goblin_range_t *notes,
+                                       uint64_t alignment, uint64_t offset, goblin_note_t *note, goblin_refusal_t *why);
 
 /* ---- strings ---- */
 
@@ -675,6 +690,13 @@ GOBLIN_CALL uint32_t goblin_note(const uint8_t *bytes, size_t len, const goblin_
                                  uint64_t alignment, uint64_t offset, goblin_note_t *note, goblin_refusal_t *why) {
     goblin_refusal_t unread;
     return goblin_c_note(bytes, len, header, notes, alignment, offset, note, why ? why : &unread);
+}
+uint32_t goblin_c_note_bytes(const uint8_t *bytes, size_t len, const goblin_header_t *header, const goblin_range_t *notes,
+                             uint64_t alignment, uint64_t offset, goblin_note_t *note, goblin_refusal_t *why);
+GOBLIN_CALL uint32_t goblin_note_bytes(const uint8_t *bytes, size_t len, const goblin_header_t *header, const goblin_range_t *notes,
+                                       uint64_t alignment, uint64_t offset, goblin_note_t *note, goblin_refusal_t *why) {
+    goblin_refusal_t unread;
+    return goblin_c_note_bytes(bytes, len, header, notes, alignment, offset, note, why ? why : &unread);
 }
 uint32_t goblin_c_string(const uint8_t *bytes, size_t len, const goblin_range_t *strings, uint64_t offset,
                          goblin_range_t *string, goblin_refusal_t *why);

@@ -163,6 +163,11 @@ static void read_all(void) {
     same("goblin_reloc", goblin_reloc(file, sizeof file, h, &relocs, true, 2, &got.reloc, why), GOBLIN_END);
     same("goblin_note", goblin_note(file, sizeof file, h, &notes, 4, 0x900, &got.note, why), GOBLIN_OK);
     same("goblin_note", goblin_note(file, sizeof file, h, &notes, 4, got.note.next, &got.note, why), GOBLIN_END);
+    goblin_note_t whole;
+    same("goblin_note_bytes", goblin_note_bytes(file, sizeof file, h, &notes, 4, 0x900, &whole, why), GOBLIN_OK);
+    same("goblin_note_bytes.name", whole.name.offset << 16 | whole.name.size, wanted.note.name.offset << 16 | 8);
+    same("goblin_note_bytes.desc", whole.desc.offset << 16 | whole.desc.size, wanted.note.desc.offset << 16 | 5);
+    same("goblin_note_bytes.next", whole.next << 32 | whole.n_type, wanted.note.next << 32 | wanted.note.n_type);
     /* In a little-endian MIPS64 file the bytes of the type are in the other order. */
     goblin_header_t mips = *h;
     mips.e_machine = 8;
@@ -215,6 +220,21 @@ static void refuse_all(void) {
     refused("string of 0xee", goblin_string(file, sizeof file, &names, 0, &text, &why), GOBLIN_BAD_INPUT, &why, names.offset);
     same("string of 0xee, item", why.item, GOBLIN_INVALID_UTF8);
     refused("alignment 16", goblin_note(file, sizeof file, &h, &names, 16, names.offset, &n, &why), GOBLIN_NOTE_ALIGN, &why, names.offset);
+    note(&n);
+    goblin_range_t cut = {0x900, 0};
+    static const struct { uint64_t size; uint32_t status, item; } cuts[] = {
+        {11, GOBLIN_TOO_BIG, GOBLIN_NOTE_HEADER}, {12, GOBLIN_BAD_OFFSET, GOBLIN_NOTE_NAME}, {19, GOBLIN_TOO_BIG, GOBLIN_NOTE_NAME},
+        {20, GOBLIN_BAD_OFFSET, GOBLIN_NOTE_DESC}, {24, GOBLIN_TOO_BIG, GOBLIN_NOTE_DESC}};
+    for (size_t i = 0; i < sizeof cuts / sizeof *cuts; i++) {
+        cut.size = cuts[i].size;
+        refused("a note past its range", goblin_note_bytes(file, sizeof file, &h, &cut, 4, 0x900, &n, &why), cuts[i].status, &why, 0x900);
+        same("a note past its range, item", why.item, cuts[i].item);
+    }
+    cut.size = 25, file[0x900 + 12] = 0xee;
+    same("a name that is not UTF-8", goblin_note(file, sizeof file, &h, &cut, 4, 0x900, &n, &why), GOBLIN_BAD_INPUT);
+    same("a name that is not UTF-8", goblin_note_bytes(file, sizeof file, &h, &cut, 4, 0x900, &n, &why), GOBLIN_OK);
+    refused("alignment 16", goblin_note_bytes(file, sizeof file, &h, &cut, 16, 0x900, &n, &why), GOBLIN_NOTE_ALIGN, &why, 0x900);
+    same("alignment 16, item", why.item, 0);
     refused("symbols at the end", goblin_symbol(file, sizeof file, &h, &range, 0, &y, &why), GOBLIN_SYMTAB_OFFSET, &why, range.offset);
     range.offset--, range.size = 24;
     refused("symbols past the end", goblin_symbol(file, sizeof file, &h, &range, 0, &y, &why), GOBLIN_SYMTAB_PAST, &why, range.offset);
@@ -265,6 +285,8 @@ static void call_with_nulls(goblin_refusal_t *why) {
     same("null: relocs", goblin_relocs(NULL, 0, &h, &none, false, 0, NULL, 0, &number, why), GOBLIN_END);
     same("null: note", goblin_note(NULL, 0, &h, &none, 4, 0, &n, why), GOBLIN_END);
     same("null: note", goblin_note(NULL, 0, &h, &some, 4, 0, &n, why), GOBLIN_BAD_OFFSET);
+    same("null: note bytes", goblin_note_bytes(NULL, 0, &h, &none, 4, 0, &n, why), GOBLIN_END);
+    same("null: note bytes", goblin_note_bytes(NULL, 0, &h, &some, 4, 0, &n, why), GOBLIN_BAD_OFFSET);
     same("null: segment count", goblin_segment_count(NULL, 0, &h, &number, why), GOBLIN_OK);
     same("null: symbol count", goblin_symbol_count(NULL, 0, &h, &none, &number, why), GOBLIN_SYMTAB_OFFSET);
     same("null: reloc count", goblin_reloc_count(NULL, 0, &h, &none, true, &number, why), GOBLIN_OK);

@@ -7,3 +7,4 @@ pub mod SearchLemmas
 pub mod StepLemmas
 pub mod StringLemmas
 pub mod TextLemmas
+pub mod WindowLemmas

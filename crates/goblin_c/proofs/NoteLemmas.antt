@@ -1,22 +1,25 @@
 -- Notes one by one are the items of their range.
-use Rattle.std.proofs.Common.{◌≡◌, ◌+◌, ◌≤◌, ℕ, zero, suc, Bool, true, false, nat_le, if◌then◌else◌, List, [], ◌∷◌}
-use Rattle.std.proofs.Common.{take, drop, Option, Some, None, Result, Ok, Err, refl, sym, ap, subst, ◌∙◌, arith}
+use Rattle.std.proofs.Common.{◌≡◌, ◌+◌, ◌-◌, ◌<◌, ◌≤◌, ℕ, zero, suc, Bool, true, false, nat_le, if◌then◌else◌, List}
+use Rattle.std.proofs.Common.{[], ◌∷◌}
+use Rattle.std.proofs.Common.{length, take, drop, Option, Some, None, Result, Ok, Err, refl, sym, ap, subst, ◌∙◌, arith}
+use Rattle.std.proofs.lemmas.Bool.{leb-false}
+use Rattle.std.proofs.lemmas.List.{drop-take}
 use Rattle.std.proofs.Math.Seq.{drop-drop, take-nil}
 use Rattle.goblin_base.specs.declared.container.Ctx.{Ctx}
-use Rattle.goblin_base.specs.Refusal.{Refusal}
-use Rattle.goblin_base.specs.Steps.{◌>>=◌}
+use Rattle.goblin_base.specs.Refusal.{Refusal, bad_offset}
+use Rattle.goblin_base.specs.Steps.{◌>>=◌, refuse_if}
 use Rattle.goblin.specs.declared.elf.note.NotePlaces.{NotePlaces}
-use Rattle.goblin.specs.Nhdr.{nhdr32_size}
-use Rattle.goblin.specs.Note.{NoteParts, note_there, places_at, note_at, note_items, item_and_rest}
-use Rattle.goblin.specs.NoteLaws.{at_ok, note_by_note, places_lie_within}
+use Rattle.goblin.specs.Nhdr.{nhdr32_of, nhdr32_size}
+use Rattle.goblin.specs.Note.{NoteParts, note_there, places_at, note_at, note_items, item_and_rest, read_places}
+use Rattle.goblin.specs.NoteLaws.{at_ok, note_by_note, places_lie_within, whole_is_note}
 use Rattle.goblin_c.specs.Refused.{RefusalAt, refused_at}
 use Rattle.goblin_c.specs.declared.types.GoblinHeader.{GoblinHeader}
 use Rattle.goblin_c.specs.declared.types.GoblinNote.{GoblinNote}
 use Rattle.goblin_c.specs.declared.types.GoblinRange.{GoblinRange}
 use Rattle.goblin_c.specs.Answers.{ctx_of}
-use Rattle.goblin_c.specs.Notes.{note_expected, note_converted}
+use Rattle.goblin_c.specs.Notes.{bytes_from, note_expected, note_converted}
 use Rattle.goblin_c.specs.Laws.{LiesIn, NotesAreItems, NotesInARow, NotesLieInFile, items_reported, note_in}
-use Rattle.goblin_c.specs.Laws.{notes_reported}
+use Rattle.goblin_c.specs.Laws.{WholeNotesAreNotes, notes_reported}
 use Rattle.goblin_c.proofs.StepLemmas.{one_converted}
 
 -- the note that a file has at the ranges of a stored one is the one that its bytes from the offset on have at theirs
@@ -88,3 +91,38 @@ notes_lie_in_file bytes h range alignment offset note is =
     subst (λ (n : GoblinNote). LiesIn bytes n.name × LiesIn bytes n.desc × (offset + nhdr32_size ≤ n.next))
     (sym steps.3)
     (within.name, within.desc, omega (arith, within.least))
+
+-- a note that is read at an offset is read from there on
+read_there : (past : Bool) (refusal : Refusal) (answer : Result NotePlaces Refusal) (places : NotePlaces)
+    → (refuse_if past refusal >>= λ _. answer) ≡ Ok places → answer ≡ Ok places
+read_there true refusal answer places is = absurd (cc)
+read_there false refusal answer places is = is
+
+read_at : (bytes : List ℕ) (offset : ℕ) (ctx : ℕ × Ctx) (places : NotePlaces)
+    → places_at bytes offset ctx ≡ Ok places → read_places ctx.0 ctx.1.le (drop offset bytes) ≡ Ok places
+unfolding places_at
+read_at bytes offset ctx places is =
+    read_there (nat_le (length bytes) offset) (bad_offset offset) (read_places ctx.0 ctx.1.le (drop offset bytes))
+    places is
+
+pub whole_notes_are_notes : WholeNotesAreNotes
+whole_notes_are_notes bytes h range alignment offset note is within =
+    let ctx : ℕ × Ctx = (alignment, ctx_of h) in
+    let end = range.offset + range.size in
+    let steps = one_converted (nat_le end offset) offset (places_at bytes offset ctx) (note_converted offset) note is in
+    let places = steps.0 in
+    let before : offset < end = leb-false end offset steps.1 in
+    let enough : offset + (end - offset) ≡ end = omega (arith, before) in
+    let part : bytes_from bytes range offset ≡ take (end - offset) (drop offset bytes) =
+    ap (λ (k : ℕ). drop offset (take k bytes)) (sym enough) ∙ drop-take offset (end - offset) bytes in
+    let last = ap (λ (n : GoblinNote). n.desc.offset + n.desc.size) steps.3 in
+    let room : places.desc + places.desc_size ≤ end - offset = omega (arith, within, before, last) in
+    let whole = whole_is_note alignment (ctx_of h).le (drop offset bytes) (end - offset) places
+    (read_at bytes offset ctx places steps.2) room in
+    let size = (nhdr32_of (ctx_of h).le (drop offset bytes)).n_namesz in (
+      size,
+      ap (λ (n : GoblinNote). n.name.size) steps.3 ∙ whole.0,
+      rw (steps.1, part, whole.1)
+          (ap (λ (n : GoblinNote).
+          Ok (Some (record n { name = record { offset = n.name.offset; size = size } }))) (sym steps.3)),
+    )

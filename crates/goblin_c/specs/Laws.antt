@@ -1,6 +1,6 @@
 -- Laws of the calls: the items that they store one by one are those that the library reads at once.
-use Rattle.std.specs.Prelude.{◌≡◌, ◌≢◌, ◌↔◌, ◌⊎◌, ◌+◌, ◌/◌, ◌<◌, ◌≤◌, ℕ, zero, suc, min, Bool, List, [], ◌∷◌, length}
-use Rattle.std.specs.Prelude.{take, drop, slice_get, Option, Some, None, Result, Ok, Err}
+use Rattle.std.specs.Prelude.{◌≡◌, ◌≢◌, ◌↔◌, ◌⊎◌, ◌+◌, ◌-◌, ◌/◌, ◌<◌, ◌≤◌, ℕ, zero, suc, min, Bool, List, [], ◌∷◌}
+use Rattle.std.specs.Prelude.{length, take, drop, slice_get, Option, Some, None, Result, Ok, Err}
 use Rattle.std.specs.Option.{option_map}
 use Rattle.goblin_base.specs.declared.container.Ctx.{Ctx}
 use Rattle.goblin_base.specs.declared.error.Fault.TheVariants.{InvalidClass, InvalidEndianness}
@@ -31,7 +31,7 @@ use Rattle.goblin_c.specs.Answers.{symbol_by_name_expected, strings_expected, ta
 use Rattle.goblin_c.specs.Bytes.{section_bytes_expected, segment_bytes_expected, string_bytes_expected}
 use Rattle.goblin_c.specs.Bytes.{string_is_expected, string_starts_expected}
 use Rattle.goblin_c.specs.Laid.{closed, laid}
-use Rattle.goblin_c.specs.Notes.{note_expected}
+use Rattle.goblin_c.specs.Notes.{note_bytes_expected, note_expected}
 use Rattle.goblin_c.specs.Status.{refusal_converted}
 use Rattle.goblin_c.specs.declared.types.GoblinHeader.{GoblinHeader}
 use Rattle.goblin_c.specs.declared.types.GoblinNote.{GoblinNote}
@@ -325,3 +325,14 @@ StringsAreCompared =
     → (string_is_expected bytes range offset text ≡ Ok (Some tt) ↔ (bytes_in bytes found ≡ text))
     × (string_starts_expected bytes range offset text ≡ Ok (Some tt)
     ↔ (take (length text) (bytes_in bytes found) ≡ text))
+
+-- a note that a call stores, and whose descriptor lies in the range, is the one that is stored as a whole note; only
+-- its name is longer, by the byte that closes it
+abbrev pub WholeNotesAreNotes : Type 0
+WholeNotesAreNotes =
+    (bytes : List ℕ) (h : GoblinHeader) (range : GoblinRange) (alignment offset : ℕ) (note : GoblinNote)
+    → note_expected bytes h range alignment offset ≡ Ok (Some note)
+    → note.desc.offset + note.desc.size ≤ range.offset + range.size
+    → (size : ℕ) × (note.name.size ≡ size - 1)
+    × (note_bytes_expected bytes h range alignment offset
+    ≡ Ok (Some (record note { name = record { offset = note.name.offset; size = size } })))

@@ -14,10 +14,19 @@ pub const SECTION_HEADERS: u32 = 2;
 /// The text "program headers".
 pub const PROGRAM_HEADERS: u32 = 3;
 
+/// A note's header, which the range doesn't hold.
+pub const NOTE_HEADER: u32 = 4;
+/// A note's name, which the range doesn't hold.
+pub const NOTE_NAME: u32 = 5;
+/// A note's descriptor, which the range doesn't hold.
+pub const NOTE_DESC: u32 = 6;
+
 /// Laws: the number of each constant.
 pub fn constants()
     ensures answers { OK ∷ END ∷ []
         ≡ 0 ∷ 1 ∷ [] }
     ensures items { INVALID_UTF8 ∷ SECTION_HEADERS ∷ PROGRAM_HEADERS ∷ []
         ≡ 1 ∷ 2 ∷ 3 ∷ [] }
+    ensures notes { NOTE_HEADER ∷ NOTE_NAME ∷ NOTE_DESC ∷ []
+        ≡ 4 ∷ 5 ∷ 6 ∷ [] }
 {}

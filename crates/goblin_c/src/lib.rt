@@ -7,7 +7,7 @@ ghost use Rattle.goblin_c.specs.Answers.{header_expected, reloc_count_expected, 
 ghost use Rattle.goblin_c.specs.Bytes.{number_expected, section_bytes_expected, segment_bytes_expected, string_bytes_expected, string_is_expected, string_starts_expected};
 ghost use Rattle.goblin_c.specs.Laid.{closed, laid};
 ghost use Rattle.goblin_c.specs.Layout.{layout};
-ghost use Rattle.goblin_c.specs.Notes.{note_expected};
+ghost use Rattle.goblin_c.specs.Notes.{StoresNote, note_bytes_expected, note_expected};
 ghost use Rattle.goblin_c.specs.Status.{Fills, Stores};
 ghost use Rattle.goblin_c.specs.Texts.{converted_text};
 ghost use Rattle.goblin.specs.HeaderNames.{class_name, type_name as file_type_name};
@@ -44,7 +44,7 @@ use goblin::elf::sym::{bind_to_str, type_to_str, visibility_to_str};
 use headers::{header_at, section_by_type, section_names, sections_of, segments_of, table_section};
 use layout::{GoblinLayout, marked_layout};
 use lists::{count_of, item_of, store_from};
-use notes::{note_from, note_type};
+use notes::{note_from, note_type, store_note};
 use status::store;
 use strings::string_at;
 use tables::{relocs_of, section_by_name, symbol_by_address, symbol_by_name, symbols_of};
@@ -197,6 +197,25 @@ pub extern "C" fn goblin_c_note(
 {
     let found = note_from(bytes, header, notes, alignment, offset);
     store(found, note, why)
+}
+
+/// Stores the note at an offset of the file as `goblin_c_note` does, but with all of its name, UTF-8 or not, if the note
+/// lies in the range whole.
+#[unsafe(no_mangle)]
+pub extern "C" fn goblin_c_note_bytes(
+    bytes: &[u8],
+    header: &GoblinHeader,
+    notes: &GoblinRange,
+    alignment: u64,
+    offset: u64,
+    note: &mut GoblinNote,
+    why: &mut GoblinRefusal,
+) -> u32
+    ensures { StoresNote offset
+        (note_bytes_expected bytes.now header.now notes.now alignment offset)
+        note.old why.old result note.new why.new }
+{
+    store_note(bytes, header, notes, alignment, offset, note, why)
 }
 
 /// Writes the name of a class.

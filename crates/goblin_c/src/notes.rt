@@ -1,13 +1,16 @@
 //! Notes, as the library reads them, and the names of their types.
-ghost use Rattle.std.specs.Prelude.{◌≡◌};
+ghost use Rattle.std.specs.Prelude.{◌≡◌, ◌+◌, ◌-◌, ◌<◌, ◌≤◌, ◌^◌, length, take};
+ghost use Rattle.goblin.specs.Refusal.{refusal_of};
 ghost use Rattle.goblin.specs.NoteType.{note_type_name};
 ghost use Rattle.goblin_c.specs.Refused.{Answers};
-ghost use Rattle.goblin_c.specs.Notes.{note_expected};
+ghost use Rattle.goblin_c.specs.Notes.{StoresNote, bytes_from, note_bytes_expected, note_converted, note_expected, part_converted, part_number};
 
 use crate::headers::ctx_of;
-use crate::refused::{Result, refused_at};
-use crate::types::{GoblinHeader, GoblinNote, GoblinRange};
-use goblin::elf::note::Note;
+use crate::kinds::{END, NOTE_DESC, NOTE_HEADER, NOTE_NAME, OK};
+use crate::refused::{Refused, Result, refused_at};
+use crate::status::refuse;
+use crate::types::{GoblinHeader, GoblinNote, GoblinRange, GoblinRefusal};
+use goblin::elf::note::{Note, NotePart, NotePlaces, NoteRefusal};
 
 /// Returns the note at an offset, among those of a range.
 pub fn note_from(
@@ -25,7 +28,17 @@ pub fn note_from(
     }
     let ctx = (alignment as usize, ctx_of(header));
     let (_, places) = refused_at(offset, Note::at(bytes, offset as usize, ctx))?;
-    Ok(Some(GoblinNote {
+    Ok(Some(convert_note(offset, &places)))
+}
+
+// Converts the note at an offset, whose parts are at these places.
+fn convert_note(offset: u64, places: &NotePlaces) -> GoblinNote
+    requires name { offset + places.now.name < 2 ^ 64 }
+    requires desc { offset + places.now.desc < 2 ^ 64 }
+    requires next { offset + places.now.next < 2 ^ 64 }
+    ensures { result ≡ note_converted offset places.now }
+{
+    GoblinNote {
         name: GoblinRange {
             offset: offset + places.name as u64,
             size: places.name_size as u64,
@@ -36,7 +49,88 @@ pub fn note_from(
         },
         next: offset + places.next as u64,
         n_type: places.n_type,
-    }))
+    }
+}
+
+// Returns the bytes up to the end of a range.
+#[tactic(auto, using(crate::proofs::WindowLemmas::windows))]
+fn bytes_up_to<'a>(bytes: &'a [u8], range: &GoblinRange) -> &'a [u8]
+    ensures { result.now ≡ take (range.now.offset + range.now.size) bytes.now }
+{
+    match range.offset.checked_add(range.size) {
+        Some(end) if end <= bytes.len() as u64 => &bytes[..end as usize],
+        _ => bytes,
+    }
+}
+
+// Returns the bytes of a range from an offset of the file on.
+#[tactic(auto, using(crate::proofs::WindowLemmas::windows))]
+fn bytes_from<'a>(bytes: &'a [u8], range: &GoblinRange, offset: u64) -> &'a [u8]
+    ensures exact { result.now ≡ bytes_from bytes.now range.now offset }
+    ensures fits { length result.now ≤ length bytes.now - offset }
+{
+    let part = bytes_up_to(bytes, range);
+    if offset >= part.len() as u64 {
+        return &[];
+    }
+    &part[offset as usize..]
+}
+
+// Returns the number of a part of a note, or 0 for none.
+fn part_number(part: &Option<NotePart>) -> u32
+    ensures { result ≡ part_number part.now }
+{
+    match part {
+        None => 0,
+        Some(NotePart::Header) => NOTE_HEADER,
+        Some(NotePart::Name) => NOTE_NAME,
+        Some(NotePart::Desc) => NOTE_DESC,
+    }
+}
+
+// Stores the refusal of the note at an offset. Returns the number of its kind.
+fn refuse_note(e: NoteRefusal, offset: u64, why: &mut GoblinRefusal) -> u32
+    ensures written { why.new ≡ part_converted offset (record { part = e.part; refusal = refusal_of e.error }) }
+    ensures exact { result ≡ (part_converted offset (record { part = e.part; refusal = refusal_of e.error })).kind }
+{
+    let item = part_number(&e.part);
+    let kind = refuse(
+        &Refused {
+            error: e.error,
+            offset,
+        },
+        why,
+    );
+    why.item = item;
+    kind
+}
+
+/// Stores the whole note at an offset, or its refusal. Returns 0 for a note, 1 past the range's end, or the number of the
+/// kind.
+pub fn store_note(
+    bytes: &[u8],
+    header: &GoblinHeader,
+    range: &GoblinRange,
+    alignment: u64,
+    offset: u64,
+    note: &mut GoblinNote,
+    why: &mut GoblinRefusal,
+) -> u32
+    ensures { StoresNote offset
+        (note_bytes_expected bytes.now header.now range.now alignment offset)
+        note.old why.old result note.new why.new }
+{
+    if offset >= range.offset && offset - range.offset >= range.size {
+        return END;
+    }
+    let part = bytes_from(bytes, range, offset);
+    match NotePlaces::whole(part, (alignment as usize, ctx_of(header))) {
+        Ok(places) => {
+            *note = convert_note(offset, &places);
+            OK
+        }
+        Err(e) => refuse_note(e, offset, why),
+    }
 }
 
 // Returns the name of the type of a note, whose own name is UTF-8.

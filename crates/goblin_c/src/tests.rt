@@ -408,9 +408,24 @@ fn reads_note() -> bool {
     status == 0 && parts && found.desc.size == 4 && found.next == 20 && found.n_type == 3
 }
 
+// The status for the whole note in a range of a size, with the size of its name and the next offset, or with the item and
+// the first number of its refusal.
+fn whole_note(size: u64) -> (u32, u64, u64) {
+    let mark = marked_layout().note;
+    let (status, found, why) = called!(
+        goblin_c_note_bytes(NOTE, &header(), &range(0, size), 4, 0),
+        mark
+    );
+    if status > 1 {
+        return (status, why.item as u64, why.first);
+    }
+    (status, found.name.size, found.next)
+}
+
 #[test]
 fn reads_notes(rt: HostRuntime) {
     assert!(rt; reads_note());
+    assert!(rt; whole_note(20) == (0, 4, 20) && whole_note(19) == (3, 6, 4));
     assert!(rt; note_with(16).0 == 16);
 }
 
