@@ -20,7 +20,9 @@
 
    Pointers
      `bytes` points to the `len` bytes of the whole file. A pointer may be null if its length is 0, so an empty file may be null.
-     `why` may be null: then the caller has only the returned number. No other pointer may be null. What a call writes must not overlap anything else that it is given.
+     `why` may be null: then the caller has only the returned number. No other pointer may be null. What a call writes must not
+     overlap anything else that it is given. Names and texts are `const void *`, so a string literal and bytes are both passed
+     without a cast.
 
    Files that change
      Nothing may write the bytes during a call. They may change between two calls, since each call checks all that it reads. But
