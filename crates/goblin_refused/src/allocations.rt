@@ -4,8 +4,8 @@ use std::alloc::Global;
 
 // Reports whether an allocation of one byte is refused.
 fn is_refused(alloc: Global) -> bool {
-    let mut room: Vec<u8> = Vec::new(alloc);
-    room.push(1).is_err()
+    let mut buffer: Vec<u8> = Vec::new(alloc);
+    buffer.push(1).is_err()
 }
 
 /// Makes so many allocations before a call that the call's allocation `number` is the program's allocation `refused`,
