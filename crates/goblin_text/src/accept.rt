@@ -78,8 +78,8 @@ fn sections_of(
     ctx: Ctx,
     opts: &ParseOptions,
 ) -> Result<Vec<SectionHeader>>
-    ensures given { let right = sections_of opts.now.parse_mode file.now.bytes header.now ctx in
-        Gives (λ v. v.items) result right }
+    ensures given { let expected = sections_of opts.now.parse_mode file.now.bytes header.now ctx in
+        Gives (λ v. v.items) result expected }
     ensures tested { let tested = section_headers_of_tested file.now.bytes header.now.e_shoff
         header.now.e_shnum ctx in IfErr tested (λ refusal. Refuses result refusal) }
 {
@@ -116,9 +116,9 @@ struct Context<'b> {
 impl Context<'_> {
     // Returns the string table that a section holds.
     fn strings_of(&self, names: &mut Names<'_>, section: &SectionHeader) -> Result<Strings>
-        ensures given { let right = strings_of self.now.opts.now.parse_mode names.old.bytes
+        ensures given { let expected = strings_of self.now.opts.now.parse_mode names.old.bytes
             (Some section.now) in
-            Answers (strings_in names.old.bytes) result right }
+            Answers (strings_in names.old.bytes) result expected }
         ensures unchanged { names.new.bytes ≡ names.old.bytes }
         ensures looks { IsShort names.old.bytes → LooksByResult names.old names.new result table_looks }
         ensures looks_least { CountsAtLeast names.old.count 0 names.new.count }
@@ -134,9 +134,9 @@ impl Context<'_> {
     // Returns the string table of the section with an index. Index 0 stands for no section.
     #[tactic(auto, unfolding(crate::specs::Shown::strings_at))]
     fn strings_at(&self, names: &mut Names<'_>, index: usize) -> Result<Strings>
-        ensures given { let right = strings_at self.now.opts.now.parse_mode names.old.bytes
+        ensures given { let expected = strings_at self.now.opts.now.parse_mode names.old.bytes
             self.now.sections.now index in
-            Answers (strings_in names.old.bytes) result right }
+            Answers (strings_in names.old.bytes) result expected }
         ensures unchanged { names.new.bytes ≡ names.old.bytes }
         ensures looks { IsShort names.old.bytes → LooksByResult names.old names.new result table_looks }
         ensures looks_least { CountsAtLeast names.old.count 0 names.new.count }
@@ -159,10 +159,10 @@ impl Context<'_> {
         number: usize,
         section: &SectionHeader,
     ) -> Result<()>
-        ensures added { let right = symbols_shown self.now.opts.now.parse_mode file.old.bytes
+        ensures added { let expected = symbols_shown self.now.opts.now.parse_mode file.old.bytes
             self.now.ctx self.now.sections.now number section.now in
             Adds (symbols_text file.old.bytes parts.old.items)
-            (symbols_text file.old.bytes parts.new.items) result right }
+            (symbols_text file.old.bytes parts.new.items) result expected }
         ensures unchanged { file.new.bytes ≡ file.old.bytes }
         ensures looks { IsShort file.old.bytes → LooksByResult file.old file.new result table_looks }
         ensures looks_least { CountsAtLeast file.old.count 0 file.new.count }
@@ -213,9 +213,9 @@ impl Context<'_> {
         number: usize,
         section: &SectionHeader,
     ) -> Result<()>
-        ensures { let right = relocs_shown file.now.bytes self.now.ctx is_mips64el number
+        ensures { let expected = relocs_shown file.now.bytes self.now.ctx is_mips64el number
             section.now in
-            Adds (relocs_text parts.old.items) (relocs_text parts.new.items) result right }
+            Adds (relocs_text parts.old.items) (relocs_text parts.new.items) result expected }
     {
         if !has_relocs(section) {
             return Ok(());
@@ -250,9 +250,9 @@ impl Context<'_> {
     // Accepts the strings of the sections' names, the symbols and the relocations.
     #[tactic(auto, unfolding(crate::specs::Shown::file_shown))]
     fn parts<'a>(&self, alloc: Global, file: &mut FileBytes<'a>) -> Result<Parts<'a>>
-        ensures given { let right = file_shown self.now.opts.now.parse_mode file.old.bytes
+        ensures given { let expected = file_shown self.now.opts.now.parse_mode file.old.bytes
             self.now.header.now self.now.ctx self.now.sections.now in
-            Gives (parts_text file.old.bytes self.now.header.now self.now.sections.now) result right }
+            Gives (parts_text file.old.bytes self.now.header.now self.now.sections.now) result expected }
         ensures unchanged { file.new.bytes ≡ file.old.bytes }
         ensures looks { let most = table_looks * (length self.now.sections.now + 1) in
             IsShort file.old.bytes → LooksByResult file.old file.new result most }
@@ -277,8 +277,8 @@ impl Context<'_> {
 /// # Errors
 ///
 /// The first of these that applies: an error of reading the header; of reading its section headers; under
-/// strict options, a section that doesn't lie in the file, or whose addresses end at the greatest one or past
-/// it; of the table of the sections' names; for each section of symbols, of its symbol table and then of its
+/// strict options, a section that doesn't lie in the file, or whose `sh_addr + sh_size` doesn't fit 64 bits; of the
+/// table of the sections' names; for each section of symbols, of its symbol table and then of its
 /// string table; for each section of relocations, of reading it. Or it is out of memory.
 #[tactic(auto, unfolding(crate::specs::Shown::shown, crate::specs::Shown::tested, crate::specs::Looks::section_count))]
 pub fn accept<'a>(
@@ -286,8 +286,8 @@ pub fn accept<'a>(
     file: &mut FileBytes<'a>,
     opts: &ParseOptions,
 ) -> Result<Accepted<'a>>
-    ensures text { let right = shown opts.now.parse_mode file.old.bytes in
-        Gives (accepted_text file.old.bytes) result right }
+    ensures text { let expected = shown opts.now.parse_mode file.old.bytes in
+        Gives (accepted_text file.old.bytes) result expected }
 
     // Out of memory masks no refusal of the header, and none of the section headers' first tests.
     ensures tested { IfErr (tested file.old.bytes) (λ refusal. Refuses result refusal) }

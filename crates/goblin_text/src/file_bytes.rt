@@ -77,8 +77,8 @@ impl<'a> FileBytes<'a> {
         count: usize,
         ctx: Ctx,
     ) -> Result<Vec<SectionHeader>>
-        ensures given { let right = section_headers_of self.now.bytes offset count ctx in
-            Gives (λ v. v.items) result right }
+        ensures given { let expected = section_headers_of self.now.bytes offset count ctx in
+            Gives (λ v. v.items) result expected }
         ensures tested { IfErr (section_headers_of_tested self.now.bytes offset count ctx)
             (λ refusal. Refuses result refusal) }
     {

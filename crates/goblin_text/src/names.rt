@@ -94,8 +94,8 @@ impl<'a> Names<'a> {
     ///
     /// Those of `Strtab::parse_with_opts`.
     pub fn table(&mut self, offset: usize, size: usize, opts: &ParseOptions) -> Result<Strings>
-        ensures given { let right = strtab_of opts.now.parse_mode self.old.bytes offset size 0 in
-            Answers (strings_in self.old.bytes) result right }
+        ensures given { let expected = strtab_of opts.now.parse_mode self.old.bytes offset size 0 in
+            Answers (strings_in self.old.bytes) result expected }
         ensures unchanged { self.new.bytes ≡ self.old.bytes }
         ensures looks { IsShort self.old.bytes
             → OnOk result (LooksAtMost self.old self.new table_looks) }
