@@ -77,12 +77,12 @@ pub(crate) fn are_unchanged(bytes: &[u8]) -> bool {
 }
 
 // Reports whether these bytes were written at the start, and all after them are unchanged, 0xaa.
-pub(crate) fn has_written(rt: HostRuntime, room: &[u8], bytes: &[u8]) -> bool {
-    let is_written = match room.strip_prefix(bytes) {
+pub(crate) fn has_written(rt: HostRuntime, buffer: &[u8], bytes: &[u8]) -> bool {
+    let is_written = match buffer.strip_prefix(bytes) {
         Some(rest) => are_unchanged(rest),
         None => false,
     };
-    is_written || differs(rt, &room, &bytes)
+    is_written || differs(rt, &buffer, &bytes)
 }
 
 // A number as an error has it, which is never so long.

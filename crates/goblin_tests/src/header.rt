@@ -56,10 +56,10 @@ fn has_either_form(rt: HostRuntime, header: Header, bytes: &'static [u8]) -> boo
 
 // Whether a header of a context has this size, and a new one is put as these bytes.
 fn puts(rt: HostRuntime, ctx: Ctx, bytes: &[u8]) -> bool {
-    let mut room = [0xaa; 70];
-    Header::new(ctx).into_ctx(&mut room, ctx);
+    let mut buffer = [0xaa; 70];
+    Header::new(ctx).into_ctx(&mut buffer, ctx);
     let sizes = (Header::size(ctx), Header::size_with(&ctx));
-    has_written(rt, &room, bytes) && is(rt, sizes, (bytes.len(), bytes.len()))
+    has_written(rt, &buffer, bytes) && is(rt, sizes, (bytes.len(), bytes.len()))
 }
 
 #[test]
@@ -243,10 +243,10 @@ fn is_written_or_refused<R: TryIntoCtx<Endian>>(
     len: usize,
     text: &str,
 ) -> bool {
-    let mut room = [0xaa; 52];
-    let room = &mut room[..len.min(52)];
-    let written = header.try_into_ctx(room, BE);
-    reports(rt, written, text) && is(rt, are_unchanged(room), text != OK)
+    let mut buffer = [0xaa; 52];
+    let buffer = &mut buffer[..len.min(52)];
+    let written = header.try_into_ctx(buffer, BE);
+    reports(rt, written, text) && is(rt, are_unchanged(buffer), text != OK)
 }
 
 fn refuses_to_write(rt: HostRuntime, row: &Unwritten) -> bool {
@@ -266,9 +266,9 @@ fn reads_back(rt: HostRuntime, ctx: Ctx) -> bool {
     let mut header = Header::new(ctx);
     header.e_entry = 0x8000_1234;
     header.e_shstrndx = 0xffff;
-    let mut room = [0; 64];
-    match header.try_into_ctx(&mut room, LE) {
-        Ok(size) => returns(rt, Header::try_from_ctx(&room, LE), (header, size)),
+    let mut buffer = [0; 64];
+    match header.try_into_ctx(&mut buffer, LE) {
+        Ok(size) => returns(rt, Header::try_from_ctx(&buffer, LE), (header, size)),
         Err(e) => differs(rt, &e, &header),
     }
 }

@@ -35,9 +35,9 @@ pub(crate) fn writes<R: TryIntoCtx<C>, C>(
     ctx: C,
     bytes: &[u8],
 ) -> bool {
-    let mut room = [0xaa; 70];
-    let written = record.try_into_ctx(&mut room, ctx);
-    returns(rt, written, bytes.len()) && has_written(rt, &room, bytes)
+    let mut buffer = [0xaa; 70];
+    let written = record.try_into_ctx(&mut buffer, ctx);
+    returns(rt, written, bytes.len()) && has_written(rt, &buffer, bytes)
 }
 
 // Bytes, the first of which are too few for a record.
@@ -62,9 +62,9 @@ pub(crate) fn refuses<R: TryIntoCtx<C>, C>(
     len: usize,
     text: &str,
 ) -> bool {
-    let mut room = [0xaa; 64];
-    let room = &mut room[..len.min(64)];
-    reports(rt, record.try_into_ctx(room, ctx), text) && has_written(rt, room, b"")
+    let mut buffer = [0xaa; 64];
+    let buffer = &mut buffer[..len.min(64)];
+    reports(rt, record.try_into_ctx(buffer, ctx), text) && has_written(rt, buffer, b"")
 }
 
 // Whether so many are counted, or the answer is an error with this text.

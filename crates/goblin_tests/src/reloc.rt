@@ -72,9 +72,9 @@ fn reads_and_writes_a_relocation_of_each_class_and_order(rt: HostRuntime) {
     }
     let none = Reloc::try_from_ctx(b"", (true, LITTLE32));
     assert!(rt; reports(rt, none, "bad offset 0"));
-    let mut room = [0xaa; 13];
-    CALL.into_ctx(&mut room, (true, LITTLE32));
-    assert!(rt; has_written(rt, &room, RELA_LITTLE));
+    let mut buffer = [0xaa; 13];
+    CALL.into_ctx(&mut buffer, (true, LITTLE32));
+    assert!(rt; has_written(rt, &buffer, RELA_LITTLE));
 }
 
 // Whether a relocation without an addend is read from these bytes and written as them, through the pair or not. That is
@@ -86,10 +86,10 @@ fn goes_through(
     is_pair: bool,
     bytes: &'static [u8],
 ) -> bool {
-    let mut room = [0xaa; 16];
-    let written = reloc.write_inner(&mut room, (false, ctx), is_pair);
+    let mut buffer = [0xaa; 16];
+    let written = reloc.write_inner(&mut buffer, (false, ctx), is_pair);
     returns(rt, written, bytes.len())
-        && has_written(rt, &room, bytes)
+        && has_written(rt, &buffer, bytes)
         && has_form(rt, reloc, without(ctx, is_pair), bytes)
 }
 

@@ -44,9 +44,9 @@ fn section() -> SectionHeader {
 
 // Whether a section header has this form in this context.
 fn is_written(rt: HostRuntime, ctx: Ctx, bytes: &'static [u8]) -> bool {
-    let mut room = [0xaa; 70];
-    section().into_ctx(&mut room, ctx);
-    has_written(rt, &room, bytes)
+    let mut buffer = [0xaa; 70];
+    section().into_ctx(&mut buffer, ctx);
+    has_written(rt, &buffer, bytes)
         && is(rt, SectionHeader::size(ctx), bytes.len())
         && has_form(rt, section(), ctx, bytes)
 }
