@@ -301,7 +301,7 @@ impl<'a> Entries<'a> {
     pub fn is_empty(&self) -> bool
         ensures { IsTrue result ↔ (self.now ≡ []) }
     {
-        self.places.is_empty()
+        self.len() == 0
     }
 
     /// The text of an entry.
@@ -327,7 +327,8 @@ fn ends(places: &Places, closing: usize, i: usize) -> (usize, usize)
     ensures from { result.0 ≡ slice_index places.now i }
     ensures next { result.1 ≡ slice_index_or places.now (i + 1) closing }
 {
-    let next = if i + 1 < places.len() {
+    let count = places.len();
+    let next = if i + 1 < count {
         places.at(i + 1)
     } else {
         closing

@@ -1,5 +1,5 @@
 //! The offsets at which the entries of a string table begin.
-ghost use Rattle.std.specs.Prelude.{◌≡◌, ◌↔◌, ◌+◌, ◌<◌, ◌++◌, [], ◌∷◌, IsTrue, OnOk, length, slice_index};
+ghost use Rattle.std.specs.Prelude.{◌≡◌, ◌<◌, ◌++◌, [], ◌∷◌, OnOk, length, slice_index};
 
 use std::alloc::{AllocError, Global};
 use std::marker::Model;
@@ -52,13 +52,6 @@ impl Places {
         ensures bound { result < usize.MAX }
     {
         self.narrow.len() + self.wide.len()
-    }
-
-    /// Reports whether there are no offsets.
-    pub(crate) fn is_empty(&self) -> bool
-        ensures { IsTrue result ↔ (self.now ≡ []) }
-    {
-        self.len() == 0
     }
 
     /// Returns the offset at an index.
