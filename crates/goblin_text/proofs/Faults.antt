@@ -17,10 +17,8 @@ use Rattle.goblin.specs.TextLaws.{texts-join}
 use Rattle.goblin.specs.Utf8.{invalid_utf8}
 use Rattle.goblin.specs.declared.options.ParseMode.TheVariants.{Strict}
 use Rattle.goblin_base.proofs.PiecesLemmas.{at_end, delim_before, end_before, end_from, end_within, piece_is_range}
-use Rattle.goblin_base.proofs.PiecesLemmas.{start_after_delim, start_after, start_of_front, start_of_start, start_same}
-use Rattle.goblin_base.proofs.PiecesLemmas.{start_to}
+use Rattle.goblin_base.proofs.PiecesLemmas.{start_after, start_of_front, start_of_start, start_to}
 use Rattle.goblin_base.proofs.WalkLemmas.{bad_start_from, first_bad_is, no_bad_start_readable}
-use Rattle.goblin_text.proofs.Ranges.{get_range, length-range}
 use Rattle.goblin_text.specs.StringRanges.{text_table}
 
 module _ (bytes : List ℕ) where
