@@ -1,4 +1,4 @@
-use Rattle.std.proofs.Common.{◌∙◌, sym, arith}
+use Rattle.std.proofs.Common.{arith}
 use Rattle.std.proofs.lemmas.Grind.{common_steps}
 use Rattle.goblin_base.proofs.PlacesLemmas.{more_low, more_high}
 use Rattle.goblin_base.proofs.places.Places.push.Goals as goal
