@@ -38,6 +38,12 @@ pub record IsAddressIndex (symbols : List Sym) (index : List ℕ) : Type 0 where
   pub complete : (k : ℕ)
       → IsPlaced symbols k → (i : ℕ) × (i < length index) × StandsFor symbols (slice_index index i) k
 
+-- a table has one index
+abbrev pub IndexIsUnique : Type 0
+IndexIsUnique =
+    (symbols : List Sym) (index other : List ℕ)
+    → IsAddressIndex symbols index → IsAddressIndex symbols other → index ≡ other
+
 -- Of two entries the first comes before the other by value, or by index if both are equally high.
 pub record IsInOrder (symbols : List Sym) (entry other : ℕ) : Type 0 where
   pub low : value_of symbols entry ≤ value_of symbols other

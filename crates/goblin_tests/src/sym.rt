@@ -263,6 +263,7 @@ fn calls_the_laws_of_symbols() {
     sym64::laws();
     elf::sym::laws();
     elf::sym::addresses();
+    elf::sym::address_indices();
 }
 
 #[test]

@@ -1,6 +1,7 @@
 //! Symbols and symbol tables: System V gABI, "Symbol Table".
 ghost use Rattle.std.specs.Prelude.{◌≡◌, ◌≤◌, ◌<◌, ◌-◌, ◌*◌, ◌^◌, ◌↔◌, [], ◌∷◌, length, slice_get, IsTrue, IfOk, IfErr, IsOk, alloc_error, position};
 ghost use Rattle.std.specs.Option.{option_map};
+ghost use Rattle.goblin.specs.AddressIndex.{IndexIsUnique};
 ghost use Rattle.goblin.specs.Addresses.{has_place, is_below, reaches, symbol_at, taken, SymbolAtComesFirst};
 ghost use Rattle.goblin.specs.Symtab.{symbols_at, symtab_by, symtab_in, symtab_of, DependsOnItsRange, PermissiveKeepsStrict};
 ghost use Rattle.goblin_base.specs.Strtab.{has_name, unparsed};
@@ -381,4 +382,10 @@ pub fn laws()
 /// is at the address or below it.
 pub fn addresses()
     ensures { SymbolAtComesFirst }
+{}
+
+/// A law: a table has one index of its addresses. So [`Symtab::address_index`] stores the same entries
+/// in each buffer that has room for them.
+pub fn address_indices()
+    ensures { IndexIsUnique }
 {}
