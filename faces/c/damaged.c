@@ -169,6 +169,30 @@ static void notes(const goblin_header_t *h, goblin_range_t range) {
         if (status == GOBLIN_OK && filled < capacity && READS(one, single, __VA_ARGS__, first + filled)) wrong(#all, status); \
     } while (0)
 
+/* Finds a symbol by an address: among all symbols, in an index, and in an array of other numbers. */
+static void by_address(const goblin_header_t *h, goblin_range_t range) {
+    uint64_t address = any(2) ? any(0x100) : odd(), indices[BATCH], number, same, filled = 0;
+    goblin_symbol_t below;
+    bool is_found = READS(goblin_symbol_by_address, number, h, &range, address);
+    if (is_found && (!READS(goblin_symbol, below, h, &range, number) || below.st_value > address))
+        wrong("goblin_symbol_by_address", GOBLIN_OK);
+    size_t capacity = (size_t)any(BATCH + 1);
+    blank(indices, sizeof indices);
+    uint32_t status = goblin_address_index(bytes, len, h, &range, indices, capacity, &filled, &why);
+    if (filled > capacity || (status != GOBLIN_OK && filled != 0)) wrong("goblin_address_index", status), filled = 0;
+    check("goblin_address_index", status, indices, status == GOBLIN_OK ? 0 : sizeof indices);
+    if (!is_blank(indices + capacity, sizeof *indices * (BATCH - capacity))) wrong("goblin_address_index: after the array", status);
+    add(indices, sizeof *indices * (size_t)filled);
+    if (status == GOBLIN_OK
+        && (READS(goblin_symbol_by_address_in, same, h, &range, indices, (size_t)filled, address) != is_found
+            || (is_found && same != number)))
+        wrong("goblin_symbol_by_address_in", GOBLIN_OK);
+    for (int i = 0; i < BATCH; i++) indices[i] = any(2) ? any(9) : odd();
+    if (READS(goblin_symbol_by_address_in, number, h, &range, indices, capacity, address)
+        && (!READS(goblin_symbol, below, h, &range, number) || below.st_value > address))
+        wrong("goblin_symbol_by_address_in: other numbers", GOBLIN_OK);
+}
+
 /* Reads a range as symbols, as relocations and as notes, and searches for the names. */
 static void table(const goblin_header_t *h, goblin_range_t range, goblin_range_t names) {
     if (any(4) == 0) range = odd_range();
@@ -228,12 +252,7 @@ static void table(const goblin_header_t *h, goblin_range_t range, goblin_range_t
         if (!READS(goblin_symbol, last, h, &range, number - 1) || READS(goblin_symbol, last, h, &range, number))
             wrong("goblin_symbol_count", GOBLIN_OK);
     }
-    uint64_t address = any(2) ? any(0x100) : odd();
-    if (READS(goblin_symbol_by_address, number, h, &range, address)) {
-        goblin_symbol_t below;
-        if (!READS(goblin_symbol, below, h, &range, number) || below.st_value > address)
-            wrong("goblin_symbol_by_address", GOBLIN_OK);
-    }
+    by_address(h, range);
     if (READS(goblin_reloc_count, number, h, &range, is_rela) && number > 0) {
         goblin_reloc_t last;
         if (!READS(goblin_reloc, last, h, &range, is_rela, number - 1) || READS(goblin_reloc, last, h, &range, is_rela, number))

@@ -45,7 +45,7 @@
      Each call has an example. All are compiled with these variables:
        const uint8_t *bytes; size_t len; goblin_header_t header; goblin_refusal_t why; goblin_range_t range, string;
        goblin_section_t section, table, names, sections[64]; goblin_segment_t segment; goblin_symbol_t symbol, symbols[64];
-       goblin_reloc_t reloc, relocs[64]; goblin_note_t note; uint64_t count, index, filled, value; char text[160]; */
+       goblin_reloc_t reloc, relocs[64]; goblin_note_t note; uint64_t count, index, filled, value, indices[64]; char text[160]; */
 #ifndef GOBLIN_H
 #define GOBLIN_H
 
@@ -380,7 +380,7 @@ GOBLIN_CALL uint32_t goblin_symbol_by_name(const uint8_t *bytes, size_t len, con
 /* Finds the index of the symbol for an address: the symbol with the highest st_value that is not above the address. Of those with
    the same st_value it is the first whose st_size reaches the address, or the first if none does. Only symbols of a section
    (st_shndx from 1 to 0xfeff, or 0xffff) and of type GOBLIN_STT_NOTYPE, _OBJECT, _FUNC or _GNU_IFUNC count. GOBLIN_END if none is
-   at the address or below it. Each call reads all symbols. Refused as goblin_symbol is.
+   at the address or below it. Each call reads all symbols; for many addresses make an index. Refused as goblin_symbol is.
    The symbol may end before the address: compare st_value + st_size with it, if st_size is not 0. If a symbol `inner` lies inside a
    symbol `outer`, an address after the end of `inner` gives `inner`, too. In a file of type GOBLIN_ET_REL an st_value is an offset
    in a section, so symbols of different sections mix.
@@ -388,6 +388,25 @@ GOBLIN_CALL uint32_t goblin_symbol_by_name(const uint8_t *bytes, size_t len, con
 GOBLIN_CALL uint32_t goblin_symbol_by_address(const uint8_t *bytes, size_t len, const goblin_header_t *header,
                                               const goblin_range_t *table, uint64_t address, uint64_t *index,
                                               goblin_refusal_t *why);
+
+/* Stores an index of the addresses of a symbol table, for goblin_symbol_by_address_in. The array `indices` has `capacity` elements. It
+   needs one for each symbol that goblin_symbol_by_address considers, so the number that goblin_symbol_count stores is always enough.
+   GOBLIN_END if it has fewer; then nothing is stored. `filled` is the number of entries. They are indices of symbols, from the lowest
+   st_value to the highest. Of symbols with the same st_value there are only those with a greater st_size than each before it in the
+   table, since no other one is ever found. After the entries, elements that were needed may have changed.
+   Refused as goblin_symbol is.
+   Example: goblin_address_index(bytes, len, &header, &table.file, indices, 64, &filled, &why); */
+GOBLIN_CALL uint32_t goblin_address_index(const uint8_t *bytes, size_t len, const goblin_header_t *header,
+                                          const goblin_range_t *table, uint64_t *indices, size_t capacity, uint64_t *filled,
+                                          goblin_refusal_t *why);
+
+/* Finds what goblin_symbol_by_address finds, by the entries that goblin_address_index stored for the same table. `indices_len` is their
+   number. Each call halves the entries that are left at each step, so it reads only a few symbols. If the array has other numbers, it
+   is GOBLIN_END, or the index of a symbol that is not above the address. Refused as goblin_symbol is.
+   Example: goblin_symbol_by_address_in(bytes, len, &header, &table.file, indices, filled, 0x401000, &index, &why); */
+GOBLIN_CALL uint32_t goblin_symbol_by_address_in(const uint8_t *bytes, size_t len, const goblin_header_t *header,
+                                                 const goblin_range_t *table, const uint64_t *indices, size_t indices_len,
+                                                 uint64_t address, uint64_t *index, goblin_refusal_t *why);
 
 /* ---- relocations ---- */
 
@@ -662,6 +681,23 @@ GOBLIN_CALL uint32_t goblin_symbol_by_address(const uint8_t *bytes, size_t len, 
                                               goblin_refusal_t *why) {
     goblin_refusal_t unread;
     return goblin_c_symbol_by_address(bytes, len, header, table, address, index, why ? why : &unread);
+}
+uint32_t goblin_c_address_index(const uint8_t *bytes, size_t len, const goblin_header_t *header, const goblin_range_t *table,
+                                uint64_t *indices, size_t capacity, uint64_t *filled, goblin_refusal_t *why);
+GOBLIN_CALL uint32_t goblin_address_index(const uint8_t *bytes, size_t len, const goblin_header_t *header,
+                                          const goblin_range_t *table, uint64_t *indices, size_t capacity, uint64_t *filled,
+                                          goblin_refusal_t *why) {
+    goblin_refusal_t unread;
+    return goblin_c_address_index(bytes, len, header, table, indices, capacity, filled, why ? why : &unread);
+}
+uint32_t goblin_c_symbol_by_address_in(const uint8_t *bytes, size_t len, const goblin_header_t *header,
+                                       const goblin_range_t *table, const uint64_t *indices, size_t indices_len,
+                                       uint64_t address, uint64_t *index, goblin_refusal_t *why);
+GOBLIN_CALL uint32_t goblin_symbol_by_address_in(const uint8_t *bytes, size_t len, const goblin_header_t *header,
+                                                 const goblin_range_t *table, const uint64_t *indices, size_t indices_len,
+                                                 uint64_t address, uint64_t *index, goblin_refusal_t *why) {
+    goblin_refusal_t unread;
+    return goblin_c_symbol_by_address_in(bytes, len, header, table, indices, indices_len, address, index, why ? why : &unread);
 }
 uint32_t goblin_c_reloc(const uint8_t *bytes, size_t len, const goblin_header_t *header, const goblin_range_t *table,
                         bool is_rela, uint64_t index, goblin_reloc_t *reloc, goblin_refusal_t *why);

@@ -280,6 +280,9 @@ static void call_with_nulls(goblin_refusal_t *why) {
     same("null: symbol by name", goblin_symbol_by_name(NULL, 0, &h, &none, &none, NULL, 0, &number, why),
          GOBLIN_SYMTAB_OFFSET);
     same("null: symbol by address", goblin_symbol_by_address(NULL, 0, &h, &none, 0, &number, why), GOBLIN_SYMTAB_OFFSET);
+    same("null: address index", goblin_address_index(NULL, 0, &h, &none, NULL, 0, &number, why), GOBLIN_SYMTAB_OFFSET);
+    same("null: symbol by address in", goblin_symbol_by_address_in(NULL, 0, &h, &none, NULL, 0, 0, &number, why),
+         GOBLIN_SYMTAB_OFFSET);
     same("null: reloc", goblin_reloc(NULL, 0, &h, &none, true, 0, &r, why), GOBLIN_END);
     same("null: reloc", goblin_reloc(NULL, 0, &h, &some, true, 0, &r, why), GOBLIN_BAD_OFFSET);
     same("null: relocs", goblin_relocs(NULL, 0, &h, &none, false, 0, NULL, 0, &number, why), GOBLIN_END);

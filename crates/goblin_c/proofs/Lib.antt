@@ -1,3 +1,4 @@
+pub mod AddressIndexLemmas
 pub mod LaidLemmas
 pub mod DigitLemmas
 pub mod IndexLemmas

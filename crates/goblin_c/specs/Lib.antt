@@ -1,5 +1,6 @@
 pub mod Answers
 pub mod Bytes
+pub mod Index
 pub mod Laid
 pub mod Laws
 pub mod Layout

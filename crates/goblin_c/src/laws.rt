@@ -1,4 +1,5 @@
 //! Laws of the calls: the items that they store one by one are those that the library reads at once.
+ghost use Rattle.goblin_c.specs.Index.{IndexFindsSymbols};
 ghost use Rattle.goblin_c.specs.TextLaws.{RefusalsHaveSameText};
 ghost use Rattle.goblin_c.specs.Laws.{StringsAreCompared, WholeNotesAreNotes, TextIsClosed, NotesAreItems, NotesInARow, NotesLieInFile, ContextIsTheHeaders, SectionsByIndex, SegmentsByIndex, SymbolsByIndex, RelocsByIndex, FilledByIndex, BufferIsFilled, NamesByIndex, StringsAreThere, StringsLieInFile, SectionsByName, SymbolsByName, SectionsByType, BytesLieInFile, StringsAreBytes, TablesByIndex, KindsAreAnswers};
 
@@ -88,4 +89,10 @@ pub fn places()
     ensures within { BytesLieInFile }
     ensures same { StringsAreBytes }
     ensures compared { StringsAreCompared }
+{}
+
+/// Law: in the entries that `goblin_address_index` stored, `goblin_symbol_by_address_in` finds for each
+/// address what `goblin_symbol_by_address` finds.
+pub fn address_indices()
+    ensures { IndexFindsSymbols }
 {}

@@ -2,12 +2,14 @@
 //! an earlier one. `faces/c/goblin.h` declares each call, and says what it returns and stores.
 #![tactic(auto)]
 
-ghost use Rattle.std.specs.Prelude.{◌≡◌, length};
-ghost use Rattle.goblin_c.specs.Answers.{header_expected, reloc_count_expected, reloc_expected, section_by_type_expected, section_count_expected, section_expected, segment_count_expected, segment_expected, string_expected, symbol_count_expected, symbol_expected, relocs_from_expected, sections_from_expected, symbols_from_expected, section_by_name_expected, section_names_expected, symbol_by_address_expected, symbol_by_name_expected, table_expected};
+ghost use Rattle.std.specs.Prelude.{◌≡◌, ℕ, length, Option, Result};
+ghost use Rattle.goblin_c.specs.Answers.{header_expected, reloc_count_expected, reloc_expected, section_by_type_expected, section_count_expected, section_expected, segment_count_expected, segment_expected, string_expected, symbol_count_expected, symbol_expected, relocs_from_expected, sections_from_expected, symbols_from_expected, section_by_name_expected, section_names_expected, symbol_by_address_expected, symbol_by_name_expected, symbols_expected, table_expected};
 ghost use Rattle.goblin_c.specs.Bytes.{number_expected, section_bytes_expected, segment_bytes_expected, string_bytes_expected, string_is_expected, string_starts_expected};
+ghost use Rattle.goblin_c.specs.Index.{FindsIn, StoresIndex};
 ghost use Rattle.goblin_c.specs.Laid.{closed, laid};
 ghost use Rattle.goblin_c.specs.Layout.{layout};
 ghost use Rattle.goblin_c.specs.Notes.{StoresNote, note_bytes_expected, note_expected};
+ghost use Rattle.goblin_c.specs.Refused.{RefusalAt};
 ghost use Rattle.goblin_c.specs.Status.{Fills, Stores};
 ghost use Rattle.goblin_c.specs.Texts.{converted_text};
 ghost use Rattle.goblin.specs.HeaderNames.{class_name, type_name as file_type_name};
@@ -21,6 +23,9 @@ mod bytes;
 #[cfg(test)]
 mod bytes_tests;
 mod headers;
+mod index;
+#[cfg(test)]
+mod index_tests;
 mod kinds;
 mod laws;
 mod layout;
@@ -42,6 +47,7 @@ use goblin::elf::program_header::pt_to_str;
 use goblin::elf::section_header::{shf_to_str, sht_to_str};
 use goblin::elf::sym::{bind_to_str, type_to_str, visibility_to_str};
 use headers::{header_at, section_by_type, section_names, sections_of, segments_of, table_section};
+use index::{store_index, symbol_by_address_in};
 use layout::{GoblinLayout, marked_layout};
 use lists::{count_of, item_of, store_from};
 use notes::{note_from, note_type, store_note};
@@ -599,4 +605,42 @@ pub extern "C" fn goblin_c_symbol_by_address(
         index.old why.old result index.new why.new }
 {
     store(symbol_by_address(bytes, header, table, address), index, why)
+}
+
+/// Stores an index of the addresses of a table's symbols, and the number of its entries.
+#[unsafe(no_mangle)]
+pub extern "C" fn goblin_c_address_index(
+    bytes: &[u8],
+    header: &GoblinHeader,
+    table: &GoblinRange,
+    indices: &mut [u64],
+    filled: &mut u64,
+    why: &mut GoblinRefusal,
+) -> u32
+    ensures { StoresIndex (symbols_expected bytes.now header.now table.now)
+        indices.old filled.old why.old result indices.new filled.new why.new }
+{
+    store_index(bytes, header, table, indices, filled, why)
+}
+
+/// Stores the index of the symbol for an address, by an index of the table's addresses.
+#[unsafe(no_mangle)]
+pub extern "C" fn goblin_c_symbol_by_address_in(
+    bytes: &[u8],
+    header: &GoblinHeader,
+    table: &GoblinRange,
+    indices: &[u64],
+    address: u64,
+    index: &mut u64,
+    why: &mut GoblinRefusal,
+) -> u32
+    ensures { (found : Result (Option ℕ) RefusalAt)
+        × FindsIn (symbols_expected bytes.now header.now table.now) indices.now address found
+        × Stores found index.old why.old result index.new why.new }
+{
+    store(
+        symbol_by_address_in(bytes, header, table, indices, address),
+        index,
+        why,
+    )
 }
