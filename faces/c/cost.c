@@ -78,6 +78,44 @@ static uint64_t symbol_at_no_address(void) {
     return goblin_symbol_by_address(bytes, len, &header, &table, 1, &index, &why) == GOBLIN_END ? ITEMS : 0;
 }
 
+/* Makes each symbol a function of a section, at an address and with a size. */
+static void fill_symbols(uint64_t (*address)(uint64_t), uint64_t (*size)(uint64_t)) {
+    for (uint64_t i = 0; i < ITEMS; i++) {
+        Elf64_Sym symbol;
+        memset(&symbol, 0, sizeof symbol);
+        symbol.st_info = STT_FUNC, symbol.st_shndx = 1, symbol.st_value = address(i), symbol.st_size = size(i);
+        memcpy(bytes + 128 + i * sizeof symbol, &symbol, sizeof symbol);
+    }
+}
+
+static uint64_t one(uint64_t i) { return (void)i, 1; }
+static uint64_t rising(uint64_t i) { return i + 1; }
+/* Each address once, in no order. */
+static uint64_t scattered(uint64_t i) { return i * 7919 % ITEMS + 1; }
+
+static uint64_t address_index(void) {
+    goblin_range_t table = range_of(ITEMS, sizeof(Elf64_Sym));
+    uint64_t filled = 0;
+    goblin_address_index(bytes, len, &header, &table, (uint64_t *)array, ITEMS, &filled, &why);
+    return filled;
+}
+
+/* Finds the symbol for each address from 1 on in the index of all symbols. Returns the number of those that reach past their address
+   and have no symbol before them that does. */
+static uint64_t each_address(void) {
+    goblin_range_t table = range_of(ITEMS, sizeof(Elf64_Sym));
+    uint64_t found = 0;
+    for (uint64_t address = 1; address <= ITEMS; address++) {
+        uint64_t index;
+        goblin_symbol_t symbol;
+        if (goblin_symbol_by_address_in(bytes, len, &header, &table, (uint64_t *)array, ITEMS, address, &index, &why) != GOBLIN_OK
+            || goblin_symbol(bytes, len, &header, &table, index, &symbol, &why) != GOBLIN_OK)
+            break;
+        found += symbol.st_value + symbol.st_size == address + 1;
+    }
+    return found;
+}
+
 static uint64_t each_reloc(void) {
     goblin_range_t relocs = range_of(ITEMS, sizeof(Elf64_Rela));
     goblin_reloc_t reloc;
@@ -170,6 +208,14 @@ int main(void) {
     right &= takes_little("the bytes of each string", bytes_of_each_string, ITEMS);
     right &= takes_little("each long string compared", each_compared, ITEMS);
     right &= takes_little("the start of each long string compared", each_start_compared, ITEMS);
+    fill_symbols(scattered, one);
+    right &= takes_little("an index of addresses in no order", address_index, ITEMS);
+    right &= takes_little("a symbol at each address", each_address, ITEMS);
+    fill_symbols(one, rising);
+    right &= takes_little("an index of symbols at one address", address_index, ITEMS);
+    right &= takes_little("the first symbol at one address that reaches past each", each_address, ITEMS);
+    fill_symbols(one, one);
+    right &= takes_little("an index of equal symbols", address_index, 1);
     free(array);
     free(bytes);
     return right ? 0 : 1;
