@@ -17,8 +17,8 @@ use crate::error::Result;
 use crate::last::last_start;
 use crate::marks::{LANES, Marks};
 use crate::options::ParseMode;
-use crate::places::Places;
 use crate::strtab::{bytes_in_range, position};
+use std::alloc::Global;
 use std::marker::Model;
 use std::str::Utf8Error;
 use std::{fmt, result};
@@ -235,9 +235,9 @@ impl<'a> Looked<'a> {
     }
 
     // The entries at these places over the bytes, the last of which ends one before the closing place.
-    pub(crate) fn entries(&self, places: Places, closing: usize) -> Entries<'a>
-        requires { AreTexts self.now.bytes places closing }
-        ensures { result ≡ entries_between self.now.bytes places closing }
+    pub(crate) fn entries(&self, places: Vec<usize>, closing: usize) -> Entries<'a>
+        requires { AreTexts self.now.bytes places.items closing }
+        ensures { result ≡ entries_between self.now.bytes places.items closing }
     {
         Entries {
             bytes: self.bytes,
@@ -271,7 +271,7 @@ impl fmt::Debug for Looked<'_> {
 #[derive(Drop)]
 pub struct Entries<'a> {
     bytes: &'a [u8],
-    places: Places,
+    places: Vec<usize>,
     closing: usize,
 }
 
@@ -282,9 +282,9 @@ impl<'a> Model for Entries<'a> {
 
     ghost Value = { List (ℕ × List ℕ) };
 
-    ghost view = { λ e. entries_between e.bytes.now e.places e.closing };
+    ghost view = { λ e. entries_between e.bytes.now e.places.items e.closing };
 
-    ghost invariant = { λ e. AreTexts e.bytes.now e.places e.closing };
+    ghost invariant = { λ e. AreTexts e.bytes.now e.places.items e.closing };
 }
 
 #[tactic(auto, using(crate::proofs::EntriesLemmas::between))]
@@ -301,7 +301,7 @@ impl<'a> Entries<'a> {
     pub fn is_empty(&self) -> bool
         ensures { IsTrue result ↔ (self.now ≡ []) }
     {
-        self.len() == 0
+        self.places.is_empty()
     }
 
     /// The text of an entry.
@@ -322,18 +322,17 @@ impl fmt::Debug for Entries<'_> {
 }
 
 // Where an entry begins, and where the next one does.
-fn ends(places: &Places, closing: usize, i: usize) -> (usize, usize)
+fn ends(places: &[usize], closing: usize, i: usize) -> (usize, usize)
     requires { i < length places.now }
     ensures from { result.0 ≡ slice_index places.now i }
     ensures next { result.1 ≡ slice_index_or places.now (i + 1) closing }
 {
-    let count = places.len();
-    let next = if i + 1 < count {
-        places.at(i + 1)
+    let next = if i + 1 < places.len() {
+        places[i + 1]
     } else {
         closing
     };
-    (places.at(i), next)
+    (places[i], next)
 }
 
 // The text from a place up to one before the next entry's.
@@ -394,7 +393,7 @@ impl<'e> Probes<'e> {
     {
         self.count = self.count.saturating_add(1);
         let entries: &Entries<'e> = self.entries;
-        entries.places.at(i)
+        entries.places[i]
     }
 
     /// How many probes were taken, up to the greatest number.

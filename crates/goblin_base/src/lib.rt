@@ -13,7 +13,6 @@ mod marks;
 pub mod names;
 pub mod number;
 pub mod options;
-mod places;
 pub mod record;
 pub mod room;
 pub mod scroll;

@@ -12,7 +12,6 @@ use crate::entries::{Entries, Looked};
 use crate::error::Result;
 use crate::marks::{Marks, is_text, next_end};
 use crate::options::ParseMode;
-use crate::places::Places;
 use crate::utf8::{Awaited, invalid_utf8};
 use std::alloc::{AllocError, Global};
 use std::result;
@@ -67,7 +66,7 @@ pub fn walk<'a>(
     ensures first { RefusesFirst mode view.old.bytes delim result }
     ensures none { (view.old.bytes ≡ []) → IsOk result }
 {
-    let mut places = Places::new(alloc);
+    let mut places = Vec::new(alloc);
     let mut marks = Marks::none();
     let mut i = 0;
     while i < view.len() {
@@ -99,14 +98,14 @@ fn walk_damaged(
     delim: u8,
     from: usize,
     end: usize,
-    places: &mut Places,
+    places: &mut Vec<usize>,
 ) -> result::Result<usize, AllocError>
     requires piece { end ≡ piece_end view.old.bytes delim from }
     requires within { end ≤ length view.old.bytes }
     requires ordered { from ≤ end }
     requires bound { end < usize.MAX }
-    requires before { IsWalkedTo view.old.bytes delim places.old from }
-    ensures walked { IfOk result (IsWalkedTo view.old.bytes delim places.new) }
+    requires before { IsWalkedTo view.old.bytes delim places.old.items from }
+    ensures walked { IfOk result (IsWalkedTo view.old.bytes delim places.new.items) }
     ensures ordered { IfOk result (λ next. end ≤ next) }
     ensures within { IfOk result (λ next. next ≤ end + 1) }
     ensures unchanged { view.new.bytes ≡ view.old.bytes }

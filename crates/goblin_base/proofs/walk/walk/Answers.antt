@@ -36,7 +36,7 @@ pub loop-i-init : goal.loop-i-init
 loop-i-init c = record {
   same = refl;
   within = omega arith;
-  walked = rw c.new-places.ensures (walked_none c.args.view.now.bytes c.args.delim);
+  walked = rw c.new-places.ensures.items (walked_none c.args.view.now.bytes c.args.delim);
   strict = λ _. text_so_far_none c.args.view.now.bytes c.args.delim;
   near = omega (arith, c.none-marks.ensures);
   marked = λ h. absurd (omega (arith, h, c.none-marks.ensures));
@@ -68,7 +68,7 @@ loop-i-preserved-then-is_text c =
       same = c.is_text.ensures.unchanged ∙ e.unchanged ∙ s.same;
       within = omega (arith, e.within, ap length s.same);
       walked = walked_text bytes d _ _ i c.next_end-end.result.0 in_range e.ordered
-          (omega (arith, e.within, ap length s.same)) here.0 here.1 c.in_ok-push.ensures s.walked;
+          (omega (arith, e.within, ap length s.same)) here.0 here.1 c.in_ok-push.ensures.items s.walked;
       strict = λ m.
           subst (λ k. IsTextSoFar bytes d (k + 1)) (sym here.0)
           (text_so_far_more bytes d i in_range here.1 (s.strict m));
@@ -192,7 +192,7 @@ returns-clause-given c =
     walked_all c.args.view.now.bytes c.args.delim c.args.mode c.loop-i.i past i.strict
     ∙ ap Ok (sym
     (c.entries.ensures
-    ∙ ap (λ bs. entries_between bs c.loop-i.places c.loop-i.i) i.same
+    ∙ ap (λ bs. entries_between bs c.loop-i.places.items c.loop-i.i) i.same
     ∙ found_all c.args.view.now.bytes c.args.delim _ c.loop-i.i past i.walked.found))
 
 pub returns-clause-first : goal.returns-clause-first

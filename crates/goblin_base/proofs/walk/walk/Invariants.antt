@@ -11,7 +11,7 @@ abbrev pub invariant-loop-i : goal.invariant-loop-i
 invariant-loop-i l = record {
   same : l.view.bytes ≡ l.fn.view.bytes;
   within : l.i ≤ length l.fn.view.bytes + 1;
-  walked : IsWalkedTo l.fn.view.bytes l.delim l.places l.i;
+  walked : IsWalkedTo l.fn.view.bytes l.delim l.places.items l.i;
   strict : l.mode ≡ Strict → IsTextSoFar l.fn.view.bytes l.delim l.i;
   near : l.marks.until ≤ l.i + 16;
   marked : HaveMarks l.fn.view.bytes l.delim l.marks;

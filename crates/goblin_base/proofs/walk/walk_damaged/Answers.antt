@@ -14,7 +14,7 @@ returns-in-Whole-clause-walked c =
     let text = ap (λ bs. is_readable bs c.args.delim c.loop-i.i) (sym s.same) ∙ found.readable in
     walked_text c.args.view.now.bytes c.args.delim _ _ c.loop-i.i c.in-Whole.end
     (omega (arith, c.requires.within)) found.ordered
-    (omega (arith, end, s.ends, c.requires.within)) end text c.in_ok-push-in-Whole.ensures s.walked
+    (omega (arith, end, s.ends, c.requires.within)) end text c.in_ok-push-in-Whole.ensures.items s.walked
 
 pub returns-in_err-push-in-Fault-clause-looks : goal.returns-in_err-push-in-Fault-clause-looks
 returns-in_err-push-in-Fault-clause-looks c =
@@ -27,7 +27,7 @@ loop-place-preserved c =
     let s = c.loop-i.invariant in
     let found = attempt_fault c.args.delim s.same s.ends s.within c.requires.within c.in-Fault.ensures.value in
     walked_empty c.args.view.now.bytes c.args.delim _ _ c.loop-place.place (omega (arith, found.1, c.requires.within))
-    (found.0.none c.loop-place.place (omega arith) (omega arith)) c.in_ok-push-in-Fault.ensures
+    (found.0.none c.loop-place.place (omega arith) (omega arith)) c.in_ok-push-in-Fault.ensures.items
     c.loop-place.invariant
 
 pub loop-i-preserved : goal.loop-i-preserved
@@ -40,7 +40,7 @@ loop-i-preserved c =
       from = omega (arith, found.0.further, s.from);
       within = found.1;
       ends = found.2;
-      walked = subst (IsWalkedTo c.args.view.now.bytes c.args.delim c.loop-place.places) e c.loop-place.invariant;
+      walked = subst (IsWalkedTo c.args.view.now.bytes c.args.delim c.loop-place.places.items) e c.loop-place.invariant;
       looks = omega (arith, found.0.further, c.in-Fault.ensures.looks, s.looks);
       rising = omega (arith, c.in-Fault.ensures.rising, s.rising);
       least = omega (arith, found.0.further, s.from, c.in-Fault.ensures.looks_least, s.least);

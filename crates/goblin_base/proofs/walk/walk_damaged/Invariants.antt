@@ -10,7 +10,7 @@ invariant-loop-i l = record {
   from : l.from ≤ l.i;
   within : l.i ≤ l.end;
   ends : piece_end l.fn.view.bytes l.delim l.i ≡ l.end;
-  walked : IsWalkedTo l.fn.view.bytes l.delim l.places l.i;
+  walked : IsWalkedTo l.fn.view.bytes l.delim l.places.items l.i;
   looks : l.view.count ≤ l.fn.view.count + 2 * (l.i - l.from);
   rising : l.fn.view.count ≤ l.view.count;
   least : CountsAtLeast l.fn.view.count (l.i - l.from) l.view.count;
@@ -20,4 +20,4 @@ abbrev pub decreases-loop-i : goal.decreases-loop-i
 decreases-loop-i l = l.end - l.i
 
 abbrev pub invariant-loop-place : goal.invariant-loop-place
-invariant-loop-place l = IsWalkedTo l.fn.view.bytes l.delim l.places l.place
+invariant-loop-place l = IsWalkedTo l.fn.view.bytes l.delim l.places.items l.place

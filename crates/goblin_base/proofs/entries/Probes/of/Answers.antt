@@ -7,5 +7,5 @@ use Rattle.goblin_base.proofs.entries.Probes.of.Goals as goal
 pub invariant_of-result : goal.invariant_of-result
 invariant_of-result c =
     let s = c.entries.inside in
-    let same = sym (places_between s.bytes.now s.places s.closing) ∙ ap places_of c.entries.view_is in
-    subst IsRising same (places_rise s.bytes.now s.places s.closing c.entries.invariant)
+    let same = sym (places_between s.bytes.now s.places.items s.closing) ∙ ap places_of c.entries.view_is in
+    subst IsRising same (places_rise s.bytes.now s.places.items s.closing c.entries.invariant)
