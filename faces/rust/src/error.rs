@@ -276,9 +276,10 @@ pub(crate) mod tests {
             assert_eq!(found, [&"101", &"102", &"103", &"1"][..numbers(&comment)], "{comment}");
         }
         let items = constants_after("0 for refusals that have none. */\nenum {\n");
-        assert_eq!(items.len(), 3);
+        assert_eq!(items.len(), 6);
         for (_, name, item) in items {
-            let name = name.replace('_', " ").to_lowercase();
+            // (the parts of a note have no words)
+            let name = if name.starts_with("NOTE_") { String::new() } else { name.replace('_', " ").to_lowercase() };
             let kind = |kind| format!("{:?}", Error::new(raw::Refusal { kind, item, ..raw::Refusal::default() }).kind());
             assert_eq!(kind(5), format!("BadInput {{ size: 0, msg: {name:?} }}"));
             assert_eq!(kind(6), format!("BufferTooShort(0, {name:?})"));
