@@ -179,8 +179,10 @@ static void by_address(const goblin_header_t *h, goblin_range_t range) {
     size_t capacity = (size_t)any(BATCH + 1);
     blank(indices, sizeof indices);
     uint32_t status = goblin_address_index(bytes, len, h, &range, indices, capacity, &filled, &why);
+    uint64_t filled_again = filled;
+    uint32_t again = goblin_address_index(bytes, len, h, &range, indices, capacity, &filled_again, NULL);
     if (filled > capacity || (status != GOBLIN_OK && filled != 0)) wrong("goblin_address_index", status), filled = 0;
-    check("goblin_address_index", status, indices, status == GOBLIN_OK ? 0 : sizeof indices);
+    check("goblin_address_index", status, indices, status == GOBLIN_OK ? 0 : sizeof indices, again);
     if (!is_blank(indices + capacity, sizeof *indices * (BATCH - capacity))) wrong("goblin_address_index: after the array", status);
     add(indices, sizeof *indices * (size_t)filled);
     if (status == GOBLIN_OK
