@@ -5,6 +5,7 @@
    Linking
      Link with libgoblin_c.a, which needs only memcpy of the C library, or with the shared library. The linker's option --gc-sections
      (`-Wl,--gc-sections`) leaves out the calls that a program does not use: of the examples, about two thirds of the library.
+     goblin_c.pc has this option for pkg-config.
      Inside a shared library of your own, `-Wl,--exclude-libs,libgoblin_c.a` hides the calls.
 
    Results
