@@ -128,6 +128,14 @@ static void notes(goblin_range_t range, uint64_t alignment) {
     }
 }
 
+static void notes_as_bytes(goblin_range_t range, uint64_t alignment) {
+    goblin_note_t note;
+    for (uint64_t next = range.offset; ASK(goblin_note_bytes, note, &h, &range, alignment, next); next = note.next) {
+        put_note(&note);
+        put_bytes(note.name), put_bytes(note.desc), putchar('\n');
+    }
+}
+
 static void segments(void) {
     uint64_t count;
     if (!SHOW(goblin_segment_count, number, count, &h)) return;
@@ -140,6 +148,7 @@ static void segments(void) {
         putchar('\n');
         SHOW(goblin_segment_bytes, range, range, &segment);
         notes(segment.file, segment.p_align);
+        notes_as_bytes(segment.file, segment.p_align);
     }
 }
 
@@ -164,6 +173,7 @@ static void sections(void) {
         SHOW(goblin_section_by_type, number, index, &h, section.sh_type, i + 1);
         SHOW(goblin_section_bytes, range, range, &section);
         symbols(&section), relocs(&section), notes(range_of(&section), section.sh_addralign);
+        notes_as_bytes(range_of(&section), section.sh_addralign);
     }
 }
 

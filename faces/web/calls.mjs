@@ -297,6 +297,31 @@ function check_notes() {
     return `${2 * NOTES.length} notes`;
 }
 
+// Notes as bytes have whole names, need not be UTF-8, and must be inside their range.
+function check_notes_as_bytes() {
+    const elf = Elf.parse(noted), section = elf.section('.note'), segment = elf.program_header(0), start = Number(section.sh_offset);
+    const fields_of = (notes) => notes.map(({ name, n_type, desc }) => [Buffer.from(name).toString('latin1'), n_type, Buffer.from(desc).toString()]);
+    const wanted = NOTES.map(([name, n_type, desc]) => [`${name}\0`, n_type, desc]);
+    assert.deepEqual([fields_of(elf.notes_bytes(section)), fields_of(elf.segment_notes_bytes(segment))], [wanted, wanted]);
+    const copy = Buffer.from(noted);
+    copy[start + 32] = 0xff; // (which is not UTF-8)
+    assert.deepEqual(Elf.parse(copy).notes_bytes(section).map(({ name }) => name[0]), [0x47, 0xff]);
+    // the range ends in the first note's header, name and descriptor, and then in those of the second
+    const { NOTE_HEADER, NOTE_NAME, NOTE_DESC } = goblin.Item;
+    for (const [size, before, item] of [[11, 0, NOTE_HEADER], [15, 0, NOTE_NAME], [19, 0, NOTE_DESC], [31, 1, NOTE_HEADER], [38, 1, NOTE_NAME],
+        [44, 1, NOTE_DESC]]) {
+        const refused = (error) => is_refusal(Kind.TOO_BIG)(error) && error.item === item && error.offset === BigInt(start + 20 * before);
+        const cut = { ...section, sh_size: BigInt(size) }, cut_segment = { ...segment, p_offset: BigInt(start), p_filesz: BigInt(size) };
+        for (const { notes, refusal } of [elf.readable_notes_bytes(cut), elf.readable_segment_notes_bytes(cut_segment)]) {
+            assert.deepEqual([fields_of(notes), refused(refusal)], [wanted.slice(0, before), true]);
+        }
+        assert.throws(() => elf.notes_bytes(cut), refused);
+        assert.throws(() => elf.segment_notes_bytes(cut_segment), refused);
+    }
+    assert.equal(elf.readable_notes_bytes(section, 1).notes.length, 1);
+    assert.throws(() => elf.notes_bytes({ ...section, sh_addralign: 16n }), ({ kind, item }) => kind === Kind.NOTE_ALIGN && item === 0);
+}
+
 // ---- items and JSON ----
 
 // Returns an item as JSON has it, by the type of each of its fields.
@@ -311,7 +336,8 @@ function some_items() {
     const elf = Elf.parse(own), sections = elf.section_headers(), [[, relocs]] = elf.shdr_relocs();
     return {
         Header: elf.header, SectionHeader: sections.at(1), ProgramHeader: elf.program_headers().at(0), Sym: elf.syms().at(-1),
-        Reloc: relocs.at(0), Note: Elf.parse(noted).iter_note_headers()[0], Range: elf.section_range(sections.at(1)),
+        Reloc: relocs.at(0), Note: Elf.parse(noted).iter_note_headers()[0],
+        NoteBytes: Elf.parse(noted).segment_notes_bytes(Elf.parse(noted).program_header(0))[0], Range: elf.section_range(sections.at(1)),
     };
 }
 
@@ -510,6 +536,7 @@ const tested = [
     check_declarations(),
 ];
 check_arguments();
+check_notes_as_bytes();
 check_segments();
 check_package();
 console.log(`goblin.js does what its comments say: ${tested.join(', ')}`);

@@ -37,6 +37,11 @@ export const Kind = Object.freeze({
     INTEGER_FIT: 24, SECTION_TYPE: 0xffffffff,
 });
 
+/** What errors are about, if the kind alone does not say it: the numbers of `item`, as in `goblin.h`. */
+export const Item = Object.freeze({
+    INVALID_UTF8: 1, SECTION_HEADERS: 2, PROGRAM_HEADERS: 3, NOTE_HEADER: 4, NOTE_NAME: 5, NOTE_DESC: 6,
+});
+
 /**
  * A file's header. `goblin.h` has more on each field.
  * @typedef {object} Header
@@ -116,6 +121,17 @@ export const Kind = Object.freeze({
  * @property {Range} desc_range the range of its descriptor
  * @property {bigint} next the offset to read the next note at
  * @property {string} name its name, decoded at each access
+ * @property {Uint8Array} desc its descriptor, copied at each access
+ */
+
+/**
+ * A note as bytes. Its name need not be UTF-8.
+ * @typedef {object} NoteBytes
+ * @property {number} n_type its type, whose meaning depends on the name
+ * @property {Range} name_range the range of its whole name, which ends with a zero byte in most files
+ * @property {Range} desc_range the range of its descriptor
+ * @property {bigint} next the offset to read the next note at
+ * @property {Uint8Array} name its whole name, copied at each access
  * @property {Uint8Array} desc its descriptor, copied at each access
  */
 
@@ -370,7 +386,7 @@ export class GoblinError extends Error {
         this.name = 'GoblinError';
         /** @type {number} the kind of the refusal, a number of `Kind` */
         this.kind = kind;
-        /** @type {number} 1 for invalid UTF-8, 2 for section headers, 3 for program headers, else 0 */
+        /** @type {number} what it is about, a number of `Item`, or 0 if its kind alone says it */
         this.item = item;
         /** @type {bigint[]} the four numbers that belong to it, as in `goblin.h`; those that it does not have are 0 */
         this.numbers = [first, second, third, fourth];
@@ -653,23 +669,60 @@ export class Elf {
      * @returns {{ notes: Note[], refusal: GoblinError | undefined }}
      */
     readable_segment_notes(segment, most = Infinity) {
-        return this.#read_notes({ offset: segment.p_offset, size: segment.p_filesz }, segment.p_align, most);
+        return this.#read_notes(segment_range_of(segment), segment.p_align, most);
     }
 
-    #read_notes(range, alignment, most) {
+    /**
+     * Returns the notes of a section as bytes, so that names need not be UTF-8. Each note must be inside the section. If one is damaged,
+     * `readable_notes_bytes` returns those before it:
+     *
+     * ```js
+     * const decoder = new TextDecoder('latin1');
+     * for (const { name, desc } of elf.notes_bytes(section)) console.log(decoder.decode(name), desc.length);
+     * ```
+     * @param {SectionHeader} section
+     * @returns {NoteBytes[]}
+     */
+    notes_bytes(section) { return all_notes(this.readable_notes_bytes(section)); }
+
+    /**
+     * Returns the notes of a segment as bytes, as `notes_bytes` does for a section.
+     * @param {ProgramHeader} segment
+     * @returns {NoteBytes[]}
+     */
+    segment_notes_bytes(segment) { return all_notes(this.readable_segment_notes_bytes(segment)); }
+
+    /**
+     * Returns the notes of a section as bytes up to the first damaged one, at most `most`, and the error of that one.
+     * @param {SectionHeader} section
+     * @param {number} [most]
+     * @returns {{ notes: NoteBytes[], refusal: GoblinError | undefined }}
+     */
+    readable_notes_bytes(section, most = Infinity) {
+        return this.#read_notes(range_of(section), section.sh_addralign, most, 'goblin_c_note_bytes', note_bytes);
+    }
+
+    /**
+     * Returns the notes of a segment as bytes up to the first damaged one, at most `most`, and the error of that one.
+     * @param {ProgramHeader} segment
+     * @param {number} [most]
+     * @returns {{ notes: NoteBytes[], refusal: GoblinError | undefined }}
+     */
+    readable_segment_notes_bytes(segment, most = Infinity) {
+        return this.#read_notes(segment_range_of(segment), segment.p_align, most, 'goblin_c_note_bytes', note_bytes);
+    }
+
+    #read_notes(range, alignment, most, call = 'goblin_c_note', convert = note) {
         const notes = [];
-        try {
+        const { refusal } = attempt(() => {
             for (let next = range.offset; notes.length < most; next = notes.at(-1).next) {
                 const argument = this.#memory.pass(ARGUMENT, 'range', range);
-                const fields = this.#call('goblin_c_note', 'note', argument, unsigned(alignment, 64), next);
+                const fields = this.#call(call, 'note', argument, unsigned(alignment, 64), next);
                 if (!fields) break;
-                notes.push(note(this.#memory, fields));
+                notes.push(convert(this.#memory, fields));
             }
-        } catch (error) {
-            if (!(error instanceof GoblinError)) throw error;
-            return { notes, refusal: error };
-        }
-        return { notes, refusal: undefined };
+        });
+        return { notes, refusal };
     }
 
     /**
@@ -689,6 +742,16 @@ export class Elf {
     }
 }
 
+// Calls a function, and returns what it returns or the refusal that it throws.
+function attempt(read) {
+    try {
+        return { item: read(), refusal: undefined };
+    } catch (error) {
+        if (!(error instanceof GoblinError)) throw error;
+        return { item: undefined, refusal: error };
+    }
+}
+
 const as_index = (number) => (number ? Number(number.value) : undefined);
 
 const holds_relocs = ({ sh_type }) => sh_type === SHT_RELA || sh_type === SHT_REL;
@@ -699,15 +762,30 @@ function range_of(section) {
     return plain({ offset: section.sh_offset, size: section.sh_size });
 }
 
+// Returns a segment's range in the file.
+const segment_range_of = ({ p_offset, p_filesz }) => plain({ offset: p_offset, size: p_filesz });
+
 function reloc({ r_offset, r_sym, r_addend, r_type, has_addend }) {
     return plain({ r_offset, r_sym, r_addend: has_addend ? r_addend : undefined, r_type });
 }
 
-function note(memory, { name_offset, name_size, desc_offset, desc_size, next, n_type }) {
-    const name_range = plain({ offset: name_offset, size: name_size }), desc_range = plain({ offset: desc_offset, size: desc_size });
+const ranges_of = ({ name_offset, name_size, desc_offset, desc_size }) =>
+    [plain({ offset: name_offset, size: name_size }), plain({ offset: desc_offset, size: desc_size })];
+
+function note(memory, fields) {
+    const [name_range, desc_range] = ranges_of(fields), { n_type, next } = fields;
     return plain({
         n_type, name_range, desc_range, next,
         get name() { return memory.string(name_range); },
+        get desc() { return memory.bytes(desc_range); },
+    });
+}
+
+function note_bytes(memory, fields) {
+    const [name_range, desc_range] = ranges_of(fields), { n_type, next } = fields;
+    return plain({
+        n_type, name_range, desc_range, next,
+        get name() { return memory.bytes(name_range); },
         get desc() { return memory.bytes(desc_range); },
     });
 }

@@ -42,6 +42,9 @@ function check_kinds() {
     const refusals = header.split('GOBLIN_END = 1,\n')[1].split('};')[0];
     const kinds = Object.fromEntries([...refusals.matchAll(/GOBLIN_(\w+) = (\d+)/g)].map(([, name, number]) => [name, Number(number)]));
     assert.equal(Object.keys(kinds).length, 21);
+    const items = header.split('0 for refusals that have none. */\nenum {')[1].split('};')[0];
+    const numbers = [...items.matchAll(/GOBLIN_(\w+) = (\d+)/g)].map(([, name, number]) => [name, Number(number)]);
+    assert.deepEqual({ ...goblin.Item }, Object.fromEntries(numbers));
     assert.deepEqual({ ...goblin.Kind }, { ...kinds, SECTION_TYPE: 2 ** 32 - 1 });
     assert.equal(goblin.VERSION, Number(/GOBLIN_VERSION (\d+)/.exec(header)[1]));
 }
@@ -149,6 +152,15 @@ class Dump {
         this.ask('goblin_note', () => { if (refusal) throw refusal; });
     }
 
+    notes_bytes({ notes, refusal }) {
+        const put = ({ name_range, desc_range, next, n_type, name, desc }) => fields({
+            name_offset: name_range.offset, name_size: name_range.size, desc_offset: desc_range.offset, desc_size: desc_range.size,
+            next, n_type,
+        }) + bytes(name) + bytes(desc);
+        for (const note of notes) this.ask('goblin_note_bytes', () => note, put);
+        this.ask('goblin_note_bytes', () => { if (refusal) throw refusal; });
+    }
+
     segments(elf) {
         const list = this.ask('goblin_segment_count', () => elf.program_headers(), length);
         if (!list) return;
@@ -156,6 +168,7 @@ class Dump {
             this.ask('goblin_segment', () => segment, (item) => `${fields(item)} ${goblin.pt_to_str(item.p_type)}`);
             this.ask('goblin_segment_bytes', () => elf.segment_range(segment));
             this.notes(elf.readable_segment_notes(segment));
+            this.notes_bytes(elf.readable_segment_notes_bytes(segment));
         }
         this.ask('goblin_segment', () => list.get(list.length));
     }
@@ -178,6 +191,7 @@ class Dump {
             this.symbols(elf, section);
             this.relocs(elf, section);
             this.notes(elf.readable_notes(section));
+            this.notes_bytes(elf.readable_notes_bytes(section));
             index++;
         }
         this.ask('goblin_section', () => list.get(index));

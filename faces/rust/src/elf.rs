@@ -2,13 +2,13 @@
 use crate::error::{Error, Result, RELOCATIONS, SYMBOLS};
 use crate::file::File;
 use crate::header::{Header, ET_DYN};
-use crate::note::{NoteIterator, Notes};
+use crate::note::{AnyNote, NoteBytes, NoteIterator, Notes};
 use crate::program_header::{ProgramHeader, ProgramHeaders};
 use crate::reloc::{holds_relocs, RelocSection, RelocSections};
 use crate::section_header::{SectionHeader, SectionHeaders, SHT_DYNSYM, SHT_RELA, SHT_SYMTAB};
 use crate::strtab::Strtab;
 use crate::sym::Symtab;
-use crate::{raw, sys};
+use crate::sys;
 
 /// A file in memory, with its header. Everything else is read on demand.
 ///
@@ -278,8 +278,46 @@ impl<'a> Elf<'a> {
 
     /// Returns the notes of a segment up to the first damaged one, and the error of that one.
     pub fn readable_segment_notes(&self, segment: &ProgramHeader) -> (Notes<'a>, Option<Error>) {
-        let range = raw::Range { offset: segment.p_offset, size: segment.p_filesz };
-        Notes::of(self, range, segment.p_align)
+        Notes::of(self, segment.range(), segment.p_align)
+    }
+
+    /// Returns the notes of a section as bytes, so that names need not be UTF-8. Each note must be inside the section. If one is damaged,
+    /// [`Elf::readable_notes_bytes`] returns those before it.
+    ///
+    /// ```
+    /// # fn main() -> Result<(), Box<dyn std::error::Error>> {
+    /// # let bytes = std::fs::read(std::env::current_exe()?)?;
+    /// let elf = goblin_rs::Elf::parse(&bytes)?;
+    /// if let Some(section) = elf.section(".note.gnu.build-id")? {
+    ///     let notes = elf.notes_bytes(&section)?;
+    ///     assert!(notes.iter().all(|note| note.name == b"GNU\0"));
+    /// }
+    /// # Ok(())
+    /// # }
+    /// ```
+    ///
+    /// # Errors
+    /// If the alignment is neither 4 nor 8, or a note is not inside the section. [`Error::item`] returns which part of it.
+    pub fn notes_bytes(&self, section: &SectionHeader) -> Result<Notes<'a, NoteBytes<'a>>> {
+        all_notes(self.readable_notes_bytes(section))
+    }
+
+    /// Returns the notes of a segment as bytes, as [`Elf::notes_bytes`] does for a section.
+    ///
+    /// # Errors
+    /// If the alignment is neither 4 nor 8, or a note is not inside the segment. [`Error::item`] returns which part of it.
+    pub fn segment_notes_bytes(&self, segment: &ProgramHeader) -> Result<Notes<'a, NoteBytes<'a>>> {
+        all_notes(self.readable_segment_notes_bytes(segment))
+    }
+
+    /// Returns the notes of a section as bytes up to the first damaged one, and the error of that one.
+    pub fn readable_notes_bytes(&self, section: &SectionHeader) -> (Notes<'a, NoteBytes<'a>>, Option<Error>) {
+        Notes::of(self, section.range(), section.sh_addralign)
+    }
+
+    /// Returns the notes of a segment as bytes up to the first damaged one, and the error of that one.
+    pub fn readable_segment_notes_bytes(&self, segment: &ProgramHeader) -> (Notes<'a, NoteBytes<'a>>, Option<Error>) {
+        Notes::of(self, segment.range(), segment.p_align)
     }
 
     /// Returns the notes of all segments of type `PT_NOTE`.
@@ -299,6 +337,6 @@ impl<'a> Elf<'a> {
     }
 }
 
-fn all_notes<'a>((notes, refusal): (Notes<'a>, Option<Error>)) -> Result<Notes<'a>> {
+fn all_notes<'a, N: AnyNote<'a>>((notes, refusal): (Notes<'a, N>, Option<Error>)) -> Result<Notes<'a, N>> {
     refusal.map_or(Ok(notes), Err)
 }

@@ -148,7 +148,54 @@ pub enum Kind {
     Other(u32),
 }
 
+/// What an error is about, if its kind alone does not say it. Later versions may have more.
+///
+/// ```
+/// use goblin_rs::section_header::{SectionHeader, SHT_NOTE};
+/// use goblin_rs::{error::Item, Elf};
+///
+/// # fn main() -> Result<(), Box<dyn std::error::Error>> {
+/// # let bytes = std::fs::read(std::env::current_exe()?)?;
+/// let elf = Elf::parse(&bytes)?;
+/// // a section with 8 bytes, where the header of a note has 12
+/// let section = SectionHeader { sh_type: SHT_NOTE, sh_offset: 16, sh_size: 8, ..SectionHeader::default() };
+/// let refused = elf.notes_bytes(&section).unwrap_err();
+/// assert_eq!((refused.item(), refused.offset()), (Some(Item::NoteHeader), 16));
+/// # Ok(())
+/// # }
+/// ```
+#[derive(Clone, Copy, Debug, PartialEq, Eq, Hash)]
+#[non_exhaustive]
+pub enum Item {
+    /// A name that is not UTF-8.
+    InvalidUtf8,
+    /// The section headers.
+    SectionHeaders,
+    /// The program headers.
+    ProgramHeaders,
+    /// The header of a note, for notes that are read as bytes.
+    NoteHeader,
+    /// The name of a note, for notes that are read as bytes.
+    NoteName,
+    /// The descriptor of a note, for notes that are read as bytes.
+    NoteDesc,
+}
+
 impl Error {
+    /// Returns what the error is about, if its kind alone does not say it.
+    pub fn item(&self) -> Option<Item> {
+        match self.0 {
+            raw::Refusal { kind: SECTION_TYPE, .. } => None,
+            raw::Refusal { item: 1, .. } => Some(Item::InvalidUtf8),
+            raw::Refusal { item: 2, .. } => Some(Item::SectionHeaders),
+            raw::Refusal { item: 3, .. } => Some(Item::ProgramHeaders),
+            raw::Refusal { item: 4, .. } => Some(Item::NoteHeader),
+            raw::Refusal { item: 5, .. } => Some(Item::NoteName),
+            raw::Refusal { item: 6, .. } => Some(Item::NoteDesc),
+            _ => None,
+        }
+    }
+
     /// Returns where in the file the thing begins that is refused: 0 for the header, the offset of a list of headers, of a table or of
     /// a string table, or that of the string, the note or the bytes.
     pub fn offset(&self) -> u64 {
@@ -256,6 +303,11 @@ pub(crate) mod tests {
         all
     }
 
+    // Returns a name of `goblin.h` as Rust writes that of a variant.
+    fn camel(name: &str) -> String {
+        name.split('_').map(|word| word[..1].to_string() + &word[1..].to_lowercase()).collect()
+    }
+
     // Returns how many numbers a comment of `goblin.h` lists after its colon, separated by semicolons.
     fn numbers(comment: &str) -> usize {
         let numbers = comment.split_once(": ").map(|(_, numbers)| numbers.split(". ").next().unwrap());
@@ -269,20 +321,24 @@ pub(crate) mod tests {
         for (comment, name, number) in refusals {
             let why = raw::Refusal { kind: number, first: 101, second: 102, third: 103, fourth: 1, ..raw::Refusal::default() };
             let printed = format!("{:?}", Error::new(why).kind()).replace("true", "1");
-            let camel: String = name.split('_').map(|word| word[..1].to_string() + &word[1..].to_lowercase()).collect();
             let words: Vec<_> = printed.split(|c: char| !c.is_alphanumeric()).filter(|word| !word.is_empty()).collect();
-            assert_eq!(words[0], camel, "{number}");
+            assert_eq!(words[0], camel(&name), "{number}");
             let found: Vec<_> = words.iter().filter(|word| word.parse::<u64>().is_ok()).collect();
             assert_eq!(found, [&"101", &"102", &"103", &"1"][..numbers(&comment)], "{comment}");
         }
         let items = constants_after("0 for refusals that have none. */\nenum {\n");
         assert_eq!(items.len(), 6);
         for (_, name, item) in items {
+            let of_kind = |kind| Error::new(raw::Refusal { kind, item, ..raw::Refusal::default() });
+            assert_eq!(of_kind(3).item().map(|item| format!("{item:?}")), Some(camel(&name)));
+            assert_eq!(of_kind(SECTION_TYPE - 1).item(), of_kind(3).item());
             // (the parts of a note have no words)
             let name = if name.starts_with("NOTE_") { String::new() } else { name.replace('_', " ").to_lowercase() };
-            let kind = |kind| format!("{:?}", Error::new(raw::Refusal { kind, item, ..raw::Refusal::default() }).kind());
-            assert_eq!(kind(5), format!("BadInput {{ size: 0, msg: {name:?} }}"));
-            assert_eq!(kind(6), format!("BufferTooShort(0, {name:?})"));
+            assert_eq!(format!("{:?}", of_kind(5).kind()), format!("BadInput {{ size: 0, msg: {name:?} }}"));
+            assert_eq!(format!("{:?}", of_kind(6).kind()), format!("BufferTooShort(0, {name:?})"));
+        }
+        for item in [0, 7] {
+            assert_eq!(Error::new(raw::Refusal { kind: 3, item, ..raw::Refusal::default() }).item(), None);
         }
         let later = raw::Refusal { kind: 25, ..raw::Refusal::default() };
         assert_eq!(Error::new(later).kind(), Kind::Other(25));
@@ -332,7 +388,7 @@ pub(crate) mod tests {
         let strings = Error::section_type(&of_type(3), SYMBOLS);
         assert_eq!(strings.kind(), Kind::SectionType { sh_type: 3, expected: "symbols" });
         assert_eq!(strings.to_string(), "A section of type 0x3 (SHT_STRTAB) holds no symbols");
-        assert_eq!(strings.offset(), 0x40);
+        assert_eq!((strings.offset(), strings.item()), (0x40, None));
         let other = Error::section_type(&of_type(0x40), RELOCATIONS);
         assert_eq!(format!("{other:?}"), "A section of type 0x40 (UNKNOWN_SHT) holds no relocations");
     }

@@ -83,8 +83,8 @@ fn refused_late(e: &Error) -> ! {
 
 // The methods of all lists. A list has a `count`, and its iterator is made from the list. The texts name one item and several.
 macro_rules! list {
-    ($list:ident of $item:ty, by $iterator:ty, $one:literal, $more:literal) => {
-        impl<'a> $list<'a> {
+    ($list:ident $(<$of:ident: $bound:ident>)? of $item:ty, by $iterator:ty, $one:literal, $more:literal) => {
+        impl<'a $(, $of: $bound<'a>)?> $list<'a $(, $of)?> {
             #[doc = concat!("Returns the number of ", $more, ".")]
             pub fn len(&self) -> usize {
                 self.count as usize
@@ -101,7 +101,7 @@ macro_rules! list {
             }
         }
 
-        impl<'a> IntoIterator for $list<'a> {
+        impl<'a $(, $of: $bound<'a>)?> IntoIterator for $list<'a $(, $of)?> {
             type Item = $item;
             type IntoIter = $iterator;
 
@@ -110,7 +110,7 @@ macro_rules! list {
             }
         }
 
-        impl<'a> IntoIterator for &$list<'a> {
+        impl<'a $(, $of: $bound<'a>)?> IntoIterator for &$list<'a $(, $of)?> {
             type Item = $item;
             type IntoIter = $iterator;
 

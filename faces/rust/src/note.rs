@@ -9,6 +9,7 @@ use crate::program_header::{ProgramHeaders, PT_NOTE};
 use crate::section_header::{SectionHeaders, SHT_NOTE};
 use crate::{raw, sys};
 use std::iter::FusedIterator;
+use std::marker::PhantomData;
 
 /// A note.
 ///
@@ -36,6 +37,73 @@ impl Note<'_> {
     }
 }
 
+/// A note as bytes. Its name need not be UTF-8.
+///
+/// ```
+/// use goblin_rs::note::NoteBytes;
+///
+/// let note = NoteBytes { n_type: 3, name: b"GNU\0", desc: b"\x01\x02" };
+/// assert_eq!(note.name.strip_suffix(b"\0"), Some(&b"GNU"[..]));
+/// ```
+#[derive(Clone, Copy, Debug, PartialEq, Eq, Hash)]
+pub struct NoteBytes<'a> {
+    /// Its type, whose meaning depends on the name.
+    pub n_type: u32,
+    /// Its whole name. In most files it ends with a zero byte.
+    pub name: &'a [u8],
+    /// Its descriptor.
+    pub desc: &'a [u8],
+}
+
+/// What notes are read as: [`Note`] or [`NoteBytes`].
+///
+/// ```
+/// use goblin_rs::note::{AnyNote, Notes};
+///
+/// /// Returns the last note, whatever notes are read as.
+/// fn last<'a, N: AnyNote<'a>>(notes: Notes<'a, N>) -> Option<N> {
+///     notes.iter().last()
+/// }
+/// # fn main() -> Result<(), Box<dyn std::error::Error>> {
+/// # let bytes = std::fs::read(std::env::current_exe()?)?;
+/// let elf = goblin_rs::Elf::parse(&bytes)?;
+/// if let Some(section) = elf.section(".note.gnu.build-id")? {
+///     let (note, as_bytes) = (last(elf.notes(&section)?), last(elf.notes_bytes(&section)?));
+///     assert_eq!(note.map(|note| note.desc), as_bytes.map(|note| note.desc));
+/// }
+/// # Ok(())
+/// # }
+/// ```
+pub trait AnyNote<'a>: Copy {
+    /// Reads the note at an offset.
+    #[doc(hidden)]
+    fn read(notes: &Notes<'a, Self>, offset: u64) -> Result<Option<raw::Note>>;
+
+    /// Returns a note that was read.
+    #[doc(hidden)]
+    fn new(file: File<'a>, note: raw::Note) -> Self;
+}
+
+impl<'a> AnyNote<'a> for Note<'a> {
+    fn read(notes: &Notes<'a, Self>, offset: u64) -> Result<Option<raw::Note>> {
+        sys::goblin_c_note(&notes.file, &notes.header, &notes.range, notes.alignment, offset)
+    }
+
+    fn new(file: File<'a>, note: raw::Note) -> Self {
+        Note { n_type: note.n_type, name: file.text(note.name), desc: file.slice(note.desc) }
+    }
+}
+
+impl<'a> AnyNote<'a> for NoteBytes<'a> {
+    fn read(notes: &Notes<'a, Self>, offset: u64) -> Result<Option<raw::Note>> {
+        sys::goblin_c_note_bytes(&notes.file, &notes.header, &notes.range, notes.alignment, offset)
+    }
+
+    fn new(file: File<'a>, note: raw::Note) -> Self {
+        NoteBytes { n_type: note.n_type, name: file.slice(note.name), desc: file.slice(note.desc) }
+    }
+}
+
 /// The notes of a section or a segment.
 ///
 /// ```
@@ -52,22 +120,23 @@ impl Note<'_> {
 /// # }
 /// ```
 #[derive(Clone, Copy, Debug)]
-pub struct Notes<'a> {
+pub struct Notes<'a, N = Note<'a>> {
     file: File<'a>,
     header: raw::Header,
     range: raw::Range,
     alignment: u64,
     count: usize,
+    read_as: PhantomData<N>,
 }
 
-impl<'a> Notes<'a> {
+impl<'a, N: AnyNote<'a>> Notes<'a, N> {
     /// Reads the notes of a range up to the first damaged one, and returns the error of that one.
     pub(crate) fn of(elf: &Elf<'a>, range: raw::Range, alignment: u64) -> (Self, Option<Error>) {
         let Elf { file, header } = *elf;
-        let mut notes = Notes { file, header, range, alignment, count: 0 };
+        let mut notes = Notes { file, header, range, alignment, count: 0, read_as: PhantomData };
         let mut offset = range.offset;
         loop {
-            match notes.read(offset) {
+            match N::read(&notes, offset) {
                 Ok(Some(note)) => offset = note.next,
                 Ok(None) => return (notes, None),
                 Err(e) => return (notes, Some(e)),
@@ -75,13 +144,9 @@ impl<'a> Notes<'a> {
             notes.count += 1;
         }
     }
-
-    fn read(&self, offset: u64) -> Result<Option<raw::Note>> {
-        sys::goblin_c_note(&self.file, &self.header, &self.range, self.alignment, offset)
-    }
 }
 
-list!(Notes of Note<'a>, by NoteDataIterator<'a>, "note", "notes");
+list!(Notes<N: AnyNote> of N, by NoteDataIterator<'a, N>, "note", "notes");
 
 /// An iterator over the notes of a section or a segment.
 ///
@@ -97,28 +162,27 @@ list!(Notes of Note<'a>, by NoteDataIterator<'a>, "note", "notes");
 /// # }
 /// ```
 #[derive(Clone, Debug)]
-pub struct NoteDataIterator<'a> {
-    notes: Notes<'a>,
+pub struct NoteDataIterator<'a, N = Note<'a>> {
+    notes: Notes<'a, N>,
     // The offset to read the next note at.
     next: u64,
     left: usize,
 }
 
-impl<'a> NoteDataIterator<'a> {
-    fn new(notes: Notes<'a>) -> Self {
+impl<'a, N: AnyNote<'a>> NoteDataIterator<'a, N> {
+    fn new(notes: Notes<'a, N>) -> Self {
         NoteDataIterator { notes, next: notes.range.offset, left: notes.count }
     }
 }
 
-impl<'a> Iterator for NoteDataIterator<'a> {
-    type Item = Note<'a>;
+impl<'a, N: AnyNote<'a>> Iterator for NoteDataIterator<'a, N> {
+    type Item = N;
 
     fn next(&mut self) -> Option<Self::Item> {
         self.left = self.left.checked_sub(1)?;
-        let note = made(self.notes.read(self.next))?;
+        let note = made(N::read(&self.notes, self.next))?;
         self.next = note.next;
-        let file = self.notes.file;
-        Some(Note { n_type: note.n_type, name: file.text(note.name), desc: file.slice(note.desc) })
+        Some(N::new(self.notes.file, note))
     }
 
     fn size_hint(&self) -> (usize, Option<usize>) {
@@ -126,9 +190,9 @@ impl<'a> Iterator for NoteDataIterator<'a> {
     }
 }
 
-impl ExactSizeIterator for NoteDataIterator<'_> {}
+impl<'a, N: AnyNote<'a>> ExactSizeIterator for NoteDataIterator<'a, N> {}
 
-impl FusedIterator for NoteDataIterator<'_> {}
+impl<'a, N: AnyNote<'a>> FusedIterator for NoteDataIterator<'a, N> {}
 
 // The headers of what holds notes.
 #[derive(Clone, Copy, Debug)]

@@ -6,7 +6,7 @@ use crate::items::{table, Items, List};
 use crate::names::Name;
 pub use crate::raw::ProgramHeader;
 use crate::section_header::{SectionHeader, SHF_TLS, SHT_NOBITS};
-use crate::sys;
+use crate::{raw, sys};
 use std::ops::Range;
 
 impl ProgramHeader {
@@ -54,6 +54,11 @@ impl ProgramHeader {
             PT_DYNAMIC | PT_GNU_EH_FRAME | PT_GNU_STACK => section.is_alloc() && !is_tls,
             _ => !is_tls,
         }
+    }
+
+    /// Returns its range in the file, inside the file or not.
+    pub(crate) fn range(&self) -> raw::Range {
+        raw::Range { offset: self.p_offset, size: self.p_filesz }
     }
 
     /// Reports whether the segment may be executed.

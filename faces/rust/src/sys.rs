@@ -57,6 +57,7 @@ calls! {
     fn goblin_c_reloc(header: &Header, relocs: &Range, is_rela: bool, index: u64) -> Reloc;
     fn goblin_c_relocs(header: &Header, relocs: &Range, is_rela: bool, first: u64) into [Reloc] -> u64;
     fn goblin_c_note(header: &Header, notes: &Range, alignment: u64, offset: u64) -> Note;
+    fn goblin_c_note_bytes(header: &Header, notes: &Range, alignment: u64, offset: u64) -> Note;
     fn goblin_c_string(strings: &Range, offset: u64) -> Range;
 }
 

@@ -1,5 +1,6 @@
 //! Tests iterator adaptors over lists, of whole and damaged files: none drops an error or an item.
-use goblin_rs::error::Kind;
+use goblin_rs::error::{Item, Kind};
+use goblin_rs::program_header::ProgramHeader;
 use goblin_rs::section_header::{SectionHeader, SHT_DYNSYM, SHT_NOTE, SHT_REL, SHT_RELA, SHT_SYMTAB};
 use goblin_rs::{Elf, Error};
 use std::fmt::Debug;
@@ -217,6 +218,43 @@ fn notes_are_refused_or_all_there() {
         let cut = Elf::parse(&file[..200]).unwrap();
         assert_eq!(cut.iter_note_sections().unwrap_err().kind(), Kind::BadOffset(cut.header.e_shoff));
         assert_eq!(cut.iter_note_headers().unwrap_err().kind(), Kind::BadOffset(cut.header.e_phoff));
+    }
+}
+
+#[test]
+fn notes_as_bytes_are_refused_or_all_there() {
+    for form in FORMS {
+        let file = made(form, 0);
+        let elf = Elf::parse(&file).unwrap();
+        let (section, segment) = (elf.section_header(1).unwrap().unwrap(), elf.program_header(0).unwrap().unwrap());
+        let notes: Vec<_> = elf.notes_bytes(&section).unwrap().iter().collect();
+        let fields: Vec<_> = notes.iter().map(|note| (note.n_type, note.name, note.desc)).collect();
+        assert_eq!(fields, [(3, &b"GNU\0"[..], &b"abcd"[..]), (0x1234, b"goblin\0", b"hello")]);
+        let wanted = forwards(|| notes.clone().into_iter());
+        assert_eq!(forwards(|| elf.segment_notes_bytes(&segment).unwrap().into_iter()), wanted);
+        // the first byte of the second name is not UTF-8
+        let damaged = with_byte(&file, 1, 32, 0xff);
+        let read: Vec<_> = Elf::parse(&damaged).unwrap().notes_bytes(&section).unwrap().iter().map(|note| note.name).collect();
+        assert_eq!(read, [&b"GNU\0"[..], b"\xffoblin\0"]);
+        // the range ends in the first note's header, name and descriptor, and then in those of the second
+        for (size, readable, item) in [
+            (11, 0, Item::NoteHeader), (15, 0, Item::NoteName), (19, 0, Item::NoteDesc), (31, 1, Item::NoteHeader), (38, 1, Item::NoteName),
+            (44, 1, Item::NoteDesc),
+        ] {
+            let section = SectionHeader { sh_size: size, ..section };
+            let segment = ProgramHeader { p_filesz: size, ..segment };
+            let refused = elf.notes_bytes(&section).unwrap_err();
+            assert_eq!((refused.item(), refused.offset()), (Some(item), section.sh_offset + 20 * readable as u64));
+            assert_eq!(elf.segment_notes_bytes(&segment).unwrap_err(), refused);
+            for (before, why) in [elf.readable_notes_bytes(&section), elf.readable_segment_notes_bytes(&segment)] {
+                assert_eq!((forwards(|| before.iter()), why), (forwards(|| notes[..readable].iter().copied()), Some(refused)));
+            }
+        }
+        let unaligned = SectionHeader { sh_addralign: 16, ..section };
+        let refused = elf.notes_bytes(&unaligned).unwrap_err();
+        assert_eq!((refused.kind(), refused.item()), (Kind::NoteAlign(16), None));
+        let empty = SectionHeader { sh_size: 0, ..section };
+        assert!(elf.notes_bytes(&empty).unwrap().is_empty());
     }
 }
 
