@@ -72,7 +72,12 @@ static bool put_strings(const char *what, uint32_t status, const goblin_section_
 static void string(goblin_range_t strings, uint64_t offset) {
     goblin_range_t found;
     if (ASK(goblin_string, found, &strings, offset)) put_bytes(found), putchar('\n');
-    if (ASK(goblin_string_bytes, found, &strings, offset)) put_bytes(found), putchar('\n');
+    if (!ASK(goblin_string_bytes, found, &strings, offset)) return;
+    put_bytes(found), putchar('\n');
+    const uint8_t *text = bytes + found.offset;
+    size_t size = (size_t)found.size;
+    if (put_status("goblin_string_is", goblin_string_is(bytes, len, &strings, offset / 2, text, size, &why))) puts(" yes");
+    if (put_status("goblin_string_starts", goblin_string_starts(bytes, len, &strings, offset, text, size / 2, &why))) puts(" yes");
 }
 
 static void one_symbol(goblin_range_t table, goblin_range_t names, uint64_t at) {

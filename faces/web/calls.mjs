@@ -391,6 +391,26 @@ function check_arguments() {
     assert.equal(symbols.name(symbols.get(symbols.by_address(st_value))), 'main');
 }
 
+// ---- texts ----
+
+function check_texts() {
+    const elf = Elf.parse(own), names = elf.shdr_strtab(), { sh_name } = elf.section('.text'), symbols = elf.syms();
+    const texts = ['', '.', '.tex', '.text', '.text\0', '.texts', 'text', '\0'];
+    const tested = (test) => texts.map((text) => [names[test](sh_name, text), names[test](sh_name, Buffer.from(text))]);
+    assert.deepEqual(tested('is'), texts.map((text) => Array(2).fill(text === '.text')));
+    assert.deepEqual(tested('starts_with'), texts.map((text) => Array(2).fill('.text'.startsWith(text))));
+    for (const offset of [names.range.size, (1n << 64n) - 1n]) {
+        assert.deepEqual([names.is(offset, ''), names.starts_with(offset, '')], [false, false]);
+    }
+    assert.equal(names.is(sh_name, new Uint8Array(1000000)), false);
+    assert.deepEqual(symbols.filter((symbol) => symbols.name_is(symbol, 'main')), [symbols.get(symbols.by_name('main'))]);
+    for (const wrong of [undefined, null, 5, ['.text'], new Uint16Array(1)]) assert.throws(() => names.is(0, wrong), TypeError);
+    assert.throws(() => names.starts_with(-1, ''), RangeError);
+    const past = elf.strtab({ ...elf.section('.strtab'), sh_offset: BigInt(own.length) + 1n });
+    assert.throws(() => past.is(0, ''), is_refusal(Kind.STRTAB_OFFSET));
+    assert.throws(() => past.starts_with(0, ''), is_refusal(Kind.STRTAB_OFFSET));
+}
+
 // ---- sections of segments ----
 
 function check_segments() {
@@ -536,6 +556,7 @@ const tested = [
     check_declarations(),
 ];
 check_arguments();
+check_texts();
 check_notes_as_bytes();
 check_segments();
 check_package();

@@ -312,6 +312,13 @@ function bytes_of(value) {
     throw new TypeError(`a file's bytes must be an ArrayBuffer or a view of one, such as a Uint8Array, not ${describe(value)}`);
 }
 
+// Returns the bytes of a text: a string's as UTF-8.
+function text_bytes(text) {
+    if (typeof text === 'string') return encoder.encode(text);
+    if (text instanceof Uint8Array) return text;
+    throw new TypeError(`a text must be a string or a Uint8Array, not ${describe(text)}`);
+}
+
 // An instance of the library, whose memory holds a file's bytes.
 class Memory {
     constructor(bytes) {
@@ -353,11 +360,16 @@ class Memory {
         return [this.address(FILE + this.length), BigInt(bytes.length)];
     }
 
+    // Calls the library, and reports whether it returned GOBLIN_OK and not GOBLIN_END.
+    test(name, ...args) {
+        const status = this.calls[name](...this.file, ...args, this.address(WHY)) >>> 0;
+        if (status > 1) throw GoblinError.of(this);
+        return status === 0;
+    }
+
     // Calls the library, and returns an item of a kind, or `undefined` for GOBLIN_END.
     call(name, kind, ...args) {
-        const status = this.calls[name](...this.file, ...args, this.address(ITEM), this.address(WHY)) >>> 0;
-        if (status > 1) throw GoblinError.of(this);
-        return status === 0 ? read(this.view, this.base + ITEM, records[kind]) : undefined;
+        return this.test(name, ...args, this.address(ITEM)) ? read(this.view, this.base + ITEM, records[kind]) : undefined;
     }
 
     // Calls the library to fill an array with the items from an index on, at most `most`, and returns them.
@@ -985,6 +997,18 @@ export class Symtab extends List {
     name_bytes(symbol) { return this.strtab.get_bytes(symbol.st_name); }
 
     /**
+     * Reports whether the name of a symbol is a text, a string or bytes, as `is` of the string table does.
+     *
+     * ```js
+     * const main = symbols.find((symbol) => symbols.name_is(symbol, 'main'));
+     * ```
+     * @param {Sym} symbol
+     * @param {string | Uint8Array} text
+     * @returns {boolean}
+     */
+    name_is(symbol, text) { return this.strtab.is(symbol.st_name, text); }
+
+    /**
      * Returns the index of the symbol for an address, if there is one: the one with the highest `st_value` that is not above the
      * address. It may end before the address: compare `st_value + st_size` with it, if `st_size` is not 0. `goblin_symbol_by_address`
      * in `goblin.h` has the whole rule.
@@ -1044,6 +1068,37 @@ export class Strtab {
     get_bytes(offset) {
         const range = this.#read('goblin_c_string_bytes', this.range, offset);
         return range && this.#memory.bytes(range);
+    }
+
+    /**
+     * Reports whether the string at an offset is a text, a string or bytes, which need not be UTF-8. It is false past the end of the
+     * table, and for a text with a zero byte in it. This reads at most one byte more of the string than the text has.
+     *
+     * ```js
+     * const is_text = elf.shdr_strtab().is(section.sh_name, '.text');
+     * ```
+     * @param {number | bigint} offset
+     * @param {string | Uint8Array} text
+     * @returns {boolean}
+     */
+    is(offset, text) { return this.#test('goblin_c_string_is', offset, text); }
+
+    /**
+     * Reports whether the string at an offset begins with a text. It is false past the end of the table, and for a text with a zero byte
+     * in it. This reads no more of the string than the text has.
+     *
+     * ```js
+     * const names = elf.shdr_strtab(), debug = elf.section_headers().filter(({ sh_name }) => names.starts_with(sh_name, '.debug_'));
+     * ```
+     * @param {number | bigint} offset
+     * @param {string | Uint8Array} text
+     * @returns {boolean}
+     */
+    starts_with(offset, text) { return this.#test('goblin_c_string_starts', offset, text); }
+
+    #test(call, offset, text) {
+        const bytes = this.#memory.pass_bytes(text_bytes(text)), strings = this.#memory.pass(NAMES, 'range', this.range);
+        return this.#memory.test(call, strings, unsigned(offset, 64), ...bytes);
     }
 
     /**

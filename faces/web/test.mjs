@@ -102,7 +102,11 @@ class Dump {
 
     string(strtab, offset) {
         const text = this.ask('goblin_string', () => strtab.get(offset), (string) => bytes(Buffer.from(string)));
-        this.ask('goblin_string_bytes', () => strtab.get_bytes(offset), bytes);
+        const string = this.ask('goblin_string_bytes', () => strtab.get_bytes(offset), bytes), yes = () => ' yes';
+        if (string) {
+            this.ask('goblin_string_is', () => strtab.is(offset / 2n, string) || undefined, yes);
+            this.ask('goblin_string_starts', () => strtab.starts_with(offset, string.subarray(0, string.length / 2)) || undefined, yes);
+        }
         return text;
     }
 

@@ -119,6 +119,30 @@ impl<'a> Symtab<'a> {
         self.strtab.get_bytes(symbol.st_name)
     }
 
+    /// Reports whether the name of a symbol is a text, such as a `str` or bytes, as [`Strtab::is`] does.
+    ///
+    /// ```
+    /// # fn main() -> Result<(), Box<dyn std::error::Error>> {
+    /// # let bytes = std::fs::read(std::env::current_exe()?)?;
+    /// let elf = goblin_rs::Elf::parse(&bytes)?;
+    /// if let Some(symbols) = elf.syms()? {
+    ///     for symbol in symbols {
+    ///         if symbols.name_is(&symbol, "main")? {
+    ///             println!("{:x}", symbol.st_value);
+    ///         }
+    ///     }
+    /// }
+    /// # Ok(())
+    /// # }
+    /// ```
+    ///
+    /// # Errors
+    /// If the string table is not inside the file.
+    #[inline]
+    pub fn name_is(&self, symbol: &Sym, text: impl AsRef<[u8]>) -> Result<bool> {
+        self.strtab.is(symbol.st_name, text)
+    }
+
     /// Returns the index of the symbol for an address: the one with the highest `st_value` that is not above the address. It may end
     /// before the address: compare `st_value + st_size` with it, if `st_size` is not 0. `goblin_symbol_by_address` in `goblin.h` has
     /// the whole rule.

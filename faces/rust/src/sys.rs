@@ -61,6 +61,31 @@ calls! {
     fn goblin_c_string(strings: &Range, offset: u64) -> Range;
 }
 
+// A call reports whether the string at an offset of a string table is a text, or begins with it.
+macro_rules! tests_of_strings {
+    ($(fn $name:ident;)*) => {$(
+        #[inline]
+        pub fn $name(bytes: &[u8], strings: &Range, offset: u64, text: &[u8]) -> Result<bool> {
+            extern "C" {
+                fn $name(bytes: *const u8, len: usize, strings: &Range, offset: u64, text: *const u8, text_len: usize, why: *mut Refusal) -> u32;
+            }
+            let mut why = Refusal::default();
+            // SAFETY: each pointer of a slice is passed with the slice's length. `why` is this function's own, and all outlive the call.
+            let status = unsafe { $name(bytes.as_ptr(), bytes.len(), strings, offset, text.as_ptr(), text.len(), &mut why) };
+            match status {
+                0 => Ok(true),
+                1 => Ok(false),
+                _ => Err(Error::new(why)),
+            }
+        }
+    )*};
+}
+
+tests_of_strings! {
+    fn goblin_c_string_is;
+    fn goblin_c_string_starts;
+}
+
 /// Returns the string whose range `goblin_string` returns. It is not checked once more for being UTF-8.
 #[inline]
 pub fn string<'a>(bytes: &'a [u8], strings: &Range, offset: u64) -> Result<Option<&'a str>> {

@@ -291,6 +291,37 @@ fn counts_and_bytes() {
 }
 
 #[test]
+fn strings_are_texts() {
+    for form in FORMS {
+        let file = made(form, 0);
+        let elf = Elf::parse(&file).unwrap();
+        let symbols = elf.syms().unwrap().unwrap();
+        let strings = symbols.strtab();
+        for (start, string) in [(0, ""), (1, "first"), (3, "rst"), (7, "second"), (14, "été")] {
+            for text in ["", "first", "firs", "first\0", "firsts", "rst", "second", "été", "\0"] {
+                assert_eq!(strings.is(start, text), Ok(string == text), "{start} {text:?}");
+                assert_eq!(strings.starts_with(start, text), Ok(string.starts_with(text)), "{start} {text:?}");
+            }
+        }
+        // a string that is not UTF-8
+        assert_eq!((strings.is(20, b"\xff"), strings.is(20, [0xfe])), (Ok(true), Ok(false)));
+        assert_eq!((strings.starts_with(20, "".as_bytes()), strings.starts_with(20, vec![0xff])), (Ok(true), Ok(true)));
+        // past the end there is no string
+        for offset in [STRINGS.len(), usize::MAX] {
+            assert_eq!((strings.is(offset, ""), strings.starts_with(offset, "")), (Ok(false), Ok(false)));
+        }
+        let named: Vec<_> = symbols.iter().map(|symbol| symbols.name_is(&symbol, "second").unwrap()).collect();
+        assert_eq!(named, [false, false, true, false, false]);
+        assert_eq!(symbols.name_is(&symbols.get(4).unwrap(), b"\xff"), Ok(true));
+        let section = elf.section_header(3).unwrap().unwrap();
+        let past = elf.strtab(&SectionHeader { sh_offset: file.len() as u64 + 1, ..section });
+        let refused = Kind::StrtabOffset { offset: file.len() as u64 + 1, len: file.len() as u64 };
+        assert_eq!(past.is(0, "").map_err(|e| e.kind()), Err(refused));
+        assert_eq!(past.starts_with(0, "").map_err(|e| e.kind()), Err(refused));
+    }
+}
+
+#[test]
 fn as_many_symbols_as_there_are() {
     for more in [0, 58, 59, 60, 123, 124, 1000] {
         let file = made(FORMS[0], more);
