@@ -18,7 +18,7 @@ const header = readFileSync(new URL('../c/goblin.h', import.meta.url), 'utf8');
 
 // Each byte of a struct's first field must be 1, of its second 2, and so on, as goblin_layout fills them.
 function check_layout() {
-    const fields = { refusal: 6, range: 2, header: 18, section: 10, segment: 8, symbol: 6, reloc: 5, note: 6 };
+    const fields = { refusal: 7, range: 2, header: 18, section: 10, segment: 8, symbol: 6, reloc: 5, note: 6 };
     const layout = goblin.layout();
     assert.deepEqual(Object.keys(layout), Object.keys(fields));
     for (const [kind, { item, size, library_size }] of Object.entries(layout)) {
