@@ -13,6 +13,8 @@ static uint8_t bytes[0x1000000];
 static size_t len;
 static goblin_header_t h;
 static goblin_refusal_t why;
+/* The index of the addresses of the table that is read, of which the first part is filled. */
+static uint64_t indices[sizeof bytes / 16], filled;
 
 /* Defines put_NAME(item) for each struct, which prints its fields. */
 #define STRUCT(name) } static void put_##name(const goblin_##name##_t *item) {
@@ -94,6 +96,7 @@ static void one_symbol(goblin_range_t table, goblin_range_t names, uint64_t at) 
     if (goblin_string(bytes, len, &names, symbol.st_name, &name, &why) == GOBLIN_OK)
         SHOW(goblin_symbol_by_name, number, index, &h, &table, &names, bytes + name.offset, (size_t)name.size);
     SHOW(goblin_symbol_by_address, number, index, &h, &table, symbol.st_value);
+    SHOW(goblin_symbol_by_address_in, number, index, &h, &table, indices, (size_t)filled, symbol.st_value + symbol.st_size);
 }
 
 static void symbols(const goblin_section_t *section) {
@@ -103,6 +106,7 @@ static void symbols(const goblin_section_t *section) {
     uint32_t status = goblin_linked_section(bytes, len, &h, section->sh_link, &strings, &why);
     if (!put_strings("goblin_linked_section", status, &strings, &names)) return;
     if (!SHOW(goblin_symbol_count, number, count, &h, &table)) return;
+    goblin_address_index(bytes, len, &h, &table, indices, (size_t)count, &filled, &why);
     bool is_table = section->sh_type == SHT_SYMTAB || section->sh_type == SHT_DYNSYM;
     for (uint64_t i = 0; i < count && (is_table || i < FEW); i++) one_symbol(table, names, i);
     one_symbol(table, names, count - (count > 0)), one_symbol(table, names, count);

@@ -411,6 +411,37 @@ function check_texts() {
     assert.throws(() => past.starts_with(0, ''), is_refusal(Kind.STRTAB_OFFSET));
 }
 
+// ---- an index of addresses ----
+
+// An index finds what `by_address` finds, also after other calls have written after the file.
+function check_address_index() {
+    let found = 0;
+    for (const content of files) {
+        const elf = Elf.parse(content), symbols = elf.syms() ?? elf.dynsyms();
+        if (!symbols) continue;
+        const index = symbols.address_index(), again = elf.syms()?.address_index();
+        assert.equal(elf.section_by_name('x'.repeat(100000)), undefined);
+        const values = [...symbols].slice(0, 300).map(({ st_value }) => st_value);
+        for (const address of values.flatMap((value) => [value, value + 1n, value + 0x40n]).concat(0, (1n << 64n) - 1n)) {
+            const wanted = symbols.by_address(address);
+            assert.deepEqual([index.at(address), again?.at(address)], [wanted, again && wanted]);
+            assert.deepEqual(index.symbol(address), wanted === undefined ? undefined : symbols.get(wanted));
+            if (wanted !== undefined) found++;
+        }
+        assert.throws(() => index.at(-1), RangeError);
+        assert.throws(() => index.at('1'), TypeError);
+        // (the indices of two tables are kept, and the file is as it was)
+        const dynamic = elf.dynsyms(), other = dynamic?.address_index(), at = dynamic && [...dynamic].at(-1).st_value;
+        if (dynamic) assert.equal(other.at(at), dynamic.by_address(at));
+        assert.equal(index.at(values.at(-1)), symbols.by_address(values.at(-1)));
+        assert.equal(elf.section_name(elf.section_header(1)), Elf.parse(content).section_name(elf.section_header(1)));
+    }
+    const main = Elf.parse(own).syms(), by_index = main.address_index().symbol(main.get(main.by_name('main')).st_value);
+    assert.equal(main.name(by_index), 'main');
+    assert.ok(found > 100, `${found} addresses`);
+    return `${found} addresses in indices`;
+}
+
 // ---- sections of segments ----
 
 function check_segments() {
@@ -528,7 +559,8 @@ function check_declarations() {
         }
     }
     const elf = Elf.parse(own), refused = (() => { try { return elf.number(own.length, 1); } catch (error) { return error; } })();
-    const made = { GoblinError: refused, Elf: elf, List: elf.section_headers(), Symtab: elf.syms(), Strtab: elf.shdr_strtab() };
+    const made = { GoblinError: refused, Elf: elf, List: elf.section_headers(), Symtab: elf.syms(), Strtab: elf.shdr_strtab(),
+        AddressIndex: elf.syms().address_index() };
     const classes = declared_members(declared, 'class');
     assert.deepEqual(Object.keys(classes).sort(), Object.keys(made).sort());
     for (const [name, members] of Object.entries(classes)) {
@@ -553,7 +585,7 @@ await check_missing_memories();
 await goblin.default();
 const tested = [
     check_bytes(), check_lists(), check_moved_sections(), check_linked_sections(), check_types_of_sections(), check_notes(), check_json(), await check_constants(),
-    check_declarations(),
+    check_address_index(), check_declarations(),
 ];
 check_arguments();
 check_texts();

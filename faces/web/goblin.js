@@ -324,11 +324,13 @@ class Memory {
     constructor(bytes) {
         this.calls = new WebAssembly.Instance(ready(compiled), {}).exports;
         this.base = Math.ceil(Number(this.calls.__heap_base.value) / 16) * 16;
-        this.length = bytes.length;
         this.reserve(FILE + bytes.length);
         this.part(FILE, bytes.length).set(bytes);
         // The first arguments of every call: the file's address and its length.
         this.file = [this.address(FILE), BigInt(bytes.length)];
+        // The end of the file and of what is kept after it, and the address indices among that, by the ranges of their tables.
+        this.end = FILE + bytes.length;
+        this.indices = new Map();
     }
 
     // Grows the memory if this file's part of it has fewer bytes.
@@ -353,11 +355,21 @@ class Memory {
         return this.address(offset);
     }
 
-    // Writes bytes after the file, and returns their address and length.
+    // Writes bytes after the file and what is kept, and returns their address and length.
     pass_bytes(bytes) {
-        this.reserve(FILE + this.length + bytes.length);
-        this.part(FILE + this.length, bytes.length).set(bytes);
-        return [this.address(FILE + this.length), BigInt(bytes.length)];
+        this.reserve(this.end + bytes.length);
+        this.part(this.end, bytes.length).set(bytes);
+        return [this.address(this.end), BigInt(bytes.length)];
+    }
+
+    // Keeps an array of numbers that a function fills, at most `most`. The function takes the array's address and length, and returns how
+    // many numbers it has filled. Returns their address and number.
+    keep(most, fill) {
+        const start = Math.ceil(this.end / 8) * 8;
+        this.reserve(start + 8 * most);
+        const filled = fill(this.address(start), BigInt(most));
+        this.end = start + 8 * Number(filled);
+        return [this.address(start), filled];
     }
 
     // Calls the library, and reports whether it returned GOBLIN_OK and not GOBLIN_END.
@@ -1011,7 +1023,7 @@ export class Symtab extends List {
     /**
      * Returns the index of the symbol for an address, if there is one: the one with the highest `st_value` that is not above the
      * address. It may end before the address: compare `st_value + st_size` with it, if `st_size` is not 0. `goblin_symbol_by_address`
-     * in `goblin.h` has the whole rule.
+     * in `goblin.h` has the whole rule. Each call reads all symbols: for many addresses use `address_index`.
      * @param {number | bigint} address
      * @returns {number | undefined}
      */
@@ -1020,6 +1032,17 @@ export class Symtab extends List {
         const table = memory.pass(ARGUMENT, 'range', this.#range);
         return as_index(memory.call('goblin_c_symbol_by_address', 'number', memory.address(HEADER), table, unsigned(address, 64)));
     }
+
+    /**
+     * Returns an index of the addresses, for many searches.
+     *
+     * ```js
+     * const symbols = elf.syms(), index = symbols.address_index();
+     * for (const address of addresses) console.log(index.symbol(address)?.st_value);
+     * ```
+     * @returns {AddressIndex}
+     */
+    address_index() { return new AddressIndex(this.#memory, this.#range, this); }
 
     /**
      * Returns the index of the first symbol with a name, if there is one.
@@ -1032,6 +1055,48 @@ export class Symtab extends List {
         const table = memory.pass(ARGUMENT, 'range', this.#range);
         const names = memory.pass(NAMES, 'range', this.strtab.range);
         return as_index(memory.call('goblin_c_symbol_by_name', 'number', memory.address(HEADER), table, names, ...bytes));
+    }
+}
+
+/**
+ * An index of the addresses of a symbol table, for many searches. It finds what `by_address` finds, and reads a few symbols for each
+ * binary digit of their number, where `by_address` reads all of them. Each file keeps one index for a table.
+ */
+export class AddressIndex {
+    #memory; #range; #symtab; #indices;
+
+    constructor(memory, range, symtab) {
+        this.#memory = memory;
+        this.#range = range;
+        this.#symtab = symtab;
+        const key = `${range.offset} ${range.size}`;
+        if (!memory.indices.has(key)) {
+            const fill = (...array) => this.#call('goblin_c_address_index', ...array).value;
+            memory.indices.set(key, memory.keep(symtab.length, fill));
+        }
+        this.#indices = memory.indices.get(key);
+    }
+
+    #call(name, ...args) {
+        const table = this.#memory.pass(ARGUMENT, 'range', this.#range);
+        return this.#memory.call(name, 'number', this.#memory.address(HEADER), table, ...args);
+    }
+
+    /**
+     * Returns the index of the symbol for an address, if there is one, as `by_address` of the table does.
+     * @param {number | bigint} address
+     * @returns {number | undefined}
+     */
+    at(address) { return as_index(this.#call('goblin_c_symbol_by_address_in', ...this.#indices, unsigned(address, 64))); }
+
+    /**
+     * Returns the symbol for an address, if there is one.
+     * @param {number | bigint} address
+     * @returns {Sym | undefined}
+     */
+    symbol(address) {
+        const index = this.at(address);
+        return index === undefined ? undefined : this.#symtab.get(index);
     }
 }
 

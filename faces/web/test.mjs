@@ -118,6 +118,8 @@ class Dump {
         const name = this.string(symtab.strtab, symbol.st_name);
         if (name !== undefined) this.ask('goblin_symbol_by_name', () => symtab.by_name(name));
         this.ask('goblin_symbol_by_address', () => symtab.by_address(symbol.st_value));
+        const end = BigInt.asUintN(64, symbol.st_value + symbol.st_size);
+        this.ask('goblin_symbol_by_address_in', () => symtab.address_index().at(end));
     }
 
     symbols(elf, section) {

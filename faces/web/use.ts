@@ -1,6 +1,6 @@
 // A program in TypeScript over goblin.d.ts. checks/web.sh compiles it if there is tsc, and does not run it. A line that must be an error
 // has a comment before it, at which the compiler fails if there is none.
-import init, { Elf, GoblinError, Kind, List, Range, SectionHeader, SHF_ALLOC, SHT_SYMTAB, Symtab, json, machine_to_str } from 'goblin_c';
+import init, { AddressIndex, Elf, GoblinError, Kind, List, Range, SectionHeader, SHF_ALLOC, SHT_SYMTAB, Symtab, json, machine_to_str } from 'goblin_c';
 
 export async function main(bytes: ArrayBuffer, view: Uint16Array): Promise<string[]> {
     await init();
@@ -11,7 +11,8 @@ export async function main(bytes: ArrayBuffer, view: Uint16Array): Promise<strin
     for (const [index, { sh_size }] of sections.entries()) lines.push(`${names[index]} ${sh_size + 1n}`);
     const index: number | undefined = elf.section_by_type(SHT_SYMTAB), range: Range | undefined = elf.section_range(loaded[0]);
     lines.push(`${index} ${range?.offset} ${machine_to_str(elf.header.e_machine)}`, JSON.stringify({ ...loaded[0] }, json));
-    const symbols: Symtab | undefined = elf.syms();
+    const symbols: Symtab | undefined = elf.syms(), addresses: AddressIndex | undefined = symbols?.address_index();
+    lines.push(`${addresses?.at(elf.header.e_entry)} ${addresses?.symbol(0)?.st_value} ${symbols?.strtab.is(1, 'main')}`);
     for (const symbol of symbols ?? []) lines.push(`${symbols?.name(symbol)} ${symbol.st_value}`);
     for (const [section, relocs] of elf.shdr_relocs()) lines.push(`${section.sh_info} ${relocs.at(-1)?.r_addend ?? 0n}`);
     for (const { name, desc } of elf.iter_note_headers()) lines.push(`${name} ${desc.length}`);

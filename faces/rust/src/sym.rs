@@ -145,10 +145,18 @@ impl<'a> Symtab<'a> {
 
     /// Returns the index of the symbol for an address: the one with the highest `st_value` that is not above the address. It may end
     /// before the address: compare `st_value + st_size` with it, if `st_size` is not 0. `goblin_symbol_by_address` in `goblin.h` has
-    /// the whole rule.
+    /// the whole rule. Each call reads all symbols: for many addresses use [`Symtab::address_index`].
     pub fn at(&self, address: u64) -> Option<usize> {
         let index = sys::goblin_c_symbol_by_address(&self.file, &self.header, &self.range, address);
         made(index).map(|index| index as usize)
+    }
+
+    /// Returns an index of the addresses, for many searches.
+    pub fn address_index(&self) -> AddressIndex<'a> {
+        let mut indices = vec![0; self.len()];
+        let filled = made(sys::goblin_c_address_index(&self.file, &self.header, &self.range, &mut indices));
+        indices.truncate(filled.expect("an array with an entry for each symbol is not too short") as usize);
+        AddressIndex { symbols: *self, indices }
     }
 
     /// Returns the index of the first symbol with a name.
@@ -184,6 +192,45 @@ impl List for Symtab<'_> {
 
     fn fill(&self, first: u64, items: &mut [Sym]) -> Result<Option<u64>> {
         sys::goblin_c_symbols(&self.file, &self.header, &self.range, first, items)
+    }
+}
+
+/// An index of the addresses of a symbol table, for many searches. It finds what [`Symtab::at`] finds, and reads a few symbols for each
+/// binary digit of their number, where `at` reads all of them.
+///
+/// ```
+/// # fn main() -> Result<(), Box<dyn std::error::Error>> {
+/// # let bytes = std::fs::read(std::env::current_exe()?)?;
+/// let elf = goblin_rs::Elf::parse(&bytes)?;
+/// if let Some(symbols) = elf.syms()? {
+///     let index = symbols.address_index();
+///     for address in [elf.entry(), elf.entry() + 4] {
+///         if let Some(symbol) = index.symbol(address) {
+///             println!("{address:x} {}+{:#x}", symbols.name(&symbol)?.unwrap_or("?"), address - symbol.st_value);
+///         }
+///         assert_eq!(index.at(address), symbols.at(address));
+///     }
+/// }
+/// # Ok(())
+/// # }
+/// ```
+#[derive(Clone, Debug)]
+pub struct AddressIndex<'a> {
+    symbols: Symtab<'a>,
+    // The indices of symbols, as the library has put them in order.
+    indices: Vec<u64>,
+}
+
+impl AddressIndex<'_> {
+    /// Returns the index of the symbol for an address, as [`Symtab::at`] does.
+    pub fn at(&self, address: u64) -> Option<usize> {
+        let Symtab { file, header, range, .. } = &self.symbols;
+        made(sys::goblin_c_symbol_by_address_in(file, header, range, &self.indices, address)).map(|index| index as usize)
+    }
+
+    /// Returns the symbol for an address, whose index [`AddressIndex::at`] returns.
+    pub fn symbol(&self, address: u64) -> Option<Sym> {
+        self.symbols.get(self.at(address)?)
     }
 }
 

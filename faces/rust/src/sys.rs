@@ -7,21 +7,22 @@ use crate::file::File;
 use crate::raw::{Header, Note, ProgramHeader, Range, Refusal, Reloc, SectionHeader, Sym};
 use std::str;
 
-// A call takes the file's bytes and further arguments: after `by` a name, after `into` an array to fill. It returns an item (the number
-// of items that were filled, for an array), `None` for GOBLIN_END, or the error for a refusal.
+// A call takes the file's bytes and further arguments: after `by` a slice to read, after `from` one more number, after `into` an array to
+// fill. It returns an item (the number of items that were filled, for an array), `None` for GOBLIN_END, or the error for a refusal.
 macro_rules! calls {
-    ($(fn $name:ident($($given:ident: $type:ty),*) $(by $by:ident)? $(into [$each:ty])? -> $item:ty;)*) => {$(
+    ($(fn $name:ident($($given:ident: $type:ty),*) $(by $by:ident: [$part:ty])? $(from $from:ident)? $(into [$each:ty])? -> $item:ty;)*) => {$(
         #[inline]
-        pub fn $name(bytes: &[u8] $(, $given: $type)* $(, $by: &[u8])? $(, items: &mut [$each])?) -> Result<Option<$item>> {
+        pub fn $name(bytes: &[u8] $(, $given: $type)* $(, $by: &[$part])? $(, $from: u64)? $(, items: &mut [$each])?)
+            -> Result<Option<$item>> {
             extern "C" {
-                fn $name(bytes: *const u8, len: usize $(, $given: $type)* $(, $by: *const u8, _: usize)?
+                fn $name(bytes: *const u8, len: usize $(, $given: $type)* $(, $by: *const $part, _: usize)? $(, $from: u64)?
                     $(, items: *mut $each, _: usize)?, item: *mut $item, why: *mut Refusal) -> u32;
             }
             let (mut item, mut why) = <($item, Refusal)>::default();
             // SAFETY: each pointer of a slice is passed with the slice's length. `item` and `why` are this function's own, and all
             // references and slices outlive the call. It writes only numbers.
             let status = unsafe {
-                $name(bytes.as_ptr(), bytes.len() $(, $given)* $(, $by.as_ptr(), $by.len())?
+                $name(bytes.as_ptr(), bytes.len() $(, $given)* $(, $by.as_ptr(), $by.len())? $(, $from)?
                     $(, items.as_mut_ptr() as *mut $each, items.len())?, &mut item, &mut why)
             };
             match status {
@@ -40,7 +41,7 @@ calls! {
     fn goblin_c_sections(header: &Header, first: u64) into [SectionHeader] -> u64;
     fn goblin_c_linked_section(header: &Header, index: u64) -> SectionHeader;
     fn goblin_c_section_names(header: &Header) -> SectionHeader;
-    fn goblin_c_section_by_name(header: &Header, names: &Range) by name -> u64;
+    fn goblin_c_section_by_name(header: &Header, names: &Range) by name: [u8] -> u64;
     fn goblin_c_segment(header: &Header, index: u64) -> ProgramHeader;
     fn goblin_c_section_by_type(header: &Header, sh_type: u32, first: u64) -> u64;
     fn goblin_c_section_bytes(section: &SectionHeader) -> Range;
@@ -52,8 +53,10 @@ calls! {
     fn goblin_c_number(header: &Header, offset: u64, width: u64) -> u64;
     fn goblin_c_symbol(header: &Header, table: &Range, index: u64) -> Sym;
     fn goblin_c_symbols(header: &Header, table: &Range, first: u64) into [Sym] -> u64;
-    fn goblin_c_symbol_by_name(header: &Header, table: &Range, names: &Range) by name -> u64;
+    fn goblin_c_symbol_by_name(header: &Header, table: &Range, names: &Range) by name: [u8] -> u64;
     fn goblin_c_symbol_by_address(header: &Header, table: &Range, address: u64) -> u64;
+    fn goblin_c_address_index(header: &Header, table: &Range) into [u64] -> u64;
+    fn goblin_c_symbol_by_address_in(header: &Header, table: &Range) by index: [u64] from address -> u64;
     fn goblin_c_reloc(header: &Header, relocs: &Range, is_rela: bool, index: u64) -> Reloc;
     fn goblin_c_relocs(header: &Header, relocs: &Range, is_rela: bool, first: u64) into [Reloc] -> u64;
     fn goblin_c_note(header: &Header, notes: &Range, alignment: u64, offset: u64) -> Note;

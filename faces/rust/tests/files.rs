@@ -291,6 +291,26 @@ fn counts_and_bytes() {
 }
 
 #[test]
+fn symbols_by_an_index_of_their_addresses() {
+    for (form, more) in FORMS.into_iter().flat_map(|form| [(form, 0), (form, 3), (form, 100)]) {
+        let file = made(form, more);
+        let symbols = Elf::parse(&file).unwrap().syms().unwrap().unwrap();
+        let index = symbols.address_index();
+        // symbol 1 has the value 0x1020, and each symbol from 5 on the number before which it was added; others are of no section
+        for address in (0..0x1100).chain([u64::MAX]) {
+            let wanted = match address {
+                0x1020.. => Some(1),
+                _ if more == 0 => None,
+                _ => Some(5 + (address as usize).min(more - 1)),
+            };
+            assert_eq!((index.at(address), symbols.at(address)), (wanted, wanted), "{address:#x}");
+            assert_eq!(index.symbol(address), wanted.and_then(|index| symbols.get(index)));
+        }
+        assert_eq!(index.clone().at(0x1020), Some(1));
+    }
+}
+
+#[test]
 fn strings_are_texts() {
     for form in FORMS {
         let file = made(form, 0);
