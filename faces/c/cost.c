@@ -57,6 +57,32 @@ static uint64_t each_segment(void) {
     return i;
 }
 
+static uint64_t each_section_alone(void) {
+    goblin_section_t section;
+    uint64_t i = 0;
+    while (goblin_section_alone(bytes, len, &header, i, &section, &why) == GOBLIN_OK) i++;
+    return i;
+}
+
+static uint64_t each_segment_alone(void) {
+    goblin_segment_t segment;
+    uint64_t i = 0;
+    while (goblin_segment_alone(bytes, len, &header, i, &segment, &why) == GOBLIN_OK) i++;
+    return i;
+}
+
+static uint64_t place_of_each_section(void) {
+    goblin_range_t place;
+    uint64_t i = 0;
+    while (goblin_section_place(bytes, len, &header, i, &place, &why) == GOBLIN_OK) i++;
+    return i;
+}
+
+static uint64_t offset_of_no_address(void) {
+    uint64_t offset;
+    return goblin_address_to_offset(bytes, len, &header, 1, &offset, &why) == GOBLIN_END ? SEGMENTS : 0;
+}
+
 static uint64_t each_symbol(void) {
     goblin_range_t table = range_of(ITEMS, sizeof(Elf64_Sym));
     goblin_symbol_t symbol;
@@ -198,6 +224,10 @@ int main(void) {
     right &= takes_little("all sections", all_sections, ITEMS);
     right &= takes_little("a section of a type that none has", section_of_no_type, ITEMS);
     right &= takes_little("each segment", each_segment, SEGMENTS);
+    right &= takes_little("each section alone", each_section_alone, ITEMS);
+    right &= takes_little("each segment alone", each_segment_alone, SEGMENTS);
+    right &= takes_little("the place of each section", place_of_each_section, ITEMS);
+    right &= takes_little("the offset of an address that no segment has", offset_of_no_address, SEGMENTS);
     right &= takes_little("each symbol", each_symbol, ITEMS);
     right &= takes_little("all symbols", all_symbols, ITEMS);
     right &= takes_little("a symbol at an address that none has", symbol_at_no_address, ITEMS);

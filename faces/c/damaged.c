@@ -195,6 +195,75 @@ static void by_address(const goblin_header_t *h, goblin_range_t range) {
         wrong("goblin_symbol_by_address_in: other numbers", GOBLIN_OK);
 }
 
+/* Returns the offset of the item with an index, or the greatest number if it is past that. */
+static uint64_t offset_of(uint64_t start, uint64_t size, uint64_t index) {
+    return index > (UINT64_MAX - start) / size ? UINT64_MAX : start + index * size;
+}
+
+/* Reads the header at an index alone. It must be one of the whole ones, and that of the call for all of them where that has a result;
+   its range has its bytes. */
+#define ALONE(one, alone, place, type, last, h, at, whole, start, width) \
+    do { \
+        type with_others, by_itself; \
+        goblin_range_t own; \
+        size_t size = offsetof(type, last) + sizeof by_itself.last; \
+        begins(start, start); \
+        bool is_there = READS(one, with_others, h, at), has_place = READS(place, own, h, at); \
+        begins(offset_of(start, width, at), start); \
+        bool is_alone = READS(alone, by_itself, h, at); \
+        if (is_alone != (at < whole)) wrong(#alone, is_alone); \
+        if (is_there && (!is_alone || memcmp(&with_others, &by_itself, size))) wrong(#alone " and " #one, is_alone); \
+        if (has_place != is_there || (has_place && own.offset != offset_of(start, width, at))) wrong(#place, has_place); \
+        if (has_place) inside(#place, own); \
+    } while (0)
+
+/* Returns the offset of the byte that is loaded at an address, at most the greatest number, or 0 if there is none. */
+static uint64_t loaded(const goblin_header_t *h, uint64_t address) {
+    goblin_segment_t p;
+    for (uint64_t i = 0; goblin_segment(bytes, len, h, i, &p, NULL) == GOBLIN_OK; i++)
+        if (p.p_type == 1 && p.p_vaddr <= address && address - p.p_vaddr < p.file.size)
+            return offset_of(p.file.offset, 1, address - p.p_vaddr);
+    return 0;
+}
+
+/* Reads headers by themselves, and converts addresses to offsets. */
+static void alone(const goblin_header_t *h) {
+    uint64_t sections = 0, segments = 0, offset, width = h->ei_class == 2 ? 64 : 40, other_width = h->ei_class == 2 ? 56 : 32;
+    begins(h->e_shoff, h->e_shoff);
+    if (!READS(goblin_whole_sections, sections, h)) sections = 0;
+    if (!READS(goblin_whole_segments, segments, h)) wrong("goblin_whole_segments", GOBLIN_END);
+    for (int i = 0; i < 8; i++) {
+        uint64_t at = i < 4 ? any(12) : i < 6 ? sections - any(2) : odd(), other = i == 5 ? segments - any(2) : at;
+        goblin_segment_t segment;
+        ALONE(goblin_section, goblin_section_alone, goblin_section_place, goblin_section_t, sh_info, h, at, sections, h->e_shoff, width);
+        ALONE(goblin_segment, goblin_segment_alone, goblin_segment_place, goblin_segment_t, p_flags, h, other, segments, h->e_phoff,
+              other_width);
+        begins(offset_of(h->e_phoff, other_width, other), h->e_phoff);
+        uint64_t address = READS(goblin_segment_alone, segment, h, other) ? segment.p_vaddr + any(0x100) : odd();
+        uint64_t expected = loaded(h, address);
+        begins(h->e_phoff, expected);
+        if (READS(goblin_address_to_offset, offset, h, address) && (offset >= len || offset != expected))
+            wrong("goblin_address_to_offset", GOBLIN_OK);
+    }
+}
+
+/* Cuts a range to the file, and reads a number in it. The number must be the one at its offset in the file. */
+static void part(const goblin_header_t *h, goblin_range_t range) {
+    goblin_range_t cut;
+    blank(&cut, sizeof cut);
+    goblin_range_in_file(bytes, len, &range, &cut);
+    inside("goblin_range_in_file", cut);
+    bool is_inside = range.offset <= len && range.size <= len - range.offset;
+    if (is_inside && memcmp(&cut, &range, sizeof cut)) wrong("goblin_range_in_file", GOBLIN_OK);
+    add(&cut, sizeof cut);
+    uint64_t number, same_number, offset = any(2) ? any(range.size % 0x1000 + 9) : odd(), width = any(10);
+    begins(range.offset, offset_of(range.offset, 1, offset));
+    if (!READS(goblin_number_in, number, h, &range, offset, width)) return;
+    if (!is_inside || width > range.size || offset > range.size - width
+        || !READS(goblin_number, same_number, h, range.offset + offset, width) || number != same_number)
+        wrong("goblin_number_in", GOBLIN_OK);
+}
+
 /* Reads a range as symbols, as relocations and as notes, and searches for the names. */
 static void table(const goblin_header_t *h, goblin_range_t range, goblin_range_t names) {
     if (any(4) == 0) range = odd_range();
@@ -237,7 +306,11 @@ static void table(const goblin_header_t *h, goblin_range_t range, goblin_range_t
                 wrong("goblin_string_bytes", GOBLIN_OK);
         }
         begins(range.offset, range.offset);
-        if (!READS(goblin_symbol, symbol, h, &range, at)) continue;
+        bool is_symbol = READS(goblin_symbol, symbol, h, &range, at);
+        goblin_range_t place;
+        if (READS(goblin_symbol_place, place, h, &range, at) != is_symbol) wrong("goblin_symbol_place", GOBLIN_OK);
+        if (!is_symbol) continue;
+        inside("goblin_symbol_place", place);
         begins(names.offset, names.offset + symbol.st_name);
         if (!READS(goblin_string, name, &names, symbol.st_name)) continue;
         inside("string", name);
@@ -263,6 +336,7 @@ static void table(const goblin_header_t *h, goblin_range_t range, goblin_range_t
     uint64_t offset = any(2) ? any_offset(len) : odd(), width = any(10);
     begins(offset, offset);
     READS(goblin_number, number, h, offset, width);
+    part(h, range);
     begins(range.offset, range.offset);
     SEVERAL(goblin_symbol, goblin_symbols, goblin_symbol_t, st_other, h, &range);
     SEVERAL(goblin_reloc, goblin_relocs, goblin_reloc_t, has_addend, h, &range, is_rela);
@@ -296,8 +370,10 @@ static void file(void) {
         table(&h, is_there ? section.file : odd_range(), names.file);
         begins(names.file.offset, names.file.offset + section.sh_name);
         if (is_there && READS(goblin_string, name, &names.file, section.sh_name)
-            && (begins(h.e_shoff, names.file.offset), !READS(goblin_section_by_name, index, &h, &names.file, bytes + name.offset, (size_t)name.size)
-                || index > at || !READS(goblin_section, found, &h, index)))
+            && (begins(h.e_shoff, names.file.offset),
+                !READS(goblin_section_by_name, index, &h, &names.file, bytes + name.offset, (size_t)name.size, 0)
+                || index > at || !READS(goblin_section, found, &h, index)
+                || !READS(goblin_section_by_name, index, &h, &names.file, bytes + name.offset, (size_t)name.size, at) || index != at))
             wrong("goblin_section_by_name", GOBLIN_END);
         goblin_segment_t segment;
         goblin_range_t within;
@@ -309,12 +385,21 @@ static void file(void) {
         }
         begins(section.file.offset, section.file.offset);
         if (is_there && READS(goblin_section_bytes, within, &section)) inside("section", within);
+        begins(names.file.offset, names.file.offset + section.sh_name);
+        if (is_there && READS(goblin_string, name, &names.file, section.sh_name)
+            && (begins(h.e_shoff, names.file.offset),
+                READS(goblin_section_by_name, index, &h, &names.file, bytes + name.offset, (size_t)name.size, 0))
+            && READS(goblin_section, found, &h, index)
+            && (begins(found.file.offset, found.file.offset),
+                READS(goblin_bytes_by_name, within, &h, &names.file, bytes + name.offset, (size_t)name.size)))
+            inside("goblin_bytes_by_name", within);
         begins(h.e_shoff, h.e_shoff);
         if (is_there && (!READS(goblin_section_by_type, index, &h, section.sh_type, at) || index != at))
             wrong("goblin_section_by_type", GOBLIN_END);
     }
     begins(h.e_phoff, h.e_phoff);
     READS(goblin_segment_count, count, &h);
+    alone(&h);
     begins(h.e_shoff, h.e_shoff);
     SEVERAL(goblin_section, goblin_sections, goblin_section_t, sh_info, &h);
     names_of_numbers();

@@ -177,7 +177,7 @@ static void sections(void) {
         putchar('\n');
         string(strings, section.sh_name);
         if (goblin_string(bytes, len, &strings, section.sh_name, &name, &why) == GOBLIN_OK)
-            SHOW(goblin_section_by_name, number, index, &h, &strings, bytes + name.offset, (size_t)name.size);
+            SHOW(goblin_section_by_name, number, index, &h, &strings, bytes + name.offset, (size_t)name.size, 0);
         SHOW(goblin_section_by_type, number, index, &h, section.sh_type, i / 2);
         SHOW(goblin_section_by_type, number, index, &h, section.sh_type, i + 1);
         SHOW(goblin_section_bytes, range, range, &section);

@@ -285,6 +285,28 @@ GOBLIN_CALL uint32_t goblin_section_count(const uint8_t *bytes, size_t len, cons
 GOBLIN_CALL uint32_t goblin_section(const uint8_t *bytes, size_t len, const goblin_header_t *header, uint64_t index,
                                     goblin_section_t *section, goblin_refusal_t *why);
 
+/* Reads the section header at an index, wherever the others are. It is for files that are cut or damaged: goblin_section refuses
+   every index if one of the headers is not inside the file. Where goblin_section returns GOBLIN_OK, this call writes the same.
+   GOBLIN_END if the index is not below the number of sections (see goblin_section_count).
+   GOBLIN_BAD_OFFSET or GOBLIN_TOO_BIG: e_shnum is 0 and the first header is not inside the file, or this header is not. `why->offset` is
+   the offset of that header; one that does not fit in 64 bits is reported as UINT64_MAX.
+   Example: if (goblin_section_alone(bytes, len, &header, 3, &section, &why) == GOBLIN_OK) count++; */
+GOBLIN_CALL uint32_t goblin_section_alone(const uint8_t *bytes, size_t len, const goblin_header_t *header, uint64_t index,
+                                          goblin_section_t *section, goblin_refusal_t *why);
+
+/* Counts the section headers that are inside the file: the smaller of the number of sections and how many fit into the file from
+   e_shoff on. These are the indices at which goblin_section_alone returns GOBLIN_OK.
+   GOBLIN_BAD_OFFSET or GOBLIN_TOO_BIG: e_shnum is 0 and the first header is not inside the file. Never returns GOBLIN_END.
+   Example: if (goblin_whole_sections(bytes, len, &header, &count, &why) != GOBLIN_OK) return 1; */
+GOBLIN_CALL uint32_t goblin_whole_sections(const uint8_t *bytes, size_t len, const goblin_header_t *header, uint64_t *count,
+                                           goblin_refusal_t *why);
+
+/* Finds the range of the section header at an index: the bytes that goblin_section reads. With it a caller can change a field in a
+   buffer, in the file's byte order. GOBLIN_END and refusals are those of goblin_section.
+   Example: if (goblin_section_place(bytes, len, &header, 3, &range, &why) != GOBLIN_OK) return 1; */
+GOBLIN_CALL uint32_t goblin_section_place(const uint8_t *bytes, size_t len, const goblin_header_t *header, uint64_t index,
+                                          goblin_range_t *place, goblin_refusal_t *why);
+
 /* Reads the section headers from the index `first` on into an array of `capacity` items, until the table or the array ends.
    `*filled` is the number of items that are written; those after them are unchanged. GOBLIN_END if `first` is not below the number
    of sections. Refused as goblin_section_count is.
@@ -308,14 +330,23 @@ GOBLIN_CALL uint32_t goblin_linked_section(const uint8_t *bytes, size_t len, con
 GOBLIN_CALL uint32_t goblin_section_names(const uint8_t *bytes, size_t len, const goblin_header_t *header,
                                           goblin_section_t *section, goblin_refusal_t *why);
 
-/* Finds the index of the first section with a name. `names` is the range of the section names in the file. A section has no name
-   if its name is not UTF-8 or lies past the names. The empty name is a name, which section 0 has in most files. No section has a
-   name with a zero byte in it, so leave out the zero byte at the end of `name`. GOBLIN_END if no section has the name.
+/* Finds the index of the first section with a name, from the index `first` on. `names` is the range of the section names in the file.
+   A section has no name if its name is not UTF-8 or lies past the names. The empty name is a name, which section 0 has in most files.
+   No section has a name with a zero byte in it, so leave out the zero byte at the end of `name`. GOBLIN_END if no section has the
+   name.
    Refused as goblin_section_count is, and then as goblin_string is for the range `names`, but never by GOBLIN_BAD_INPUT.
-   Example: goblin_section_by_name(bytes, len, &header, &names.file, ".text", 5, &index, &why); */
+   Example: goblin_section_by_name(bytes, len, &header, &names.file, ".text", 5, 0, &index, &why); */
 GOBLIN_CALL uint32_t goblin_section_by_name(const uint8_t *bytes, size_t len, const goblin_header_t *header,
-                                            const goblin_range_t *names, const void *name, size_t name_len, uint64_t *index,
-                                            goblin_refusal_t *why);
+                                            const goblin_range_t *names, const void *name, size_t name_len, uint64_t first,
+                                            uint64_t *index, goblin_refusal_t *why);
+
+/* Finds the range of the bytes of the first section with a name, as goblin_section_bytes does for that section. GOBLIN_END if no
+   section has the name, or if the first that has it has no bytes in the file.
+   Refused as goblin_section_by_name is, and then as goblin_section_bytes is.
+   Example: goblin_bytes_by_name(bytes, len, &header, &names.file, ".comment", 8, &range, &why); */
+GOBLIN_CALL uint32_t goblin_bytes_by_name(const uint8_t *bytes, size_t len, const goblin_header_t *header,
+                                          const goblin_range_t *names, const void *name, size_t name_len, goblin_range_t *range,
+                                          goblin_refusal_t *why);
 
 /* Finds the index of the first section of a type, a GOBLIN_SHT_ number, from the index `first` on. GOBLIN_END if there is none.
    Refused as goblin_section_count is.
@@ -348,6 +379,35 @@ GOBLIN_CALL uint32_t goblin_segment_bytes(const uint8_t *bytes, size_t len, cons
 GOBLIN_CALL uint32_t goblin_segment(const uint8_t *bytes, size_t len, const goblin_header_t *header, uint64_t index,
                                     goblin_segment_t *segment, goblin_refusal_t *why);
 
+/* Reads the program header at an index, wherever the others are, as goblin_section_alone reads a section header. GOBLIN_END if the
+   index is not below e_phnum. Where goblin_segment returns GOBLIN_OK, this call writes the same.
+   GOBLIN_BAD_OFFSET or GOBLIN_TOO_BIG: this header is not inside the file. `why->offset` is its offset; one that does not fit in 64
+   bits is reported as UINT64_MAX.
+   Example: if (goblin_segment_alone(bytes, len, &header, 3, &segment, &why) == GOBLIN_OK) count++; */
+GOBLIN_CALL uint32_t goblin_segment_alone(const uint8_t *bytes, size_t len, const goblin_header_t *header, uint64_t index,
+                                          goblin_segment_t *segment, goblin_refusal_t *why);
+
+/* Counts the program headers that are inside the file: the smaller of e_phnum and how many fit into the file from e_phoff on. These
+   are the indices at which goblin_segment_alone returns GOBLIN_OK. Always returns GOBLIN_OK.
+   Example: goblin_whole_segments(bytes, len, &header, &count, &why); */
+GOBLIN_CALL uint32_t goblin_whole_segments(const uint8_t *bytes, size_t len, const goblin_header_t *header, uint64_t *count,
+                                           goblin_refusal_t *why);
+
+/* Finds the range of the program header at an index: the bytes that goblin_segment reads. GOBLIN_END and refusals are those of
+   goblin_segment.
+   Example: if (goblin_segment_place(bytes, len, &header, 3, &range, &why) != GOBLIN_OK) return 1; */
+GOBLIN_CALL uint32_t goblin_segment_place(const uint8_t *bytes, size_t len, const goblin_header_t *header, uint64_t index,
+                                          goblin_range_t *place, goblin_refusal_t *why);
+
+/* Finds the offset in the file of the byte that is loaded at an address: that of the first segment of type GOBLIN_PT_LOAD for which
+   p_vaddr <= address < p_vaddr + file.size. These sums do not wrap around. GOBLIN_END if there is no such segment: nothing is loaded
+   there, or only zeros that are not in the file.
+   Refused as goblin_segment is. GOBLIN_BAD_OFFSET: the file has no byte at the offset. One that does not fit in 64 bits is reported as
+   UINT64_MAX.
+   Example: if (goblin_address_to_offset(bytes, len, &header, header.e_entry, &value, &why) != GOBLIN_OK) return 1; */
+GOBLIN_CALL uint32_t goblin_address_to_offset(const uint8_t *bytes, size_t len, const goblin_header_t *header, uint64_t address,
+                                              uint64_t *offset, goblin_refusal_t *why);
+
 /* ---- symbols ---- */
 
 /* Reads the symbol at an index of a symbol table. `table` is the range of the table, whose last symbol is the last that lies in the
@@ -357,6 +417,12 @@ GOBLIN_CALL uint32_t goblin_segment(const uint8_t *bytes, size_t len, const gobl
    Example: while (goblin_symbol(bytes, len, &header, &table.file, index, &symbol, &why) == GOBLIN_OK) index++; */
 GOBLIN_CALL uint32_t goblin_symbol(const uint8_t *bytes, size_t len, const goblin_header_t *header, const goblin_range_t *table,
                                    uint64_t index, goblin_symbol_t *symbol, goblin_refusal_t *why);
+
+/* Finds the range of the symbol at an index of a symbol table: the bytes that goblin_symbol reads. GOBLIN_END and refusals are those
+   of goblin_symbol.
+   Example: if (goblin_symbol_place(bytes, len, &header, &table.file, 3, &range, &why) != GOBLIN_OK) return 1; */
+GOBLIN_CALL uint32_t goblin_symbol_place(const uint8_t *bytes, size_t len, const goblin_header_t *header,
+                                         const goblin_range_t *table, uint64_t index, goblin_range_t *place, goblin_refusal_t *why);
 
 /* Counts the symbols that lie in a range whole. Refused as goblin_symbol is. Never returns GOBLIN_END.
    Example: goblin_symbol_count(bytes, len, &header, &table.file, &count, &why); */
@@ -506,6 +572,21 @@ GOBLIN_CALL uint32_t goblin_string_starts(const uint8_t *bytes, size_t len, cons
 GOBLIN_CALL uint32_t goblin_number(const uint8_t *bytes, size_t len, const goblin_header_t *header, uint64_t offset,
                                    uint64_t width, uint64_t *value, goblin_refusal_t *why);
 
+/* Reads the number in `width` bytes at an offset in a range of the file, as goblin_number does. The offset counts from the range's
+   start. GOBLIN_END as for goblin_number, before any refusal.
+   GOBLIN_BAD_OFFSET or GOBLIN_TOO_BIG: the range is not inside the file, or then the number is not inside the range. The numbers of the
+   second refusal count from the range's start, with the range's end in place of the file's; `why->offset` is an offset of the file.
+   Example: goblin_number_in(bytes, len, &header, &section.file, 8, 4, &value, &why); */
+GOBLIN_CALL uint32_t goblin_number_in(const uint8_t *bytes, size_t len, const goblin_header_t *header, const goblin_range_t *range,
+                                      uint64_t offset, uint64_t width, uint64_t *value, goblin_refusal_t *why);
+
+/* ---- ranges ---- */
+
+/* Cuts a range to the file: `*part` is the part of it that is inside the file. It is the range itself if that is inside the file, and
+   has the size 0 if none of its bytes are. Cannot fail.
+   Example: goblin_range_in_file(bytes, len, &section.file, &range); */
+void goblin_range_in_file(const uint8_t *bytes, size_t len, const goblin_range_t *range, goblin_range_t *part);
+
 /* ---- texts ----
 
    Each of these calls writes a text and a zero byte after it into `capacity` bytes, or as much of both as fits. It returns the length
@@ -580,6 +661,27 @@ GOBLIN_CALL uint32_t goblin_section(const uint8_t *bytes, size_t len, const gobl
     goblin_refusal_t unread;
     return goblin_c_section(bytes, len, header, index, section, why ? why : &unread);
 }
+uint32_t goblin_c_section_alone(const uint8_t *bytes, size_t len, const goblin_header_t *header, uint64_t index,
+                                goblin_section_t *section, goblin_refusal_t *why);
+GOBLIN_CALL uint32_t goblin_section_alone(const uint8_t *bytes, size_t len, const goblin_header_t *header, uint64_t index,
+                                          goblin_section_t *section, goblin_refusal_t *why) {
+    goblin_refusal_t unread;
+    return goblin_c_section_alone(bytes, len, header, index, section, why ? why : &unread);
+}
+uint32_t goblin_c_whole_sections(const uint8_t *bytes, size_t len, const goblin_header_t *header, uint64_t *count,
+                                 goblin_refusal_t *why);
+GOBLIN_CALL uint32_t goblin_whole_sections(const uint8_t *bytes, size_t len, const goblin_header_t *header, uint64_t *count,
+                                           goblin_refusal_t *why) {
+    goblin_refusal_t unread;
+    return goblin_c_whole_sections(bytes, len, header, count, why ? why : &unread);
+}
+uint32_t goblin_c_section_place(const uint8_t *bytes, size_t len, const goblin_header_t *header, uint64_t index,
+                                goblin_range_t *place, goblin_refusal_t *why);
+GOBLIN_CALL uint32_t goblin_section_place(const uint8_t *bytes, size_t len, const goblin_header_t *header, uint64_t index,
+                                          goblin_range_t *place, goblin_refusal_t *why) {
+    goblin_refusal_t unread;
+    return goblin_c_section_place(bytes, len, header, index, place, why ? why : &unread);
+}
 uint32_t goblin_c_sections(const uint8_t *bytes, size_t len, const goblin_header_t *header, uint64_t first,
                            goblin_section_t *sections, size_t capacity, uint64_t *filled, goblin_refusal_t *why);
 GOBLIN_CALL uint32_t goblin_sections(const uint8_t *bytes, size_t len, const goblin_header_t *header, uint64_t first,
@@ -602,12 +704,20 @@ GOBLIN_CALL uint32_t goblin_section_names(const uint8_t *bytes, size_t len, cons
     return goblin_c_section_names(bytes, len, header, section, why ? why : &unread);
 }
 uint32_t goblin_c_section_by_name(const uint8_t *bytes, size_t len, const goblin_header_t *header, const goblin_range_t *names,
-                                  const void *name, size_t name_len, uint64_t *index, goblin_refusal_t *why);
+                                  const void *name, size_t name_len, uint64_t first, uint64_t *index, goblin_refusal_t *why);
 GOBLIN_CALL uint32_t goblin_section_by_name(const uint8_t *bytes, size_t len, const goblin_header_t *header,
-                                            const goblin_range_t *names, const void *name, size_t name_len, uint64_t *index,
-                                            goblin_refusal_t *why) {
+                                            const goblin_range_t *names, const void *name, size_t name_len, uint64_t first,
+                                            uint64_t *index, goblin_refusal_t *why) {
     goblin_refusal_t unread;
-    return goblin_c_section_by_name(bytes, len, header, names, name, name_len, index, why ? why : &unread);
+    return goblin_c_section_by_name(bytes, len, header, names, name, name_len, first, index, why ? why : &unread);
+}
+uint32_t goblin_c_bytes_by_name(const uint8_t *bytes, size_t len, const goblin_header_t *header, const goblin_range_t *names,
+                                const void *name, size_t name_len, goblin_range_t *range, goblin_refusal_t *why);
+GOBLIN_CALL uint32_t goblin_bytes_by_name(const uint8_t *bytes, size_t len, const goblin_header_t *header,
+                                          const goblin_range_t *names, const void *name, size_t name_len, goblin_range_t *range,
+                                          goblin_refusal_t *why) {
+    goblin_refusal_t unread;
+    return goblin_c_bytes_by_name(bytes, len, header, names, name, name_len, range, why ? why : &unread);
 }
 uint32_t goblin_c_section_by_type(const uint8_t *bytes, size_t len, const goblin_header_t *header, uint32_t sh_type,
                                   uint64_t first, uint64_t *index, goblin_refusal_t *why);
@@ -644,12 +754,48 @@ GOBLIN_CALL uint32_t goblin_segment(const uint8_t *bytes, size_t len, const gobl
     goblin_refusal_t unread;
     return goblin_c_segment(bytes, len, header, index, segment, why ? why : &unread);
 }
+uint32_t goblin_c_segment_alone(const uint8_t *bytes, size_t len, const goblin_header_t *header, uint64_t index,
+                                goblin_segment_t *segment, goblin_refusal_t *why);
+GOBLIN_CALL uint32_t goblin_segment_alone(const uint8_t *bytes, size_t len, const goblin_header_t *header, uint64_t index,
+                                          goblin_segment_t *segment, goblin_refusal_t *why) {
+    goblin_refusal_t unread;
+    return goblin_c_segment_alone(bytes, len, header, index, segment, why ? why : &unread);
+}
+uint32_t goblin_c_whole_segments(const uint8_t *bytes, size_t len, const goblin_header_t *header, uint64_t *count,
+                                 goblin_refusal_t *why);
+GOBLIN_CALL uint32_t goblin_whole_segments(const uint8_t *bytes, size_t len, const goblin_header_t *header, uint64_t *count,
+                                           goblin_refusal_t *why) {
+    goblin_refusal_t unread;
+    return goblin_c_whole_segments(bytes, len, header, count, why ? why : &unread);
+}
+uint32_t goblin_c_segment_place(const uint8_t *bytes, size_t len, const goblin_header_t *header, uint64_t index,
+                                goblin_range_t *place, goblin_refusal_t *why);
+GOBLIN_CALL uint32_t goblin_segment_place(const uint8_t *bytes, size_t len, const goblin_header_t *header, uint64_t index,
+                                          goblin_range_t *place, goblin_refusal_t *why) {
+    goblin_refusal_t unread;
+    return goblin_c_segment_place(bytes, len, header, index, place, why ? why : &unread);
+}
+uint32_t goblin_c_address_to_offset(const uint8_t *bytes, size_t len, const goblin_header_t *header, uint64_t address,
+                                    uint64_t *offset, goblin_refusal_t *why);
+GOBLIN_CALL uint32_t goblin_address_to_offset(const uint8_t *bytes, size_t len, const goblin_header_t *header, uint64_t address,
+                                              uint64_t *offset, goblin_refusal_t *why) {
+    goblin_refusal_t unread;
+    return goblin_c_address_to_offset(bytes, len, header, address, offset, why ? why : &unread);
+}
 uint32_t goblin_c_symbol(const uint8_t *bytes, size_t len, const goblin_header_t *header, const goblin_range_t *table,
                          uint64_t index, goblin_symbol_t *symbol, goblin_refusal_t *why);
 GOBLIN_CALL uint32_t goblin_symbol(const uint8_t *bytes, size_t len, const goblin_header_t *header, const goblin_range_t *table,
                                    uint64_t index, goblin_symbol_t *symbol, goblin_refusal_t *why) {
     goblin_refusal_t unread;
     return goblin_c_symbol(bytes, len, header, table, index, symbol, why ? why : &unread);
+}
+uint32_t goblin_c_symbol_place(const uint8_t *bytes, size_t len, const goblin_header_t *header, const goblin_range_t *table,
+                               uint64_t index, goblin_range_t *place, goblin_refusal_t *why);
+GOBLIN_CALL uint32_t goblin_symbol_place(const uint8_t *bytes, size_t len, const goblin_header_t *header,
+                                         const goblin_range_t *table, uint64_t index, goblin_range_t *place,
+                                         goblin_refusal_t *why) {
+    goblin_refusal_t unread;
+    return goblin_c_symbol_place(bytes, len, header, table, index, place, why ? why : &unread);
 }
 uint32_t goblin_c_symbol_count(const uint8_t *bytes, size_t len, const goblin_header_t *header, const goblin_range_t *table,
                                uint64_t *count, goblin_refusal_t *why);
@@ -771,6 +917,13 @@ GOBLIN_CALL uint32_t goblin_number(const uint8_t *bytes, size_t len, const gobli
                                    uint64_t width, uint64_t *value, goblin_refusal_t *why) {
     goblin_refusal_t unread;
     return goblin_c_number(bytes, len, header, offset, width, value, why ? why : &unread);
+}
+uint32_t goblin_c_number_in(const uint8_t *bytes, size_t len, const goblin_header_t *header, const goblin_range_t *range,
+                            uint64_t offset, uint64_t width, uint64_t *value, goblin_refusal_t *why);
+GOBLIN_CALL uint32_t goblin_number_in(const uint8_t *bytes, size_t len, const goblin_header_t *header, const goblin_range_t *range,
+                                      uint64_t offset, uint64_t width, uint64_t *value, goblin_refusal_t *why) {
+    goblin_refusal_t unread;
+    return goblin_c_number_in(bytes, len, header, range, offset, width, value, why ? why : &unread);
 }
 
 #ifdef __clang__

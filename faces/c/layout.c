@@ -119,6 +119,42 @@ static void count_all(const goblin_header_t *h, const goblin_range_t *symbols, c
     same("goblin_number outside", goblin_number(file, sizeof file, h, sizeof file - 1, 2, &number, why), GOBLIN_TOO_BIG);
 }
 
+/* Tests the calls for headers alone, for the ranges of records, and for the offset of an address. */
+static void place_all(const goblin_header_t *h, const goblin_layout_t *wanted, const goblin_range_t *symbols, goblin_refusal_t *why) {
+    size_t cut = 0x456 + 2 * (wide == 8 ? 64 : 40) + 1;
+    goblin_section_t s;
+    goblin_segment_t p;
+    goblin_range_t place = {0, 0}, all = {0, sizeof file}, past = {sizeof file - 3, 9};
+    uint64_t number = 0;
+    memset(&s, 0, sizeof s);
+    same("section of a cut file", goblin_section(file, cut, h, 1, &s, why), GOBLIN_TOO_BIG);
+    same("goblin_section_alone", goblin_section_alone(file, cut, h, 1, &s, why), GOBLIN_OK);
+    same("goblin_section_alone", s.file.offset, wanted->section.file.offset);
+    same("goblin_section_alone", goblin_section_alone(file, cut, h, 2, &s, why), GOBLIN_TOO_BIG);
+    same("goblin_section_alone", goblin_section_alone(file, cut, h, 3, &s, why), GOBLIN_END);
+    same("goblin_whole_sections", goblin_whole_sections(file, cut, h, &number, why), GOBLIN_OK);
+    same("goblin_whole_sections", number, 2);
+    cut = 0x123 + 2 * (wide == 8 ? 56 : 32) - 1;
+    same("segment of a cut file", goblin_segment(file, cut, h, 0, &p, why), GOBLIN_TOO_BIG);
+    same("goblin_segment_alone", goblin_segment_alone(file, cut, h, 0, &p, why), GOBLIN_OK);
+    same("goblin_segment_alone", goblin_segment_alone(file, cut, h, 1, &p, why), GOBLIN_TOO_BIG);
+    same("goblin_whole_segments", goblin_whole_segments(file, cut, h, &number, why), GOBLIN_OK);
+    same("goblin_whole_segments", number, 1);
+    same("goblin_section_place", goblin_section_place(file, sizeof file, h, 1, &place, why), GOBLIN_OK);
+    same("goblin_section_place", place.offset << 16 | place.size, wide == 8 ? 0x4960040 : 0x47e0028);
+    same("goblin_segment_place", goblin_segment_place(file, sizeof file, h, 1, &place, why), GOBLIN_OK);
+    same("goblin_segment_place", place.offset << 16 | place.size, wide == 8 ? 0x15b0038 : 0x1430020);
+    same("goblin_symbol_place", goblin_symbol_place(file, sizeof file, h, symbols, 1, &place, why), GOBLIN_OK);
+    same("goblin_symbol_place", place.offset << 16 | place.size, wide == 8 ? 0x7180018 : 0x7100010);
+    same("goblin_symbol_place", goblin_symbol_place(file, sizeof file, h, symbols, 2, &place, why), GOBLIN_END);
+    same("goblin_number_in", goblin_number_in(file, sizeof file, h, &all, 4, 1, &number, why), GOBLIN_OK);
+    same("goblin_number_in", number, wide / 4);
+    same("number past a range", goblin_number_in(file, sizeof file, h, &place, place.size, 1, &number, why), GOBLIN_BAD_OFFSET);
+    goblin_range_in_file(file, sizeof file, &past, &place);
+    same("goblin_range_in_file", place.offset << 16 | place.size, 0xffd0003);
+    same("goblin_address_to_offset", goblin_address_to_offset(file, sizeof file, h, 0, &number, why), GOBLIN_END);
+}
+
 /* Tests the calls for bytes of sections, segments and strings. */
 static void range_all(const goblin_layout_t *items, goblin_refusal_t *why) {
     goblin_section_t s = items->section;
@@ -157,6 +193,7 @@ static void read_all(void) {
     goblin_range_t symbols = {0x700, wide == 8 ? 48U : 32U}, relocs = {0x800, wide * 6}, notes = {0x900, 28};
     count_all(h, &symbols, &relocs, why);
     range_all(&wanted, why);
+    place_all(h, &wanted, &symbols, why);
     same("goblin_symbol", goblin_symbol(file, sizeof file, h, &symbols, 1, &got.symbol, why), GOBLIN_OK);
     same("goblin_symbol", goblin_symbol(file, sizeof file, h, &symbols, 2, &got.symbol, why), GOBLIN_END);
     same("goblin_reloc", goblin_reloc(file, sizeof file, h, &relocs, true, 1, &got.reloc, why), GOBLIN_OK);
@@ -270,11 +307,23 @@ static void call_with_nulls(goblin_refusal_t *why) {
         same("null: section", goblin_section(NULL, 0, &h, 0, &s, why), end);
         same("null: section names", goblin_section_names(NULL, 0, &h, &s, why), end);
         same("null: table", goblin_linked_section(NULL, 0, &h, 1, &s, why), end);
-        same("null: section by name", goblin_section_by_name(NULL, 0, &h, &none, NULL, 0, &number, why), end);
+        same("null: section by name", goblin_section_by_name(NULL, 0, &h, &none, NULL, 0, 0, &number, why), end);
+        same("null: bytes by name", goblin_bytes_by_name(NULL, 0, &h, &none, NULL, 0, &text, why), end);
+        same("null: section alone", goblin_section_alone(NULL, 0, &h, 0, &s, why), end);
+        same("null: section place", goblin_section_place(NULL, 0, &h, 0, &text, why), end);
+        same("null: whole sections", goblin_whole_sections(NULL, 0, &h, &number, why), i ? GOBLIN_BAD_OFFSET : GOBLIN_OK);
         same("null: section by type", goblin_section_by_type(NULL, 0, &h, 3, 0, &number, why), end);
         same("null: sections", goblin_sections(NULL, 0, &h, 0, NULL, 0, &number, why), end);
     }
     same("null: segment", goblin_segment(NULL, 0, &h, 0, &p, why), GOBLIN_END);
+    same("null: segment alone", goblin_segment_alone(NULL, 0, &h, 0, &p, why), GOBLIN_END);
+    same("null: segment place", goblin_segment_place(NULL, 0, &h, 0, &text, why), GOBLIN_END);
+    same("null: whole segments", goblin_whole_segments(NULL, 0, &h, &number, why), GOBLIN_OK);
+    same("null: address", goblin_address_to_offset(NULL, 0, &h, 0, &number, why), GOBLIN_END);
+    same("null: symbol place", goblin_symbol_place(NULL, 0, &h, &none, 0, &text, why), GOBLIN_SYMTAB_OFFSET);
+    same("null: number in", goblin_number_in(NULL, 0, &h, &some, 0, 1, &number, why), GOBLIN_BAD_OFFSET);
+    goblin_range_in_file(NULL, 0, &some, &text);
+    same("null: range in file", text.size, 0);
     same("null: symbol", goblin_symbol(NULL, 0, &h, &none, 0, &y, why), GOBLIN_SYMTAB_OFFSET);
     same("null: symbols", goblin_symbols(NULL, 0, &h, &none, 0, NULL, 0, &number, why), GOBLIN_SYMTAB_OFFSET);
     same("null: symbol by name", goblin_symbol_by_name(NULL, 0, &h, &none, &none, NULL, 0, &number, why),

@@ -30,7 +30,7 @@ static uint32_t list_section(const uint8_t *bytes, size_t len, const char *name)
     uint32_t status = goblin_header(bytes, len, &header, &why);
     if (status == GOBLIN_OK) status = goblin_section_names(bytes, len, &header, &names, &why);
     if (status == GOBLIN_OK)
-        status = goblin_section_by_name(bytes, len, &header, &names.file, name, strlen(name), &index, &why);
+        status = goblin_section_by_name(bytes, len, &header, &names.file, name, strlen(name), 0, &index, &why);
     if (status == GOBLIN_OK) status = goblin_section(bytes, len, &header, index, &section, &why);
     if (status == GOBLIN_OK) status = goblin_section_bytes(bytes, len, &section, &strings, &why);
     return status == GOBLIN_OK ? list_strings(bytes, len, &strings) : status;

@@ -519,7 +519,7 @@ export class Elf {
     section_by_name(name) {
         const bytes = this.#memory.pass_bytes(encoder.encode(name));
         const names = this.#memory.pass(NAMES, 'range', this.shdr_strtab().range);
-        return as_index(this.#call('goblin_c_section_by_name', 'number', names, ...bytes));
+        return as_index(this.#call('goblin_c_section_by_name', 'number', names, ...bytes, 0n));
     }
 
     /**

@@ -1,5 +1,8 @@
 pub mod AddressIndexLemmas
+pub mod AloneLemmas
 pub mod LaidLemmas
+pub mod ListedLemmas
+pub mod OffsetLemmas
 pub mod DigitLemmas
 pub mod IndexLemmas
 pub mod NoteLemmas

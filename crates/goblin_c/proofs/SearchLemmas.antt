@@ -39,7 +39,7 @@ all_fail test items k x none found =
     fails_at test items k x found (fails_before_first test items k x (grind (arith, nat_tests)))
 
 -- the item that an item for C was converted from
-converted_one : {X Y : Type 0} (convert : X → Y) (items : List X) (k : ℕ) (y : Y)
+pub converted_one : {X Y : Type 0} (convert : X → Y) (items : List X) (k : ℕ) (y : Y)
     → ◌≡◌ {A = Result (Option Y) RefusalAt} (Ok (slice_get (map convert items) k)) (Ok (Some y))
     → (x : X) × (slice_get items k ≡ Some x) × (y ≡ convert x)
 converted_one convert [] k y is = absurd (cc)

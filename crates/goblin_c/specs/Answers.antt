@@ -237,12 +237,13 @@ string_expected bytes range offset = do
 abbrev pub is_named : List ℕ → List ℕ → ℕ → Bool
 is_named strings name offset = has_name (unparsed strings 0) offset name
 
--- the index of the first section, and of the first symbol, with a name
-abbrev pub section_by_name_expected : List ℕ → GoblinHeader → GoblinRange → List ℕ → Result (Option ℕ) RefusalAt
-section_by_name_expected bytes h names name = do
+-- the index of the first section with a name, from an index on, and of the first symbol with a name
+abbrev pub section_by_name_expected : List ℕ → GoblinHeader → GoblinRange → List ℕ → ℕ → Result (Option ℕ) RefusalAt
+section_by_name_expected bytes h names name first = do
   sections ← sections_expected bytes h
   strings ← strings_expected bytes names
-  Ok (position (λ section. is_named strings name section.sh_name) sections)
+  let is_so = λ (section : SectionHeader). is_named strings name section.sh_name in
+      Ok (option_map (λ place. first + place) (position is_so (drop first sections)))
 
 abbrev pub symbol_by_name_expected : List ℕ
     → GoblinHeader → GoblinRange → GoblinRange → List ℕ → Result (Option ℕ) RefusalAt

@@ -268,13 +268,13 @@ abbrev pub FindsFirst :
     → Result (Option ℕ) RefusalAt → Type 0
 FindsFirst call strings HasTheName answer = FindsFrom 0 call HasTheName (RefusesEither call strings) answer
 
--- what is found by a name is the first section, and the first symbol, whose name by the calls is this
+-- what is found by a name is the first section from the index on, and the first symbol, whose name by the calls is this
 abbrev pub SectionsByName : Type 0
 SectionsByName =
-    (bytes : List ℕ) (h : GoblinHeader) (names : GoblinRange) (name : List ℕ)
+    (bytes : List ℕ) (h : GoblinHeader) (names : GoblinRange) (name : List ℕ) (first : ℕ)
     → let HasTheName = λ (section : GoblinSection). IsNameAt bytes names section.sh_name name in
-    FindsFirst (section_expected bytes h) (string_expected bytes names) HasTheName
-    (section_by_name_expected bytes h names name)
+    let Refuses = RefusesEither (section_expected bytes h) (string_expected bytes names) in
+    FindsFrom first (section_expected bytes h) HasTheName Refuses (section_by_name_expected bytes h names name first)
 
 abbrev pub SymbolsByName : Type 0
 SymbolsByName =

@@ -1,3 +1,4 @@
+pub mod Alone
 pub mod Answers
 pub mod Bytes
 pub mod Index
@@ -5,6 +6,8 @@ pub mod Laid
 pub mod Laws
 pub mod Layout
 pub mod Notes
+pub mod PlaceLaws
+pub mod Places
 pub mod Refused
 pub mod Status
 pub mod TextLaws

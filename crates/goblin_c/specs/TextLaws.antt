@@ -30,7 +30,10 @@ use Rattle.goblin_c.specs.Answers.{count_of, each_converted, item_of, items_from
 use Rattle.goblin_c.specs.Answers.{segment_converted, symbol_converted, table_expected}
 use Rattle.goblin_c.specs.Bytes.{number_expected, section_bytes_expected, segment_bytes_expected, string_bytes_expected}
 use Rattle.goblin_c.specs.Bytes.{string_is_expected, string_starts_expected}
+use Rattle.goblin_c.specs.Alone.{section_alone_expected, segment_alone_expected, whole_sections_expected}
 use Rattle.goblin_c.specs.Notes.{note_expected}
+use Rattle.goblin_c.specs.Places.{address_to_offset_expected, bytes_by_name_expected, number_in_expected}
+use Rattle.goblin_c.specs.Places.{section_place_expected, segment_place_expected, symbol_place_expected}
 use Rattle.goblin_c.specs.Status.{refusal_converted}
 use Rattle.goblin_c.specs.Texts.{NamesKnown, TextIsSame, converted_text}
 
@@ -145,7 +148,7 @@ pub record HaveSameText
   pub relocs : HasSameText (relocs_from_expected bytes h range is_rela index)
   pub string : HasSameText (string_expected bytes range offset)
   pub note : HasSameText (note_expected bytes h range alignment offset)
-  pub section_by_name : HasSameText (section_by_name_expected bytes h names name)
+  pub section_by_name : HasSameText (section_by_name_expected bytes h names name index)
   pub symbol_by_name : HasSameText (symbol_by_name_expected bytes h range names name)
   pub segment_count : HasSameText (segment_count_expected bytes h)
   pub symbol_count : HasSameText (symbol_count_expected bytes h range)
@@ -158,6 +161,15 @@ pub record HaveSameText
   pub string_is : HasSameText (string_is_expected bytes range offset name)
   pub string_starts : HasSameText (string_starts_expected bytes range offset name)
   pub number : HasSameText (number_expected bytes h offset width)
+  pub section_alone : HasSameText (section_alone_expected bytes h index)
+  pub segment_alone : HasSameText (segment_alone_expected bytes h index)
+  pub whole_sections : HasSameText (whole_sections_expected bytes h)
+  pub section_place : HasSameText (section_place_expected bytes h index)
+  pub segment_place : HasSameText (segment_place_expected bytes h index)
+  pub symbol_place : HasSameText (symbol_place_expected bytes h range index)
+  pub number_in : HasSameText (number_in_expected bytes h range offset width)
+  pub address_to_offset : HasSameText (address_to_offset_expected bytes h address)
+  pub bytes_by_name : HasSameText (bytes_by_name_expected bytes h names name)
 
 -- so does each refusal of each call
 abbrev pub RefusalsHaveSameText : Type 0
@@ -190,7 +202,8 @@ refusals_have_same_text bytes h range names name is_rela index offset address al
       string = same_text (string_expected bytes range offset) (known_string bytes range offset);
       note = same_text (note_expected bytes h range alignment offset)
           (grind (arith, known_note bytes offset (alignment, ctx_of h)));
-      section_by_name = same_text (section_by_name_expected bytes h names name) (grind (arith, sections, strings));
+      section_by_name = same_text (section_by_name_expected bytes h names name index)
+          (grind (arith, sections, strings));
       symbol_by_name = same_text (symbol_by_name_expected bytes h range names name) (grind (arith, symbols, strings));
       segment_count = counted segment_converted (segments_expected bytes h) segments;
       symbol_count = counted symbol_converted (symbols_expected bytes h range) same_symbols;
@@ -204,4 +217,15 @@ refusals_have_same_text bytes h range names name is_rela index offset address al
       string_starts =
           same_text (string_starts_expected bytes range offset name) (grind (arith, known_strings bytes range));
       number = same_text (number_expected bytes h offset width) (grind (arith, known_room));
+      section_alone = same_text (section_alone_expected bytes h index) (grind (arith, known_room));
+      segment_alone = same_text (segment_alone_expected bytes h index) (grind (arith, known_room));
+      whole_sections = same_text (whole_sections_expected bytes h) (grind (arith, known_room));
+      section_place = same_text (section_place_expected bytes h index) (grind (arith, sections));
+      segment_place = same_text (segment_place_expected bytes h index) (grind (arith, known_segments bytes h));
+      symbol_place = same_text (symbol_place_expected bytes h range index) (grind (arith, symbols));
+      number_in = same_text (number_in_expected bytes h range offset width) (grind (arith, known_room));
+      address_to_offset = same_text (address_to_offset_expected bytes h address)
+          (grind (arith, known_segments bytes h, known_room));
+      bytes_by_name = same_text (bytes_by_name_expected bytes h names name)
+          (grind (arith, sections, strings, known_room));
     }

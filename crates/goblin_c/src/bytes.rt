@@ -1,10 +1,10 @@
 //! Bytes of the file: those of a section, of a segment and of a string, and numbers at an offset.
-ghost use Rattle.std.specs.Prelude.{◌+◌, ◌≤◌, IsOk, length};
+ghost use Rattle.std.specs.Prelude.{◌≡◌, ◌+◌, ◌≤◌, IsOk, length};
 ghost use Rattle.goblin.specs.Refusal.{misplaced};
 ghost use Rattle.goblin.specs.Room.{room_of};
 ghost use Rattle.goblin.specs.Steps.{refuse_as};
 ghost use Rattle.goblin_c.specs.Refused.{Answers, refused_at};
-ghost use Rattle.goblin_c.specs.Bytes.{number_expected, range_expected, section_bytes_expected, segment_bytes_expected, string_bytes_expected, string_is_expected, string_starts_expected};
+ghost use Rattle.goblin_c.specs.Bytes.{is_width, number_expected, range_expected, section_bytes_expected, segment_bytes_expected, string_bytes_expected, string_is_expected, string_starts_expected};
 
 use crate::headers::ctx_of;
 use crate::refused::{Refused, Result};
@@ -16,8 +16,8 @@ use goblin_base::number::{get_u8, get_u16, get_u32, get_u64};
 use goblin_base::room::room;
 use goblin_base::strtab::{is_piece, piece_len, starts_piece};
 
-// Tests that some bytes lie in the file.
-fn fits(bytes: &[u8], offset: u64, size: u64) -> Result<()>
+/// Tests that some bytes lie in the file.
+pub fn fits(bytes: &[u8], offset: u64, size: u64) -> Result<()>
     ensures exact { let expected = refuse_as misplaced (room_of (length bytes.now) offset size) in
         Answers (λ found. found) result (refused_at offset expected) }
     ensures fits { IsOk result → offset + size ≤ length bytes.now }
@@ -107,11 +107,18 @@ pub fn string_starts(
     })
 }
 
+/// Reports whether numbers of the format have this width in bytes.
+pub fn is_width(width: u64) -> bool
+    ensures { result ≡ is_width width }
+{
+    width == 1 || width == 2 || width == 4 || width == 8
+}
+
 /// Returns the number of some width in bytes at an offset, in the file's byte order.
 pub fn number(bytes: &[u8], header: &GoblinHeader, offset: u64, width: u64) -> Result<Option<u64>>
     ensures { Answers (λ found. found) result (number_expected bytes.now header.now offset width) }
 {
-    if width != 1 && width != 2 && width != 4 && width != 8 {
+    if !is_width(width) {
         return Ok(None);
     }
     fits(bytes, offset, width)?;

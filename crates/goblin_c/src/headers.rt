@@ -57,7 +57,8 @@ fn convert_header(h: &Header) -> GoblinHeader
     }
 }
 
-fn convert_section(s: &SectionHeader) -> GoblinSection
+/// Converts a section header for C.
+pub fn convert_section(s: &SectionHeader) -> GoblinSection
     ensures { result ≡ section_converted s.now }
 {
     GoblinSection {
@@ -76,7 +77,8 @@ fn convert_section(s: &SectionHeader) -> GoblinSection
     }
 }
 
-fn convert_segment(s: &ProgramHeader) -> GoblinSegment
+/// Converts a program header for C.
+pub fn convert_segment(s: &ProgramHeader) -> GoblinSegment
     ensures { result ≡ segment_converted s.now }
 {
     GoblinSegment {

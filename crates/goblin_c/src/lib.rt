@@ -3,12 +3,14 @@
 #![tactic(auto)]
 
 ghost use Rattle.std.specs.Prelude.{◌≡◌, ℕ, length, Option, Result};
+ghost use Rattle.goblin_c.specs.Alone.{section_alone_expected, segment_alone_expected, whole_sections_expected, whole_segments_expected};
 ghost use Rattle.goblin_c.specs.Answers.{header_expected, reloc_count_expected, reloc_expected, section_by_type_expected, section_count_expected, section_expected, segment_count_expected, segment_expected, string_expected, symbol_count_expected, symbol_expected, relocs_from_expected, sections_from_expected, symbols_from_expected, section_by_name_expected, section_names_expected, symbol_by_address_expected, symbol_by_name_expected, symbols_expected, table_expected};
 ghost use Rattle.goblin_c.specs.Bytes.{number_expected, section_bytes_expected, segment_bytes_expected, string_bytes_expected, string_is_expected, string_starts_expected};
 ghost use Rattle.goblin_c.specs.Index.{FindsIn, StoresIndex};
 ghost use Rattle.goblin_c.specs.Laid.{closed, laid};
 ghost use Rattle.goblin_c.specs.Layout.{layout};
 ghost use Rattle.goblin_c.specs.Notes.{StoresNote, note_bytes_expected, note_expected};
+ghost use Rattle.goblin_c.specs.Places.{address_to_offset_expected, bytes_by_name_expected, cut_range, number_in_expected, section_place_expected, segment_place_expected, symbol_place_expected};
 ghost use Rattle.goblin_c.specs.Refused.{RefusalAt};
 ghost use Rattle.goblin_c.specs.Status.{Fills, Stores};
 ghost use Rattle.goblin_c.specs.Texts.{converted_text};
@@ -31,6 +33,10 @@ mod laws;
 mod layout;
 mod lists;
 mod notes;
+mod place_laws;
+mod places;
+#[cfg(test)]
+mod places_tests;
 mod refused;
 mod status;
 mod strings;
@@ -51,6 +57,10 @@ use index::{store_index, symbol_by_address_in};
 use layout::{GoblinLayout, marked_layout};
 use lists::{count_of, item_of, store_from};
 use notes::{note_from, note_type, store_note};
+use places::{
+    address_to_offset, bytes_by_name, cut_range, number_in, section_alone, section_place,
+    segment_alone, segment_place, symbol_place, whole_sections, whole_segments,
+};
 use status::store;
 use strings::string_at;
 use tables::{relocs_of, section_by_name, symbol_by_address, symbol_by_name, symbols_of};
@@ -121,6 +131,50 @@ pub extern "C" fn goblin_c_section(
     store(item_of(sections_of(bytes, header), index), section, why)
 }
 
+/// Stores the section header at an index, whatever the others are.
+#[unsafe(no_mangle)]
+pub extern "C" fn goblin_c_section_alone(
+    bytes: &[u8],
+    header: &GoblinHeader,
+    index: u64,
+    section: &mut GoblinSection,
+    why: &mut GoblinRefusal,
+) -> u32
+    ensures { Stores (section_alone_expected bytes.now header.now index)
+        section.old why.old result section.new why.new }
+{
+    store(section_alone(bytes, header, index), section, why)
+}
+
+/// Stores the number of section headers that lie in the file whole.
+#[unsafe(no_mangle)]
+pub extern "C" fn goblin_c_whole_sections(
+    bytes: &[u8],
+    header: &GoblinHeader,
+    count: &mut u64,
+    why: &mut GoblinRefusal,
+) -> u32
+    ensures { Stores (whole_sections_expected bytes.now header.now)
+        count.old why.old result count.new why.new }
+{
+    store(whole_sections(bytes, header), count, why)
+}
+
+/// Stores the range of the section header at an index.
+#[unsafe(no_mangle)]
+pub extern "C" fn goblin_c_section_place(
+    bytes: &[u8],
+    header: &GoblinHeader,
+    index: u64,
+    place: &mut GoblinRange,
+    why: &mut GoblinRefusal,
+) -> u32
+    ensures { Stores (section_place_expected bytes.now header.now index)
+        place.old why.old result place.new why.new }
+{
+    store(section_place(bytes, header, index), place, why)
+}
+
 /// Stores the program header at an index.
 #[unsafe(no_mangle)]
 pub extern "C" fn goblin_c_segment(
@@ -134,6 +188,50 @@ pub extern "C" fn goblin_c_segment(
         segment.old why.old result segment.new why.new }
 {
     store(item_of(segments_of(bytes, header), index), segment, why)
+}
+
+/// Stores the program header at an index, whatever the others are.
+#[unsafe(no_mangle)]
+pub extern "C" fn goblin_c_segment_alone(
+    bytes: &[u8],
+    header: &GoblinHeader,
+    index: u64,
+    segment: &mut GoblinSegment,
+    why: &mut GoblinRefusal,
+) -> u32
+    ensures { Stores (segment_alone_expected bytes.now header.now index)
+        segment.old why.old result segment.new why.new }
+{
+    store(segment_alone(bytes, header, index), segment, why)
+}
+
+/// Stores the number of program headers that lie in the file whole.
+#[unsafe(no_mangle)]
+pub extern "C" fn goblin_c_whole_segments(
+    bytes: &[u8],
+    header: &GoblinHeader,
+    count: &mut u64,
+    why: &mut GoblinRefusal,
+) -> u32
+    ensures { Stores (whole_segments_expected bytes.now header.now)
+        count.old why.old result count.new why.new }
+{
+    store(Ok(Some(whole_segments(bytes, header))), count, why)
+}
+
+/// Stores the range of the program header at an index.
+#[unsafe(no_mangle)]
+pub extern "C" fn goblin_c_segment_place(
+    bytes: &[u8],
+    header: &GoblinHeader,
+    index: u64,
+    place: &mut GoblinRange,
+    why: &mut GoblinRefusal,
+) -> u32
+    ensures { Stores (segment_place_expected bytes.now header.now index)
+        place.old why.old result place.new why.new }
+{
+    store(segment_place(bytes, header, index), place, why)
 }
 
 /// Stores the symbol at an index of the table that lies in a range.
@@ -151,6 +249,22 @@ pub extern "C" fn goblin_c_symbol(
 {
     let found = item_of(symbols_of(bytes, header, table), index);
     store(found, symbol, why)
+}
+
+/// Stores the range of the symbol at an index of the table that lies in a range.
+#[unsafe(no_mangle)]
+pub extern "C" fn goblin_c_symbol_place(
+    bytes: &[u8],
+    header: &GoblinHeader,
+    table: &GoblinRange,
+    index: u64,
+    place: &mut GoblinRange,
+    why: &mut GoblinRefusal,
+) -> u32
+    ensures { Stores (symbol_place_expected bytes.now header.now table.now index)
+        place.old why.old result place.new why.new }
+{
+    store(symbol_place(bytes, header, table, index), place, why)
 }
 
 /// Stores the relocation at an index of those that lie in a range, with addends or without.
@@ -406,20 +520,38 @@ pub extern "C" fn goblin_c_section_names(
     store(section_names(bytes, header), section, why)
 }
 
-/// Stores the index of the first section with a name.
+/// Stores the index of the first section with a name, from an index on.
 #[unsafe(no_mangle)]
 pub extern "C" fn goblin_c_section_by_name(
     bytes: &[u8],
     header: &GoblinHeader,
     names: &GoblinRange,
     name: &[u8],
+    first: u64,
     index: &mut u64,
     why: &mut GoblinRefusal,
 ) -> u32
-    ensures { Stores (section_by_name_expected bytes.now header.now names.now name.now)
+    ensures { Stores (section_by_name_expected bytes.now header.now names.now name.now first)
         index.old why.old result index.new why.new }
 {
-    store(section_by_name(bytes, header, names, name), index, why)
+    let found = section_by_name(bytes, header, names, name, first);
+    store(found, index, why)
+}
+
+/// Stores the range of the bytes of the first section with a name.
+#[unsafe(no_mangle)]
+pub extern "C" fn goblin_c_bytes_by_name(
+    bytes: &[u8],
+    header: &GoblinHeader,
+    names: &GoblinRange,
+    name: &[u8],
+    range: &mut GoblinRange,
+    why: &mut GoblinRefusal,
+) -> u32
+    ensures { Stores (bytes_by_name_expected bytes.now header.now names.now name.now)
+        range.old why.old result range.new why.new }
+{
+    store(bytes_by_name(bytes, header, names, name), range, why)
 }
 
 /// Stores the index of the first symbol with a name.
@@ -530,6 +662,21 @@ pub extern "C" fn goblin_c_segment_bytes(
     store(segment_bytes(bytes, segment), range, why)
 }
 
+/// Stores the offset in the file of the byte that is loaded at an address.
+#[unsafe(no_mangle)]
+pub extern "C" fn goblin_c_address_to_offset(
+    bytes: &[u8],
+    header: &GoblinHeader,
+    address: u64,
+    offset: &mut u64,
+    why: &mut GoblinRefusal,
+) -> u32
+    ensures { Stores (address_to_offset_expected bytes.now header.now address)
+        offset.old why.old result offset.new why.new }
+{
+    store(address_to_offset(bytes, header, address), offset, why)
+}
+
 /// Stores the range in the file of the string at an offset of a string table, which need not be UTF-8.
 #[unsafe(no_mangle)]
 pub extern "C" fn goblin_c_string_bytes(
@@ -589,6 +736,31 @@ pub extern "C" fn goblin_c_number(
         value.old why.old result value.new why.new }
 {
     store(number(bytes, header, offset, width), value, why)
+}
+
+/// Stores the number of 1, 2, 4 or 8 bytes at an offset in a range, in the file's byte order.
+#[unsafe(no_mangle)]
+pub extern "C" fn goblin_c_number_in(
+    bytes: &[u8],
+    header: &GoblinHeader,
+    range: &GoblinRange,
+    offset: u64,
+    width: u64,
+    value: &mut u64,
+    why: &mut GoblinRefusal,
+) -> u32
+    ensures { Stores (number_in_expected bytes.now header.now range.now offset width)
+        value.old why.old result value.new why.new }
+{
+    store(number_in(bytes, header, range, offset, width), value, why)
+}
+
+/// Stores the part of a range that lies in the file.
+#[unsafe(no_mangle)]
+pub extern "C" fn goblin_range_in_file(bytes: &[u8], range: &GoblinRange, part: &mut GoblinRange)
+    ensures { part.new ≡ cut_range (length bytes.now) range.now }
+{
+    *part = cut_range(bytes.len(), range);
 }
 
 /// Stores the index of the symbol that an address lies in.

@@ -103,19 +103,20 @@ impl Listed for RelocSection<'_> {
     }
 }
 
-/// Returns the index of the first section with a name.
+/// Returns the index of the first section with a name, from an index on.
 pub fn section_by_name(
     bytes: &[u8],
     header: &GoblinHeader,
     names: &GoblinRange,
     name: &[u8],
+    first: u64,
 ) -> Result<Option<u64>>
     ensures { Answers (λ found. found) result
-        (section_by_name_expected bytes.now header.now names.now name.now) }
+        (section_by_name_expected bytes.now header.now names.now name.now first) }
 {
     let sections = sections_of(bytes, header)?;
     let strings = strings_of(bytes, names)?;
-    let found = SectionHeader::find_in(&sections, strings, 0, name);
+    let found = SectionHeader::find_in_from(&sections, first as usize, strings, 0, name);
     Ok(found.map(|index| index as u64))
 }
 

@@ -4,7 +4,7 @@ use crate::layout::marked_layout;
 use crate::types::{GoblinHeader, GoblinNote, GoblinRange, GoblinRefusal, GoblinReloc};
 use crate::*;
 
-static FILE: &[u8; 208] = b"\x7fELF\x01\x01\x01\0\0\0\0\0\0\0\0\0\
+pub static FILE: &[u8; 208] = b"\x7fELF\x01\x01\x01\0\0\0\0\0\0\0\0\0\
     \x03\0\0\0\x01\0\0\0\0\0\0\0\0\0\0\0\x58\0\0\0\0\0\0\0\x34\0\x20\0\0\0\x28\0\x03\0\0\0\
     \0f\0\0\
     \0\0\0\0\0\0\0\0\0\0\0\0\0\0\0\0\
@@ -13,12 +13,12 @@ static FILE: &[u8; 208] = b"\x7fELF\x01\x01\x01\0\0\0\0\0\0\0\0\0\
     \0\0\0\0\x03\0\0\0\0\0\0\0\0\0\0\0\x34\0\0\0\x04\0\0\0\0\0\0\0\0\0\0\0\0\0\0\0\0\0\0\0\
     \0\0\0\0\x02\0\0\0\0\0\0\0\0\0\0\0\x38\0\0\0\x20\0\0\0\x01\0\0\0\0\0\0\0\0\0\0\0\0\0\0\0";
 
-const STRINGS: GoblinRange = GoblinRange {
+pub const STRINGS: GoblinRange = GoblinRange {
     offset: 52,
     size: 4,
 };
 
-const SYMBOLS: GoblinRange = GoblinRange {
+pub const SYMBOLS: GoblinRange = GoblinRange {
     offset: 56,
     size: 32,
 };
@@ -39,7 +39,7 @@ macro_rules! called {
 pub(crate) use called;
 
 // The file's header, or one of marks where it is refused.
-fn header() -> GoblinHeader {
+pub fn header() -> GoblinHeader {
     called!(goblin_c_header(FILE), marked_layout().header).1
 }
 
@@ -145,8 +145,11 @@ fn finds_symbol(name: &[u8]) -> (u32, u64) {
     (status, index)
 }
 
-fn finds_section(name: &[u8]) -> (u32, u64) {
-    let (status, index, _) = called!(goblin_c_section_by_name(FILE, &header(), &STRINGS, name), 9);
+fn finds_section(name: &[u8], first: u64) -> (u32, u64) {
+    let (status, index, _) = called!(
+        goblin_c_section_by_name(FILE, &header(), &STRINGS, name, first),
+        9
+    );
     (status, index)
 }
 
@@ -156,11 +159,12 @@ fn finds_names(rt: HostRuntime) {
     assert!(rt; finds_symbol(b"g") == (1, 9));
     assert!(rt; finds_symbol(b"f\0") == (1, 9));
     assert!(rt; finds_symbol(b"") == (0, 0));
-    assert!(rt; finds_section(b"") == (0, 0));
+    assert!(rt; finds_section(b"", 0) == (0, 0) && finds_section(b"", 1) == (0, 1));
+    assert!(rt; finds_section(b"", 3) == (1, 9) && finds_section(b"f", 0) == (1, 9));
 }
 
 // The file with another byte at a place.
-fn changed(place: usize, byte: u8) -> [u8; 208] {
+pub fn changed(place: usize, byte: u8) -> [u8; 208] {
     let mut file = *FILE;
     if let Some(old) = file.get_mut(place) {
         *old = byte;

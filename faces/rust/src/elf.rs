@@ -116,7 +116,7 @@ impl<'a> Elf<'a> {
     /// If the section headers or their names are not inside the file.
     pub fn section_by_name(&self, name: &str) -> Result<Option<usize>> {
         let names = self.shdr_strtab()?.range;
-        let index = sys::goblin_c_section_by_name(&self.file, &self.header, &names, name.as_bytes())?;
+        let index = sys::goblin_c_section_by_name(&self.file, &self.header, &names, name.as_bytes(), 0)?;
         Ok(index.map(|index| index as usize))
     }
 

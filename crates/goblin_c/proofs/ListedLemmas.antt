@@ -1,0 +1,174 @@
+-- The lists of records that calls read, and the record with an index of them.
+use Rattle.std.proofs.Common.{◌≡◌, ◌≤◌, ◌<◌, ◌+◌, ◌-◌, ◌*◌, ◌/◌, ◌^◌, ◌==◌, ℕ, zero, suc, Bool, true, false, nat_le}
+use Rattle.std.proofs.Common.{nat_lt}
+use Rattle.std.proofs.Common.{List, [], length, take, drop, max, slice_get, Some, None, Result, Ok, Err}
+use Rattle.std.proofs.Common.{if◌then◌else◌, codes, refl, sym, ap, ◌∙◌, arith}
+use Rattle.std.proofs.Math.Nat.{mul-le-mul_right}
+use Rattle.std.proofs.lemmas.Bool.Decides.{nat_tests}
+use Rattle.std.proofs.lemmas.List.{drop-drop}
+use Rattle.goblin_base.specs.declared.container.Ctx.{Ctx}
+use Rattle.goblin_base.specs.Eager.{records_from, records_in, room_of_each}
+use Rattle.goblin_base.specs.RecordLaws.{fits-room_of}
+use Rattle.goblin_base.specs.Refusal.{Refusal, buffer_too_short, misplaced, refusal_of}
+use Rattle.goblin_c.specs.Refused.{refused_at}
+use Rattle.goblin_base.specs.Room.{room_of}
+use Rattle.goblin_base.specs.Steps.{◌>>=◌, refuse_as, refuse_if}
+use Rattle.goblin_base.specs.Table.{records}
+use Rattle.goblin_base.specs.TableLaws.{no_records}
+use Rattle.goblin_base.proofs.Records.{get_records, past_records}
+use Rattle.goblin.specs.SectionHeader.{section_header_of, section_header_size}
+use Rattle.goblin.specs.SectionHeaders.{count_asked, count_from, section_headers_from, section_headers_from_tested}
+use Rattle.goblin.specs.SectionHeaders.{section_headers_of, section_headers_stated}
+use Rattle.goblin.specs.Sym.{sym_of, sym_size}
+use Rattle.goblin.specs.Symtab.{symtab_of}
+use Rattle.goblin.specs.declared.elf.section_header.SectionHeader.{SectionHeader}
+use Rattle.goblin.specs.declared.elf.sym.Sym.{Sym}
+
+-- the value of a step that went on
+pub bind_ok : {A B E : Type 0} (first : Result A E) (next : A → Result B E) (y : B)
+    → (first >>= next) ≡ Ok y → (x : A) × (first ≡ Ok x) × (next x ≡ Ok y)
+bind_ok (Ok x) next y is = (x, refl, is)
+bind_ok (Err e) next y is = absurd (cc)
+
+pub refuse_as_ok : {A E F : Type 0} (within : E → F) (answer : Result A E) (y : A)
+    → refuse_as within answer ≡ Ok y → answer ≡ Ok y
+refuse_as_ok within (Ok x) y is = cc
+refuse_as_ok within (Err e) y is = absurd (cc)
+
+pub refused_at_ok : {A : Type 0} (offset : ℕ) (answer : Result A Refusal) (y : A)
+    → refused_at offset answer ≡ Ok y → answer ≡ Ok y
+refused_at_ok offset (Ok x) y is = cc
+refused_at_ok offset (Err e) y is = absurd (cc)
+
+pub refuse_if_ok : {E : Type 0} (test : Bool) (e : E) (u : Unit {0}) → refuse_if test e ≡ Ok u → test ≡ false
+refuse_if_ok true e u is = absurd (cc)
+refuse_if_ok false e u is = refl
+
+-- records that pass the test of room one by one lie in the bytes
+pub each_fits : (len start size count : ℕ) (u : Unit {0})
+    → room_of_each len start size count ≡ Ok u → 0 < count → start + count * size ≤ len
+each_fits len start size zero u is some = absurd (omega arith)
+each_fits len start size (suc zero) u is some =
+    let first = bind_ok (room_of len start size) (λ _. Ok tt) u is in
+    omega (arith, fits-room_of len start size first.0 first.1)
+each_fits len start size (suc (suc count)) u is some =
+    let first = bind_ok (room_of len start size) (λ _. room_of_each len (start + size) size (suc count)) u is in
+    let rest = each_fits len (start + size) size (suc count) u first.2 (omega arith) in
+    let sizes : suc (suc count) * size ≡ size + suc count * size = omega arith in
+    omega (arith, rest, sizes)
+
+-- a table that is accepted passes each test
+accepted : {A E : Type 0} (first second third : Bool) (a b c : E) (x y : A)
+    → (if first then Err a else if second then Err b else if third then Err c else Ok x) ≡ Ok y
+    → (first ≡ false) × (third ≡ false) × (y ≡ x)
+accepted true second third a b c x y is = absurd (cc)
+accepted false true third a b c x y is = absurd (cc)
+accepted false false true a b c x y is = absurd (cc)
+accepted false false false a b c x y is = (refl, refl, cc)
+
+-- a list has so many records of a size, which lie in the bytes from an offset on
+pub record IsListed
+    {R : Type 0} (size : ℕ) (read : List ℕ → R) (bytes : List ℕ) (start count : ℕ) (items : List R) : Type 0 where
+  pub are : items ≡ records size read count (drop start bytes)
+  pub fit : 0 < count → start + count * size ≤ length bytes
+
+module _ {R : Type 0} {size : ℕ} {read : List ℕ → R} {bytes : List ℕ} {start count : ℕ} {items : List R} where
+  -- the record at an index is read from its own bytes
+  pub item_at : (index : ℕ)
+      → IsListed size read bytes start count items → index < count
+      → (slice_get items index ≡ Some (read (take size (drop (start + index * size) bytes))))
+      × (start + index * size + size ≤ length bytes)
+  item_at index listed inside =
+      let there = listed.fit (omega (arith, inside)) in
+      let before : (index + 1) * size ≤ count * size = mul-le-mul_right size (omega (arith, inside)) in (
+        ap (λ (all : List R). slice_get all index) listed.are
+            ∙ get_records size read count (drop start bytes) index inside
+            ∙ ap (λ (own : List ℕ). Some (read (take size own))) (drop-drop (index * size) start bytes),
+        omega (arith, there, before),
+      )
+
+  -- and there is none from the number of them on
+  pub none_at : (index : ℕ) → IsListed size read bytes start count items → count ≤ index → slice_get items index ≡ None
+  none_at index listed past =
+      ap (λ (all : List R). slice_get all index) listed.are
+      ∙ past_records size read count (drop start bytes) index past
+
+-- the lists of the library
+pub listed_in : {R : Type 0} (size : ℕ) (read : List ℕ → R) (bytes : List ℕ) (start count : ℕ) (items : List R)
+    → records_in size read bytes start count ≡ Ok items → IsListed size read bytes start count items
+unfolding records_in
+listed_in size read bytes start count items is =
+    let room = refuse_as misplaced (room_of_each (length bytes) start size count) in
+    let all = records size read count (drop start bytes) in
+    let parts = bind_ok room (λ _. Ok all) items is in
+    let each = refuse_as_ok misplaced (room_of_each (length bytes) start size count) parts.0 parts.1 in
+    record {
+      are = (let same = parts.2 in cc);
+      fit = each_fits (length bytes) start size count parts.0 each;
+    }
+
+pub listed_from : {R : Type 0} (size : ℕ) (read : List ℕ → R) (bytes : List ℕ) (start count : ℕ) (name : List ℕ)
+    (items : List R)
+    → records_from size read bytes start count name ≡ Ok items → IsListed size read bytes start count items
+unfolding records_from records_in
+listed_from size read bytes start count name items is =
+    let few = refuse_if (nat_lt (length bytes / size) count) (buffer_too_short count name) in
+    let parts = bind_ok few (λ _. records_in size read bytes start count) items is in
+    listed_in size read bytes start count items parts.2
+
+module _ (bytes : List ℕ) (start count : ℕ) (ctx : Ctx) where
+  -- as many headers are stated as are read
+  stated_is : (u : Unit {0}) (empty : Bool)
+      → room_of (length bytes) start (section_header_size ctx.container) ≡ Ok u → (count == 0) ≡ empty
+      → (if empty then count_from bytes start 0 ctx else Ok count) ≡ Ok (max 1 (count_asked bytes start count ctx))
+  stated_is u true room is = let none : count ≡ 0 = grind (arith, nat_tests) in rw (room, none) refl
+  stated_is u false room is =
+      let some : max 1 count ≡ count = grind (arith, nat_tests) in
+      rw is (ap Ok (sym some))
+
+  -- the section headers, as many as the file states
+  listed_by : (none : Bool) (items : List SectionHeader)
+      → (if none then Ok [] else section_headers_from bytes start count ctx) ≡ Ok items
+      → (stated : ℕ)
+      × ((if none then Ok 0 else if count == 0 then count_from bytes start 0 ctx else Ok count) ≡ Ok stated)
+      × IsListed (section_header_size ctx.container) (section_header_of ctx.container ctx.le) bytes start stated items
+  unfolding section_headers_from section_headers_from_tested
+  listed_by true items is =
+      let empty = no_records (section_header_size ctx.container) (section_header_of ctx.container ctx.le) 0
+      (drop start bytes) refl in
+      let same : items ≡ [] = cc in
+      (0, refl, record { are = same ∙ sym empty; fit = λ some. absurd (omega arith) })
+  listed_by false items is =
+      let size = section_header_size ctx.container in
+      let read = section_header_of ctx.container ctx.le in
+      let asked = count_asked bytes start count ctx in
+      let room = refuse_as misplaced (room_of (length bytes) start size) in
+      let few = refuse_if (nat_lt (length bytes / size) asked) (buffer_too_short asked (codes "section headers")) in
+      let parts = bind_ok (room >>= λ _. few) (λ _. records_in size read bytes start (max 1 asked)) items is in
+      let first = bind_ok room (λ _. few) parts.0 parts.1 in
+      let there = refuse_as_ok misplaced (room_of (length bytes) start size) first.0 first.1 in
+      let listed = listed_in size read bytes start (max 1 asked) items parts.2 in
+      (max 1 asked, stated_is first.0 (count == 0) there refl, listed)
+
+  pub sections_listed : (items : List SectionHeader)
+      → section_headers_of bytes start count ctx ≡ Ok items
+      → (stated : ℕ) × (section_headers_stated bytes start count ctx ≡ Ok stated)
+      × IsListed (section_header_size ctx.container) (section_header_of ctx.container ctx.le) bytes start stated items
+  sections_listed items is = listed_by (start == 0) items is
+
+  -- the symbols of a table
+  pub symbols_listed : (items : List Sym)
+      → (refused_at start (refuse_as refusal_of (symtab_of bytes start count ctx)) >>= λ table. Ok table.symbols)
+      ≡ Ok items
+      → IsListed (sym_size ctx.container) (sym_of ctx.container ctx.le) bytes start count items
+  symbols_listed items is =
+      let read = refuse_as refusal_of (symtab_of bytes start count ctx) in
+      let parts = bind_ok (refused_at start read) (λ table. Ok table.symbols) items is in
+      let table = refuse_as_ok refusal_of (symtab_of bytes start count ctx) parts.0
+      (refused_at_ok start read parts.0 parts.1) in
+      let tests = accepted (nat_le (length bytes) start) (nat_le (2 ^ 64) (count * sym_size ctx.container))
+      (nat_lt (length bytes - start) (count * sym_size ctx.container)) _ _ _ _ parts.0 table in
+      record {
+        are = (let same = parts.2 in cc);
+        fit = λ some. grind (arith, nat_tests);
+      }

@@ -1,0 +1,228 @@
+-- Offsets of addresses, numbers in ranges, and ranges that are cut to the file.
+use Rattle.std.proofs.Common.{◌≡◌, ◌≤◌, ◌<◌, ◌+◌, ◌-◌, ◌^◌, ◌==◌, ◌&&◌, ℕ, zero, suc, Bool, true, false, true≢false}
+use Rattle.std.proofs.Common.{nat_le}
+use Rattle.std.proofs.Common.{nat_lt, min, List, [], ◌∷◌, length, take, drop, find, slice_get, Option, Some, None}
+use Rattle.std.proofs.Common.{Result, Ok, Err, inl, inr, if◌then◌else◌, refl, sym, ap, subst, ◌∙◌, arith}
+use Rattle.std.proofs.lemmas.Bool.{and_parts, leb-false, leb-true}
+use Rattle.std.proofs.lemmas.Bool.Decides.{nat_tests}
+use Rattle.std.proofs.lemmas.List.{drop_all, length-drop, take_min}
+use Rattle.std.proofs.lemmas.Option.{slice_get-map}
+use Rattle.std.specs.Bool.{Decides}
+use Rattle.std.specs.Option.{option_map}
+use Rattle.goblin_base.specs.declared.scroll.Error.{Error as Misplaced}
+use Rattle.goblin_base.specs.Refusal.{misplaced}
+use Rattle.goblin_c.specs.Refused.{RefusalAt, refused_at}
+use Rattle.goblin_base.specs.RecordLaws.{fits-room_of, room_of_fits}
+use Rattle.goblin_base.specs.Room.{room_of}
+use Rattle.goblin_base.specs.Steps.{◌>>=◌, refuse_as}
+use Rattle.goblin.specs.ProgramHeaders.{loaded_from, loads, offset_in}
+use Rattle.goblin.specs.declared.elf.program_header.ProgramHeader.{ProgramHeader}
+use Rattle.goblin_c.specs.declared.types.GoblinHeader.{GoblinHeader}
+use Rattle.goblin_c.specs.declared.types.GoblinRange.{GoblinRange}
+use Rattle.goblin_c.specs.declared.types.GoblinSegment.{GoblinSegment}
+use Rattle.goblin_c.specs.Answers.{segment_converted, segment_expected, segments_expected}
+use Rattle.goblin_c.specs.Bytes.{is_width, number_expected, range_expected}
+use Rattle.goblin_c.specs.Laws.{LiesIn, bytes_in}
+use Rattle.goblin_c.specs.PlaceLaws.{AddressesAreLoaded, IsOffsetOf, IsSlice, LoadsByte, LoadsFirst}
+use Rattle.goblin_c.specs.PlaceLaws.{NumbersLieInRange, PartsLieInFile}
+use Rattle.goblin_c.specs.Places.{cut_range, in_file}
+use Rattle.goblin_c.proofs.ListedLemmas.{bind_ok, refuse_as_ok, refused_at_ok}
+use Rattle.goblin_c.proofs.SearchLemmas.{converted_one}
+
+take_none : (n : ℕ) → ◌≡◌ {A = List ℕ} (take n []) []
+take_none zero = refl
+take_none (suc n) = refl
+
+-- the part of a range has the same bytes of the file
+same_bytes : (bytes : List ℕ) (range : GoblinRange) (inside : Bool)
+    → nat_le range.offset (length bytes) ≡ inside
+    → bytes_in bytes (cut_range (length bytes) range) ≡ bytes_in bytes range
+same_bytes bytes range true is =
+    let within : range.offset ≤ length bytes = leb-true range.offset (length bytes) is in
+    let start : min range.offset (length bytes) ≡ range.offset = omega (arith, within) in
+    ap (λ (k : ℕ). take (min range.size (length bytes - k)) (drop k bytes)) start
+    ∙ ap (λ (n : ℕ). take (min range.size n) (drop range.offset bytes)) (sym (length-drop range.offset bytes))
+    ∙ take_min range.size (drop range.offset bytes)
+same_bytes bytes range false is =
+    let past : length bytes < range.offset = leb-false range.offset (length bytes) is in
+    let start : min range.offset (length bytes) ≡ length bytes = omega (arith, past) in
+    let none : drop (min range.offset (length bytes)) bytes ≡ [] =
+    drop_all (min range.offset (length bytes)) bytes (omega (arith, start)) in
+    let nothing : drop range.offset bytes ≡ [] = drop_all range.offset bytes (omega (arith, past)) in
+    ap (take (min range.size (length bytes - min range.offset (length bytes)))) none
+    ∙ take_none (min range.size (length bytes - min range.offset (length bytes)))
+    ∙ sym (ap (take range.size) nothing ∙ take_none range.size)
+
+pub parts_lie_in_file : PartsLieInFile
+parts_lie_in_file bytes range = record {
+  within = omega arith;
+  same_bytes = same_bytes bytes range (nat_le range.offset (length bytes)) refl;
+  same_range = λ lies.
+      let start : min range.offset (length bytes) ≡ range.offset = omega (arith, lies) in
+      let size : min range.size (length bytes - min range.offset (length bytes)) ≡ range.size = omega (arith, lies) in
+      λ j. record { offset = start j; size = size j };
+}
+
+-- a number in a range, from the test of its width
+number_by : (bytes : List ℕ) (h : GoblinHeader) (range : GoblinRange) (offset width value : ℕ) (wide : Bool)
+    → (if wide then (range_expected bytes range >>= λ _.
+    refused_at (min (range.offset + offset) (2 ^ 64 - 1))
+    (refuse_as misplaced (room_of range.size offset width)) >>= λ _.
+    number_expected bytes h (range.offset + offset) width)
+    else Ok None)
+    ≡ Ok (Some value)
+    → LiesIn bytes range × (offset + width ≤ range.size)
+    × (number_expected bytes h (range.offset + offset) width ≡ Ok (Some value))
+number_by bytes h range offset width value true is =
+    let place = min (range.offset + offset) (2 ^ 64 - 1) in
+    let number = number_expected bytes h (range.offset + offset) width in
+    let whole = refuse_as misplaced (room_of (length bytes) range.offset range.size) in
+    let part = refuse_as misplaced (room_of range.size offset width) in
+    let within = range_expected bytes range in
+    let first = bind_ok within (λ _. refused_at place part >>= λ _. number) (Some value) is in
+    let room = bind_ok (refused_at range.offset whole) (λ _. Ok (Some range)) first.0 first.1 in
+    let second = bind_ok (refused_at place part) (λ _. number) (Some value) first.2 in (
+      fits-room_of (length bytes) range.offset range.size room.0
+          (refuse_as_ok misplaced (room_of (length bytes) range.offset range.size) room.0
+          (refused_at_ok range.offset whole room.0 room.1)),
+      fits-room_of range.size offset width second.0
+          (refuse_as_ok misplaced (room_of range.size offset width) second.0
+          (refused_at_ok place part second.0 second.1)),
+      second.2,
+    )
+number_by bytes h range offset width value false is = absurd (cc)
+
+pub numbers_lie_in_range : NumbersLieInRange
+numbers_lie_in_range bytes h range offset width value is =
+    number_by bytes h range offset width value (is_width width) is
+
+-- the first segment that loads an address stands at some index, and none before it does
+abbrev FirstLoads : ℕ → List ProgramHeader → ProgramHeader → Type 0
+FirstLoads address items s =
+    (index : ℕ) × ((slice_get items index ≡ Some s) × (loads address s ≡ true)
+    × ((k : ℕ) (x : ProgramHeader) → k < index → slice_get items k ≡ Some x → loads address x ≡ false))
+
+some_same : {X : Type 0} (x y : X) → ◌≡◌ {A = Option X} (Some x) (Some y) → x ≡ y
+some_same x y is = cc
+
+earlier_fails : (address : ℕ) (x : ProgramHeader) (items : List ProgramHeader) (index : ℕ)
+    → loads address x ≡ false
+    → ((k : ℕ) (y : ProgramHeader) → k < index → slice_get items k ≡ Some y → loads address y ≡ false)
+    → (k : ℕ) (y : ProgramHeader) → k < suc index → slice_get (x ∷ items) k ≡ Some y → loads address y ≡ false
+earlier_fails address x items index hit rest zero y before found =
+    ap (loads address) (sym (some_same x y found)) ∙ hit
+earlier_fails address x items index hit rest (suc k) y before found = rest k y (omega (arith, before)) found
+
+first_by : (address : ℕ) (x : ProgramHeader) (items : List ProgramHeader) (s : ProgramHeader) (hit : Bool)
+    → loads address x ≡ hit → (find (loads address) items ≡ Some s → FirstLoads address items s)
+    → (if hit then Some x else find (loads address) items) ≡ Some s → FirstLoads address (x ∷ items) s
+first_by address x items s true hit rest is = (
+  zero,
+  (is, ap (loads address) (sym (some_same x s is)) ∙ hit, λ k y before found. absurd (omega (arith, before))),
+)
+first_by address x items s false hit rest is =
+    let later = rest is in (
+      suc later.0,
+      (later.1.0, later.1.1, λ k y before found. earlier_fails address x items later.0 hit later.1.2 k y before found),
+    )
+
+first_loads : (address : ℕ) (items : List ProgramHeader) (s : ProgramHeader)
+    → find (loads address) items ≡ Some s → FirstLoads address items s
+first_loads address [] s is = absurd (cc)
+first_loads address (x ∷ items) s is =
+    first_by address x items s (loads address x) refl (first_loads address items s) is
+
+none_by : (address : ℕ) (x : ProgramHeader) (items : List ProgramHeader) (hit : Bool)
+    → loads address x ≡ hit → (if hit then Some x else find (loads address) items) ≡ None
+    → (loads address x ≡ false) × (find (loads address) items ≡ None)
+none_by address x items true hit is = absurd (cc)
+none_by address x items false hit is = (hit, is)
+
+none_loads : (address : ℕ) (items : List ProgramHeader)
+    → find (loads address) items ≡ None
+    → (k : ℕ) (y : ProgramHeader) → slice_get items k ≡ Some y → loads address y ≡ false
+none_loads address [] none k y found = absurd (cc)
+none_loads address (x ∷ items) none zero y found =
+    ap (loads address) (sym (some_same x y found)) ∙ (none_by address x items (loads address x) refl none).0
+none_loads address (x ∷ items) none (suc k) y found =
+    none_loads address items (none_by address x items (loads address x) refl none).1 k y found
+
+-- the library's test is the one for C
+loads-Decides : (address : ℕ) (x : ProgramHeader)
+    → Decides (loads address x) (LoadsByte address (segment_converted x))
+loads-Decides address x = (
+  λ is.
+      let parts = and_parts (x.p_type == 1) (nat_le x.p_vaddr address && nat_lt address (x.p_vaddr + x.p_filesz)) is in
+      let both = and_parts (nat_le x.p_vaddr address) (nat_lt address (x.p_vaddr + x.p_filesz)) parts.1 in
+      (grind (arith, nat_tests, parts.0), grind (arith, nat_tests, both.0), grind (arith, nat_tests, both.1)),
+  λ is. let type = is.0 in let above = is.1 in let below = is.2 in grind (arith, nat_tests),
+)
+
+module _ (bytes : List ℕ) (h : GoblinHeader) (address : ℕ) (short : IsSlice bytes) (items : List ProgramHeader)
+    (is : segments_expected bytes h ≡ Ok items) where
+  -- a segment for C that is stored, and that the library's test passes
+  not_loaded : (k : ℕ) (y : GoblinSegment)
+      → segment_expected bytes h k ≡ Ok (Some y)
+      → ((x : ProgramHeader) → slice_get items k ≡ Some x → loads address x ≡ false)
+      → ¬ (LoadsByte address y)
+  not_loaded k y stored fails so =
+      let one = converted_one segment_converted items k y (rw is at stored) in
+      true≢false (sym ((loads-Decides address one.0).1 (subst (LoadsByte address) one.2 so)) ∙ fails one.0 one.1)
+
+  loads_first : (s : ProgramHeader) (first : FirstLoads address items s)
+      → LoadsFirst bytes h address first.0 (segment_converted s)
+  loads_first s first = (
+    rw is (ap Ok (slice_get-map segment_converted items first.0 ∙ ap (option_map segment_converted) first.1.0)),
+    (loads-Decides address s).0 first.1.1,
+    λ k y before stored. not_loaded k y stored (λ x found. first.1.2 k x before found),
+  )
+
+  -- the file has no byte at an offset without room
+  no_byte_by : (s : ProgramHeader) (e : Misplaced)
+      → room_of (length bytes) (offset_in address s) 1 ≡ Err e → (past : Bool)
+      → nat_le (length bytes) (s.p_offset + (address - s.p_vaddr)) ≡ past
+      → length bytes ≤ s.p_offset + (address - s.p_vaddr)
+  no_byte_by s e there true past = leb-true (length bytes) (s.p_offset + (address - s.p_vaddr)) past
+  no_byte_by s e there false past =
+      let inside = leb-false (length bytes) (s.p_offset + (address - s.p_vaddr)) past in
+      let room = room_of_fits (length bytes) (offset_in address s) 1 (omega (arith, inside)) in
+      absurd (cc)
+
+  no_byte : (s : ProgramHeader) (e : Misplaced)
+      → room_of (length bytes) (offset_in address s) 1 ≡ Err e → length bytes ≤ s.p_offset + (address - s.p_vaddr)
+  no_byte s e there =
+      let place = s.p_offset + (address - s.p_vaddr) in
+      no_byte_by s e there (nat_le (length bytes) place) refl
+
+  by_room : (s : ProgramHeader) (first : FirstLoads address items s) (room : Result (Unit {0}) Misplaced)
+      → room_of (length bytes) (offset_in address s) 1 ≡ room
+      → IsOffsetOf bytes h address
+      (refused_at (offset_in address s) (refuse_as misplaced room) >>= λ _. Ok (Some (offset_in address s)))
+  by_room s first (Ok u) there =
+      let fits = fits-room_of (length bytes) (offset_in address s) 1 u there in (
+        first.0,
+        (
+          segment_converted s,
+          loads_first s first,
+          omega (arith, fits, short),
+          omega (arith, fits),
+        ),
+      )
+  by_room s first (Err e) there = inr (first.0, (segment_converted s, loads_first s first, no_byte s e there))
+
+  by_found : (found : Option ProgramHeader)
+      → find (loads address) items ≡ found
+      → IsOffsetOf bytes h address (in_file bytes (option_map (offset_in address) found))
+  by_found (Some s) found =
+      by_room s (first_loads address items s found) (room_of (length bytes) (offset_in address s) 1) refl
+  by_found None found = λ k y stored. not_loaded k y stored (λ x there. none_loads address items found k x there)
+
+by_all : (bytes : List ℕ) (h : GoblinHeader) (address : ℕ) (all : Result (List ProgramHeader) RefusalAt)
+    → IsSlice bytes → segments_expected bytes h ≡ all
+    → IsOffsetOf bytes h address (all >>= λ segments. in_file bytes (loaded_from address segments))
+by_all bytes h address (Ok items) short is =
+    by_found bytes h address short items is (find (loads address) items) refl
+by_all bytes h address (Err e) short is = inl (λ index. rw is refl)
+
+pub addresses_are_loaded : AddressesAreLoaded
+addresses_are_loaded bytes h address short = by_all bytes h address (segments_expected bytes h) short refl
