@@ -85,7 +85,7 @@ install_library() {
     up=$(echo "$libdir/pkgconfig" | sed 's|[^/][^/]*|..|g')
     put_edited "s|@VERSION@|$version|; s|@UP@|$up|; s|@LIBDIR@|$libdir|" faces/goblin_c.pc.in "$libdir/pkgconfig/goblin_c.pc"
     put LICENSE share/goblin_c/LICENSE
-    for example in needed nm size strings symbolize values; do put "faces/c/$example.c" "share/goblin_c/examples/$example.c"; done
+    for example in flag needed nm size strings symbolize truncated values; do put "faces/c/$example.c" "share/goblin_c/examples/$example.c"; done
     put LICENSE share/goblin_c/rust/LICENSE
     put_edited "s|join(\"lib\")|join(\"$libdir\")|" faces/rust/build.rs share/goblin_c/rust/build.rs
     put_all faces/rust/src share/goblin_c/rust/src

@@ -97,6 +97,23 @@ check_bench() {
     fi
 }
 
+# Runs flag.c and truncated.c over a file that made.c makes. Its sections .text and .data have the flags 6 and 3. It has 11 section
+# headers, after the bytes of all sections.
+check_places() {
+    case $1 in *64) size=64 symbols=504 ;; *) size=40 symbols=336 ;; esac
+    [ "$("$folder/flag" "$1" .text)" = '.text: flags 0x6, now 0x7' ] || fail "flag.c does not set the flag of .text of $1"
+    [ "$("$folder/flag" "$1" .data)" = '.data: flags 0x3, now 0x2' ] || fail "flag.c does not clear the flag of .data of $1"
+    [ "$("$folder/flag" "$1" .no 2>&1)" = 'flag: there is no section .no' ] || fail "flag.c finds a section that $1 doesn't have"
+    "$folder/truncated" "$1" > "$folder/listed"
+    printf '%s\n' "all headers: type is too big ($size) for $((size / 2))" '10 of 11 headers are whole' '0 SHT_NULL: no bytes' \
+        '1 SHT_PROGBITS: 64 of 64 bytes' '2 SHT_PROGBITS: 64 of 64 bytes' '3 SHT_NOBITS: no bytes' '4 SHT_PROGBITS: 64 of 64 bytes' \
+        '5 SHT_PROGBITS: 64 of 64 bytes' '6 SHT_PROGBITS: 64 of 64 bytes' "7 SHT_SYMTAB: $symbols of $symbols bytes" > "$folder/wanted"
+    head -n 10 "$folder/listed" > "$folder/first"
+    quietly diff "$folder/wanted" "$folder/first"
+    [ "$(tail -n 1 "$folder/listed")" = "9 SHT_RELA: $((size == 64 ? 48 : 24)) of $((size == 64 ? 48 : 24)) bytes" ] \
+        || fail "truncated.c does not end with the last whole header of $1"
+}
+
 # Runs the programs over each file that made.c makes, and over its first bytes.
 check_programs() {
     mkdir "$files"
@@ -110,6 +127,7 @@ check_programs() {
         [ "$(grep -c -x -e '12 function' -e '18 été' "$folder/listed")" -eq 2 ] || fail "values.c does not list the symbols of $file"
         "$folder/strings" "$file" .strtab > "$folder/listed"
         [ "$(sed 's/^ *[0-9a-f]*  //' "$folder/listed" | grep -c -x -e made.c -e function -e été)" -eq 3 ] || fail "strings.c does not list the strings of $file"
+        check_places "$file"
     done
     if has readelf; then
         readelf -p .comment "$folder/nm" | sed -n 's/^ *\[ *\([0-9a-f]*\)\]  /\1  /p' > "$folder/wanted"
@@ -122,7 +140,11 @@ check_programs() {
     head -c 15 "$file" > "$short"
     [ "$("$folder/nm" "$short" 2>&1)" = 'nm: header: Malformed entity: Too small' ] || fail "nm.c does not refuse a short file as it should"
     [ "$("$folder/values" "$short" 2>&1)" = 'values: Malformed entity: Too small' ] || fail "values.c does not refuse a short file as it should"
-    [ "$("$folder/needed" "$short" 2>&1)" = 'needed: Malformed entity: Too small' ] || fail "needed.c does not refuse a short file as it should"
+    for program in needed truncated; do
+        [ "$("$folder/$program" "$short" 2>&1)" = "$program: Malformed entity: Too small" ] \
+            || fail "$program.c does not refuse a short file as it should"
+    done
+    [ "$("$folder/flag" "$short" .text 2>&1)" = 'flag: Malformed entity: Too small' ] || fail "flag.c does not refuse a short file as it should"
     [ "$("$folder/size" "$short" 2>&1 > "$folder/output")" = "size: $short: Malformed entity: Too small" ] || fail "size.c does not refuse a short file as it should"
     [ "$("$folder/strings" "$short" .names 2>&1)" = 'strings: Malformed entity: Too small, at offset 0' ] || fail "strings.c does not refuse a short file as it should"
     echo "nm.c lists $(echo "$symbols_made" | wc -l) symbols in each class and byte order"
@@ -144,7 +166,7 @@ check_damaged() {
 check_header
 check_examples
 check_constants
-for program in nm size symbolize values made search cost needed strings; do build $program -std=c99; done
+for program in nm size symbolize values made search cost needed strings flag truncated; do build $program -std=c99; done
 quietly "$folder/search"
 echo "c: $(wc -l < "$folder/output") searches among long names take less than their limit (search.c)"
 quietly "$folder/cost"
