@@ -108,12 +108,12 @@ relocs_by_index bytes h ctx range is_rela has named =
     (listed reloc_converted (relocs_expected bytes (header_converted h) range is_rela)))
 
 -- the item at an index after those that are dropped
-pub behind : {X : Type 0} (xs : List X) (n k : ℕ) → slice_get xs (n + k) ≡ slice_get (drop n xs) k
-behind xs zero k = ap (slice_get xs) (omega arith)
-behind [] (suc n) k = refl
-behind (x ∷ xs) (suc n) k =
+pub get_drop : {X : Type 0} (xs : List X) (n k : ℕ) → slice_get xs (n + k) ≡ slice_get (drop n xs) k
+get_drop xs zero k = ap (slice_get xs) (omega arith)
+get_drop [] (suc n) k = refl
+get_drop (x ∷ xs) (suc n) k =
     let more : suc n + k ≡ suc (n + k) = omega arith in
-    ap (slice_get (x ∷ xs)) more ∙ behind xs n k
+    ap (slice_get (x ∷ xs)) more ∙ get_drop xs n k
 
 -- the items for C from an index on
 given : {X : Type 0} (items : List X) (first : ℕ) (past : Bool)
@@ -125,7 +125,7 @@ given items first true is =
     λ k. ap Ok (slice_get_past items (first + k) (omega arith))
 given items first false is =
     let some : first < length items = leb-false (length items) first is in
-    (omega (arith, length-drop first items), λ k. ap Ok (behind items first k))
+    (omega (arith, length-drop first items), λ k. ap Ok (get_drop items first k))
 
 from : {X : Type 0} (all : Result (List X) RefusalAt) (first : ℕ)
     → GivenFrom {Y = X} first (item_of all) (items_from all first)

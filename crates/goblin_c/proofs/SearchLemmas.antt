@@ -13,7 +13,7 @@ use Rattle.goblin_c.specs.Refused.{RefusalAt}
 use Rattle.goblin_c.specs.declared.types.GoblinSection.{GoblinSection}
 use Rattle.goblin_c.specs.Answers.{each_converted, item_of, section_converted, sections_expected}
 use Rattle.goblin_c.specs.Laws.{FindsFrom, RefusesAll, SectionsByType}
-use Rattle.goblin_c.proofs.IndexLemmas.{behind}
+use Rattle.goblin_c.proofs.IndexLemmas.{get_drop}
 
 -- the first item that passes a test, and that none does
 first_passes : {X : Type 0} (test : X → Bool) (items : List X) (i : ℕ)
@@ -51,7 +51,7 @@ there : {X : Type 0} (items : List X) (first i : ℕ) (x : X)
     → first ≤ i → slice_get items i ≡ Some x → slice_get (drop first items) (i - first) ≡ Some x
 there items first i x after found =
     let place : i ≡ first + (i - first) = omega (arith, after) in
-    sym (behind items first (i - first)) ∙ ap (slice_get items) (sym place) ∙ found
+    sym (get_drop items first (i - first)) ∙ ap (slice_get items) (sym place) ∙ found
 
 -- from the first item on an index is what it is
 pub from_none : (found : Option ℕ) → option_map (λ place. 0 + place) found ≡ found
@@ -78,7 +78,7 @@ module _ {X Y : Type 0} (convert : X → Y) (IsSo : Y → Type 0) (test : X → 
         omega arith,
         (
           convert one.0,
-          ap Ok (slice_get-map convert items (first + i) ∙ ap (option_map convert) (behind items first i ∙ one.1)),
+          ap Ok (slice_get-map convert items (first + i) ∙ ap (option_map convert) (get_drop items first i ∙ one.1)),
           (decides one.0).0 one.2,
         ),
         λ k y after before stored.

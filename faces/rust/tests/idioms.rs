@@ -69,9 +69,9 @@ fn tables_from_both_ends() {
         has_items(segments.iter(), |segment| segment.p_type, &[4, 1]);
         let relocs = elf.shdr_relocs().unwrap();
         assert_eq!(relocs.iter().map(|(section, _)| section.sh_type).collect::<Vec<_>>(), [SHT_RELA, SHT_REL]);
-        let mut from_behind = relocs.iter();
-        let (_, last) = from_behind.next_back().unwrap();
-        assert_eq!((from_behind.len(), from_behind.size_hint(), relocs.len()), (1, (1, Some(1)), 2));
+        let mut from_the_end = relocs.iter();
+        let (_, last) = from_the_end.next_back().unwrap();
+        assert_eq!((from_the_end.len(), from_the_end.size_hint(), relocs.len()), (1, (1, Some(1)), 2));
         has_items(last.iter(), |reloc| reloc.r_type, &[11]);
         let (_, first) = relocs.into_iter().rev().nth(1).unwrap();
         has_items((&first).into_iter(), |reloc| reloc.r_offset, &[0x8, 0x18]);
