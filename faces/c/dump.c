@@ -92,6 +92,7 @@ static void one_symbol(goblin_range_t table, goblin_range_t names, uint64_t at) 
     TEXT(goblin_type_to_str, symbol.st_info & 15);
     TEXT(goblin_visibility_to_str, symbol.st_other & 7);
     putchar('\n');
+    SHOW(goblin_symbol_place, range, name, &h, &table, at);
     string(names, symbol.st_name);
     if (goblin_string(bytes, len, &names, symbol.st_name, &name, &why) == GOBLIN_OK)
         SHOW(goblin_symbol_by_name, number, index, &h, &table, &names, bytes + name.offset, (size_t)name.size);
@@ -155,6 +156,7 @@ static void segments(void) {
         put_segment(&segment);
         TEXT(goblin_pt_to_str, segment.p_type);
         putchar('\n');
+        SHOW(goblin_segment_place, range, range, &h, i);
         SHOW(goblin_segment_bytes, range, range, &segment);
         notes(segment.file, segment.p_align);
         notes_as_bytes(segment.file, segment.p_align);
@@ -175,6 +177,7 @@ static void sections(void) {
         for (int bit = 0; bit < 32; bit++)
             if (section.sh_flags >> bit & 1) TEXT(goblin_shf_to_str, 1U << bit);
         putchar('\n');
+        SHOW(goblin_section_place, range, range, &h, i);
         string(strings, section.sh_name);
         if (goblin_string(bytes, len, &strings, section.sh_name, &name, &why) == GOBLIN_OK)
             SHOW(goblin_section_by_name, number, index, &h, &strings, bytes + name.offset, (size_t)name.size, 0);

@@ -202,6 +202,37 @@ function check_lists() {
     return `${made} lists that have each item, ${refused} that are refused where they are made`;
 }
 
+// The ranges of records have their bytes: what is written there is read as part of that record, and no other record changes.
+function check_places() {
+    let places = 0;
+    for (const content of files) {
+        const elf = Elf.parse(content), symbols = elf.syms() ?? elf.dynsyms(), [sh_type, st_value] = [4, elf.is_64() ? 8 : 4];
+        const with_byte = (place, offset) => {
+            const copy = Buffer.from(content);
+            copy[Number(place.offset) + offset] ^= 1;
+            return Elf.parse(copy);
+        };
+        const changes = (before, after, index) => {
+            assert.notDeepEqual(after[index], before[index]);
+            assert.deepEqual(after.filter((_, i) => i !== index), before.filter((_, i) => i !== index));
+            places++;
+        };
+        const sections = [...elf.section_headers()], segments = [...elf.program_headers()];
+        sections.slice(0, 20).forEach((_, index) => {
+            changes(sections, [...with_byte(elf.section_header_place(index), sh_type).section_headers()], index);
+        });
+        segments.forEach((_, index) => changes(segments, [...with_byte(elf.program_header_place(index), 0).program_headers()], index));
+        assert.deepEqual([elf.section_header_place(sections.length), elf.program_header_place(segments.length)], [undefined, undefined]);
+        if (!symbols) continue;
+        const all = [...symbols], range = sections.find(({ sh_type }) => sh_type === (elf.syms() ? goblin.SHT_SYMTAB : goblin.SHT_DYNSYM));
+        for (const index of [0, 1, all.length - 1]) {
+            changes(all, [...with_byte(symbols.place(index), st_value).symtab(range)], index);
+        }
+        assert.equal(symbols.place(all.length), undefined);
+    }
+    return `${places} places of records`;
+}
+
 // Returns a copy of a file in which the bytes of a section start at the file's last byte.
 function with_moved(content, elf, index) {
     const copy = Buffer.from(content), view = new DataView(copy.buffer, copy.byteOffset), at = Number(elf.header.e_shoff);
@@ -584,7 +615,7 @@ function check_package() {
 await check_missing_memories();
 await goblin.default();
 const tested = [
-    check_bytes(), check_lists(), check_moved_sections(), check_linked_sections(), check_types_of_sections(), check_notes(), check_json(), await check_constants(),
+    check_bytes(), check_lists(), check_places(), check_moved_sections(), check_linked_sections(), check_types_of_sections(), check_notes(), check_json(), await check_constants(),
     check_address_index(), check_declarations(),
 ];
 check_arguments();

@@ -486,6 +486,14 @@ export class Elf {
     program_header(index) { return this.#call('goblin_c_segment', 'segment', unsigned(index, 64)); }
 
     /**
+     * Returns the range of the program header at an index, or `undefined` past the end. With it a field can be changed in a buffer, in the
+     * file's byte order.
+     * @param {number | bigint} index
+     * @returns {Range | undefined}
+     */
+    program_header_place(index) { return this.#call('goblin_c_segment_place', 'range', unsigned(index, 64)); }
+
+    /**
      * Returns all program headers.
      * @returns {List<ProgramHeader>}
      */
@@ -497,6 +505,20 @@ export class Elf {
      * @returns {SectionHeader | undefined}
      */
     section_header(index) { return this.#call('goblin_c_section', 'section', unsigned(index, 64)); }
+
+    /**
+     * Returns the range of the section header at an index, or `undefined` past the end. With it a field can be changed in a buffer, in the
+     * file's byte order:
+     *
+     * ```js
+     * const { offset } = elf.section_header_place(1), view = new DataView(buffer);
+     * // (sh_type is the second field)
+     * view.setUint32(Number(offset) + 4, SHT_NOBITS, elf.little_endian());
+     * ```
+     * @param {number | bigint} index
+     * @returns {Range | undefined}
+     */
+    section_header_place(index) { return this.#call('goblin_c_section_place', 'range', unsigned(index, 64)); }
 
     /**
      * Returns all section headers.
@@ -1019,6 +1041,17 @@ export class Symtab extends List {
      * @returns {boolean}
      */
     name_is(symbol, text) { return this.strtab.is(symbol.st_name, text); }
+
+    /**
+     * Returns the range of the symbol at an index, or `undefined` past the end. With it a field can be changed in a buffer, in the file's
+     * byte order.
+     * @param {number | bigint} index
+     * @returns {Range | undefined}
+     */
+    place(index) {
+        const memory = this.#memory, table = memory.pass(ARGUMENT, 'range', this.#range);
+        return memory.call('goblin_c_symbol_place', 'range', memory.address(HEADER), table, unsigned(index, 64));
+    }
 
     /**
      * Returns the index of the symbol for an address, if there is one: the one with the highest `st_value` that is not above the

@@ -115,6 +115,7 @@ class Dump {
             + `${goblin.type_to_str(goblin.st_type(st_info))} ${goblin.visibility_to_str(goblin.st_visibility(st_other))}`;
         const symbol = this.ask('goblin_symbol', read, (item) => fields(item) + names(item));
         if (!symbol) return;
+        this.ask('goblin_symbol_place', () => symtab.place(index));
         const name = this.string(symtab.strtab, symbol.st_name);
         if (name !== undefined) this.ask('goblin_symbol_by_name', () => symtab.by_name(name));
         this.ask('goblin_symbol_by_address', () => symtab.by_address(symbol.st_value));
@@ -170,8 +171,10 @@ class Dump {
     segments(elf) {
         const list = this.ask('goblin_segment_count', () => elf.program_headers(), length);
         if (!list) return;
-        for (const segment of list) {
+        for (const [index, segment] of list.entries()) {
+            const { p_vaddr, p_filesz } = segment, half = p_filesz / 2n;
             this.ask('goblin_segment', () => segment, (item) => `${fields(item)} ${goblin.pt_to_str(item.p_type)}`);
+            this.ask('goblin_segment_place', () => elf.program_header_place(index));
             this.ask('goblin_segment_bytes', () => elf.segment_range(segment));
             this.notes(elf.readable_segment_notes(segment));
             this.notes_bytes(elf.readable_segment_notes_bytes(segment));
@@ -189,6 +192,7 @@ class Dump {
             const flags = Array.from({ length: 32 }, (_, bit) => 2 ** bit).filter((flag) => section.sh_flags & BigInt(flag));
             this.ask('goblin_section', () => section, (item) =>
                 fields(item) + [goblin.sht_to_str(item.sh_type), ...flags.map(goblin.shf_to_str)].map((name) => ` ${name}`).join(''));
+            this.ask('goblin_section_place', () => elf.section_header_place(index));
             const name = this.string(names, section.sh_name);
             if (name !== undefined) this.ask('goblin_section_by_name', () => elf.section_by_name(name));
             this.ask('goblin_section_by_type', () => elf.section_by_type(section.sh_type, Math.floor(index / 2)));

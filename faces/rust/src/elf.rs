@@ -9,6 +9,7 @@ use crate::section_header::{SectionHeader, SectionHeaders, SHT_DYNSYM, SHT_RELA,
 use crate::strtab::Strtab;
 use crate::sym::Symtab;
 use crate::sys;
+use std::ops::Range;
 
 /// A file in memory, with its header. Everything else is read on demand.
 ///
@@ -78,6 +79,25 @@ impl<'a> Elf<'a> {
         sys::goblin_c_segment(&self.file, &self.header, index as u64)
     }
 
+    /// Returns the range of the program header at an index, or `None` past the end. [`Elf::section_header_place`] has more on such ranges.
+    ///
+    /// ```
+    /// # fn main() -> Result<(), Box<dyn std::error::Error>> {
+    /// # let bytes = std::fs::read(std::env::current_exe()?)?;
+    /// let elf = goblin_rs::Elf::parse(&bytes)?;
+    /// let place = elf.program_header_place(0)?.ok_or("no segment")?;
+    /// assert_eq!(place.start as u64, elf.header.e_phoff);
+    /// # Ok(())
+    /// # }
+    /// ```
+    ///
+    /// # Errors
+    /// If the program headers are not inside the file.
+    pub fn program_header_place(&self, index: usize) -> Result<Option<Range<usize>>> {
+        let place = sys::goblin_c_segment_place(&self.file, &self.header, index as u64)?;
+        Ok(place.map(Range::from))
+    }
+
     /// Returns all program headers.
     ///
     /// # Errors
@@ -92,6 +112,34 @@ impl<'a> Elf<'a> {
     /// If the section headers are not inside the file.
     pub fn section_header(&self, index: usize) -> Result<Option<SectionHeader>> {
         sys::goblin_c_section(&self.file, &self.header, index as u64)
+    }
+
+    /// Returns the range of the section header at an index, or `None` past the end. With it a field can be changed in a buffer, in the
+    /// file's byte order:
+    ///
+    /// ```
+    /// use goblin_rs::section_header::SHF_WRITE;
+    /// use goblin_rs::Elf;
+    ///
+    /// # fn main() -> Result<(), Box<dyn std::error::Error>> {
+    /// # let mut bytes = std::fs::read(std::env::current_exe()?)?;
+    /// let elf = Elf::parse(&bytes)?;
+    /// let before = elf.section_header(1)?.ok_or("no section")?;
+    /// let place = elf.section_header_place(1)?.ok_or("no section")?;
+    /// // the flags begin at byte 8, and the byte with SHF_WRITE is the first if the file is little endian
+    /// assert!(elf.little_endian());
+    /// bytes[place][8] ^= SHF_WRITE as u8;
+    /// let after = Elf::parse(&bytes)?.section_header(1)?.ok_or("no section")?;
+    /// assert_eq!(after.sh_flags, before.sh_flags ^ SHF_WRITE);
+    /// # Ok(())
+    /// # }
+    /// ```
+    ///
+    /// # Errors
+    /// If the section headers are not inside the file.
+    pub fn section_header_place(&self, index: usize) -> Result<Option<Range<usize>>> {
+        let place = sys::goblin_c_section_place(&self.file, &self.header, index as u64)?;
+        Ok(place.map(Range::from))
     }
 
     /// Returns all section headers.

@@ -11,7 +11,7 @@ impl<'a> File<'a> {
     /// Returns the bytes of a range that the library returned.
     #[inline]
     pub fn slice(self, range: Range) -> &'a [u8] {
-        &self.0[range.offset as usize..][..range.size as usize]
+        &self.0[std::ops::Range::from(range)]
     }
 
     /// Returns the text of a range that the library returned for text. It is checked once more.

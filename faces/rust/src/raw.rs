@@ -160,6 +160,14 @@ records! {
     Note { name: Range, desc: Range, next: u64, n_type: u32 }
 }
 
+/// Returns the indices of the bytes of a range that the library returned.
+impl From<Range> for std::ops::Range<usize> {
+    fn from(range: Range) -> Self {
+        let start = range.offset as usize;
+        start..start + range.size as usize
+    }
+}
+
 #[cfg(test)]
 pub mod tests {
     use super::*;

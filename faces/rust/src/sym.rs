@@ -8,6 +8,7 @@ use crate::names::Name;
 pub use crate::raw::Sym;
 use crate::strtab::Strtab;
 use crate::{raw, sys};
+use std::ops::Range;
 
 impl Sym {
     /// Returns the binding.
@@ -141,6 +142,25 @@ impl<'a> Symtab<'a> {
     #[inline]
     pub fn name_is(&self, symbol: &Sym, text: impl AsRef<[u8]>) -> Result<bool> {
         self.strtab.is(symbol.st_name, text)
+    }
+
+    /// Returns the range of the symbol at an index, or `None` past the end. See [`Elf::section_header_place`].
+    ///
+    /// ```
+    /// # fn main() -> Result<(), Box<dyn std::error::Error>> {
+    /// # let bytes = std::fs::read(std::env::current_exe()?)?;
+    /// let elf = goblin_rs::Elf::parse(&bytes)?;
+    /// if let Some(symbols) = elf.syms()? {
+    ///     let (first, second) = (symbols.place(0).ok_or("no symbol")?, symbols.place(1).ok_or("no symbol")?);
+    ///     assert_eq!((first.end, first.len()), (second.start, if elf.is_64() { 24 } else { 16 }));
+    ///     assert_eq!(symbols.place(symbols.len()), None);
+    /// }
+    /// # Ok(())
+    /// # }
+    /// ```
+    pub fn place(&self, index: usize) -> Option<Range<usize>> {
+        let place = sys::goblin_c_symbol_place(&self.file, &self.header, &self.range, index as u64);
+        made(place).map(Range::from)
     }
 
     /// Returns the index of the symbol for an address: the one with the highest `st_value` that is not above the address. It may end

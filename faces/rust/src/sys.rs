@@ -38,6 +38,7 @@ calls! {
     fn goblin_c_header() -> Header;
     fn goblin_c_section_count(header: &Header) -> u64;
     fn goblin_c_section(header: &Header, index: u64) -> SectionHeader;
+    fn goblin_c_section_place(header: &Header, index: u64) -> Range;
     fn goblin_c_sections(header: &Header, first: u64) into [SectionHeader] -> u64;
     fn goblin_c_linked_section(header: &Header, index: u64) -> SectionHeader;
     fn goblin_c_section_names(header: &Header) -> SectionHeader;
@@ -45,9 +46,11 @@ calls! {
     fn goblin_c_segment(header: &Header, index: u64) -> ProgramHeader;
     fn goblin_c_section_by_type(header: &Header, sh_type: u32, first: u64) -> u64;
     fn goblin_c_section_bytes(section: &SectionHeader) -> Range;
+    fn goblin_c_segment_place(header: &Header, index: u64) -> Range;
     fn goblin_c_segment_count(header: &Header) -> u64;
     fn goblin_c_segment_bytes(segment: &ProgramHeader) -> Range;
     fn goblin_c_symbol_count(header: &Header, table: &Range) -> u64;
+    fn goblin_c_symbol_place(header: &Header, table: &Range, index: u64) -> Range;
     fn goblin_c_reloc_count(header: &Header, relocs: &Range, is_rela: bool) -> u64;
     fn goblin_c_string_bytes(strings: &Range, offset: u64) -> Range;
     fn goblin_c_number(header: &Header, offset: u64, width: u64) -> u64;

@@ -291,6 +291,40 @@ fn counts_and_bytes() {
 }
 
 #[test]
+fn places_of_records() {
+    for form in FORMS {
+        let file = made(form, 0);
+        let elf = Elf::parse(&file).unwrap();
+        let (of_section, of_segment, of_symbol) = if form.is_64 { (64, 56, 24) } else { (40, 32, 16) };
+        let range = |start: u64, index: usize, size: usize| start as usize + index * size..start as usize + (index + 1) * size;
+        for index in 0..7 {
+            let place = elf.section_header_place(index).unwrap().unwrap();
+            assert_eq!(place, range(elf.header.e_shoff, index, of_section));
+            // the type of this section is the second number of its header
+            let mut changed = file.clone();
+            changed[place][4..8].copy_from_slice(&form.numbers(&[(4, 0x1234_5678)]));
+            let sections = Elf::parse(&changed).unwrap().section_headers().unwrap();
+            for (other, section) in elf.section_headers().unwrap().iter().enumerate() {
+                let wanted = if other == index { SectionHeader { sh_type: 0x1234_5678, ..section } } else { section };
+                assert_eq!(sections.get(other), Some(wanted));
+            }
+        }
+        for index in 0..2 {
+            assert_eq!(elf.program_header_place(index), Ok(Some(range(elf.header.e_phoff, index, of_segment))));
+        }
+        let symbols = elf.syms().unwrap().unwrap();
+        let start = elf.section_header(2).unwrap().unwrap().sh_offset;
+        for index in 0..5 {
+            assert_eq!(symbols.place(index), Some(range(start, index, of_symbol)));
+        }
+        assert_eq!((elf.section_header_place(7), elf.program_header_place(2), symbols.place(5)), (Ok(None), Ok(None), None));
+        let cut = Elf::parse(&file[..200]).unwrap();
+        assert_eq!(cut.section_header_place(7).map_err(|e| e.kind()), Err(Kind::BadOffset(elf.header.e_shoff)));
+        assert_eq!(cut.program_header_place(2).map_err(|e| e.kind()), Err(Kind::BadOffset(elf.header.e_phoff)));
+    }
+}
+
+#[test]
 fn symbols_by_an_index_of_their_addresses() {
     for (form, more) in FORMS.into_iter().flat_map(|form| [(form, 0), (form, 3), (form, 100)]) {
         let file = made(form, more);

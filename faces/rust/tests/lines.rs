@@ -59,6 +59,9 @@ fn of_sections() -> Tried {
     let strings = elf.section(".strtab")?.ok_or("no .strtab")?;
     assert_eq!(elf.section_data(&strings)?, Some(STRINGS));
     assert_eq!(elf.section_data(&strings)?.unwrap_or(&[]).len() as u64, strings.sh_size);
+    let mut changed = bytes.clone();
+    changed[elf.section_header_place(3)?.ok_or("no section")?][8] |= SHF_WRITE as u8;
+    assert!(Elf::parse(&changed)?.section(".strtab")?.map_or(false, |s| s.is_writable()));
     assert_eq!(strings.file_range().and_then(|range| bytes.get(range)), Some(STRINGS));
     assert!(elf.section(".debug_info")?.is_none());
     assert_eq!(elf.section_headers()?.iter().skip(1).map(|s| s.sh_size).max(), elf.section(".symtab")?.map(|s| s.sh_size));
