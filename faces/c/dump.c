@@ -6,8 +6,8 @@
 #include <stdio.h>
 #include <stdlib.h>
 
-/* How many items are read of sections of another type. */
-enum { FEW = 3 };
+/* How many items are read of sections of another type, how many headers are read alone, and how many bytes are printed of a section. */
+enum { FEW = 3, ALONE = 20, FIRST = 16 };
 
 static uint8_t bytes[0x1000000];
 static size_t len;
@@ -189,6 +189,23 @@ static void sections(void) {
     }
 }
 
+/* Prints the headers that are inside the file, and then the result for the first one that is not. */
+static void alone(void) {
+    uint64_t count = 0;
+    goblin_section_t section;
+    goblin_segment_t segment;
+    if (goblin_whole_sections(bytes, len, &h, &count, &why) != GOBLIN_OK) count = 0;
+    printf("goblin_whole_sections %" PRIx64 "\n", count);
+    for (uint64_t i = 0; i < count && i < ALONE; i++) SHOW(goblin_section_alone, section, section, &h, i);
+    SHOW(goblin_section_alone, section, section, &h, count);
+    SHOW(goblin_section_alone, section, section, &h, UINT64_MAX);
+    goblin_whole_segments(bytes, len, &h, &count, &why);
+    printf("goblin_whole_segments %" PRIx64 "\n", count);
+    for (uint64_t i = 0; i < count && i < ALONE; i++) SHOW(goblin_segment_alone, segment, segment, &h, i);
+    SHOW(goblin_segment_alone, segment, segment, &h, count);
+    SHOW(goblin_segment_alone, segment, segment, &h, UINT64_MAX);
+}
+
 static void numbers(void) {
     uint64_t number;
     for (uint64_t width = 0; width <= 9; width++)
@@ -213,7 +230,7 @@ int main(int argc, char **argv) {
         TEXT(goblin_et_to_str, h.e_type);
         TEXT(goblin_machine_to_str, h.e_machine);
         putchar('\n');
-        segments(), sections(), numbers();
+        segments(), sections(), alone(), numbers();
     }
     return argc > 1 ? EXIT_SUCCESS : EXIT_FAILURE;
 }

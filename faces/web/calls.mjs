@@ -202,6 +202,43 @@ function check_lists() {
     return `${made} lists that have each item, ${refused} that are refused where they are made`;
 }
 
+// Headers that are inside a file are read alone, and are all that the readable lists have.
+function check_readable_headers() {
+    let cut = 0;
+    for (const content of files) {
+        const whole = Elf.parse(content), { e_shoff, e_phoff } = whole.header, [of_segment, of_section] = whole.is_64() ? [56, 64] : [32, 40];
+        const lists = [
+            ['section_headers', 'sections', 'section_header_alone', Number(e_shoff), of_section],
+            ['program_headers', 'segments', 'program_header_alone', Number(e_phoff), of_segment],
+        ];
+        for (const [name, field, alone, start, size] of lists) {
+            const all = [...whole[name]()];
+            const ends = all.slice(0, 40).flatMap((_, index) => [-1, 0, 1].map((more) => start + index * size + more));
+            for (const end of [...ends, start + all.length * size, content.length].filter((end) => end >= 64 && end <= content.length)) {
+                const elf = Elf.parse(content.subarray(0, end)), { [field]: list, refusal } = elf[`readable_${name}`]();
+                const inside = Math.min(all.length, Math.max(0, Math.floor((end - start) / size)));
+                has_each(list, all.slice(0, inside), `readable ${name} of the first ${end} bytes`);
+                assert.equal(list.get(inside), undefined);
+                if (inside === all.length) assert.equal(refusal, undefined);
+                else assert.throws(() => elf[name](), ({ message, kind }) => message === refusal.message && kind === refusal.kind);
+                for (const index of [0, inside - 1, inside, all.length - 1].filter((index) => index >= 0 && index < all.length)) {
+                    if (index < inside) assert.deepEqual(elf[alone](index), all[index]);
+                    else assert.throws(() => elf[alone](index), is_refusal(start + index * size < end ? Kind.TOO_BIG : Kind.BAD_OFFSET));
+                }
+                assert.equal(elf[alone](all.length), undefined);
+                if (refusal) cut++;
+            }
+        }
+    }
+    // the first section header has the number of headers, and is not inside the file
+    const without = Buffer.from(own), { e_shoff } = Elf.parse(own).header;
+    without.writeUInt16LE(0, 60);
+    const { sections, refusal } = Elf.parse(without.subarray(0, Number(e_shoff) + 63)).readable_section_headers();
+    assert.deepEqual([sections.length, [...sections], sections.get(0), refusal.kind], [0, [], undefined, Kind.TOO_BIG]);
+    assert.ok(cut > 100, `${cut} lists are cut`);
+    return `${cut} lists that are cut`;
+}
+
 // The ranges of records have their bytes: what is written there is read as part of that record, and no other record changes.
 function check_places() {
     let places = 0;
@@ -615,7 +652,7 @@ function check_package() {
 await check_missing_memories();
 await goblin.default();
 const tested = [
-    check_bytes(), check_lists(), check_places(), check_moved_sections(), check_linked_sections(), check_types_of_sections(), check_notes(), check_json(), await check_constants(),
+    check_bytes(), check_lists(), check_readable_headers(), check_places(), check_moved_sections(), check_linked_sections(), check_types_of_sections(), check_notes(), check_json(), await check_constants(),
     check_address_index(), check_declarations(),
 ];
 check_arguments();

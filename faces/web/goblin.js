@@ -486,6 +486,14 @@ export class Elf {
     program_header(index) { return this.#call('goblin_c_segment', 'segment', unsigned(index, 64)); }
 
     /**
+     * Returns the program header at an index, wherever the others are, or `undefined` past the end. Where `program_header` finds one, this
+     * finds the same. Throws only if this program header is not inside the file.
+     * @param {number | bigint} index
+     * @returns {ProgramHeader | undefined}
+     */
+    program_header_alone(index) { return this.#call('goblin_c_segment_alone', 'segment', unsigned(index, 64)); }
+
+    /**
      * Returns the range of the program header at an index, or `undefined` past the end. With it a field can be changed in a buffer, in the
      * file's byte order.
      * @param {number | bigint} index
@@ -494,10 +502,19 @@ export class Elf {
     program_header_place(index) { return this.#call('goblin_c_segment_place', 'range', unsigned(index, 64)); }
 
     /**
-     * Returns all program headers.
+     * Returns all program headers. If they end past the end of the file, `readable_program_headers` returns those inside it.
      * @returns {List<ProgramHeader>}
      */
     program_headers() { return new List(this.#memory, 'segment', [], { has_many: false }); }
+
+    /**
+     * Returns the program headers that are inside the file, and the error of `program_headers` if that throws.
+     * @returns {{ segments: List<ProgramHeader>, refusal: GoblinError | undefined }}
+     */
+    readable_program_headers() {
+        const { item, refusal } = attempt(() => this.program_headers());
+        return { segments: item ?? new List(this.#memory, 'segment', [], { is_part: true }), refusal };
+    }
 
     /**
      * Returns the section header at an index, or `undefined` past the end.
@@ -505,6 +522,14 @@ export class Elf {
      * @returns {SectionHeader | undefined}
      */
     section_header(index) { return this.#call('goblin_c_section', 'section', unsigned(index, 64)); }
+
+    /**
+     * Returns the section header at an index, wherever the others are, or `undefined` past the end. Where `section_header` finds one, this
+     * finds the same. Throws only if this section header is not inside the file, or if `e_shnum` is 0 and the first one is not.
+     * @param {number | bigint} index
+     * @returns {SectionHeader | undefined}
+     */
+    section_header_alone(index) { return this.#call('goblin_c_section_alone', 'section', unsigned(index, 64)); }
 
     /**
      * Returns the range of the section header at an index, or `undefined` past the end. With it a field can be changed in a buffer, in the
@@ -521,10 +546,24 @@ export class Elf {
     section_header_place(index) { return this.#call('goblin_c_section_place', 'range', unsigned(index, 64)); }
 
     /**
-     * Returns all section headers.
+     * Returns all section headers. If they end past the end of the file, `readable_section_headers` returns those inside it.
      * @returns {List<SectionHeader>}
      */
     section_headers() { return new List(this.#memory, 'section', []); }
+
+    /**
+     * Returns the section headers that are inside the file, and the error of `section_headers` if that throws.
+     *
+     * ```js
+     * const { sections, refusal } = Elf.parse(cut).readable_section_headers();
+     * if (refusal) console.log(`${sections.length} section headers are left: ${refusal.message}`);
+     * ```
+     * @returns {{ sections: List<SectionHeader>, refusal: GoblinError | undefined }}
+     */
+    readable_section_headers() {
+        const { item, refusal } = attempt(() => this.section_headers());
+        return { sections: item ?? new List(this.#memory, 'section', [], { is_part: true }), refusal };
+    }
 
     /**
      * Returns the first section with a name, if there is one.
@@ -886,17 +925,24 @@ function may_hold({ p_type }, section) {
  * @template T
  */
 export class List {
-    #memory; #kind; #args; #range; #convert; #has_many; #length;
+    #memory; #kind; #args; #range; #convert; #has_many; #is_part; #length;
 
-    constructor(memory, kind, args, { range = undefined, convert = (item) => item, has_many = true } = {}) {
+    // (a list with `is_part` has only the headers that are inside the file)
+    constructor(memory, kind, args, { range = undefined, convert = (item) => item, has_many = true, is_part = false } = {}) {
         this.#memory = memory;
         this.#kind = kind;
         this.#args = args;
         this.#range = range;
         this.#convert = convert;
-        this.#has_many = has_many;
-        this.#length = Number(memory.call(`goblin_c_${kind}_count`, 'number', ...this.#arguments()).value);
+        this.#has_many = has_many && !is_part;
+        this.#is_part = is_part;
+        this.#length = is_part ? this.#whole() : this.#count(`goblin_c_${kind}_count`);
     }
+
+    #count(call) { return Number(this.#memory.call(call, 'number', ...this.#arguments()).value); }
+
+    // Returns the number of headers that are inside the file. (If the first one has the number, and is not inside the file, none is.)
+    #whole() { return attempt(() => this.#count(`goblin_c_whole_${this.#kind}s`)).item ?? 0; }
 
     #arguments() {
         const range = this.#range ? [this.#memory.pass(ARGUMENT, 'range', this.#range)] : [];
@@ -915,7 +961,9 @@ export class List {
      * @returns {T | undefined}
      */
     get(index) {
-        const item = this.#memory.call(`goblin_c_${this.#kind}`, this.#kind, ...this.#arguments(), unsigned(index, 64));
+        const at = unsigned(index, 64), call = `goblin_c_${this.#kind}${this.#is_part ? '_alone' : ''}`;
+        if (this.#is_part && at >= this.#length) return undefined;
+        const item = this.#memory.call(call, this.#kind, ...this.#arguments(), at);
         return item && this.#convert(item);
     }
 

@@ -8,7 +8,7 @@ import { tmpdir } from 'node:os';
 import { join, resolve } from 'node:path';
 import { pathToFileURL } from 'node:url';
 
-const COPIES = 150, FEW = 3;
+const COPIES = 150, FEW = 3, ALONE = 20, FIRST = 16;
 const [, , web, dump, ...files] = process.argv;
 const goblin = await import(pathToFileURL(resolve(web, 'goblin.js')));
 
@@ -207,6 +207,17 @@ class Dump {
         this.ask('goblin_section', () => list.get(index));
     }
 
+    alone(elf) {
+        const { sections } = elf.readable_section_headers(), { segments } = elf.readable_program_headers();
+        const far = (1n << 64n) - 1n;
+        this.lines.push(`goblin_whole_sections${length(sections)}`);
+        for (const section of sections.from(0, ALONE)) this.ask('goblin_section_alone', () => section);
+        for (const index of [sections.length, far]) this.ask('goblin_section_alone', () => elf.section_header_alone(index));
+        this.lines.push(`goblin_whole_segments${length(segments)}`);
+        for (const segment of segments.from(0, ALONE)) this.ask('goblin_segment_alone', () => segment);
+        for (const index of [segments.length, far]) this.ask('goblin_segment_alone', () => elf.program_header_alone(index));
+    }
+
     numbers(elf, length) {
         const half = BigInt(Math.floor(length / 2));
         for (let width = 0; width <= 9; width++) {
@@ -225,6 +236,7 @@ class Dump {
         if (!elf) return;
         this.segments(elf);
         this.sections(elf);
+        this.alone(elf);
         this.numbers(elf, content.length);
     }
 }

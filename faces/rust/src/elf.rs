@@ -79,6 +79,28 @@ impl<'a> Elf<'a> {
         sys::goblin_c_segment(&self.file, &self.header, index as u64)
     }
 
+    /// Returns the program header at an index, wherever the others are, or `None` past the end. Where [`Elf::program_header`] finds one,
+    /// this finds the same.
+    ///
+    /// ```
+    /// # fn main() -> Result<(), Box<dyn std::error::Error>> {
+    /// # let bytes = std::fs::read(std::env::current_exe()?)?;
+    /// let elf = goblin_rs::Elf::parse(&bytes)?;
+    /// // the file ends after its first program header
+    /// let first = elf.program_header_place(0)?.ok_or("no segment")?;
+    /// let cut = goblin_rs::Elf::parse(&bytes[..first.end])?;
+    /// assert!(cut.program_header(0).is_err());
+    /// assert_eq!(cut.program_header_alone(0)?, elf.program_header(0)?);
+    /// # Ok(())
+    /// # }
+    /// ```
+    ///
+    /// # Errors
+    /// If this program header is not inside the file.
+    pub fn program_header_alone(&self, index: usize) -> Result<Option<ProgramHeader>> {
+        sys::goblin_c_segment_alone(&self.file, &self.header, index as u64)
+    }
+
     /// Returns the range of the program header at an index, or `None` past the end. [`Elf::section_header_place`] has more on such ranges.
     ///
     /// ```
@@ -98,12 +120,29 @@ impl<'a> Elf<'a> {
         Ok(place.map(Range::from))
     }
 
-    /// Returns all program headers.
+    /// Returns all program headers. If they end past the end of the file, [`Elf::readable_program_headers`] returns those inside it.
     ///
     /// # Errors
     /// If they are not inside the file.
     pub fn program_headers(&self) -> Result<ProgramHeaders<'a>> {
         ProgramHeaders::of(*self)
+    }
+
+    /// Returns the program headers that are inside the file, and the error of [`Elf::program_headers`] if that fails.
+    ///
+    /// ```
+    /// # fn main() -> Result<(), Box<dyn std::error::Error>> {
+    /// # let bytes = std::fs::read(std::env::current_exe()?)?;
+    /// let elf = goblin_rs::Elf::parse(&bytes)?;
+    /// let second = elf.program_header_place(1)?.ok_or("no second segment")?;
+    /// let (readable, error) = goblin_rs::Elf::parse(&bytes[..second.end])?.readable_program_headers();
+    /// assert_eq!((readable.get(0), readable.get(1)), (elf.program_header(0)?, elf.program_header(1)?));
+    /// assert_eq!((readable.len(), error.is_some()), (2, true));
+    /// # Ok(())
+    /// # }
+    /// ```
+    pub fn readable_program_headers(&self) -> (ProgramHeaders<'a>, Option<Error>) {
+        ProgramHeaders::readable(*self)
     }
 
     /// Returns the section header at an index, or `None` past the end.
@@ -112,6 +151,28 @@ impl<'a> Elf<'a> {
     /// If the section headers are not inside the file.
     pub fn section_header(&self, index: usize) -> Result<Option<SectionHeader>> {
         sys::goblin_c_section(&self.file, &self.header, index as u64)
+    }
+
+    /// Returns the section header at an index, wherever the others are, or `None` past the end. Where [`Elf::section_header`] finds one,
+    /// this finds the same.
+    ///
+    /// ```
+    /// # fn main() -> Result<(), Box<dyn std::error::Error>> {
+    /// # let bytes = std::fs::read(std::env::current_exe()?)?;
+    /// let elf = goblin_rs::Elf::parse(&bytes)?;
+    /// // the file ends after its first two section headers
+    /// let second = elf.section_header_place(1)?.ok_or("no section")?;
+    /// let cut = goblin_rs::Elf::parse(&bytes[..second.end])?;
+    /// assert!(cut.section_header(1).is_err());
+    /// assert_eq!(cut.section_header_alone(1)?, elf.section_header(1)?);
+    /// # Ok(())
+    /// # }
+    /// ```
+    ///
+    /// # Errors
+    /// If this section header is not inside the file, or if `e_shnum` is 0 and the first one is not.
+    pub fn section_header_alone(&self, index: usize) -> Result<Option<SectionHeader>> {
+        sys::goblin_c_section_alone(&self.file, &self.header, index as u64)
     }
 
     /// Returns the range of the section header at an index, or `None` past the end. With it a field can be changed in a buffer, in the
@@ -142,12 +203,33 @@ impl<'a> Elf<'a> {
         Ok(place.map(Range::from))
     }
 
-    /// Returns all section headers.
+    /// Returns all section headers. If they end past the end of the file, [`Elf::readable_section_headers`] returns those inside it.
     ///
     /// # Errors
     /// If they are not inside the file.
     pub fn section_headers(&self) -> Result<SectionHeaders<'a>> {
         SectionHeaders::of(*self)
+    }
+
+    /// Returns the section headers that are inside the file, and the error of [`Elf::section_headers`] if that fails.
+    ///
+    /// ```
+    /// # fn main() -> Result<(), Box<dyn std::error::Error>> {
+    /// # let bytes = std::fs::read(std::env::current_exe()?)?;
+    /// let elf = goblin_rs::Elf::parse(&bytes)?;
+    /// // the file ends in its last section header
+    /// let count = elf.section_headers()?.len();
+    /// let last = elf.section_header_place(count - 1)?.ok_or("no section")?;
+    /// let cut = goblin_rs::Elf::parse(&bytes[..last.end - 1])?;
+    /// assert!(cut.section_headers().is_err());
+    /// let (readable, error) = cut.readable_section_headers();
+    /// assert_eq!(readable.len(), count - 1);
+    /// println!("{}", error.map_or(String::new(), |e| e.to_string()));
+    /// # Ok(())
+    /// # }
+    /// ```
+    pub fn readable_section_headers(&self) -> (SectionHeaders<'a>, Option<Error>) {
+        SectionHeaders::readable(*self)
     }
 
     /// Returns the first section with a name.

@@ -1,8 +1,8 @@
 //! Program headers, their constants, and the names of their numbers.
 pub use crate::constants::program_header::*;
 use crate::elf::Elf;
-use crate::error::Result;
-use crate::items::{table, Items, List};
+use crate::error::{Error, Result};
+use crate::items::{fill_each, made, table, Items, List};
 use crate::names::Name;
 pub use crate::raw::ProgramHeader;
 use crate::section_header::{SectionHeader, SHF_TLS, SHT_NOBITS};
@@ -94,6 +94,8 @@ impl ProgramHeader {
 pub struct ProgramHeaders<'a> {
     elf: Elf<'a>,
     count: u64,
+    // Whether these are only the headers that are inside the file.
+    is_part: bool,
 }
 
 /// An iterator over program headers.
@@ -102,7 +104,13 @@ pub type ProgramHeaderIterator<'a> = Items<ProgramHeaders<'a>>;
 impl<'a> ProgramHeaders<'a> {
     pub(crate) fn of(elf: Elf<'a>) -> Result<Self> {
         let count = sys::goblin_c_segment_count(&elf.file, &elf.header)?;
-        Ok(ProgramHeaders { elf, count: count.expect("headers that are not refused have a count") })
+        Ok(ProgramHeaders { elf, count: count.expect("headers that are not refused have a count"), is_part: false })
+    }
+
+    /// Returns the headers that are inside the file, and the error if these are not all.
+    pub(crate) fn readable(elf: Elf<'a>) -> (Self, Option<Error>) {
+        let part = || made(sys::goblin_c_whole_segments(&elf.file, &elf.header)).unwrap_or(0);
+        Self::of(elf).map_or_else(|e| (ProgramHeaders { elf, count: part(), is_part: true }, Some(e)), |all| (all, None))
     }
 }
 
@@ -123,19 +131,15 @@ impl List for ProgramHeaders<'_> {
 
     #[inline]
     fn read(&self, index: u64) -> Result<Option<ProgramHeader>> {
-        sys::goblin_c_segment(&self.elf.file, &self.elf.header, index)
+        match self.is_part {
+            false => sys::goblin_c_segment(&self.elf.file, &self.elf.header, index),
+            true if index < self.count => sys::goblin_c_segment_alone(&self.elf.file, &self.elf.header, index),
+            true => Ok(None),
+        }
     }
 
     fn fill(&self, first: u64, items: &mut [ProgramHeader]) -> Result<Option<u64>> {
-        let mut filled = 0;
-        for (item, index) in items.iter_mut().zip(first..) {
-            match self.read(index)? {
-                Some(segment) => *item = segment,
-                None => break,
-            }
-            filled += 1;
-        }
-        Ok(Some(filled))
+        fill_each(self, first, items)
     }
 }
 

@@ -38,7 +38,9 @@ calls! {
     fn goblin_c_header() -> Header;
     fn goblin_c_section_count(header: &Header) -> u64;
     fn goblin_c_section(header: &Header, index: u64) -> SectionHeader;
+    fn goblin_c_section_alone(header: &Header, index: u64) -> SectionHeader;
     fn goblin_c_section_place(header: &Header, index: u64) -> Range;
+    fn goblin_c_whole_sections(header: &Header) -> u64;
     fn goblin_c_sections(header: &Header, first: u64) into [SectionHeader] -> u64;
     fn goblin_c_linked_section(header: &Header, index: u64) -> SectionHeader;
     fn goblin_c_section_names(header: &Header) -> SectionHeader;
@@ -46,7 +48,9 @@ calls! {
     fn goblin_c_segment(header: &Header, index: u64) -> ProgramHeader;
     fn goblin_c_section_by_type(header: &Header, sh_type: u32, first: u64) -> u64;
     fn goblin_c_section_bytes(section: &SectionHeader) -> Range;
+    fn goblin_c_segment_alone(header: &Header, index: u64) -> ProgramHeader;
     fn goblin_c_segment_place(header: &Header, index: u64) -> Range;
+    fn goblin_c_whole_segments(header: &Header) -> u64;
     fn goblin_c_segment_count(header: &Header) -> u64;
     fn goblin_c_segment_bytes(segment: &ProgramHeader) -> Range;
     fn goblin_c_symbol_count(header: &Header, table: &Range) -> u64;

@@ -124,6 +124,87 @@ fn headers_are_refused_or_all_there() {
     }
 }
 
+/// Returns the kind of the refusal of a header at an offset of the first `end` bytes of a file, if it is not inside them.
+fn outside(offset: u64, size: u64, end: u64) -> Option<Kind> {
+    match end.checked_sub(offset) {
+        None | Some(0) => Some(Kind::BadOffset(offset)),
+        Some(len) => (len < size).then_some(Kind::TooBig { size, len }),
+    }
+}
+
+/// Asserts that a list which is cut off has these headers, and that each header is read alone if it is inside the first `end` bytes.
+fn has_those_inside<L>(
+    (list, why): (L, Option<Error>),
+    alone: impl Fn(usize) -> Result<Option<L::Item>, Error>,
+    (start, size, end): (u64, u64, u64),
+    all: &[L::Item],
+) where
+    L: IntoIterator + Copy,
+    L::IntoIter: ExactSizeIterator + DoubleEndedIterator + Clone,
+    L::Item: Debug + Clone + PartialEq,
+{
+    let inside = end.saturating_sub(start) / size;
+    let inside = all.len().min(inside as usize);
+    assert_eq!((list.into_iter().len(), why.is_some()), (inside, inside < all.len()));
+    for (index, item) in all.iter().enumerate() {
+        let wanted = outside(start + index as u64 * size, size, end).map_or(Ok(Some(item.clone())), Err);
+        assert_eq!(alone(index).map_err(|e| e.kind()), wanted);
+        assert_eq!(wanted.is_ok(), index < inside);
+    }
+    for index in [all.len(), usize::MAX] {
+        assert_eq!(alone(index), Ok(None));
+    }
+    if end.saturating_sub(start) % size < 2 {
+        has_each(list, all[..inside].to_vec());
+    }
+}
+
+#[test]
+fn readable_headers_are_all_that_are_inside_the_file() {
+    for form in FORMS {
+        let file = made(form, 0);
+        let whole = Elf::parse(&file).unwrap();
+        let sections: Vec<_> = whole.section_headers().unwrap().iter().collect();
+        let segments: Vec<_> = whole.program_headers().unwrap().iter().collect();
+        let (of_section, of_segment) = if form.is_64 { (64, 56) } else { (40, 32) };
+        for end in form.header_size()..=file.len() {
+            let elf = Elf::parse(&file[..end]).unwrap();
+            let (readable, why) = elf.readable_section_headers();
+            assert_eq!((why, readable.get(readable.len())), (elf.section_headers().err(), None));
+            let range = (elf.header.e_shoff, of_section, end as u64);
+            has_those_inside((readable, why), |index| elf.section_header_alone(index), range, &sections);
+            let (readable, why) = elf.readable_program_headers();
+            assert_eq!((why, readable.get(readable.len())), (elf.program_headers().err(), None));
+            let range = (elf.header.e_phoff, of_segment, end as u64);
+            has_those_inside((readable, why), |index| elf.program_header_alone(index), range, &segments);
+        }
+    }
+}
+
+#[test]
+fn the_first_section_header_has_the_number_of_headers() {
+    for form in FORMS {
+        // e_shnum is 0, and sh_size of the first section 7
+        let mut file = made(form, 0);
+        let at = Elf::parse(&file).unwrap().header.e_shoff as usize;
+        let (e_shnum, sh_size, size) = if form.is_64 { (60, 32, 64) } else { (48, 20, 40) };
+        file[e_shnum..e_shnum + 2].fill(0);
+        file[at + sh_size..][..form.wide()].copy_from_slice(&form.numbers(&[(form.wide(), 7)]));
+        let elf = Elf::parse(&file).unwrap();
+        assert_eq!(elf.section_headers().unwrap().len(), 7);
+        assert_eq!(elf.section_header_alone(6), elf.section_header(6));
+        let cut = Elf::parse(&file[..at + 3 * size + 1]).unwrap();
+        let (readable, why) = cut.readable_section_headers();
+        assert_eq!((readable.len(), readable.get(2)), (3, elf.section_header(2).unwrap()));
+        assert_eq!(why, cut.section_headers().err());
+        let without = Elf::parse(&file[..at + size - 1]).unwrap();
+        let refused = Kind::TooBig { size: size as u64, len: size as u64 - 1 };
+        assert_eq!(without.section_header_alone(6).map_err(|e| e.kind()), Err(refused));
+        let (readable, why) = without.readable_section_headers();
+        assert_eq!((readable.len(), readable.get(0), why.map(|e| e.kind())), (0, None, Some(refused)));
+    }
+}
+
 /// Returns ranges, some of which end past the end of the file.
 fn ranges(len: u64) -> Vec<(u64, u64)> {
     let offsets = [0, 1, len - 100, len - 1, len, len + 1, u64::MAX];

@@ -176,6 +176,8 @@ fn of_relocations_and_notes() -> Tried {
 fn of_refusals() {
     let bytes = made(FORMS[0], 0);
     let cut = Elf::parse(&bytes[..bytes.len() / 3]).unwrap();
+    let (left, why) = cut.readable_section_headers();
+    assert_eq!((left.len(), why.map(|e| e.offset())), (0, Some(cut.header.e_shoff)));
     let skipped: Result<Vec<_>, Error> = cut.section_headers().map(|sections| sections.iter().skip(1).collect());
     assert_eq!(skipped.map_err(|e| e.kind()), Err(Kind::BadOffset(cut.header.e_shoff)));
     let of_input: io::Result<usize> = cut.section_headers().map(|sections| sections.len()).map_err(io::Error::from);

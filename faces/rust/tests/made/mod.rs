@@ -19,6 +19,10 @@ impl Form {
         if self.is_64 { 8 } else { 4 }
     }
 
+    pub fn header_size(self) -> usize {
+        if self.is_64 { 64 } else { 52 }
+    }
+
     /// Returns the bytes of numbers, each with its width. `W` is the width of an address.
     pub fn numbers(self, numbers: &[(usize, u64)]) -> Vec<u8> {
         let mut bytes = Vec::new();
@@ -60,7 +64,7 @@ pub const STRINGS: &[u8] = b"\0first\0second\0\xc3\xa9t\xc3\xa9\0\xff\0";
 
 /// Returns a file with seven sections, two segments and four named symbols, and with a number of unnamed symbols after these.
 pub fn made(form: Form, more: usize) -> Vec<u8> {
-    let mut file = vec![0; if form.is_64 { 64 } else { 52 }];
+    let mut file = vec![0; form.header_size()];
     let mut sections = vec![0; if form.is_64 { 64 } else { 40 }];
     let mut add = |name: u64, kind: u64, content: Vec<u8>, link: u64, info: u64| {
         let (offset, size) = (file.len() as u64, content.len() as u64);
