@@ -39,6 +39,14 @@ static void put_bytes(goblin_range_t range) {
     for (uint64_t i = 0; i < range.size; i++) printf("%02x", bytes[range.offset + i]);
 }
 
+/* Prints the size of a range and its first bytes. */
+static void put_data(goblin_range_t range) {
+    goblin_range_t first = {range.offset, range.size < FIRST ? range.size : FIRST};
+    printf(" %" PRIx64, range.size);
+    put_bytes(first);
+    putchar('\n');
+}
+
 /* Prints the name of a call, and GOBLIN_END or the refusal if it returned one. Returns whether it has a result. */
 static bool put_status(const char *what, uint32_t status) {
     printf("%s", what);
@@ -68,6 +76,16 @@ static bool put_strings(const char *what, uint32_t status, const goblin_section_
     printf("%s", what);
     PUT(range, *strings);
     return true;
+}
+
+/* Prints the part that is inside the file of the bytes of a section or a segment, for which the call for all of them returned a status
+   and perhaps their range. */
+static void part(uint32_t status, goblin_range_t found, goblin_range_t range) {
+    goblin_range_t cut = found;
+    if (status > GOBLIN_END) goblin_range_in_file(bytes, len, &range, &cut);
+    printf("goblin_range_in_file");
+    if (status == GOBLIN_END) puts(" none");
+    else put_data(cut);
 }
 
 /* Prints the string at an offset, as UTF-8 and as bytes. */
@@ -158,6 +176,8 @@ static void segments(void) {
         putchar('\n');
         SHOW(goblin_segment_place, range, range, &h, i);
         SHOW(goblin_segment_bytes, range, range, &segment);
+        uint32_t status = goblin_segment_bytes(bytes, len, &segment, &range, &why);
+        part(status, range, segment.file);
         notes(segment.file, segment.p_align);
         notes_as_bytes(segment.file, segment.p_align);
     }
@@ -184,6 +204,8 @@ static void sections(void) {
         SHOW(goblin_section_by_type, number, index, &h, section.sh_type, i / 2);
         SHOW(goblin_section_by_type, number, index, &h, section.sh_type, i + 1);
         SHOW(goblin_section_bytes, range, range, &section);
+        status = goblin_section_bytes(bytes, len, &section, &range, &why);
+        part(status, range, range_of(&section));
         symbols(&section), relocs(&section), notes(range_of(&section), section.sh_addralign);
         notes_as_bytes(range_of(&section), section.sh_addralign);
     }

@@ -459,6 +459,24 @@ function check_arguments() {
     assert.equal(symbols.name(symbols.get(symbols.by_address(st_value))), 'main');
 }
 
+// ---- parts of a file ----
+
+const END = (1n << 64n) - 1n;
+
+function check_readable_data() {
+    const elf = Elf.parse(own), length = BigInt(own.length), text = elf.section('.text'), code = elf.program_header(0);
+    for (const section of elf.section_headers()) assert.deepEqual(elf.readable_section_data(section), elf.section_data(section));
+    for (const segment of elf.program_headers()) assert.deepEqual(elf.readable_segment_data(segment), elf.segment_data(segment));
+    for (const [offset, size, left] of [[length - 3n, 4n, 3], [length, 1n, 0], [length + 1n, 5n, 0], [END, 1n, 0]]) {
+        const section = { ...text, sh_offset: offset, sh_size: size }, segment = { ...code, p_offset: offset, p_filesz: size };
+        const wanted = new Uint8Array(own.subarray(own.length - left));
+        assert.throws(() => elf.section_data(section), is_refusal());
+        assert.deepEqual([elf.readable_section_data(section), elf.readable_segment_data(segment)], [wanted, wanted]);
+        assert.equal(elf.readable_section_data({ ...section, sh_type: goblin.SHT_NOBITS }), undefined);
+        assert.equal(elf.readable_segment_data({ ...segment, p_filesz: 0n }), undefined);
+    }
+}
+
 // ---- texts ----
 
 function check_texts() {
@@ -656,6 +674,7 @@ const tested = [
     check_address_index(), check_declarations(),
 ];
 check_arguments();
+check_readable_data();
 check_texts();
 check_notes_as_bytes();
 check_segments();

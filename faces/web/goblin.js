@@ -398,6 +398,12 @@ class Memory {
         return decoder.decode(this.part(BUFFER, size));
     }
 
+    // Returns the part of a range that is inside the file.
+    in_file(range) {
+        this.calls.goblin_range_in_file(...this.file, this.pass(ARGUMENT, 'range', range), this.address(ITEM));
+        return read(this.view, this.base + ITEM, records.range);
+    }
+
     bytes({ offset, size }) { return this.part(FILE + Number(offset), Number(size)).slice(); }
 
     string({ offset, size }) { return decoder.decode(this.part(FILE + Number(offset), Number(size))); }
@@ -637,6 +643,33 @@ export class Elf {
      */
     segment_data(segment) {
         const range = this.segment_range(segment);
+        return range && this.#memory.bytes(range);
+    }
+
+    /**
+     * Returns those bytes of a section that are inside the file, or `undefined` if the section has none in the file. If `section_data`
+     * throws, there are fewer than `sh_size`:
+     *
+     * ```js
+     * const left = elf.readable_section_data(section);
+     * if (left && BigInt(left.length) < section.sh_size) console.log(`only ${left.length} bytes are left`);
+     * ```
+     * @param {SectionHeader} section
+     * @returns {Uint8Array | undefined}
+     */
+    readable_section_data(section) { return this.#readable_data(() => this.section_range(section), range_of(section)); }
+
+    /**
+     * Returns those bytes of a segment that are inside the file, or `undefined` if the segment has none in the file. If `segment_data`
+     * throws, there are fewer than `p_filesz`.
+     * @param {ProgramHeader} segment
+     * @returns {Uint8Array | undefined}
+     */
+    readable_segment_data(segment) { return this.#readable_data(() => this.segment_range(segment), segment_range_of(segment)); }
+
+    // Returns the bytes of the range that is found, or those of another one that are inside the file if the first is refused.
+    #readable_data(find, other) {
+        const { item, refusal } = attempt(find), range = refusal ? this.#memory.in_file(other) : item;
         return range && this.#memory.bytes(range);
     }
 

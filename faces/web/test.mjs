@@ -80,6 +80,7 @@ const as_type = (section, sh_type) =>
 const hex = (number) => BigInt.asUintN(64, BigInt(number)).toString(16);
 const fields = (item) => Object.entries(item).map(([name, value]) => ` ${IN_C[name] ?? name}=${hex(value)}`).join('');
 const bytes = (array) => ` ${Buffer.from(array).toString('hex')}`;
+const size_and_first = (array) => `${length(array)}${bytes(array.subarray(0, FIRST))}`;
 
 // Returns all that goblin.js reads of a file, in the lines of dump.c.
 class Dump {
@@ -176,6 +177,7 @@ class Dump {
             this.ask('goblin_segment', () => segment, (item) => `${fields(item)} ${goblin.pt_to_str(item.p_type)}`);
             this.ask('goblin_segment_place', () => elf.program_header_place(index));
             this.ask('goblin_segment_bytes', () => elf.segment_range(segment));
+            this.ask('goblin_range_in_file', () => elf.readable_segment_data(segment), size_and_first);
             this.notes(elf.readable_segment_notes(segment));
             this.notes_bytes(elf.readable_segment_notes_bytes(segment));
         }
@@ -198,6 +200,7 @@ class Dump {
             this.ask('goblin_section_by_type', () => elf.section_by_type(section.sh_type, Math.floor(index / 2)));
             this.ask('goblin_section_by_type', () => elf.section_by_type(section.sh_type, index + 1));
             this.ask('goblin_section_bytes', () => elf.section_range(section));
+            this.ask('goblin_range_in_file', () => elf.readable_section_data(section), size_and_first);
             this.symbols(elf, section);
             this.relocs(elf, section);
             this.notes(elf.readable_notes(section));

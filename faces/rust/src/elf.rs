@@ -8,7 +8,7 @@ use crate::reloc::{holds_relocs, RelocSection, RelocSections};
 use crate::section_header::{SectionHeader, SectionHeaders, SHT_DYNSYM, SHT_RELA, SHT_SYMTAB};
 use crate::strtab::Strtab;
 use crate::sym::Symtab;
-use crate::sys;
+use crate::{raw, sys};
 use std::ops::Range;
 
 /// A file in memory, with its header. Everything else is read on demand.
@@ -278,6 +278,48 @@ impl<'a> Elf<'a> {
     pub fn section_data(&self, section: &SectionHeader) -> Result<Option<&'a [u8]>> {
         let range = sys::goblin_c_section_bytes(&self.file, section)?;
         Ok(range.map(|range| self.file.slice(range)))
+    }
+
+    /// Returns those bytes of a section that are inside the file, or `None` if the section has none in the file. If [`Elf::section_data`]
+    /// fails, there are fewer than `sh_size`.
+    ///
+    /// ```
+    /// # fn main() -> Result<(), Box<dyn std::error::Error>> {
+    /// # let bytes = std::fs::read(std::env::current_exe()?)?;
+    /// let text = goblin_rs::Elf::parse(&bytes)?.section(".text")?.ok_or("no .text")?;
+    /// // the file ends after 16 bytes of the section
+    /// let cut = goblin_rs::Elf::parse(&bytes[..text.sh_offset as usize + 16])?;
+    /// assert!(cut.section_data(&text).is_err());
+    /// assert_eq!(cut.readable_section_data(&text).map(|data| data.len()), Some(16));
+    /// # Ok(())
+    /// # }
+    /// ```
+    pub fn readable_section_data(&self, section: &SectionHeader) -> Option<&'a [u8]> {
+        self.readable(sys::goblin_c_section_bytes(&self.file, section), section.range())
+    }
+
+    /// Returns those bytes of a segment that are inside the file, or `None` if the segment has none in the file. If
+    /// [`Elf::segment_data`] fails, there are fewer than `p_filesz`.
+    ///
+    /// ```
+    /// # fn main() -> Result<(), Box<dyn std::error::Error>> {
+    /// # let bytes = std::fs::read(std::env::current_exe()?)?;
+    /// use goblin_rs::program_header::PT_LOAD;
+    ///
+    /// let elf = goblin_rs::Elf::parse(&bytes)?;
+    /// let loaded = elf.program_headers()?.iter().find(|segment| segment.p_type == PT_LOAD).ok_or("no code")?;
+    /// assert_eq!(elf.readable_segment_data(&loaded), elf.segment_data(&loaded)?);
+    /// # Ok(())
+    /// # }
+    /// ```
+    pub fn readable_segment_data(&self, segment: &ProgramHeader) -> Option<&'a [u8]> {
+        self.readable(sys::goblin_c_segment_bytes(&self.file, segment), segment.range())
+    }
+
+    // Returns the bytes of a range that the library found, or the part of another one if it was refused.
+    fn readable(&self, found: Result<Option<raw::Range>>, refused: raw::Range) -> Option<&'a [u8]> {
+        let range = found.unwrap_or_else(|_| Some(sys::goblin_range_in_file(&self.file, &refused)))?;
+        Some(self.file.slice(range))
     }
 
     /// Returns the bytes of a segment, or `None` if it has none in the file.

@@ -96,6 +96,15 @@ tests_of_strings! {
     fn goblin_c_string_starts;
 }
 
+/// Returns the part of a range that is inside the file.
+pub fn goblin_range_in_file(bytes: &[u8], range: &Range) -> Range {
+    extern "C" { fn goblin_range_in_file(bytes: *const u8, len: usize, range: &Range, part: *mut Range); }
+    let mut part = Range::default();
+    // SAFETY: the pointer of the slice is passed with the slice's length, and `part` is this function's own.
+    unsafe { goblin_range_in_file(bytes.as_ptr(), bytes.len(), range, &mut part) };
+    part
+}
+
 /// Returns the string whose range `goblin_string` returns. It is not checked once more for being UTF-8.
 #[inline]
 pub fn string<'a>(bytes: &'a [u8], strings: &Range, offset: u64) -> Result<Option<&'a str>> {

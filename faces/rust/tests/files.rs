@@ -325,6 +325,33 @@ fn places_of_records() {
 }
 
 #[test]
+fn parts_of_sections_and_segments() {
+    for form in FORMS {
+        let file = made(form, 0);
+        let elf = Elf::parse(&file).unwrap();
+        let len = file.len() as u64;
+        for section in elf.section_headers().unwrap() {
+            assert_eq!(elf.readable_section_data(&section), elf.section_data(&section).unwrap());
+        }
+        for segment in elf.program_headers().unwrap() {
+            assert_eq!(elf.readable_segment_data(&segment), elf.segment_data(&segment).unwrap());
+        }
+        let (section, segment) = (elf.section_header(3).unwrap().unwrap(), elf.program_header(1).unwrap().unwrap());
+        for (offset, size, left) in [(len - 3, 4, 3), (len - 3, u64::MAX, 3), (len, 1, 0), (len + 1, 5, 0), (u64::MAX, u64::MAX, 0)] {
+            let section = SectionHeader { sh_offset: offset, sh_size: size, ..section };
+            let segment = ProgramHeader { p_offset: offset, p_filesz: size, ..segment };
+            assert!(elf.section_data(&section).is_err() && elf.segment_data(&segment).is_err());
+            let wanted = &file[file.len() - left..];
+            assert_eq!((elf.readable_section_data(&section), elf.readable_segment_data(&segment)), (Some(wanted), Some(wanted)));
+        }
+        let past = SectionHeader { sh_offset: len - 1, sh_size: 2, ..section };
+        assert_eq!(elf.readable_section_data(&SectionHeader { sh_type: SHT_NOBITS, ..past }), None);
+        assert_eq!(elf.readable_section_data(&SectionHeader { sh_size: 0, ..past }), None);
+        assert_eq!(elf.readable_segment_data(&ProgramHeader { p_filesz: 0, p_offset: len, ..segment }), None);
+    }
+}
+
+#[test]
 fn symbols_by_an_index_of_their_addresses() {
     for (form, more) in FORMS.into_iter().flat_map(|form| [(form, 0), (form, 3), (form, 100)]) {
         let file = made(form, more);

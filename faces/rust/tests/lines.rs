@@ -178,6 +178,9 @@ fn of_refusals() {
     let cut = Elf::parse(&bytes[..bytes.len() / 3]).unwrap();
     let (left, why) = cut.readable_section_headers();
     assert_eq!((left.len(), why.map(|e| e.offset())), (0, Some(cut.header.e_shoff)));
+    let symbols = Elf::parse(&bytes).unwrap().section(".symtab").unwrap().unwrap();
+    let part = symbols.sh_offset as usize..symbols.sh_offset as usize + 30;
+    assert_eq!(Elf::parse(&bytes[..part.end]).unwrap().readable_section_data(&symbols), Some(&bytes[part]));
     let skipped: Result<Vec<_>, Error> = cut.section_headers().map(|sections| sections.iter().skip(1).collect());
     assert_eq!(skipped.map_err(|e| e.kind()), Err(Kind::BadOffset(cut.header.e_shoff)));
     let of_input: io::Result<usize> = cut.section_headers().map(|sections| sections.len()).map_err(io::Error::from);
