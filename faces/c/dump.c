@@ -88,6 +88,14 @@ static void part(uint32_t status, goblin_range_t found, goblin_range_t range) {
     else put_data(cut);
 }
 
+/* Prints some numbers of a range. */
+static void numbers_in(goblin_range_t range) {
+    uint64_t number;
+    SHOW(goblin_number_in, number, number, &h, &range, 0, 8);
+    SHOW(goblin_number_in, number, number, &h, &range, range.size / 2, 2);
+    SHOW(goblin_number_in, number, number, &h, &range, range.size - 1, 1);
+}
+
 /* Prints the string at an offset, as UTF-8 and as bytes. */
 static void string(goblin_range_t strings, uint64_t offset) {
     goblin_range_t found;
@@ -178,6 +186,7 @@ static void segments(void) {
         SHOW(goblin_segment_bytes, range, range, &segment);
         uint32_t status = goblin_segment_bytes(bytes, len, &segment, &range, &why);
         part(status, range, segment.file);
+        numbers_in(segment.file);
         notes(segment.file, segment.p_align);
         notes_as_bytes(segment.file, segment.p_align);
     }
@@ -206,6 +215,7 @@ static void sections(void) {
         SHOW(goblin_section_bytes, range, range, &section);
         status = goblin_section_bytes(bytes, len, &section, &range, &why);
         part(status, range, range_of(&section));
+        numbers_in(range_of(&section));
         symbols(&section), relocs(&section), notes(range_of(&section), section.sh_addralign);
         notes_as_bytes(range_of(&section), section.sh_addralign);
     }

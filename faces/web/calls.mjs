@@ -477,6 +477,21 @@ function check_readable_data() {
     }
 }
 
+function check_numbers_in() {
+    const elf = Elf.parse(own), text = elf.section('.text'), code = elf.program_headers().find(({ p_offset }) => p_offset > 0n);
+    const little = (at, size) => BigInt(own.readUIntLE(Number(at), size));
+    assert.equal(elf.section_number(text, 3, 4), little(text.sh_offset + 3n, 4));
+    assert.throws(() => elf.section_number(text, text.sh_size, 1), is_refusal(Kind.BAD_OFFSET));
+    assert.throws(() => elf.section_number(text, text.sh_size - 3n, 4), is_refusal(Kind.TOO_BIG));
+    assert.throws(() => elf.section_number({ ...text, sh_type: goblin.SHT_NOBITS }, 0, 1), is_refusal(Kind.BAD_OFFSET));
+    assert.equal(elf.segment_number(code, 2, 2), little(code.p_offset + 2n, 2));
+    assert.throws(() => elf.segment_number(code, code.p_filesz, 1), is_refusal(Kind.BAD_OFFSET));
+    for (const width of [0, 3, 16, '4', 4n, undefined]) {
+        assert.throws(() => elf.section_number(text, 0, width), RangeError);
+        assert.throws(() => elf.segment_number(code, 0, width), RangeError);
+    }
+}
+
 // ---- texts ----
 
 function check_texts() {
@@ -675,6 +690,7 @@ const tested = [
 ];
 check_arguments();
 check_readable_data();
+check_numbers_in();
 check_texts();
 check_notes_as_bytes();
 check_segments();

@@ -688,9 +688,35 @@ export class Elf {
      * @param {1 | 2 | 4 | 8} width
      * @returns {bigint}
      */
-    number(offset, width) {
-        if (![1, 2, 4, 8].includes(width)) throw new RangeError(`the width must be 1, 2, 4 or 8 bytes, not ${String(width)}`);
-        return this.#call('goblin_c_number', 'number', unsigned(offset, 64), unsigned(width, 64)).value;
+    number(offset, width) { return this.#call('goblin_c_number', 'number', unsigned(offset, 64), as_width(width)).value; }
+
+    /**
+     * Returns the number in `width` bytes at an offset of a section, in the file's byte order. The offset counts from the section's start.
+     * Throws a `RangeError` if the width is not 1, 2, 4 or 8.
+     *
+     * ```js
+     * const first_word = elf.section_number(section, 0, 4);
+     * ```
+     * @param {SectionHeader} section
+     * @param {number | bigint} offset
+     * @param {1 | 2 | 4 | 8} width
+     * @returns {bigint}
+     */
+    section_number(section, offset, width) { return this.#number_in(range_of(section), offset, width); }
+
+    /**
+     * Returns the number in `width` bytes at an offset of a segment's bytes in the file, in the file's byte order. The offset counts from
+     * the segment's start. Throws a `RangeError` if the width is not 1, 2, 4 or 8.
+     * @param {ProgramHeader} segment
+     * @param {number | bigint} offset
+     * @param {1 | 2 | 4 | 8} width
+     * @returns {bigint}
+     */
+    segment_number(segment, offset, width) { return this.#number_in(segment_range_of(segment), offset, width); }
+
+    #number_in(range, offset, width) {
+        const argument = this.#memory.pass(ARGUMENT, 'range', range);
+        return this.#call('goblin_c_number_in', 'number', argument, unsigned(offset, 64), as_width(width)).value;
     }
 
     /**
@@ -868,6 +894,12 @@ function attempt(read) {
         if (!(error instanceof GoblinError)) throw error;
         return { item: undefined, refusal: error };
     }
+}
+
+// Returns a number of bytes as the library takes it, if it reads numbers of that width.
+function as_width(width) {
+    if (![1, 2, 4, 8].includes(width)) throw new RangeError(`the width must be 1, 2, 4 or 8 bytes, not ${String(width)}`);
+    return BigInt(width);
 }
 
 const as_index = (number) => (number ? Number(number.value) : undefined);

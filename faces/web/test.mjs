@@ -101,6 +101,13 @@ class Dump {
         return item;
     }
 
+    // Adds the lines of some numbers of a range.
+    numbers_in(size, read) {
+        this.ask('goblin_number_in', () => read(0, 8));
+        this.ask('goblin_number_in', () => read(size / 2n, 2));
+        this.ask('goblin_number_in', () => read(BigInt.asUintN(64, size - 1n), 1));
+    }
+
     string(strtab, offset) {
         const text = this.ask('goblin_string', () => strtab.get(offset), (string) => bytes(Buffer.from(string)));
         const string = this.ask('goblin_string_bytes', () => strtab.get_bytes(offset), bytes), yes = () => ' yes';
@@ -178,6 +185,7 @@ class Dump {
             this.ask('goblin_segment_place', () => elf.program_header_place(index));
             this.ask('goblin_segment_bytes', () => elf.segment_range(segment));
             this.ask('goblin_range_in_file', () => elf.readable_segment_data(segment), size_and_first);
+            this.numbers_in(p_filesz, (offset, width) => elf.segment_number(segment, offset, width));
             this.notes(elf.readable_segment_notes(segment));
             this.notes_bytes(elf.readable_segment_notes_bytes(segment));
         }
@@ -201,6 +209,8 @@ class Dump {
             this.ask('goblin_section_by_type', () => elf.section_by_type(section.sh_type, index + 1));
             this.ask('goblin_section_bytes', () => elf.section_range(section));
             this.ask('goblin_range_in_file', () => elf.readable_section_data(section), size_and_first);
+            const { sh_size } = as_type(section, section.sh_type);
+            this.numbers_in(sh_size, (offset, width) => elf.section_number(section, offset, width));
             this.symbols(elf, section);
             this.relocs(elf, section);
             this.notes(elf.readable_notes(section));

@@ -32,9 +32,8 @@ fn strings<'a>(elf: &Elf<'a>) -> Result<Vec<(&'static str, &'a [u8])>> {
     for section in elf.section_headers()?.iter().filter(|section| section.sh_type == SHT_DYNAMIC).take(1) {
         let strings = elf.strtab(&elf.linked_section(&section)?.unwrap_or_default());
         for entry in 0..section.sh_size / (2 * width) {
-            let offset = section.sh_offset + entry * 2 * width;
-            let tag = elf.number(offset, width as usize)?.unwrap_or(DT_NULL);
-            let value = elf.number(offset + width, width as usize)?.unwrap_or(0);
+            let number = |index| elf.section_number(&section, (2 * entry + index) * width, width as usize);
+            let (tag, value) = (number(0)?.unwrap_or(DT_NULL), number(1)?.unwrap_or(0));
             if tag == DT_NULL {
                 break;
             }

@@ -350,6 +350,47 @@ impl<'a> Elf<'a> {
         sys::goblin_c_number(&self.file, &self.header, offset, width as u64)
     }
 
+    /// Returns the number in `width` bytes at an offset of a section, in the file's byte order. The offset counts from the section's start.
+    /// Returns `None` if the width is not 1, 2, 4 or 8.
+    ///
+    /// ```
+    /// # fn main() -> Result<(), Box<dyn std::error::Error>> {
+    /// # let bytes = std::fs::read(std::env::current_exe()?)?;
+    /// let elf = goblin_rs::Elf::parse(&bytes)?;
+    /// let text = elf.section(".text")?.ok_or("no .text")?;
+    /// assert_eq!(elf.section_number(&text, 2, 4)?, elf.number(text.sh_offset + 2, 4)?);
+    /// assert!(elf.section_number(&text, text.sh_size - 3, 4).is_err());
+    /// # Ok(())
+    /// # }
+    /// ```
+    ///
+    /// # Errors
+    /// If the section is not inside the file, or the number is not inside the section.
+    pub fn section_number(&self, section: &SectionHeader, offset: u64, width: usize) -> Result<Option<u64>> {
+        sys::goblin_c_number_in(&self.file, &self.header, &section.range(), offset, width as u64)
+    }
+
+    /// Returns the number in `width` bytes at an offset of a segment's bytes in the file, in the file's byte order. The offset counts
+    /// from the segment's start. Returns `None` if the width is not 1, 2, 4 or 8.
+    ///
+    /// ```
+    /// # fn main() -> Result<(), Box<dyn std::error::Error>> {
+    /// # let bytes = std::fs::read(std::env::current_exe()?)?;
+    /// use goblin_rs::program_header::PT_LOAD;
+    ///
+    /// let elf = goblin_rs::Elf::parse(&bytes)?;
+    /// let loaded = elf.program_headers()?.iter().find(|segment| segment.p_type == PT_LOAD).ok_or("no code")?;
+    /// assert_eq!(elf.segment_number(&loaded, 4, 8)?, elf.number(loaded.p_offset + 4, 8)?);
+    /// # Ok(())
+    /// # }
+    /// ```
+    ///
+    /// # Errors
+    /// If the segment's bytes are not inside the file, or the number is not inside them.
+    pub fn segment_number(&self, segment: &ProgramHeader, offset: u64, width: usize) -> Result<Option<u64>> {
+        sys::goblin_c_number_in(&self.file, &self.header, &segment.range(), offset, width as u64)
+    }
+
     /// Returns the string table of the section names. It is empty if the file has none: the index of its section is 0 or past the end,
     /// or that section has no bytes in the file.
     ///

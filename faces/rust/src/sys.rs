@@ -58,6 +58,7 @@ calls! {
     fn goblin_c_reloc_count(header: &Header, relocs: &Range, is_rela: bool) -> u64;
     fn goblin_c_string_bytes(strings: &Range, offset: u64) -> Range;
     fn goblin_c_number(header: &Header, offset: u64, width: u64) -> u64;
+    fn goblin_c_number_in(header: &Header, range: &Range, offset: u64, width: u64) -> u64;
     fn goblin_c_symbol(header: &Header, table: &Range, index: u64) -> Sym;
     fn goblin_c_symbols(header: &Header, table: &Range, first: u64) into [Sym] -> u64;
     fn goblin_c_symbol_by_name(header: &Header, table: &Range, names: &Range) by name: [u8] -> u64;

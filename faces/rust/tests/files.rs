@@ -325,6 +325,37 @@ fn places_of_records() {
 }
 
 #[test]
+fn numbers_in_sections_and_segments() {
+    for form in FORMS {
+        let file = made(form, 0);
+        let elf = Elf::parse(&file).unwrap();
+        let strings = elf.section(".strtab").unwrap().unwrap();
+        // "firs" is the first name but its last letter
+        let letters = if form.is_big { 0x6669_7273 } else { 0x7372_6966 };
+        assert_eq!(elf.section_number(&strings, 1, 4), Ok(Some(letters)));
+        assert_eq!(elf.section_number(&strings, 1, 1), Ok(Some(0x66)));
+        assert_eq!((elf.section_number(&strings, 1, 3), elf.section_number(&strings, u64::MAX, 16)), (Ok(None), Ok(None)));
+        let load = elf.program_header(1).unwrap().unwrap();
+        assert_eq!(elf.segment_number(&load, 18, 2), Ok(Some(0x3e)));
+        let whole = ProgramHeader { p_offset: strings.sh_offset, p_filesz: strings.sh_size, ..load };
+        assert_eq!(elf.segment_number(&whole, 1, 4), Ok(Some(letters)));
+        let kinds = |offset, width| {
+            let of_section = elf.section_number(&strings, offset, width).map_err(|e| e.kind());
+            assert_eq!(elf.segment_number(&whole, offset, width).map_err(|e| e.kind()), of_section);
+            of_section
+        };
+        let size = STRINGS.len() as u64;
+        assert_eq!(kinds(size - 4, 8), Err(Kind::TooBig { size: 8, len: 4 }));
+        assert_eq!(kinds(size, 1), Err(Kind::BadOffset(size)));
+        assert_eq!(kinds(u64::MAX, 1), Err(Kind::BadOffset(u64::MAX)));
+        let past = SectionHeader { sh_offset: file.len() as u64 - 8, sh_size: 9, ..strings };
+        assert_eq!(elf.section_number(&past, 0, 1).map_err(|e| e.kind()), Err(Kind::TooBig { size: 9, len: 8 }));
+        let without = SectionHeader { sh_type: SHT_NOBITS, ..strings };
+        assert_eq!(elf.section_number(&without, 0, 1).map_err(|e| e.kind()), Err(Kind::BadOffset(0)));
+    }
+}
+
+#[test]
 fn parts_of_sections_and_segments() {
     for form in FORMS {
         let file = made(form, 0);

@@ -59,6 +59,7 @@ fn of_sections() -> Tried {
     let strings = elf.section(".strtab")?.ok_or("no .strtab")?;
     assert_eq!(elf.section_data(&strings)?, Some(STRINGS));
     assert_eq!(elf.section_data(&strings)?.unwrap_or(&[]).len() as u64, strings.sh_size);
+    assert_eq!(elf.section_number(&strings, 1, 1)?, Some(u64::from(b'f')));
     let mut changed = bytes.clone();
     changed[elf.section_header_place(3)?.ok_or("no section")?][8] |= SHF_WRITE as u8;
     assert!(Elf::parse(&changed)?.section(".strtab")?.map_or(false, |s| s.is_writable()));
@@ -97,6 +98,7 @@ fn of_segments() -> Tried {
     let code = elf.program_headers()?.iter().find(|p| p.p_flags & PF_X != 0).ok_or("no code")?;
     assert!(code.vm_range().contains(&0x4010) && code.is_executable());
     assert_eq!(elf.segment_data(&code)?.map(|data| data.len()), Some(code.p_filesz as usize));
+    assert_eq!(elf.segment_number(&code, 18, 2)?, elf.number(18, 2)?);
     assert_eq!(elf.segment_data(&code)?.and_then(|data| data.get(..4)), Some(&header::ELFMAG[..]));
     let held: Vec<SectionHeader> = elf.segment_sections(&loaded[0])?.collect();
     assert_eq!(held, []);

@@ -23,9 +23,9 @@ function interpreter(elf) {
 function strings(elf) {
     const index = elf.section_by_type(SHT_DYNAMIC), all = [], width = elf.is_64() ? 8 : 4, entry = 2n * BigInt(width);
     if (index === undefined) return all;
-    const dynamic = elf.section_header(index), { sh_offset, sh_size } = dynamic, texts = elf.strtab(elf.linked_section(dynamic));
-    for (let at = sh_offset; at + entry <= sh_offset + sh_size; at += entry) {
-        const tag = elf.number(at, width), value = elf.number(at + BigInt(width), width);
+    const dynamic = elf.section_header(index), texts = elf.strtab(elf.linked_section(dynamic));
+    for (let at = 0n; at + entry <= dynamic.sh_size; at += entry) {
+        const [tag, value] = [at, at + BigInt(width)].map((offset) => elf.section_number(dynamic, offset, width));
         if (tag === DT_NULL) break;
         if (NAMES.has(tag)) all.push([NAMES.get(tag), texts.get_bytes(value) ?? new Uint8Array()]);
     }
