@@ -173,7 +173,7 @@ static void notes_as_bytes(goblin_range_t range, uint64_t alignment) {
 }
 
 static void segments(void) {
-    uint64_t count;
+    uint64_t count, offset;
     if (!SHOW(goblin_segment_count, number, count, &h)) return;
     for (uint64_t i = 0; i <= count; i++) {
         goblin_segment_t segment;
@@ -187,6 +187,8 @@ static void segments(void) {
         uint32_t status = goblin_segment_bytes(bytes, len, &segment, &range, &why);
         part(status, range, segment.file);
         numbers_in(segment.file);
+        for (uint64_t k = 0; k < 3; k++)
+            SHOW(goblin_address_to_offset, number, offset, &h, segment.p_vaddr + k * (segment.file.size / 2));
         notes(segment.file, segment.p_align);
         notes_as_bytes(segment.file, segment.p_align);
     }

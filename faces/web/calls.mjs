@@ -492,6 +492,16 @@ function check_numbers_in() {
     }
 }
 
+function check_addresses() {
+    const elf = Elf.parse(own), text = elf.section('.text');
+    for (const { p_offset, p_vaddr, p_filesz } of elf.program_headers().filter(({ p_type }) => p_type === goblin.PT_LOAD)) {
+        for (const before of [0n, p_filesz - 1n]) assert.equal(elf.address_to_offset(p_vaddr + before), p_offset + before);
+    }
+    assert.equal(elf.address_to_offset(elf.header.e_entry), elf.header.e_entry - text.sh_addr + text.sh_offset);
+    assert.equal(elf.address_to_offset(END), undefined);
+    assert.throws(() => Elf.parse(own.subarray(0, 64)).address_to_offset(0), is_refusal(Kind.BAD_OFFSET));
+}
+
 // ---- texts ----
 
 function check_texts() {
@@ -691,6 +701,7 @@ const tested = [
 check_arguments();
 check_readable_data();
 check_numbers_in();
+check_addresses();
 check_texts();
 check_notes_as_bytes();
 check_segments();

@@ -720,6 +720,18 @@ export class Elf {
     }
 
     /**
+     * Returns the offset in the file of the byte that is loaded at an address, or `undefined` if no byte of the file is loaded there. It is
+     * that of the first segment of type PT_LOAD for which `p_vaddr <= address < p_vaddr + p_filesz`.
+     *
+     * ```js
+     * const start = elf.address_to_offset(elf.header.e_entry);
+     * ```
+     * @param {number | bigint} address
+     * @returns {bigint | undefined}
+     */
+    address_to_offset(address) { return this.#call('goblin_c_address_to_offset', 'number', unsigned(address, 64))?.value; }
+
+    /**
      * Returns the string table of the section names. It is empty if the file has none.
      * @returns {Strtab}
      */

@@ -186,6 +186,9 @@ class Dump {
             this.ask('goblin_segment_bytes', () => elf.segment_range(segment));
             this.ask('goblin_range_in_file', () => elf.readable_segment_data(segment), size_and_first);
             this.numbers_in(p_filesz, (offset, width) => elf.segment_number(segment, offset, width));
+            for (const before of [0n, half, 2n * half]) {
+                this.ask('goblin_address_to_offset', () => elf.address_to_offset(BigInt.asUintN(64, p_vaddr + before)));
+            }
             this.notes(elf.readable_segment_notes(segment));
             this.notes_bytes(elf.readable_segment_notes_bytes(segment));
         }

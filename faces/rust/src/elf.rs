@@ -391,6 +391,25 @@ impl<'a> Elf<'a> {
         sys::goblin_c_number_in(&self.file, &self.header, &segment.range(), offset, width as u64)
     }
 
+    /// Returns the offset in the file of the byte that is loaded at an address, or `None` if no byte of the file is loaded there. It is
+    /// that of the first segment of type `PT_LOAD` for which `p_vaddr <= address < p_vaddr + p_filesz`.
+    ///
+    /// ```
+    /// # fn main() -> Result<(), Box<dyn std::error::Error>> {
+    /// # let bytes = std::fs::read(std::env::current_exe()?)?;
+    /// let elf = goblin_rs::Elf::parse(&bytes)?;
+    /// let text = elf.section(".text")?.ok_or("no .text")?;
+    /// assert_eq!(elf.address_to_offset(text.sh_addr)?, Some(text.sh_offset));
+    /// # Ok(())
+    /// # }
+    /// ```
+    ///
+    /// # Errors
+    /// If the program headers are not inside the file, or the file has no byte at that offset.
+    pub fn address_to_offset(&self, address: u64) -> Result<Option<u64>> {
+        sys::goblin_c_address_to_offset(&self.file, &self.header, address)
+    }
+
     /// Returns the string table of the section names. It is empty if the file has none: the index of its section is 0 or past the end,
     /// or that section has no bytes in the file.
     ///

@@ -53,6 +53,7 @@ calls! {
     fn goblin_c_whole_segments(header: &Header) -> u64;
     fn goblin_c_segment_count(header: &Header) -> u64;
     fn goblin_c_segment_bytes(segment: &ProgramHeader) -> Range;
+    fn goblin_c_address_to_offset(header: &Header, address: u64) -> u64;
     fn goblin_c_symbol_count(header: &Header, table: &Range) -> u64;
     fn goblin_c_symbol_place(header: &Header, table: &Range, index: u64) -> Range;
     fn goblin_c_reloc_count(header: &Header, relocs: &Range, is_rela: bool) -> u64;

@@ -356,6 +356,30 @@ fn numbers_in_sections_and_segments() {
 }
 
 #[test]
+fn offsets_of_addresses() {
+    for form in FORMS {
+        // the first segment is of notes, and has the same address
+        let mut file = made(form, 0);
+        let elf = Elf::parse(&file).unwrap();
+        let (load, end) = (elf.program_header(1).unwrap().unwrap(), elf.header.e_shoff);
+        assert_eq!((load.p_vaddr, load.p_offset, load.p_filesz, load.p_memsz), (0x4000, 0, end, end + 1));
+        assert_eq!(elf.address_to_offset(0x4000), Ok(Some(0)));
+        assert_eq!(elf.address_to_offset(0x4000 + end - 1), Ok(Some(end - 1)));
+        for address in [0, 0x3fff, 0x4000 + end, u64::MAX] {
+            assert_eq!(elf.address_to_offset(address), Ok(None));
+        }
+        let cut = Elf::parse(&file[..200]).unwrap();
+        assert_eq!(cut.address_to_offset(0).map_err(|e| e.kind()), Err(Kind::BadOffset(elf.header.e_phoff)));
+        // with another p_offset the file has 2 bytes of the segment
+        let (len, at) = (file.len() as u64, elf.program_header_place(1).unwrap().unwrap().start + if form.is_64 { 8 } else { 4 });
+        file[at..at + form.wide()].copy_from_slice(&form.numbers(&[(form.wide(), len - 2)]));
+        let elf = Elf::parse(&file).unwrap();
+        assert_eq!(elf.address_to_offset(0x4001), Ok(Some(len - 1)));
+        assert_eq!(elf.address_to_offset(0x4002).map_err(|e| e.kind()), Err(Kind::BadOffset(len)));
+    }
+}
+
+#[test]
 fn parts_of_sections_and_segments() {
     for form in FORMS {
         let file = made(form, 0);

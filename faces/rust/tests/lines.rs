@@ -98,6 +98,7 @@ fn of_segments() -> Tried {
     let code = elf.program_headers()?.iter().find(|p| p.p_flags & PF_X != 0).ok_or("no code")?;
     assert!(code.vm_range().contains(&0x4010) && code.is_executable());
     assert_eq!(elf.segment_data(&code)?.map(|data| data.len()), Some(code.p_filesz as usize));
+    assert_eq!(elf.address_to_offset(code.p_vaddr + 2)?.and_then(|offset| bytes.get(offset as usize)), Some(&b'L'));
     assert_eq!(elf.segment_number(&code, 18, 2)?, elf.number(18, 2)?);
     assert_eq!(elf.segment_data(&code)?.and_then(|data| data.get(..4)), Some(&header::ELFMAG[..]));
     let held: Vec<SectionHeader> = elf.segment_sections(&loaded[0])?.collect();
