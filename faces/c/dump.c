@@ -210,8 +210,11 @@ static void sections(void) {
         putchar('\n');
         SHOW(goblin_section_place, range, range, &h, i);
         string(strings, section.sh_name);
-        if (goblin_string(bytes, len, &strings, section.sh_name, &name, &why) == GOBLIN_OK)
-            SHOW(goblin_section_by_name, number, index, &h, &strings, bytes + name.offset, (size_t)name.size, 0);
+        if (goblin_string(bytes, len, &strings, section.sh_name, &name, &why) == GOBLIN_OK) {
+            for (uint64_t first = 0; first < 3; first++)
+                SHOW(goblin_section_by_name, number, index, &h, &strings, bytes + name.offset, (size_t)name.size, first * i);
+            if (ASK(goblin_bytes_by_name, range, &h, &strings, bytes + name.offset, (size_t)name.size)) put_data(range);
+        }
         SHOW(goblin_section_by_type, number, index, &h, section.sh_type, i / 2);
         SHOW(goblin_section_by_type, number, index, &h, section.sh_type, i + 1);
         SHOW(goblin_section_bytes, range, range, &section);

@@ -502,6 +502,18 @@ function check_addresses() {
     assert.throws(() => Elf.parse(own.subarray(0, 64)).address_to_offset(0), is_refusal(Kind.BAD_OFFSET));
 }
 
+function check_names() {
+    const content = elf_file({ sections: ['a', 'b', 'a', 'a'].map((name, index) => ({ name, type: 1, bytes: Buffer.from([index]) })) });
+    const elf = Elf.parse(content);
+    assert.deepEqual([0, 1, 2, 3, 4, 5, 99].map((first) => elf.section_by_name('a', first)), [1, 1, 3, 3, 4, undefined, undefined]);
+    assert.deepEqual([elf.section_by_name('a'), elf.section_by_name('b'), elf.section_by_name('c')], [1, 2, undefined]);
+    assert.deepEqual([elf.section_data_by_name('a'), elf.section_data_by_name('b')], [Uint8Array.of(0), Uint8Array.of(1)]);
+    assert.deepEqual([elf.section_data_by_name('c'), elf.section_data_by_name('')], [undefined, undefined]);
+    assert.throws(() => elf.section_by_name('a', -1), RangeError);
+    const cut = Elf.parse(content.subarray(0, content.length - 1));
+    assert.throws(() => cut.section_data_by_name('a'), is_refusal(Kind.TOO_BIG));
+}
+
 // ---- texts ----
 
 function check_texts() {
@@ -702,6 +714,7 @@ check_arguments();
 check_readable_data();
 check_numbers_in();
 check_addresses();
+check_names();
 check_texts();
 check_notes_as_bytes();
 check_segments();

@@ -472,6 +472,13 @@ export class Elf {
     // Calls the library with the header.
     #call(name, kind, ...args) { return this.#memory.call(name, kind, this.#memory.address(HEADER), ...args); }
 
+    // Calls the library with the header, the range of the section names, and a name.
+    #by_name(call, kind, name, ...args) {
+        const bytes = this.#memory.pass_bytes(encoder.encode(name));
+        const names = this.#memory.pass(NAMES, 'range', this.shdr_strtab().range);
+        return this.#call(call, kind, names, ...bytes, ...args);
+    }
+
     /**
      * Reports whether the file is of the 64-bit class.
      * @returns {boolean}
@@ -579,14 +586,17 @@ export class Elf {
     section(name) { return this.#section_at(this.section_by_name(name)); }
 
     /**
-     * Returns the index of the first section with a name, if there is one.
+     * Returns the index of the first section with a name, from an index on, if there is one:
+     *
+     * ```js
+     * for (let i = elf.section_by_name('.group'); i !== undefined; i = elf.section_by_name('.group', i + 1)) console.log(i);
+     * ```
      * @param {string} name
+     * @param {number | bigint} [first]
      * @returns {number | undefined}
      */
-    section_by_name(name) {
-        const bytes = this.#memory.pass_bytes(encoder.encode(name));
-        const names = this.#memory.pass(NAMES, 'range', this.shdr_strtab().range);
-        return as_index(this.#call('goblin_c_section_by_name', 'number', names, ...bytes, 0n));
+    section_by_name(name, first = 0) {
+        return as_index(this.#by_name('goblin_c_section_by_name', 'number', name, unsigned(first, 64)));
     }
 
     /**
@@ -633,6 +643,20 @@ export class Elf {
      */
     section_data(section) {
         const range = this.section_range(section);
+        return range && this.#memory.bytes(range);
+    }
+
+    /**
+     * Returns the bytes of the first section with a name, or `undefined` if there is none, or if it has no bytes in the file.
+     *
+     * ```js
+     * const comment = elf.section_data_by_name('.comment');
+     * ```
+     * @param {string} name
+     * @returns {Uint8Array | undefined}
+     */
+    section_data_by_name(name) {
+        const range = this.#by_name('goblin_c_bytes_by_name', 'range', name);
         return range && this.#memory.bytes(range);
     }
 

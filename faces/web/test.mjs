@@ -207,7 +207,10 @@ class Dump {
                 fields(item) + [goblin.sht_to_str(item.sh_type), ...flags.map(goblin.shf_to_str)].map((name) => ` ${name}`).join(''));
             this.ask('goblin_section_place', () => elf.section_header_place(index));
             const name = this.string(names, section.sh_name);
-            if (name !== undefined) this.ask('goblin_section_by_name', () => elf.section_by_name(name));
+            if (name !== undefined) {
+                for (const first of [0, index, 2 * index]) this.ask('goblin_section_by_name', () => elf.section_by_name(name, first));
+                this.ask('goblin_bytes_by_name', () => elf.section_data_by_name(name), size_and_first);
+            }
             this.ask('goblin_section_by_type', () => elf.section_by_type(section.sh_type, Math.floor(index / 2)));
             this.ask('goblin_section_by_type', () => elf.section_by_type(section.sh_type, index + 1));
             this.ask('goblin_section_bytes', () => elf.section_range(section));

@@ -11,6 +11,9 @@ export async function main(bytes: ArrayBuffer, view: Uint16Array): Promise<strin
     for (const [index, { sh_size }] of sections.entries()) lines.push(`${names[index]} ${sh_size + 1n}`);
     const index: number | undefined = elf.section_by_type(SHT_SYMTAB), range: Range | undefined = elf.section_range(loaded[0]);
     lines.push(`${index} ${range?.offset} ${machine_to_str(elf.header.e_machine)}`, JSON.stringify({ ...loaded[0] }, json));
+    const { sections: readable, refusal } = elf.readable_section_headers(), why: GoblinError | undefined = refusal;
+    const place: Range | undefined = elf.section_header_place(readable.length - 1), first: bigint = elf.section_number(loaded[0], 0, 4);
+    lines.push(`${why?.message} ${place?.size} ${first} ${elf.address_to_offset(elf.header.e_entry)} ${elf.section_by_name('.text', 1)}`);
     const symbols: Symtab | undefined = elf.syms(), addresses: AddressIndex | undefined = symbols?.address_index();
     lines.push(`${addresses?.at(elf.header.e_entry)} ${addresses?.symbol(0)?.st_value} ${symbols?.strtab.is(1, 'main')}`);
     for (const symbol of symbols ?? []) lines.push(`${symbols?.name(symbol)} ${symbol.st_value}`);

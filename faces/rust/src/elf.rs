@@ -237,16 +237,31 @@ impl<'a> Elf<'a> {
     /// # Errors
     /// If the section headers or their names are not inside the file.
     pub fn section(&self, name: &str) -> Result<Option<SectionHeader>> {
-        self.section_at(self.section_by_name(name)?)
+        self.section_at(self.section_by_name(name, 0)?)
     }
 
-    /// Returns the index of the first section with a name.
+    /// Returns the index of the first section with a name, from an index on.
+    ///
+    /// ```
+    /// # fn main() -> Result<(), Box<dyn std::error::Error>> {
+    /// # let bytes = std::fs::read(std::env::current_exe()?)?;
+    /// let elf = goblin_rs::Elf::parse(&bytes)?;
+    /// let mut groups = 0;
+    /// let mut first = 0;
+    /// while let Some(index) = elf.section_by_name(".group", first)? {
+    ///     groups += 1;
+    ///     first = index + 1;
+    /// }
+    /// assert_eq!(groups, 0); // (only object files have groups)
+    /// # Ok(())
+    /// # }
+    /// ```
     ///
     /// # Errors
     /// If the section headers or their names are not inside the file.
-    pub fn section_by_name(&self, name: &str) -> Result<Option<usize>> {
+    pub fn section_by_name(&self, name: &str, first: usize) -> Result<Option<usize>> {
         let names = self.shdr_strtab()?.range;
-        let index = sys::goblin_c_section_by_name(&self.file, &self.header, &names, name.as_bytes(), 0)?;
+        let index = sys::goblin_c_section_by_name(&self.file, &self.header, &names, name.as_bytes(), first as u64)?;
         Ok(index.map(|index| index as usize))
     }
 
@@ -320,6 +335,26 @@ impl<'a> Elf<'a> {
     fn readable(&self, found: Result<Option<raw::Range>>, refused: raw::Range) -> Option<&'a [u8]> {
         let range = found.unwrap_or_else(|_| Some(sys::goblin_range_in_file(&self.file, &refused)))?;
         Some(self.file.slice(range))
+    }
+
+    /// Returns the bytes of the first section with a name, or `None` if there is none, or if it has no bytes in the file.
+    ///
+    /// ```
+    /// # fn main() -> Result<(), Box<dyn std::error::Error>> {
+    /// # let bytes = std::fs::read(std::env::current_exe()?)?;
+    /// let elf = goblin_rs::Elf::parse(&bytes)?;
+    /// let text = elf.section(".text")?.ok_or("no .text")?;
+    /// assert_eq!(elf.section_data_by_name(".text")?, elf.section_data(&text)?);
+    /// # Ok(())
+    /// # }
+    /// ```
+    ///
+    /// # Errors
+    /// If the section headers, their names or the bytes are not inside the file.
+    pub fn section_data_by_name(&self, name: &str) -> Result<Option<&'a [u8]>> {
+        let names = self.shdr_strtab()?.range;
+        let range = sys::goblin_c_bytes_by_name(&self.file, &self.header, &names, name.as_bytes())?;
+        Ok(range.map(|range| self.file.slice(range)))
     }
 
     /// Returns the bytes of a segment, or `None` if it has none in the file.

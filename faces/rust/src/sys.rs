@@ -45,6 +45,7 @@ calls! {
     fn goblin_c_linked_section(header: &Header, index: u64) -> SectionHeader;
     fn goblin_c_section_names(header: &Header) -> SectionHeader;
     fn goblin_c_section_by_name(header: &Header, names: &Range) by name: [u8] from first -> u64;
+    fn goblin_c_bytes_by_name(header: &Header, names: &Range) by name: [u8] -> Range;
     fn goblin_c_segment(header: &Header, index: u64) -> ProgramHeader;
     fn goblin_c_section_by_type(header: &Header, sh_type: u32, first: u64) -> u64;
     fn goblin_c_section_bytes(section: &SectionHeader) -> Range;

@@ -23,6 +23,7 @@ fn with_section(form: Form, index: usize, offsets: (usize, usize), number: u64) 
     file
 }
 
+const SH_NAME: (usize, usize) = (0, 0);
 const SH_TYPE: (usize, usize) = (4, 4);
 const SH_LINK: (usize, usize) = (24, 40);
 
@@ -62,10 +63,10 @@ fn sections() {
         let found: Vec<_> = sections.iter().map(|s| names.get(s.sh_name).unwrap().unwrap()).collect();
         assert_eq!(found, ["", ".note", ".symtab", ".strtab", ".rela", ".rel", ".names"]);
         for (index, name) in found.iter().enumerate() {
-            assert_eq!(elf.section_by_name(name), Ok(Some(index)));
+            assert_eq!(elf.section_by_name(name, 0), Ok(Some(index)));
             assert_eq!(elf.section_header(index), Ok(Some(sections[index])));
         }
-        assert_eq!(elf.section_by_name(".no"), Ok(None));
+        assert_eq!(elf.section_by_name(".no", 0), Ok(None));
         assert_eq!(elf.section_header(7), Ok(None));
         let rela = SectionHeader {
             sh_name: 23,
@@ -208,7 +209,7 @@ type Named = (Result<Option<String>>, Result<Option<usize>>);
 
 fn first_section(file: &[u8]) -> Named {
     let elf = Elf::parse(file).unwrap();
-    (elf.shdr_strtab().unwrap().get(1).map(|name| name.map(String::from)), elf.section_by_name(".note"))
+    (elf.shdr_strtab().unwrap().get(1).map(|name| name.map(String::from)), elf.section_by_name(".note", 0))
 }
 
 /// Returns the type of the section that the symbol table links to, and its name.
@@ -403,6 +404,28 @@ fn parts_of_sections_and_segments() {
         assert_eq!(elf.readable_section_data(&SectionHeader { sh_type: SHT_NOBITS, ..past }), None);
         assert_eq!(elf.readable_section_data(&SectionHeader { sh_size: 0, ..past }), None);
         assert_eq!(elf.readable_segment_data(&ProgramHeader { p_filesz: 0, p_offset: len, ..segment }), None);
+    }
+}
+
+#[test]
+fn sections_of_one_name() {
+    for form in FORMS {
+        // the sections at 4 and 5 have the name ".rela"
+        let file = with_section(form, 5, SH_NAME, 23);
+        let elf = Elf::parse(&file).unwrap();
+        let found: Vec<_> = (0..9).map(|first| elf.section_by_name(".rela", first).unwrap()).collect();
+        assert_eq!(found, [&[Some(4); 5][..], &[Some(5)], &[None; 3]].concat());
+        assert_eq!(elf.section_by_name(".rela", usize::MAX), Ok(None));
+        assert_eq!(elf.section(".rela"), elf.section_header(4));
+        let data = elf.section_data_by_name(".rela").unwrap().unwrap();
+        assert_eq!(data.as_ptr(), file[elf.section_header(4).unwrap().unwrap().sh_offset as usize..].as_ptr());
+        assert_eq!(data.len(), 6 * form.wide());
+        assert_eq!(elf.section_data_by_name(".strtab"), Ok(Some(STRINGS)));
+        assert_eq!((elf.section_data_by_name(".rel"), elf.section_data_by_name("")), (Ok(None), Ok(None)));
+        let without = with_section(form, 4, SH_TYPE, SHT_NOBITS.into());
+        assert_eq!(Elf::parse(&without).unwrap().section_data_by_name(".rela"), Ok(None));
+        let cut = Elf::parse(&file[..200]).unwrap();
+        assert_eq!(cut.section_data_by_name(".strtab").map_err(|e| e.kind()), Err(Kind::BadOffset(elf.header.e_shoff)));
     }
 }
 

@@ -59,7 +59,10 @@ fn of_sections() -> Tried {
     let strings = elf.section(".strtab")?.ok_or("no .strtab")?;
     assert_eq!(elf.section_data(&strings)?, Some(STRINGS));
     assert_eq!(elf.section_data(&strings)?.unwrap_or(&[]).len() as u64, strings.sh_size);
+    assert_eq!(elf.section_data_by_name(".strtab")?.map(|data| data.len()), Some(STRINGS.len()));
     assert_eq!(elf.section_number(&strings, 1, 1)?, Some(u64::from(b'f')));
+    let all_named: Vec<usize> = std::iter::successors(elf.section_by_name(".rel", 0)?, |last| elf.section_by_name(".rel", last + 1).unwrap()).collect();
+    assert_eq!(all_named, [5]);
     let mut changed = bytes.clone();
     changed[elf.section_header_place(3)?.ok_or("no section")?][8] |= SHF_WRITE as u8;
     assert!(Elf::parse(&changed)?.section(".strtab")?.map_or(false, |s| s.is_writable()));
@@ -69,7 +72,7 @@ fn of_sections() -> Tried {
     assert_eq!(elf.section_headers()?.iter().filter(|s| s.sh_type == SHT_NOTE).count(), 1);
     assert!(elf.section_headers()?.iter().any(|s| s.sh_type == SHT_SYMTAB));
     assert!(elf.section_headers()?.iter().all(|s| s.sh_type != SHT_NOBITS));
-    assert_eq!(elf.section_headers()?.iter().position(|s| s.sh_type == SHT_SYMTAB), elf.section_by_name(".symtab")?);
+    assert_eq!(elf.section_headers()?.iter().position(|s| s.sh_type == SHT_SYMTAB), elf.section_by_name(".symtab", 0)?);
     assert_eq!(elf.section_headers()?.iter().find(|s| s.is_relocation()).map(|s| s.sh_type), Some(SHT_RELA));
     assert_eq!(elf.section_headers()?.get(1), elf.section(".note")?);
     assert_eq!(elf.section_headers()?.iter().last(), elf.section(".names")?);
