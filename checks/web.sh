@@ -1,7 +1,7 @@
 #!/bin/sh
 # Tests an archive of faces/install.sh for wasm64-unknown-unknown: web.sh ARCHIVE DUMP FILE..
 # JavaScript reads from whole and damaged files what C reads, its calls do what their comments say, and the page shows files in browsers.
-# DUMP is the program of faces/c/dump.c, and the FILEs are all that faces/c/made.c makes. If the machine lacks node or a browser, a line
+# DUMP is the program of faces/c/dump.c, beside those of truncated.c and flag.c, and the FILEs are all that faces/c/made.c makes. If the machine lacks node or a browser, a line
 # says what is skipped. Run it from the repository's root.
 set -eu
 archive=$1
@@ -17,9 +17,20 @@ if flag=$(sh checks/node_flag.sh); then
     call() { node ${flag:+"$flag"} "$@"; }
     call faces/web/test.mjs "$web" "$dump" "$@" "$dump"
     call faces/web/calls.mjs "$web" "$@" "$dump"
+    for file in "$@"; do
+        by_c=$(dirname "$dump")
+        "$by_c/truncated" "$file" > "$folder/wanted"
+        call "$web/examples/truncated.mjs" "$file" > "$folder/listed"
+        "$by_c/flag" "$file" .text >> "$folder/wanted"
+        call "$web/examples/flag.mjs" "$file" .text >> "$folder/listed"
+        diff "$folder/wanted" "$folder/listed" || { echo "truncated.mjs or flag.mjs prints something else of $file than in C"; exit 1; }
+    done
+    said=$(call "$web/examples/flag.mjs" "$1" .no 2>&1) && { echo "flag.mjs finds a section that $1 doesn't have"; exit 1; }
+    [ "$said" = "flag: $1: there is no section .no" ] || { echo "flag.mjs prints this of a missing section: $said"; exit 1; }
     head -c 15 "$dump" > "$folder/short"
-    for example in needed segments; do
-        said=$(call "$web/examples/$example.mjs" "$folder/short" 2>&1) && { echo "$example.mjs does not refuse a short file"; exit 1; }
+    for example in needed segments truncated flag; do
+        if [ $example = flag ]; then section=.text; else section=; fi
+        said=$(call "$web/examples/$example.mjs" "$folder/short" ${section:+"$section"} 2>&1) && { echo "$example.mjs does not refuse a short file"; exit 1; }
         [ "$said" = "$example: $folder/short: Malformed entity: Too small" ] || { echo "$example.mjs prints this of a short file: $said"; exit 1; }
     done
     # A program with the package in its node_modules imports it by name.

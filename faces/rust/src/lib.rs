@@ -20,6 +20,11 @@
 //! adaptor can drop an error. Each list has `len`, `is_empty` and `iter`, and can be iterated over by value or by reference. Lists
 //! whose items have indices also have `get`.
 //!
+//! # Files that are cut
+//! The call for a whole fails if a part of it is not inside the file. [`Error::offset`] is where that part begins. The calls whose names
+//! begin with `readable_` never fail: they return what is left of headers, notes, or the bytes of a section or a segment. The example
+//! `truncated` shows them.
+//!
 //! # Coming from goblin
 //! Here each part of the file is read on demand, which can fail, and a list is not a slice. So some lines that work with goblin don't
 //! compile. They are the comments below, each before what to write instead:

@@ -1,0 +1,52 @@
+//! Shows what is left of an ELF file that ends in its last section header: truncated FILE
+//!
+//! It reads the file, and then only as many bytes of it. One section header of such a file is not inside it, so `section_headers` fails.
+//! `readable_section_headers` returns the others.
+use goblin_rs::section_header::sht_to_str;
+use goblin_rs::Elf;
+use std::process::ExitCode;
+use std::{env, error, ffi, fs};
+
+fn list(path: &ffi::OsStr) -> Result<(), Box<dyn error::Error>> {
+    let bytes = fs::read(path)?;
+    let elf = Elf::parse(&bytes)?;
+    let count = elf.section_headers()?.len();
+    let last = match elf.section_header_place(count.saturating_sub(1))? {
+        Some(last) => last,
+        None => {
+            println!("no section headers");
+            return Ok(());
+        }
+    };
+    let cut = Elf::parse(&bytes[..last.start + last.len() / 2])?;
+    let (sections, refusal) = cut.readable_section_headers();
+    if let Some(why) = refusal {
+        println!("all headers: {why}");
+    }
+    println!("{} of {count} headers are whole", sections.len());
+    for (index, section) in sections.iter().enumerate() {
+        let left = match cut.readable_section_data(&section) {
+            Some(left) => format!("{} of {} bytes", left.len(), section.sh_size),
+            None => "no bytes".to_string(),
+        };
+        println!("{index} {}: {left}", sht_to_str(section.sh_type));
+    }
+    Ok(())
+}
+
+fn main() -> ExitCode {
+    let path = match env::args_os().nth(1) {
+        Some(path) => path,
+        None => {
+            eprintln!("usage: truncated FILE");
+            return ExitCode::from(2);
+        }
+    };
+    match list(&path) {
+        Ok(()) => ExitCode::SUCCESS,
+        Err(why) => {
+            eprintln!("truncated: {}: {why}", path.to_string_lossy());
+            ExitCode::FAILURE
+        }
+    }
+}
