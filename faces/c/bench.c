@@ -15,6 +15,7 @@ static const uint8_t none[] = "_ZNSt8no_suchD0Ev"; /* a name that no symbol has 
 static uint8_t *bytes;
 static uint64_t len, count, *offsets; /* the number of symbols, and the offset of each symbol's name in the strings */
 static uint64_t relocs;               /* the number of relocations */
+static uint64_t *indices, *addresses, placed; /* an index of the symbols' addresses, the addresses of its entries, and their number */
 static goblin_header_t header;
 static goblin_section_t table, strings, relas, notes, sections[MOST];
 static goblin_symbol_t symbols[MOST];
@@ -24,7 +25,8 @@ static Elf_Data *data, *rela_data, *note_data;
 
 /* What is timed: an action on all symbols, relocations or section headers, or many calls for one item. */
 enum { ONE, ARRAY_64, ARRAY_4096, GELF, NAME, BYTES, STRLEN, STRPTR, SEARCH, STRCMP, HEADERS, ELF_HEADERS };
-enum { RELOC = ELF_HEADERS + 1, GELF_RELA, NOTE, GELF_NOTE, HEADER, GELF_EHDR, SECTION, GELF_SHDR };
+enum { RELOC = ELF_HEADERS + 1, GELF_RELA, NOTE, NOTE_BYTES, GELF_NOTE, HEADER, GELF_EHDR, SECTION, ALONE, GELF_SHDR };
+enum { IS = GELF_SHDR + 1, STRCMP_ONE, NUMBER, MEMCPY, ADDRESS, BSEARCH };
 static const struct { const char *what, *than; int ours, theirs; } rows[] = {
     {"a symbol by one call", "gelf_getsym", ONE, GELF},
     {"a symbol, 64 at once", "gelf_getsym", ARRAY_64, GELF},
@@ -36,8 +38,13 @@ static const struct { const char *what, *than; int ours, theirs; } rows[] = {
     {"header and sections of a file", "elf_memory and gelf_getshdr", HEADERS, ELF_HEADERS},
     {"a relocation by one call", "gelf_getrela", RELOC, GELF_RELA},
     {"a note by one call", "gelf_getnote", NOTE, GELF_NOTE},
+    {"a note as bytes", "gelf_getnote", NOTE_BYTES, GELF_NOTE},
     {"the header by one call", "gelf_getehdr", HEADER, GELF_EHDR},
     {"a section by one call", "elf_getscn and gelf_getshdr", SECTION, GELF_SHDR},
+    {"a section alone", "elf_getscn and gelf_getshdr", ALONE, GELF_SHDR},
+    {"a name compared with a text", "strcmp", IS, STRCMP_ONE},
+    {"a number in a range", "memcpy", NUMBER, MEMCPY},
+    {"a symbol by its address", "bsearch", ADDRESS, BSEARCH},
 };
 enum { ROWS = sizeof rows / sizeof rows[0] };
 
@@ -61,14 +68,47 @@ static uint64_t run_one(int what) {
     for (int i = 0; what >= NOTE && what <= GELF_EHDR && i < CALLS; i++) {
         if (what == NOTE && !goblin_note(bytes, len, &header, &notes.file, notes.sh_addralign, notes.file.offset, &note, &why))
             sum += note.desc.size + note.n_type;
+        if (what == NOTE_BYTES && !goblin_note_bytes(bytes, len, &header, &notes.file, notes.sh_addralign, notes.file.offset, &note, &why))
+            sum += note.desc.size + note.n_type;
         if (what == GELF_NOTE && gelf_getnote(note_data, 0, &nhdr, &name, &desc)) sum += nhdr.n_descsz + nhdr.n_type;
         if (what == HEADER && !goblin_header(bytes, len, &read, &why)) sum += read.e_shoff + read.e_shnum;
         if (what == GELF_EHDR && gelf_getehdr(elf, &ehdr)) sum += ehdr.e_shoff + ehdr.e_shnum;
     }
     if (what == SECTION)
         for (uint64_t i = 0; !goblin_section(bytes, len, &header, i, sections, &why); i++) sum += sections->file.size;
+    if (what == ALONE)
+        for (uint64_t i = 0; !goblin_section_alone(bytes, len, &header, i, sections, &why); i++) sum += sections->file.size;
     if (what == GELF_SHDR)
         for (size_t i = 0; i < header.e_shnum; i++) sum += gelf_getshdr(elf_getscn(elf, i), &section)->sh_size;
+    return sum;
+}
+
+/* Compares two addresses, for bsearch. */
+static int compare(const void *one, const void *other) {
+    uint64_t a = *(const uint64_t *)one, b = *(const uint64_t *)other;
+    return a < b ? -1 : a > b;
+}
+
+/* Tests the names of all symbols, reads numbers of the symbol table, or finds symbols by their addresses. Returns the sum. */
+static uint64_t run_search(int what) {
+    const char *text = (char *)bytes + strings.file.offset;
+    uint64_t sum = 0, number, index;
+    if (what == IS)
+        for (uint64_t i = 0; i < count; i++)
+            sum += !goblin_string_is(bytes, len, &strings.file, offsets[i], none, sizeof none - 1, &why);
+    if (what == STRCMP_ONE)
+        for (uint64_t i = 0; i < count; i++) sum += strcmp(text + offsets[i], (const char *)none) == 0;
+    if (what == NUMBER)
+        for (uint64_t i = 0; i < count; i++)
+            if (!goblin_number_in(bytes, len, &header, &table.file, 24 * i + 8, 8, &number, &why)) sum += number;
+    if (what == MEMCPY)
+        for (uint64_t i = 0; i < count; i++) memcpy(&number, bytes + table.file.offset + 24 * i + 8, 8), sum += number;
+    if (what == ADDRESS)
+        for (uint64_t i = 0; i < placed; i++)
+            if (!goblin_symbol_by_address_in(bytes, len, &header, &table.file, indices, placed, addresses[i], &index, &why))
+                sum += index < count;
+    if (what == BSEARCH)
+        for (uint64_t i = 0; i < placed; i++) sum += bsearch(addresses + i, addresses, placed, sizeof *addresses, compare) != NULL;
     return sum;
 }
 
@@ -110,7 +150,7 @@ static uint64_t run(int what) {
         while (n > 0) sum += sections[--n].file.size;
     for (Elf_Scn *s = NULL; file && (s = elf_nextscn(file, s));) sum += gelf_getshdr(s, &section)->sh_size;
     elf_end(file);
-    return sum + (what > ELF_HEADERS ? run_one(what) : 0);
+    return sum + (what >= IS ? run_search(what) : what > ELF_HEADERS ? run_one(what) : 0);
 }
 
 static double time_of(int what, uint64_t *sum) {
@@ -136,9 +176,10 @@ static goblin_section_t longest(uint32_t one, uint32_t other, Elf_Data **found) 
 static uint64_t items(int what) {
     if (what == HEADERS) return 1;
     if (what == RELOC) return relocs;
-    if (what == NOTE) return notes.file.size ? CALLS : 0;
+    if (what == NOTE || what == NOTE_BYTES) return notes.file.size ? CALLS : 0;
     if (what == HEADER) return CALLS;
-    return what == SECTION ? header.e_shnum : count;
+    if (what == ADDRESS) return placed;
+    return what == SECTION || what == ALONE ? header.e_shnum : count;
 }
 
 static int bench(const char *path) {
@@ -154,6 +195,10 @@ static int bench(const char *path) {
     if (!(offsets = malloc((count + 1) * sizeof *offsets))) return 1;
     for (uint64_t i = 0; i < count && !goblin_symbol(bytes, len, &header, &table.file, i, symbols, &why); i++)
         offsets[i] = symbols->st_name;
+    if (!(indices = malloc((count + 1) * sizeof *indices)) || !(addresses = malloc((count + 1) * sizeof *addresses))) return 1;
+    if (goblin_address_index(bytes, len, &header, &table.file, indices, count, &placed, &why)) return 1;
+    for (uint64_t i = 0; i < placed && !goblin_symbol(bytes, len, &header, &table.file, indices[i], symbols, &why); i++)
+        addresses[i] = symbols->st_value;
     printf("%s, %llu symbols, nanoseconds each:\n", path, (unsigned long long)count);
     for (int row = 0; row < ROWS; row++) {
         double least[2] = {1e18, 1e18}, each = (double)items(rows[row].ours);
