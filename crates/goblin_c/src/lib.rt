@@ -63,7 +63,9 @@ use places::{
 };
 use status::store;
 use strings::string_at;
-use tables::{relocs_of, section_by_name, symbol_by_address, symbol_by_name, symbols_of};
+use tables::{
+    relocs_of, section_by_name, symbol_by_address, symbol_by_name, symbol_in, symbols_of,
+};
 use texts::write_refusal;
 use types::{
     GoblinHeader, GoblinNote, GoblinRange, GoblinRefusal, GoblinReloc, GoblinSection,
@@ -247,7 +249,7 @@ pub extern "C" fn goblin_c_symbol(
     ensures { Stores (symbol_expected bytes.now header.now table.now index)
         symbol.old why.old result symbol.new why.new }
 {
-    let found = item_of(symbols_of(bytes, header, table), index);
+    let found = symbol_in(bytes, header, table, index);
     store(found, symbol, why)
 }
 

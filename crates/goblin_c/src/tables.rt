@@ -1,13 +1,14 @@
 //! Symbols, relocations and what is found by its name, as the library reads them.
 ghost use Rattle.std.specs.Prelude.{◌≡◌, length, map, position};
 ghost use Rattle.goblin_c.specs.Refused.{Answers};
-ghost use Rattle.goblin_c.specs.Answers.{reloc_converted, relocs_expected, section_by_name_expected, symbol_by_address_expected, symbol_by_name_expected, is_named, symbol_converted, symbols_expected};
+ghost use Rattle.goblin_c.specs.Answers.{ctx_of, reloc_converted, relocs_expected, section_by_name_expected, symbol_by_address_expected, symbol_by_name_expected, is_named, symbol_converted, symbol_expected, symbols_expected};
 
 use crate::headers::{ctx_of, sections_of};
-use crate::lists::Listed;
+use crate::lists::{Listed, item_of};
 use crate::refused::{Result, refused_at};
 use crate::strings::strings_of;
 use crate::types::{GoblinHeader, GoblinRange, GoblinReloc, GoblinSymbol};
+use goblin::container::{Container, Ctx};
 use goblin::elf::reloc::{Reloc, RelocSection, is_mips64el_in};
 use goblin::elf::section_header::SectionHeader;
 use goblin::elf::sym::{Sym, Symtab};
@@ -47,9 +48,48 @@ pub fn symbols_of<'a>(
     ensures { Answers (λ table. table.symbols) result
         (symbols_expected bytes.now header.now range.now) }
 {
+    symbols_in(bytes, header, range, ctx_of(header))
+}
+
+// Returns the symbols of a range, with the context of the header.
+#[inline(always)]
+fn symbols_in<'a>(
+    bytes: &'a [u8],
+    header: &GoblinHeader,
+    range: &GoblinRange,
+    ctx: Ctx,
+) -> Result<Symtab<'a>>
+    requires { ctx ≡ ctx_of header.now }
+    ensures { Answers (λ table. table.symbols) result
+        (symbols_expected bytes.now header.now range.now) }
+{
     let (offset, size) = (range.offset as usize, range.size as usize);
-    let table = Symtab::in_range(bytes, offset, size, ctx_of(header), &ParseOptions::strict());
+    let table = Symtab::in_range(bytes, offset, size, ctx, &ParseOptions::strict());
     refused_at(range.offset, table)
+}
+
+/// Returns the symbol at an index of a range.
+pub fn symbol_in(
+    bytes: &[u8],
+    header: &GoblinHeader,
+    range: &GoblinRange,
+    index: u64,
+) -> Result<Option<GoblinSymbol>>
+    ensures { Answers (λ found. found) result
+        (symbol_expected bytes.now header.now range.now index) }
+{
+    let ctx = ctx_of(header);
+    // (asked here, the class isn't asked again for the table's end and the symbol's place)
+    match ctx.container {
+        Container::Little => {
+            let ctx = Ctx::new(Container::Little, ctx.le);
+            item_of(symbols_in(bytes, header, range, ctx), index)
+        }
+        Container::Big => {
+            let ctx = Ctx::new(Container::Big, ctx.le);
+            item_of(symbols_in(bytes, header, range, ctx), index)
+        }
+    }
 }
 
 impl Listed for Symtab<'_> {
