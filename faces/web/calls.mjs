@@ -499,7 +499,7 @@ function check_addresses() {
     }
     assert.equal(elf.address_to_offset(elf.header.e_entry), elf.header.e_entry - text.sh_addr + text.sh_offset);
     assert.equal(elf.address_to_offset(END), undefined);
-    assert.throws(() => Elf.parse(own.subarray(0, 64)).address_to_offset(0), is_refusal(Kind.BAD_OFFSET));
+    assert.throws(() => Elf.parse(own.subarray(0, 64)).address_to_offset(0), is_refusal(Kind.BUFFER_TOO_SHORT));
 }
 
 function check_names() {
