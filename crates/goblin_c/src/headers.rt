@@ -104,6 +104,7 @@ pub fn header_at(bytes: &[u8]) -> Result<Option<GoblinHeader>>
 }
 
 /// Returns the section headers.
+#[inline(always)]
 pub fn sections_of<'a>(
     bytes: &'a [u8],
     header: &GoblinHeader,
@@ -195,6 +196,7 @@ pub fn section_names(bytes: &[u8], header: &GoblinHeader) -> Result<Option<Gobli
 }
 
 /// Returns the program headers.
+#[inline(always)]
 pub fn segments_of<'a>(
     bytes: &'a [u8],
     header: &GoblinHeader,

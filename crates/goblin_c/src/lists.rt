@@ -36,6 +36,7 @@ pub fn count_of<L: Listed>(list: Result<L>) -> Result<Option<u64>>
 }
 
 /// Returns the item of a list at an index.
+#[inline(always)]
 pub fn item_of<L: Listed>(list: Result<L>, index: u64) -> Result<Option<L::Converted>>
     ensures { Answers (λ found. found) result (item_of (converted_list L.listed list) index) }
 {
