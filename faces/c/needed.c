@@ -16,7 +16,9 @@ static goblin_refusal_t why;
 static uint32_t print(const uint8_t *bytes, size_t len, const char *name, const goblin_range_t *strings, uint64_t offset) {
     goblin_range_t string = {0, 0};
     if (goblin_string_bytes(bytes, len, strings, offset, &string, &why) > GOBLIN_END) return why.kind;
-    printf("%s %.*s\n", name, (int)string.size, (const char *)bytes + string.offset);
+    printf("%s ", name);
+    fwrite(bytes + string.offset, 1, (size_t)string.size, stdout);
+    putchar('\n');
     return GOBLIN_OK;
 }
 

@@ -50,8 +50,8 @@ int main(int argc, char **argv) {
         if (status == GOBLIN_OK) status = goblin_symbol(bytes, len, &header, &table.file, index, &symbol, &why);
         if (status == GOBLIN_OK) status = goblin_string_bytes(bytes, len, &names.file, symbol.st_name, &name, &why);
         if (status > GOBLIN_END) return refused("symbols");
-        if (status == GOBLIN_OK) printf("%.*s\n??:0\n", (int)name.size, (const char *)bytes + name.offset);
-        else printf("??\n??:0\n");
+        if (status == GOBLIN_OK) fwrite(bytes + name.offset, 1, (size_t)name.size, stdout);
+        puts(status == GOBLIN_OK ? "\n??:0" : "??\n??:0");
     }
     return 0;
 }

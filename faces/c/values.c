@@ -25,7 +25,7 @@ static int list(const uint8_t *bytes, size_t len) {
         for (uint64_t k = 0; (status = goblin_symbol(bytes, len, &header, &table.file, k, &symbol, &why)) == GOBLIN_OK; k++) {
             goblin_range_t name = {0, 0};
             if (goblin_string(bytes, len, &strings.file, symbol.st_name, &name, &why) > GOBLIN_END) return refused();
-            printf("%" PRIx64 " %.*s\n", symbol.st_value, (int)name.size, (const char *)bytes + name.offset);
+            printf("%" PRIx64 " ", symbol.st_value), fwrite(bytes + name.offset, 1, (size_t)name.size, stdout), puts("");
         }
         if (status != GOBLIN_END) return refused();
     }
