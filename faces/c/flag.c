@@ -11,8 +11,8 @@
 enum { FLAGS = 8 };
 
 static int refused(const goblin_refusal_t *why) {
-    char text[160] = {0};
-    goblin_refusal_text(why, text, sizeof text - 1);
+    char text[160];
+    goblin_refusal_text(why, text, sizeof text);
     fprintf(stderr, "flag: %s\n", text);
     return 1;
 }

@@ -24,15 +24,12 @@ static uint32_t list_strings(const uint8_t *bytes, size_t len, const goblin_rang
 /* Finds a section by its name, and lists its strings. */
 static uint32_t list_section(const uint8_t *bytes, size_t len, const char *name) {
     goblin_header_t header;
-    goblin_section_t names, section;
+    goblin_section_t names;
     goblin_range_t strings;
-    uint64_t index;
     uint32_t status = goblin_header(bytes, len, &header, &why);
     if (status == GOBLIN_OK) status = goblin_section_names(bytes, len, &header, &names, &why);
     if (status == GOBLIN_OK)
-        status = goblin_section_by_name(bytes, len, &header, &names.file, name, strlen(name), 0, &index, &why);
-    if (status == GOBLIN_OK) status = goblin_section(bytes, len, &header, index, &section, &why);
-    if (status == GOBLIN_OK) status = goblin_section_bytes(bytes, len, &section, &strings, &why);
+        status = goblin_bytes_by_name(bytes, len, &header, &names.file, name, strlen(name), &strings, &why);
     return status == GOBLIN_OK ? list_strings(bytes, len, &strings) : status;
 }
 

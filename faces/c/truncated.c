@@ -10,17 +10,17 @@ static goblin_refusal_t why;
 
 /* Prints the text of the last refusal after its subject. */
 static int refused(FILE *to, const char *subject) {
-    char text[160] = {0};
-    goblin_refusal_text(&why, text, sizeof text - 1);
+    char text[160];
+    goblin_refusal_text(&why, text, sizeof text);
     fprintf(to, "%s: %s\n", subject, text);
     return 1;
 }
 
 /* Prints the type of a section, and how many of its bytes are left. */
 static void show(const uint8_t *bytes, size_t len, uint64_t index, const goblin_section_t *section) {
-    char type[64] = {0};
+    char type[64];
     goblin_range_t left;
-    goblin_sht_to_str(section->sh_type, type, sizeof type - 1);
+    goblin_sht_to_str(section->sh_type, type, sizeof type);
     printf("%" PRIu64 " %s: ", index, type);
     if (goblin_section_bytes(bytes, len, section, &left, &why) == GOBLIN_END) {
         puts("no bytes");
