@@ -20,8 +20,8 @@
      Refusals come before GOBLIN_END, if a call does not say otherwise: a table that is refused is refused past its end, too.
 
    Pointers
-     `bytes` points to the `len` bytes of the whole file. A pointer may be null if its length is 0, so an empty file may be null.
-     `why` may be null: then the caller has only the returned number. No other pointer may be null. What a call writes must not
+     `bytes` points to the `len` bytes of the whole file. `bytes`, an array, a name or a text may be null if its length or capacity
+     is 0. `why` may be null: then the caller has only the returned number. Nothing else may be null. What a call writes must not
      overlap anything else that it is given. Names and texts are `const void *`, so a string literal and bytes are both passed
      without a cast.
 
@@ -29,6 +29,12 @@
      Nothing may write the bytes during a call. They may change between two calls, since each call checks all that it reads. But
      what an earlier call returned may then be out of date. If a mapped file is made shorter, the operating system ends a program
      that reads past its new end (SIGBUS). Read a file into a buffer if others may shorten it.
+
+   Files that are cut
+     If one section header is not inside the file, each call that reads the section headers is refused, so goblin_section_names,
+     goblin_section_by_name, goblin_section_by_type, goblin_linked_section and goblin_bytes_by_name are, too. If goblin_section_count is
+     refused, use goblin_whole_sections and goblin_section_alone. Calls for segments, and for the notes, strings and symbols of a range,
+     need no section headers. Cut a table's range with goblin_range_in_file first: a range that ends past the file is refused whole.
 
    Units
      Offsets and sizes are in bytes. Offsets start at the file's first byte if nothing else is said. Numbers are in the machine's
@@ -40,7 +46,7 @@
 
    One item or many
      To read a whole table, use the plural calls, such as goblin_symbols: they check the table once for each array that they fill.
-     With 64 items at once an item takes about a third of the time of a goblin_symbol.
+     With 64 items at once an item takes about half the time of a goblin_symbol.
 
    Examples
      Each call has an example. All are compiled with these variables:
@@ -144,11 +150,13 @@ typedef struct {
     uint64_t second;
     uint64_t third;
     uint64_t fourth;
-    uint64_t offset; /* where in the file the thing begins that is refused: 0 for the header; e_shoff or e_phoff for a list of headers;
-                        the range's offset for symbols, relocations or strings; else the offset of the string, note or bytes */
+    uint64_t offset; /* where in the file the thing begins that is refused: 0 for the header; the range's offset for symbols, relocations
+                        or strings; the offset of the string, note or bytes; for a list of headers its start, e_shoff or e_phoff, though
+                        the numbers may be about one header in it: goblin_section_alone says which, and where that one begins */
 } goblin_refusal_t;
 
-/* Some bytes of the file. A range that a call returns lies inside the file, if its struct does not say otherwise. */
+/* Some bytes of the file. A range that a call returns lies inside the file, if its struct does not say otherwise. Its size may be above
+   INT_MAX, so print it with `fwrite`: `%.*s` takes an int. */
 typedef struct {
     uint64_t offset; /* where the bytes start */
     uint64_t size;   /* how many bytes there are */
@@ -156,7 +164,7 @@ typedef struct {
 
 /* The file's header. */
 typedef struct {
-    uint64_t e_entry;     /* the address at which the program starts, or 0 */
+    uint64_t e_entry;     /* the address at which the program starts; 0 if it has none, though most libraries load a byte at 0 */
     uint64_t e_phoff;     /* the offset of the program headers, or 0 */
     uint64_t e_shoff;     /* the offset of the section headers, or 0 if there are none */
     uint32_t e_version;   /* the version of the format */
@@ -404,14 +412,14 @@ GOBLIN_CALL uint32_t goblin_segment_place(const uint8_t *bytes, size_t len, cons
    there, or only zeros that are not in the file.
    Refused as goblin_segment is. GOBLIN_BAD_OFFSET: the file has no byte at the offset. One that does not fit in 64 bits is reported as
    UINT64_MAX.
-   Example: if (goblin_address_to_offset(bytes, len, &header, header.e_entry, &value, &why) != GOBLIN_OK) return 1; */
+   Example: if (header.e_entry && goblin_address_to_offset(bytes, len, &header, header.e_entry, &value, &why) != GOBLIN_OK) return 1; */
 GOBLIN_CALL uint32_t goblin_address_to_offset(const uint8_t *bytes, size_t len, const goblin_header_t *header, uint64_t address,
                                               uint64_t *offset, goblin_refusal_t *why);
 
 /* ---- symbols ---- */
 
-/* Reads the symbol at an index of a symbol table. `table` is the range of the table, whose last symbol is the last that lies in the
-   range whole. GOBLIN_END after that one.
+/* Reads the symbol at an index of a symbol table. `table` is the range of the table. A part of a symbol at its end is ignored. GOBLIN_END
+   after the last whole symbol.
    GOBLIN_SYMTAB_OFFSET: the range starts at the end of the file or past it, even if its size is 0. GOBLIN_SYMTAB_PAST: the symbols
    end past the end of the file.
    Example: while (goblin_symbol(bytes, len, &header, &table.file, index, &symbol, &why) == GOBLIN_OK) index++; */
@@ -460,7 +468,7 @@ GOBLIN_CALL uint32_t goblin_symbol_by_address(const uint8_t *bytes, size_t len, 
    needs one for each symbol that goblin_symbol_by_address considers, so the number that goblin_symbol_count stores is always enough.
    GOBLIN_END if it has fewer; then nothing is stored. `filled` is the number of entries. They are indices of symbols, from the lowest
    st_value to the highest. Of symbols with the same st_value there are only those with a greater st_size than each before it in the
-   table, since no other one is ever found. After the entries, elements that were needed may have changed.
+   table, since no other one is ever found. Elements after the entries may have changed.
    Refused as goblin_symbol is.
    Example: goblin_address_index(bytes, len, &header, &table.file, indices, 64, &filled, &why); */
 GOBLIN_CALL uint32_t goblin_address_index(const uint8_t *bytes, size_t len, const goblin_header_t *header,
@@ -582,8 +590,8 @@ GOBLIN_CALL uint32_t goblin_number_in(const uint8_t *bytes, size_t len, const go
 
 /* ---- ranges ---- */
 
-/* Cuts a range to the file: `*part` is the part of it that is inside the file. It is the range itself if that is inside the file, and
-   has the size 0 if none of its bytes are. Cannot fail.
+/* Cuts a range to the file: `*part` is the part of it that is inside the file. It is the range itself if that is inside the file. The
+   part of a range that starts at `len` or past it has the offset `len` and the size 0; goblin_symbol refuses it. Cannot fail.
    Example: goblin_range_in_file(bytes, len, &section.file, &range); */
 void goblin_range_in_file(const uint8_t *bytes, size_t len, const goblin_range_t *range, goblin_range_t *part);
 
@@ -626,8 +634,9 @@ uint64_t goblin_visibility_to_str(uint8_t visibility, void *text, size_t capacit
    goblin's: type 3 is NT_GNU_BUILD_ID for every name but CORE.
    Example: goblin_note_type_to_str("GNU", 3, note.n_type, text, sizeof text); */
 uint64_t goblin_note_type_to_str(const void *name, size_t name_len, uint32_t n_type, void *text, size_t capacity);
-/* Writes the text of a refusal in the library's words, such as "type is too big (64) for 52". It depends on `*why` alone, which a
-   caller may fill itself: a `fourth` that means yes or no is yes unless it is 0; an `item` that is none of GOBLIN_INVALID_UTF8 and
+/* Writes the text of a refusal in the library's words, such as "type is too big (64) for 52": 64 bytes are needed, and 52 are left. For
+   goblin_note_bytes print the part (`item`), too, since the text has no word for it. The text depends on `*why` alone, which a caller
+   may fill itself: a `fourth` that means yes or no is yes unless it is 0; an `item` that is none of GOBLIN_INVALID_UTF8 and
    the like has the empty name; a `kind` that is no refusal has the empty text.
    Example: goblin_refusal_text(&why, text, sizeof text); */
 uint64_t goblin_refusal_text(const goblin_refusal_t *why, void *text, size_t capacity);
