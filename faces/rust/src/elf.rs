@@ -213,6 +213,10 @@ impl<'a> Elf<'a> {
 
     /// Returns the section headers that are inside the file, and the error of [`Elf::section_headers`] if that fails.
     ///
+    /// If [`Elf::section_headers`] fails, so does [`Elf::section_name`]. The names can be read if the header of their section is left:
+    /// [`Elf::section_header_alone`] of `e_shstrndx`, if that is not 0xffff, returns this header, and [`Elf::strtab`] of it the names.
+    /// In most files it is one of the last headers, so it is lost with the end of the list.
+    ///
     /// ```
     /// # fn main() -> Result<(), Box<dyn std::error::Error>> {
     /// # let bytes = std::fs::read(std::env::current_exe()?)?;
@@ -286,7 +290,7 @@ impl<'a> Elf<'a> {
         self.shdr_strtab()?.get(section.sh_name)
     }
 
-    /// Returns the bytes of a section, or `None` if it has none in the file.
+    /// Returns the bytes of a section, or `None` if it has none in the file: its type is `SHT_NULL` or `SHT_NOBITS`, or its size is 0.
     ///
     /// # Errors
     /// If they are not inside the file.
@@ -295,8 +299,9 @@ impl<'a> Elf<'a> {
         Ok(range.map(|range| self.file.slice(range)))
     }
 
-    /// Returns those bytes of a section that are inside the file, or `None` if the section has none in the file. If [`Elf::section_data`]
-    /// fails, there are fewer than `sh_size`.
+    /// Returns those bytes of a section that are inside the file. If [`Elf::section_data`] fails, there are fewer than `sh_size`. There
+    /// are none, `Some(&[])`, if the section starts at the end of the file or past it. Returns `None` only where [`Elf::section_data`]
+    /// does: the type is `SHT_NULL` or `SHT_NOBITS`, or the size is 0.
     ///
     /// ```
     /// # fn main() -> Result<(), Box<dyn std::error::Error>> {
@@ -313,8 +318,9 @@ impl<'a> Elf<'a> {
         self.readable(sys::goblin_c_section_bytes(&self.file, section), section.range())
     }
 
-    /// Returns those bytes of a segment that are inside the file, or `None` if the segment has none in the file. If
-    /// [`Elf::segment_data`] fails, there are fewer than `p_filesz`.
+    /// Returns those bytes of a segment that are inside the file. If [`Elf::segment_data`] fails, there are fewer than `p_filesz`. There
+    /// are none, `Some(&[])`, if the segment's bytes start at the end of the file or past it. Returns `None` only where
+    /// [`Elf::segment_data`] does: the type is `PT_NULL`, or `p_filesz` is 0.
     ///
     /// ```
     /// # fn main() -> Result<(), Box<dyn std::error::Error>> {
@@ -337,7 +343,8 @@ impl<'a> Elf<'a> {
         Some(self.file.slice(range))
     }
 
-    /// Returns the bytes of the first section with a name, or `None` if there is none, or if it has no bytes in the file.
+    /// Returns the bytes of the first section with a name, or `None` if there is none, or if [`Elf::section_data`] returns
+    /// `None` for it.
     ///
     /// ```
     /// # fn main() -> Result<(), Box<dyn std::error::Error>> {
@@ -357,7 +364,7 @@ impl<'a> Elf<'a> {
         Ok(range.map(|range| self.file.slice(range)))
     }
 
-    /// Returns the bytes of a segment, or `None` if it has none in the file.
+    /// Returns the bytes of a segment, or `None` if it has none in the file: its type is `PT_NULL`, or `p_filesz` is 0.
     ///
     /// # Errors
     /// If they are not inside the file.
@@ -400,7 +407,8 @@ impl<'a> Elf<'a> {
     /// ```
     ///
     /// # Errors
-    /// If the section is not inside the file, or the number is not inside the section.
+    /// If the section is not inside the file, or the number is not inside the section. A section of type `SHT_NOBITS` has no bytes in
+    /// the file, so no number is inside it.
     pub fn section_number(&self, section: &SectionHeader, offset: u64, width: usize) -> Result<Option<u64>> {
         sys::goblin_c_number_in(&self.file, &self.header, &section.range(), offset, width as u64)
     }
@@ -455,7 +463,8 @@ impl<'a> Elf<'a> {
         Ok(self.strtab(&names))
     }
 
-    /// Returns a section as a string table. It is empty if the section has no bytes in the file.
+    /// Returns a section as a string table. It is empty if the section's type is `SHT_NOBITS`, or its size is 0. Of the header only
+    /// `sh_type`, `sh_offset` and `sh_size` are read, so a program may make it.
     pub fn strtab(&self, section: &SectionHeader) -> Strtab<'a> {
         Strtab { file: self.file, range: section.range() }
     }
@@ -525,7 +534,7 @@ impl<'a> Elf<'a> {
     /// Returns the notes of a section. If one is damaged, [`Elf::readable_notes`] returns those before it.
     ///
     /// # Errors
-    /// If the alignment is neither 4 nor 8, a note is not inside the file, or a name is not UTF-8.
+    /// If the alignment is neither 4 nor 8, a note is not inside the file, or a name is not UTF-8. An alignment below 4 counts as 4.
     pub fn notes(&self, section: &SectionHeader) -> Result<Notes<'a>> {
         all_notes(self.readable_notes(section))
     }
@@ -533,7 +542,7 @@ impl<'a> Elf<'a> {
     /// Returns the notes of a segment. If one is damaged, [`Elf::readable_segment_notes`] returns those before it.
     ///
     /// # Errors
-    /// If the alignment is neither 4 nor 8, a note is not inside the file, or a name is not UTF-8.
+    /// If the alignment is neither 4 nor 8, a note is not inside the file, or a name is not UTF-8. An alignment below 4 counts as 4.
     pub fn segment_notes(&self, segment: &ProgramHeader) -> Result<Notes<'a>> {
         all_notes(self.readable_segment_notes(segment))
     }
@@ -564,7 +573,8 @@ impl<'a> Elf<'a> {
     /// ```
     ///
     /// # Errors
-    /// If the alignment is neither 4 nor 8, or a note is not inside the section. [`Error::item`] returns which part of it.
+    /// If the alignment is neither 4 nor 8, or a note is not inside the section and the file. An alignment below 4 counts as 4.
+    /// [`Error::item`] returns which part of the note is not inside.
     pub fn notes_bytes(&self, section: &SectionHeader) -> Result<Notes<'a, NoteBytes<'a>>> {
         all_notes(self.readable_notes_bytes(section))
     }
@@ -572,7 +582,8 @@ impl<'a> Elf<'a> {
     /// Returns the notes of a segment as bytes, as [`Elf::notes_bytes`] does for a section.
     ///
     /// # Errors
-    /// If the alignment is neither 4 nor 8, or a note is not inside the segment. [`Error::item`] returns which part of it.
+    /// If the alignment is neither 4 nor 8, or a note is not inside the segment and the file. An alignment below 4 counts as 4.
+    /// [`Error::item`] returns which part of the note is not inside.
     pub fn segment_notes_bytes(&self, segment: &ProgramHeader) -> Result<Notes<'a, NoteBytes<'a>>> {
         all_notes(self.readable_segment_notes_bytes(segment))
     }

@@ -40,14 +40,23 @@ pub type Result<T> = result::Result<T, Error>;
 pub enum Kind {
     /// The file does not start with the magic number. The first eight bytes as a little-endian number.
     BadMagic(u64),
-    /// An item ends past the end of the file.
+    /// An item ends past the end of the file. A number in a section or a segment, or a part of a note that is read as bytes, may end
+    /// past the end of the section or the segment instead. Of a list of headers the item is one header that ends past the end of the
+    /// file, while [`Error::offset`] is the list's.
     TooBig {
         /// Its size.
         size: u64,
-        /// How many bytes there are from its offset to the end of the file.
+        /// How many bytes there are from its offset to that end.
         len: u64,
     },
-    /// An item starts at the end of the file or past it, at this offset.
+    /// An item starts at the end of the file or past it, or in the cases of [`Kind::TooBig`] at the end of the section or the segment
+    /// or past it. This is its offset:
+    /// - of a number in a section or a segment: from the start of the section or the segment;
+    /// - of a part of a note: from the start of the note. But if a note that is not read as bytes starts there: from the start of the
+    ///   file;
+    /// - of any other item: from the start of the file.
+    ///
+    /// [`Error::offset`] always counts from the start of the file.
     BadOffset(u64),
     /// A name is not UTF-8.
     BadInput {
@@ -72,7 +81,7 @@ pub enum Kind {
     DataType(u8),
     /// The byte of the byte order is neither 1 nor 2, of a raw header or one that is written.
     Data(u8),
-    /// The alignment of notes is neither 4 nor 8.
+    /// The alignment of notes is neither 4 nor 8. An alignment below 4 counts as 4.
     NoteAlign(u64),
     /// A symbol table starts at the end of the file or past it.
     SymtabOffset {
@@ -197,7 +206,9 @@ impl Error {
     }
 
     /// Returns where in the file the thing begins that is refused: 0 for the header, the offset of a list of headers, of a table or of
-    /// a string table, or that of the string, the note or the bytes.
+    /// a string table, or that of the string, the note or the bytes. For a header in a list it is the list's offset. Only
+    /// [`section_header_alone`](crate::Elf::section_header_alone) and
+    /// [`program_header_alone`](crate::Elf::program_header_alone) fail with the offset of the header that is not inside the file.
     pub fn offset(&self) -> u64 {
         self.0.offset
     }

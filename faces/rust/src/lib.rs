@@ -21,9 +21,17 @@
 //! whose items have indices also have `get`.
 //!
 //! # Files that are cut
-//! The call for a whole fails if a part of it is not inside the file. [`Error::offset`] is where that part begins. The calls whose names
-//! begin with `readable_` never fail: they return what is left of headers, notes, or the bytes of a section or a segment. The example
-//! `truncated` shows them.
+//! The call for a whole fails if a part of it is not inside the file. [`Error::offset`] is where the whole begins, such as the list of
+//! headers. Of notes it is where the damaged note begins. The calls whose names begin with `readable_` never fail: they return what is
+//! left of headers, notes, or the bytes of a section or a segment. The example `truncated` shows them.
+//!
+//! `readable_section_headers().0.len()` is the index of the first header that is cut, if one is. [`Elf::section_header_alone`] of that
+//! index fails, and [`Error::offset`] is then where this header begins.
+//!
+//! # Headers that a program makes
+//! A header that a call takes need not be one of the file. [`Elf::strtab`], [`Elf::section_data`], [`Elf::section_number`] and
+//! [`Elf::relocs`] read only `sh_type`, `sh_offset` and `sh_size`. [`Elf::symtab`] also reads `sh_link`, and the calls for notes
+//! `sh_addralign`. So a string table can be read at any offset: `elf.strtab(&SectionHeader { sh_offset, sh_size, ..section })`.
 //!
 //! # Coming from goblin
 //! Here each part of the file is read on demand, which can fail, and a list is not a slice. So some lines that work with goblin don't

@@ -9,8 +9,9 @@ use crate::{raw, sys};
 use std::ops::Range;
 
 impl SectionHeader {
-    /// Returns the section's range in the file, inside the file or not, or `None` if it has no bytes there (`SHT_NOBITS`). Its end is
-    /// at most `usize::MAX`. [`Elf::section_data`] returns the bytes.
+    /// Returns the section's range in the file, inside the file or not, or `None` if its type is `SHT_NOBITS`. For any other type it is
+    /// `sh_offset` and `sh_size` as they stand, and may be empty. Its end is at most `usize::MAX`. [`Elf::section_data`] returns the
+    /// bytes.
     pub fn file_range(&self) -> Option<Range<usize>> {
         let start = self.sh_offset as usize;
         let range = start..start.saturating_add(self.sh_size as usize);

@@ -163,9 +163,17 @@ impl<'a> Symtab<'a> {
         made(place).map(Range::from)
     }
 
-    /// Returns the index of the symbol for an address: the one with the highest `st_value` that is not above the address. It may end
-    /// before the address: compare `st_value + st_size` with it, if `st_size` is not 0. `goblin_symbol_by_address` in `goblin.h` has
-    /// the whole rule. Each call reads all symbols: for many addresses use [`Symtab::address_index`].
+    /// Returns the index of the symbol for an address: the one with the highest `st_value` that is not above the address. Of those with
+    /// the same `st_value` it is the first for which `address < st_value + st_size`, or the first if there is no such symbol.
+    ///
+    /// Only symbols of a section count, whose `st_shndx` is from 1 to 0xfeff, or 0xffff (`SHN_XINDEX`). And only those of type
+    /// `STT_NOTYPE`, `STT_OBJECT`, `STT_FUNC` or `STT_GNU_IFUNC` count.
+    ///
+    /// The symbol may end before the address: compare `st_value + st_size` with it, if `st_size` is not 0. If a symbol lies inside
+    /// another one, an address after the end of the inner symbol gives the inner one, too. In a file of type `ET_REL` an `st_value` is
+    /// an offset in a section, so symbols of different sections mix.
+    ///
+    /// Each call reads all symbols: for many addresses use [`Symtab::address_index`].
     pub fn at(&self, address: u64) -> Option<usize> {
         let index = sys::goblin_c_symbol_by_address(&self.file, &self.header, &self.range, address);
         made(index).map(|index| index as usize)
