@@ -502,6 +502,18 @@ function check_addresses() {
     assert.throws(() => Elf.parse(own.subarray(0, 64)).address_to_offset(0), is_refusal(Kind.BUFFER_TOO_SHORT));
 }
 
+// The type of the file is at offset 16, and the address of its entry at 24 (the files for this machine are little endian).
+function check_header() {
+    assert.equal(Elf.parse(own).entry(), own.readBigUInt64LE(24));
+    for (const [type, is_lib] of [[1, false], [2, false], [3, true], [4, false], [0x300, false]]) {
+        const copy = Buffer.from(own);
+        copy.writeUInt16LE(type, 16);
+        copy.writeBigUInt64LE(END, 24);
+        const elf = Elf.parse(copy);
+        assert.deepEqual([elf.is_lib(), elf.entry()], [is_lib, END]);
+    }
+}
+
 function check_names() {
     const content = elf_file({ sections: ['a', 'b', 'a', 'a'].map((name, index) => ({ name, type: 1, bytes: Buffer.from([index]) })) });
     const elf = Elf.parse(content);
@@ -711,6 +723,7 @@ const tested = [
     check_address_index(), check_declarations(),
 ];
 check_arguments();
+check_header();
 check_readable_data();
 check_numbers_in();
 check_addresses();

@@ -20,7 +20,7 @@
  * ```
  */
 import {
-    PT_DYNAMIC, PT_GNU_EH_FRAME, PT_GNU_RELRO, PT_GNU_STACK, PT_LOAD, PT_NOTE, PT_PHDR, PT_TLS, SHF_ALLOC, SHF_TLS, SHT_DYNSYM,
+    ET_DYN, PT_DYNAMIC, PT_GNU_EH_FRAME, PT_GNU_RELRO, PT_GNU_STACK, PT_LOAD, PT_NOTE, PT_PHDR, PT_TLS, SHF_ALLOC, SHF_TLS, SHT_DYNSYM,
     SHT_NOBITS, SHT_NOTE, SHT_REL, SHT_RELA, SHT_SYMTAB, VERSION,
 } from './constants.js';
 
@@ -490,6 +490,18 @@ export class Elf {
      * @returns {boolean}
      */
     little_endian() { return this.header.ei_data !== 2; }
+
+    /**
+     * Returns the address at which the program starts, or 0.
+     * @returns {bigint}
+     */
+    entry() { return this.header.e_entry; }
+
+    /**
+     * Reports whether the file's type is ET_DYN, which shared libraries and position-independent programs have.
+     * @returns {boolean}
+     */
+    is_lib() { return this.header.e_type === ET_DYN; }
 
     /**
      * Returns the program header at an index, or `undefined` past the end.

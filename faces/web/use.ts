@@ -5,6 +5,7 @@ import init, { AddressIndex, Elf, GoblinError, Kind, List, Range, SectionHeader,
 export async function main(bytes: ArrayBuffer, view: Uint16Array): Promise<string[]> {
     await init();
     const elf: Elf = Elf.parse(bytes), lines: string[] = [Elf.parse(view).is_64() ? '64' : '32'];
+    lines.push(elf.is_lib() ? 'a library' : `from ${elf.entry() + 0n} on`);
     const sections: List<SectionHeader> = elf.section_headers();
     const names: (string | undefined)[] = sections.map((section) => elf.section_name(section));
     const loaded: SectionHeader[] = sections.filter(({ sh_flags }) => (sh_flags & SHF_ALLOC) !== 0n);
