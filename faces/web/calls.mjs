@@ -19,6 +19,8 @@ const note_bytes = Buffer.concat(NOTES.map(([name, type, desc]) => note(name, ty
 const noted = elf_file({ sections: [{ name: '.note', type: 7, bytes: note_bytes }], segments: [{ type: 4, bytes: note_bytes }] });
 files.push(noted);
 
+const WITHOUT_EXPORTS = Uint8Array.of(0, 0x61, 0x73, 0x6d, 1, 0, 0, 0);
+
 const is_refusal = (kind) => (error) => error instanceof GoblinError && (kind === undefined || error.kind === kind);
 
 // ---- engines ----
@@ -31,6 +33,46 @@ async function check_missing_memories() {
     const words = ['memory64', '--experimental-wasm-memory64', 'Chromium 133', 'Firefox 134', 'Node.js 24'];
     await assert.rejects(goblin.default(), ({ message }) => words.every((word) => message.includes(word)));
     WebAssembly.validate = validate;
+}
+
+// ---- modules ----
+
+// Returns a module with another name for one of its exports. Sections begin with a number and their size, whose bytes have seven bits each.
+function without(module, name) {
+    const copy = Buffer.from(module);
+    for (let at = 8, size; at < copy.length; at += size) {
+        const section = copy[at++];
+        size = 0;
+        for (let shift = 0, more = true; more; shift += 7) {
+            size += (copy[at] & 0x7f) * 2 ** shift;
+            more = copy[at++] >= 0x80;
+        }
+        if (section !== 7) continue;
+        const found = copy.subarray(at, at + size).indexOf(Buffer.from([name.length, ...Buffer.from(name)]));
+        assert.ok(found > 0, name);
+        copy[at + found + 1] = 0x78;
+    }
+    return copy;
+}
+
+// A module of another interface or without an export is not accepted, and does not replace one that is loaded.
+async function check_modules() {
+    const module = readFileSync(join(web, 'goblin_c.wasm')), exported = WebAssembly.Module.exports(new WebAssembly.Module(module));
+    const refused = async (source, words) => {
+        await assert.rejects(goblin.default(source), ({ message }) => message.includes(words));
+        assert.throws(() => Elf.parse(own), /not ready/);
+    };
+    for (const { name } of exported) await refused(without(module, name), name === 'goblin_version' ? 'none' : `no ${name}:`);
+    // (a function that returns a number, with the name goblin_version)
+    const version = (number) => Uint8Array.of(0, 0x61, 0x73, 0x6d, 1, 0, 0, 0, 1, 5, 1, 0x60, 0, 1, 0x7f, 3, 2, 1, 0, 7, 18, 1, 14,
+        ...Buffer.from('goblin_version'), 0, 0, 10, 6, 1, 4, 0, 0x41, number, 0x0b);
+    await refused(version(goblin.VERSION + 1), `for interface ${goblin.VERSION}, but the module has ${goblin.VERSION + 1}:`);
+    await refused(version(goblin.VERSION), 'no memory, __heap_base, goblin_layout,');
+    await refused(WITHOUT_EXPORTS, 'none');
+    await goblin.default(new WebAssembly.Module(module));
+    await assert.rejects(goblin.default(WITHOUT_EXPORTS));
+    assert.equal(Elf.parse(own).section_headers().length, own.readUInt16LE(60));
+    return `${exported.length} exports`;
 }
 
 // ---- types of bytes ----
@@ -717,8 +759,10 @@ function check_package() {
 }
 
 await check_missing_memories();
+const modules = await check_modules();
 await goblin.default();
 const tested = [
+    modules,
     check_bytes(), check_lists(), check_readable_headers(), check_places(), check_moved_sections(), check_linked_sections(), check_types_of_sections(), check_notes(), check_json(), await check_constants(),
     check_address_index(), check_declarations(),
 ];

@@ -259,19 +259,40 @@ function ready(made) {
     return made;
 }
 
+// What this file uses of the module: its memory, where its own data ends, and the calls of `goblin.h`, all of which begin with `goblin_`.
+const EXPORTS = ['memory', '__heap_base', ...`
+    version layout range_in_file refusal_text class_to_str et_to_str machine_to_str pt_to_str sht_to_str shf_to_str bind_to_str
+    type_to_str visibility_to_str note_type_to_str c_header c_number c_number_in c_string c_string_bytes c_string_is c_string_starts
+    c_section_count c_section c_section_alone c_whole_sections c_section_place c_sections c_linked_section c_section_names
+    c_section_by_name c_section_by_type c_section_bytes c_bytes_by_name
+    c_segment_count c_segment c_segment_alone c_whole_segments c_segment_place c_segment_bytes c_address_to_offset
+    c_symbol_count c_symbol c_symbol_place c_symbols c_symbol_by_name c_symbol_by_address c_address_index c_symbol_by_address_in
+    c_reloc_count c_reloc c_relocs c_note c_note_bytes
+`.trim().split(/\s+/).map((name) => `goblin_${name}`)];
+
+// Throws if a module is not one for this file.
+function check(module) {
+    const both = 'take goblin.js and goblin_c.wasm of one version';
+    const version = new WebAssembly.Instance(module, {}).exports.goblin_version?.();
+    if (version !== VERSION) throw new Error(`goblin.js is for interface ${VERSION}, but the module has ${version ?? 'none'}: ${both}`);
+    const exported = new Set(WebAssembly.Module.exports(module).map(({ name }) => name));
+    const missing = EXPORTS.filter((name) => !exported.has(name));
+    if (missing.length > 0) throw new Error(`the module has no ${missing.join(', ')}: ${both}`);
+}
+
 /**
- * Loads the library, which all calls of this file need. Rejects if the engine has no 64-bit memories, or if the module has another
- * interface than this file.
+ * Loads the library, which all calls of this file need. Rejects if the engine has no 64-bit memories, if the module can't be loaded, or
+ * if it has another interface than this file or lacks a call. If it rejects, a module that was loaded before stays in use.
  * @param {URL | BufferSource | WebAssembly.Module} [source] the module, its bytes or its URL, by default in the folder of this file
  * @returns {Promise<void>}
  */
 export default async function init(source = new URL('goblin_c.wasm', import.meta.url)) {
     if (!WebAssembly.validate(WITH_MEMORY)) throw new Error(WITHOUT_MEMORY);
     const content = source instanceof URL ? await load(source) : source;
-    compiled = content instanceof WebAssembly.Module ? content : await WebAssembly.compile(content);
+    const module = content instanceof WebAssembly.Module ? content : await WebAssembly.compile(content);
+    check(module);
+    compiled = module;
     shared = new Memory(new Uint8Array(0));
-    const version = shared.calls.goblin_version();
-    if (version !== VERSION) throw new Error(`goblin.js is for interface ${VERSION}, but the module has ${version}: take both of one version`);
 }
 
 async function load(url) {
