@@ -176,7 +176,7 @@ def interface():
 
 def js_file():
     text = f"""// The constants of goblin's ELF layer; goblin.js exports them all. The flags and the indices of sections are BigInts, as the fields
-// that hold them are: `sh_flags` and `st_shndx`.
+// that hold them are: `sh_flags` and `st_shndx`. But `e_shstrndx` is a Number: compare it with `Number(SHN_XINDEX)`.
 // {MADE}
 
 /** The number of the interface: `GOBLIN_VERSION` of `goblin.h`. */

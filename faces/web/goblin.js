@@ -3,10 +3,23 @@
  * module with a 64-bit memory and no imports.
  *
  * `Elf.parse` copies a file's bytes into a memory of its own and reads its header. Everything else is read on demand. The library's
- * results are proved, and this file passes them on. Names are goblin's for everything that goblin has.
+ * results are proved, and this file passes them on.
  *
+ * Names are goblin's for what goblin has, and most others are those of the crate `goblin_rs`. Other names than in Rust:
+ * - `by_name(name)` of a symbol table is `find` in Rust. Here `find` of a list takes a function, as that of an array does.
+ * - `by_address(address)` of a symbol table is `at` in Rust. Here `at` of a list takes an index, as that of an array does. `at` of an
+ *   `AddressIndex` takes an address in both.
+ * - `segment_holds(segment, section)` is `ProgramHeader::holds` in Rust, `note_type_to_str(note)` is `Note::type_to_str`, and
+ *   `GoblinError` is `Error`.
+ *
+ * Numbers, items and errors:
  * - A number that has 64 bits in `goblin.h` is always a BigInt, whatever its value. Every other number is a Number. Bytes are copies
- *   of the file's.
+ *   of the file's. The flags SHF_ and the indices SHN_ are BigInts, as `sh_flags` and `st_shndx` are. Other numbers among the constants
+ *   are Numbers, so `e_shstrndx === SHN_XINDEX` is always false: write `e_shstrndx === Number(SHN_XINDEX)`.
+ * - An index, an offset or an address that a call takes is a Number or a BigInt. It must be a whole number from 0 to 2^64 - 1, or the
+ *   call throws a `RangeError`. Only `at` of a list takes other Numbers, as that of an array does. The sum of two numbers of a file may
+ *   be too large: `BigInt.asUintN(64, sum)` wraps it around, as a sum of two `uint64_t` in C does.
+ * - A header that a call takes need not be one of the file: `{ ...section, sh_offset, sh_size }` is one, too.
  * - Items are plain objects. JSON has no BigInts and no bytes, so `JSON.stringify` writes a BigInt as a string of its decimal
  *   digits, which `BigInt` reads back, and bytes as a string of hexadecimal digits. For an object that is made from an item, such as
  *   `{ ...section }`, pass `json`, too: `JSON.stringify({ ...section }, json)`.
@@ -27,8 +40,29 @@ import {
 export * from './constants.js';
 
 /**
- * The kinds of refusals, as in `goblin.h`. `SECTION_TYPE` is this file's own: a section was read as symbols or relocations, and has
- * another type.
+ * The kinds of refusals, as in `goblin.h`, each with the `numbers` of its error:
+ * - `BAD_MAGIC`: the file does not start with the magic number. `[first eight bytes as a little-endian number]`
+ * - `TOO_BIG`: an item ends past the end of the file. `[its size, how many bytes there are from its offset to that end]`. A number in a
+ *   section or a segment, or a part of a note that is read as bytes, may end past the end of the section or the segment instead. Of a
+ *   list of headers the item is one header that ends past the end of the file, while `offset` is the list's.
+ * - `BAD_OFFSET`: an item starts at the end of the file or past it, or in the cases of `TOO_BIG` at the end of the section or the segment
+ *   or past it. `[its offset]`: of a number in a section or a segment from the start of the section or the segment; of a part of a note
+ *   from the start of the note, but if a note that is not read as bytes starts there, from the start of the file; of any other item from
+ *   the start of the file.
+ * - `BAD_INPUT`: a name is not UTF-8. `[how many bytes there are from its offset to the end of what is read]`
+ * - `BUFFER_TOO_SHORT`: there are more headers than the file could hold. `[their number]`
+ * - `TOO_SMALL`: the file has fewer than 16 bytes.
+ * - `ELF_CLASS`: the class byte is neither 1 nor 2. `[the byte]`
+ * - `DATA_TYPE`: the byte of the byte order is neither 1 nor 2. `[the byte]`
+ * - `NOTE_ALIGN`: the alignment of notes is neither 4 nor 8. An alignment below 4 counts as 4. `[the alignment]`
+ * - `SYMTAB_OFFSET`: a symbol table starts at the end of the file or past it. `[its offset, the file's length]`
+ * - `SYMTAB_PAST`: a symbol table ends past the end of the file. `[its size, how many bytes there are from its offset to the end]`
+ * - `STRTAB_OFFSET`: a string table starts past the end of the file. `[its offset, the file's length]`
+ * - `STRTAB_RANGE`: a string table ends past the end of the file. `[its size, its offset, the file's length, 1 if its end does not fit
+ *   in 64 bits, else 0]`
+ * - `SECTION_TYPE`: a section was read as symbols or relocations, and has another type. `[its type]`. This kind is this file's own.
+ *
+ * No call throws one of the others so far.
  */
 export const Kind = Object.freeze({
     BAD_MAGIC: 2, TOO_BIG: 3, BAD_OFFSET: 4, BAD_INPUT: 5, BUFFER_TOO_SHORT: 6, OUT_OF_MEMORY: 7, INVALID_CLASS: 10,
@@ -37,7 +71,12 @@ export const Kind = Object.freeze({
     INTEGER_FIT: 24, SECTION_TYPE: 0xffffffff,
 });
 
-/** What errors are about, if the kind alone does not say it: the numbers of `item`, as in `goblin.h`. */
+/**
+ * What errors are about, if the kind alone does not say it: the numbers of `item`, as in `goblin.h`.
+ * - `INVALID_UTF8`: a name that is not UTF-8, of `BAD_INPUT`
+ * - `SECTION_HEADERS`, `PROGRAM_HEADERS`: the headers, of `BUFFER_TOO_SHORT`
+ * - `NOTE_HEADER`, `NOTE_NAME`, `NOTE_DESC`: the part of a note that is read as bytes, of `TOO_BIG` and `BAD_OFFSET`
+ */
 export const Item = Object.freeze({
     INVALID_UTF8: 1, SECTION_HEADERS: 2, PROGRAM_HEADERS: 3, NOTE_HEADER: 4, NOTE_NAME: 5, NOTE_DESC: 6,
 });
@@ -57,7 +96,8 @@ export const Item = Object.freeze({
  * @property {number} e_phnum the number of program headers
  * @property {number} e_shentsize the size of a section header that the file states
  * @property {number} e_shnum the number of section headers; if it is 0, the first section's `sh_size` has the number
- * @property {number} e_shstrndx the index of the section that holds the section names
+ * @property {number} e_shstrndx the index of the section that holds the section names, or 0xffff if the first section's `sh_link` has the
+ *   index; compare it with `Number(SHN_XINDEX)`, since `SHN_XINDEX` is a BigInt
  * @property {number} ei_class 2 for 64 bits, 1 for 32
  * @property {number} ei_data 2 for big endian, 1 for little endian
  * @property {number} ei_version the version of the format once more
@@ -439,9 +479,13 @@ export class GoblinError extends Error {
         this.kind = kind;
         /** @type {number} what it is about, a number of `Item`, or 0 if its kind alone says it */
         this.item = item;
-        /** @type {bigint[]} the four numbers that belong to it, as in `goblin.h`; those that it does not have are 0 */
+        /** @type {bigint[]} the four numbers that belong to it, in the order that `Kind` lists; those that it does not have are 0 */
         this.numbers = [first, second, third, fourth];
-        /** @type {bigint} where in the file the thing begins that is refused */
+        /**
+         * @type {bigint} where in the file the thing begins that is refused: 0 for the header; the offset of a list of headers, even if one
+         *   header in it is refused; that header's own for `section_header_alone` and `program_header_alone`; the offset of a table, of a
+         *   string table, or of the string, the note or the bytes
+         */
         this.offset = offset;
     }
 
@@ -525,7 +569,7 @@ export class Elf {
     is_lib() { return this.header.e_type === ET_DYN; }
 
     /**
-     * Returns the program header at an index, or `undefined` past the end.
+     * Returns the program header at an index, or `undefined` past the end. Throws if the program headers are not inside the file.
      * @param {number | bigint} index
      * @returns {ProgramHeader | undefined}
      */
@@ -541,14 +585,15 @@ export class Elf {
 
     /**
      * Returns the range of the program header at an index, or `undefined` past the end. With it a field can be changed in a buffer, in the
-     * file's byte order.
+     * file's byte order. Throws as `program_header` does.
      * @param {number | bigint} index
      * @returns {Range | undefined}
      */
     program_header_place(index) { return this.#call('goblin_c_segment_place', 'range', unsigned(index, 64)); }
 
     /**
-     * Returns all program headers. If they end past the end of the file, `readable_program_headers` returns those inside it.
+     * Returns all program headers. Throws if they are not inside the file. If they end past its end, `readable_program_headers` returns
+     * those inside it.
      * @returns {List<ProgramHeader>}
      */
     program_headers() { return new List(this.#memory, 'segment', [], { has_many: false }); }
@@ -563,7 +608,7 @@ export class Elf {
     }
 
     /**
-     * Returns the section header at an index, or `undefined` past the end.
+     * Returns the section header at an index, or `undefined` past the end. Throws if the section headers are not inside the file.
      * @param {number | bigint} index
      * @returns {SectionHeader | undefined}
      */
@@ -578,8 +623,8 @@ export class Elf {
     section_header_alone(index) { return this.#call('goblin_c_section_alone', 'section', unsigned(index, 64)); }
 
     /**
-     * Returns the range of the section header at an index, or `undefined` past the end. With it a field can be changed in a buffer, in the
-     * file's byte order:
+     * Returns the range of the section header at an index, or `undefined` past the end. Throws as `section_header` does. With the range a
+     * field can be changed in a buffer, in the file's byte order:
      *
      * ```js
      * const { offset } = elf.section_header_place(1), view = new DataView(buffer);
@@ -592,13 +637,19 @@ export class Elf {
     section_header_place(index) { return this.#call('goblin_c_section_place', 'range', unsigned(index, 64)); }
 
     /**
-     * Returns all section headers. If they end past the end of the file, `readable_section_headers` returns those inside it.
+     * Returns all section headers. Throws if they are not inside the file. If they end past its end, `readable_section_headers` returns
+     * those inside it.
      * @returns {List<SectionHeader>}
      */
     section_headers() { return new List(this.#memory, 'section', []); }
 
     /**
-     * Returns the section headers that are inside the file, and the error of `section_headers` if that throws.
+     * Returns the section headers that are inside the file, and the error of `section_headers` if that throws. Then `sections.length` is
+     * the index of the first header that is cut, and `section_header_alone` of that index throws an error with the header's own offset.
+     *
+     * If `section_headers` throws, so does `section_name`. The names can be read if the header of their section is left:
+     * `section_header_alone` of `e_shstrndx`, if that is not 0xffff, returns this header, and `strtab` of it the names. In most files it is
+     * one of the last headers, so it is lost with the end of the list.
      *
      * ```js
      * const { sections, refusal } = Elf.parse(cut).readable_section_headers();
@@ -612,14 +663,14 @@ export class Elf {
     }
 
     /**
-     * Returns the first section with a name, if there is one.
+     * Returns the first section with a name, if there is one. Throws if the section headers or their names are not inside the file.
      * @param {string} name
      * @returns {SectionHeader | undefined}
      */
     section(name) { return this.#section_at(this.section_by_name(name)); }
 
     /**
-     * Returns the index of the first section with a name, from an index on, if there is one:
+     * Returns the index of the first section with a name, from an index on, if there is one. Throws as `section` does.
      *
      * ```js
      * for (let i = elf.section_by_name('.group'); i !== undefined; i = elf.section_by_name('.group', i + 1)) console.log(i);
@@ -633,7 +684,8 @@ export class Elf {
     }
 
     /**
-     * Returns the index of the first section of a type, an SHT_ number, from an index on, if there is one.
+     * Returns the index of the first section of a type, an SHT_ number, from an index on, if there is one. Throws if the section headers
+     * are not inside the file.
      * @param {number} sh_type
      * @param {number | bigint} [first]
      * @returns {number | undefined}
@@ -645,14 +697,16 @@ export class Elf {
     #section_at(index) { return index === undefined ? undefined : this.section_header(index); }
 
     /**
-     * Returns the name of a section, or `undefined` if its offset is past the end of the section names. Throws if it is not UTF-8.
+     * Returns the name of a section, or `undefined` if its offset is past the end of the section names. Throws if the section headers or
+     * their names are not inside the file, or the name is not UTF-8.
      * @param {SectionHeader} section
      * @returns {string | undefined}
      */
     section_name(section) { return this.shdr_strtab().get(section.sh_name); }
 
     /**
-     * Returns the range of a section's bytes, or `undefined` if it has none in the file.
+     * Returns the range of a section's bytes, or `undefined` if it has none in the file: its type is SHT_NULL or SHT_NOBITS, or its size
+     * is 0. Throws if the bytes are not inside the file. It needs all fields of a header that a program makes.
      * @param {SectionHeader} section
      * @returns {Range | undefined}
      */
@@ -661,7 +715,8 @@ export class Elf {
     }
 
     /**
-     * Returns the range of a segment's bytes, or `undefined` if it has none in the file.
+     * Returns the range of a segment's bytes, or `undefined` if it has none in the file: its type is PT_NULL, or `p_filesz` is 0. Throws if
+     * the bytes are not inside the file. It needs all fields of a header that a program makes.
      * @param {ProgramHeader} segment
      * @returns {Range | undefined}
      */
@@ -670,7 +725,8 @@ export class Elf {
     }
 
     /**
-     * Returns the bytes of a section, or `undefined` if it has none in the file.
+     * Returns the bytes of a section, or `undefined` if it has none in the file: its type is SHT_NULL or SHT_NOBITS, or its size is 0.
+     * Throws if they are not inside the file. It needs all fields of a header that a program makes.
      * @param {SectionHeader} section
      * @returns {Uint8Array | undefined}
      */
@@ -680,7 +736,8 @@ export class Elf {
     }
 
     /**
-     * Returns the bytes of the first section with a name, or `undefined` if there is none, or if it has no bytes in the file.
+     * Returns the bytes of the first section with a name, or `undefined` if there is none, or if `section_data` returns `undefined` for
+     * it. Throws if the section headers, their names or the bytes are not inside the file.
      *
      * ```js
      * const comment = elf.section_data_by_name('.comment');
@@ -694,7 +751,8 @@ export class Elf {
     }
 
     /**
-     * Returns the bytes of a segment, or `undefined` if it has none in the file.
+     * Returns the bytes of a segment, or `undefined` if it has none in the file: its type is PT_NULL, or `p_filesz` is 0. Throws if they are
+     * not inside the file. It needs all fields of a header that a program makes.
      * @param {ProgramHeader} segment
      * @returns {Uint8Array | undefined}
      */
@@ -704,8 +762,9 @@ export class Elf {
     }
 
     /**
-     * Returns those bytes of a section that are inside the file, or `undefined` if the section has none in the file. If `section_data`
-     * throws, there are fewer than `sh_size`:
+     * Returns those bytes of a section that are inside the file. Their number is 0 if the section starts at the end of the file or past it.
+     * Returns `undefined` only where `section_data` does: the type is SHT_NULL or SHT_NOBITS, or the size is 0. If `section_data` throws a
+     * `GoblinError`, there are fewer bytes than `sh_size`:
      *
      * ```js
      * const left = elf.readable_section_data(section);
@@ -717,8 +776,9 @@ export class Elf {
     readable_section_data(section) { return this.#readable_data(() => this.section_range(section), range_of(section)); }
 
     /**
-     * Returns those bytes of a segment that are inside the file, or `undefined` if the segment has none in the file. If `segment_data`
-     * throws, there are fewer than `p_filesz`.
+     * Returns those bytes of a segment that are inside the file. Their number is 0 if the segment's bytes start at the end of the file or
+     * past it. Returns `undefined` only where `segment_data` does: the type is PT_NULL, or `p_filesz` is 0. If `segment_data` throws a
+     * `GoblinError`, there are fewer bytes than `p_filesz`.
      * @param {ProgramHeader} segment
      * @returns {Uint8Array | undefined}
      */
@@ -732,15 +792,15 @@ export class Elf {
 
     /**
      * Returns the sections of a segment, in the sense of `segment_holds`. The section header at index 0, which means no section, is
-     * left out.
+     * left out. Throws if the section headers are not inside the file.
      * @param {ProgramHeader} segment
      * @returns {SectionHeader[]}
      */
     segment_sections(segment) { return [...this.section_headers().from(1)].filter((section) => segment_holds(segment, section)); }
 
     /**
-     * Returns the number in `width` bytes at an offset of the file, in the file's byte order. Throws a `RangeError` if the width is not
-     * 1, 2, 4 or 8.
+     * Returns the number in `width` bytes at an offset of the file, in the file's byte order. Throws if the bytes are not inside the file,
+     * and a `RangeError` if the width is not 1, 2, 4 or 8.
      * @param {number | bigint} offset
      * @param {1 | 2 | 4 | 8} width
      * @returns {bigint}
@@ -749,7 +809,9 @@ export class Elf {
 
     /**
      * Returns the number in `width` bytes at an offset of a section, in the file's byte order. The offset counts from the section's start.
-     * Throws a `RangeError` if the width is not 1, 2, 4 or 8.
+     * Throws if the section is not inside the file, or the number is not inside the section. A section of type SHT_NOBITS has no bytes in
+     * the file, so no number is inside it. Throws a `RangeError` if the width is not 1, 2, 4 or 8. Of the header only `sh_type`,
+     * `sh_offset` and `sh_size` are read.
      *
      * ```js
      * const first_word = elf.section_number(section, 0, 4);
@@ -763,7 +825,8 @@ export class Elf {
 
     /**
      * Returns the number in `width` bytes at an offset of a segment's bytes in the file, in the file's byte order. The offset counts from
-     * the segment's start. Throws a `RangeError` if the width is not 1, 2, 4 or 8.
+     * the segment's start. Throws if the segment's bytes are not inside the file, or the number is not inside them, and a `RangeError` if
+     * the width is not 1, 2, 4 or 8. Of the header only `p_offset` and `p_filesz` are read.
      * @param {ProgramHeader} segment
      * @param {number | bigint} offset
      * @param {1 | 2 | 4 | 8} width
@@ -778,7 +841,8 @@ export class Elf {
 
     /**
      * Returns the offset in the file of the byte that is loaded at an address, or `undefined` if no byte of the file is loaded there. It is
-     * that of the first segment of type PT_LOAD for which `p_vaddr <= address < p_vaddr + p_filesz`.
+     * that of the first segment of type PT_LOAD for which `p_vaddr <= address < p_vaddr + p_filesz`. Throws if the program headers are not
+     * inside the file, or the file has no byte at that offset.
      *
      * ```js
      * const start = elf.address_to_offset(elf.header.e_entry);
@@ -789,13 +853,15 @@ export class Elf {
     address_to_offset(address) { return this.#call('goblin_c_address_to_offset', 'number', unsigned(address, 64))?.value; }
 
     /**
-     * Returns the string table of the section names. It is empty if the file has none.
+     * Returns the string table of the section names. It is empty if the file has none: the index of its section is 0 or past the end, or
+     * that section has no bytes in the file. Throws if the section headers are not inside the file.
      * @returns {Strtab}
      */
     shdr_strtab() { return new Strtab(this.#memory, range_of(this.#call('goblin_c_section_names', 'section'))); }
 
     /**
-     * Returns a section as a string table. It is empty if there is no section, or if it has no bytes in the file.
+     * Returns a section as a string table. It is empty if there is no section, if its type is SHT_NOBITS, or if its size is 0. Of the
+     * header only `sh_type`, `sh_offset` and `sh_size` are read.
      * @param {SectionHeader | undefined} section
      * @returns {Strtab}
      */
@@ -803,7 +869,8 @@ export class Elf {
 
     /**
      * Returns the section that a section links to by its `sh_link`, such as the string table of a symbol table. Returns `undefined` if
-     * `sh_link` is 0 or past the end, or that section has no bytes in the file (SHT_NOBITS).
+     * `sh_link` is 0 or past the end, or that section has no bytes in the file (SHT_NOBITS). Throws if the section headers are not inside
+     * the file.
      * @param {SectionHeader} section
      * @returns {SectionHeader | undefined}
      */
@@ -811,7 +878,8 @@ export class Elf {
 
     /**
      * Returns the symbols of a section of type SHT_SYMTAB or SHT_DYNSYM. Their names are in the linked section (`linked_section`). If there
-     * is none, the string table is empty. Throws if the section has another type.
+     * is none, the string table is empty. Throws if the section has another type, or the section headers or the symbols are not inside the
+     * file.
      * @param {SectionHeader} section
      * @returns {Symtab}
      */
@@ -821,13 +889,13 @@ export class Elf {
     }
 
     /**
-     * Returns the first symbol table (SHT_SYMTAB), if there is one.
+     * Returns the first symbol table (SHT_SYMTAB), if there is one. Throws if the section headers or the symbols are not inside the file.
      * @returns {Symtab | undefined}
      */
     syms() { return this.#first_symtab(SHT_SYMTAB); }
 
     /**
-     * Returns the first symbol table for dynamic linking (SHT_DYNSYM), if there is one.
+     * Returns the first symbol table for dynamic linking (SHT_DYNSYM), if there is one. Throws as `syms` does.
      * @returns {Symtab | undefined}
      */
     dynsyms() { return this.#first_symtab(SHT_DYNSYM); }
@@ -838,7 +906,8 @@ export class Elf {
     }
 
     /**
-     * Returns the relocations of a section of type SHT_RELA or SHT_REL. Throws if the section has another type.
+     * Returns the relocations of a section of type SHT_RELA or SHT_REL. Throws if the section has another type, or the relocations are not
+     * inside the file.
      * @param {SectionHeader} section
      * @returns {List<Reloc>}
      */
@@ -848,20 +917,22 @@ export class Elf {
     }
 
     /**
-     * Returns all relocation sections, each with its relocations. If one is damaged, `relocs` reads the others.
+     * Returns all relocation sections, each with its relocations. Throws if the section headers or the relocations of any section are not
+     * inside the file. If one section is damaged, `relocs` reads the others.
      * @returns {[SectionHeader, List<Reloc>][]}
      */
     shdr_relocs() { return this.section_headers().filter(holds_relocs).map((section) => [section, this.relocs(section)]); }
 
     /**
-     * Returns the notes of a section. If one is damaged, `readable_notes` returns those before it.
+     * Returns the notes of a section. Throws if the alignment is neither 4 nor 8, a note is not inside the file, or a name is not UTF-8. An
+     * alignment below 4 counts as 4. If a note is damaged, `readable_notes` returns those before it.
      * @param {SectionHeader} section
      * @returns {Note[]}
      */
     notes(section) { return all_notes(this.readable_notes(section)); }
 
     /**
-     * Returns the notes of a segment. If one is damaged, `readable_segment_notes` returns those before it.
+     * Returns the notes of a segment. Throws as `notes` does. If a note is damaged, `readable_segment_notes` returns those before it.
      * @param {ProgramHeader} segment
      * @returns {Note[]}
      */
@@ -886,8 +957,9 @@ export class Elf {
     }
 
     /**
-     * Returns the notes of a section as bytes, so that names need not be UTF-8. Each note must be inside the section. If one is damaged,
-     * `readable_notes_bytes` returns those before it:
+     * Returns the notes of a section as bytes, so that names need not be UTF-8. Throws if the alignment is neither 4 nor 8, or a note is not
+     * inside the section and the file: `item` of the error is the part of it that is not. An alignment below 4 counts as 4. If a note is
+     * damaged, `readable_notes_bytes` returns those before it:
      *
      * ```js
      * const decoder = new TextDecoder('latin1');
@@ -899,7 +971,7 @@ export class Elf {
     notes_bytes(section) { return all_notes(this.readable_notes_bytes(section)); }
 
     /**
-     * Returns the notes of a segment as bytes, as `notes_bytes` does for a section.
+     * Returns the notes of a segment as bytes, as `notes_bytes` does for a section, and throws as that does.
      * @param {ProgramHeader} segment
      * @returns {NoteBytes[]}
      */
@@ -939,7 +1011,8 @@ export class Elf {
     }
 
     /**
-     * Returns the notes of all segments of type PT_NOTE.
+     * Returns the notes of all segments of type PT_NOTE. Throws if the program headers are not inside the file, or a note of any of these
+     * segments is damaged.
      * @returns {Note[]}
      */
     iter_note_headers() {
@@ -947,7 +1020,8 @@ export class Elf {
     }
 
     /**
-     * Returns the notes of all sections of type SHT_NOTE.
+     * Returns the notes of all sections of type SHT_NOTE. Throws if the section headers are not inside the file, or a note of any of these
+     * sections is damaged.
      * @returns {Note[]}
      */
     iter_note_sections() {
@@ -1199,7 +1273,8 @@ export class Symtab extends List {
     }
 
     /**
-     * Returns the name of a symbol, or `undefined` if its offset is past the end of the string table. Throws if it is not UTF-8.
+     * Returns the name of a symbol, or `undefined` if its offset is past the end of the string table. Throws if that table is not inside
+     * the file, or the name is not UTF-8.
      * @param {Sym} symbol
      * @returns {string | undefined}
      */
@@ -1207,13 +1282,14 @@ export class Symtab extends List {
 
     /**
      * Returns the bytes of a symbol's name, which need not be UTF-8, or `undefined` if its offset is past the end of the string table.
+     * Throws if that table is not inside the file.
      * @param {Sym} symbol
      * @returns {Uint8Array | undefined}
      */
     name_bytes(symbol) { return this.strtab.get_bytes(symbol.st_name); }
 
     /**
-     * Reports whether the name of a symbol is a text, a string or bytes, as `is` of the string table does.
+     * Reports whether the name of a symbol is a text, a string or bytes, as `is` of the string table does. Throws as that does.
      *
      * ```js
      * const main = symbols.find((symbol) => symbols.name_is(symbol, 'main'));
@@ -1237,8 +1313,17 @@ export class Symtab extends List {
 
     /**
      * Returns the index of the symbol for an address, if there is one: the one with the highest `st_value` that is not above the
-     * address. It may end before the address: compare `st_value + st_size` with it, if `st_size` is not 0. `goblin_symbol_by_address`
-     * in `goblin.h` has the whole rule. Each call reads all symbols: for many addresses use `address_index`.
+     * address. Of those with the same `st_value` it is the first for which `address < st_value + st_size`, or the first if there is no
+     * such symbol.
+     *
+     * Only symbols of a section count, whose `st_shndx` is from 1 to 0xfeff, or 0xffff (SHN_XINDEX). And only those of type STT_NOTYPE,
+     * STT_OBJECT, STT_FUNC or STT_GNU_IFUNC count.
+     *
+     * The symbol may end before the address: compare `st_value + st_size` with it, if `st_size` is not 0. If a symbol lies inside another
+     * one, an address after the end of the inner symbol gives the inner one, too. In a file of type ET_REL an `st_value` is an offset in a
+     * section, so symbols of different sections mix.
+     *
+     * Each call reads all symbols: for many addresses use `address_index`.
      * @param {number | bigint} address
      * @returns {number | undefined}
      */
@@ -1249,7 +1334,8 @@ export class Symtab extends List {
     }
 
     /**
-     * Returns an index of the addresses, for many searches.
+     * Returns an index of the addresses, for many searches. The first call for a table sorts its symbols. Each further call on the same
+     * `Elf` returns another object, which uses what the first call has sorted.
      *
      * ```js
      * const symbols = elf.syms(), index = symbols.address_index();
@@ -1260,7 +1346,7 @@ export class Symtab extends List {
     address_index() { return new AddressIndex(this.#memory, this.#range, this); }
 
     /**
-     * Returns the index of the first symbol with a name, if there is one.
+     * Returns the index of the first symbol with a name, if there is one. Throws if the string table is not inside the file.
      * @param {string} name
      * @returns {number | undefined}
      */
@@ -1275,7 +1361,7 @@ export class Symtab extends List {
 
 /**
  * An index of the addresses of a symbol table, for many searches. It finds what `by_address` finds, and reads a few symbols for each
- * binary digit of their number, where `by_address` reads all of them. Each file keeps one index for a table.
+ * binary digit of their number, where `by_address` reads all of them.
  */
 export class AddressIndex {
     #memory; #range; #symtab; #indices;
@@ -1331,7 +1417,8 @@ export class Strtab {
     }
 
     /**
-     * Returns the string at an offset from the table's start, or `undefined` past its end. Throws if it is not UTF-8.
+     * Returns the string at an offset from the table's start, or `undefined` past its end. Throws if the table is not inside the file, or
+     * the string is not UTF-8.
      * @param {number | bigint} offset
      * @returns {string | undefined}
      */
@@ -1341,7 +1428,8 @@ export class Strtab {
     }
 
     /**
-     * Returns the bytes of the string at an offset, which need not be UTF-8, or `undefined` past the end of the table.
+     * Returns the bytes of the string at an offset, which need not be UTF-8, or `undefined` past the end of the table. Throws if the table
+     * is not inside the file.
      * @param {number | bigint} offset
      * @returns {Uint8Array | undefined}
      */
@@ -1352,7 +1440,8 @@ export class Strtab {
 
     /**
      * Reports whether the string at an offset is a text, a string or bytes, which need not be UTF-8. It is false past the end of the
-     * table, and for a text with a zero byte in it. This reads at most one byte more of the string than the text has.
+     * table, and for a text with a zero byte in it. This reads at most one byte more of the string than the text has. Throws if the table
+     * is not inside the file.
      *
      * ```js
      * const is_text = elf.shdr_strtab().is(section.sh_name, '.text');
@@ -1365,7 +1454,7 @@ export class Strtab {
 
     /**
      * Reports whether the string at an offset begins with a text. It is false past the end of the table, and for a text with a zero byte
-     * in it. This reads no more of the string than the text has.
+     * in it. This reads no more of the string than the text has. Throws if the table is not inside the file.
      *
      * ```js
      * const names = elf.shdr_strtab(), debug = elf.section_headers().filter(({ sh_name }) => names.starts_with(sh_name, '.debug_'));
