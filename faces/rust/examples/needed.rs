@@ -1,5 +1,6 @@
 //! Lists what an ELF file needs of the dynamic linker: its interpreter and, from its dynamic section, the libraries that it needs, its
-//! soname and its search paths.
+//! soname and its search paths. It finds the dynamic section by the section headers only. So of a file without them it lists only the
+//! interpreter, and a file whose section headers are damaged is refused.
 //!
 //! The library does not read the dynamic section, which is a table of pairs of numbers, a tag and a value. Some values are offsets of
 //! strings. The calls for numbers and strings are proved; what this program does with them is only tested.

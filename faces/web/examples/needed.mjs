@@ -1,6 +1,7 @@
 // Lists what ELF files need of the dynamic linker: node needed.mjs FILE..
 // These are the interpreter and, from the dynamic section, the libraries that a file needs, its soname and its search paths. If there are
-// several files, a line names each.
+// several files, a line names each. It finds the dynamic section by the section headers only. So of a file without them it lists only the
+// interpreter, and a file whose section headers are damaged is refused.
 //
 // The library does not read the dynamic section, which is a table of pairs of numbers, a tag and a value. Some values are offsets of
 // strings. The calls for numbers and strings are proved; what this program does with them is only tested.
