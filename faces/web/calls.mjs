@@ -568,6 +568,42 @@ function check_names() {
     assert.throws(() => cut.section_data_by_name('a'), is_refusal(Kind.TOO_BIG));
 }
 
+// Where errors begin in the file, and where their numbers count from, as the comments of `offset` and `Kind` say.
+function check_offsets_of_errors() {
+    const why = (read) => {
+        try {
+            return read();
+        } catch ({ kind, numbers, offset }) {
+            return [kind, ...numbers.slice(0, 2), offset];
+        }
+    };
+    const { TOO_BIG, BAD_OFFSET, NOTE_ALIGN } = Kind, whole = Elf.parse(own), list = whole.header.e_shoff, header_5 = list + 5n * 64n;
+    for (const [length, ...refusal] of [[header_5 + 10n, TOO_BIG, 64n, 10n], [header_5, BAD_OFFSET, header_5, 0n]]) {
+        const cut = Elf.parse(own.subarray(0, Number(length)));
+        assert.deepEqual([why(() => cut.section_headers()), why(() => cut.section_name(whole.section_header(1)))], Array(2).fill([...refusal, list]));
+        assert.equal(cut.readable_section_headers().sections.length, 5);
+        assert.deepEqual(why(() => cut.section_header_alone(5)), [...refusal, header_5]);
+        const names = whole.section_header(whole.header.e_shstrndx);
+        assert.equal(cut.strtab(names).get(whole.section('.text').sh_name), '.text');
+    }
+    const text = whole.section('.text'), past = text.sh_size + 5n;
+    assert.deepEqual(why(() => whole.section_number(text, past, 1)), [BAD_OFFSET, past, 0n, text.sh_offset + past]);
+    // the second note begins 20 bytes after the first, its name 12 bytes after that, and its descriptor 8 bytes later
+    const elf = Elf.parse(noted), section = elf.section('.note'), first = section.sh_offset, second = first + 20n;
+    for (const [length, start, of_text, of_bytes = of_text] of [
+        [first, first, [BAD_OFFSET, first, 0n], [BAD_OFFSET, 0n, 0n]], [first + 12n, first, [BAD_OFFSET, 12n, 0n]],
+        [second, second, [BAD_OFFSET, second, 0n], [BAD_OFFSET, 0n, 0n]], [second + 11n, second, [TOO_BIG, 12n, 11n]],
+        [second + 20n, second, [BAD_OFFSET, 20n, 0n]], [second + 24n, second, [TOO_BIG, 5n, 4n]],
+    ]) {
+        const cut = Elf.parse(noted.subarray(0, Number(length)));
+        assert.deepEqual([why(() => cut.notes(section)), why(() => cut.notes_bytes(section))], [[...of_text, start], [...of_bytes, start]]);
+    }
+    for (const alignment of [0n, 1n, 2n, 3n, 4n]) assert.equal(elf.notes({ ...section, sh_addralign: alignment }).length, 2);
+    for (const alignment of [5n, 7n, 9n]) {
+        assert.deepEqual(why(() => elf.notes({ ...section, sh_addralign: alignment })), [NOTE_ALIGN, alignment, 0n, first]);
+    }
+}
+
 // ---- texts ----
 
 function check_texts() {
@@ -772,6 +808,7 @@ check_readable_data();
 check_numbers_in();
 check_addresses();
 check_names();
+check_offsets_of_errors();
 check_texts();
 check_notes_as_bytes();
 check_segments();

@@ -356,6 +356,68 @@ fn numbers_in_sections_and_segments() {
     }
 }
 
+// Returns the kind and the offset of an error.
+fn why<T: std::fmt::Debug>(result: Result<T>) -> (Kind, u64) {
+    let e = result.unwrap_err();
+    (e.kind(), e.offset())
+}
+
+#[test]
+fn errors_of_lists_begin_where_the_list_does() {
+    for form in FORMS {
+        let file = with_names_at(form, 3);
+        let list = Elf::parse(&file).unwrap().header.e_shoff;
+        let size = if form.is_64 { 64 } else { 40 };
+        let header_5 = list + 5 * size;
+        // the file ends in section header 5, and then where it begins
+        for (len, kind) in [(header_5 + size - 2, Kind::TooBig { size, len: size - 2 }), (header_5, Kind::BadOffset(header_5))] {
+            let cut = Elf::parse(&file[..len as usize]).unwrap();
+            assert_eq!(why(cut.section_headers()), (kind, list));
+            assert_eq!(why(cut.section_header(1)), (kind, list));
+            assert_eq!(cut.readable_section_headers().0.len(), 5);
+            assert_eq!(why(cut.section_header_alone(5)), (kind, header_5));
+            // the names of sections are read by the header that is left
+            let names = cut.section_header_alone(cut.header.e_shstrndx.into()).unwrap().unwrap();
+            assert_eq!(why(cut.section_name(&names)), (kind, list));
+            assert_eq!(cut.strtab(&names).get(1), Ok(Some("first")));
+        }
+    }
+}
+
+#[test]
+fn offsets_of_errors_count_from_the_start_of_their_whole() {
+    for form in FORMS {
+        let file = made(form, 0);
+        let elf = Elf::parse(&file).unwrap();
+        let (strings, size) = (elf.section(".strtab").unwrap().unwrap(), STRINGS.len() as u64);
+        assert_eq!(why(elf.section_number(&strings, size + 5, 1)), (Kind::BadOffset(size + 5), strings.sh_offset + size + 5));
+        let past = SectionHeader { sh_offset: file.len() as u64 + 7, ..strings };
+        assert_eq!(why(elf.section_number(&past, 3, 1)), (Kind::BadOffset(past.sh_offset), past.sh_offset));
+        // the second note begins 20 bytes after the first, its name 12 bytes after that, and its descriptor 8 bytes later
+        let section = elf.section_header(1).unwrap().unwrap();
+        let (first, second) = (section.sh_offset, section.sh_offset + 20);
+        for (len, note, of_text, of_bytes) in [
+            (first, first, Kind::BadOffset(first), Kind::BadOffset(0)),
+            (first + 12, first, Kind::BadOffset(12), Kind::BadOffset(12)),
+            (second, second, Kind::BadOffset(second), Kind::BadOffset(0)),
+            (second + 11, second, Kind::TooBig { size: 12, len: 11 }, Kind::TooBig { size: 12, len: 11 }),
+            (second + 20, second, Kind::BadOffset(20), Kind::BadOffset(20)),
+            (second + 24, second, Kind::TooBig { size: 5, len: 4 }, Kind::TooBig { size: 5, len: 4 }),
+        ] {
+            let cut = Elf::parse(&file[..len as usize]).unwrap();
+            assert_eq!((why(cut.notes(&section)), why(cut.notes_bytes(&section))), ((of_text, note), (of_bytes, note)));
+        }
+        for alignment in 0..=9 {
+            let section = SectionHeader { sh_addralign: alignment, ..section };
+            match alignment {
+                0..=4 => assert_eq!((elf.notes(&section).unwrap().len(), elf.notes_bytes(&section).unwrap().len()), (2, 2)),
+                8 => {}
+                _ => assert_eq!(why(elf.notes(&section)), (Kind::NoteAlign(alignment), first)),
+            }
+        }
+    }
+}
+
 #[test]
 fn offsets_of_addresses() {
     for form in FORMS {
