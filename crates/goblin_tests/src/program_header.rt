@@ -5,12 +5,12 @@ use crate::record::{SHORT, has_form, lacks_room, lists};
 use goblin_base::container::{BE, Container, Ctx, LE};
 use goblin_base::error::Result as Answer;
 use goblin_base::scroll::TryIntoCtx;
-use goblin_base::table::Table;
 use goblin_headers::program_header::{
     PF_R, PF_W, PF_X, PT_ARM_EXIDX, PT_GNU_EH_FRAME, PT_GNU_RELRO, PT_GNU_STACK, PT_HIOS, PT_LOAD,
     PT_SUNWBSS, ProgramHeader, pt_to_str,
 };
 use goblin_headers::{program_header, program_header32, program_header64};
+use std::alloc::Global;
 use std::ops::Range;
 
 // A program header of the 64-bit class in big byte order, each field with a number of its own.
@@ -321,27 +321,40 @@ fn loaded(p_type: u32, p_vaddr: u64, p_offset: u64, p_filesz: u64) -> ProgramHea
     }
 }
 
-// The offset of the byte at an address by four segments: one that isn't loaded, two that overlap, and one past all
-// offsets.
-fn loaded_from(address: u64) -> Answer<Option<usize>> {
-    let mut bytes = [0; 224];
-    let _ = loaded(2, 0x1000, 0x700, 0x100).try_into_ctx(&mut bytes, BIG64)?;
-    let _ = loaded(PT_LOAD, 0x1000, 0x40, 0x10).try_into_ctx(&mut bytes[56..], BIG64)?;
-    let _ = loaded(PT_LOAD, 0x1008, 0x80, 0x20).try_into_ctx(&mut bytes[112..], BIG64)?;
-    let _ = loaded(PT_LOAD, 0x9000, u64::MAX - 1, 9).try_into_ctx(&mut bytes[168..], BIG64)?;
-    Ok(ProgramHeader::loaded_from(&Table::of(&bytes, 4, BIG64), address))
+// Appends the bytes of a segment.
+fn append(bytes: &mut Vec<u8>, segment: ProgramHeader) -> Answer<()> {
+    let mut written = [0; 56];
+    let _ = segment.try_into_ctx(&mut written, BIG64)?;
+    Ok(bytes.extend_from_slice(&written)?)
+}
+
+// The bytes of four segments: one that isn't loaded, two that overlap, and one past all offsets.
+fn segments(alloc: Global) -> Answer<Vec<u8>> {
+    let mut bytes = Vec::new(alloc);
+    append(&mut bytes, loaded(2, 0x1000, 0x700, 0x100))?;
+    append(&mut bytes, loaded(PT_LOAD, 0x1000, 0x40, 0x10))?;
+    append(&mut bytes, loaded(PT_LOAD, 0x1008, 0x80, 0x20))?;
+    append(&mut bytes, loaded(PT_LOAD, 0x9000, u64::MAX - 1, 9))?;
+    Ok(bytes)
+}
+
+// The offset of the byte at an address by these segments.
+fn loaded_from(rt: HostRuntime, address: u64) -> Answer<Option<usize>> {
+    let bytes = segments(rt.alloc())?;
+    let table = ProgramHeader::table(bytes.as_slice(), 0, 4, BIG64)?;
+    Ok(ProgramHeader::loaded_from(&table, address))
 }
 
 #[test]
 fn finds_offsets_by_addresses(rt: HostRuntime) {
-    assert!(rt; returns(rt, loaded_from(0xfff), None));
-    assert!(rt; returns(rt, loaded_from(0x1000), Some(0x40)));
-    assert!(rt; returns(rt, loaded_from(0x100f), Some(0x4f)));
-    assert!(rt; returns(rt, loaded_from(0x1010), Some(0x88)));
-    assert!(rt; returns(rt, loaded_from(0x1027), Some(0x9f)));
-    assert!(rt; returns(rt, loaded_from(0x1028), None));
-    assert!(rt; returns(rt, loaded_from(0x9001), Some(usize::MAX)));
-    assert!(rt; returns(rt, loaded_from(0x9008), Some(usize::MAX)));
+    assert!(rt; returns(rt, loaded_from(rt, 0xfff), None));
+    assert!(rt; returns(rt, loaded_from(rt, 0x1000), Some(0x40)));
+    assert!(rt; returns(rt, loaded_from(rt, 0x100f), Some(0x4f)));
+    assert!(rt; returns(rt, loaded_from(rt, 0x1010), Some(0x88)));
+    assert!(rt; returns(rt, loaded_from(rt, 0x1027), Some(0x9f)));
+    assert!(rt; returns(rt, loaded_from(rt, 0x1028), None));
+    assert!(rt; returns(rt, loaded_from(rt, 0x9001), Some(usize::MAX)));
+    assert!(rt; returns(rt, loaded_from(rt, 0x9008), Some(usize::MAX)));
 }
 
 #[test]
