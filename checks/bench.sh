@@ -50,7 +50,10 @@ for file in "$folder"/*; do
 done
 
 # Puts the program together over the libraries that stand here. Those that are not proved from these sources are proved.
-cp -R --parents crates.txt HANDLES crates/*/src crates/*/specs crates/*/proofs crates/*/out/rlib "$folder"
+cp -R --parents crates.txt HANDLES crates/*/src crates/*/specs crates/*/proofs "$folder"
+for library in crates/*/out/rlib; do
+    if [ -d "$library" ]; then cp -R --parents "$library" "$folder"; fi
+done
 echo 'goblin_bench: goblin goblin_base' >> "$folder/crates.txt"
 mkdir -p "$folder/crates/goblin_bench/src"
 cp checks/bench.main "$folder/crates/goblin_bench/src/main.rt"
