@@ -46,7 +46,7 @@ impl Count {
     // Adds a number, or stays at the greatest where the sum would pass it.
     #[inline]
     fn add(&mut self, more: u64)
-        ensures exact { self.new ≡ min (self.old + more) u128.MAX }
+        ensures value { self.new ≡ min (self.old + more) u128.MAX }
         ensures rising { self.old ≤ self.new }
     {
         match self.low.checked_add(more) {

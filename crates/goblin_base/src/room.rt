@@ -12,7 +12,7 @@ use crate::scroll;
 /// fails with `TooBig` if fewer than `size` bytes are left from the offset on.
 #[tactic(auto, unfolding(crate::specs::Room::room_of))]
 pub fn room(len: usize, offset: usize, size: usize) -> Result<(), scroll::Error>
-    ensures exact { result ≡ room_of len offset size }
+    ensures value { result ≡ room_of len offset size }
     ensures fits { IsOk result ↔ (offset + size ≤ len) }
 {
     if offset > len || (offset == len && size > 0) {

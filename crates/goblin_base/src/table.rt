@@ -153,7 +153,7 @@ impl<'a, R: Record<C>, C: Copy> Table<'a, R, C> {
     /// Returns an iterator over the records, from the first to the last.
     #[tactic(auto, using(crate::proofs::Records::record_steps))]
     pub fn iter(&self) -> TableIter<'a, R, C>
-        ensures exact { result ≡ self.now }
+        ensures value { result ≡ self.now }
         ensures bound { length self.now < 2 ^ 64 }
     {
         TableIter {
@@ -208,7 +208,7 @@ impl<'a, R: Record<C>, C: Copy> Iterator for TableIter<'a, R, C> {
         ensures lower { IsWithinCount result.0 (item_count (λ left. left) self.now) }
         ensures upper { IfSome result.1 (UpTo (item_count (λ left. left) self.now)) }
         // Both bounds are the number of records left.
-        ensures exact { result ≡ (length self.now, Some (length self.now)) }
+        ensures value { result ≡ (length self.now, Some (length self.now)) }
     {
         let len = self.len();
         (len, Some(len))
@@ -228,7 +228,7 @@ impl<'a, R: Record<C>, C: Copy> ExactSizeIterator for TableIter<'a, R, C> {
 /// Fails as [`room`] does if the record doesn't lie in the bytes.
 #[tactic(auto, using(crate::proofs::Eager::lists))]
 pub fn read_at<R: Record<C>, C: Copy>(bytes: &[u8], place: usize, ctx: C) -> Result<R>
-    ensures exact { let size = R.size_of ctx in
+    ensures value { let size = R.size_of ctx in
         let piece = take size (drop place bytes.now) in
         result ≡ unless_fault (room_of (length bytes.now) place size) (R.read ctx piece) }
     ensures fits { OnOk result (place + R.size_of ctx ≤ length bytes.now) }
@@ -324,7 +324,7 @@ fn room_for_each(
     count: usize,
 ) -> result::Result<(), scroll::Error>
     requires { 0 < size }
-    ensures exact { result ≡ room_of_each len offset size count }
+    ensures value { result ≡ room_of_each len offset size count }
     ensures fits { OnOk result (0 < count → offset + count * size ≤ len) }
 {
     if count == 0 {

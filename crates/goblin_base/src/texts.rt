@@ -220,7 +220,7 @@ impl Kind {
 
     /// Returns the parts of the text of an error, without its prefix.
     pub fn parts(self) -> &'static [Part]
-        ensures exact { (facts : Facts) → joined facts result.now ≡ kind_text self facts }
+        ensures value { (facts : Facts) → joined facts result.now ≡ kind_text self facts }
         ensures bound { IsTrue (are_short result.now) }
     {
         match self {

@@ -31,7 +31,7 @@ finds_it : (expected : Result (List Sym) RefusalAt) (old new : List ℕ) (count 
 finds_it (Ok symbols) old new count filled was why address (Ok found) stores finds =
     let test = nat_le (count_by has_place symbols) (length old) in
     let holds = stored test symbols old new count filled was why stores in
-    ap Ok (finds.exact holds.index)
+    ap Ok (finds.value holds.index)
 finds_it (Ok symbols) old new count filled was why address (Err other) stores finds = absurd finds
 finds_it (Err refusal) old new count filled was why address (Ok found) stores finds = absurd finds
 finds_it (Err refusal) old new count filled was why address (Err other) stores finds = ap Err finds

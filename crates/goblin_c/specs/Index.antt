@@ -33,7 +33,7 @@ StoresIndex (Err refusal) old count was status new filled why =
 -- What a search in an array finds. In an index of these symbols it is the symbol for the address. In any other array it
 -- is nothing, or a symbol that is at the address or below it.
 pub record FoundIn (symbols : List Sym) (indices : List ℕ) (address : ℕ) (found : Option ℕ) : Type 0 where
-  pub exact : IsAddressIndex symbols indices → found ≡ symbol_at address symbols
+  pub value : IsAddressIndex symbols indices → found ≡ symbol_at address symbols
   pub below : IfSome found (λ i. (s : Sym) × (slice_get symbols i ≡ Some s) × (is_below address s ≡ true))
 
 -- that, or the table's refusal

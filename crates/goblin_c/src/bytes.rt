@@ -18,7 +18,7 @@ use goblin_base::strtab::{is_piece, piece_len, starts_piece};
 
 /// Tests that some bytes lie in the file.
 pub fn fits(bytes: &[u8], offset: u64, size: u64) -> Result<()>
-    ensures exact { let expected = refuse_as misplaced (room_of (length bytes.now) offset size) in
+    ensures value { let expected = refuse_as misplaced (room_of (length bytes.now) offset size) in
         Answers (λ found. found) result (refused_at offset expected) }
     ensures fits { IsOk result → offset + size ≤ length bytes.now }
 {

@@ -133,7 +133,7 @@ impl Listed for Table<'_, SectionHeader, Ctx> {
 
 // Returns the position of the first section of a type among those from an index on.
 fn find_type(sections: &Table<'_, SectionHeader, Ctx>, sh_type: u32, first: usize) -> Option<usize>
-    ensures exact { result
+    ensures value { result
         ≡ position (λ section. section.sh_type == sh_type) (drop first sections.now) }
     ensures bound { IfSome result (λ place. first + place < 2 ^ 64) }
 {

@@ -344,7 +344,7 @@ pub extern "C" fn goblin_c_note_bytes(
 #[unsafe(no_mangle)]
 pub extern "C" fn goblin_class_to_str(ei_class: u8, text: &mut [u8]) -> u64
     ensures written { text.new ≡ laid (closed (class_name ei_class)) text.old }
-    ensures exact { result ≡ length (class_name ei_class) }
+    ensures value { result ≡ length (class_name ei_class) }
 {
     write_text(class_to_str(ei_class), text)
 }
@@ -353,7 +353,7 @@ pub extern "C" fn goblin_class_to_str(ei_class: u8, text: &mut [u8]) -> u64
 #[unsafe(no_mangle)]
 pub extern "C" fn goblin_et_to_str(e_type: u16, text: &mut [u8]) -> u64
     ensures written { text.new ≡ laid (closed (file_type_name e_type)) text.old }
-    ensures exact { result ≡ length (file_type_name e_type) }
+    ensures value { result ≡ length (file_type_name e_type) }
 {
     write_text(et_to_str(e_type), text)
 }
@@ -362,7 +362,7 @@ pub extern "C" fn goblin_et_to_str(e_type: u16, text: &mut [u8]) -> u64
 #[unsafe(no_mangle)]
 pub extern "C" fn goblin_machine_to_str(e_machine: u16, text: &mut [u8]) -> u64
     ensures written { text.new ≡ laid (closed (machine_name e_machine)) text.old }
-    ensures exact { result ≡ length (machine_name e_machine) }
+    ensures value { result ≡ length (machine_name e_machine) }
 {
     write_text(machine_to_str(e_machine), text)
 }
@@ -371,7 +371,7 @@ pub extern "C" fn goblin_machine_to_str(e_machine: u16, text: &mut [u8]) -> u64
 #[unsafe(no_mangle)]
 pub extern "C" fn goblin_pt_to_str(p_type: u32, text: &mut [u8]) -> u64
     ensures written { text.new ≡ laid (closed (segment_name p_type)) text.old }
-    ensures exact { result ≡ length (segment_name p_type) }
+    ensures value { result ≡ length (segment_name p_type) }
 {
     write_text(pt_to_str(p_type), text)
 }
@@ -380,7 +380,7 @@ pub extern "C" fn goblin_pt_to_str(p_type: u32, text: &mut [u8]) -> u64
 #[unsafe(no_mangle)]
 pub extern "C" fn goblin_sht_to_str(sh_type: u32, text: &mut [u8]) -> u64
     ensures written { text.new ≡ laid (closed (section_name sh_type)) text.old }
-    ensures exact { result ≡ length (section_name sh_type) }
+    ensures value { result ≡ length (section_name sh_type) }
 {
     write_text(sht_to_str(sh_type), text)
 }
@@ -389,7 +389,7 @@ pub extern "C" fn goblin_sht_to_str(sh_type: u32, text: &mut [u8]) -> u64
 #[unsafe(no_mangle)]
 pub extern "C" fn goblin_shf_to_str(flag: u32, text: &mut [u8]) -> u64
     ensures written { text.new ≡ laid (closed (section_flag_name flag)) text.old }
-    ensures exact { result ≡ length (section_flag_name flag) }
+    ensures value { result ≡ length (section_flag_name flag) }
 {
     write_text(shf_to_str(flag), text)
 }
@@ -398,7 +398,7 @@ pub extern "C" fn goblin_shf_to_str(flag: u32, text: &mut [u8]) -> u64
 #[unsafe(no_mangle)]
 pub extern "C" fn goblin_bind_to_str(binding: u8, text: &mut [u8]) -> u64
     ensures written { text.new ≡ laid (closed (bind_name binding)) text.old }
-    ensures exact { result ≡ length (bind_name binding) }
+    ensures value { result ≡ length (bind_name binding) }
 {
     write_text(bind_to_str(binding), text)
 }
@@ -407,7 +407,7 @@ pub extern "C" fn goblin_bind_to_str(binding: u8, text: &mut [u8]) -> u64
 #[unsafe(no_mangle)]
 pub extern "C" fn goblin_type_to_str(typ: u8, text: &mut [u8]) -> u64
     ensures written { text.new ≡ laid (closed (type_name typ)) text.old }
-    ensures exact { result ≡ length (type_name typ) }
+    ensures value { result ≡ length (type_name typ) }
 {
     write_text(type_to_str(typ), text)
 }
@@ -416,7 +416,7 @@ pub extern "C" fn goblin_type_to_str(typ: u8, text: &mut [u8]) -> u64
 #[unsafe(no_mangle)]
 pub extern "C" fn goblin_visibility_to_str(visibility: u8, text: &mut [u8]) -> u64
     ensures written { text.new ≡ laid (closed (visibility_name visibility)) text.old }
-    ensures exact { result ≡ length (visibility_name visibility) }
+    ensures value { result ≡ length (visibility_name visibility) }
 {
     write_text(visibility_to_str(visibility), text)
 }
@@ -425,7 +425,7 @@ pub extern "C" fn goblin_visibility_to_str(visibility: u8, text: &mut [u8]) -> u
 #[unsafe(no_mangle)]
 pub extern "C" fn goblin_note_type_to_str(name: &[u8], n_type: u32, text: &mut [u8]) -> u64
     ensures written { text.new ≡ laid (closed (note_type_name name.now n_type)) text.old }
-    ensures exact { result ≡ length (note_type_name name.now n_type) }
+    ensures value { result ≡ length (note_type_name name.now n_type) }
 {
     write_text(note_type(name, n_type), text)
 }
@@ -434,7 +434,7 @@ pub extern "C" fn goblin_note_type_to_str(name: &[u8], n_type: u32, text: &mut [
 #[unsafe(no_mangle)]
 pub extern "C" fn goblin_refusal_text(why: &GoblinRefusal, text: &mut [u8]) -> u64
     ensures written { text.new ≡ laid (closed (converted_text why.now)) text.old }
-    ensures exact { result ≡ length (converted_text why.now) }
+    ensures value { result ≡ length (converted_text why.now) }
 {
     write_refusal(why, text)
 }

@@ -48,7 +48,7 @@ pub fn item_of<L: Listed>(list: Result<L>, index: u64) -> Result<Option<L::Conve
 fn fill<L: Listed>(all: &L, first: usize, buffer: &mut [L::Converted]) -> usize
     requires { first < length (L.listed all.now) }
     ensures written { buffer.new ≡ laid (drop first (L.listed all.now)) buffer.old }
-    ensures exact { result ≡ min (length (L.listed all.now) - first) (length buffer.old) }
+    ensures value { result ≡ min (length (L.listed all.now) - first) (length buffer.old) }
 {
     let count = buffer.len().min(all.count() - first);
     for (i, place) in buffer.iter_mut().enumerate() {

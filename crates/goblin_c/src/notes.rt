@@ -66,7 +66,7 @@ fn bytes_up_to<'a>(bytes: &'a [u8], range: &GoblinRange) -> &'a [u8]
 // Returns the bytes of a range from an offset of the file on.
 #[tactic(auto, using(crate::proofs::WindowLemmas::windows))]
 fn bytes_from<'a>(bytes: &'a [u8], range: &GoblinRange, offset: u64) -> &'a [u8]
-    ensures exact { result.now ≡ bytes_from bytes.now range.now offset }
+    ensures value { result.now ≡ bytes_from bytes.now range.now offset }
     ensures fits { length result.now ≤ length bytes.now - offset }
 {
     let part = bytes_up_to(bytes, range);
@@ -91,7 +91,7 @@ fn part_number(part: &Option<NotePart>) -> u32
 // Stores the refusal of the note at an offset. Returns the number of its kind.
 fn refuse_note(e: NoteRefusal, offset: u64, why: &mut GoblinRefusal) -> u32
     ensures written { why.new ≡ part_converted offset (record { part = e.part; refusal = refusal_of e.error }) }
-    ensures exact { result ≡ (part_converted offset (record { part = e.part; refusal = refusal_of e.error })).kind }
+    ensures value { result ≡ (part_converted offset (record { part = e.part; refusal = refusal_of e.error })).kind }
 {
     let item = part_number(&e.part);
     let kind = refuse(

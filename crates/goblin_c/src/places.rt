@@ -162,7 +162,7 @@ pub fn symbol_place(
 // Tests that some bytes at an offset in a range lie in it. A refusal begins at their offset in the file; one past
 // `u64::MAX` is `u64::MAX`.
 fn fits_in(range: &GoblinRange, offset: u64, width: u64) -> Result<()>
-    ensures exact { let place = min (range.now.offset + offset) (2 ^ 64 - 1) in
+    ensures value { let place = min (range.now.offset + offset) (2 ^ 64 - 1) in
         let expected = refuse_as misplaced (room_of range.now.size offset width) in
         Answers (λ found. found) result (refused_at place expected) }
     ensures fits { IsOk result → offset + width ≤ range.now.size }

@@ -39,7 +39,7 @@ fn converted(e: &Refused) -> GoblinRefusal
 /// Stores an error as a refusal. Returns the number of its kind.
 pub fn refuse(e: &Refused, why: &mut GoblinRefusal) -> u32
     ensures written { why.new ≡ refusal_converted (refusal_at e.now) }
-    ensures exact { result ≡ (refusal_converted (refusal_at e.now)).kind }
+    ensures value { result ≡ (refusal_converted (refusal_at e.now)).kind }
 {
     *why = converted(e);
     why.kind

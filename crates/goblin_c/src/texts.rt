@@ -46,7 +46,7 @@ fn write_number(n: u64, base: u64, len: u64, buffer: &mut [u8]) -> u64
     requires base { (2 ≤ base) × (base ≤ 16) }
     requires len { len ≤ 1000000 }
     ensures written { buffer.new ≡ take len buffer.old ++ laid (digits base false n) (drop len buffer.old) }
-    ensures exact { result ≡ len + length (digits base false n) }
+    ensures value { result ≡ len + length (digits base false n) }
     ensures bound { result ≤ len + 64 }
 {
     let mut spelled = [0; 64];
@@ -56,7 +56,7 @@ fn write_number(n: u64, base: u64, len: u64, buffer: &mut [u8]) -> u64
 
 // Returns a truth value as a word.
 fn word_of(b: bool) -> &'static str
-    ensures exact { result.now ≡ word_of b }
+    ensures value { result.now ≡ word_of b }
     ensures bound { length result.now ≤ 5 }
 {
     if b { "true" } else { "false" }
@@ -64,7 +64,7 @@ fn word_of(b: bool) -> &'static str
 
 // Returns the item with a number, or the empty text if no item has it.
 fn item_of(item: u32) -> &'static str
-    ensures exact { result.now ≡ item_text item }
+    ensures value { result.now ≡ item_text item }
     ensures bound { length result.now ≤ 15 }
 {
     match item {
@@ -81,7 +81,7 @@ fn write_part(report: &Report, part: &Part, len: u64, buffer: &mut [u8]) -> u64
     requires item { length report.now.item.now ≤ 15 }
     requires len { len ≤ 1000000 }
     ensures written { buffer.new ≡ take len buffer.old ++ laid (part_text (facts_of report.now) part.now) (drop len buffer.old) }
-    ensures exact { result ≡ len + length (part_text (facts_of report.now) part.now) }
+    ensures value { result ≡ len + length (part_text (facts_of report.now) part.now) }
     ensures bound { result ≤ len + 100 }
 {
     match part {
@@ -99,7 +99,7 @@ fn write_part(report: &Report, part: &Part, len: u64, buffer: &mut [u8]) -> u64
 fn write_parts(report: &Report, buffer: &mut [u8]) -> u64
     requires item { length report.now.item.now ≤ 15 }
     ensures written { buffer.new ≡ laid (facts_text (facts_of report.now)) buffer.old }
-    ensures exact { result ≡ length (facts_text (facts_of report.now)) }
+    ensures value { result ≡ length (facts_text (facts_of report.now)) }
     ensures bound { result ≤ 1700 }
 {
     let mut len = write_after(report.kind.prefix().as_bytes(), 0, buffer);
@@ -115,7 +115,7 @@ fn write_parts(report: &Report, buffer: &mut [u8]) -> u64
 fn write_report(report: &Report, buffer: &mut [u8]) -> u64
     requires item { length report.now.item.now ≤ 15 }
     ensures written { buffer.new ≡ laid (closed (facts_text (facts_of report.now))) buffer.old }
-    ensures exact { result ≡ length (facts_text (facts_of report.now)) }
+    ensures value { result ≡ length (facts_text (facts_of report.now)) }
 {
     let len = write_parts(report, buffer);
     write_after(b"\0", len, buffer);
@@ -124,7 +124,7 @@ fn write_report(report: &Report, buffer: &mut [u8]) -> u64
 
 // Returns a refusal of a kind that C has, as the library's kind, numbers and item.
 fn report_from(why: &GoblinRefusal, kind: Kind) -> Report
-    ensures exact { facts_of result ≡ facts_from why.now kind }
+    ensures value { facts_of result ≡ facts_from why.now kind }
     ensures bound { length result.item.now ≤ 15 }
 {
     Report {
@@ -141,7 +141,7 @@ fn report_from(why: &GoblinRefusal, kind: Kind) -> Report
 /// the text.
 pub fn write_refusal(why: &GoblinRefusal, text: &mut [u8]) -> u64
     ensures written { text.new ≡ laid (closed (converted_text why.now)) text.old }
-    ensures exact { result ≡ length (converted_text why.now) }
+    ensures value { result ≡ length (converted_text why.now) }
 {
     match Kind::with_number(why.kind) {
         Some(kind) => write_report(&report_from(why, kind), text),

@@ -5,7 +5,7 @@ ghost use Rattle.goblin_c.specs.Laid.{closed, laid};
 /// Writes a text with a zero byte after it, or as much of them as the buffer holds. Returns the length of the text.
 pub fn write_text(text: &str, buffer: &mut [u8]) -> u64
     ensures written { buffer.new ≡ laid (closed text.now) buffer.old }
-    ensures exact { result ≡ length text.now }
+    ensures value { result ≡ length text.now }
 {
     write_closed(text.as_bytes(), buffer)
 }
@@ -14,7 +14,7 @@ pub fn write_text(text: &str, buffer: &mut [u8]) -> u64
 // without the last one.
 fn write_closed(bytes: &[u8], buffer: &mut [u8]) -> u64
     ensures written { buffer.new ≡ laid (closed bytes.now) buffer.old }
-    ensures exact { result ≡ length bytes.now }
+    ensures value { result ≡ length bytes.now }
 {
     let len = write_bytes(bytes, buffer);
     write_after(b"\0", len, buffer);
@@ -27,7 +27,7 @@ fn write_closed(bytes: &[u8], buffer: &mut [u8]) -> u64
 pub fn write_after(text: &[u8], len: u64, buffer: &mut [u8]) -> u64
     requires { len + length text.now < 2 ^ 64 }
     ensures written { buffer.new ≡ take len buffer.old ++ laid text.now (drop len buffer.old) }
-    ensures exact { result ≡ len + length text.now }
+    ensures value { result ≡ len + length text.now }
 {
     if len < buffer.len() as u64 {
         write_bytes(text, &mut buffer[len as usize..]);
@@ -39,7 +39,7 @@ pub fn write_after(text: &[u8], len: u64, buffer: &mut [u8]) -> u64
 #[tactic(auto, using(crate::proofs::LaidLemmas::laid_steps))]
 fn write_bytes(bytes: &[u8], buffer: &mut [u8]) -> u64
     ensures written { buffer.new ≡ laid bytes.now buffer.old }
-    ensures exact { result ≡ length bytes.now }
+    ensures value { result ≡ length bytes.now }
 {
     let count = bytes.len().min(buffer.len());
     for i in 0..count {

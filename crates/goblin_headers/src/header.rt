@@ -101,7 +101,7 @@ impl Header {
     /// `InvalidClass` if the class byte is neither 1 nor 2, else `InvalidEndianness` if the data byte is
     /// neither.
     pub fn ctx(&self) -> Result<Ctx>
-        ensures exact { result ≡ ctx_of self.now }
+        ensures value { result ≡ ctx_of self.now }
     {
         Ok(Ctx::new(self.container()?, self.endianness()?))
     }

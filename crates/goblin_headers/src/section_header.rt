@@ -263,7 +263,7 @@ impl SectionHeader {
     /// Returns the section at an index that another section or the file's header names as a table, or
     /// `None` for index 0, past the end, and for a section without bytes in the file (`SHT_NOBITS`).
     pub fn linked(sections: &[SectionHeader], index: usize) -> Option<&SectionHeader>
-        ensures exact { option_map (λ section. section.now) result
+        ensures value { option_map (λ section. section.now) result
             ≡ linked index (slice_get sections.now index) }
     {
         sections
@@ -276,7 +276,7 @@ impl SectionHeader {
         sections: &Table<'_, SectionHeader, Ctx>,
         index: usize,
     ) -> Option<SectionHeader>
-        ensures exact { result ≡ linked index (slice_get sections.now index) }
+        ensures value { result ≡ linked index (slice_get sections.now index) }
     {
         match sections.get(index) {
             Some(section) if index != 0 && section.sh_type != SHT_NOBITS => Some(section),
@@ -325,7 +325,7 @@ impl SectionHeader {
         delim: u8,
         name: &[u8],
     ) -> Option<usize>
-        ensures exact { let table = unparsed strings.now delim in result
+        ensures value { let table = unparsed strings.now delim in result
             ≡ position (λ section. has_name table section.sh_name name.now)
             (drop first sections.now) }
         ensures bound { IfSome result (λ place. first + place < 2 ^ 64) }

@@ -89,7 +89,7 @@ impl<'a> Iterator for NoteDataIterator<'a> {
         ensures lower { IsWithinCount result.0 (at_most (most_left self.now)) }
         ensures upper { IfSome result.1 (UpTo (at_most (most_left self.now))) }
         // Before the end at least one item is left, and at most as many as headers fit before it.
-        ensures exact { let most = most_left self.now in result ≡ (min 1 most, Some most) }
+        ensures value { let most = most_left self.now in result ≡ (min 1 most, Some most) }
         ensures least { result.0 ≤ length (items_left self.now) }
         ensures most { IfSome result.1 (λ most. length (items_left self.now) ≤ most) }
     {
@@ -182,7 +182,7 @@ impl NotePlaces {
     /// - The fault of `room`: the bytes don't hold the header, the name or the descriptor.
     #[tactic(auto, unfolding(crate::specs::Note::whole_places))]
     pub fn whole(bytes: &[u8], ctx: (usize, Ctx)) -> result::Result<NotePlaces, NoteRefusal>
-        ensures exact { FindsParts result (whole_places ctx.0 ctx.1.le bytes.now) }
+        ensures value { FindsParts result (whole_places ctx.0 ctx.1.le bytes.now) }
         ensures within { IfOk result (LieWithin (length bytes.now) 0) }
     {
         let (alignment, ctx) = ctx;

@@ -123,7 +123,7 @@ impl<'a> RelocSection<'a> {
 
     /// Returns an iterator over the relocations.
     pub fn iter(&self) -> RelocIterator<'a>
-        ensures exact { result ≡ self.now }
+        ensures value { result ≡ self.now }
         ensures bound { length self.now < 2 ^ 64 }
     {
         self.table.iter()
@@ -172,7 +172,7 @@ impl<'a, 'b> IntoIterator for &'b RelocSection<'a> {
     ghost into_iter_gives = { λ s relocs. relocs ≡ s.now };
 
     fn into_iter(self) -> Self::IntoIter
-        ensures exact { result ≡ self.now }
+        ensures value { result ≡ self.now }
         ensures bound { length self.now < 2 ^ 64 }
     {
         self.iter()

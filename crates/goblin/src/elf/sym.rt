@@ -135,7 +135,7 @@ impl<'a> Symtab<'a> {
         ctx: Ctx,
         opts: &ParseOptions,
     ) -> Result<Symtab<'a>>
-        ensures exact { result ≡ symtab_in opts.now.parse_mode bytes.now offset size ctx }
+        ensures value { result ≡ symtab_in opts.now.parse_mode bytes.now offset size ctx }
     {
         // (a division by a constant takes a fraction of the time)
         let count = match ctx.container {
@@ -196,7 +196,7 @@ impl<'a> Symtab<'a> {
 
     /// Returns an iterator over the symbols.
     pub fn iter(&self) -> SymIterator<'a>
-        ensures exact { result ≡ self.now.symbols }
+        ensures value { result ≡ self.now.symbols }
         ensures bound { length self.now.symbols < 2 ^ 64 }
     {
         self.table.iter()
@@ -346,7 +346,7 @@ impl<'a, 'b> IntoIterator for &'b Symtab<'a> {
     ghost into_iter_gives = { λ t symbols. symbols ≡ t.now.symbols };
 
     fn into_iter(self) -> Self::IntoIter
-        ensures exact { result ≡ self.now.symbols }
+        ensures value { result ≡ self.now.symbols }
         ensures bound { length self.now.symbols < 2 ^ 64 }
     {
         self.iter()

@@ -43,7 +43,7 @@ impl Symtab<'_> {
     /// It halves the entries that are left at each step. If other numbers are passed as an index,
     /// it returns `None` or some symbol that is at the address or below it.
     pub fn at_in(&self, index: &[u64], address: u64) -> Option<usize>
-        ensures exact { IsAddressIndex self.now.symbols index.now
+        ensures value { IsAddressIndex self.now.symbols index.now
             → result ≡ symbol_at address self.now.symbols }
         ensures below { IfSome result (λ i. (s : Sym)
             × (slice_get self.now.symbols i ≡ Some s) × (is_below address s ≡ true)) }

@@ -8,12 +8,12 @@ each-init g c = rw c.in_ok-all.ensures.items none_read
 pub each-preserved : goal.each-preserved
 each-preserved g c =
     rw c.in_ok-push.ensures.items
-    (next_read c.each.invariant c.size_with-size.ensures c.each-test.true c.in_ok-read_at.ensures.exact)
+    (next_read c.each.invariant c.size_with-size.ensures c.each-test.true c.in_ok-read_at.ensures.value)
 
 pub returns-in_err-read_at-clause-given : goal.returns-in_err-read_at-clause-given
 returns-in_err-read_at-clause-given g c =
     let is = no_room c.args.items.now c.each.invariant c.size_with-size.ensures c.each-test.true c.if-count-bytes.false
-    c.in_err-read_at.ensures.exact in
+    c.in_err-read_at.ensures.value in
     search (rules, is)
 
 pub returns-clause-given : goal.returns-clause-given

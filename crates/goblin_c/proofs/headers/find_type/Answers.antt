@@ -4,8 +4,8 @@ use Rattle.std.proofs.lemmas.Iterator.Consumers.{YieldsList-from_first}
 use Rattle.std.proofs.lemmas.Iterator.Search.{position_from_yields_List}
 use Rattle.goblin_c.proofs.headers.find_type.Goals as goal
 
-pub returns-clause-exact : goal.returns-clause-exact
-returns-clause-exact c =
+pub returns-clause-value : goal.returns-clause-value
+returns-clause-value c =
     let rest = YieldsList-from_skip c.args.first
     (YieldsList-from_first (λ x. x) (λ left. left) c.args.sections.now (c.skip.ensures.source ∙ c.iter.ensures.exact))
     c.skip.ensures.count in

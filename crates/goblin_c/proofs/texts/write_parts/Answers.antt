@@ -22,7 +22,7 @@ loop-part-preserved c =
           (text (l.part-index + 1)) _ c.args.buffer.now l.buffer c.write_part-len.new.buffer l.len more l.invariant.0
           l.invariant.1 done.written,
       long-part (text l.part-index)
-          (text (l.part-index + 1)) _ c.write_part-len.result l.len more l.invariant.1 done.exact,
+          (text (l.part-index + 1)) _ c.write_part-len.result l.len more l.invariant.1 done.value,
       omega arith,
     )
 

@@ -6,4 +6,4 @@ pub returns : goal.returns
 returns c =
     in_order c.args.self.e_ident header32_size
     (λ order. header32_image order c.args.self) c.args.bytes.now c.put.new.bytes c.in-Some.order tt c.in-Some.ensures
-    c.in_ok-room.ensures.exact c.put.ensures
+    c.in_ok-room.ensures.value c.put.ensures

@@ -6,4 +6,4 @@ use Rattle.goblin_headers.proofs.program_header32.ProgramHeaderRecordEndian.read
 pub returns : goal.returns
 returns c =
     read_within-ok 32 32
-    (program_header32_of c.args.order) c.args.bytes.now tt c.at.result refl c.in_ok-room.ensures.exact c.at.ensures
+    (program_header32_of c.args.order) c.args.bytes.now tt c.at.result refl c.in_ok-room.ensures.value c.at.ensures

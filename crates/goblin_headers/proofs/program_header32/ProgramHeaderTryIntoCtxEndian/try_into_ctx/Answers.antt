@@ -10,4 +10,4 @@ returns c =
     (c.in_ok-room.ensures.fits.0 refl) in
     Writes-ok 32 32
     (program_header32_image c.args.order c.args.self) c.args.bytes.now c.put_u32-8.new.bytes tt refl
-    c.in_ok-room.ensures.exact (cc put)
+    c.in_ok-room.ensures.value (cc put)

@@ -6,4 +6,4 @@ use Rattle.goblin_headers.proofs.program_header64.ProgramHeaderRecordEndian.read
 pub returns : goal.returns
 returns c =
     read_within-ok 56 56
-    (program_header64_of c.args.order) c.args.bytes.now tt c.at.result refl c.in_ok-room.ensures.exact c.at.ensures
+    (program_header64_of c.args.order) c.args.bytes.now tt c.at.result refl c.in_ok-room.ensures.value c.at.ensures

@@ -5,8 +5,8 @@ use Rattle.std.proofs.lemmas.Iterator.Search.{position_from_yields_List}
 use Rattle.goblin_base.specs.Strtab.{has_name, unparsed}
 use Rattle.goblin_headers.proofs.section_header.SectionHeader.position_from.Goals as goal
 
-pub returns-clause-exact : goal.returns-clause-exact
-returns-clause-exact c =
+pub returns-clause-value : goal.returns-clause-value
+returns-clause-value c =
     let rest = YieldsList-from_skip c.args.first
     (YieldsList-from_first (λ x. x) (λ left. left) c.args.sections.now (c.skip.ensures.source ∙ c.iter.ensures.exact))
     c.skip.ensures.count in

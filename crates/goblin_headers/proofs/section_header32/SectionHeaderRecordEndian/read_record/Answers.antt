@@ -6,4 +6,4 @@ use Rattle.goblin_headers.proofs.section_header32.SectionHeaderRecordEndian.read
 pub returns : goal.returns
 returns c =
     read_within-ok 40 40
-    (section_header32_of c.args.order) c.args.bytes.now tt c.at.result refl c.in_ok-room.ensures.exact c.at.ensures
+    (section_header32_of c.args.order) c.args.bytes.now tt c.at.result refl c.in_ok-room.ensures.value c.at.ensures

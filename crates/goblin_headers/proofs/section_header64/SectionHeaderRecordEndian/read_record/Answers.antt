@@ -6,4 +6,4 @@ use Rattle.goblin_headers.proofs.section_header64.SectionHeaderRecordEndian.read
 pub returns : goal.returns
 returns c =
     read_within-ok 64 64
-    (section_header64_of c.args.order) c.args.bytes.now tt c.at.result refl c.in_ok-room.ensures.exact c.at.ensures
+    (section_header64_of c.args.order) c.args.bytes.now tt c.at.result refl c.in_ok-room.ensures.value c.at.ensures

@@ -9,5 +9,5 @@ returns c =
     let put = with_fields-image c.args.order c.args.bytes.now 0 (nhdr32_fields c.args.self)
     (c.in_ok-room.ensures.fits.0 refl) in
     Writes-ok 12 12
-    (nhdr32_image c.args.order c.args.self) c.args.bytes.now c.put_u32-3.new.bytes tt refl c.in_ok-room.ensures.exact
+    (nhdr32_image c.args.order c.args.self) c.args.bytes.now c.put_u32-3.new.bytes tt refl c.in_ok-room.ensures.value
     (cc put)

@@ -2,15 +2,15 @@ use Rattle.std.proofs.Common.{sym, ◌∙◌, arith}
 use Rattle.goblin.proofs.AddressIndexLemmas.{first_inside, found_symbol, nothing_found, passed_first, up_to_first}
 use Rattle.goblin.proofs.elf.sym.Symtab.at_in.Goals as goal
 
-pub returns-then-end-eq0-clause-exact : goal.returns-then-end-eq0-clause-exact
-returns-then-end-eq0-clause-exact c is =
+pub returns-then-end-eq0-clause-value : goal.returns-then-end-eq0-clause-value
+returns-then-end-eq0-clause-value c is =
     let bound = c.up_to-end.ensures.bound in
     sym (nothing_found c.args.self.now.symbols c.args.index.now is c.args.address c.up_to-end.result bound
     (c.up_to-end.ensures.point (up_to_first c.args.self.now.symbols c.args.index.now is c.args.address))
     (omega arith))
 
-pub returns-then-found-end-clause-exact : goal.returns-then-found-end-clause-exact
-returns-then-found-end-clause-exact c is =
+pub returns-then-found-end-clause-value : goal.returns-then-found-end-clause-value
+returns-then-found-end-clause-value c is =
     let symbols = c.args.self.now.symbols in
     let index = c.args.index.now in
     let end = c.up_to-end.result in
@@ -22,8 +22,8 @@ returns-then-found-end-clause-exact c is =
     c.passed-found.result c.passed-found.ensures.bound second in
     absurd (omega (arith, inside))
 
-pub returns-clause-exact : goal.returns-clause-exact
-returns-clause-exact c is =
+pub returns-clause-value : goal.returns-clause-value
+returns-clause-value c is =
     let symbols = c.args.self.now.symbols in
     let index = c.args.index.now in
     let end = c.up_to-end.result in
