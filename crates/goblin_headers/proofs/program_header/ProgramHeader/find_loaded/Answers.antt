@@ -9,4 +9,4 @@ pub returns : goal.returns
 returns c =
     sym (option_map_id c.find.result)
     ∙ find_from_yields_List (loads c.args.address) _ _ c.find.result c.find.ensures.ran
-    (YieldsList-from_first (λ x. x) (λ left. left) c.args.segments.now c.iter.ensures.exact) (λ x b q k. search rules)
+    (YieldsList-from_first (λ x. x) (λ left. left) c.args.segments.now c.iter.ensures.value) (λ x b q k. search rules)

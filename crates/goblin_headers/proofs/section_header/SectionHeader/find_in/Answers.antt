@@ -9,4 +9,4 @@ returns c =
     position_from_yields_List
     (λ section. has_name (unparsed c.args.strings.now c.args.delim) section.sh_name c.args.name.now) _ _
     c.position.result c.position.ensures.ran
-    (YieldsList-from_first (λ x. x) (λ left. left) c.args.sections.now c.iter.ensures.exact) (λ x b q k. search rules)
+    (YieldsList-from_first (λ x. x) (λ left. left) c.args.sections.now c.iter.ensures.value) (λ x b q k. search rules)

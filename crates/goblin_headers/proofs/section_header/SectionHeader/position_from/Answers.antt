@@ -8,7 +8,7 @@ use Rattle.goblin_headers.proofs.section_header.SectionHeader.position_from.Goal
 pub returns-clause-value : goal.returns-clause-value
 returns-clause-value c =
     let rest = YieldsList-from_skip c.args.first
-    (YieldsList-from_first (λ x. x) (λ left. left) c.args.sections.now (c.skip.ensures.source ∙ c.iter.ensures.exact))
+    (YieldsList-from_first (λ x. x) (λ left. left) c.args.sections.now (c.skip.ensures.source ∙ c.iter.ensures.value))
     c.skip.ensures.count in
     position_from_yields_List
     (λ section. has_name (unparsed c.args.strings.now c.args.delim) section.sh_name c.args.name.now) _ _

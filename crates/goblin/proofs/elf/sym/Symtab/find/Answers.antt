@@ -8,5 +8,5 @@ pub returns : goal.returns
 returns c =
     position_from_yields_List
     (λ symbol. has_name c.args.names.now symbol.st_name c.args.name.now) _ _ c.position.result c.position.ensures.ran
-    (YieldsList-from_first (λ x. x) (λ left. left) c.args.self.now.symbols c.iter.ensures.exact)
+    (YieldsList-from_first (λ x. x) (λ left. left) c.args.self.now.symbols c.iter.ensures.value)
     (λ x b q k. search rules)
