@@ -10,7 +10,6 @@ pub mod error;
 pub mod find;
 mod last;
 mod marks;
-pub mod names;
 pub mod number;
 pub mod options;
 pub mod record;

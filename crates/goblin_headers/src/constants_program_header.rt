@@ -2,8 +2,6 @@
 ghost use Rattle.std.specs.Prelude.{◌≡◌};
 ghost use Rattle.goblin_headers.specs.SegmentNames.{segment_name};
 
-use goblin_base::names::name_of;
-
 // Segment types.
 
 /// No segment.
@@ -64,35 +62,33 @@ pub const PF_MASKOS: u32 = 0x0ff0_0000;
 /// The processor-specific flags.
 pub const PF_MASKPROC: u32 = 0xf000_0000;
 
-// The names of segment types.
-static TYPES: &[(u32, &str)] = &[
-    (PT_NULL, "PT_NULL"),
-    (PT_LOAD, "PT_LOAD"),
-    (PT_DYNAMIC, "PT_DYNAMIC"),
-    (PT_INTERP, "PT_INTERP"),
-    (PT_NOTE, "PT_NOTE"),
-    (PT_SHLIB, "PT_SHLIB"),
-    (PT_PHDR, "PT_PHDR"),
-    (PT_TLS, "PT_TLS"),
-    (PT_NUM, "PT_NUM"),
-    (PT_LOOS, "PT_LOOS"),
-    (PT_GNU_EH_FRAME, "PT_GNU_EH_FRAME"),
-    (PT_GNU_PROPERTY, "PT_GNU_PROPERTY"),
-    (PT_GNU_STACK, "PT_GNU_STACK"),
-    (PT_GNU_RELRO, "PT_GNU_RELRO"),
-    (PT_SUNWBSS, "PT_SUNWBSS"),
-    (PT_SUNWSTACK, "PT_SUNWSTACK"),
-    (PT_HIOS, "PT_HIOS"),
-    (PT_LOPROC, "PT_LOPROC"),
-    (PT_ARM_EXIDX, "PT_ARM_EXIDX"),
-    (PT_HIPROC, "PT_HIPROC"),
-];
-
 /// Returns the name of a segment type with its prefix, or `UNKNOWN_PT`. Two numbers have two
 /// constants each: their names are `PT_SUNWBSS` and `PT_HIOS`.
 #[tactic(auto, unfolding(crate::specs::SegmentNames::segment_name))]
 pub fn pt_to_str(pt: u32) -> &'static str
     ensures { result.now ≡ segment_name pt }
 {
-    name_of(TYPES, pt, "UNKNOWN_PT")
+    match pt {
+        PT_NULL => "PT_NULL",
+        PT_LOAD => "PT_LOAD",
+        PT_DYNAMIC => "PT_DYNAMIC",
+        PT_INTERP => "PT_INTERP",
+        PT_NOTE => "PT_NOTE",
+        PT_SHLIB => "PT_SHLIB",
+        PT_PHDR => "PT_PHDR",
+        PT_TLS => "PT_TLS",
+        PT_NUM => "PT_NUM",
+        PT_LOOS => "PT_LOOS",
+        PT_GNU_EH_FRAME => "PT_GNU_EH_FRAME",
+        PT_GNU_PROPERTY => "PT_GNU_PROPERTY",
+        PT_GNU_STACK => "PT_GNU_STACK",
+        PT_GNU_RELRO => "PT_GNU_RELRO",
+        PT_SUNWBSS => "PT_SUNWBSS",
+        PT_SUNWSTACK => "PT_SUNWSTACK",
+        PT_HIOS => "PT_HIOS",
+        PT_LOPROC => "PT_LOPROC",
+        PT_ARM_EXIDX => "PT_ARM_EXIDX",
+        PT_HIPROC => "PT_HIPROC",
+        _ => "UNKNOWN_PT",
+    }
 }

@@ -2,8 +2,6 @@
 ghost use Rattle.std.specs.Prelude.{◌≡◌};
 ghost use Rattle.goblin_headers.specs.SectionNames.{section_name, section_flag_name};
 
-use goblin_base::names::name_of;
-
 // Special section indices.
 
 /// No section.
@@ -159,73 +157,69 @@ pub const SHF_FLAGS: [u32; SHF_NUM_REGULAR_FLAGS] = [
     SHF_ORDERED,
 ];
 
-// The names of section types.
-static TYPES: &[(u32, &str)] = &[
-    (SHT_NULL, "SHT_NULL"),
-    (SHT_PROGBITS, "SHT_PROGBITS"),
-    (SHT_SYMTAB, "SHT_SYMTAB"),
-    (SHT_STRTAB, "SHT_STRTAB"),
-    (SHT_RELA, "SHT_RELA"),
-    (SHT_HASH, "SHT_HASH"),
-    (SHT_DYNAMIC, "SHT_DYNAMIC"),
-    (SHT_NOTE, "SHT_NOTE"),
-    (SHT_NOBITS, "SHT_NOBITS"),
-    (SHT_REL, "SHT_REL"),
-    (SHT_SHLIB, "SHT_SHLIB"),
-    (SHT_DYNSYM, "SHT_DYNSYM"),
-    (SHT_INIT_ARRAY, "SHT_INIT_ARRAY"),
-    (SHT_FINI_ARRAY, "SHT_FINI_ARRAY"),
-    (SHT_PREINIT_ARRAY, "SHT_PREINIT_ARRAY"),
-    (SHT_GROUP, "SHT_GROUP"),
-    (SHT_SYMTAB_SHNDX, "SHT_SYMTAB_SHNDX"),
-    (SHT_NUM, "SHT_NUM"),
-    (SHT_LOOS, "SHT_LOOS"),
-    (SHT_GNU_ATTRIBUTES, "SHT_GNU_ATTRIBUTES"),
-    (SHT_GNU_HASH, "SHT_GNU_HASH"),
-    (SHT_GNU_LIBLIST, "SHT_GNU_LIBLIST"),
-    (SHT_CHECKSUM, "SHT_CHECKSUM"),
-    (SHT_SUNW_MOVE, "SHT_SUNW_MOVE"),
-    (SHT_SUNW_COMDAT, "SHT_SUNW_COMDAT"),
-    (SHT_SUNW_SYMINFO, "SHT_SUNW_SYMINFO"),
-    (SHT_GNU_VERDEF, "SHT_GNU_VERDEF"),
-    (SHT_GNU_VERNEED, "SHT_GNU_VERNEED"),
-    (SHT_GNU_VERSYM, "SHT_GNU_VERSYM"),
-    (SHT_LOPROC, "SHT_LOPROC"),
-    (SHT_X86_64_UNWIND, "SHT_X86_64_UNWIND"),
-    (SHT_HIPROC, "SHT_HIPROC"),
-    (SHT_LOUSER, "SHT_LOUSER"),
-    (SHT_HIUSER, "SHT_HIUSER"),
-];
-
 /// Returns the name of a section type with its prefix, or `UNKNOWN_SHT`. Two numbers have two
 /// constants each: their names are `SHT_SUNW_MOVE` and `SHT_GNU_VERSYM`.
 #[tactic(auto, unfolding(crate::specs::SectionNames::section_name))]
 pub fn sht_to_str(sht: u32) -> &'static str
     ensures { result.now ≡ section_name sht }
 {
-    name_of(TYPES, sht, "UNKNOWN_SHT")
+    match sht {
+        SHT_NULL => "SHT_NULL",
+        SHT_PROGBITS => "SHT_PROGBITS",
+        SHT_SYMTAB => "SHT_SYMTAB",
+        SHT_STRTAB => "SHT_STRTAB",
+        SHT_RELA => "SHT_RELA",
+        SHT_HASH => "SHT_HASH",
+        SHT_DYNAMIC => "SHT_DYNAMIC",
+        SHT_NOTE => "SHT_NOTE",
+        SHT_NOBITS => "SHT_NOBITS",
+        SHT_REL => "SHT_REL",
+        SHT_SHLIB => "SHT_SHLIB",
+        SHT_DYNSYM => "SHT_DYNSYM",
+        SHT_INIT_ARRAY => "SHT_INIT_ARRAY",
+        SHT_FINI_ARRAY => "SHT_FINI_ARRAY",
+        SHT_PREINIT_ARRAY => "SHT_PREINIT_ARRAY",
+        SHT_GROUP => "SHT_GROUP",
+        SHT_SYMTAB_SHNDX => "SHT_SYMTAB_SHNDX",
+        SHT_NUM => "SHT_NUM",
+        SHT_LOOS => "SHT_LOOS",
+        SHT_GNU_ATTRIBUTES => "SHT_GNU_ATTRIBUTES",
+        SHT_GNU_HASH => "SHT_GNU_HASH",
+        SHT_GNU_LIBLIST => "SHT_GNU_LIBLIST",
+        SHT_CHECKSUM => "SHT_CHECKSUM",
+        SHT_SUNW_MOVE => "SHT_SUNW_MOVE",
+        SHT_SUNW_COMDAT => "SHT_SUNW_COMDAT",
+        SHT_SUNW_SYMINFO => "SHT_SUNW_SYMINFO",
+        SHT_GNU_VERDEF => "SHT_GNU_VERDEF",
+        SHT_GNU_VERNEED => "SHT_GNU_VERNEED",
+        SHT_GNU_VERSYM => "SHT_GNU_VERSYM",
+        SHT_LOPROC => "SHT_LOPROC",
+        SHT_X86_64_UNWIND => "SHT_X86_64_UNWIND",
+        SHT_HIPROC => "SHT_HIPROC",
+        SHT_LOUSER => "SHT_LOUSER",
+        SHT_HIUSER => "SHT_HIUSER",
+        _ => "UNKNOWN_SHT",
+    }
 }
-
-// The names of flags.
-static FLAGS: [(u32, &str); SHF_NUM_REGULAR_FLAGS] = [
-    (SHF_WRITE, "SHF_WRITE"),
-    (SHF_ALLOC, "SHF_ALLOC"),
-    (SHF_EXECINSTR, "SHF_EXECINSTR"),
-    (SHF_MERGE, "SHF_MERGE"),
-    (SHF_STRINGS, "SHF_STRINGS"),
-    (SHF_INFO_LINK, "SHF_INFO_LINK"),
-    (SHF_LINK_ORDER, "SHF_LINK_ORDER"),
-    (SHF_OS_NONCONFORMING, "SHF_OS_NONCONFORMING"),
-    (SHF_GROUP, "SHF_GROUP"),
-    (SHF_TLS, "SHF_TLS"),
-    (SHF_COMPRESSED, "SHF_COMPRESSED"),
-    (SHF_ORDERED, "SHF_ORDERED"),
-];
 
 /// Returns the name of one flag of [`SHF_FLAGS`] with its prefix, or `SHF_UNKNOWN`.
 #[tactic(auto, unfolding(crate::specs::SectionNames::section_flag_name))]
 pub fn shf_to_str(shf: u32) -> &'static str
     ensures { result.now ≡ section_flag_name shf }
 {
-    name_of(&FLAGS, shf, "SHF_UNKNOWN")
+    match shf {
+        SHF_WRITE => "SHF_WRITE",
+        SHF_ALLOC => "SHF_ALLOC",
+        SHF_EXECINSTR => "SHF_EXECINSTR",
+        SHF_MERGE => "SHF_MERGE",
+        SHF_STRINGS => "SHF_STRINGS",
+        SHF_INFO_LINK => "SHF_INFO_LINK",
+        SHF_LINK_ORDER => "SHF_LINK_ORDER",
+        SHF_OS_NONCONFORMING => "SHF_OS_NONCONFORMING",
+        SHF_GROUP => "SHF_GROUP",
+        SHF_TLS => "SHF_TLS",
+        SHF_COMPRESSED => "SHF_COMPRESSED",
+        SHF_ORDERED => "SHF_ORDERED",
+        _ => "SHF_UNKNOWN",
+    }
 }

@@ -157,6 +157,7 @@ impl ProgramHeader {
     /// # Errors
     ///
     /// Those of [`ProgramHeader::parse`] other than out of memory.
+    #[inline]
     pub fn table(
         bytes: &[u8],
         offset: usize,

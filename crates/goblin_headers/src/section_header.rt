@@ -166,6 +166,7 @@ impl SectionHeader {
     /// # Errors
     ///
     /// Those of [`SectionHeader::parse`] other than out of memory.
+    #[inline]
     #[tactic(auto, unfolding(goblin_base::specs::Table::records))]
     pub fn table(
         bytes: &[u8],

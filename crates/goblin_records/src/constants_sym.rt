@@ -2,8 +2,6 @@
 ghost use Rattle.std.specs.Prelude.{◌≡◌};
 ghost use Rattle.goblin_records.specs.SymParts.{bind_name, type_name, visibility_name};
 
-use goblin_base::names::name_of;
-
 // Bindings.
 
 /// A local symbol, not visible outside its object file.
@@ -71,59 +69,53 @@ pub const STV_SINGLETON: u8 = 5;
 /// Hidden, and not written to any symbol table.
 pub const STV_ELIMINATE: u8 = 6;
 
-// The names of bindings.
-static BINDS: &[(u32, &str)] = &[
-    (STB_LOCAL as u32, "LOCAL"),
-    (STB_GLOBAL as u32, "GLOBAL"),
-    (STB_WEAK as u32, "WEAK"),
-    (STB_NUM as u32, "NUM"),
-    (STB_GNU_UNIQUE as u32, "GNU_UNIQUE"),
-];
-
 /// Returns the name of a binding without its prefix, or `UNKNOWN_STB`.
 #[tactic(auto, unfolding(crate::specs::SymParts::bind_name))]
 pub fn bind_to_str(typ: u8) -> &'static str
     ensures { result.now ≡ bind_name typ }
 {
-    name_of(BINDS, typ as u32, "UNKNOWN_STB")
+    match typ {
+        STB_LOCAL => "LOCAL",
+        STB_GLOBAL => "GLOBAL",
+        STB_WEAK => "WEAK",
+        STB_NUM => "NUM",
+        STB_GNU_UNIQUE => "GNU_UNIQUE",
+        _ => "UNKNOWN_STB",
+    }
 }
-
-// The names of types.
-static TYPES: &[(u32, &str)] = &[
-    (STT_NOTYPE as u32, "NOTYPE"),
-    (STT_OBJECT as u32, "OBJECT"),
-    (STT_FUNC as u32, "FUNC"),
-    (STT_SECTION as u32, "SECTION"),
-    (STT_FILE as u32, "FILE"),
-    (STT_COMMON as u32, "COMMON"),
-    (STT_TLS as u32, "TLS"),
-    (STT_NUM as u32, "NUM"),
-    (STT_GNU_IFUNC as u32, "GNU_IFUNC"),
-];
 
 /// Returns the name of a type without its prefix, or `UNKNOWN_STT`.
 #[tactic(auto, unfolding(crate::specs::SymParts::type_name))]
 pub fn type_to_str(typ: u8) -> &'static str
     ensures { result.now ≡ type_name typ }
 {
-    name_of(TYPES, typ as u32, "UNKNOWN_STT")
+    match typ {
+        STT_NOTYPE => "NOTYPE",
+        STT_OBJECT => "OBJECT",
+        STT_FUNC => "FUNC",
+        STT_SECTION => "SECTION",
+        STT_FILE => "FILE",
+        STT_COMMON => "COMMON",
+        STT_TLS => "TLS",
+        STT_NUM => "NUM",
+        STT_GNU_IFUNC => "GNU_IFUNC",
+        _ => "UNKNOWN_STT",
+    }
 }
-
-// The names of visibilities.
-static VISIBILITIES: &[(u32, &str)] = &[
-    (STV_DEFAULT as u32, "DEFAULT"),
-    (STV_INTERNAL as u32, "INTERNAL"),
-    (STV_HIDDEN as u32, "HIDDEN"),
-    (STV_PROTECTED as u32, "PROTECTED"),
-    (STV_EXPORTED as u32, "EXPORTED"),
-    (STV_SINGLETON as u32, "SINGLETON"),
-    (STV_ELIMINATE as u32, "ELIMINATE"),
-];
 
 /// Returns the name of a visibility without its prefix, or `UNKNOWN_STV`.
 #[tactic(auto, unfolding(crate::specs::SymParts::visibility_name))]
 pub fn visibility_to_str(typ: u8) -> &'static str
     ensures { result.now ≡ visibility_name typ }
 {
-    name_of(VISIBILITIES, typ as u32, "UNKNOWN_STV")
+    match typ {
+        STV_DEFAULT => "DEFAULT",
+        STV_INTERNAL => "INTERNAL",
+        STV_HIDDEN => "HIDDEN",
+        STV_PROTECTED => "PROTECTED",
+        STV_EXPORTED => "EXPORTED",
+        STV_SINGLETON => "SINGLETON",
+        STV_ELIMINATE => "ELIMINATE",
+        _ => "UNKNOWN_STV",
+    }
 }

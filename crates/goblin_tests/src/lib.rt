@@ -17,7 +17,6 @@ mod error;
 #[cfg(test)]
 mod header;
 #[cfg(test)]
-mod names;
 #[cfg(test)]
 mod note;
 #[cfg(test)]
