@@ -69,6 +69,11 @@ static const struct { const char *what, *than; int ours, theirs; } rows[] = {
 };
 enum { ROWS = sizeof rows / sizeof rows[0] };
 
+/* Returns how often an action goes over a short table, so that reading the clock is a small part of its time. */
+static uint64_t rounds(uint64_t number) {
+    return number ? MOST / number + 1 : 0;
+}
+
 /* Reads relocations, notes or headers one by one, and returns the sum of what it reads. */
 static uint64_t run_one(int what) {
     uint64_t sum = 0;
@@ -96,11 +101,16 @@ static uint64_t run_one(int what) {
         if (what == GELF_EHDR && gelf_getehdr(elf, &ehdr)) sum += ehdr.e_shoff + ehdr.e_shnum;
     }
     if (what == SECTION)
-        for (uint64_t i = 0; !goblin_section(bytes, len, &header, i, sections, &why); i++) sum += sections->file.size;
+        for (uint64_t round = rounds(header.e_shnum); round > 0; round--)
+            for (uint64_t i = 0; i < header.e_shnum; i++)
+                if (!goblin_section(bytes, len, &header, i, sections, &why)) sum += sections->file.size;
     if (what == ALONE)
-        for (uint64_t i = 0; !goblin_section_alone(bytes, len, &header, i, sections, &why); i++) sum += sections->file.size;
+        for (uint64_t round = rounds(header.e_shnum); round > 0; round--)
+            for (uint64_t i = 0; i < header.e_shnum; i++)
+                if (!goblin_section_alone(bytes, len, &header, i, sections, &why)) sum += sections->file.size;
     if (what == GELF_SHDR)
-        for (size_t i = 0; i < header.e_shnum; i++) sum += gelf_getshdr(elf_getscn(elf, i), &section)->sh_size;
+        for (uint64_t round = rounds(header.e_shnum); round > 0; round--)
+            for (size_t i = 0; i < header.e_shnum; i++) sum += gelf_getshdr(elf_getscn(elf, i), &section)->sh_size;
     return sum;
 }
 
@@ -138,11 +148,6 @@ static uint64_t run_search(int what) {
     if (what == BSEARCH)
         for (uint64_t i = 0; i < placed; i++) sum += bsearch(addresses + i, addresses, placed, sizeof *addresses, compare) != NULL;
     return sum;
-}
-
-/* Returns how often an action goes over a short table, so that reading the clock is a small part of its time. */
-static uint64_t rounds(uint64_t number) {
-    return number ? MOST / number + 1 : 0;
 }
 
 /* Finds the range of a record in a table, by plain C. The size of the table must fit in 64 bits. */
@@ -343,13 +348,14 @@ static uint64_t items(int what) {
     if (what == NOTE || what == NOTE_BYTES) return notes.file.size ? CALLS : 0;
     if (what == HEADER) return CALLS;
     if (what == ADDRESS) return placed;
-    if (what == SECTION_PLACE || what == SECTIONS) return rounds(header.e_shnum) * header.e_shnum;
+    if (what == SECTION || what == ALONE || what == SECTION_PLACE || what == SECTIONS)
+        return rounds(header.e_shnum) * header.e_shnum;
     if (what == SEGMENT_PLACE) return rounds(header.e_phnum) * header.e_phnum;
     if (what == OFFSET) return header.e_phnum ? placed : 0;
     if (what == NAMED) return rounds(titled) * titled;
     if (what == CUT) return rounds(ranged) * ranged;
     if (what == SEGMENTS) return header.e_phnum ? CALLS : 0;
-    return what == SECTION || what == ALONE ? header.e_shnum : count;
+    return count;
 }
 
 /* Stores the ranges of the sections and their names, and cuts the file in the middle of its program headers. */
