@@ -1,25 +1,34 @@
 #!/usr/bin/env python3
-"""Checks that the program shows the files of checks/files/made as readelf lists them: python3 checks/files.py, from the repository's
-root, after `rt ci` has built the program by both compilers.
+"""Checks that the program shows files as readelf lists them. Run it from the repository's root.
 
-The files are objects, libraries and a core of both classes and byte orders, which checks/files/make.sh made. Beside each is the
-output of readelf -W -h -S -s -r for it, which is converted here to the program's words.
+    python3 checks/files.py         compares what the program shows of each file; after `rt ci` has built it by both compilers
+    python3 checks/files.py FILE    prints what the program is to show of one of the files
+
+The files of checks/files/made are objects, libraries and a core of both classes and byte orders, which checks/files/make.sh made.
+checks/files/symbols was written by hand. Beside each file is the output of readelf -W -h -S -s -r for it, which is converted here to
+the program's words.
 """
 import re
 import subprocess
 import sys
 
-FILES = ('i386_library', 'mips64el_object', 'powerpc_object', 's390x_library', 'x86_64_core', 'x86_64_library')
+MADE = ('i386_library', 'mips64el_object', 'powerpc_object', 's390x_library', 'x86_64_core', 'x86_64_library')
+FILES = ('checks/files/symbols', *(f'checks/files/made/{name}' for name in MADE))
 PROGRAMS = ('crates/goblin_show/out/goblin_show', 'crates/goblin_show/out/goblin_show.by-rattle')
-# The standard's names of what readelf says in words of its own.
-MACHINES = {'Intel 80386': '386', 'MIPS R3000': 'MIPS', 'PowerPC': 'PPC', 'IBM S/390': 'S390', 'Advanced Micro Devices X86-64': 'X86_64'}
+# The standard's names of what readelf says in words of its own. (EM_NONE has no name.)
+MACHINES = {'None': 'EM_UNKNOWN', 'Intel 80386': '386', 'MIPS R3000': 'MIPS', 'PowerPC': 'PPC', 'IBM S/390': 'S390',
+            'Advanced Micro Devices X86-64': 'X86_64'}
 ORDERS = {"2's complement, little endian": 'little', "2's complement, big endian": 'big'}
 # What only one processor knows has no name.
 UNKNOWN = re.compile(r'MIPS_\w+')
+# What readelf prints for a section's name if the file has no table of such names. The program prints nothing.
+NAMELESS = '<no-strings>'
 
 HEADER = re.compile(r'  ([A-Z][^:]*): +(.*)')
 SECTION = re.compile(r'  \[ *(\d+)\] (\S*) +([A-Z]\w*) +[0-9a-f]+ ([0-9a-f]+) ([0-9a-f]+) ')
 OF_TABLE = re.compile(r"(Symbol table|Relocation section) '([^']+)'")
+# The types of the sections that readelf calls by these words.
+KINDS = {'Symbol table': ('SYMTAB', 'DYNSYM'), 'Relocation section': ('REL', 'RELA')}
 SYMBOL = re.compile(r' *(\d+): ([0-9a-f]+) +(\d+) (\w+) +(\w+) +(\w+) +(\w+) ?(.*)')
 RELOCATION = re.compile(r'([0-9a-f]+) +([0-9a-f]+) R_\w+ *(.*)')
 
@@ -32,6 +41,7 @@ def header(said):
 
 def section(index, name, kind, offset, size):
     kind = 'UNKNOWN_SHT' if UNKNOWN.fullmatch(kind) else f'SHT_{kind}'
+    name = '' if name == NAMELESS else name
     return f'section {index} {kind} offset {int(offset, 16):#x} size {int(size, 16)} name={name}'
 
 
@@ -54,12 +64,12 @@ def relocation(table, index, offset, info, rest, is_wide, has_addends):
 
 def text_of(listing):
     """What the program is to show of a file of which readelf printed this."""
-    said, sections, symbols, relocations, table, indices = {}, [], {}, {}, None, {}
+    said, sections, symbols, relocations, table, tables = {}, [], {}, {}, None, {}
     for line in listing.split('\n'):
         if found := OF_TABLE.match(line):
-            table = indices[found[2]]
+            table = next(tables[kind, found[2]] for kind in KINDS[found[1]] if (kind, found[2]) in tables)
         elif found := SECTION.match(line):
-            indices[found[2]] = (int(found[1]), found[3])
+            tables[found[3], found[2]] = (int(found[1]), found[3])
             sections.append(section(*found.groups()))
         elif found := SYMBOL.match(line):
             symbols.setdefault(table[0], []).append(symbol(table[0], *found.groups()))
@@ -73,12 +83,17 @@ def text_of(listing):
     return '\n'.join([header(said), *sections, *of_symbols, *of_relocations, ''])
 
 
-def main():
+def wanted_of(path):
+    """What the program is to show of a file, by readelf's listing beside it."""
+    with open(f'{path}.readelf', encoding='utf-8') as listing:
+        return text_of(listing.read())
+
+
+def compare():
+    """Compares what the program, by each compiler, shows of each file, and returns the exit status."""
     wrong = lines = 0
-    for name in FILES:
-        path = f'checks/files/made/{name}'
-        with open(f'{path}.readelf', encoding='utf-8') as listing:
-            wanted = text_of(listing.read())
+    for path in FILES:
+        wanted = wanted_of(path)
         lines += wanted.count('\n')
         for program in PROGRAMS:
             with open(path, 'rb') as file:
@@ -91,4 +106,6 @@ def main():
 
 
 if __name__ == '__main__':
-    sys.exit(main())
+    if len(sys.argv) == 1:
+        sys.exit(compare())
+    print(wanted_of(sys.argv[1]), end='')

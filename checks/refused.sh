@@ -96,13 +96,15 @@ add_run() {
 names=crates/goblin_show/stdin
 { head -c 53 "$names"; printf '\377'; tail -c +55 "$names"; } > "$folder/damaged"
 printf 0123456789abcdef > "$folder/magic"
-add_run symbols 20 'strict 0' checks/files/symbols < checks/files/symbols.shown
+symbols=checks/files/symbols
+python3 checks/files.py $symbols > "$folder/wanted"
+add_run symbols 20 'strict 0' $symbols < "$folder/wanted"
 add_run relocations 20 'strict 0' checks/files/relocations < checks/files/relocations.shown
 add_run names 20 'strict 0' "$names" < crates/goblin_show/stdout
 sed 's/name=[.]s$/name=/' crates/goblin_show/stdout | add_run damaged 20 'permissive 0' "$folder/damaged"
 # (each of its cases takes seconds, so its count is small: few cases refuse an allocation that it doesn't make)
 echo 'refused: Invalid magic number: 0x3736353433323130' | add_run longest 8 'strict 16777200' "$folder/magic"
-add_run text 20 'text 0' checks/files/symbols < checks/files/symbols.shown
+add_run text 20 'text 0' $symbols < "$folder/wanted"
 echo refused | add_run text_damaged 20 'text 0' "$folder/damaged"
 try_allocations "$folder/crates/goblin_runs" "$folder/runs" symbols
 echo 'refused: with each allocation refused, every call reported out of memory or the same result as without'

@@ -1,6 +1,7 @@
 #!/bin/sh
-# Makes the files of checks/files/made, by binutils for five machines, and beside each what readelf lists of it:
-# sh checks/files/make.sh FOLDER. They were made by binutils 2.40 on Linux for x86-64, and nothing of them is anybody else's.
+# Makes the files of checks/files/made, by binutils for five machines, and lists them and checks/files/symbols by readelf:
+# sh checks/files/make.sh FOLDER. As checks/files, the FOLDER then has the folder made and the file symbols.readelf. They were made by
+# binutils 2.40 on Linux for x86-64, and nothing of them is anybody else's. (The file symbols was written by hand.)
 # Run from the repository's root. The commands are those of Debian's packages binutils, binutils-powerpc-linux-gnu,
 # binutils-s390x-linux-gnu and binutils-mips64el-linux-gnuabi64.
 set -eu
@@ -10,7 +11,12 @@ trap 'rm -rf "$folder"' EXIT
 trap 'exit 1' HUP INT TERM
 to=$(cd "$1" && pwd)
 source=$PWD/checks/files/made.s
+symbols=$PWD/checks/files/symbols
+mkdir -p "$to/made"
 cd "$folder"
+
+# Lists a file: list FILE
+list() { readelf -W -h -S -s -r "$1" 2> warnings; }
 
 # An object, by an assembler and with addresses of so many bytes.
 object() {
@@ -45,6 +51,7 @@ head -c 512 core > x86_64_core
 
 for name in powerpc_object mips64el_object i386_library s390x_library x86_64_library x86_64_core; do
     chmod 644 "$name"
-    readelf -W -h -S -s -r "$name" > "$name.readelf" 2> warnings
-    cp "$name" "$name.readelf" "$to/"
+    list "$name" > "$name.readelf"
+    cp "$name" "$name.readelf" "$to/made/"
 done
+list "$symbols" > "$to/symbols.readelf"
