@@ -17,6 +17,13 @@ if flag=$(sh checks/node_flag.sh); then
     call() { node ${flag:+"$flag"} "$@"; }
     call faces/web/test.mjs "$web" "$dump" "$@" "$dump"
     call faces/web/calls.mjs "$web" "$@" "$dump"
+    for script in test calls; do
+        said=$(call faces/web/$script.mjs "$folder" 2>&1) && { echo "$script.mjs accepts a folder without goblin.js"; exit 1; }
+        case $said in
+        "$folder has no goblin.js and no constants.js and no goblin_c.wasm"*'python3 faces/constants.py'*) ;;
+        *) echo "$script.mjs prints this of a folder without goblin.js: $said"; exit 1 ;;
+        esac
+    done
     for file in "$@"; do
         by_c=$(dirname "$dump")
         "$by_c/truncated" "$file" > "$folder/wanted"

@@ -7,9 +7,10 @@ import { join, resolve } from 'node:path';
 import { fileURLToPath, pathToFileURL } from 'node:url';
 import { runInNewContext } from 'node:vm';
 import { elf_file, note } from './elves.mjs';
+import { import_goblin } from './tested.mjs';
 
 const [, , web, ...paths] = process.argv;
-const goblin = await import(pathToFileURL(resolve(web, 'goblin.js')));
+const goblin = await import_goblin(web);
 const { Elf, GoblinError, Kind } = goblin;
 const files = paths.map((path) => readFileSync(path));
 const own = files.at(-1); // (a program for this machine, with relocations and both symbol tables)

@@ -5,12 +5,12 @@ import assert from 'node:assert/strict';
 import { spawnSync } from 'node:child_process';
 import { mkdtempSync, readFileSync, rmSync, writeFileSync } from 'node:fs';
 import { tmpdir } from 'node:os';
-import { join, resolve } from 'node:path';
-import { pathToFileURL } from 'node:url';
+import { join } from 'node:path';
+import { import_goblin } from './tested.mjs';
 
 const COPIES = 150, FEW = 3, ALONE = 20, FIRST = 16;
 const [, , web, dump, ...files] = process.argv;
-const goblin = await import(pathToFileURL(resolve(web, 'goblin.js')));
+const goblin = await import_goblin(web);
 
 // ---- goblin.h ----
 
