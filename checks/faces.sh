@@ -16,7 +16,8 @@ try() {
 }
 
 python3 faces/constants.py --check
-echo "the constants in C, Rust and JavaScript are the library's"
+python3 faces/constants.py --made
+echo "the constants in C are the library's, and those in Rust and JavaScript are made of it"
 try library
 if ! command -v cc > /dev/null; then
     echo "cc is not installed, so the calls from C, Rust and JavaScript are not tested: install a C compiler"

@@ -3,10 +3,12 @@
 
     python3 faces/constants.py            writes the end of faces/c/goblin.h, faces/rust/src/constants/*.rs and
                                           faces/web/constants.js
-    python3 faces/constants.py --check    writes nothing, and fails if a file is not what it would write
+    python3 faces/constants.py --made     writes only the files for Rust and JavaScript
+    python3 faces/constants.py --check    writes nothing, and fails if goblin.h is not what it would write
 
 The names, values, types and comments are those of crates/goblin_headers and crates/goblin_records. So a constant is written by
-hand only there.
+hand only there. Git has goblin.h, because it is read as documentation, and ignores the other files. faces/install.sh and
+checks/faces.sh make them; by hand they must be made before cargo or node reads them.
 
 Flags of sections and indices of sections get the type of the field that holds them: `sh_flags` and `st_shndx`. JavaScript also gets the
 number of the interface, from goblin.h.
@@ -18,6 +20,7 @@ import textwrap
 
 ROOT = os.path.dirname(os.path.dirname(os.path.abspath(__file__)))
 WIDTH = 120
+HEADER = 'faces/c/goblin.h'
 # Each record: its name in Rust, its crate, its title in JavaScript and C, and what its file in Rust holds.
 RECORDS = [
     ('header', 'goblin_headers', 'file headers', "The constants of a file's header"),
@@ -171,7 +174,7 @@ def js_object(record, bits, constants):
 
 def interface():
     """Returns the number of the interface."""
-    return re.search(r'^#define GOBLIN_VERSION (\d+)$', read('faces/c/goblin.h'), re.M)[1]
+    return re.search(r'^#define GOBLIN_VERSION (\d+)$', read(HEADER), re.M)[1]
 
 
 def js_file():
@@ -252,25 +255,35 @@ def c_part():
 
 
 def c_file():
-    text = read('faces/c/goblin.h')
+    text = read(HEADER)
     if text.count(START) != 1 or not text.endswith(END):
         sys.exit(f'constants.py: goblin.h must have one line {START.strip()!r}, and end with a line {END.strip()!r}')
     return text[:text.index(START)] + c_part() + END
 
 
+def write(name, text):
+    """Writes a file and returns True, or returns False if the file has this text."""
+    path = path_of(name)
+    if os.path.exists(path) and read(name) == text:
+        return False
+    os.makedirs(os.path.dirname(path), exist_ok=True)
+    with open(path, 'w', encoding='utf-8') as file:
+        file.write(text)
+    return True
+
+
 def main(arguments):
-    if arguments not in ([], ['--check']):
-        sys.exit('usage: python3 faces/constants.py [--check]')
-    files = [('faces/c/goblin.h', c_file()), *rust_files(), ('faces/web/constants.js', js_file())]
-    differing = [(name, text) for name, text in files if read(name) != text]
-    if arguments:
-        for name, _ in differing:
-            print(f'{name} does not have the constants of the library: run python3 faces/constants.py')
-        return 1 if differing else 0
-    for name, text in differing:
-        with open(path_of(name), 'w', encoding='utf-8') as file:
-            file.write(text)
-        print(f'{name} is written anew')
+    if arguments not in ([], ['--made'], ['--check']):
+        sys.exit('usage: python3 faces/constants.py [--made | --check]')
+    if arguments == ['--check']:
+        if read(HEADER) == c_file():
+            return 0
+        print(f'{HEADER} does not have the constants of the library: run python3 faces/constants.py')
+        return 1
+    for name, text in [*rust_files(), ('faces/web/constants.js', js_file())]:
+        write(name, text)
+    if not arguments and write(HEADER, c_file()):
+        print(f'{HEADER} is written anew')
     return 0
 
 

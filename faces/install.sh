@@ -75,6 +75,7 @@ install_below() {
     : > "$folder/files"
     if [ "$target" = wasm64-unknown-unknown ]; then kind=web; else kind=library; fi
     remove_from "$to" "$kind"
+    python3 faces/constants.py --made
     "install_$kind"
     install -m 644 "$folder/files" "$to/share/goblin_c/$kind.files"
 }
@@ -94,7 +95,7 @@ install_library() {
     put_all faces/rust/examples share/goblin_c/rust/examples
     # (what compares the crate with its repository stays there)
     put_all faces/rust/tests share/goblin_c/rust/tests ! -name repository.rs
-    put_edited 's|^license-file = .*|license-file = "LICENSE"|' faces/rust/Cargo.toml share/goblin_c/rust/Cargo.toml
+    put_edited 's|^license-file = .*|license-file = "LICENSE"|; /^# (git/d; /^include = /d' faces/rust/Cargo.toml share/goblin_c/rust/Cargo.toml
     if [ "$shared" ]; then
         link_shared
         put "$folder/shared" "$shared"

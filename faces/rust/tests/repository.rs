@@ -42,6 +42,9 @@ fn with_type_of_field(constant: &str) -> String {
     if of_flags || of_indices { constant.replacen("u32", wide, 1) } else { constant.to_string() }
 }
 
+/// What to do if the library's constants have changed since the crate's were made.
+const RUN: &str = "run `python3 faces/constants.py`";
+
 #[test]
 fn constants_are_the_library_s() {
     let mut theirs = constants("crates/goblin_headers/src");
@@ -52,9 +55,9 @@ fn constants_are_the_library_s() {
     theirs.sort();
     ours.sort();
     for (ours, theirs) in ours.iter().zip(&theirs) {
-        assert_eq!(ours, theirs);
+        assert_eq!(ours, theirs, "{RUN}");
     }
-    assert_eq!(ours.len(), theirs.len());
+    assert_eq!(ours.len(), theirs.len(), "{RUN}");
 }
 
 /// Returns the lines of a source that declare public types. `raw.rs` declares them by a macro.
