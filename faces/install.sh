@@ -88,14 +88,12 @@ install_library() {
     put LICENSE share/goblin_c/LICENSE
     for example in flag needed nm size strings symbolize truncated values; do put "faces/c/$example.c" "share/goblin_c/examples/$example.c"; done
     put LICENSE share/goblin_c/rust/LICENSE
-    # (what is installed has the constants, so it has no test for them)
-    put_edited "s|join(\"lib\")|join(\"$libdir\")|; /^\/\/\/ Fails if the constants of a checkout/,/^\$/d; /test_constants();/d" faces/rust/build.rs \
-        share/goblin_c/rust/build.rs
+    put_edited "s|join(\"lib\")|join(\"$libdir\")|" faces/rust/build.rs share/goblin_c/rust/build.rs
     put_all faces/rust/src share/goblin_c/rust/src
     put_all faces/rust/examples share/goblin_c/rust/examples
     # (what compares the crate with its repository stays there)
     put_all faces/rust/tests share/goblin_c/rust/tests ! -name repository.rs
-    put_edited 's|^license-file = .*|license-file = "LICENSE"|; /^# (git/d; /^include = /d' faces/rust/Cargo.toml share/goblin_c/rust/Cargo.toml
+    put_edited 's|^license-file = .*|license-file = "LICENSE"|' faces/rust/Cargo.toml share/goblin_c/rust/Cargo.toml
     if [ "$shared" ]; then
         link_shared
         put "$folder/shared" "$shared"
