@@ -3,15 +3,15 @@ use Rattle.std.specs.Prelude.{◌≡◌, ◌↔◌, ◌+◌, ◌≤◌, ◌==◌
 use Rattle.std.specs.Prelude.{if◌then◌else◌, List, position, slice_get, Option, Some, None}
 use Rattle.std.specs.List.{list_any}
 use Rattle.goblin_records.specs.declared.sym.Sym.{Sym}
+use Rattle.goblin_records.specs.Sym.{is_in_section}
 use Rattle.goblin_records.specs.SymParts.{type_of}
 
--- a symbol has an address in a section: its section index is one of the file's (from 1 on, below 0xff00, or the escape
--- 0xffff), and its type is none (0), an object (1), a function (2) or an indirect one (10)
+-- a symbol has an address in a section: its section index is one of the file's, and its type is none (0), an object
+-- (1), a function (2) or an indirect one (10)
 abbrev pub has_place : Sym → Bool
 has_place s =
     let typ = type_of s.st_info in
-    ((nat_lt 0 s.st_shndx && nat_lt s.st_shndx 0xff00) || s.st_shndx == 0xffff)
-    && (typ == 0 || typ == 1 || typ == 2 || typ == 10)
+    is_in_section s && (typ == 0 || typ == 1 || typ == 2 || typ == 10)
 
 -- it is at an address or below it
 abbrev pub is_below : ℕ → Sym → Bool

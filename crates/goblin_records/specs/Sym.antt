@@ -1,5 +1,5 @@
 -- Symbols of either class, and lists of them (System V gABI, "Symbol Table").
-use Rattle.std.specs.Prelude.{ℕ, List, codes, Result, [], ◌∷◌, slice_index}
+use Rattle.std.specs.Prelude.{ℕ, List, codes, Result, [], ◌∷◌, slice_index, Bool, ◌==◌, ◌&&◌, ◌||◌, nat_lt}
 use Rattle.goblin_base.specs.declared.container.Container.{Container}
 use Rattle.goblin_base.specs.declared.container.Container.TheVariants.{Little, Big}
 use Rattle.goblin_base.specs.declared.container.Ctx.{Ctx}
@@ -172,6 +172,10 @@ sym_image Big order s = sym64_image order (as64 s)
 abbrev pub sym_low : Container → Sym → Sym
 sym_low Little s = widened32 (sym32_low (as32 s))
 sym_low Big s = widened64 (sym64_low (as64 s))
+
+-- a symbol's section index is one of the file's: from 1 on, below 0xff00, or the escape 0xffff
+abbrev pub is_in_section : Sym → Bool
+is_in_section s = (nat_lt 0 s.st_shndx && nat_lt s.st_shndx 0xff00) || s.st_shndx == 0xffff
 
 -- `count` symbols from an offset on: too many to fit at any offset are refused, else the first that the bytes don't
 -- hold is

@@ -8,7 +8,7 @@ ghost use Rattle.goblin_base.specs.Steps.{with_size};
 ghost use Rattle.goblin_base.specs.declared.container.Container.{Container};
 ghost use Rattle.goblin_base.specs.declared.container.Endian.{Endian};
 ghost use Rattle.goblin_records.specs.Constants.{bind_numbers, type_numbers, visibility_numbers};
-ghost use Rattle.goblin_records.specs.Sym.{sym_size, sym_of, sym_image, sym_low, SymFits, symbols_from, sym_zero};
+ghost use Rattle.goblin_records.specs.Sym.{is_in_section, sym_size, sym_of, sym_image, sym_low, SymFits, symbols_from, sym_zero};
 ghost use Rattle.goblin_records.specs.SymParts.{bind_of, type_of, visibility_of, IsGlobalImport, IsImport, type_name};
 ghost use Rattle.goblin_records.specs.declared.sym.Sym.{Sym};
 
@@ -84,6 +84,16 @@ impl Sym {
         ensures { result ≡ visibility_of self.now.st_other }
     {
         st_visibility(self.st_other)
+    }
+
+    /// Reports whether the symbol lies in a section of the file: `st_shndx` is from 1 on and below
+    /// 0xff00 (`SHN_LORESERVE`), or it is 0xffff (`SHN_XINDEX`), which says that the index stands
+    /// elsewhere.
+    #[inline]
+    pub fn is_in_section(&self) -> bool
+        ensures value { result ≡ is_in_section self.now }
+    {
+        (self.st_shndx > 0 && self.st_shndx < 0xff00) || self.st_shndx == 0xffff
     }
 
     /// Reads the `count` symbols from an offset on, as a vector. If `count` is 0 the vector is

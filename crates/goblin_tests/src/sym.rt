@@ -310,6 +310,28 @@ fn finds_imports(rt: HostRuntime) {
     assert!(rt; is(rt, others, [false; 3]));
 }
 
+// Section indices, and whether each is that of a section of the file: not 0 and below 0xff00, or the escape 0xffff.
+static SECTION_INDICES: [(usize, bool); 6] = [
+    (0, false),
+    (1, true),
+    (0xfeff, true),
+    (0xff00, false),
+    (0xfff1, false),
+    (0xffff, true),
+];
+
+// Reports whether a symbol with this section index lies in a section of the file.
+fn is_in_section(st_shndx: usize) -> bool {
+    Sym { st_shndx, ..ZERO }.is_in_section()
+}
+
+#[test]
+fn reports_symbols_in_sections(rt: HostRuntime) {
+    for row in &SECTION_INDICES {
+        assert!(rt; holds(rt, row, is(rt, is_in_section(row.0), row.1)));
+    }
+}
+
 // The names of bindings.
 static BINDS: [(u8, &str); 8] = [
     (0, "LOCAL"),

@@ -262,13 +262,11 @@ fn has_place(symbol: &Sym) -> bool
     ensures { result ≡ has_place symbol.now }
 {
     let typ = symbol.st_type();
-    let shndx = symbol.st_shndx;
-    let is_of_section = (shndx > 0 && shndx < 0xff00) || shndx == 0xffff;
     let is_of_bytes = typ == STT_NOTYPE
         || typ == STT_OBJECT
         || typ == STT_FUNC
         || typ == STT_GNU_IFUNC;
-    is_of_section && is_of_bytes
+    symbol.is_in_section() && is_of_bytes
 }
 
 // Reports whether a symbol that has a place is at an address or below it.
