@@ -17,6 +17,8 @@ use Rattle.goblin_headers.specs.declared.header32.Header.{Header as Raw32}
 use Rattle.goblin_headers.specs.declared.header64.Header.{Header as Raw64}
 use Rattle.goblin_headers.specs.ProgramHeader.{program_header_size}
 use Rattle.goblin_headers.specs.SectionHeader.{section_header_size}
+use Rattle.goblin_headers.specs.SectionHeaders.{names_index}
+use Rattle.goblin_headers.specs.declared.section_header.SectionHeader.{SectionHeader}
 
 -- ---- the 32-bit class
 -- the size of a 32-bit header in bytes
@@ -161,6 +163,10 @@ ctx_of h = do
   class ← class_of InvalidClass h.e_ident
   order ← order_of InvalidEndianness h.e_ident
   Ok (record { container = class; le = order })
+
+-- the index of the section that holds the section names, if this is the first section
+abbrev pub names_index_of : Header → Option SectionHeader → ℕ
+names_index_of h first = names_index h.e_shstrndx first
 
 -- an identification of 16 bytes that names this byte order
 pub record NamesOrder (order : Endian) (ident : List ℕ) : Type 0 where

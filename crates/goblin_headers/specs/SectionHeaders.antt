@@ -87,12 +87,12 @@ section_headers_whole bytes offset count ctx = do
   stated ← section_headers_stated bytes offset count ctx
   Ok (whole_of (length bytes) offset (section_header_size ctx.container) stated)
 
--- the index of the section that holds the section names: `e_shstrndx`, or the first section's `sh_link` if that is
--- 0xffff
+-- the `sh_link` of the first section, or 0 if there are no sections
 abbrev pub link_of : Option SectionHeader → ℕ
 link_of (Some section) = section.sh_link
 link_of None = 0
 
+-- the index of the section that holds the section names: the index in the header, or that link if it is 0xffff
 abbrev pub names_index : ℕ → Option SectionHeader → ℕ
 names_index index first = if index == 0xffff then link_of first else index
 

@@ -55,7 +55,8 @@ pub struct Header {
 
 impl Header {
     ghost use Rattle.goblin_base.specs.declared.error.Fault.TheVariants as faults;
-    ghost use Rattle.goblin_headers.specs.Header.{class_of, ctx_of, new_header, order_of};
+    ghost use Rattle.std.specs.Option.{option_map};
+    ghost use Rattle.goblin_headers.specs.Header.{class_of, ctx_of, names_index_of, new_header, order_of};
 
     /// Returns the size of a header in this context: 52 or 64 bytes.
     pub fn size(ctx: Ctx) -> usize
@@ -104,6 +105,16 @@ impl Header {
         ensures value { result ≡ ctx_of self.now }
     {
         Ok(Ctx::new(self.container()?, self.endianness()?))
+    }
+
+    /// Returns the index of the section that holds the section names, as
+    /// [`SectionHeader::names_index`] does: the index in the header, or the `sh_link` of the first
+    /// section if that index is 0xffff.
+    pub fn names_index(&self, first: Option<&SectionHeader>) -> usize
+        ensures value { let seen = option_map (λ section. section.now) first.entry in
+            result ≡ names_index_of self.now seen }
+    {
+        SectionHeader::names_index(self.e_shstrndx, first)
     }
 
     /// Returns a header of a shared object file in this context, with no program headers and no

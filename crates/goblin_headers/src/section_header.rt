@@ -245,15 +245,16 @@ impl SectionHeader {
         SectionHeader::count_from(bytes, offset, count, ctx)
     }
 
-    /// Returns the index of the section that holds the section names. This is the header's
-    /// `e_shstrndx`, unless it is 0xffff (`SHN_XINDEX`): then it is the `sh_link` of the first
-    /// section, or 0 if there are no sections.
-    pub fn names_index(e_shstrndx: u16, first: Option<&SectionHeader>) -> usize
+    /// Returns the index of the section that holds the section names, from the index in the file's
+    /// header and the first section. It is the header's index, unless that is 0xffff (`SHN_XINDEX`):
+    /// then it is the `sh_link` of the first section, or 0 if there are no sections.
+    /// `Header::names_index` asks with the index of a header.
+    pub fn names_index(index: u16, first: Option<&SectionHeader>) -> usize
         ensures { let seen = option_map (λ section. section.now) first.entry in
-            result ≡ names_index e_shstrndx seen }
+            result ≡ names_index index seen }
     {
-        if u32::from(e_shstrndx) != SHN_XINDEX {
-            return usize::from(e_shstrndx);
+        if u32::from(index) != SHN_XINDEX {
+            return usize::from(index);
         }
         match first {
             Some(section) => section.sh_link as usize,

@@ -8,6 +8,7 @@ use goblin_headers::header::{
     EM_386, EM_AARCH64, EM_CSKY, EM_INTELGT, EM_LOONGARCH, EM_M32, EM_NONE, EM_NUM, EM_X86_64,
     Header, class_to_str, et_to_str, machine_to_str,
 };
+use goblin_headers::section_header::SectionHeader;
 use goblin_headers::{header, header32, header64};
 
 // A 64-bit header in big byte order, each field with a number of its own, and the header.
@@ -277,6 +278,36 @@ fn reads_back(rt: HostRuntime, ctx: Ctx) -> bool {
 fn reads_what_was_written(rt: HostRuntime) {
     assert!(rt; reads_back(rt, Ctx::new(Container::Little, BE)));
     assert!(rt; reads_back(rt, Ctx::new(Container::Big, LE)));
+}
+
+// The index in a header, the `sh_link` of the first section if there is one, and the index of the section that holds the
+// names.
+static NAMES_AT: [(u16, Option<u32>, usize); 4] = [
+    (1, Some(7), 1),
+    (0xfffe, Some(7), 0xfffe),
+    (0xffff, Some(0x10000), 0x10000),
+    (0xffff, None, 0),
+];
+
+fn names_at(e_shstrndx: u16, link: Option<u32>) -> usize {
+    let header = Header { e_shstrndx, ..READ };
+    match link {
+        Some(sh_link) => {
+            let first = SectionHeader {
+                sh_link,
+                ..SectionHeader::new()
+            };
+            header.names_index(Some(&first))
+        }
+        None => header.names_index(None),
+    }
+}
+
+#[test]
+fn finds_the_section_of_the_names(rt: HostRuntime) {
+    for row in &NAMES_AT {
+        assert!(rt; holds(rt, row, is(rt, names_at(row.0, row.1), row.2)));
+    }
 }
 
 static MACHINES: [(u16, &str); 14] = [

@@ -577,7 +577,7 @@ fn links_to_sections_with_bytes(rt: HostRuntime) {
     assert!(rt; is(rt, linked(3), [None; 2]));
 }
 
-// A header's `e_shstrndx`, the `sh_link` of the first section if there is one, and the index of the section
+// The index in a header, the `sh_link` of the first section if there is one, and the index of the section
 // that holds the names.
 static NAMES_AT: [(u16, Option<u32>, usize); 5] = [
     (2, Some(7), 2),
@@ -587,16 +587,16 @@ static NAMES_AT: [(u16, Option<u32>, usize); 5] = [
     (0xffff, None, 0),
 ];
 
-fn names_at(e_shstrndx: u16, link: Option<u32>) -> usize {
+fn names_at(index: u16, link: Option<u32>) -> usize {
     match link {
         Some(sh_link) => {
             let first = SectionHeader {
                 sh_link,
                 ..section()
             };
-            SectionHeader::names_index(e_shstrndx, Some(&first))
+            SectionHeader::names_index(index, Some(&first))
         }
-        None => SectionHeader::names_index(e_shstrndx, None),
+        None => SectionHeader::names_index(index, None),
     }
 }
 

@@ -5,6 +5,7 @@ use Rattle.goblin.specs.declared.container.Ctx.{Ctx}
 use Rattle.goblin.specs.declared.elf.header.Header.{Header}
 use Rattle.goblin.specs.declared.elf.section_header.SectionHeader.{SectionHeader}
 use Rattle.goblin.specs.declared.options.ParseMode.TheVariants.{Strict, Permissive}
+use Rattle.goblin.specs.Header.{names_index_of}
 use Rattle.goblin.specs.ReadHeader.{read_header}
 use Rattle.goblin.specs.Refusal.{Refusal, refusal_of}
 use Rattle.goblin.specs.SectionHeaders.{section_headers_of}
@@ -13,7 +14,6 @@ use Rattle.goblin.specs.StrtabLaws.{StrictIsPermissive}
 use Rattle.goblin.specs.Sym.{sym_size}
 use Rattle.goblin.specs.Symtab.{symtab_by}
 use Rattle.goblin.specs.SymtabLaws.{permissive_keeps_strict}
-use Rattle.goblin.specs.SectionHeaders.{names_index}
 use Rattle.std.specs.Prelude.{slice_get}
 use Rattle.goblin_text.specs.Shown.{ctx_of, each_shown, file_shown, has_symbols, sections_of, shown, sizes_checked}
 use Rattle.goblin_text.specs.Shown.{strings_at, strings_of, symbols_shown, PermissiveShowsStrict}
@@ -87,8 +87,8 @@ file : StrictIsPermissive → (bytes : List ℕ) (h : Header) (ctx : Ctx) (found
     → Keeps (file_shown Strict bytes h ctx found) (file_shown Permissive bytes h ctx found)
 unfolding file_shown
 file strtabs bytes h ctx found =
-    steps (strings_at Strict bytes found (names_index h.e_shstrndx (slice_get found 0))) _ _ _
-    (strings strtabs bytes found (names_index h.e_shstrndx (slice_get found 0))) λ names.
+    steps (strings_at Strict bytes found (names_index_of h (slice_get found 0))) _ _ _
+    (strings strtabs bytes found (names_index_of h (slice_get found 0))) λ names.
     steps (each_shown (symbols_shown Strict bytes ctx found) 0 found) _ _ _
     (each _ _ (symbols strtabs bytes ctx found) 0 found) λ symbols. same _
 

@@ -10,10 +10,10 @@ use Rattle.goblin.specs.declared.error.Error.{Error}
 use Rattle.goblin.specs.declared.error.Fault.TheVariants.{InvalidClass, InvalidEndianness}
 use Rattle.goblin.specs.declared.options.ParseMode.{ParseMode}
 use Rattle.goblin.specs.declared.options.ParseMode.TheVariants.{Strict, Permissive}
-use Rattle.goblin.specs.Header.{class_of, order_of}
+use Rattle.goblin.specs.Header.{class_of, names_index_of, order_of}
 use Rattle.goblin.specs.ReadHeader.{read_header}
 use Rattle.goblin.specs.Refusal.{Refusal, out_of_memory, refusal_of}
-use Rattle.goblin.specs.SectionHeaders.{names_index, section_headers_of, section_headers_of_tested, size_checked_in}
+use Rattle.goblin.specs.SectionHeaders.{section_headers_of, section_headers_of_tested, size_checked_in}
 use Rattle.goblin.specs.RelocSection.{is_of_mips64el, relocs_of}
 use Rattle.goblin.specs.Steps.{◌>>=◌, refuse_as}
 use Rattle.goblin.specs.Strtab.{StringTable, look_up, strtab_of}
@@ -118,7 +118,7 @@ each_shown show number (s ∷ sections) = do
 -- section, and after these one for each symbol and then one for each relocation
 unfoldable pub file_shown : ParseMode → List ℕ → Header → Ctx → List SectionHeader → Result (List ℕ) Refusal
 file_shown mode bytes h ctx sections = do
-  names ← strings_at mode bytes sections (names_index h.e_shstrndx (slice_get sections 0))
+  names ← strings_at mode bytes sections (names_index_of h (slice_get sections 0))
   symbols ← each_shown (symbols_shown mode bytes ctx sections) 0 sections
   relocs ← each_shown (relocs_shown bytes ctx (is_of_mips64el h)) 0 sections
   Ok (header_line h & section_lines names 0 sections & symbols & relocs)

@@ -258,7 +258,7 @@ impl Context<'_> {
             IsShort file.old.bytes → LooksByResult file.old file.new result most }
         ensures looks_least { CountsAtLeast file.old.count 0 file.new.count }
     {
-        let index = SectionHeader::names_index(self.header.e_shstrndx, self.sections.first());
+        let index = self.header.names_index(self.sections.first());
         let strings = self.strings_at(&mut file.names, index)?;
         let mut symbols = Vec::new(alloc);
         self.accept_all_symbols(file, &mut symbols)?;
