@@ -1,7 +1,7 @@
 -- The expected results of calls, by the library's definitions: an item, none past the last one, or a refusal.
 use Rattle.std.specs.Prelude.{ℕ, ◌+◌, ◌/◌, ◌==◌, ◌||◌, nat_le, if◌then◌else◌, List, length, drop, map, position}
-use Rattle.std.specs.Prelude.{slice_get, slice_index, Bool, pos, unwrap_or, Option, Some, None, Result, Ok}
-use Rattle.std.specs.Option.{option_map, is_some}
+use Rattle.std.specs.Prelude.{slice_get, Bool, Option, Some, None, Result, Ok}
+use Rattle.std.specs.Option.{option_map}
 use Rattle.goblin_base.specs.declared.container.Ctx.{Ctx}
 use Rattle.goblin_base.specs.declared.container.Container.TheVariants as class
 use Rattle.goblin_base.specs.declared.container.Endian.TheVariants as endian
@@ -10,7 +10,6 @@ use Rattle.goblin_base.specs.Refusal.{malformed, refusal_of}
 use Rattle.goblin_base.specs.Steps.{◌>>=◌, refuse_as}
 use Rattle.goblin_base.specs.Strtab.{range_in, plain, has_name, unparsed}
 use Rattle.goblin.specs.Addresses.{symbol_at}
-use Rattle.goblin.specs.declared.elf.header.Header.{Header}
 use Rattle.goblin.specs.declared.elf.section_header.SectionHeader.{SectionHeader}
 use Rattle.goblin.specs.ReadHeader.{read_header}
 use Rattle.goblin.specs.SectionHeaders.{names_index, section_headers_of}
@@ -28,77 +27,8 @@ use Rattle.goblin_c.specs.declared.types.GoblinSection.{GoblinSection}
 use Rattle.goblin_c.specs.declared.types.GoblinSegment.{GoblinSegment}
 use Rattle.goblin_c.specs.declared.types.GoblinReloc.{GoblinReloc}
 use Rattle.goblin_c.specs.declared.types.GoblinSymbol.{GoblinSymbol}
-use Rattle.goblin_c.specs.Status.{number_of_bool}
-
--- a header for C
-abbrev pub header_converted : Header → GoblinHeader
-header_converted h = record {
-  e_entry = h.e_entry;
-  e_phoff = h.e_phoff;
-  e_shoff = h.e_shoff;
-  e_version = h.e_version;
-  e_flags = h.e_flags;
-  e_type = h.e_type;
-  e_machine = h.e_machine;
-  e_ehsize = h.e_ehsize;
-  e_phentsize = h.e_phentsize;
-  e_phnum = h.e_phnum;
-  e_shentsize = h.e_shentsize;
-  e_shnum = h.e_shnum;
-  e_shstrndx = h.e_shstrndx;
-  ei_class = slice_index h.e_ident 4;
-  ei_data = slice_index h.e_ident 5;
-  ei_version = slice_index h.e_ident 6;
-  ei_osabi = slice_index h.e_ident 7;
-  ei_abiversion = slice_index h.e_ident 8;
-}
-
--- of a section header
-abbrev pub section_converted : SectionHeader → GoblinSection
-section_converted s = record {
-  file = record { offset = s.sh_offset; size = s.sh_size };
-  sh_name = s.sh_name;
-  sh_flags = s.sh_flags;
-  sh_addr = s.sh_addr;
-  sh_addralign = s.sh_addralign;
-  sh_entsize = s.sh_entsize;
-  sh_type = s.sh_type;
-  sh_link = s.sh_link;
-  sh_info = s.sh_info;
-}
-
--- of a program header
-abbrev pub segment_converted : ProgramHeader → GoblinSegment
-segment_converted s = record {
-  file = record { offset = s.p_offset; size = s.p_filesz };
-  p_vaddr = s.p_vaddr;
-  p_paddr = s.p_paddr;
-  p_memsz = s.p_memsz;
-  p_align = s.p_align;
-  p_type = s.p_type;
-  p_flags = s.p_flags;
-}
-
--- of a symbol
-abbrev pub symbol_converted : Sym → GoblinSymbol
-symbol_converted s = record {
-  st_name = s.st_name;
-  st_shndx = s.st_shndx;
-  st_value = s.st_value;
-  st_size = s.st_size;
-  st_info = s.st_info;
-  st_other = s.st_other;
-}
-
--- of a relocation
-abbrev pub reloc_converted : Reloc → GoblinReloc
-reloc_converted r = record {
-  r_offset = r.r_offset;
-  r_sym = r.r_sym;
-  r_addend = unwrap_or r.r_addend (pos 0);
-  r_type = r.r_type;
-  has_addend = number_of_bool (is_some r.r_addend);
-}
+use Rattle.goblin_c.specs.Types.{header_converted, reloc_converted, section_converted, segment_converted}
+use Rattle.goblin_c.specs.Types.{symbol_converted}
 
 -- the class and the byte order that C hands back
 abbrev pub ctx_of : GoblinHeader → Ctx

@@ -10,7 +10,7 @@ use Rattle.goblin_c.specs.declared.types.GoblinRange.{GoblinRange}
 use Rattle.goblin_c.specs.declared.types.GoblinRefusal.{GoblinRefusal}
 use Rattle.goblin_c.specs.Answers.{symbols_expected, symbol_by_address_expected}
 use Rattle.goblin_c.specs.Refused.{RefusalAt}
-use Rattle.goblin_c.specs.Status.{refusal_converted}
+use Rattle.goblin_c.specs.Types.{refusal_converted}
 
 -- an array begins with an index of n entries; past as many as there are symbols with a place it is unchanged
 pub record HoldsIndex (symbols : List Sym) (old new : List ℕ) (n : ℕ) : Type 0 where

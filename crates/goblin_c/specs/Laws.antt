@@ -21,8 +21,7 @@ use Rattle.goblin.specs.declared.elf.sym.Sym.{Sym}
 use Rattle.goblin.specs.Sym.{sym_size}
 use Rattle.goblin.specs.Symtab.{symtab_of}
 use Rattle.goblin_c.specs.Refused.{RefusalAt, refused_at}
-use Rattle.goblin_c.specs.Answers.{ctx_of, header_converted, is_mips64el, reloc_converted, section_converted}
-use Rattle.goblin_c.specs.Answers.{segment_converted, symbol_converted, section_by_type_expected}
+use Rattle.goblin_c.specs.Answers.{ctx_of, is_mips64el, section_by_type_expected}
 use Rattle.goblin_c.specs.Answers.{section_count_expected, section_expected, segment_count_expected, segment_expected}
 use Rattle.goblin_c.specs.Answers.{symbol_expected, reloc_expected, string_expected, symbol_count_expected}
 use Rattle.goblin_c.specs.Answers.{reloc_count_expected, sections_from_expected, symbols_from_expected}
@@ -32,7 +31,8 @@ use Rattle.goblin_c.specs.Bytes.{section_bytes_expected, segment_bytes_expected,
 use Rattle.goblin_c.specs.Bytes.{string_is_expected, string_starts_expected}
 use Rattle.goblin_c.specs.Laid.{closed, laid}
 use Rattle.goblin_c.specs.Notes.{note_bytes_expected, note_expected}
-use Rattle.goblin_c.specs.Status.{refusal_converted}
+use Rattle.goblin_c.specs.Types.{header_converted, refusal_converted, reloc_converted, section_converted}
+use Rattle.goblin_c.specs.Types.{segment_converted, symbol_converted}
 use Rattle.goblin_c.specs.declared.types.GoblinHeader.{GoblinHeader}
 use Rattle.goblin_c.specs.declared.types.GoblinNote.{GoblinNote}
 use Rattle.goblin_c.specs.declared.types.GoblinRange.{GoblinRange}

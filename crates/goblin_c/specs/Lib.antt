@@ -12,3 +12,4 @@ pub mod Refused
 pub mod Status
 pub mod TextLaws
 pub mod Texts
+pub mod Types

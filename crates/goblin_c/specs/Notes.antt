@@ -1,7 +1,6 @@
 -- The note that a call stores.
 use Rattle.std.specs.Prelude.{◌≡◌, ℕ, ◌+◌, nat_le, if◌then◌else◌, List, take, drop, Option, Some, None, Result, Ok, Err}
 use Rattle.goblin_base.specs.Steps.{◌>>=◌}
-use Rattle.goblin.specs.declared.elf.note.NotePlaces.{NotePlaces}
 use Rattle.goblin.specs.declared.elf.note.NotePart.{NotePart}
 use Rattle.goblin.specs.declared.elf.note.NotePart.TheVariants.{Header, Name, Desc}
 use Rattle.goblin.specs.Note.{PartRefusal, places_at, whole_places}
@@ -12,16 +11,7 @@ use Rattle.goblin_c.specs.declared.types.GoblinNote.{GoblinNote}
 use Rattle.goblin_c.specs.declared.types.GoblinRange.{GoblinRange}
 use Rattle.goblin_c.specs.declared.types.GoblinRefusal.{GoblinRefusal}
 use Rattle.goblin_c.specs.declared.kinds.TheConstants.{OK, END, NOTE_HEADER, NOTE_NAME, NOTE_DESC}
-use Rattle.goblin_c.specs.Status.{refusal_converted}
-
--- the note at an offset for C, whose parts lie at these places, counted from the offset
-abbrev pub note_converted : ℕ → NotePlaces → GoblinNote
-note_converted offset places = record {
-  name = record { offset = offset + places.name; size = places.name_size };
-  desc = record { offset = offset + places.desc; size = places.desc_size };
-  next = offset + places.next;
-  n_type = places.n_type;
-}
+use Rattle.goblin_c.specs.Types.{note_converted, refusal_converted}
 
 -- the note at an offset: none from the range's end on
 abbrev pub note_expected : List ℕ → GoblinHeader → GoblinRange → ℕ → ℕ → Result (Option GoblinNote) RefusalAt

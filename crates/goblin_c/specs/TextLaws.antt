@@ -26,15 +26,15 @@ use Rattle.goblin_c.specs.Answers.{segment_expected}
 use Rattle.goblin_c.specs.Answers.{segments_expected, string_expected, strings_expected, symbol_by_address_expected}
 use Rattle.goblin_c.specs.Answers.{symbol_by_name_expected, symbol_count_expected, symbol_expected}
 use Rattle.goblin_c.specs.Answers.{symbols_from_expected, symbols_expected}
-use Rattle.goblin_c.specs.Answers.{count_of, each_converted, item_of, items_from, reloc_converted, section_converted}
-use Rattle.goblin_c.specs.Answers.{segment_converted, symbol_converted, table_expected}
+use Rattle.goblin_c.specs.Answers.{count_of, each_converted, item_of, items_from, table_expected}
 use Rattle.goblin_c.specs.Bytes.{number_expected, section_bytes_expected, segment_bytes_expected, string_bytes_expected}
 use Rattle.goblin_c.specs.Bytes.{string_is_expected, string_starts_expected}
 use Rattle.goblin_c.specs.Alone.{section_alone_expected, segment_alone_expected, whole_sections_expected}
 use Rattle.goblin_c.specs.Notes.{note_expected}
 use Rattle.goblin_c.specs.Places.{address_to_offset_expected, bytes_by_name_expected, number_in_expected}
 use Rattle.goblin_c.specs.Places.{section_place_expected, segment_place_expected, symbol_place_expected}
-use Rattle.goblin_c.specs.Status.{refusal_converted}
+use Rattle.goblin_c.specs.Types.{refusal_converted, reloc_converted, section_converted, segment_converted}
+use Rattle.goblin_c.specs.Types.{symbol_converted}
 use Rattle.goblin_c.specs.Texts.{NamesKnown, TextIsSame, converted_text}
 
 pub text-same : TextIsSame

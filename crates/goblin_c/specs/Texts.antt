@@ -7,7 +7,7 @@ use Rattle.goblin_base.specs.Texts.{Facts, facts_text, kind_with, refusal_text}
 use Rattle.goblin_c.specs.declared.kinds.TheConstants.{INVALID_UTF8, SECTION_HEADERS, PROGRAM_HEADERS}
 use Rattle.goblin_c.specs.declared.types.GoblinRefusal.{GoblinRefusal}
 use Rattle.goblin_c.specs.Refused.{RefusalAt}
-use Rattle.goblin_c.specs.Status.{refusal_converted}
+use Rattle.goblin_c.specs.Types.{refusal_converted}
 
 -- the item with a number, and the empty text for any other number
 abbrev pub item_text : ℕ → List ℕ

@@ -1,15 +1,16 @@
 //! The header, the section headers and the program headers, as the library reads them.
 ghost use Rattle.std.specs.Prelude.{◌≡◌, ◌+◌, ◌<◌, ◌==◌, ◌^◌, IfSome, drop, map, position};
 ghost use Rattle.goblin_c.specs.Refused.{Answers};
-ghost use Rattle.goblin_c.specs.Answers.{ctx_of, header_expected, header_converted, section_by_type_expected, section_names_expected, section_converted, sections_expected, segment_converted, segments_expected, table_at, table_expected};
+ghost use Rattle.goblin_c.specs.Answers.{ctx_of, header_expected, section_by_type_expected, section_names_expected, sections_expected, segments_expected, table_at, table_expected};
+ghost use Rattle.goblin_c.specs.Types.{section_converted, segment_converted};
 
 use crate::lists::Listed;
 use crate::refused::{Result, refused_at};
-use crate::types::{GoblinHeader, GoblinRange, GoblinSection, GoblinSegment};
-use goblin::container::{Container, Ctx, Endian};
-use goblin::elf::header::{
-    EI_ABIVERSION, EI_CLASS, EI_DATA, EI_OSABI, EI_VERSION, ELFCLASS64, ELFDATA2MSB, Header,
+use crate::types::{
+    GoblinHeader, GoblinSection, GoblinSegment, convert_header, convert_section, convert_segment,
 };
+use goblin::container::{Container, Ctx, Endian};
+use goblin::elf::header::{ELFCLASS64, ELFDATA2MSB, Header};
 use goblin::elf::program_header::ProgramHeader;
 use goblin::elf::section_header::{SHT_NOBITS, SectionHeader};
 use goblin::scroll::{LE, TryFromCtx};
@@ -30,69 +31,6 @@ pub fn ctx_of(header: &GoblinHeader) -> Ctx
         Endian::Little
     };
     Ctx::new(container, order)
-}
-
-fn convert_header(h: &Header) -> GoblinHeader
-    ensures { result ≡ header_converted h.now }
-{
-    GoblinHeader {
-        e_entry: h.e_entry,
-        e_phoff: h.e_phoff,
-        e_shoff: h.e_shoff,
-        e_version: h.e_version,
-        e_flags: h.e_flags,
-        e_type: h.e_type,
-        e_machine: h.e_machine,
-        e_ehsize: h.e_ehsize,
-        e_phentsize: h.e_phentsize,
-        e_phnum: h.e_phnum,
-        e_shentsize: h.e_shentsize,
-        e_shnum: h.e_shnum,
-        e_shstrndx: h.e_shstrndx,
-        ei_class: h.e_ident[EI_CLASS],
-        ei_data: h.e_ident[EI_DATA],
-        ei_version: h.e_ident[EI_VERSION],
-        ei_osabi: h.e_ident[EI_OSABI],
-        ei_abiversion: h.e_ident[EI_ABIVERSION],
-    }
-}
-
-/// Converts a section header for C.
-pub fn convert_section(s: &SectionHeader) -> GoblinSection
-    ensures { result ≡ section_converted s.now }
-{
-    GoblinSection {
-        file: GoblinRange {
-            offset: s.sh_offset,
-            size: s.sh_size,
-        },
-        sh_name: s.sh_name as u64,
-        sh_flags: s.sh_flags,
-        sh_addr: s.sh_addr,
-        sh_addralign: s.sh_addralign,
-        sh_entsize: s.sh_entsize,
-        sh_type: s.sh_type,
-        sh_link: s.sh_link,
-        sh_info: s.sh_info,
-    }
-}
-
-/// Converts a program header for C.
-pub fn convert_segment(s: &ProgramHeader) -> GoblinSegment
-    ensures { result ≡ segment_converted s.now }
-{
-    GoblinSegment {
-        file: GoblinRange {
-            offset: s.p_offset,
-            size: s.p_filesz,
-        },
-        p_vaddr: s.p_vaddr,
-        p_paddr: s.p_paddr,
-        p_memsz: s.p_memsz,
-        p_align: s.p_align,
-        p_type: s.p_type,
-        p_flags: s.p_flags,
-    }
 }
 
 /// Returns the header at the file's start.

@@ -1,15 +1,15 @@
 //! Notes, as the library reads them, and the names of their types.
-ghost use Rattle.std.specs.Prelude.{◌≡◌, ◌+◌, ◌-◌, ◌<◌, ◌≤◌, ◌^◌, length, take};
+ghost use Rattle.std.specs.Prelude.{◌≡◌, ◌+◌, ◌-◌, ◌≤◌, length, take};
 ghost use Rattle.goblin.specs.Refusal.{refusal_of};
 ghost use Rattle.goblin.specs.NoteType.{note_type_name};
 ghost use Rattle.goblin_c.specs.Refused.{Answers};
-ghost use Rattle.goblin_c.specs.Notes.{StoresNote, bytes_from, note_bytes_expected, note_converted, note_expected, part_converted, part_number};
+ghost use Rattle.goblin_c.specs.Notes.{StoresNote, bytes_from, note_bytes_expected, note_expected, part_converted, part_number};
 
 use crate::headers::ctx_of;
 use crate::kinds::{END, NOTE_DESC, NOTE_HEADER, NOTE_NAME, OK};
 use crate::refused::{Refused, Result, refused_at};
 use crate::status::refuse;
-use crate::types::{GoblinHeader, GoblinNote, GoblinRange, GoblinRefusal};
+use crate::types::{GoblinHeader, GoblinNote, GoblinRange, GoblinRefusal, convert_note};
 use goblin::elf::note::{Note, NotePart, NotePlaces, NoteRefusal};
 
 /// Returns the note at an offset, among those of a range.
@@ -29,27 +29,6 @@ pub fn note_from(
     let ctx = (alignment as usize, ctx_of(header));
     let (_, places) = refused_at(offset, Note::at(bytes, offset as usize, ctx))?;
     Ok(Some(convert_note(offset, &places)))
-}
-
-// Converts the note at an offset, whose parts are at these places.
-fn convert_note(offset: u64, places: &NotePlaces) -> GoblinNote
-    requires name { offset + places.now.name < 2 ^ 64 }
-    requires desc { offset + places.now.desc < 2 ^ 64 }
-    requires next { offset + places.now.next < 2 ^ 64 }
-    ensures { result ≡ note_converted offset places.now }
-{
-    GoblinNote {
-        name: GoblinRange {
-            offset: offset + places.name as u64,
-            size: places.name_size as u64,
-        },
-        desc: GoblinRange {
-            offset: offset + places.desc as u64,
-            size: places.desc_size as u64,
-        },
-        next: offset + places.next as u64,
-        n_type: places.n_type,
-    }
 }
 
 // Returns the bytes up to the end of a range.

@@ -13,11 +13,13 @@ ghost use Rattle.goblin_c.specs.Refused.{Answers, refused_at};
 ghost use Rattle.goblin_c.specs.Status.{converted_list};
 
 use crate::bytes::{fits, is_width, number, section_bytes};
-use crate::headers::{convert_section, convert_segment, ctx_of, sections_of, segments_of};
+use crate::headers::{ctx_of, sections_of, segments_of};
 use crate::lists::{Listed, item_of};
 use crate::refused::{Refused, Result, refused_at};
 use crate::tables::{section_by_name, symbols_of};
-use crate::types::{GoblinHeader, GoblinRange, GoblinSection, GoblinSegment};
+use crate::types::{
+    GoblinHeader, GoblinRange, GoblinSection, GoblinSegment, convert_section, convert_segment,
+};
 use goblin::elf::program_header::ProgramHeader;
 use goblin::elf::section_header::SectionHeader;
 use goblin::elf::sym::Sym;

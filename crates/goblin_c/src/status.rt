@@ -2,46 +2,19 @@
 ghost use Rattle.std.specs.Prelude.{◌≡◌};
 ghost use Rattle.goblin.specs.Steps.{refuse_as};
 ghost use Rattle.goblin_c.specs.Refused.{refusal_at};
-ghost use Rattle.goblin_c.specs.Status.{item_number, refusal_converted, Stores};
+ghost use Rattle.goblin_c.specs.Status.{Stores};
+ghost use Rattle.goblin_c.specs.Types.{refusal_converted};
 
-use crate::kinds::{END, INVALID_UTF8, OK, PROGRAM_HEADERS, SECTION_HEADERS};
+use crate::kinds::{END, OK};
 use crate::refused::{Refused, Result};
-use crate::types::GoblinRefusal;
-
-// Returns the number of an item, or 0 if it has none.
-fn item_number(item: &str) -> u32
-    ensures { result ≡ item_number item.now }
-{
-    match item {
-        "invalid utf8" => INVALID_UTF8,
-        "section headers" => SECTION_HEADERS,
-        "program headers" => PROGRAM_HEADERS,
-        _ => 0,
-    }
-}
-
-// Converts an error for C.
-fn converted(e: &Refused) -> GoblinRefusal
-    ensures { result ≡ refusal_converted (refusal_at e.now) }
-{
-    let report = e.error.report();
-    GoblinRefusal {
-        kind: report.kind.number(),
-        item: item_number(report.item),
-        first: report.first,
-        second: report.second,
-        third: report.third,
-        fourth: if report.overflow { 1 } else { 0 },
-        offset: e.offset,
-    }
-}
+use crate::types::{GoblinRefusal, convert_refusal};
 
 /// Stores an error as a refusal. Returns the number of its kind.
 pub fn refuse(e: &Refused, why: &mut GoblinRefusal) -> u32
     ensures written { why.new ≡ refusal_converted (refusal_at e.now) }
     ensures value { result ≡ (refusal_converted (refusal_at e.now)).kind }
 {
-    *why = converted(e);
+    *why = convert_refusal(e);
     why.kind
 }
 

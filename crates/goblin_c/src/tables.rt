@@ -1,43 +1,21 @@
 //! Symbols, relocations and what is found by its name, as the library reads them.
 ghost use Rattle.std.specs.Prelude.{◌≡◌, length, map, position};
 ghost use Rattle.goblin_c.specs.Refused.{Answers};
-ghost use Rattle.goblin_c.specs.Answers.{ctx_of, reloc_converted, relocs_expected, section_by_name_expected, symbol_by_address_expected, symbol_by_name_expected, is_named, symbol_converted, symbol_expected, symbols_expected};
+ghost use Rattle.goblin_c.specs.Answers.{ctx_of, relocs_expected, section_by_name_expected, symbol_by_address_expected, symbol_by_name_expected, is_named, symbol_expected, symbols_expected};
+ghost use Rattle.goblin_c.specs.Types.{reloc_converted, symbol_converted};
 
 use crate::headers::{ctx_of, sections_of};
 use crate::lists::{Listed, item_of};
 use crate::refused::{Result, refused_at};
 use crate::strings::strings_of;
-use crate::types::{GoblinHeader, GoblinRange, GoblinReloc, GoblinSymbol};
+use crate::types::{
+    GoblinHeader, GoblinRange, GoblinReloc, GoblinSymbol, convert_reloc, convert_symbol,
+};
 use goblin::container::{Container, Ctx};
-use goblin::elf::reloc::{Reloc, RelocSection, is_mips64el_in};
+use goblin::elf::reloc::{RelocSection, is_mips64el_in};
 use goblin::elf::section_header::SectionHeader;
-use goblin::elf::sym::{Sym, Symtab};
+use goblin::elf::sym::Symtab;
 use goblin::options::ParseOptions;
-
-fn convert_symbol(s: &Sym) -> GoblinSymbol
-    ensures { result ≡ symbol_converted s.now }
-{
-    GoblinSymbol {
-        st_name: s.st_name as u64,
-        st_value: s.st_value,
-        st_size: s.st_size,
-        st_shndx: s.st_shndx as u64,
-        st_info: s.st_info,
-        st_other: s.st_other,
-    }
-}
-
-fn convert_reloc(r: &Reloc) -> GoblinReloc
-    ensures { result ≡ reloc_converted r.now }
-{
-    GoblinReloc {
-        r_offset: r.r_offset,
-        r_sym: r.r_sym as u64,
-        r_addend: r.r_addend.unwrap_or(0),
-        r_type: r.r_type,
-        has_addend: if r.r_addend.is_some() { 1 } else { 0 },
-    }
-}
 
 /// Returns the symbols of a range, without a last one that is cut.
 pub fn symbols_of<'a>(

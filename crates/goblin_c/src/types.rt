@@ -1,4 +1,17 @@
-//! The structs that calls share with C, as `goblin.h` declares them. Each field is a number.
+//! The structs that calls share with C, as `goblin.h` declares them. Each field is a number. Beside each struct stand
+//! its conversion from what the library reads, and one with marks, by which C can check the place of each field.
+ghost use Rattle.std.specs.Prelude.{◌≡◌, ◌+◌, ◌<◌, ◌^◌};
+ghost use Rattle.goblin_c.specs.Refused.{refusal_at};
+ghost use Rattle.goblin_c.specs.Types.{each_byte, header_converted, header_marked, item_number, note_converted, note_marked, range_marked, refusal_converted, refusal_marked, reloc_converted, reloc_marked, section_converted, section_marked, segment_converted, segment_marked, symbol_converted, symbol_marked};
+
+use crate::kinds::{INVALID_UTF8, PROGRAM_HEADERS, SECTION_HEADERS};
+use crate::refused::Refused;
+use goblin::elf::header::{EI_ABIVERSION, EI_CLASS, EI_DATA, EI_OSABI, EI_VERSION, Header};
+use goblin::elf::note::NotePlaces;
+use goblin::elf::program_header::ProgramHeader;
+use goblin::elf::reloc::Reloc;
+use goblin::elf::section_header::SectionHeader;
+use goblin::elf::sym::Sym;
 
 /// Why a file is refused.
 #[repr(C)]
@@ -17,6 +30,49 @@ pub struct GoblinRefusal {
     pub offset: u64,
 }
 
+// Returns the number of an item, or 0 if it has none.
+fn item_number(item: &str) -> u32
+    ensures { result ≡ item_number item.now }
+{
+    match item {
+        "invalid utf8" => INVALID_UTF8,
+        "section headers" => SECTION_HEADERS,
+        "program headers" => PROGRAM_HEADERS,
+        _ => 0,
+    }
+}
+
+// Converts an error for C.
+pub(crate) fn convert_refusal(e: &Refused) -> GoblinRefusal
+    ensures { result ≡ refusal_converted (refusal_at e.now) }
+{
+    let report = e.error.report();
+    GoblinRefusal {
+        kind: report.kind.number(),
+        item: item_number(report.item),
+        first: report.first,
+        second: report.second,
+        third: report.third,
+        fourth: if report.overflow { 1 } else { 0 },
+        offset: e.offset,
+    }
+}
+
+// Returns a refusal whose fields have the marks from 1 on.
+pub(crate) fn marked_refusal() -> GoblinRefusal
+    ensures { result ≡ refusal_marked }
+{
+    GoblinRefusal {
+        kind: word(1),
+        item: word(2),
+        first: wide(3),
+        second: wide(4),
+        third: wide(5),
+        fourth: wide(6),
+        offset: wide(7),
+    }
+}
+
 /// A range of bytes of the file.
 #[repr(C)]
 #[derive(Clone, Copy, Debug)]
@@ -25,6 +81,17 @@ pub struct GoblinRange {
     pub offset: u64,
     /// The number of bytes.
     pub size: u64,
+}
+
+// Returns a range whose fields have a mark and the next one.
+pub(crate) fn marked_range(mark: u8) -> GoblinRange
+    requires { mark < 2 ^ 7 }
+    ensures { result ≡ range_marked mark }
+{
+    GoblinRange {
+        offset: wide(mark),
+        size: wide(mark + 1),
+    }
 }
 
 /// A file's header.
@@ -53,6 +120,58 @@ pub struct GoblinHeader {
     pub ei_abiversion: u8,
 }
 
+// Converts a header for C.
+pub(crate) fn convert_header(h: &Header) -> GoblinHeader
+    ensures { result ≡ header_converted h.now }
+{
+    GoblinHeader {
+        e_entry: h.e_entry,
+        e_phoff: h.e_phoff,
+        e_shoff: h.e_shoff,
+        e_version: h.e_version,
+        e_flags: h.e_flags,
+        e_type: h.e_type,
+        e_machine: h.e_machine,
+        e_ehsize: h.e_ehsize,
+        e_phentsize: h.e_phentsize,
+        e_phnum: h.e_phnum,
+        e_shentsize: h.e_shentsize,
+        e_shnum: h.e_shnum,
+        e_shstrndx: h.e_shstrndx,
+        ei_class: h.e_ident[EI_CLASS],
+        ei_data: h.e_ident[EI_DATA],
+        ei_version: h.e_ident[EI_VERSION],
+        ei_osabi: h.e_ident[EI_OSABI],
+        ei_abiversion: h.e_ident[EI_ABIVERSION],
+    }
+}
+
+// Returns a header whose fields have the marks from 1 on.
+pub(crate) fn marked_header() -> GoblinHeader
+    ensures { result ≡ header_marked }
+{
+    GoblinHeader {
+        e_entry: wide(1),
+        e_phoff: wide(2),
+        e_shoff: wide(3),
+        e_version: word(4),
+        e_flags: word(5),
+        e_type: half(6),
+        e_machine: half(7),
+        e_ehsize: half(8),
+        e_phentsize: half(9),
+        e_phnum: half(10),
+        e_shentsize: half(11),
+        e_shnum: half(12),
+        e_shstrndx: half(13),
+        ei_class: 14,
+        ei_data: 15,
+        ei_version: 16,
+        ei_osabi: 17,
+        ei_abiversion: 18,
+    }
+}
+
 /// A section header.
 #[repr(C)]
 #[derive(Clone, Copy, Debug)]
@@ -69,6 +188,43 @@ pub struct GoblinSection {
     pub sh_info: u32,
 }
 
+// Converts a section header for C.
+pub(crate) fn convert_section(s: &SectionHeader) -> GoblinSection
+    ensures { result ≡ section_converted s.now }
+{
+    GoblinSection {
+        file: GoblinRange {
+            offset: s.sh_offset,
+            size: s.sh_size,
+        },
+        sh_name: s.sh_name as u64,
+        sh_flags: s.sh_flags,
+        sh_addr: s.sh_addr,
+        sh_addralign: s.sh_addralign,
+        sh_entsize: s.sh_entsize,
+        sh_type: s.sh_type,
+        sh_link: s.sh_link,
+        sh_info: s.sh_info,
+    }
+}
+
+// Returns a section header whose fields have the marks from 1 on.
+pub(crate) fn marked_section() -> GoblinSection
+    ensures { result ≡ section_marked }
+{
+    GoblinSection {
+        file: marked_range(1),
+        sh_name: wide(3),
+        sh_flags: wide(4),
+        sh_addr: wide(5),
+        sh_addralign: wide(6),
+        sh_entsize: wide(7),
+        sh_type: word(8),
+        sh_link: word(9),
+        sh_info: word(10),
+    }
+}
+
 /// A program header.
 #[repr(C)]
 #[derive(Clone, Copy, Debug)]
@@ -83,6 +239,39 @@ pub struct GoblinSegment {
     pub p_flags: u32,
 }
 
+// Converts a program header for C.
+pub(crate) fn convert_segment(s: &ProgramHeader) -> GoblinSegment
+    ensures { result ≡ segment_converted s.now }
+{
+    GoblinSegment {
+        file: GoblinRange {
+            offset: s.p_offset,
+            size: s.p_filesz,
+        },
+        p_vaddr: s.p_vaddr,
+        p_paddr: s.p_paddr,
+        p_memsz: s.p_memsz,
+        p_align: s.p_align,
+        p_type: s.p_type,
+        p_flags: s.p_flags,
+    }
+}
+
+// Returns a program header whose fields have the marks from 1 on.
+pub(crate) fn marked_segment() -> GoblinSegment
+    ensures { result ≡ segment_marked }
+{
+    GoblinSegment {
+        file: marked_range(1),
+        p_vaddr: wide(3),
+        p_paddr: wide(4),
+        p_memsz: wide(5),
+        p_align: wide(6),
+        p_type: word(7),
+        p_flags: word(8),
+    }
+}
+
 /// A symbol.
 #[repr(C)]
 #[derive(Clone, Copy, Debug)]
@@ -93,6 +282,34 @@ pub struct GoblinSymbol {
     pub st_shndx: u64,
     pub st_info: u8,
     pub st_other: u8,
+}
+
+// Converts a symbol for C.
+pub(crate) fn convert_symbol(s: &Sym) -> GoblinSymbol
+    ensures { result ≡ symbol_converted s.now }
+{
+    GoblinSymbol {
+        st_name: s.st_name as u64,
+        st_value: s.st_value,
+        st_size: s.st_size,
+        st_shndx: s.st_shndx as u64,
+        st_info: s.st_info,
+        st_other: s.st_other,
+    }
+}
+
+// Returns a symbol whose fields have the marks from 1 on.
+pub(crate) fn marked_symbol() -> GoblinSymbol
+    ensures { result ≡ symbol_marked }
+{
+    GoblinSymbol {
+        st_name: wide(1),
+        st_value: wide(2),
+        st_size: wide(3),
+        st_shndx: wide(4),
+        st_info: 5,
+        st_other: 6,
+    }
 }
 
 /// A relocation.
@@ -108,6 +325,32 @@ pub struct GoblinReloc {
     pub has_addend: u32,
 }
 
+// Converts a relocation for C.
+pub(crate) fn convert_reloc(r: &Reloc) -> GoblinReloc
+    ensures { result ≡ reloc_converted r.now }
+{
+    GoblinReloc {
+        r_offset: r.r_offset,
+        r_sym: r.r_sym as u64,
+        r_addend: r.r_addend.unwrap_or(0),
+        r_type: r.r_type,
+        has_addend: if r.r_addend.is_some() { 1 } else { 0 },
+    }
+}
+
+// Returns a relocation whose fields have the marks from 1 on.
+pub(crate) fn marked_reloc() -> GoblinReloc
+    ensures { result ≡ reloc_marked }
+{
+    GoblinReloc {
+        r_offset: wide(1),
+        r_sym: wide(2),
+        r_addend: wide(3) as i64,
+        r_type: word(4),
+        has_addend: word(5),
+    }
+}
+
 /// A note.
 #[repr(C)]
 #[derive(Clone, Copy, Debug)]
@@ -119,4 +362,58 @@ pub struct GoblinNote {
     /// The offset of the next note.
     pub next: u64,
     pub n_type: u32,
+}
+
+// Converts the note at an offset, whose parts are at these places.
+pub(crate) fn convert_note(offset: u64, places: &NotePlaces) -> GoblinNote
+    requires name { offset + places.now.name < 2 ^ 64 }
+    requires desc { offset + places.now.desc < 2 ^ 64 }
+    requires next { offset + places.now.next < 2 ^ 64 }
+    ensures { result ≡ note_converted offset places.now }
+{
+    GoblinNote {
+        name: GoblinRange {
+            offset: offset + places.name as u64,
+            size: places.name_size as u64,
+        },
+        desc: GoblinRange {
+            offset: offset + places.desc as u64,
+            size: places.desc_size as u64,
+        },
+        next: offset + places.next as u64,
+        n_type: places.n_type,
+    }
+}
+
+// Returns a note whose fields have the marks from 1 on.
+pub(crate) fn marked_note() -> GoblinNote
+    ensures { result ≡ note_marked }
+{
+    GoblinNote {
+        name: marked_range(1),
+        desc: marked_range(3),
+        next: wide(5),
+        n_type: word(6),
+    }
+}
+
+// Returns the number of eight bytes, each of which is a mark.
+fn wide(mark: u8) -> u64
+    ensures { result ≡ each_byte 8 mark }
+{
+    mark as u64 * 0x0101_0101_0101_0101
+}
+
+// Returns the number of four bytes, each of which is a mark.
+fn word(mark: u8) -> u32
+    ensures { result ≡ each_byte 4 mark }
+{
+    mark as u32 * 0x0101_0101
+}
+
+// Returns the number of two bytes, each of which is a mark.
+fn half(mark: u8) -> u16
+    ensures { result ≡ each_byte 2 mark }
+{
+    mark as u16 * 0x0101
 }

@@ -1,0 +1,227 @@
+-- The structs that calls share with C: each as it is converted from what the library reads, and one with marks, by
+-- which C can check the place of each field.
+use Rattle.std.specs.Prelude.{ℕ, ◌+◌, ◌-◌, ◌*◌, ◌/◌, ◌^◌, if◌then◌else◌, Bool, List, codes, slice_index, pos, unwrap_or}
+use Rattle.std.specs.Option.{is_some}
+use Rattle.std.specs.Str.{bytes_eq}
+use Rattle.goblin_base.specs.Texts.{Facts, kind_number, refusal_facts}
+use Rattle.goblin.specs.declared.elf.header.Header.{Header}
+use Rattle.goblin.specs.declared.elf.note.NotePlaces.{NotePlaces}
+use Rattle.goblin.specs.declared.elf.program_header.ProgramHeader.{ProgramHeader}
+use Rattle.goblin.specs.declared.elf.reloc.Reloc.{Reloc}
+use Rattle.goblin.specs.declared.elf.section_header.SectionHeader.{SectionHeader}
+use Rattle.goblin.specs.declared.elf.sym.Sym.{Sym}
+use Rattle.goblin_c.specs.Refused.{RefusalAt}
+use Rattle.goblin_c.specs.declared.kinds.TheConstants.{INVALID_UTF8, SECTION_HEADERS, PROGRAM_HEADERS}
+use Rattle.goblin_c.specs.declared.types.GoblinHeader.{GoblinHeader}
+use Rattle.goblin_c.specs.declared.types.GoblinNote.{GoblinNote}
+use Rattle.goblin_c.specs.declared.types.GoblinRange.{GoblinRange}
+use Rattle.goblin_c.specs.declared.types.GoblinRefusal.{GoblinRefusal}
+use Rattle.goblin_c.specs.declared.types.GoblinReloc.{GoblinReloc}
+use Rattle.goblin_c.specs.declared.types.GoblinSection.{GoblinSection}
+use Rattle.goblin_c.specs.declared.types.GoblinSegment.{GoblinSegment}
+use Rattle.goblin_c.specs.declared.types.GoblinSymbol.{GoblinSymbol}
+
+-- the number of so many bytes, each of which is a mark
+abbrev pub each_byte : ℕ → ℕ → ℕ
+each_byte width mark = mark * ((256 ^ width - 1) / 255)
+
+-- 1 or 0
+abbrev pub number_of_bool : Bool → ℕ
+number_of_bool b = if b then 1 else 0
+
+-- the number of an item, or 0 of any other text
+abbrev pub item_number : List ℕ → ℕ
+item_number text =
+    if bytes_eq text (codes "invalid utf8") then INVALID_UTF8
+    else if bytes_eq text (codes "section headers") then SECTION_HEADERS
+    else if bytes_eq text (codes "program headers") then PROGRAM_HEADERS
+    else 0
+
+-- an error for C: its kind, its numbers and the number of its item, and where what is refused begins
+abbrev pub converted : Facts → ℕ → GoblinRefusal
+converted e offset = record {
+  kind = kind_number e.kind;
+  item = item_number e.item;
+  first = e.first;
+  second = e.second;
+  third = e.third;
+  fourth = number_of_bool e.overflow;
+  offset = offset;
+}
+
+abbrev pub refusal_converted : RefusalAt → GoblinRefusal
+refusal_converted why = converted (refusal_facts why.refusal) why.offset
+
+-- a refusal whose fields have the marks from 1 on
+abbrev pub refusal_marked : GoblinRefusal
+refusal_marked = record {
+  kind = each_byte 4 1;
+  item = each_byte 4 2;
+  first = each_byte 8 3;
+  second = each_byte 8 4;
+  third = each_byte 8 5;
+  fourth = each_byte 8 6;
+  offset = each_byte 8 7;
+}
+
+-- a range whose fields have a mark and the next one
+abbrev pub range_marked : ℕ → GoblinRange
+range_marked mark = record { offset = each_byte 8 mark; size = each_byte 8 (mark + 1) }
+
+-- a header for C
+abbrev pub header_converted : Header → GoblinHeader
+header_converted h = record {
+  e_entry = h.e_entry;
+  e_phoff = h.e_phoff;
+  e_shoff = h.e_shoff;
+  e_version = h.e_version;
+  e_flags = h.e_flags;
+  e_type = h.e_type;
+  e_machine = h.e_machine;
+  e_ehsize = h.e_ehsize;
+  e_phentsize = h.e_phentsize;
+  e_phnum = h.e_phnum;
+  e_shentsize = h.e_shentsize;
+  e_shnum = h.e_shnum;
+  e_shstrndx = h.e_shstrndx;
+  ei_class = slice_index h.e_ident 4;
+  ei_data = slice_index h.e_ident 5;
+  ei_version = slice_index h.e_ident 6;
+  ei_osabi = slice_index h.e_ident 7;
+  ei_abiversion = slice_index h.e_ident 8;
+}
+
+-- a header whose fields have the marks from 1 on
+abbrev pub header_marked : GoblinHeader
+header_marked = record {
+  e_entry = each_byte 8 1;
+  e_phoff = each_byte 8 2;
+  e_shoff = each_byte 8 3;
+  e_version = each_byte 4 4;
+  e_flags = each_byte 4 5;
+  e_type = each_byte 2 6;
+  e_machine = each_byte 2 7;
+  e_ehsize = each_byte 2 8;
+  e_phentsize = each_byte 2 9;
+  e_phnum = each_byte 2 10;
+  e_shentsize = each_byte 2 11;
+  e_shnum = each_byte 2 12;
+  e_shstrndx = each_byte 2 13;
+  ei_class = 14;
+  ei_data = 15;
+  ei_version = 16;
+  ei_osabi = 17;
+  ei_abiversion = 18;
+}
+
+-- a section header for C
+abbrev pub section_converted : SectionHeader → GoblinSection
+section_converted s = record {
+  file = record { offset = s.sh_offset; size = s.sh_size };
+  sh_name = s.sh_name;
+  sh_flags = s.sh_flags;
+  sh_addr = s.sh_addr;
+  sh_addralign = s.sh_addralign;
+  sh_entsize = s.sh_entsize;
+  sh_type = s.sh_type;
+  sh_link = s.sh_link;
+  sh_info = s.sh_info;
+}
+
+-- a section header whose fields have the marks from 1 on
+abbrev pub section_marked : GoblinSection
+section_marked = record {
+  file = range_marked 1;
+  sh_name = each_byte 8 3;
+  sh_flags = each_byte 8 4;
+  sh_addr = each_byte 8 5;
+  sh_addralign = each_byte 8 6;
+  sh_entsize = each_byte 8 7;
+  sh_type = each_byte 4 8;
+  sh_link = each_byte 4 9;
+  sh_info = each_byte 4 10;
+}
+
+-- a program header for C
+abbrev pub segment_converted : ProgramHeader → GoblinSegment
+segment_converted s = record {
+  file = record { offset = s.p_offset; size = s.p_filesz };
+  p_vaddr = s.p_vaddr;
+  p_paddr = s.p_paddr;
+  p_memsz = s.p_memsz;
+  p_align = s.p_align;
+  p_type = s.p_type;
+  p_flags = s.p_flags;
+}
+
+-- a program header whose fields have the marks from 1 on
+abbrev pub segment_marked : GoblinSegment
+segment_marked = record {
+  file = range_marked 1;
+  p_vaddr = each_byte 8 3;
+  p_paddr = each_byte 8 4;
+  p_memsz = each_byte 8 5;
+  p_align = each_byte 8 6;
+  p_type = each_byte 4 7;
+  p_flags = each_byte 4 8;
+}
+
+-- a symbol for C
+abbrev pub symbol_converted : Sym → GoblinSymbol
+symbol_converted s = record {
+  st_name = s.st_name;
+  st_shndx = s.st_shndx;
+  st_value = s.st_value;
+  st_size = s.st_size;
+  st_info = s.st_info;
+  st_other = s.st_other;
+}
+
+-- a symbol whose fields have the marks from 1 on
+abbrev pub symbol_marked : GoblinSymbol
+symbol_marked = record {
+  st_name = each_byte 8 1;
+  st_value = each_byte 8 2;
+  st_size = each_byte 8 3;
+  st_shndx = each_byte 8 4;
+  st_info = 5;
+  st_other = 6;
+}
+
+-- a relocation for C
+abbrev pub reloc_converted : Reloc → GoblinReloc
+reloc_converted r = record {
+  r_offset = r.r_offset;
+  r_sym = r.r_sym;
+  r_addend = unwrap_or r.r_addend (pos 0);
+  r_type = r.r_type;
+  has_addend = number_of_bool (is_some r.r_addend);
+}
+
+-- a relocation whose fields have the marks from 1 on
+abbrev pub reloc_marked : GoblinReloc
+reloc_marked = record {
+  r_offset = each_byte 8 1;
+  r_sym = each_byte 8 2;
+  r_addend = pos (each_byte 8 3);
+  r_type = each_byte 4 4;
+  has_addend = each_byte 4 5;
+}
+
+-- the note at an offset for C, whose parts lie at these places, counted from the offset
+abbrev pub note_converted : ℕ → NotePlaces → GoblinNote
+note_converted offset places = record {
+  name = record { offset = offset + places.name; size = places.name_size };
+  desc = record { offset = offset + places.desc; size = places.desc_size };
+  next = offset + places.next;
+  n_type = places.n_type;
+}
+
+-- a note whose fields have the marks from 1 on
+abbrev pub note_marked : GoblinNote
+note_marked = record {
+  name = range_marked 1;
+  desc = range_marked 3;
+  next = each_byte 8 5;
+  n_type = each_byte 4 6;
+}
