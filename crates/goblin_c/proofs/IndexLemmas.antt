@@ -170,6 +170,6 @@ in_first (Err refusal) first is = absurd (cc)
 
 pub names_by_index : NamesByIndex
 names_by_index bytes h = (
-  λ other. in_header (sections_expected bytes h) h.e_shstrndx (grind (arith, nat_tests)),
+  λ other. in_header (sections_expected bytes h) _ (grind (arith, nat_tests)),
   λ first is found. rw is (in_first (sections_expected bytes h) first found),
 )

@@ -12,7 +12,7 @@ use Rattle.goblin_base.specs.Strtab.{range_in, plain, has_name, unparsed}
 use Rattle.goblin.specs.Addresses.{symbol_at}
 use Rattle.goblin.specs.declared.elf.section_header.SectionHeader.{SectionHeader}
 use Rattle.goblin.specs.ReadHeader.{read_header}
-use Rattle.goblin.specs.SectionHeaders.{names_index, section_headers_of}
+use Rattle.goblin.specs.SectionHeaders.{section_headers_of}
 use Rattle.goblin.specs.declared.elf.sym.Sym.{Sym}
 use Rattle.goblin.specs.Sym.{sym_size}
 use Rattle.goblin.specs.declared.elf.program_header.ProgramHeader.{ProgramHeader}
@@ -27,8 +27,8 @@ use Rattle.goblin_c.specs.declared.types.GoblinSection.{GoblinSection}
 use Rattle.goblin_c.specs.declared.types.GoblinSegment.{GoblinSegment}
 use Rattle.goblin_c.specs.declared.types.GoblinReloc.{GoblinReloc}
 use Rattle.goblin_c.specs.declared.types.GoblinSymbol.{GoblinSymbol}
-use Rattle.goblin_c.specs.Types.{header_converted, reloc_converted, section_converted, segment_converted}
-use Rattle.goblin_c.specs.Types.{symbol_converted}
+use Rattle.goblin_c.specs.Types.{header_converted, names_index_of, reloc_converted, section_converted}
+use Rattle.goblin_c.specs.Types.{segment_converted, symbol_converted}
 
 -- the class and the byte order that C hands back
 abbrev pub ctx_of : GoblinHeader → Ctx
@@ -206,4 +206,4 @@ table_expected bytes h index = do
 abbrev pub section_names_expected : List ℕ → GoblinHeader → Result (Option GoblinSection) RefusalAt
 section_names_expected bytes h = do
   sections ← sections_expected bytes h
-  Ok (table_at (map section_converted sections) (names_index h.e_shstrndx (slice_get sections 0)))
+  Ok (table_at (map section_converted sections) (names_index_of h (slice_get sections 0)))

@@ -1,6 +1,7 @@
 -- The structs that calls share with C: each as it is converted from what the library reads, and one with marks, by
 -- which C can check the place of each field.
 use Rattle.std.specs.Prelude.{ℕ, ◌+◌, ◌-◌, ◌*◌, ◌/◌, ◌^◌, if◌then◌else◌, Bool, List, codes, slice_index, pos, unwrap_or}
+use Rattle.std.specs.Prelude.{Option}
 use Rattle.std.specs.Option.{is_some}
 use Rattle.std.specs.Str.{bytes_eq}
 use Rattle.goblin_base.specs.Texts.{Facts, kind_number, refusal_facts}
@@ -10,6 +11,7 @@ use Rattle.goblin.specs.declared.elf.program_header.ProgramHeader.{ProgramHeader
 use Rattle.goblin.specs.declared.elf.reloc.Reloc.{Reloc}
 use Rattle.goblin.specs.declared.elf.section_header.SectionHeader.{SectionHeader}
 use Rattle.goblin.specs.declared.elf.sym.Sym.{Sym}
+use Rattle.goblin.specs.SectionHeaders.{names_index}
 use Rattle.goblin_c.specs.Refused.{RefusalAt}
 use Rattle.goblin_c.specs.declared.kinds.TheConstants.{INVALID_UTF8, SECTION_HEADERS, PROGRAM_HEADERS}
 use Rattle.goblin_c.specs.declared.types.GoblinHeader.{GoblinHeader}
@@ -90,6 +92,10 @@ header_converted h = record {
   ei_osabi = slice_index h.e_ident 7;
   ei_abiversion = slice_index h.e_ident 8;
 }
+
+-- the index of the section that holds the section names, if this is the first section
+abbrev pub names_index_of : GoblinHeader → Option SectionHeader → ℕ
+names_index_of h first = names_index h.e_shstrndx first
 
 -- a header whose fields have the marks from 1 on
 abbrev pub header_marked : GoblinHeader

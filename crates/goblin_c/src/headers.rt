@@ -129,7 +129,7 @@ pub fn section_names(bytes: &[u8], header: &GoblinHeader) -> Result<Option<Gobli
 {
     let sections = sections_of(bytes, header)?;
     let first = sections.get(0);
-    let index = SectionHeader::names_index(header.e_shstrndx, first.as_ref());
+    let index = header.names_index(first.as_ref());
     Ok(converted_table(&sections, index))
 }
 

@@ -1,8 +1,9 @@
 //! The structs that calls share with C, as `goblin.h` declares them. Each field is a number. Beside each struct stand
 //! its conversion from what the library reads, and one with marks, by which C can check the place of each field.
 ghost use Rattle.std.specs.Prelude.{◌≡◌, ◌+◌, ◌<◌, ◌^◌};
+ghost use Rattle.std.specs.Option.{option_map};
 ghost use Rattle.goblin_c.specs.Refused.{refusal_at};
-ghost use Rattle.goblin_c.specs.Types.{each_byte, header_converted, header_marked, item_number, note_converted, note_marked, range_marked, refusal_converted, refusal_marked, reloc_converted, reloc_marked, section_converted, section_marked, segment_converted, segment_marked, symbol_converted, symbol_marked};
+ghost use Rattle.goblin_c.specs.Types.{each_byte, header_converted, header_marked, item_number, names_index_of, note_converted, note_marked, range_marked, refusal_converted, refusal_marked, reloc_converted, reloc_marked, section_converted, section_marked, segment_converted, segment_marked, symbol_converted, symbol_marked};
 
 use crate::kinds::{INVALID_UTF8, PROGRAM_HEADERS, SECTION_HEADERS};
 use crate::refused::Refused;
@@ -143,6 +144,16 @@ pub(crate) fn convert_header(h: &Header) -> GoblinHeader
         ei_version: h.e_ident[EI_VERSION],
         ei_osabi: h.e_ident[EI_OSABI],
         ei_abiversion: h.e_ident[EI_ABIVERSION],
+    }
+}
+
+impl GoblinHeader {
+    /// Returns the index of the section that holds the section names, if this is the first section.
+    pub(crate) fn names_index(&self, first: Option<&SectionHeader>) -> usize
+        ensures value { let seen = option_map (λ section. section.now) first.entry in
+            result ≡ names_index_of self.now seen }
+    {
+        SectionHeader::names_index(self.e_shstrndx, first)
     }
 }
 
