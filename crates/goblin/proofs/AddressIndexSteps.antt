@@ -31,13 +31,6 @@ set_here xs i x l = get_or-set_at xs i i x 0 refl l
 set_other : (xs : List ℕ) (i j x : ℕ) → (j ≡ i → ⊥) → slice_index (slice_set xs i x) j ≡ slice_index xs j
 set_other xs i j x other = get_or-set_other xs i j x 0 other
 
-pub none_placed : (symbols : List Sym) (entries : List ℕ) → ArePlaced symbols entries 0 0
-none_placed symbols entries = record {
-  count = refl;
-  placed = λ j l. absurd (omega (arith, l));
-  complete = λ k l p. absurd (omega (arith, l));
-}
-
 module _ (symbols : List Sym) (entries : List ℕ) (i filled : ℕ) (s : Sym)
     (got : slice_get symbols i ≡ Some s) (so : ArePlaced symbols entries i filled) where
   inside : i < length symbols
@@ -163,15 +156,6 @@ module _ (symbols : List Sym) (entries : List ℕ)
       (far_in_order i (j - i) (omega (arith, le, l)))
 
 -- ---- those that stand for others are kept
-pub none_kept : (symbols : List Sym) (entries : List ℕ) → IsKept symbols entries entries 0 0
-none_kept symbols entries = record {
-  within = omega arith;
-  same = λ j l. absurd (omega (arith, l));
-  rising = λ j k l m. absurd (omega (arith, m));
-  complete = λ m l. absurd (omega (arith, l));
-  rest = λ m l. refl;
-}
-
 stands_for_itself : (symbols : List Sym) (entry : ℕ) → StandsFor symbols entry entry
 stands_for_itself symbols entry = record { high = refl; large = omega arith; early = omega arith }
 

@@ -40,10 +40,6 @@ pub refused_at_ok : {A : Type 0} (offset : ℕ) (answer : Result A Refusal) (y :
 refused_at_ok offset (Ok x) y is = cc
 refused_at_ok offset (Err e) y is = absurd (cc)
 
-pub refuse_if_ok : {E : Type 0} (test : Bool) (e : E) (u : Unit {0}) → refuse_if test e ≡ Ok u → test ≡ false
-refuse_if_ok true e u is = absurd (cc)
-refuse_if_ok false e u is = refl
-
 -- records that pass the test of room one by one lie in the bytes
 pub each_fits : (len start size count : ℕ) (u : Unit {0})
     → room_of_each len start size count ≡ Ok u → 0 < count → start + count * size ≤ len

@@ -54,10 +54,6 @@ abbrev KnownAt : {X : Type 0} → Result X RefusalAt → Type 0
 KnownAt (Ok x) = ⊤
 KnownAt (Err why) = NamesKnown why.refusal
 
-known_at : {X : Type 0} (offset : ℕ) (answer : Result X Refusal) → Known answer → KnownAt (refused_at offset answer)
-known_at offset (Ok x) known = tt
-known_at offset (Err refusal) known = known
-
 same_text : {X : Type 0} (answer : Result X RefusalAt) → KnownAt answer → HasSameText answer
 same_text (Ok x) known = tt
 same_text (Err why) known = text-same why known
