@@ -51,6 +51,7 @@ converted e offset = record {
   offset = offset;
 }
 
+-- a refusal for C
 abbrev pub refusal_converted : RefusalAt → GoblinRefusal
 refusal_converted why = converted (refusal_facts why.refusal) why.offset
 
