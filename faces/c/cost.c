@@ -78,6 +78,13 @@ static uint64_t place_of_each_section(void) {
     return i;
 }
 
+static uint64_t place_of_each_segment(void) {
+    goblin_range_t place;
+    uint64_t i = 0;
+    while (goblin_segment_place(bytes, len, &header, i, &place, &why) == GOBLIN_OK) i++;
+    return i;
+}
+
 static uint64_t offset_of_no_address(void) {
     uint64_t offset;
     return goblin_address_to_offset(bytes, len, &header, 1, &offset, &why) == GOBLIN_END ? SEGMENTS : 0;
@@ -96,6 +103,13 @@ static uint64_t all_symbols(void) {
     uint64_t filled = 0;
     goblin_symbols(bytes, len, &header, &table, 0, (goblin_symbol_t *)array, ITEMS, &filled, &why);
     return filled;
+}
+
+static uint64_t place_of_each_symbol(void) {
+    goblin_range_t table = range_of(ITEMS, sizeof(Elf64_Sym)), place;
+    uint64_t i = 0;
+    while (goblin_symbol_place(bytes, len, &header, &table, i, &place, &why) == GOBLIN_OK) i++;
+    return i;
 }
 
 static uint64_t symbol_at_no_address(void) {
@@ -165,6 +179,21 @@ static uint64_t each_note(void) {
     return i;
 }
 
+static uint64_t each_note_as_bytes(void) {
+    goblin_range_t notes = range_of(ITEMS, sizeof(Elf64_Nhdr));
+    goblin_note_t note = {{0, 0}, {0, 0}, notes.offset, 0};
+    uint64_t i = 0;
+    while (goblin_note_bytes(bytes, len, &header, &notes, 4, note.next, &note, &why) == GOBLIN_OK) i++;
+    return i;
+}
+
+static uint64_t each_number(void) {
+    goblin_range_t numbers = range_of(ITEMS, sizeof(uint64_t));
+    uint64_t i = 0, number;
+    while (goblin_number_in(bytes, len, &header, &numbers, i * sizeof number, sizeof number, &number, &why) == GOBLIN_OK) i++;
+    return i;
+}
+
 static uint64_t each_string(void) {
     goblin_range_t strings = range_of(ITEMS, 1), string;
     uint64_t i = 0;
@@ -227,13 +256,17 @@ int main(void) {
     right &= takes_little("each section alone", each_section_alone, ITEMS);
     right &= takes_little("each segment alone", each_segment_alone, SEGMENTS);
     right &= takes_little("the place of each section", place_of_each_section, ITEMS);
+    right &= takes_little("the place of each segment", place_of_each_segment, SEGMENTS);
     right &= takes_little("the offset of an address that no segment has", offset_of_no_address, SEGMENTS);
     right &= takes_little("each symbol", each_symbol, ITEMS);
     right &= takes_little("all symbols", all_symbols, ITEMS);
+    right &= takes_little("the place of each symbol", place_of_each_symbol, ITEMS);
     right &= takes_little("a symbol at an address that none has", symbol_at_no_address, ITEMS);
     right &= takes_little("each relocation", each_reloc, ITEMS);
     right &= takes_little("all relocations", all_relocs, ITEMS);
     right &= takes_little("each note", each_note, ITEMS);
+    right &= takes_little("each note as bytes", each_note_as_bytes, ITEMS);
+    right &= takes_little("each number in a range", each_number, ITEMS);
     right &= takes_little("each string", each_string, ITEMS);
     right &= takes_little("the bytes of each string", bytes_of_each_string, ITEMS);
     right &= takes_little("each long string compared", each_compared, ITEMS);
