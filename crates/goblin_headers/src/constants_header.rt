@@ -520,7 +520,7 @@ pub fn machine_to_str(machine: u16) -> &'static str
     }
 }
 
-// The same of the machines with the numbers from 63 to 120.
+// Returns the name of a machine with a number from 63 on.
 fn machine_to_str_from_63(machine: u16) -> &'static str
     ensures { result.now ≡ name_in machine_names_from_63 unknown_machine machine }
 {
@@ -587,7 +587,7 @@ fn machine_to_str_from_63(machine: u16) -> &'static str
     }
 }
 
-// The same of the machines with the numbers from 121 to 199.
+// Returns the name of a machine with a number from 121 on.
 fn machine_to_str_from_121(machine: u16) -> &'static str
     ensures { result.now ≡ name_in machine_names_from_121 unknown_machine machine }
 {
@@ -648,7 +648,7 @@ fn machine_to_str_from_121(machine: u16) -> &'static str
     }
 }
 
-// The same of the machines with the numbers from 200 on.
+// Returns the name of a machine with a number from 200 on.
 fn machine_to_str_from_200(machine: u16) -> &'static str
     ensures { result.now ≡ name_in machine_names_from_200 unknown_machine machine }
 {
