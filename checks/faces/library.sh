@@ -1,6 +1,7 @@
 #!/bin/sh
 # Makes the proved library for C in a folder: sh checks/faces/library.sh FOLDER
-# It may need only memcpy, and have neither unwind tables nor notes for control-flow enforcement.
+# It may need only memcpy, and have neither unwind tables nor notes for control-flow enforcement. Few of its pointers may be relocated when
+# a program is loaded: names of numbers are found without them, and in tables they had more than twice the limit.
 . checks/faces/shared.sh
 
 check_needs() {
@@ -13,6 +14,12 @@ check_needs() {
         exit 1
     fi
     echo "the library needs only memcpy"
+    pointers=$(readelf -rW "$folder/libgoblin_c.a" | awk '$3 == "R_X86_64_64" { n++ } END { print n + 0 }')
+    if [ "$pointers" -eq 0 ] || [ "$pointers" -gt 100 ]; then
+        echo "of the library's pointers, $pointers are relocated when a program is loaded, and not 1 to 100: names of numbers need none"
+        exit 1
+    fi
+    echo "of the library's pointers, $pointers are relocated when a program is loaded"
 }
 
 quietly make_library x86_64-unknown-linux-gnu "$folder"
