@@ -6,8 +6,8 @@ use Rattle.goblin.specs.declared.options.ParseMode.{ParseMode}
 use Rattle.goblin.specs.ReadHeader.{read_header}
 use Rattle.goblin.specs.Refusal.{refusal_of}
 use Rattle.goblin.specs.Steps.{◌>>=◌, refuse_as}
-use Rattle.goblin_text.specs.declared.input.TheConstants.{INPUT_LIMIT}
 use Rattle.goblin_text.specs.declared.runs.TheConstants.{BLOCK}
+use Rattle.goblin_text.specs.Ran.{input_limit}
 use Rattle.goblin_text.specs.Shown.{ctx_of, sections_of, shown}
 
 -- the bytes of a file, how many looks at them were taken, how many more the blocks may take that weren't read yet, and
@@ -23,9 +23,13 @@ pub record NamesView : Type 0 where
 abbrev pub IsCached : NamesView → (start end : ℕ) → Type 0
 IsCached names start end = (names.text_start ≡ start) × (names.text_end ≡ end)
 
+-- no byte was looked at yet
+abbrev pub IsUnread : NamesView → Type 0
+IsUnread names = (names.count ≡ 0) × (names.left ≤ 5 * length names.bytes)
+
 -- the file is no longer than the program takes
 abbrev pub IsShort : List ℕ → Type 0
-IsShort bytes = length bytes ≤ INPUT_LIMIT
+IsShort bytes = length bytes ≤ input_limit
 
 -- so many looks were taken at most, beside those that blocks took which weren't read before
 abbrev pub LooksAtMost : (old new : NamesView) (most : ℕ) → Type 0
@@ -42,15 +46,15 @@ block_looks = 2 * (BLOCK + 3) + 6
 
 -- how many looks a string table takes: at its two ends, which are shorter than a block and a character
 abbrev pub table_looks : ℕ
-table_looks = 2 * BLOCK + 16
+table_looks = 1040
 
 -- how many looks a name takes beside its own length: at no more than five blocks
 abbrev pub name_looks : ℕ
-name_looks = 5 * BLOCK + 40
+name_looks = 2600
 
 -- how many looks a line takes beside its length: its name, and the table of a section
 abbrev pub line_looks : ℕ
-line_looks = 8 * BLOCK
+line_looks = 4096
 
 -- how many section headers a file has, or 0 where they are refused
 unfoldable pub section_count : ParseMode → List ℕ → ℕ

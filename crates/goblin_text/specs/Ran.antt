@@ -9,31 +9,34 @@ use Rattle.goblin.specs.declared.options.ParseMode.{ParseMode}
 use Rattle.goblin_text.specs.Lines.{newline}
 use Rattle.goblin_text.specs.Marks.{Marks}
 use Rattle.goblin_text.specs.Shown.{shown}
-use Rattle.goblin_text.specs.declared.input.TheConstants.{INPUT_LIMIT}
 use Rattle.goblin_text.specs.declared.input.Input.{Input}
 use Rattle.goblin_text.specs.declared.input.Input.TheVariants as inputs
 use Rattle.goblin_text.specs.declared.run.Outcome.{Outcome}
 use Rattle.goblin_text.specs.declared.run.Outcome.TheVariants as outcomes
 
+-- the greatest number of bytes that the program takes
+abbrev pub input_limit : ℕ
+input_limit = 16777216
+
 -- the greatest number of read calls
 abbrev pub read_limit : ℕ
-read_limit = 2 * INPUT_LIMIT
+read_limit = 33554432
 
 -- The reader returned these bytes, which are no more than the program takes, and its end: none is left.
 pub record ReadsAll (old new : Option (List ℕ)) (marks : Marks) (bytes : List ℕ) : Type 0 where
   pub taken : Consumes old new bytes
   pub all : IsAtEnd new
-  pub short : length bytes ≤ INPUT_LIMIT
+  pub short : length bytes ≤ input_limit
   pub end : IsTrue marks.reported_end
 
 -- The reader returned these bytes, which are more than the program takes.
 pub record ReadsTooMuch (old new : Option (List ℕ)) (bytes : List ℕ) : Type 0 where
   pub taken : Consumes old new bytes
-  pub long : INPUT_LIMIT < length bytes
+  pub long : input_limit < length bytes
 
 -- the reader returned at most one byte more than the program takes
 abbrev pub ReadsAtMostOneMore : Option (List ℕ) → Option (List ℕ) → Type 0
-ReadsAtMostOneMore old new = (bytes : List ℕ) × Consumes old new bytes × (length bytes ≤ INPUT_LIMIT + 1)
+ReadsAtMostOneMore old new = (bytes : List ℕ) × Consumes old new bytes × (length bytes ≤ input_limit + 1)
 
 -- The reader was called this often, and didn't return its end.
 pub record ReadsInVain (limit : ℕ) (before after : Marks) : Type 0 where
@@ -59,7 +62,7 @@ IsInputWithin limit inputs.TooLong old new before after = (bytes : List ℕ) × 
 IsInputWithin limit inputs.OutOfMemory old new before after = after.read_calls < before.read_calls + limit
 IsInputWithin limit inputs.Failed old new before after =
     (IsTrue after.reported_failure ⊎ ReadsInVain limit before after)
-    × (INPUT_LIMIT < limit → IsTrue after.reported_error)
+    × (input_limit < limit → IsTrue after.reported_error)
 
 -- the writer holds the text of all bytes more, and no other
 abbrev pub IsShown : ParseMode → (old new : Option (List ℕ)) → Marks → (held holds : Option (List ℕ)) → Type 0
@@ -86,7 +89,7 @@ IsErrorLine e line =
 
 -- what is said of an input that is longer than the program takes
 abbrev pub too_long : List ℕ
-too_long = codes "input is longer than " & decimal INPUT_LIMIT & codes " bytes"
+too_long = codes "input is longer than " & decimal input_limit & codes " bytes"
 
 -- why a line is written in place of a text: all bytes were read and are refused, or they are too many, or memory ran
 -- out

@@ -8,6 +8,7 @@ ghost use Rattle.goblin.specs.Refusal.{Gives, Refuses};
 ghost use Rattle.goblin.specs.RelocSection.{relocs_of};
 ghost use Rattle.goblin.specs.SectionHeaders.{section_headers_of, section_headers_of_tested};
 ghost use Rattle.goblin.specs.Symtab.{symtab_by};
+ghost use Rattle.goblin_text.specs.Looks.{IsUnread};
 
 use crate::names::Names;
 use goblin::container::Ctx;
@@ -45,8 +46,7 @@ impl<'a> FileBytes<'a> {
     /// Returns the bytes of a file, none of which has been looked at.
     pub fn new(bytes: &'a [u8]) -> Self
         ensures bytes { result.bytes ≡ bytes.now }
-        ensures count { result.count ≡ 0 }
-        ensures left { result.left ≤ 5 * length bytes.now }
+        ensures unread { IsUnread result }
     {
         FileBytes {
             bytes,

@@ -15,8 +15,8 @@ pub const INPUT_LIMIT: usize = 16_777_216;
 /// The line for an input that is longer.
 pub const TOO_LONG: &str = "input is longer than 16777216 bytes";
 
-// The greatest number of read calls.
-const READ_LIMIT: u64 = 2 * INPUT_LIMIT as u64;
+/// The greatest number of read calls.
+pub const READ_LIMIT: u64 = 2 * INPUT_LIMIT as u64;
 
 // The number of bytes that the input grows by at once.
 const ROOM: usize = 65_536;

@@ -1,19 +1,20 @@
 //! A run: from the bytes that a reader gives to the text that a writer holds.
-ghost use Rattle.std.specs.Prelude.{◌≡◌, ◌≢◌, ℕ, ◌+◌, ◌*◌, List, IsTrue, OnOk, OnErr, length};
+ghost use Rattle.std.specs.Prelude.{◌≡◌, ◌≢◌, ℕ, ◌+◌, ◌*◌, ◌↔◌, ◌≤◌, List, IsTrue, OnOk, OnErr, length};
 ghost use Rattle.std.specs.Io.KnownBytes.{Appends};
 ghost use Rattle.goblin_base.specs.Entries.{CountsAtLeast};
-ghost use Rattle.goblin_text.specs.Looks.{IsShort, LooksAtMost, line_looks, lines_in, shown_looks, tables_looks};
-ghost use Rattle.goblin_text.specs.Ran.{HasRun, IsErrorLine, IsReasonOf, WritesRefusal, status_of};
+ghost use Rattle.goblin_text.specs.Looks.{IsShort, IsUnread, LooksAtMost, line_looks, lines_in, section_count, shown_looks, table_looks, tables_looks};
+ghost use Rattle.goblin_text.specs.Ran.{HasRun, IsErrorLine, IsReasonOf, WritesRefusal, input_limit, read_limit, status_of};
 ghost use Rattle.goblin_text.specs.Shown.{shown};
 
 use crate::accept::accept;
 use crate::file_bytes::FileBytes;
-use crate::input::{Input, TOO_LONG, input_of};
+use crate::input::{INPUT_LIMIT, Input, READ_LIMIT, TOO_LONG, input_of};
+use crate::runs::{BLOCK, BLOCKS};
 use crate::streams::{Sink, Source};
 use crate::text::write_text;
 use goblin::error::Error;
 use goblin::options::ParseOptions;
-use std::alloc::Global;
+use std::alloc::{AllocError, Global};
 use std::io;
 
 /// How a run ended.
@@ -122,6 +123,14 @@ pub fn show_file<W: Sink>(
     ensures looks { IsShort file.old.bytes → LooksAtMost file.old file.new
         (tables_looks opts.now.parse_mode file.old.bytes + shown_looks opts.now.parse_mode file.old.bytes) }
     ensures looks_least { CountsAtLeast file.old.count 0 file.new.count }
+
+    // The looks for names, of a file of which no byte was looked at before.
+    ensures most_shown { IsShort file.old.bytes → IsUnread file.old → (text : List ℕ)
+        → result ≡ Outcome.Shown → shown opts.now.parse_mode file.old.bytes ≡ Ok text
+        → file.new.count ≤ 5 * length file.old.bytes + length text + 4096 * lines_in text }
+    ensures most_refused { IsShort file.old.bytes → IsUnread file.old → result ≡ Outcome.Refused
+        → file.new.count ≤ 7 * length file.old.bytes
+        + 1040 * (section_count opts.now.parse_mode file.old.bytes + 1) }
 {
     match accept(alloc, file, opts) {
         Ok(accepted) => match write_text(writer, &mut file.names, &accepted) {
@@ -157,4 +166,25 @@ pub fn run<R: Source, W: Sink>(
     };
     let mut file = FileBytes::new(bytes.as_slice());
     show_file(alloc, writer, &mut file, opts)
+}
+
+/// The limits of a run, and of the looks for names, in numbers.
+pub fn constants()
+    ensures input { INPUT_LIMIT ≡ 16777216 }
+    ensures reads { READ_LIMIT ≡ 33554432 }
+    ensures block { BLOCK ≡ 512 }
+    ensures blocks { BLOCKS ≡ 32768 }
+    ensures input_limit { input_limit ≡ 16777216 }
+    ensures read_limit { read_limit ≡ 33554432 }
+    ensures line_looks { line_looks ≡ 4096 }
+    ensures table_looks { table_looks ≡ 1040 }
+{}
+
+/// Laws: `==` is true exactly if two outcomes are the same. `clone` returns the outcome, and never
+/// fails. A call returns both.
+pub fn derived(outcome: &Outcome, other: &Outcome) -> (bool, Result<Outcome, AllocError>)
+    ensures equal { IsTrue result.0 ↔ (outcome.now ≡ other.now) }
+    ensures clone { result.1 ≡ Ok outcome.now }
+{
+    (*outcome == *other, outcome.clone())
 }

@@ -19,6 +19,11 @@ returns-in-Ok-write_text-clause-looks_shown g c = λ short text done is.
     looks_shown old c.accept.new.file c.write_text.new.names old.bytes file.header file.sections.items file.parts text
     all tables names
 
+-- of a file of which no byte was looked at before, the same
+pub returns-in-Ok-write_text-clause-most_shown : goal.returns-in-Ok-write_text-clause-most_shown
+returns-in-Ok-write_text-clause-most_shown g c = λ short unread text done is.
+    omega (arith, returns-in-Ok-write_text-clause-looks_shown g c short text done is, unread.0, unread.1)
+
 -- a text that could not be written was not shown
 pub returns-in-Ok-clause-shown : goal.returns-in-Ok-clause-shown
 returns-in-Ok-clause-shown g c = λ is. absurd (cc)

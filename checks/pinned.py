@@ -1,0 +1,110 @@
+#!/usr/bin/env python3
+"""Checks that laws pin the numbers that promises cite by a name: python3 checks/pinned.py, from the repository's root.
+
+A promise that cites a constant of the code says whatever number the code gives it. So each constant of an integer type that a
+definition imports from the code, or that a clause of a public function or of a trait's impl names, must be equal to a number in a
+clause of a function `constants` or `laws`: alone or in a list, under no condition. On the right there is no constant of the code and
+no definition of a module that imports one. It reads the crates that the program and the library for C stand on.
+"""
+import functools
+import glob
+import os
+import re
+import sys
+
+from crates import crates_listed
+
+CONSTANT = re.compile(r'^ *(?:pub(?:\(crate\))? )?(?:const|static) ([A-Z][A-Z0-9_]*): ([^=]*)', re.MULTILINE)
+NUMBER = re.compile(r'[ui](\d+|size) ')
+LISTED = re.compile(r'[\sA-Z0-9_∷\[\]()]+')
+NAME = re.compile(r'(?<![\w.])[A-Z][A-Z0-9_]*\b')
+USE = re.compile(r'^(?:pub(?:\(crate\))? )?use ((?:\w+::)+)(?:\{([^}]*)\}|(\w+));', re.MULTILINE)
+IMPORT = re.compile(r'^use Rattle\.(\w+)\.specs\.declared\.([\w.]+)\.TheConstants\b(?:\.\{([^}]*)\})?', re.MULTILINE)
+DEFINED = re.compile(r'^(?:abbrev |unfoldable |record |data )*pub (?:record |data )?(\w+)', re.MULTILINE)
+# A function, the head of an impl, or a clause up to its opening brace.
+PART = re.compile(r'^ *(?P<public>pub(?:\(crate\))? )?(?:const |unsafe )*fn (?P<function>\w+)|^(?P<block>impl|(?:pub )?trait)\b(?P<head>[^{]*)'
+                  r'|^\}|\b(?:requires|ensures) *\w* *\{|\bghost (?!use)\w+ = \{', re.MULTILINE)
+
+
+@functools.lru_cache(None)
+def read(path):
+    """The text of a file without its comments and strings."""
+    with open(path, encoding='utf-8') as file:
+        return re.sub(r'"(?:\\.|[^"\\])*"|(?://|--)[^\n]*', '', file.read())
+
+
+def file_of(crate, module):
+    """The file of a module, by the names of its path. The root has none."""
+    return f'crates/{crate}/src/{"/".join(module) or "lib"}.rt'
+
+
+def declared(name, path):
+    """The file that declares the constant that a name stands for in a file, with its type. There is none for a type parameter."""
+    if not os.path.isfile(path):
+        return None
+    types = dict(CONSTANT.findall(read(path)))
+    if name in types:
+        return path, types[name]
+    for module, names, one in USE.findall(read(path)):
+        if name in re.split(r'\W+', names or one):
+            first, *rest = module[:-2].split('::')
+            return declared(name, file_of(path.split('/')[1] if first == 'crate' else first, rest))
+    return None
+
+
+def clauses(path):
+    """Each clause of a file, with the name of its function, and whether that is public or of a trait."""
+    text, function, public, of_trait = read(path), '', False, False
+    for part in PART.finditer(text):
+        if part['function']:
+            function, public = part['function'], bool(part['public']) or of_trait
+        elif part['block'] or part[0] == '}':
+            function, of_trait = '', bool(part['block']) and (part['block'] != 'impl' or ' for ' in part['head'])
+            public = of_trait
+        else:
+            end, depth = part.end(), 1
+            while depth:
+                depth += {'{': 1, '}': -1}.get(text[end], 0)
+                end += 1
+            yield text[part.end():end - 1], function, public
+
+
+def pinned_by(clause, unfit):
+    """The names in a clause of a law that are equal to numbers."""
+    for fact in [] if re.search('[→⊎λ]', clause) else clause.split('×'):
+        left, _, right = fact.partition('≡')
+        if LISTED.fullmatch(left) and not NAME.search(right) and not unfit & set(re.findall(r'\w+', right)):
+            yield from NAME.findall(left)
+
+
+def main():
+    listed = crates_listed()
+    crates = sorted({name for top in ('goblin_show', 'goblin_c') for name in {top, *listed[top]}})
+    cited, pinned, unfit = {}, set(), set()
+    for path in [path for crate in crates for path in glob.glob(f'crates/{crate}/specs/*.antt')]:
+        for owner, module, names in IMPORT.findall(read(path)):
+            if not names:
+                sys.exit(f'pinned: {path} imports constants of {owner} without a list of their names')
+            unfit.update(DEFINED.findall(read(path)))
+            for name in re.findall(r'\w+', names):
+                cited.setdefault((declared(name, file_of(owner, module.split('.'))), name), path)
+    for path in [path for crate in crates for path in glob.glob(f'crates/{crate}/src/**/*.rt', recursive=True)]:
+        for clause, function, public in clauses(path):
+            if function in ('constants', 'laws'):
+                pinned.update((declared(name, path), name) for name in pinned_by(clause, unfit))
+            elif public:
+                for name in NAME.findall(clause):
+                    cited.setdefault((declared(name, path), name), path)
+    lost = sorted((name, path) for (source, name), path in cited.items() if source is None and len(name) > 1)
+    numbers = {key: path for key, path in cited.items() if key[0] and NUMBER.match(key[0][1])}
+    unpinned = sorted((name, source[0], path) for (source, name), path in numbers.items() if (source, name) not in pinned)
+    for name, path in lost:
+        print(f'pinned: {path} cites {name}, and the file that declares it was not found')
+    for name, source, path in unpinned:
+        print(f'pinned: {path} cites {name} of {source}, and no law `constants` says its number')
+    print(f'pinned: promises cite {len(numbers)} constants, of which {len(unpinned)} are in no law')
+    return 1 if lost or unpinned or not numbers else 0
+
+
+if __name__ == '__main__':
+    sys.exit(main())
