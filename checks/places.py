@@ -2,7 +2,7 @@
 """Whether docs/MAP.md names the files that a change touches: python3 checks/places.py [--write], from the repository's root.
 
 Each row of MAP's table "Where to change what" has an example of its change: names that exist today. They are searched as whole words
-in the files that git tracks, or in those below the paths after "in". Pages, edits and must-fail edits are left out. The files found
+in the files that git tracks, or in those below the paths after "in". Pages and edits are left out. The files found
 must be those that the row names, where `folder/{a, b}` stands for two files. With --write the rows name the files found.
 """
 import re
@@ -11,7 +11,7 @@ import sys
 
 PAGE = 'docs/MAP.md'
 TITLE = '## Where to change what'
-LEFT_OUT = (':!*.md', ':!*/edits/*', ':!*/must-fail/*')
+LEFT_OUT = (':!*.md', ':!*/edits/*', ':!*/must-fail/*', ':!*/controls/*')
 
 
 def quoted(cell):

@@ -3,13 +3,15 @@ use Rattle.std.proofs.Common.{◌≡◌, ◌≢◌, ℕ, zero, suc, ◌+◌, ◌
 use Rattle.std.proofs.Common.{Bool, true, false, cond, List, map, length, get_or, refl, sym, ap, subst, ◌∙◌}
 use Rattle.std.proofs.Common.{⊎_elim, arith}
 use Rattle.std.proofs.Math.Nat.{div-eq_of_lt, div-eq_of_lt-le, pow-le-pow_right, pow-suc}
-use Rattle.std.proofs.lemmas.Bool.{cases_lt, eq-eqb, ne_eqb}
+use Rattle.std.proofs.lemmas.Bool.{cases_Bool, cases_lt, eq-eqb, ne_eqb}
 use Rattle.std.proofs.lemmas.List.{get_or-map, length-map}
 use Rattle.std.proofs.lemmas.Nat.{leading_length}
 use Rattle.std.proofs.lemmas.Simd.{bit_mask_l, get_or-chunk, length-chunk, mask_l-lt}
 use Rattle.std.specs.Int.Count.{count_leading_zeros}
+use Rattle.std.specs.List.{slice_range}
 use Rattle.std.specs.Simd.Lanes.{mask_l}
 use lib.Lanes.{chunk}
+use Rattle.goblin_base.proofs.FirstLemmas.{get_in_range}
 use Rattle.goblin_base.proofs.PiecesLemmas.{start_after_delim, start_more}
 use Rattle.goblin_base.specs.Pieces.{piece_start}
 
@@ -81,6 +83,10 @@ module _ (test : ℕ → Bool) (bytes : List ℕ) (at : ℕ) (room : at + 16 ≤
       }
 
 -- ---- the piece
+pub start_at_none : (bytes : List ℕ) (d : ℕ) → piece_start bytes d 0 ≡ 0
+unfolding piece_start
+start_at_none bytes d = refl
+
 module _ (bytes : List ℕ) (d : ℕ) where
   -- no delimiter is among the n bytes from an offset on
   start_over : (o n : ℕ)
@@ -110,6 +116,35 @@ module _ (bytes : List ℕ) (d : ℕ) where
       → IsLast (λ b. eqb b d) bytes at r → r ≡ 0 → piece_start bytes d (at + 16) ≡ piece_start bytes d at
   start_across at r last z = start_over at 16 (λ k f t. last.fails k (omega arith) t)
 
+  -- of bytes that stand at an offset of others: their last piece is the others', if it begins after a delimiter
+  pub start_inside : (part : List ℕ) (a n : ℕ)
+      → ((k : ℕ) → k < n → get_or part k 0 ≡ get_or bytes (a + k) 0)
+      → (0 < piece_start part d n → piece_start bytes d (a + n) ≡ a + piece_start part d n)
+      × (piece_start part d n ≡ 0 → piece_start bytes d (a + n) ≡ piece_start bytes d a)
+  start_inside part a zero same =
+      let e : a + 0 ≡ a = omega arith in
+      let none : piece_start part d 0 ≡ 0 = start_at_none part d in
+      (λ l. absurd (omega (arith, none)), λ z. ap (piece_start bytes d) e)
+  start_inside part a (suc n) same =
+      let e : a + suc n ≡ suc (a + n) = omega arith in
+      let before = start_inside part a n (λ k l. same k (omega arith)) in
+      ⊎_elim
+      (λ (is : eqb (get_or part n 0) d ≡ true).
+      let whole : piece_start bytes d (a + suc n) ≡ a + suc n =
+      ap (piece_start bytes d) e
+      ∙ start_after_delim bytes d (a + n) (ap (λ b. eqb b d) (sym (same n (omega arith))) ∙ is) ∙ sym e in
+      let own : piece_start part d (suc n) ≡ suc n = start_after_delim part d n is in
+      (λ l. whole ∙ ap (λ k. a + k) (sym own), λ z. absurd (omega (arith, own, z))))
+      (λ (no : eqb (get_or part n 0) d ≡ false).
+      let less : piece_start bytes d (a + suc n) ≡ piece_start bytes d (a + n) =
+      ap (piece_start bytes d) e
+      ∙ start_more bytes d (a + n) (ap (λ b. eqb b d) (sym (same n (omega arith))) ∙ no) in
+      let own : piece_start part d (suc n) ≡ piece_start part d n = start_more part d n no in (
+        λ l. less ∙ before.0 (omega (arith, own, l)) ∙ ap (λ k. a + k) (sym own),
+        λ z. less ∙ before.1 (sym own ∙ z),
+      ))
+      (cases_Bool (eqb (get_or part n 0) d))
+
   -- by a byte
   pub start_at_delim : (s : ℕ) → 0 < s → get_or bytes (s - 1) 0 ≡ d → piece_start bytes d s ≡ s
   start_at_delim s l e =
@@ -125,5 +160,27 @@ module _ (bytes : List ℕ) (d : ℕ) where
   pub start_at_zero : (s : ℕ) → s ≡ 0 → piece_start bytes d s ≡ s
   unfolding piece_start
   start_at_zero s e = let zero_is : piece_start bytes d 0 ≡ 0 = refl in ap (piece_start bytes d) e ∙ zero_is ∙ sym e
+
+-- the last piece of a range up to an offset, by that of a part of the range which ends there
+pub range_start : (bytes : List ℕ) (d from to start n : ℕ)
+    → from ≤ start → start + n ≤ to → to ≤ length bytes
+    → (0 < piece_start (slice_range bytes start (start + n)) d n
+    → piece_start (slice_range bytes from to) d (start + n - from)
+    ≡ start - from + piece_start (slice_range bytes start (start + n)) d n)
+    × (piece_start (slice_range bytes start (start + n)) d n ≡ 0
+    → piece_start (slice_range bytes from to) d (start + n - from)
+    ≡ piece_start (slice_range bytes from to) d (start - from))
+range_start bytes d from to start n l m w =
+    let range = slice_range bytes from to in
+    let part = slice_range bytes start (start + n) in
+    let end : start + n - from ≡ start - from + n = omega arith in
+    let same : (k : ℕ) → k < n → get_or part k 0 ≡ get_or range (start - from + k) 0 =
+    (λ k h.
+    let here : start + k ≡ from + (start - from + k) = omega arith in
+    get_in_range bytes start (start + n) k (omega arith)
+    ∙ ap (λ x. get_or bytes x 0) here
+    ∙ sym (get_in_range bytes from to (start - from + k) (omega arith))) in
+    let inside = start_inside range d part (start - from) n same in
+    (λ p. ap (piece_start range d) end ∙ inside.0 p, λ z. ap (piece_start range d) end ∙ inside.1 z)
 
 pub ruleset starts = (start_at_delim, start_before_byte, start_at_zero)

@@ -108,12 +108,12 @@ module _ (bytes : List ℕ) (d : ℕ) (is_parsed : Bool) (t : StringTable) (es :
       (subst (λ x. EachIndex (places_of x) (λ k. o < get_or (places_of x) k 0)) walked_is h)
 
   -- the result is the rest of the last one's text
-  pub look_up_among : (k place : ℕ) (text : List ℕ) (r : Option (Bor (List ℕ)))
+  pub look_up_among : (k place from : ℕ) (text : List ℕ) (r : Option (Bor (List ℕ)))
       → IsLastUpTo (places_of es) o k × (place ≡ get_or (places_of es) k 0) → text ≡ text_of (get_or es k (0, []))
-      → MatchOption r (¬ (IsCharBoundary text (o - place)))
-      (λ x. IsCharBoundary text (o - place) × (x.now ≡ drop (o - place) text))
+      → MatchOption r (¬ (IsCharBoundary text from)) (λ x. IsCharBoundary text from × (x.now ≡ drop from text))
+      → from ≡ o - place
       → option_map (λ s. s.now) r ≡ look_up t o
-  look_up_among k place text r last text_is rest =
+  look_up_among k place from text r last text_is rest from_is =
       let found : IsLastUpTo (places_of (entries bytes d)) o k =
       subst (λ x. IsLastUpTo (places_of x) o k) walked_is last.0 in
       let at : place ≡ get_or (places_of (entries bytes d)) k 0 =
@@ -124,5 +124,7 @@ module _ (bytes : List ℕ) (d : ℕ) (is_parsed : Bool) (t : StringTable) (es :
       ∙ entry_text_at bytes d o k found
       ∙ ap (entry_text bytes d) (sym at) in
       answered bytes d r place o text
-      (subst (λ p. IsLookUp bytes d p o) (sym at) (found_look_up bytes d o k l found)) whole rest
+      (subst (λ p. IsLookUp bytes d p o) (sym at) (found_look_up bytes d o k l found)) whole
+      (subst (λ f. MatchOption r (¬ (IsCharBoundary text f)) (λ x. IsCharBoundary text f × (x.now ≡ drop f text)))
+      from_is rest)
       ∙ look_up_is

@@ -3,9 +3,13 @@ use Rattle.std.specs.Prelude.{◌≡◌, ℕ, ◌-◌, ◌<◌, ◌≤◌, ◌==
 use Rattle.std.specs.Simd.Lanes.{mask_l}
 use Rattle.goblin_base.specs.declared.marks.Marks.{Marks}
 
--- the sixteen bytes before a place, marked where a test holds: the lowest bit is the first byte's
+-- bytes, marked if a test holds: the lowest bit is the first byte's
+abbrev pub mask_of : (ℕ → Bool) → List ℕ → ℕ
+mask_of test bytes = mask_l (map test bytes)
+
+-- the sixteen bytes before an offset, marked
 abbrev pub marks_before : (ℕ → Bool) → List ℕ → ℕ → ℕ
-marks_before test bytes until = mask_l (map test (take 16 (drop (until - 16) bytes)))
+marks_before test bytes until = mask_of test (take 16 (drop (until - 16) bytes))
 
 -- these are marks of the sixteen bytes before `until`: one set for the delimiter, one for bytes that aren't ASCII
 pub record AreMarks (bytes : List ℕ) (delim : ℕ) (m : Marks) : Type 0 where

@@ -1,6 +1,6 @@
 -- A string table, and what its calls return (System V gABI, "String Table").
 use Rattle.std.specs.Prelude.{◌≡◌, ℕ, ◌+◌, ◌-◌, ◌^◌, ◌≤◌, ◌&&◌, Bool, true, false, List, [], map, length, slice_range}
-use Rattle.std.specs.Prelude.{take, drop, nat_lt, nat_le, if◌then◌else◌, Option, None, Result, Ok, Err}
+use Rattle.std.specs.Prelude.{take, drop, min, nat_lt, nat_le, if◌then◌else◌, Option, None, Result, Ok, Err}
 use Rattle.std.specs.Str.{bytes_eq}
 use Rattle.goblin_base.specs.declared.error.Error.{Error}
 use Rattle.goblin_base.specs.declared.error.Fault.{Fault}
@@ -36,8 +36,10 @@ range_in mode file offset size =
     then or_cut mode (StrtabRange size offset (length file) (nat_le (2 ^ 64) (offset + size))) (drop offset file)
     else Ok (take size (drop offset file))
 
--- the bytes of a range start and end at these offsets; in strict mode exactly as asked for
+-- the bytes of a range start and end at these offsets: a range past the end of the file lies at its end; in strict mode
+-- they are exactly those that were asked for
 pub record IsRange (mode : ParseMode) (bytes : List ℕ) (offset len start end : ℕ) : Type 0 where
+  pub from : start ≡ min offset (length bytes)
   pub order : start ≤ end
   pub within : end ≤ length bytes
   pub is : range_in mode bytes offset len ≡ Ok (slice_range bytes start end)

@@ -3,6 +3,8 @@
 ghost use Rattle.std.specs.Prelude.{◌≡◌, ◌↔◌, IsTrue};
 ghost use Rattle.goblin_base.specs.Container.{word_size};
 
+use std::alloc::AllocError;
+
 /// The byte order of numbers.
 #[derive(Clone, Copy, Debug, Default, PartialEq)]
 pub enum Endian {
@@ -126,3 +128,36 @@ pub fn constants()
     ensures orders { (LE ≡ Endian.Little) × (BE ≡ Endian.Big) }
     ensures class { CONTAINER ≡ Container.Big }
 {}
+
+/// Laws of byte orders: `==` is true exactly if both are the same. `clone` returns the byte order,
+/// and never fails. The default is little endian. A call returns all three.
+pub fn derived_endian(order: &Endian, other: &Endian) -> (bool, Result<Endian, AllocError>, Endian)
+    ensures equal { IsTrue result.0 ↔ (order.now ≡ other.now) }
+    ensures clone { result.1 ≡ Ok order.now }
+    ensures default { result.2 ≡ Endian.Little }
+{
+    (*order == *other, order.clone(), Endian::default())
+}
+
+/// Laws of classes: `==` is true exactly if both are the same. `clone` returns the class, and never
+/// fails. The default is the 64-bit class. A call returns all three.
+pub fn derived_container(
+    class: &Container,
+    other: &Container,
+) -> (bool, Result<Container, AllocError>, Container)
+    ensures equal { IsTrue result.0 ↔ (class.now ≡ other.now) }
+    ensures clone { result.1 ≡ Ok class.now }
+    ensures default { result.2 ≡ Container.Big }
+{
+    (*class == *other, class.clone(), Container::default())
+}
+
+/// Laws of contexts: `==` is true exactly if both are the same. `clone` returns the context, and
+/// never fails. The default is the 64-bit class in little endian. A call returns all three.
+pub fn derived_ctx(ctx: &Ctx, other: &Ctx) -> (bool, Result<Ctx, AllocError>, Ctx)
+    ensures equal { IsTrue result.0 ↔ (ctx.now ≡ other.now) }
+    ensures clone { result.1 ≡ Ok ctx.now }
+    ensures default { result.2 ≡ record { container = Container.Big; le = Endian.Little } }
+{
+    (*ctx == *other, ctx.clone(), Ctx::default())
+}

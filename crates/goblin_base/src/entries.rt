@@ -1,86 +1,18 @@
 //! Bytes that are read under a count, and the entries of a string table that are stored as places in them.
 //!
-//! The views here keep their fields to themselves and can't be copied, so that whoever reads through them
-//! can't read uncounted.
-ghost use Rattle.std.specs.Prelude.{◌≡◌, ◌↔◌, ◌+◌, ◌-◌, ◌*◌, ◌/◌, ◌^◌, ◌<◌, ◌≤◌, [], min, length, position, ◌==◌, IfOk, IsTrue, MatchResult, slice_get, slice_index, slice_index_or, slice_range};
-ghost use Rattle.std.specs.Option.{unwrap_or};
-ghost use Rattle.std.specs.Str.{IsUtf8, IsValidUpTo, valid_up_to};
+//! The views here have private fields and can't be copied, and no public call of theirs returns more than it counts. So
+//! code that reads through them can't read uncounted. ([`CountedBytes`](crate::counted_bytes::CountedBytes) also returns
+//! texts, which can.)
+ghost use Rattle.std.specs.Prelude.{◌≡◌, ◌↔◌, ◌+◌, ◌-◌, ◌<◌, ◌≤◌, [], min, length, IsTrue, slice_index, slice_index_or, slice_range};
+ghost use Rattle.std.specs.Str.{IsUtf8};
 ghost use Rattle.goblin_base.specs.Entries.{AreTexts, IsText, entries_between, places_of, text_of};
 ghost use Rattle.goblin_base.specs.Marks.{AreMarks};
-ghost use Rattle.goblin_base.specs.Pieces.{piece_start};
-ghost use Rattle.goblin_base.specs.Refusal.{Answers, malformed};
 ghost use Rattle.goblin_base.specs.Search.{IsRising};
-ghost use Rattle.goblin_base.specs.Steps.{refuse_as};
-ghost use Rattle.goblin_base.specs.Strtab.{IsRange, range_in};
 
-use crate::error::Result;
-use crate::last::last_start;
+use crate::count::Count;
 use crate::marks::{LANES, Marks};
-use crate::options::ParseMode;
-use crate::strtab::{bytes_in_range, position};
-use std::alloc::Global;
+use std::fmt;
 use std::marker::Model;
-use std::str::Utf8Error;
-use std::{fmt, result};
-
-// A number up to `u128::MAX`, in two halves: so adding to it is one addition and a branch that is hardly
-// ever taken.
-#[derive(Drop)]
-struct Count {
-    low: u64,
-    high: u64,
-}
-
-// It is seen as the number.
-impl Model for Count {
-    ghost use Rattle.std.specs.Prelude.{◌+◌, ◌*◌, ◌^◌, ◌<◌, ℕ};
-
-    ghost Value = { ℕ };
-
-    ghost view = { λ c. c.low + 2 ^ 64 * c.high };
-
-    ghost invariant = { λ c. (c.low < 2 ^ 64) × (c.high < 2 ^ 64) };
-}
-
-impl Count {
-    // Adds a number, or stays at the greatest where the sum would pass it.
-    #[inline]
-    fn add(&mut self, more: u64)
-        ensures value { self.new ≡ min (self.old + more) u128.MAX }
-        ensures rising { self.old ≤ self.new }
-    {
-        match self.low.checked_add(more) {
-            Some(low) => self.low = low,
-            None => *self = carried(self.low, self.high, more),
-        }
-    }
-
-    // The number.
-    fn value(&self) -> u128
-        ensures { result ≡ self.now }
-    {
-        u128::from(self.high) * (1 << 64) + u128::from(self.low)
-    }
-}
-
-// The sum of a number in two halves and one more, where the low half is too small for it.
-#[cold]
-#[inline(never)]
-fn carried(low: u64, high: u64, more: u64) -> Count
-    requires { 2 ^ 64 ≤ low + more }
-    ensures { result ≡ min (low + 2 ^ 64 * high + more) u128.MAX }
-{
-    match high.checked_add(1) {
-        Some(high) => Count {
-            low: low.wrapping_add(more),
-            high,
-        },
-        None => Count {
-            low: u64::MAX,
-            high,
-        },
-    }
-}
 
 /// Bytes that can be looked at only under a count of the bytes looked at.
 #[derive(Drop)]
@@ -105,7 +37,7 @@ impl<'a> Looked<'a> {
     {
         Looked {
             bytes,
-            count: Count { low: 0, high: 0 },
+            count: Count::none(),
         }
     }
 
@@ -129,97 +61,17 @@ impl<'a> Looked<'a> {
         self.bytes[i]
     }
 
-    /// Returns the places from which and up to which `len` bytes at an offset stand, which `bytes_in_range` returns or
-    /// refuses. It is no look.
-    pub fn range(&self, offset: usize, len: usize, mode: ParseMode) -> Result<(usize, usize)>
-        ensures given { let expected = refuse_as malformed (range_in mode self.now.bytes offset len) in
-            Answers (λ range. slice_range self.now.bytes range.0 range.1) result expected }
-        ensures places { IfOk result (λ range.
-            IsRange mode self.now.bytes offset len range.0 range.1) }
-    {
-        let range = bytes_in_range(self.bytes, offset, len, mode)?;
-        let start = offset.min(self.bytes.len());
-        Ok((start, start + range.len()))
-    }
-
-    /// Returns the byte at a place, or `None` past the end. It is one look, whether there is a byte or not.
-    pub fn get(&mut self, i: usize) -> Option<u8>
-        ensures value { result ≡ slice_get self.old.bytes i }
-        ensures counted { self.new ≡ record self.old { count = min (self.old.count + 1) u128.MAX } }
-        ensures unchanged { self.new.bytes ≡ self.old.bytes }
-        ensures rising { self.old.count ≤ self.new.count }
-    {
-        self.count.add(1);
-        self.bytes.get(i).copied()
-    }
-
-    /// Returns where a byte stands first from one place up to another, or that other place. It is a look at each byte up
-    /// to it.
-    pub fn find(&mut self, byte: u8, from: usize, to: usize) -> usize
-        requires ordered { from ≤ to }
-        requires within { to ≤ length self.old.bytes }
-        ensures value { let range = slice_range self.old.bytes from to in
-            result ≡ from + unwrap_or (position (λ b. b == byte) range) (length range) }
-        ensures from { from ≤ result }
-        ensures to { result ≤ to }
-        ensures counted { let looks = min (result + 1) to - from in
-            self.new ≡ record self.old { count = min (self.old.count + looks) u128.MAX } }
-        ensures unchanged { self.new.bytes ≡ self.old.bytes }
-        ensures rising { self.old.count ≤ self.new.count }
-    {
-        let range = &self.bytes[from..to];
-        let len = position(range, byte).unwrap_or(range.len());
-        self.count.add((len + 1).min(to - from) as u64);
-        from + len
-    }
-
-    /// Returns the place after the one where a byte stands last from one place up to another, or the first of these two
-    /// places. Sixteen bytes are read at a time, from the end on: it is a look at each byte that is read.
-    pub fn rfind(&mut self, byte: u8, from: usize, to: usize) -> usize
-        requires ordered { from ≤ to }
-        requires within { to ≤ length self.old.bytes }
-        ensures value { let range = slice_range self.old.bytes from to in
-            result ≡ from + piece_start range byte (to - from) }
-        ensures from { from ≤ result }
-        ensures to { result ≤ to }
-        ensures counted { let looks = min (16 * ((to - result) / 16 + 1)) (to - from) in
-            self.new ≡ record self.old { count = min (self.old.count + looks) u128.MAX } }
-        ensures unchanged { self.new.bytes ≡ self.old.bytes }
-        ensures rising { self.old.count ≤ self.new.count }
-    {
-        let range = &self.bytes[from..to];
-        let start = last_start(range, byte);
-        let blocks = (range.len() - start) / LANES + 1;
-        self.count.add((blocks * LANES).min(to - from) as u64);
-        from + start
-    }
-
-    /// Returns the bytes from one place up to another as a text, or how far they are text. It is a look at each of them.
-    pub fn str(&mut self, from: usize, to: usize) -> result::Result<&'a str, Utf8Error>
-        requires ordered { from ≤ to }
-        requires within { to ≤ length self.old.bytes }
-        ensures cases { let range = slice_range self.old.bytes from to in
-            MatchResult result (λ text. (text.now ≡ range) × IsUtf8 range)
-            (λ e. ¬ (IsUtf8 range) × IsValidUpTo range (valid_up_to e)) }
-        ensures counted { self.new ≡ record self.old { count = min (self.old.count + (to - from)) u128.MAX } }
-        ensures unchanged { self.new.bytes ≡ self.old.bytes }
-        ensures rising { self.old.count ≤ self.new.count }
-    {
-        self.count.add((to - from) as u64);
-        std::str::from_utf8(&self.bytes[from..to])
-    }
-
     /// Reads the marks of the sixteen bytes from an offset on. It is a look at each of them.
     pub(crate) fn marks(&mut self, at: usize, delim: u8) -> Marks
-        requires { at + LANES ≤ length self.old.bytes }
-        ensures until { result.until ≡ at + LANES }
+        requires { at + 16 ≤ length self.old.bytes }
+        ensures until { result.until ≡ at + 16 }
         ensures marked { AreMarks self.old.bytes delim result }
-        ensures counted { self.new ≡ record self.old { count = min (self.old.count + LANES) u128.MAX } }
+        ensures counted { self.new ≡ record self.old { count = min (self.old.count + 16) u128.MAX } }
         ensures unchanged { self.new.bytes ≡ self.old.bytes }
         ensures rising { self.old.count ≤ self.new.count }
     {
         self.count.add(LANES as u64);
-        Marks::of(self.bytes, at, delim)
+        Marks::of(&self.bytes[at..at + LANES], at + LANES, delim)
     }
 
     /// Whether the bytes from one place up to another are text. It is a look at each of them.
@@ -231,7 +83,8 @@ impl<'a> Looked<'a> {
         ensures unchanged { self.new.bytes ≡ self.old.bytes }
         ensures rising { self.old.count ≤ self.new.count }
     {
-        self.str(from, to).is_ok()
+        self.count.add((to - from) as u64);
+        std::str::from_utf8(&self.bytes[from..to]).is_ok()
     }
 
     // The entries at these places over the bytes, the last of which ends one before the closing place.

@@ -4,17 +4,19 @@
 
 mod ascii;
 pub mod container;
+mod count;
+pub mod counted_bytes;
 pub mod digits;
 pub mod entries;
 pub mod error;
 pub mod find;
-mod last;
 mod marks;
 pub mod number;
 pub mod options;
 pub mod record;
 pub mod room;
 pub mod scroll;
+mod searches;
 pub mod strtab;
 pub mod table;
 pub mod texts;

@@ -1,9 +1,9 @@
 //! Finds the ends of pieces by marks of sixteen bytes that are read at once.
-ghost use Rattle.std.specs.Prelude.{◌≡◌, ◌+◌, ◌-◌, ◌/◌, ◌^◌, ◌<◌, ◌≤◌, ◌↔◌, max, min, length, IsTrue, slice_range};
+ghost use Rattle.std.specs.Prelude.{◌≡◌, ◌+◌, ◌-◌, ◌/◌, ◌^◌, ◌<◌, ◌≤◌, ◌↔◌, ◌==◌, max, min, length, nat_le, IsTrue, slice_range};
 ghost use Rattle.std.specs.Str.{IsUtf8};
 ghost use Rattle.goblin_base.specs.Ascii.{lowest_set};
 ghost use Rattle.goblin_base.specs.Entries.{CountsAtLeast};
-ghost use Rattle.goblin_base.specs.Marks.{AreAscii, AreMarks, HaveMarks};
+ghost use Rattle.goblin_base.specs.Marks.{AreAscii, HaveMarks, mask_of};
 ghost use Rattle.goblin_base.specs.Pieces.{piece_end};
 
 use crate::ascii::lowest_set;
@@ -33,16 +33,17 @@ impl Marks {
         }
     }
 
-    /// Reads the marks of the sixteen bytes from an offset on.
+    /// Reads the marks of sixteen bytes, which end at an offset.
     #[inline(always)]
-    pub(crate) fn of(bytes: &[u8], at: usize, delim: u8) -> Marks
-        requires { at + LANES ≤ length bytes.now }
-        ensures until { result.until ≡ at + LANES }
-        ensures marked { AreMarks bytes.now delim result }
+    pub(crate) fn of(bytes: &[u8], until: usize, delim: u8) -> Marks
+        requires { length bytes.now ≡ 16 }
+        ensures until { result.until ≡ until }
+        ensures delims { result.delims ≡ mask_of (λ b. b == delim) bytes.now }
+        ensures highs { result.highs ≡ mask_of (λ b. nat_le 128 b) bytes.now }
     {
-        let lanes = u8x16::from_slice(&bytes[at..]);
+        let lanes = u8x16::from_slice(bytes);
         Marks {
-            until: at + LANES,
+            until,
             delims: lanes.simd_eq(u8x16::splat(delim)).to_bitmask(),
             highs: lanes.simd_ge(u8x16::splat(0x80)).to_bitmask(),
         }
@@ -69,13 +70,13 @@ pub(crate) fn next_end(
     from: usize,
 ) -> (usize, bool)
     requires within { from ≤ length view.old.bytes }
-    requires near { marks.old.until ≤ from + LANES }
+    requires near { marks.old.until ≤ from + 16 }
     requires marked { HaveMarks view.old.bytes delim marks.old }
     ensures value { result.0 ≡ piece_end view.old.bytes delim from }
     ensures ordered { from ≤ result.0 }
     ensures within { result.0 ≤ length view.old.bytes }
     ensures ascii { IsTrue result.1 ↔ AreAscii view.old.bytes from result.0 }
-    ensures near { marks.new.until ≤ result.0 + LANES }
+    ensures near { marks.new.until ≤ result.0 + 16 }
     ensures grows { marks.old.until ≤ marks.new.until }
     ensures marked { HaveMarks view.old.bytes delim marks.new }
     ensures unchanged { view.new.bytes ≡ view.old.bytes }

@@ -1,6 +1,8 @@
 //! Options of reading a file: whether damaged parts of it are refused or tolerated.
 ghost use Rattle.std.specs.Prelude.{◌≡◌, ◌↔◌, IsTrue};
 
+use std::alloc::AllocError;
+
 /// What reading does with damaged parts of a file.
 #[derive(Clone, Copy, Debug, Default, PartialEq, Eq)]
 pub enum ParseMode {
@@ -60,4 +62,30 @@ impl ParseOptions {
         self.parse_mode = parse_mode;
         self
     }
+}
+
+/// Laws of modes: `==` is true exactly if both are the same. `clone` returns the mode, and never
+/// fails. The default is strict. A call returns all three.
+pub fn derived_mode(
+    mode: &ParseMode,
+    other: &ParseMode,
+) -> (bool, Result<ParseMode, AllocError>, ParseMode)
+    ensures equal { IsTrue result.0 ↔ (mode.now ≡ other.now) }
+    ensures clone { result.1 ≡ Ok mode.now }
+    ensures default { result.2 ≡ ParseMode.Strict }
+{
+    (*mode == *other, mode.clone(), ParseMode::default())
+}
+
+/// Laws of options: `==` is true exactly if both are the same. `clone` returns the options, and
+/// never fails. The default is strict. A call returns all three.
+pub fn derived_options(
+    options: &ParseOptions,
+    other: &ParseOptions,
+) -> (bool, Result<ParseOptions, AllocError>, ParseOptions)
+    ensures equal { IsTrue result.0 ↔ (options.now ≡ other.now) }
+    ensures clone { result.1 ≡ Ok options.now }
+    ensures default { result.2 ≡ record { parse_mode = ParseMode.Strict } }
+{
+    (*options == *other, options.clone(), ParseOptions::default())
 }

@@ -1,5 +1,5 @@
 //! String tables, which are indexed by byte offsets: System V gABI, "String Table".
-ghost use Rattle.std.specs.Prelude.{◌≡◌, ◌+◌, ◌<◌, ◌≤◌, ◌↔◌, [], true, false, drop, length, map, nat_lt, position};
+ghost use Rattle.std.specs.Prelude.{◌≡◌, ℕ, ◌+◌, ◌<◌, ◌≤◌, ◌↔◌, List, [], true, false, drop, length, map, nat_lt, position};
 ghost use Rattle.std.specs.Prelude.{◌==◌, if◌then◌else◌, Some, None, Ok, IfErr, IfOk, IfSome, IsNone, IsOk};
 ghost use Rattle.std.specs.Prelude.{MatchOption, MatchResult, EachIndex, alloc_error, slice_index, slice_range};
 ghost use Rattle.std.specs.Option.{option_map};
@@ -9,7 +9,7 @@ ghost use Rattle.goblin_base.specs.Pieces.{piece};
 ghost use Rattle.goblin_base.specs.Refusal.{Answers, Gives, malformed};
 ghost use Rattle.goblin_base.specs.Search.{IsLastUpTo};
 ghost use Rattle.goblin_base.specs.Steps.{refuse_as};
-ghost use Rattle.goblin_base.specs.Strtab.{RefusesFirst, has_name, look_up, plain, range_in, strings_of, strtab_of};
+ghost use Rattle.goblin_base.specs.Strtab.{IsRange, RefusesFirst, has_name, look_up, plain, range_in, strings_of, strtab_of};
 ghost use Rattle.goblin_base.specs.Strtab.{table_of, texts_of, unparsed};
 ghost use Rattle.goblin_base.specs.Wanted.{begins_at, can_be_string, is_apart, is_piece, stands_at, starts_piece};
 ghost use Rattle.goblin_base.specs.StrtabLaws.{ClosedForm, DependsOnRange, DigitsCount, JoinsAgain, LookUpHasPlain};
@@ -479,43 +479,66 @@ impl Default for Strtab<'_> {
     }
 }
 
-/// Returns the `len` bytes of a string table at an offset of a file.
+/// Returns where the `len` bytes of a string table at an offset of a file of `file_len` bytes begin and end.
 ///
-/// Permissive mode cuts the range at the end of the file, and never fails.
+/// Permissive mode cuts the range at the end of the file, and never fails. If the offset is past the end, the range is
+/// empty and lies at the end.
 ///
 /// # Errors
 ///
 /// Strict mode fails with `StrtabOffset` if the offset is past the end of the file. Otherwise it fails with
 /// `StrtabRange` if the range ends past the end of the file, or past `usize::MAX`.
 #[tactic(auto, unfolding(crate::specs::Strtab::range_in))]
+pub fn range_of(
+    file_len: usize,
+    offset: usize,
+    len: usize,
+    mode: ParseMode,
+) -> Result<(usize, usize)>
+    // What holds of each file of that length.
+    ensures given { (file : List ℕ) → length file ≡ file_len →
+        let expected = refuse_as malformed (range_in mode file offset len) in
+        Answers (λ range. slice_range file range.0 range.1) result expected }
+    ensures refused { (file : List ℕ) → length file ≡ file_len → IfErr (range_in mode file offset len)
+        (λ fault. result ≡ Err (Error.Malformed fault)) }
+    ensures places { (file : List ℕ) → length file ≡ file_len →
+        IfOk result (λ range. IsRange mode file offset len range.0 range.1) }
+{
+    let (end, overflow) = offset.overflowing_add(len);
+    if !overflow && end <= file_len {
+        return Ok((offset, end));
+    }
+    if mode.is_permissive() {
+        return Ok((offset.min(file_len), file_len));
+    }
+    Err(Error::Malformed(if offset > file_len {
+        Fault::StrtabOffset {
+            offset,
+            len: file_len,
+        }
+    } else {
+        Fault::StrtabRange {
+            size: len,
+            offset,
+            len: file_len,
+            overflow,
+        }
+    }))
+}
+
+/// Returns the `len` bytes of a string table at an offset of a file, which lie where [`range_of`] says.
+///
+/// # Errors
+///
+/// Those of [`range_of`].
 pub fn bytes_in_range(bytes: &[u8], offset: usize, len: usize, mode: ParseMode) -> Result<&[u8]>
     ensures given { let expected = refuse_as malformed (range_in mode bytes.now offset len) in
         Answers (λ range. range.now) result expected }
     ensures range { IfErr (range_in mode bytes.now offset len)
         (λ fault. result ≡ Err (Error.Malformed fault)) }
 {
-    if offset > bytes.len() {
-        if mode.is_permissive() {
-            return Ok(&[]);
-        }
-        return Err(Error::Malformed(Fault::StrtabOffset {
-            offset,
-            len: bytes.len(),
-        }));
-    }
-    let (end, overflow) = offset.overflowing_add(len);
-    if overflow || end > bytes.len() {
-        if mode.is_permissive() {
-            return Ok(&bytes[offset..]);
-        }
-        return Err(Error::Malformed(Fault::StrtabRange {
-            size: len,
-            offset,
-            len: bytes.len(),
-            overflow,
-        }));
-    }
-    Ok(&bytes[offset..end])
+    let (start, end) = range_of(bytes.len(), offset, len, mode)?;
+    Ok(&bytes[start..end])
 }
 
 /// Returns the piece at an offset of bytes that a delimiter cuts into strings, or `None` from their length on.

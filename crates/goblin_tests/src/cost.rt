@@ -1,6 +1,6 @@
-//! Calls over large tables of zero bytes, which are empty strings, and records whose fields are 0. Each takes a time in
-//! proportion to its table: one that read for each item all that lies before it would take longer than the 60 seconds that
-//! a test has.
+//! Calls over large tables of zero bytes, which are empty strings, and records whose fields are 0, and over long strings of
+//! two bytes a character. Each takes a time in proportion to its table: one that read for each item all that lies before it,
+//! or all of its string, would take longer than the 60 seconds that a test has.
 use crate::compare::{differs, is};
 use crate::container::LITTLE32;
 use crate::sym::ZERO;
@@ -10,6 +10,7 @@ use goblin::elf::section_header::SectionHeader;
 use goblin::elf::sym::Symtab;
 use goblin_base::options::ParseOptions;
 use goblin_base::strtab::Strtab;
+use std::alloc::{AllocError, Global};
 
 // Whether a table lists as many strings as it has bytes.
 fn lists(rt: HostRuntime, table: &Strtab<'_>) -> bool {
@@ -42,6 +43,63 @@ fn lists_zeros(rt: HostRuntime, count: usize) -> bool {
 #[test]
 fn lists_a_million_strings(rt: HostRuntime) {
     assert!(rt; lists_zeros(rt, 1000000));
+}
+
+// So many characters of two bytes, and a last byte.
+fn two_bytes(alloc: Global, count: usize, last: u8) -> Result<Vec<u8>, AllocError> {
+    let mut bytes = Vec::new(alloc);
+    for _ in 0..count {
+        bytes.extend_from_slice(b"\xc3\xa9")?;
+    }
+    bytes.push(last)?;
+    Ok(bytes)
+}
+
+// Whether looking up each place of a string of so many bytes returns the rest of it, or nothing inside a character.
+fn gets_rests(rt: HostRuntime, table: &Strtab<'_>, len: usize) -> bool {
+    for place in 0..len {
+        let expected = match place % 2 {
+            0 => Some(len - place),
+            _ => None,
+        };
+        let found = table.get_at(place).map(|text| text.len());
+        if found != expected {
+            return differs(rt, &(place, found), &expected);
+        }
+    }
+    true
+}
+
+// Whether the same holds of a table of this string that is parsed by these options.
+fn looks_up(rt: HostRuntime, bytes: &[u8], opts: &ParseOptions) -> bool {
+    match Strtab::parse_with_opts(rt.alloc(), bytes, 0, bytes.len(), 0, opts) {
+        Ok(table) => gets_rests(rt, &table, bytes.len().saturating_sub(1)),
+        Err(e) => differs(rt, &e, &bytes.len()),
+    }
+}
+
+// Whether a string of so many characters is looked up, and below whether one with a bad last byte is listed byte by byte.
+fn reads_a_long_string(rt: HostRuntime, count: usize) -> bool {
+    match two_bytes(rt.alloc(), count, 0) {
+        Ok(bytes) => {
+            looks_up(rt, &bytes, &ParseOptions::strict())
+                && looks_up(rt, &bytes, &ParseOptions::permissive())
+        }
+        Err(e) => differs(rt, &e, &count),
+    }
+}
+
+fn lists_a_damaged_string(rt: HostRuntime, count: usize) -> bool {
+    match two_bytes(rt.alloc(), count, 0xff) {
+        Ok(bytes) => parses(rt, &bytes, &ParseOptions::permissive()),
+        Err(e) => differs(rt, &e, &count),
+    }
+}
+
+#[test]
+fn reads_a_string_of_a_megabyte(rt: HostRuntime) {
+    assert!(rt; reads_a_long_string(rt, 500000));
+    assert!(rt; lists_a_damaged_string(rt, 500000));
 }
 
 const ZERO_RELOC: Reloc = Reloc {

@@ -199,3 +199,194 @@ fn makes_errors_of_others(rt: HostRuntime) {
         .map(Error::Malformed);
     assert!(rt; matches!(misfit, Some(error) if has_messages(rt, &error, text)));
 }
+
+// A text with numbers, as std formats them.
+type Formatted = Result<String, AllocError>;
+
+// Whether an error has the message.
+fn says(rt: HostRuntime, error: Error, text: Formatted) -> bool {
+    match text {
+        Ok(text) => has_message(rt, &error, text.as_str()),
+        Err(e) => differs(rt, &e, &error),
+    }
+}
+
+fn fault_says(rt: HostRuntime, fault: Fault, text: Formatted) -> bool {
+    match text {
+        Ok(text) => says(
+            rt,
+            Error::Malformed(fault),
+            format!(in rt.alloc(); "{MALFORMED}{text}"),
+        ),
+        Err(e) => differs(rt, &e, &fault),
+    }
+}
+
+// Whether each error of a byte has its message.
+fn errors_of_a_byte_say(rt: HostRuntime, n: u8) -> bool {
+    let class = format!(in rt.alloc(); "Invalid class in Header: {n}");
+    let order = format!(in rt.alloc(); "Invalid endianness in Header: {n}");
+    let elf_class = format!(in rt.alloc(); "invalid ELF class {n:x}");
+    let data_type = format!(in rt.alloc(); "invalid ELF endianness DATA type {n:x}");
+    let data = format!(in rt.alloc(); "invalid ELF DATA type {n:x}");
+    fault_says(rt, Fault::InvalidClass(n), class)
+        && fault_says(rt, Fault::InvalidEndianness(n), order)
+        && fault_says(rt, Fault::ElfClass(n), elf_class)
+        && fault_says(rt, Fault::DataType(n), data_type)
+        && fault_says(rt, Fault::Data(n), data)
+}
+
+// The same of each other error with this number as each of its numbers.
+fn errors_of_places_say(rt: HostRuntime, n: u64) -> bool {
+    let size = n as usize;
+    let magic = format!(in rt.alloc(); "Invalid magic number: 0x{n:x}");
+    let big = format!(in rt.alloc(); "type is too big ({n}) for {n}");
+    let offset = format!(in rt.alloc(); "bad offset {n}");
+    let input = format!(in rt.alloc(); "bad input invalid utf8 ({n})");
+    let msg = "invalid utf8";
+    says(rt, Error::BadMagic(n), magic)
+        && says(
+            rt,
+            Error::Scroll(scroll::Error::TooBig { size, len: size }),
+            big,
+        )
+        && says(rt, Error::Scroll(scroll::Error::BadOffset(size)), offset)
+        && says(
+            rt,
+            Error::Scroll(scroll::Error::BadInput { size, msg }),
+            input,
+        )
+}
+
+fn errors_of_items_say(rt: HostRuntime, n: u64, item: &'static str) -> bool {
+    let text = format!(in rt.alloc(); "Buffer is too short for {n} {item}");
+    says(rt, Error::BufferTooShort(n as usize, item), text)
+}
+
+fn faults_of_symbols_say(rt: HostRuntime, n: u64) -> bool {
+    let size = n as usize;
+    let align = format!(in rt.alloc(); "Notes has unimplemented alignment requirement: 0x{n:x}");
+    let offset = format!(in rt.alloc(); "Symbol table offset ({n}) is beyond file boundary ({n})");
+    let many = format!(in rt.alloc(); "Too many ELF symbols (offset 0x{n:x}, count {n})");
+    let past = format!(in rt.alloc();
+        "Symbol table extends beyond file boundary (requested: {n}, available: {n})"
+    );
+    let start = Fault::SymtabOffset {
+        offset: size,
+        len: size,
+    };
+    let count = Fault::TooManySymbols {
+        offset: size,
+        count: size,
+    };
+    let end = Fault::SymtabPast {
+        requested: size,
+        available: size,
+    };
+    fault_says(rt, Fault::NoteAlign(size), align)
+        && fault_says(rt, start, offset)
+        && fault_says(rt, count, many)
+        && fault_says(rt, end, past)
+}
+
+fn faults_of_strings_say(rt: HostRuntime, n: u64, overflow: bool) -> bool {
+    let size = n as usize;
+    let offset = format!(in rt.alloc(); "String table offset ({n}) is beyond file boundary ({n})");
+    let range = format!(in rt.alloc();
+        "Strtable size ({n}) + offset ({n}) is out of bounds for {n} #bytes. Overflowed: {overflow}"
+    );
+    let start = Fault::StrtabOffset {
+        offset: size,
+        len: size,
+    };
+    let end = Fault::StrtabRange {
+        size,
+        offset: size,
+        len: size,
+        overflow,
+    };
+    fault_says(rt, start, offset) && fault_says(rt, end, range)
+}
+
+fn faults_of_sections_say(rt: HostRuntime, n: u64, overflow: bool) -> bool {
+    let offset = format!(in rt.alloc();
+        "Section {n} size ({n}) + offset ({n}) is out of bounds. Overflowed: {overflow}"
+    );
+    let addr = format!(in rt.alloc();
+        "Section {n} size ({n}) + addr ({n}) is out of bounds. Overflowed: {overflow}"
+    );
+    let bytes = Fault::SectionOffset {
+        name: n as usize,
+        size: n,
+        offset: n,
+        overflow,
+    };
+    let addresses = Fault::SectionAddr {
+        name: n as usize,
+        size: n,
+        addr: n,
+        overflow,
+    };
+    fault_says(rt, bytes, offset) && fault_says(rt, addresses, addr)
+}
+
+// Whether each error with this number has its message.
+fn errors_say(rt: HostRuntime, n: u64) -> bool {
+    let are_said = errors_of_places_say(rt, n)
+        && errors_of_items_say(rt, n, "symbols")
+        && errors_of_items_say(rt, n, "section headers")
+        && errors_of_items_say(rt, n, "program headers")
+        && faults_of_symbols_say(rt, n)
+        && faults_of_strings_say(rt, n, false)
+        && faults_of_strings_say(rt, n, true)
+        && faults_of_sections_say(rt, n, false)
+        && faults_of_sections_say(rt, n, true);
+    holds(rt, &n, are_said)
+}
+
+// The same of a number and of those beside it.
+fn errors_say_about(rt: HostRuntime, n: u64) -> bool {
+    errors_say(rt, n.wrapping_sub(1)) && errors_say(rt, n) && errors_say(rt, n.wrapping_add(1))
+}
+
+// Whether each error of a byte has its message, whatever the byte.
+fn errors_of_bytes_say(rt: HostRuntime) -> bool {
+    for n in 0..=u8::MAX {
+        if !holds(rt, &n, errors_of_a_byte_say(rt, n)) {
+            return false;
+        }
+    }
+    true
+}
+
+// Whether each error has its message with each of the first numbers.
+fn errors_of_first_numbers_say(rt: HostRuntime) -> bool {
+    for n in 0..5_001 {
+        if !errors_say(rt, n) {
+            return false;
+        }
+    }
+    true
+}
+
+// The same about each power of two and of ten. About the first one, 1, the number 0 is.
+fn errors_of_powers_say(rt: HostRuntime) -> bool {
+    let mut two = 1_u64;
+    let mut ten = 1_u64;
+    for _ in 0..64 {
+        if !errors_say_about(rt, two) || !errors_say_about(rt, ten) {
+            return false;
+        }
+        two = two.wrapping_mul(2);
+        ten = ten.wrapping_mul(10);
+    }
+    errors_say(rt, u64::MAX)
+}
+
+// A message that was refused by out of memory for a single number would stand in no row above.
+#[test]
+fn returns_the_messages_of_many_numbers(rt: HostRuntime) {
+    assert!(rt; errors_of_bytes_say(rt));
+    assert!(rt; errors_of_first_numbers_say(rt));
+    assert!(rt; errors_of_powers_say(rt));
+}

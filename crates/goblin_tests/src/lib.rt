@@ -11,6 +11,8 @@ mod container;
 #[cfg(test)]
 mod cost;
 #[cfg(test)]
+mod counted_bytes;
+#[cfg(test)]
 mod entries;
 #[cfg(test)]
 mod error;

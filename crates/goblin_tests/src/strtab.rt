@@ -2,7 +2,7 @@
 use crate::compare::{differs, holds, is, reports, returns, returns_list};
 use goblin_base::error::Result;
 use goblin_base::options::{ParseMode, ParseOptions};
-use goblin_base::strtab::{Strtab, WantedName, bytes_in_range, laws, string_at};
+use goblin_base::strtab::{Strtab, WantedName, bytes_in_range, laws, range_of, string_at};
 
 // "\nƒoo\nmemmove\n🅱️usta\n"
 const FOO: &[u8] = b"\n\xC6\x92oo\nmemmove\n\xF0\x9F\x85\xB1\xEF\xB8\x8Fusta\n";
@@ -41,11 +41,17 @@ fn calls_the_laws_of_string_tables() {
     laws();
 }
 
+// Whether these bytes, between newlines, are refused as a table with this line.
+fn refuses_lines(rt: HostRuntime, bytes: &[u8], line: &str) -> bool {
+    reports(rt, Strtab::new_preparsed(rt.alloc(), bytes, b'\n'), line)
+}
+
 #[test]
 fn lists_the_strings_between_delimiters(rt: HostRuntime) {
     assert!(rt; splits(rt, b"\0printf\0memmove\0busta\0", 0, &BUSTA));
     assert!(rt; splits(rt, b"\nprintf\nmemmove\nbusta\n", b'\n', &BUSTA));
     assert!(rt; splits(rt, b"\xC6\x92oo", b'\n', &["\u{192}oo"]));
+    assert!(rt; refuses_lines(rt, b"\x80\x80", "bad input invalid utf8 (2)"));
 }
 
 // Offsets, and what looking them up returns.
@@ -267,6 +273,36 @@ fn cuts_a_range_to_the_file(rt: HostRuntime) {
     assert!(rt; is_cut_to(rt, 4, 0, 0));
     assert!(rt; is_cut_to(rt, 1, usize::MAX, 3));
     assert!(rt; is_cut_to(rt, 1, 2, 2));
+}
+
+// Whether a range of a file of eight bytes begins and ends at these offsets.
+fn has_bounds(
+    rt: HostRuntime,
+    offset: usize,
+    len: usize,
+    mode: ParseMode,
+    bounds: (usize, usize),
+) -> bool {
+    returns(rt, range_of(8, offset, len, mode), bounds)
+}
+
+// Whether strict mode refuses such a range with this line.
+fn refuses_bounds(rt: HostRuntime, offset: usize, len: usize, line: &str) -> bool {
+    reports(rt, range_of(8, offset, len, ParseMode::Strict), line)
+}
+
+#[test]
+fn finds_the_bounds_of_a_range(rt: HostRuntime) {
+    assert!(rt; has_bounds(rt, 2, 3, ParseMode::Strict, (2, 5)));
+    assert!(rt; has_bounds(rt, 8, 0, ParseMode::Strict, (8, 8)));
+    assert!(rt; has_bounds(rt, 2, 6, ParseMode::Permissive, (2, 8)));
+    assert!(rt; has_bounds(rt, 2, 7, ParseMode::Permissive, (2, 8)));
+    assert!(rt; has_bounds(rt, 9, 1, ParseMode::Permissive, (8, 8)));
+    let past = "Malformed entity: String table offset (9) is beyond file boundary (8)";
+    assert!(rt; refuses_bounds(rt, 9, 0, past));
+    let outside =
+        "Malformed entity: Strtable size (7) + offset (2) is out of bounds for 8 #bytes. Overflowed: false";
+    assert!(rt; refuses_bounds(rt, 2, 7, outside));
 }
 
 // Whether looking up each offset of a damaged table, read by permissive options, has its answer.

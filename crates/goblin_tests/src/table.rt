@@ -6,7 +6,7 @@ use crate::compare::{are_alike, differs, holds, is, number, reports, returns_lis
 use crate::container::{BIG32, BIG64, LITTLE32, LITTLE64};
 use crate::sym::{FUNCTION, WIDE, ZERO};
 use goblin::elf::program_header::{ProgramHeader, program_header32, program_header64};
-use goblin::elf::reloc::{Reloc, RelocSection};
+use goblin::elf::reloc::{Reloc, RelocCtx, RelocSection};
 use goblin::elf::section_header::{SectionHeader, section_header32, section_header64};
 use goblin::elf::sym::{Sym, Symtab};
 use goblin_base::container::{Container, Ctx, LE};
@@ -565,11 +565,16 @@ fn symtab_by<'a>(case: &Case<'a>, is_cut: bool) -> Result<Symtab<'a>> {
     Symtab::parse_with_opts(case.0, case.1, case.2, case.3, &opts(is_cut))
 }
 
-fn relocs(rt: HostRuntime, case: &Case, is_rela: bool) -> bool {
-    let size = match is_rela {
+// The size of a relocation with an addend or without.
+fn reloc_size(case: &Case, is_rela: bool) -> usize {
+    match is_rela {
         true => size_in(case, 12, 24),
         false => size_in(case, 8, 16),
-    };
+    }
+}
+
+fn relocs(rt: HostRuntime, case: &Case, is_rela: bool) -> bool {
+    let size = reloc_size(case, is_rela);
     let answer = relocs_of(rt, case, is_rela);
     is_as_expected(
         rt,
@@ -583,6 +588,22 @@ fn relocs(rt: HostRuntime, case: &Case, is_rela: bool) -> bool {
 
 fn relocs_of(rt: HostRuntime, case: &Case, is_rela: bool) -> Result<Vec<Reloc>> {
     RelocSection::parse(case.0, case.1, case.2, is_rela, case.3)?.to_vec(rt.alloc())
+}
+
+// The same as little-endian MIPS64 files store them, in either class and byte order.
+fn mips_relocs(rt: HostRuntime, case: &Case, is_rela: bool) -> bool {
+    let size = reloc_size(case, is_rela);
+    let ctx = RelocCtx {
+        is_rela,
+        ctx: case.3,
+        is_mips64el: true,
+    };
+    let answer = mips_relocs_of(rt, case, is_rela);
+    is_as_expected(rt, answer, relocation_section(case, size), case, size, ctx)
+}
+
+fn mips_relocs_of(rt: HostRuntime, case: &Case, is_rela: bool) -> Result<Vec<Reloc>> {
+    RelocSection::parse_inner(case.0, case.1, case.2, is_rela, case.3, true)?.to_vec(rt.alloc())
 }
 
 // The bytes from a place up to a delimiter or the end.
@@ -635,6 +656,7 @@ enum Call {
     Symtab,
     SymtabBy(bool),
     Relocs(bool),
+    MipsRelocs(bool),
     Strtab(bool),
 }
 
@@ -650,6 +672,7 @@ fn agrees(rt: HostRuntime, call: Call, case: &Case) -> bool {
         Call::Symtab => symtab(rt, case, symtab_of(case), false),
         Call::SymtabBy(is_cut) => symtab(rt, case, symtab_by(case, is_cut), is_cut),
         Call::Relocs(is_rela) => relocs(rt, case, is_rela),
+        Call::MipsRelocs(is_rela) => mips_relocs(rt, case, is_rela),
         Call::Strtab(is_cut) => strtab(rt, case, is_cut),
     }
 }
@@ -699,6 +722,8 @@ const CALLS: &[(&str, Call)] = &[
     ("a permissive symbol table", Call::SymtabBy(true)),
     ("relocations", Call::Relocs(false)),
     ("relocations with addends", Call::Relocs(true)),
+    ("relocations of MIPS64", Call::MipsRelocs(false)),
+    ("relocations of MIPS64 with addends", Call::MipsRelocs(true)),
     ("a strict string table", Call::Strtab(false)),
     ("a permissive string table", Call::Strtab(true)),
 ];

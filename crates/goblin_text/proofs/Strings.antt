@@ -1,14 +1,13 @@
 -- Strings: the bytes before the first zero byte.
 use Rattle.std.proofs.Common.{◌≡◌, ◌≢◌, ◌∙◌, ℕ, ◌+◌, ◌-◌, ◌<◌, ◌≤◌, ◌==◌, Bool, false, cond, not, eqb, List, ◌++◌}
-use Rattle.std.proofs.Common.{length, get_or, take, drop, refl, sym, ap, ⊎_elim, arith, slice_range, Option}
+use Rattle.std.proofs.Common.{length, get_or, take, drop, refl, sym, ap, ⊎_elim, arith, slice_range}
 use Rattle.std.proofs.Math.Seq.{take-append-add}
 use Rattle.std.proofs.lemmas.Bool.{both_ways, cases_lt, cond-true, cond-false, eq-eqb, lt-ltb, le-ltb}
 use Rattle.std.proofs.lemmas.Bool.Decides.{nat_tests}
 use Rattle.std.proofs.lemmas.List.{get_or-take, length-take, length-take-le, take-append-le, take-take, take_all}
 use Rattle.std.proofs.lemmas.List.Folds.{prefix_len-append}
 use Rattle.std.proofs.lemmas.List.Sums.{fails_before_first, passes_at_first, prefix_len-le-length}
-use Rattle.std.specs.List.{position, position_or_len}
-use Rattle.std.specs.Option.{unwrap_or}
+use Rattle.std.specs.List.{position_or_len}
 use Rattle.goblin_text.proofs.Ranges.{get_range, length-range, split}
 use Rattle.goblin_text.specs.Runs.{up_to_zero}
 
@@ -79,39 +78,18 @@ get_up bytes i e m l =
     let short : m < e - i = omega (arith, within s, length-take (e - i) (drop i bytes)) in
     get_or-take (first_zero s) s m 0 n ∙ get_range bytes i e m short
 
-first_or_length : (t : ℕ → Bool) (xs : List ℕ) → unwrap_or (position t xs) (length xs) ≡ position_or_len t xs
-first_or_length t xs =
-    let n = position_or_len t xs in
-    let most : n ≤ length xs = prefix_len-le-length (λ b. not (t b)) xs in
-    ⊎_elim
-    (λ (l : n < length xs). ap (λ r. unwrap_or r (length xs)) (cond-true _ _ _ (lt-ltb n (length xs) l)))
-    (λ (l : length xs ≤ n).
-    let same : length xs ≡ n = omega arith in
-    ap (λ r. unwrap_or r (length xs)) (cond-false _ _ _ (le-ltb n (length xs) l)) ∙ same)
-    (cases_lt n (length xs))
-
 -- a string ends where a zero byte stands first, or where the range does
-pub up_to_place : (bytes : List ℕ) (i j : ℕ) (r : Option ℕ) (n : ℕ) → i ≤ j → j ≤ length bytes
-    → r ≡ position (λ b. b == 0) (slice_range bytes i j) → n ≡ unwrap_or r (j - i)
-    → slice_range bytes i (i + n) ≡ up_to_zero (slice_range bytes i j)
-unfolding up_to_zero
-up_to_place bytes i j r n l m e f =
-    let s = slice_range bytes i j in
-    let size : length s ≡ j - i = length-range bytes i j l m in
-    let k : n ≡ first_zero s =
-    f ∙ ap (unwrap_or r) (sym size) ∙ ap (λ x. unwrap_or x (length s)) e ∙ first_or_length (λ b. b == 0) s in
-    let short : n ≤ j - i = omega (arith, k, within s, size) in
-    let len : i + n - i ≡ n = omega arith in
-    ap (λ x. take x (drop i bytes)) len ∙ sym (take-take n (j - i) (drop i bytes) short) ∙ ap (λ x. take x s) k
-
--- and so it is found
 pub string_found : (bytes : List ℕ) (i j s : ℕ) → i ≤ j → j ≤ length bytes
-    → s ≡ i + unwrap_or (position (λ b. b == 0) (slice_range bytes i j)) (length (slice_range bytes i j))
+    → s ≡ i + first_zero (slice_range bytes i j)
     → slice_range bytes i s ≡ up_to_zero (slice_range bytes i j)
+unfolding up_to_zero
 string_found bytes i j s l m e =
-    let r = position (λ b. b == 0) (slice_range bytes i j) in
-    let size : length (slice_range bytes i j) ≡ j - i = length-range bytes i j l m in
-    ap (slice_range bytes i) e ∙ up_to_place bytes i j r _ l m refl (ap (unwrap_or r) size)
+    let range = slice_range bytes i j in
+    let n = first_zero range in
+    let size : length range ≡ j - i = length-range bytes i j l m in
+    let short : n ≤ j - i = omega (arith, within range, size) in
+    let len : s - i ≡ n = omega (arith, e) in
+    ap (λ x. take x (drop i bytes)) len ∙ sym (take-take n (j - i) (drop i bytes) short)
 
 -- a string goes on after bytes with no zero byte
 pub string-after : (bytes : List ℕ) (i j s k : ℕ) → i ≤ j → j ≤ s → s ≤ k

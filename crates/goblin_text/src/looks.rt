@@ -11,12 +11,12 @@ ghost use Rattle.goblin_text.specs.Runs.{after_continuation, char_start, up_to_z
 
 use goblin::error::Result;
 use goblin::options::ParseMode;
-use goblin_base::entries::Looked;
+use goblin_base::counted_bytes::CountedBytes;
 use goblin_base::utf8::invalid_utf8;
 
 /// Returns the place after a continuation byte, or the same place. It is one look.
 #[tactic(auto, using(crate::proofs::Ranges::reads), unfolding(crate::specs::Runs::after_continuation))]
-pub fn after_continuation(view: &mut Looked<'_>, from: usize) -> usize
+pub fn after_continuation(view: &mut CountedBytes<'_>, from: usize) -> usize
     requires { from ≤ length view.old.bytes }
     ensures value { result ≡ after_continuation view.old.bytes from }
     ensures within { result ≤ length view.old.bytes }
@@ -37,7 +37,7 @@ pub fn after_continuation(view: &mut Looked<'_>, from: usize) -> usize
 /// Returns where the characters from a place on begin: after up to three continuation bytes. It is three
 /// looks.
 #[tactic(auto, unfolding(crate::specs::Runs::char_start))]
-pub fn char_start(view: &mut Looked<'_>, place: usize) -> usize
+pub fn char_start(view: &mut CountedBytes<'_>, place: usize) -> usize
     requires { place ≤ length view.old.bytes }
     ensures value { result ≡ char_start view.old.bytes place }
     ensures within { result ≤ length view.old.bytes }
@@ -54,7 +54,7 @@ pub fn char_start(view: &mut Looked<'_>, place: usize) -> usize
 
 /// Returns where the string from one place on ends, up to another: at a zero byte, or there. It is a look at each byte
 /// up to the zero byte.
-pub fn end_of_string(view: &mut Looked<'_>, from: usize, to: usize) -> usize
+pub fn end_of_string(view: &mut CountedBytes<'_>, from: usize, to: usize) -> usize
     requires ordered { from ≤ to }
     requires within { to ≤ length view.old.bytes }
     ensures value { slice_range view.old.bytes from result
@@ -69,7 +69,7 @@ pub fn end_of_string(view: &mut Looked<'_>, from: usize, to: usize) -> usize
 }
 
 /// Reports whether the bytes from one place up to another are text. It is a look at each of them.
-pub fn is_text(view: &mut Looked<'_>, from: usize, to: usize) -> bool
+pub fn is_text(view: &mut CountedBytes<'_>, from: usize, to: usize) -> bool
     requires ordered { from ≤ to }
     requires within { to ≤ length view.old.bytes }
     ensures value { IsTrue result ↔ IsUtf8 (slice_range view.old.bytes from to) }
@@ -77,12 +77,12 @@ pub fn is_text(view: &mut Looked<'_>, from: usize, to: usize) -> bool
     ensures looks { view.new.count ≤ view.old.count + (to - from) }
     ensures looks_least { CountsAtLeast view.old.count (to - from) view.new.count }
 {
-    view.text(from, to)
+    view.str(from, to).is_ok()
 }
 
 /// Returns the bytes from one place up to another as a text, or an empty one if they are not UTF-8. It is a look at each of
 /// them.
-pub fn text<'a>(view: &mut Looked<'a>, from: usize, to: usize) -> &'a str
+pub fn text<'a>(view: &mut CountedBytes<'a>, from: usize, to: usize) -> &'a str
     requires ordered { from ≤ to }
     requires within { to ≤ length view.old.bytes }
     ensures value { let bytes = slice_range view.old.bytes from to in
@@ -100,7 +100,7 @@ pub fn text<'a>(view: &mut Looked<'a>, from: usize, to: usize) -> &'a str
 
 /// Refuses the string table of the bytes from one place up to another, unless it is UTF-8. The first whole piece that is
 /// not UTF-8 is the one around the first fault: no others are looked for. It is at most two looks at each byte.
-pub fn refuse_unless_text(view: &mut Looked<'_>, from: usize, to: usize) -> Result<()>
+pub fn refuse_unless_text(view: &mut CountedBytes<'_>, from: usize, to: usize) -> Result<()>
     requires ordered { from ≤ to }
     requires within { to ≤ length view.old.bytes }
     ensures given { let bytes = slice_range view.old.bytes from to in
@@ -124,7 +124,7 @@ pub fn refuse_unless_text(view: &mut Looked<'_>, from: usize, to: usize) -> Resu
 }
 
 // Returns where the last string of a range begins: after its last zero byte, or where the range does.
-fn start_of_last_string(view: &mut Looked<'_>, from: usize, to: usize) -> usize
+fn start_of_last_string(view: &mut CountedBytes<'_>, from: usize, to: usize) -> usize
     requires ordered { from ≤ to }
     requires within { to ≤ length view.old.bytes }
     ensures value { let bytes = slice_range view.old.bytes from to in

@@ -7,7 +7,7 @@ ghost use Rattle.goblin.specs.Refusal.{Answers};
 ghost use Rattle.goblin.specs.Strtab.{strtab_of, table_of};
 ghost use Rattle.goblin_text.specs.StringRanges.{strings_in, text_table};
 ghost use Rattle.goblin_base.specs.Entries.{CountsAtLeast};
-ghost use Rattle.goblin_text.specs.Looks.{IsCached, IsShort, LooksAtMost, LooksByResult, name_looks, table_looks};
+ghost use Rattle.goblin_text.specs.Looks.{IsCached, IsShort, IsUnread, LooksAtMost, LooksByResult, name_looks, table_looks};
 ghost use Rattle.goblin_text.specs.Runs.{EndsAt, IsLong, IsTextUpTo, last_block};
 ghost use Rattle.goblin_text.specs.Shown.{name_at};
 
@@ -17,7 +17,8 @@ use crate::looks::{
 use crate::runs::{BLOCK, BLOCKS, Kind, none_known, run_end};
 use goblin::error::Result;
 use goblin::options::ParseOptions;
-use goblin_base::entries::Looked;
+use goblin::strtab::range_of;
+use goblin_base::counted_bytes::CountedBytes;
 use std::marker::Model;
 
 /// The strings that names come from.
@@ -33,7 +34,7 @@ pub enum Strings {
 /// of text with no zero byte does.
 #[derive(Drop)]
 pub struct Names<'a> {
-    view: Looked<'a>,
+    view: CountedBytes<'a>,
     texts: [u16; BLOCKS],
     zero_free: [u16; BLOCKS],
     // The range that was last found to be text.
@@ -68,11 +69,10 @@ impl<'a> Names<'a> {
     /// Returns the names of a file, of which nothing was read yet.
     pub fn new(bytes: &'a [u8]) -> Self
         ensures bytes { result.bytes ≡ bytes.now }
-        ensures count { result.count ≡ 0 }
-        ensures left { result.left ≤ 5 * length bytes.now }
+        ensures unread { IsUnread result }
     {
         Names {
-            view: Looked::new(bytes),
+            view: CountedBytes::new(bytes),
             texts: none_known(),
             zero_free: none_known(),
             text_start: 0,
@@ -109,7 +109,7 @@ impl<'a> Names<'a> {
             → self.new.count ≡ self.old.count }
         ensures looks_least { CountsAtLeast self.old.count 0 self.new.count }
     {
-        let (start, end) = self.view.range(offset, size, opts.parse_mode)?;
+        let (start, end) = range_of(self.view.len(), offset, size, opts.parse_mode)?;
         if !opts.parse_mode.is_permissive() {
             self.refuse_unless_text(start, end)?;
         }

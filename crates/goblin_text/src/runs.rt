@@ -6,7 +6,7 @@ ghost use Rattle.goblin_text.specs.Runs.{AreRunEnds, IsBlock, IsRunEnd, IsOfKind
 
 use crate::input::INPUT_LIMIT;
 use crate::looks::{char_start, end_of_string, is_text};
-use goblin_base::entries::Looked;
+use goblin_base::counted_bytes::CountedBytes;
 
 /// The number of bytes of a block.
 pub const BLOCK: usize = 512;
@@ -41,7 +41,7 @@ pub fn none_known() -> [u16; BLOCKS]
 }
 
 // Reports whether the bytes from one place up to another are of a kind. It is at most two looks at each.
-fn is_of(view: &mut Looked<'_>, kind: Kind, from: usize, to: usize) -> bool
+fn is_of(view: &mut CountedBytes<'_>, kind: Kind, from: usize, to: usize) -> bool
     requires ordered { from ≤ to }
     requires within { to ≤ length view.old.bytes }
     ensures value { IsTrue result ↔ IsOfKind kind (slice_range view.old.bytes from to) }
@@ -56,7 +56,7 @@ fn is_of(view: &mut Looked<'_>, kind: Kind, from: usize, to: usize) -> bool
 }
 
 // Reports whether the block with a number is of a kind.
-fn is_block_of(view: &mut Looked<'_>, kind: Kind, block: usize) -> bool
+fn is_block_of(view: &mut CountedBytes<'_>, kind: Kind, block: usize) -> bool
     requires bound { block < BLOCKS }
     requires within { (block + 1) * BLOCK ≤ length view.old.bytes }
     ensures value { IsTrue result ↔ IsBlock kind view.old.bytes block }
@@ -71,7 +71,12 @@ fn is_block_of(view: &mut Looked<'_>, kind: Kind, block: usize) -> bool
 
 // Finds the end of the run from a block on. It reads block by block, up to one that isn't of the kind, or one whose run
 // is known.
-fn find_run_end(view: &mut Looked<'_>, kind: Kind, ends: &[u16; BLOCKS], first: usize) -> Found
+fn find_run_end(
+    view: &mut CountedBytes<'_>,
+    kind: Kind,
+    ends: &[u16; BLOCKS],
+    first: usize,
+) -> Found
     requires first { first ≤ blocks view.old.bytes }
     requires known { AreRunEnds kind view.old.bytes ends.now }
     ensures end { IsRunEnd kind view.old.bytes first result.end }
@@ -108,7 +113,12 @@ fn find_run_end(view: &mut Looked<'_>, kind: Kind, ends: &[u16; BLOCKS], first: 
 }
 
 /// Returns where the run of a kind from a block on ends, and stores that for each block that it reads.
-pub fn run_end(view: &mut Looked<'_>, kind: Kind, ends: &mut [u16; BLOCKS], first: usize) -> usize
+pub fn run_end(
+    view: &mut CountedBytes<'_>,
+    kind: Kind,
+    ends: &mut [u16; BLOCKS],
+    first: usize,
+) -> usize
     requires some { 0 < first }
     requires first { first ≤ blocks view.old.bytes }
     requires known { AreRunEnds kind view.old.bytes ends.old }

@@ -8,4 +8,6 @@ mod hostile;
 #[cfg(test)]
 mod names;
 #[cfg(test)]
+mod refusals;
+#[cfg(test)]
 mod runs;

@@ -1,4 +1,4 @@
-use Rattle.std.proofs.Common.{◌∙◌, eqb, arith, w8}
+use Rattle.std.proofs.Common.{eqb, arith, w8}
 use Rattle.std.proofs.lemmas.Simd.{bitmask_splat, length-chunk}
 use lib.Lanes.{chunk}
 use Rattle.goblin_base.proofs.AsciiLemmas.{delim_is}

@@ -19,5 +19,5 @@ returns c =
     let walked : c.in_ok-entries.entries.now ≡ entries s.bytes.now s.delim =
     subst (λ o. IfSome o (λ es. es ≡ entries s.bytes.now s.delim)) (sym found.value) c.self.invariant in
     look_up_among s.bytes.now s.delim _ c.args.self.now _ c.args.offset c.self.view_is (sym found.variant) walked
-    (omega arith) c.in_ok-k.k c.in_ok-k.place c.text.result.now c.rest_of.result c.in_ok-k.ensures c.text.ensures
-    c.rest_of.ensures
+    (omega arith) c.in_ok-k.k c.in_ok-k.place _ c.text.result.now c.rest_of.result c.in_ok-k.ensures c.text.ensures
+    c.rest_of.ensures (omega arith)

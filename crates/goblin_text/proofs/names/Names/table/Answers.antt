@@ -1,4 +1,4 @@
-use Rattle.std.proofs.Common.{◌∙◌, ap, arith, slice_range, subst, sym}
+use Rattle.std.proofs.Common.{◌≡◌, ◌∙◌, ap, arith, length, slice_range, subst, sym}
 use Rattle.std.proofs.lemmas.Bool.{both_ways}
 use Rattle.std.proofs.lemmas.Grind.{common_steps}
 use Rattle.goblin.specs.Refusal.{Answers}
@@ -17,9 +17,11 @@ pub returns-in_err-refuse_unless_text-clause-given : goal.returns-in_err-refuse_
 returns-in_err-refuse_unless_text-clause-given c =
     let bytes = c.args.self.now.bytes in
     let table = slice_range bytes c.in_ok-start.start c.in_ok-start.end in
+    let size : length bytes ≡ c.len.result =
+    sym (c.len.ensures.value ∙ ap (λ names. length names.bytes) c.self.view_is) in
     let stands : IsRange c.args.opts.now.parse_mode bytes c.args.offset c.args.size c.in_ok-start.start
     c.in_ok-start.end =
-    grind (arith, common_steps, c.in_ok-start.ensures.places) in
+    grind (arith, common_steps, c.in_ok-start.ensures.places bytes size) in
     let is = table_is _ _ _ _ _ _ stands in
     let strict = is_strict _ (λ p. both_ways _ c.if-not-is_permissive.true (c.is_permissive.ensures.1 p)) in
     subst (Answers (strings_in bytes) c.from_residual-in_err-refuse_unless_text.result)
@@ -30,9 +32,11 @@ unfolding walked
 returns-clause-given c =
     let bytes = c.args.self.now.bytes in
     let table = slice_range bytes c.in_ok-start.start c.in_ok-start.end in
+    let size : length bytes ≡ c.len.result =
+    sym (c.len.ensures.value ∙ ap (λ names. length names.bytes) c.self.view_is) in
     let stands : IsRange c.args.opts.now.parse_mode bytes c.args.offset c.args.size c.in_ok-start.start
     c.in_ok-start.end =
-    grind (arith, common_steps, c.in_ok-start.ensures.places) in
+    grind (arith, common_steps, c.in_ok-start.ensures.places bytes size) in
     table_is _ _ _ _ _ _ stands
     ∙ elim c.if-not-is_permissive.branch [
       | then-not-is_permissive+in_ok-refuse_unless_text w ↦
