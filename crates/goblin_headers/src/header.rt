@@ -1,5 +1,5 @@
 //! The header of an ELF file: System V gABI, "ELF Header" and "ELF Identification".
-ghost use Rattle.std.specs.Prelude.{◌≡◌, ◌≤◌, ◌++◌, length, drop, [], ◌∷◌};
+ghost use Rattle.std.specs.Prelude.{◌≡◌, ◌≤◌, ◌↔◌, ◌++◌, IsTrue, length, drop, [], ◌∷◌};
 ghost use Rattle.goblin_headers.specs.Constants.{class_numbers, data_numbers, file_type_numbers, ident_place_numbers, ident_size_numbers, system_numbers, unnamed_machine_numbers};
 ghost use Rattle.goblin_headers.specs.Header.{header_size, magic, order_named};
 ghost use Rattle.goblin_headers.specs.HeaderTrips.{OneImage, ReadsBack, WrittenAndReadBack, ImageOfRead, WritesBack, NewIsOfContext, NewIsReadBack};
@@ -13,6 +13,8 @@ use goblin_base::container::{Container, Ctx, Endian};
 use goblin_base::error::{Error, Fault, Result};
 use goblin_base::number::get_u64;
 use goblin_base::scroll::{BE, IntoCtx, LE, SizeWith, TryFromCtx, TryIntoCtx};
+use std::alloc::AllocError;
+use std::result;
 
 /// The header of a file of either class.
 ///
@@ -257,6 +259,15 @@ pub fn laws()
     ensures new_context { NewIsOfContext }
     ensures new_reads_back { NewIsReadBack }
 {}
+
+/// Laws: `==` is true exactly if all fields of two headers are equal. `clone` returns the header,
+/// and never fails. A call returns both.
+pub fn derived(header: &Header, other: &Header) -> (bool, result::Result<Header, AllocError>)
+    ensures equal { IsTrue result.0 ↔ (header.now ≡ other.now) }
+    ensures clone { result.1 ≡ Ok header.now }
+{
+    (*header == *other, header.clone())
+}
 
 // The identification.
 pub use crate::constants_header::{

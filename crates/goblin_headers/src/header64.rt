@@ -1,5 +1,5 @@
 //! The header of a 64-bit ELF file: System V gABI, "ELF Header", `Elf64_Ehdr`.
-ghost use Rattle.std.specs.Prelude.{◌≡◌, ◌≤◌, ◌++◌, length, drop, replicate, [], ◌∷◌};
+ghost use Rattle.std.specs.Prelude.{◌≡◌, ◌≤◌, ◌↔◌, ◌++◌, IsTrue, length, drop, replicate, [], ◌∷◌};
 ghost use Rattle.goblin_base.specs.Fields.{values_of};
 ghost use Rattle.goblin_headers.specs.Constants.{class_numbers, data_numbers, file_type_numbers, ident_place_numbers, ident_size_numbers, system_numbers, unnamed_machine_numbers};
 ghost use Rattle.goblin_headers.specs.Header.{magic, header64_of, header64_image, header64_size, header64_fields, header64_low, Header64Fits};
@@ -15,6 +15,8 @@ use goblin_base::error::{Error, Fault, Result};
 use goblin_base::number::{get_u16, get_u32, get_u64, put_u16, put_u32, put_u64};
 use goblin_base::room::room;
 use goblin_base::scroll::{LE, TryFromCtx, TryIntoCtx};
+use std::alloc::AllocError;
+use std::result;
 
 /// The size of a header in bytes.
 pub const SIZEOF_EHDR: usize = 64;
@@ -355,3 +357,12 @@ pub fn constants()
         ∷ ELFOSABI_STANDALONE ∷ []
         ≡ system_numbers }
 {}
+
+/// Laws: `==` is true exactly if all fields of two headers are equal. `clone` returns the header,
+/// and never fails. A call returns both.
+pub fn derived(header: &Header, other: &Header) -> (bool, result::Result<Header, AllocError>)
+    ensures equal { IsTrue result.0 ↔ (header.now ≡ other.now) }
+    ensures clone { result.1 ≡ Ok header.now }
+{
+    (*header == *other, header.clone())
+}

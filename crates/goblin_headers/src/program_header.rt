@@ -22,8 +22,9 @@ use goblin_base::record::Record;
 use goblin_base::room::room;
 use goblin_base::scroll::{SizeWith, TryFromCtx, TryIntoCtx};
 use goblin_base::table::{Table, read_all, read_alone, whole_records};
-use std::alloc::Global;
+use std::alloc::{AllocError, Global};
 use std::ops::Range;
+use std::result;
 
 /// A program header of either class.
 #[derive(Clone, Debug, Default, Drop, PartialEq)]
@@ -337,3 +338,15 @@ pub fn constants()
         ≡ segment_type_numbers }
     ensures flags { PF_X ∷ PF_W ∷ PF_R ∷ PF_MASKOS ∷ PF_MASKPROC ∷ [] ≡ segment_flag_numbers }
 {}
+
+/// Laws: `==` is true exactly if all fields of two program headers are equal. `clone` returns the
+/// program header, and never fails. A call returns both.
+pub fn derived(
+    header: &ProgramHeader,
+    other: &ProgramHeader,
+) -> (bool, result::Result<ProgramHeader, AllocError>)
+    ensures equal { IsTrue result.0 ↔ (header.now ≡ other.now) }
+    ensures clone { result.1 ≡ Ok header.now }
+{
+    (*header == *other, header.clone())
+}

@@ -1,5 +1,5 @@
 //! Program headers of the 64-bit class: System V gABI, "Program Header" (`Elf64_Phdr`).
-ghost use Rattle.std.specs.Prelude.{◌≡◌, ◌≤◌, ◌*◌, length, IfErr, IfOk, IsOk, alloc_error, replicate, [], ◌∷◌};
+ghost use Rattle.std.specs.Prelude.{◌≡◌, ◌≤◌, ◌*◌, ◌↔◌, IsTrue, length, IfErr, IfOk, IsOk, alloc_error, replicate, [], ◌∷◌};
 ghost use Rattle.goblin_base.specs.Eager.{records_in, room_of_each};
 ghost use Rattle.goblin_base.specs.Fields.{values_of};
 ghost use Rattle.goblin_base.specs.Layout.{IsOneImage};
@@ -20,7 +20,8 @@ use goblin_base::record::Record;
 use goblin_base::room::room;
 use goblin_base::scroll::{LE, SizeWith, TryFromCtx, TryIntoCtx};
 use goblin_base::table::{Table, read_in_range};
-use std::alloc::Global;
+use std::alloc::{AllocError, Global};
+use std::result;
 
 /// A program header of the 64-bit class.
 #[derive(Clone, Copy, Debug, Default, PartialEq)]
@@ -238,3 +239,15 @@ pub fn constants()
         ≡ segment_type_numbers }
     ensures flags { PF_X ∷ PF_W ∷ PF_R ∷ PF_MASKOS ∷ PF_MASKPROC ∷ [] ≡ segment_flag_numbers }
 {}
+
+/// Laws: `==` is true exactly if all fields of two program headers are equal. `clone` returns the
+/// program header, and never fails. A call returns both.
+pub fn derived(
+    header: &ProgramHeader,
+    other: &ProgramHeader,
+) -> (bool, result::Result<ProgramHeader, AllocError>)
+    ensures equal { IsTrue result.0 ↔ (header.now ≡ other.now) }
+    ensures clone { result.1 ≡ Ok header.now }
+{
+    (*header == *other, header.clone())
+}

@@ -25,8 +25,9 @@ use goblin_base::room::room;
 use goblin_base::scroll::{IntoCtx, SizeWith, TryFromCtx, TryIntoCtx};
 use goblin_base::strtab::{Strtab, WantedName};
 use goblin_base::table::{Table, read_all, read_alone, read_at, whole_records};
-use std::alloc::Global;
+use std::alloc::{AllocError, Global};
 use std::ops::Range;
+use std::result;
 
 /// A section header of either class.
 #[derive(Clone, Debug, Default, Drop, PartialEq)]
@@ -611,3 +612,15 @@ pub fn constants()
     ensures all_flags { SHF_FLAGS ≡ map (λ row. row.0) section_flag_names }
     ensures count { SHF_NUM_REGULAR_FLAGS ≡ 12 }
 {}
+
+/// Laws: `==` is true exactly if all fields of two section headers are equal. `clone` returns the
+/// section header, and never fails. A call returns both.
+pub fn derived(
+    header: &SectionHeader,
+    other: &SectionHeader,
+) -> (bool, result::Result<SectionHeader, AllocError>)
+    ensures equal { IsTrue result.0 ↔ (header.now ≡ other.now) }
+    ensures clone { result.1 ≡ Ok header.now }
+{
+    (*header == *other, header.clone())
+}

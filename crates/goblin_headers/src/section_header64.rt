@@ -1,5 +1,5 @@
 //! Section headers of the 64-bit class: System V gABI, "Section Header" (`Elf64_Shdr`).
-ghost use Rattle.std.specs.Prelude.{◌≡◌, ◌≤◌, ◌*◌, ◌++◌, length, drop, map, IfErr, IfOk, IsOk, alloc_error, replicate, [], ◌∷◌};
+ghost use Rattle.std.specs.Prelude.{◌≡◌, ◌≤◌, ◌*◌, ◌↔◌, ◌++◌, IsTrue, length, drop, map, IfErr, IfOk, IsOk, alloc_error, replicate, [], ◌∷◌};
 ghost use Rattle.goblin_base.specs.Fields.{values_of};
 ghost use Rattle.goblin_base.specs.Layout.{IsOneImage};
 ghost use Rattle.goblin_base.specs.LayoutLaws.{obeys};
@@ -19,7 +19,8 @@ use goblin_base::record::Record;
 use goblin_base::room::room;
 use goblin_base::scroll::{LE, SizeWith, TryFromCtx, TryIntoCtx};
 use goblin_base::table::Table;
-use std::alloc::Global;
+use std::alloc::{AllocError, Global};
+use std::result;
 
 /// A section header of the 64-bit class.
 #[derive(Clone, Copy, Debug, Default, Eq, PartialEq)]
@@ -258,3 +259,15 @@ pub fn constants()
     ensures all_flags { SHF_FLAGS ≡ map (λ row. row.0) section_flag_names }
     ensures count { SHF_NUM_REGULAR_FLAGS ≡ 12 }
 {}
+
+/// Laws: `==` is true exactly if all fields of two section headers are equal. `clone` returns the
+/// section header, and never fails. A call returns both.
+pub fn derived(
+    header: &SectionHeader,
+    other: &SectionHeader,
+) -> (bool, result::Result<SectionHeader, AllocError>)
+    ensures equal { IsTrue result.0 ↔ (header.now ≡ other.now) }
+    ensures clone { result.1 ≡ Ok header.now }
+{
+    (*header == *other, header.clone())
+}

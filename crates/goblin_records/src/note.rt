@@ -12,6 +12,8 @@ use goblin_base::number::{get_u32, get_u64, put_u32, put_u64};
 use goblin_base::record::Record;
 use goblin_base::room::room;
 use goblin_base::scroll::{SizeWith, TryFromCtx, TryIntoCtx};
+use std::alloc::AllocError;
+use std::result;
 
 /// The header of a note, in words of 4 bytes. Notes of both classes are read with it.
 #[derive(Clone, Copy, Debug)]
@@ -165,6 +167,20 @@ pub fn laws()
     ensures image64 { (order : Endian) →
         IsOneImage nhdr64_size (nhdr64_of order) (nhdr64_image order) nhdr64_low }
 {}
+
+/// A law: `clone` returns the note header, and never fails. A call returns the clone.
+pub fn derived32(header: &Nhdr32) -> result::Result<Nhdr32, AllocError>
+    ensures { result ≡ Ok header.now }
+{
+    header.clone()
+}
+
+/// A law: `clone` returns the note header, and never fails. A call returns the clone.
+pub fn derived64(header: &Nhdr64) -> result::Result<Nhdr64, AllocError>
+    ensures { result ≡ Ok header.now }
+{
+    header.clone()
+}
 
 // The types of notes, and the numbers of systems.
 pub use crate::constants_note::{

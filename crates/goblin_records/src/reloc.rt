@@ -1,5 +1,5 @@
 //! Relocations of either class, with an addend or without: System V gABI, "Relocation".
-ghost use Rattle.std.specs.Prelude.{◌≡◌, ◌≤◌, ◌++◌, length, drop};
+ghost use Rattle.std.specs.Prelude.{◌≡◌, ◌≤◌, ◌↔◌, ◌++◌, IsTrue, length, drop};
 ghost use Rattle.goblin_base.specs.LayoutLaws.{obeys};
 ghost use Rattle.goblin_base.specs.Record.{read_within, Writes};
 ghost use Rattle.goblin_base.specs.Steps.{with_size};
@@ -11,6 +11,8 @@ use goblin_base::error::Result;
 use goblin_base::record::Record;
 use goblin_base::room::room;
 use goblin_base::scroll::{IntoCtx, SizeWith, TryFromCtx, TryIntoCtx};
+use std::alloc::AllocError;
+use std::result;
 
 /// A relocation of either class, with an addend or without.
 #[derive(Clone, Copy, Debug, Default, PartialEq)]
@@ -278,3 +280,21 @@ pub fn laws()
     ensures zeros { (reloc : Reloc) → ⟦<Reloc as Default>⟧.is_default reloc → reloc ≡ reloc_zero }
     ensures context { (ctx : RelocCtx) → ⟦<RelocCtx as Default>⟧.is_default ctx → ctx ≡ reloc_ctx_default }
 {}
+
+/// Laws: `==` is true exactly if all fields of two relocations are equal. `clone` returns the
+/// relocation, and never fails. A call returns both.
+pub fn derived(reloc: &Reloc, other: &Reloc) -> (bool, result::Result<Reloc, AllocError>)
+    ensures equal { IsTrue result.0 ↔ (reloc.now ≡ other.now) }
+    ensures clone { result.1 ≡ Ok reloc.now }
+{
+    (*reloc == *other, reloc.clone())
+}
+
+/// Laws: `==` is true exactly if all fields of two contexts of relocations are equal. `clone`
+/// returns the context, and never fails. A call returns both.
+pub fn derived_ctx(ctx: &RelocCtx, other: &RelocCtx) -> (bool, result::Result<RelocCtx, AllocError>)
+    ensures equal { IsTrue result.0 ↔ (ctx.now ≡ other.now) }
+    ensures clone { result.1 ≡ Ok ctx.now }
+{
+    (*ctx == *other, ctx.clone())
+}

@@ -1,5 +1,5 @@
 //! Relocations of the 32-bit class: System V gABI, "Relocation" (`Elf32_Rel` and `Elf32_Rela`).
-ghost use Rattle.std.specs.Prelude.{◌≡◌, ◌≤◌, ◌++◌, length, drop};
+ghost use Rattle.std.specs.Prelude.{◌≡◌, ◌≤◌, ◌↔◌, ◌++◌, IsTrue, length, drop};
 ghost use Rattle.goblin_base.specs.Layout.{IsOneImage};
 ghost use Rattle.goblin_base.specs.LayoutLaws.{obeys};
 ghost use Rattle.goblin_base.specs.Record.{read_within, Writes};
@@ -16,6 +16,8 @@ use goblin_base::number::{get_i32, get_u32, put_i32, put_u32};
 use goblin_base::record::Record;
 use goblin_base::room::room;
 use goblin_base::scroll::{SizeWith, TryFromCtx, TryIntoCtx};
+use std::alloc::AllocError;
+use std::result;
 
 /// A relocation with an addend, of the 32-bit class.
 #[derive(Clone, Copy, Debug, Default, PartialEq)]
@@ -287,3 +289,21 @@ pub fn laws()
     ensures rel_zeros { (rel : Rel) → ⟦<Rel as Default>⟧.is_default rel → rel ≡ rel32_zero }
     ensures joins { JoinsItsParts class.Little }
 {}
+
+/// Laws: `==` is true exactly if all fields of two relocations with addends are equal. `clone`
+/// returns the relocation, and never fails. A call returns both.
+pub fn derived_rela(rela: &Rela, other: &Rela) -> (bool, result::Result<Rela, AllocError>)
+    ensures equal { IsTrue result.0 ↔ (rela.now ≡ other.now) }
+    ensures clone { result.1 ≡ Ok rela.now }
+{
+    (*rela == *other, rela.clone())
+}
+
+/// Laws: `==` is true exactly if all fields of two relocations without addends are equal. `clone`
+/// returns the relocation, and never fails. A call returns both.
+pub fn derived_rel(rel: &Rel, other: &Rel) -> (bool, result::Result<Rel, AllocError>)
+    ensures equal { IsTrue result.0 ↔ (rel.now ≡ other.now) }
+    ensures clone { result.1 ≡ Ok rel.now }
+{
+    (*rel == *other, rel.clone())
+}

@@ -19,7 +19,8 @@ use goblin_base::record::Record;
 use goblin_base::room::room;
 use goblin_base::scroll::{IntoCtx, SizeWith, TryFromCtx, TryIntoCtx};
 use goblin_base::table::read_all;
-use std::alloc::Global;
+use std::alloc::{AllocError, Global};
+use std::result;
 
 /// A symbol of either class.
 #[derive(Clone, Copy, Debug, Default, PartialEq)]
@@ -258,6 +259,15 @@ pub fn laws()
     ensures same { IsSameInEachClass sym_size sym_of sym_image SymFits }
     ensures zeros { (sym : Sym) → ⟦<Sym as Default>⟧.is_default sym → sym ≡ sym_zero }
 {}
+
+/// Laws: `==` is true exactly if all fields of two symbols are equal. `clone` returns the symbol,
+/// and never fails. A call returns both.
+pub fn derived(sym: &Sym, other: &Sym) -> (bool, result::Result<Sym, AllocError>)
+    ensures equal { IsTrue result.0 ↔ (sym.now ≡ other.now) }
+    ensures clone { result.1 ≡ Ok sym.now }
+{
+    (*sym == *other, sym.clone())
+}
 
 // The constants of symbols and their names.
 pub use crate::constants_sym::{

@@ -17,6 +17,8 @@ use goblin_base::number::{get_u8, get_u16, get_u32, put_u8, put_u16, put_u32};
 use goblin_base::record::Record;
 use goblin_base::room::room;
 use goblin_base::scroll::{SizeWith, TryFromCtx, TryIntoCtx};
+use std::alloc::AllocError;
+use std::result;
 
 /// A symbol of the 32-bit class.
 #[derive(Clone, Copy, Debug, Default, PartialEq)]
@@ -177,6 +179,15 @@ pub fn laws()
         IsOneImage sym32_size (sym32_of order) (sym32_image order) sym32_low }
     ensures zeros { (sym : Sym) → ⟦<Sym as Default>⟧.is_default sym → sym ≡ sym32_zero }
 {}
+
+/// Laws: `==` is true exactly if all fields of two symbols are equal. `clone` returns the symbol,
+/// and never fails. A call returns both.
+pub fn derived(sym: &Sym, other: &Sym) -> (bool, result::Result<Sym, AllocError>)
+    ensures equal { IsTrue result.0 ↔ (sym.now ≡ other.now) }
+    ensures clone { result.1 ≡ Ok sym.now }
+{
+    (*sym == *other, sym.clone())
+}
 
 // The constants of symbols and their names.
 pub use crate::constants_sym::{

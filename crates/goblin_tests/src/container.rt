@@ -1,6 +1,9 @@
 //! Cases with their results: contexts.
 use crate::compare::is;
-use goblin_base::container::{BE, CONTAINER, Container, Ctx, Endian, LE, constants};
+use goblin_base::container::{
+    BE, CONTAINER, Container, Ctx, Endian, LE, constants, derived_container, derived_ctx,
+    derived_endian,
+};
 
 // The contexts of both classes in either byte order.
 pub(crate) const LITTLE32: Ctx = Ctx {
@@ -58,6 +61,23 @@ fn makes_contexts_of_one_part(rt: HostRuntime) {
     assert!(rt; is(rt, Ctx::from(Container::Little), LITTLE32));
     assert!(rt; is(rt, Ctx::from(Endian::Big), BIG64));
     assert!(rt; is(rt, Ctx::default(), Ctx::new(CONTAINER, LE)));
+}
+
+#[test]
+fn compares_contexts(rt: HostRuntime) {
+    let others = [LITTLE32, BIG64, LITTLE64];
+    assert!(rt; others.iter().all(|other| *other != BIG32));
+    assert!(rt; is(rt, derived_ctx(&BIG32, &BIG32), (true, Ok(BIG32), LITTLE64)));
+    let (little, big) = (Container::Little, Container::Big);
+    assert!(rt;
+        is(
+            rt,
+            derived_container(&little, &little),
+            (true, Ok(little), big)
+        )
+    );
+    assert!(rt; is(rt, derived_endian(&BE, &BE), (true, Ok(BE), LE)));
+    assert!(rt; little != big && BE != LE);
 }
 
 #[test]

@@ -1,7 +1,7 @@
 //! Cases with their results: headers in their three forms, new headers, and names.
 use crate::compare::{are_unchanged, differs, has_written, holds, is, is_named, reports, returns};
 use crate::container::{BIG64, LITTLE32};
-use crate::record::{reads, writes};
+use crate::record::{is_apart, reads, with_each_default, writes};
 use goblin_base::container::{BE, Container, Ctx, Endian, LE};
 use goblin_base::scroll::{IntoCtx, SizeWith, TryFromCtx, TryIntoCtx};
 use goblin_headers::header::{
@@ -97,6 +97,24 @@ fn default_headers_are_zeros(rt: HostRuntime) {
             (zeros, 0)
         )
     );
+}
+
+// Copies of a header, each with the default in one field.
+macro_rules! others {
+    ($header:expr) => {
+        with_each_default!($header; e_ident e_type e_machine e_version e_entry e_phoff e_shoff
+            e_flags e_ehsize e_phentsize e_phnum e_shentsize e_shnum e_shstrndx)
+    };
+}
+
+#[test]
+fn compares_headers(rt: HostRuntime) {
+    let derived = header::derived(&READ, &READ);
+    assert!(rt; is_apart(rt, &READ, &others!(READ), derived));
+    let raw = header32::Header::from(READ);
+    assert!(rt; is_apart(rt, &raw, &others!(raw), header32::derived(&raw, &raw)));
+    let raw = header64::Header::from(READ);
+    assert!(rt; is_apart(rt, &raw, &others!(raw), header64::derived(&raw, &raw)));
 }
 
 const OK: &str = "Ok";

@@ -4,9 +4,9 @@ ghost use Rattle.goblin.specs.Notes.{items_left};
 
 use crate::compare::{are_alike, differs, holds, is, number, reports, returns};
 use crate::container::{BIG32, LITTLE64};
-use crate::record::{refuses, writes};
+use crate::record::{is_apart, refuses, with_each_default, writes};
 use goblin::elf::note::{
-    NT_GNU_BUILD_ID, NT_SIGINFO, Note, NoteDataIterator, NoteIterator, NotePlaces,
+    NT_GNU_BUILD_ID, NT_SIGINFO, Note, NoteDataIterator, NoteIterator, NotePart, NotePlaces,
 };
 use goblin::{elf, elf32, elf64};
 use goblin_base::container::{BE, Ctx, Endian, LE};
@@ -73,6 +73,44 @@ fn calls_the_laws_of_notes() {
     note::laws();
     elf::note::constants();
     elf::note::laws();
+}
+
+#[test]
+fn clones_note_headers(rt: HostRuntime) {
+    let header = Nhdr32 {
+        n_namesz: 4,
+        n_descsz: 20,
+        n_type: 3,
+    };
+    let parts = note::derived32(&header).map(|it| (it.n_namesz, it.n_descsz, it.n_type));
+    assert!(rt; is(rt, parts, Ok((4, 20, 3))));
+    let header = Nhdr64 {
+        n_namesz: 4,
+        n_descsz: 20,
+        n_type: 3,
+    };
+    let parts = note::derived64(&header).map(|it| (it.n_namesz, it.n_descsz, it.n_type));
+    assert!(rt; is(rt, parts, Ok((4, 20, 3))));
+}
+
+// The places of the second note.
+const SECOND: NotePlaces = NotePlaces {
+    n_type: 3,
+    name: 12,
+    name_size: 3,
+    desc: 16,
+    desc_size: 20,
+    next: 36,
+};
+
+#[test]
+fn compares_places_of_notes(rt: HostRuntime) {
+    let others = with_each_default!(SECOND; n_type name name_size desc desc_size next);
+    let derived = elf::note::derived_places(&SECOND, &SECOND);
+    assert!(rt; is_apart(rt, &SECOND, &others, derived));
+    let (name, others) = (NotePart::Name, [NotePart::Header, NotePart::Desc]);
+    assert!(rt; is_apart(rt, &name, &others, elf::note::derived_part(&name, &name)));
+    assert!(rt; NotePart::Header != NotePart::Desc);
 }
 
 #[test]
@@ -152,16 +190,8 @@ fn lies(rt: HostRuntime, offset: usize, alignment: usize, places: NotePlaces) ->
 
 #[test]
 fn finds_the_places_of_notes(rt: HostRuntime) {
-    let second = NotePlaces {
-        n_type: 3,
-        name: 12,
-        name_size: 3,
-        desc: 16,
-        desc_size: 20,
-        next: 36,
-    };
-    assert!(rt; lies(rt, 32, 4, second));
-    assert!(rt; lies(rt, 32, 8, NotePlaces { next: 40, ..second }));
+    assert!(rt; lies(rt, 32, 4, SECOND));
+    assert!(rt; lies(rt, 32, 8, NotePlaces { next: 40, ..SECOND }));
     let after_last = Note::at(THREE, 132, (4, LITTLE64));
     assert!(rt; reports(rt, after_last, "bad offset 132"));
 }

@@ -1,7 +1,7 @@
 //! Cases with their results: program headers.
 use crate::compare::{holds, is, is_named, reports, returns, returns_list};
 use crate::container::{BIG64, LITTLE32};
-use crate::record::{SHORT, has_form, lacks_room, lists};
+use crate::record::{SHORT, has_form, is_apart, lacks_room, lists, with_each_default};
 use goblin_base::container::{BE, Container, Ctx, LE};
 use goblin_base::error::Result as Answer;
 use goblin_base::scroll::TryIntoCtx;
@@ -82,6 +82,37 @@ fn keeps_low_bits(rt: HostRuntime) {
     };
     let raw = program_header32::ProgramHeader::from(wide);
     assert!(rt; is(rt, raw.p_offset, 0x2345_6789));
+}
+
+// Copies of a program header, each with the default in one field.
+macro_rules! others {
+    ($header:expr) => {
+        with_each_default!($header; p_type p_flags p_offset p_vaddr p_paddr p_filesz p_memsz p_align)
+    };
+}
+
+#[test]
+fn compares_program_headers(rt: HostRuntime) {
+    let derived = program_header::derived(&segment(), &segment());
+    assert!(rt; is_apart(rt, &segment(), &others!(segment()), derived));
+    let raw = program_header32::ProgramHeader::from(segment());
+    assert!(rt;
+        is_apart(
+            rt,
+            &raw,
+            &others!(raw),
+            program_header32::derived(&raw, &raw)
+        )
+    );
+    let raw = program_header64::ProgramHeader::from(segment());
+    assert!(rt;
+        is_apart(
+            rt,
+            &raw,
+            &others!(raw),
+            program_header64::derived(&raw, &raw)
+        )
+    );
 }
 
 fn allows(header: &ProgramHeader) -> [bool; 3] {

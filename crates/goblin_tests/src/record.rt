@@ -2,6 +2,7 @@
 use crate::compare::{differs, has_message, has_written, is, reports, returns};
 use goblin_base::error::Result;
 use goblin_base::scroll::{SizeWith, TryFromCtx, TryIntoCtx};
+use std::alloc::AllocError;
 use std::fmt::Debug;
 
 // Reports whether a record has the size of these bytes, is read from them, and is written as them and no more.
@@ -38,6 +39,36 @@ pub(crate) fn writes<R: TryIntoCtx<C>, C>(
     let mut buffer = [0xaa; 70];
     let written = record.try_into_ctx(&mut buffer, ctx);
     returns(rt, written, bytes.len()) && has_written(rt, &buffer, bytes)
+}
+
+// Copies of a record, each with the default in one of these fields.
+macro_rules! with_each_default {
+    ($record:expr; $($field:ident)*) => {
+        [$({
+            let mut other = $record;
+            other.$field = Default::default();
+            other
+        }),*]
+    };
+}
+
+pub(crate) use with_each_default;
+
+// Reports whether a value equals none of these others, but itself and its clone. `derived` is what its law returned for
+// the value twice: whether the two are equal, and the clone.
+pub(crate) fn is_apart<T: PartialEq + Debug + Drop>(
+    rt: HostRuntime,
+    value: &T,
+    others: &[T],
+    derived: (bool, std::result::Result<T, AllocError>),
+) -> bool {
+    let (is_equal, clone) = derived;
+    match clone {
+        Ok(clone) => {
+            is_equal && others.iter().all(|other| *other != *value) && is(rt, &clone, value)
+        }
+        Err(e) => differs(rt, &e, value),
+    }
 }
 
 // Bytes, the first of which are too few for a record.

@@ -1,7 +1,7 @@
 //! Cases with their results: relocations in their forms, the parts of an `r_info`, and relocation sections.
 use crate::compare::{differs, has_written, holds, is, reports, returns, returns_list};
 use crate::container::{BIG32, BIG64, LITTLE32, LITTLE64};
-use crate::record::{counts, has_form, reads, refuses, writes};
+use crate::record::{counts, has_form, is_apart, reads, refuses, with_each_default, writes};
 use crate::table::yields;
 use goblin::elf::header::{EI_CLASS, EM_MIPS, EM_MIPS_RS3_LE, Header};
 use goblin::elf::reloc::{RelocIterator, RelocSection, is_mips64el, is_mips64el_in};
@@ -31,6 +31,39 @@ const CALL: Reloc = Reloc {
     r_sym: 2,
     r_type: 1,
 };
+
+#[test]
+fn compares_relocations(rt: HostRuntime) {
+    let others = with_each_default!(CALL; r_offset r_addend r_sym r_type);
+    assert!(rt; is_apart(rt, &CALL, &others, reloc::derived(&CALL, &CALL)));
+    let ctx = RelocCtx {
+        is_rela: true,
+        ctx: BIG32,
+        is_mips64el: true,
+    };
+    let others = with_each_default!(ctx; is_rela ctx is_mips64el);
+    assert!(rt; is_apart(rt, &ctx, &others, reloc::derived_ctx(&ctx, &ctx)));
+}
+
+#[test]
+fn compares_raw_relocations(rt: HostRuntime) {
+    let rela = reloc32::Rela::from(CALL);
+    let others = with_each_default!(rela; r_offset r_info r_addend);
+    assert!(rt; is_apart(rt, &rela, &others, reloc32::derived_rela(&rela, &rela)));
+    let rela = reloc64::Rela::from(CALL);
+    let others = with_each_default!(rela; r_offset r_info r_addend);
+    assert!(rt; is_apart(rt, &rela, &others, reloc64::derived_rela(&rela, &rela)));
+}
+
+#[test]
+fn compares_raw_relocations_without_addends(rt: HostRuntime) {
+    let rel = reloc32::Rel::from(CALL);
+    let others = with_each_default!(reloc32::Rel::from(CALL); r_offset r_info);
+    assert!(rt; is_apart(rt, &rel, &others, reloc32::derived_rel(&rel, &rel)));
+    let rel = reloc64::Rel::from(CALL);
+    let others = with_each_default!(reloc64::Rel::from(CALL); r_offset r_info);
+    assert!(rt; is_apart(rt, &rel, &others, reloc64::derived_rel(&rel, &rel)));
+}
 
 // A little endian relocation of the 32-bit class, without an addend.
 const REL: &[u8] = b"\0\0\0\0\x01\x02\0\0";

@@ -1,7 +1,7 @@
 //! Cases with their results: section headers.
 use crate::compare::{has_written, holds, is, is_named, reports, returns, returns_list};
 use crate::container::{BIG64, LITTLE32};
-use crate::record::{SHORT, has_form, lacks_room, lists};
+use crate::record::{SHORT, has_form, is_apart, lacks_room, lists, with_each_default};
 use goblin_base::container::{BE, Ctx, LE};
 use goblin_base::error::Result as Answer;
 use goblin_base::scroll::IntoCtx;
@@ -87,6 +87,38 @@ fn keeps_low_bits(rt: HostRuntime) {
     let raw = section_header64::SectionHeader::from(wide());
     assert!(rt; is(rt, (raw.sh_name, raw.sh_size), (0x2345_6789, 0x2_0000_0003)));
     assert!(rt; is(rt, section_header32::SectionHeader::from(wide()).sh_size, 3));
+}
+
+// Copies of a section header, each with the default in one field.
+macro_rules! others {
+    ($header:expr) => {
+        with_each_default!($header; sh_name sh_type sh_flags sh_addr sh_offset sh_size sh_link
+            sh_info sh_addralign sh_entsize)
+    };
+}
+
+#[test]
+fn compares_section_headers(rt: HostRuntime) {
+    let derived = section_header::derived(&section(), &section());
+    assert!(rt; is_apart(rt, &section(), &others!(section()), derived));
+    let raw = section_header32::SectionHeader::from(section());
+    assert!(rt;
+        is_apart(
+            rt,
+            &raw,
+            &others!(raw),
+            section_header32::derived(&raw, &raw)
+        )
+    );
+    let raw = section_header64::SectionHeader::from(section());
+    assert!(rt;
+        is_apart(
+            rt,
+            &raw,
+            &others!(raw),
+            section_header64::derived(&raw, &raw)
+        )
+    );
 }
 
 // Whether a section is in memory, writable and executable.

@@ -1,8 +1,10 @@
 //! Cases with their results: symbols in their forms, lists and tables of them, their parts and names, and the symbol
-//! that an address lies in.
+//! for an address.
 use crate::compare::{differs, has_written, holds, is, reports, returns_list};
 use crate::container::{BIG32, BIG64, LITTLE32, LITTLE64};
-use crate::record::{SHORT, has_form, lacks_room, lists, refuses, writes};
+use crate::record::{
+    SHORT, has_form, is_apart, lacks_room, lists, refuses, with_each_default, writes,
+};
 use crate::table::yields;
 use goblin::elf;
 use goblin::elf::sym::Symtab;
@@ -88,6 +90,23 @@ fn reads_and_writes_raw_symbols(rt: HostRuntime) {
     let raw = sym64::Sym::from(FUNCTION);
     assert!(rt; has_form(rt, raw, LE, IN_LITTLE64) && has_form(rt, raw, BE, IN_BIG64));
     assert!(rt; is(rt, (Sym::from(raw), sym64::SIZEOF_SYM), (FUNCTION, 24)));
+}
+
+// Copies of a symbol, each with the default in one field.
+macro_rules! others {
+    ($sym:expr) => {
+        with_each_default!($sym; st_name st_info st_other st_shndx st_value st_size)
+    };
+}
+
+#[test]
+fn compares_symbols(rt: HostRuntime) {
+    let derived = sym::derived(&WIDE, &WIDE);
+    assert!(rt; is_apart(rt, &WIDE, &others!(WIDE), derived));
+    let raw = sym32::Sym::from(WIDE);
+    assert!(rt; is_apart(rt, &raw, &others!(raw), sym32::derived(&raw, &raw)));
+    let raw = sym64::Sym::from(WIDE);
+    assert!(rt; is_apart(rt, &raw, &others!(raw), sym64::derived(&raw, &raw)));
 }
 
 // A symbol whose fields pass the 32-bit class.
