@@ -765,7 +765,7 @@ pub extern "C" fn goblin_range_in_file(bytes: &[u8], range: &GoblinRange, part: 
     *part = cut_range(bytes.len(), range);
 }
 
-/// Stores the index of the symbol that an address lies in.
+/// Stores the index of the symbol for an address. The symbol may end before the address.
 #[unsafe(no_mangle)]
 pub extern "C" fn goblin_c_symbol_by_address(
     bytes: &[u8],

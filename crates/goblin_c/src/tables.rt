@@ -155,7 +155,7 @@ pub fn symbol_by_name(
     Ok(found.map(|index| index as u64))
 }
 
-/// Returns the index of the symbol that an address lies in.
+/// Returns the index of the symbol for an address. The symbol may end before the address.
 pub fn symbol_by_address(
     bytes: &[u8],
     header: &GoblinHeader,
