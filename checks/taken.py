@@ -1,13 +1,10 @@
-#!/usr/bin/env python3
-"""Puts the libraries that a run of `rt ci` proves into a copy of the repository, where `rt lib` takes them for a crate above them.
+"""Puts the libraries that a run of `rt ci` proves into a copy of the repository, where checks of edits take them for a crate above them:
+for checks/must_fail.py. The run is checks/proved.sh, with the same ROOM. Nothing that is built over them is installed.
 
-    python3 checks/taken.py PROVED COPY CRATE     waits until the run beside this has proved in PROVED all that CRATE stands on;
-                                                  that run is checks/proved.sh, with the same ROOM
-
-`rt lib` takes a library that has a stamp of its sources, and proves any other anew. `rt ci` leaves its libraries without one, since
+`rt check` takes a library that has a stamp of its sources, and proves any other anew. `rt ci` leaves its libraries without one, since
 each fits only those that it was proved over. In the copy all of them are of this run: each of their files is younger than the copy.
 The stamps are the toolchain's own, of the copy's sources, which must be those that were proved. Where a toolchain has no such
-stamps, or leaves older libraries, `rt lib` proves all anew. Run from the repository's root.
+stamps, or leaves older libraries, `rt check` proves all anew.
 """
 import importlib.util
 import os
@@ -15,8 +12,6 @@ import shutil
 import subprocess
 import sys
 import time
-
-sys.dont_write_bytecode = True
 
 
 def stamps(copy):
@@ -75,21 +70,3 @@ def take(proved, copy, names):
             with open(f'{copy}/{os.path.dirname(library)}/stamp', 'w', encoding='utf-8') as stamp:
                 stamp.write(stamp_of[name])
     return is_of_run
-
-
-def main(arguments):
-    proved, copy, crate = os.path.abspath(arguments[0]), os.path.abspath(arguments[1]), arguments[2]
-    names = sources('.', '--crates', crate).split()[:-1]
-    if not are_proved(names, f'{os.environ["ROOM"]}/proofs'):
-        print(f'taken: not all of {", ".join(names)} is proved')
-        return 1
-    if not take(proved, copy, names):
-        print(f'taken: the run has left no libraries that can be taken, so {crate} is proved with all that it stands on')
-    if sources(proved, '--sum', crate) != sources(copy, '--sum', crate):
-        print('taken: the sources have changed since they were copied: run this again')
-        return 1
-    return 0
-
-
-if __name__ == '__main__':
-    sys.exit(main(sys.argv[1:]))

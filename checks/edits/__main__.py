@@ -5,10 +5,10 @@
     python3 checks/edits CRATE ..             those of some crates
     python3 checks/edits --edit NAME          the one of that name
     python3 checks/edits --from FOLDER ..     those of FOLDER/CRATE/ in place of the crates' own
-    python3 checks/edits --fits               only whether each fits the code, and each of must-fail/ too: nothing is proved
+    python3 checks/edits --fits               only whether each fits the code, and each of must-fail/ and controls/: nothing is proved
 
-Those of crates/NAME/must-fail/ checks/must_fail.py tries, and `rt ci` too. Run from the repository's root. It works on copies, as
-many crates side by side as there are processors.
+Those of crates/NAME/must-fail/ and controls/ checks/must_fail.py tries, and the former `rt ci` too. Run from the repository's root. It
+works on copies, as many crates side by side as there are processors.
 """
 import argparse
 import os
@@ -140,8 +140,8 @@ def folders_of(options, crate):
     """Where the edits of a crate lie that are asked for."""
     if options.folder:
         return [f'{options.folder}/{crate}']
-    # others try those of must-fail/, but `rt ci` passes over one that fits no code
-    return [f'crates/{crate}/{name}' for name in (['edits', 'must-fail'] if options.fits else ['edits'])]
+    # others try those of must-fail/ and controls/, but `rt ci` passes over one that fits no code
+    return [f'crates/{crate}/{name}' for name in (['edits', 'must-fail', 'controls'] if options.fits else ['edits'])]
 
 
 def main():

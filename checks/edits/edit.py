@@ -29,10 +29,12 @@ LAW = 'constants'
 
 @dataclass(frozen=True)
 class Place:
-    """Where a change stands, the function that is to be refused for it, if there is one, and the module that a list is taken from."""
+    """Where a change stands, the function that is to be refused for it, if there is one, the module that a list is taken from, and the
+    function that a change elsewhere writes."""
     kind: str
     function: tuple = None
     source: str = ''
+    written: tuple = None
 
 
 @dataclass(frozen=True)
@@ -45,6 +47,10 @@ class Edit:
     def functions(self):
         """The functions that are to be refused."""
         return {place.function for place in self.places if place.function}
+
+    def written(self):
+        """The functions that its changes write outside of any other."""
+        return {place.written for place in self.places if place.written}
 
     def stands_in(self, *kinds):
         return all(place.kind in kinds for place in self.places)
@@ -124,7 +130,7 @@ CLAUSE = re.compile(r'\b(?:requires|ensures|ghost)\b[^{]*$')
 
 
 def place_in(crate, source, change):
-    """The place of a change: the innermost function round it, or the list that a module passes on."""
+    """The place of a change: the innermost function round it, or the list that a module passes on, or the function that it writes."""
     if not re.fullmatch(r'src/.*\.rt', change.file):
         return Place(ELSEWHERE)
     with open(f'{source}/{change.file}', encoding='utf-8') as file:
@@ -140,7 +146,8 @@ def place_in(crate, source, change):
     for found in PASSED_ON.finditer(text):
         if found.start(2) <= change.start and end <= found.end():
             return Place(LIST, (module, '', LAW), found[1][:-len('::')].replace('crate', crate, 1))
-    return Place(ELSEWHERE)
+    written = FUNCTION.search(change.new)
+    return Place(ELSEWHERE, written=(module, block_at(text, change.start), written[1]) if written else None)
 
 
 def body_of(text, at):

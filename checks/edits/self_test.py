@@ -2,12 +2,14 @@
 """Tests that checks/edits judges edits right: python3 checks/edits/self_test.py
 
 It makes a small crate with edits whose judgement is known, and compares what checks/edits prints of each. An edit of must-fail/
-is not tried, and must be reported if it does not fit the code.
+is not tried, and must be reported if it does not fit the code. What `rt ci` says of such edits is judged by its words.
 """
 import os
 import subprocess
 import sys
 import tempfile
+
+from verdict import tried_in
 
 CODE = {
     'src/lib.rt': '''//! A crate in which edits are planted.
@@ -123,6 +125,16 @@ PLANTED = {
 # An edit of must-fail/ that doesn't fit the code, and what is to be said of it.
 MISFIT = ('stands_nowhere', 'file: src/lib.rt\nold:     x + 9\nnew:     x\n', 'planted/stands_nowhere: 0 times in ')
 
+# What `rt ci` says of edits of must-fail/, by their names, and what each leaves open.
+TRIED = {
+    'values': ('note: src/lib.rt:7:1: it is not proved that this holds (`returns-clause-one`); the facts known there allow', 'values'),
+    'clause': ('note: src/lib.rt:7:1: it is not proved that this holds (`returns-then-x-clause-one`)', 'clause one'),
+    'search': ('note: src/lib.rt:7:1: it is not proved that this holds (`returns`)', 'search'),
+    'cut': ('note: src/lib.rt:7:1: it is not proved that the `invariant` holds (`invariant_of-sel', 'search'),
+    'answer': ('./proofs/third/Answers.antt:5:1: error: `returns`: `omega`: the goal does not follow from what it read', 'search'),
+    'type': ('./proofs/third/Answers.antt:5:1: error: `returns`: as printed, the two types differ only where one has `c`', ''),
+}
+
 
 def write(path, text):
     os.makedirs(os.path.dirname(path), exist_ok=True)
@@ -153,6 +165,10 @@ def main():
         return 1
     if fits.returncode != 1 or not fits.stdout.startswith(MISFIT[2]):
         print(f'{fits.stdout}{fits.stderr}\nself_test: checks/edits --fits did not report the edit that does not fit')
+        return 1
+    tried = tried_in('\n'.join(f'rt: must-fail planted/{name}.edit: refused, as it must be: {line}' for name, (line, _) in TRIED.items()))
+    if tried != {f'planted/{name}': open for name, (_, open) in TRIED.items()}:
+        print(f'self_test: the edits of must-fail/ were judged wrong: {tried}')
         return 1
     print(f'self_test: checks/edits judged {len(wanted)} edits right, {wrong} of which test nothing')
     return 0

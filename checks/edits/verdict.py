@@ -7,9 +7,14 @@ PROVED = 'proved'
 NOT_PROVED = ('not proved', 'no proof')
 # what a function's own goal is refused by
 SEARCH = '`search` did not prove'
-VALUES = 'allow values at which this goal is false'
+VALUES = 'the facts known there allow'
+# (a line of `rt ci` may be cut off)
+OPEN = re.compile(r'is not proved that .*\(`([^`]+)(?:`\)|$)|error: `([^`]+)`: `(?:search|omega|grind)`')
+CLAUSE = re.compile(r'-clause-(\w+)')
 ANSWER = re.compile(r'(?:\./)?(proofs/\S+?):\d+:\d+: error: (.*)')
 NAMES_ALONE = re.compile(r'has no field|is not in scope|has no `|was not admitted')
+# what `rt ci` says of an edit of must-fail/ that is refused
+TRIED = re.compile(r'.*must-fail (\S+)\.edit: refused, as it must be(.*)')
 # what it waits for
 WAITS = re.compile(r'it (?:calls|passes|waits for) .*')
 END = re.compile(r'^logic=(proved|not-proved)', re.M)
@@ -17,18 +22,21 @@ END = re.compile(r'^logic=(proved|not-proved)', re.M)
 CHECKED = re.compile(r'checked (\S+), \d+ of \d+')
 
 VALUES_WORD, SEARCH_WORD, ANSWER_WORD = 'with values', 'by search', 'by an answer'
+VALUES_OPEN = 'values'
 WAYS = (VALUES_WORD, SEARCH_WORD, ANSWER_WORD)
 
 
 @dataclass
 class Function:
-    """What is said of one: its verdict, how a goal of its own was refused, if one was, and what it waits for."""
+    """What is said of one: its verdict, how a goal of its own was refused, if one was, what it waits for, and what is open of it."""
     verdict: str
     refused: str = ''
     waits: frozenset = frozenset()
+    open: str = ''
 
     def is_proved(self):
-        return self.verdict == PROVED
+        # (a closure with a condition is `proved where its callers give what it asks`)
+        return self.verdict.startswith(PROVED)
 
 
 @dataclass
@@ -40,24 +48,24 @@ class Said:
     others: list = field(default_factory=list)
 
     def __post_init__(self):
-        answers = answers_refused(self.text, self.crate)
-        values = False
+        answers, lines = answers_refused(self.text, self.crate), []
         for line in self.text.split('\n'):
-            values = values or VALUES in line
             found = VERDICT.fullmatch(line)
             if not found:
+                lines.append(line)
                 continue
             kind, path, verdict = found.groups()
             if kind == 'fn':
-                answered = answers.pop(path, False)
-                by = VALUES_WORD if values else SEARCH_WORD if SEARCH in verdict else ANSWER_WORD if answered else ''
+                answered = answers.pop(path, [])
+                open = open_of([*(line for line in lines if not ANSWER.match(line)), *answered])
+                by = VALUES_WORD if open == VALUES_OPEN else SEARCH_WORD if SEARCH in verdict else ANSWER_WORD if answered else ''
                 waits = frozenset(re.findall(r'`([\w:]+)`', WAITS.search(verdict)[0])) if WAITS.search(verdict) else frozenset()
-                by = by if verdict.startswith(NOT_PROVED) else ''
-                self.functions[path] = Function(verdict, by, waits)
+                by, open = (by, open) if verdict.startswith(NOT_PROVED) else ('', '')
+                self.functions[path] = Function(verdict, by, waits, open)
             elif verdict != PROVED and not WAITS.search(verdict):
                 self.others.append(f'{kind} {path}')
-            values = False
-        self.others += [path for path, is_own in answers.items() if is_own]
+            lines = []
+        self.others += [path for path, own in answers.items() if own]
 
     def is_whole(self):
         """Whether the check came to the functions."""
@@ -74,12 +82,28 @@ class Said:
 
 
 def answers_refused(text, crate):
-    """Of each function, or else each file of lemmas, with an answer that was refused: whether one was for more than names that the edit took away."""
+    """Of each function, or else each file of lemmas, with an answer that was refused: its errors, without those of names alone that the
+    edit took away."""
     found = {}
     for line in text.split('\n'):
         error = ANSWER.match(line)
         if error:
             parts = [part.lstrip('+') for part in error[1].split('/')[1:-1]]
             path = '::'.join([crate, *parts]) if parts else error[1]
-            found[path] = found.get(path, False) or not NAMES_ALONE.search(error[2])
+            found.setdefault(path, []).extend([] if NAMES_ALONE.search(error[2]) else [line])
     return found
+
+
+def open_of(lines):
+    """Returns what these lines leave open of a function: `values`, at which a goal of its is false; `clause NAME`, a goal of this clause;
+    `search`, another goal; or nothing, as where only an answer's type no longer fits."""
+    goals = [found[1] or found[2] for found in map(OPEN.search, lines) if found]
+    clauses = [found[1] for found in map(CLAUSE.search, goals) if found]
+    if any(VALUES in line for line in lines):
+        return VALUES_OPEN
+    return f'clause {clauses[0]}' if clauses else 'search' if goals else ''
+
+
+def tried_in(text):
+    """Returns what each edit of must-fail/ leaves open, by its crate and its name, of those that `rt ci` says are refused."""
+    return {found[1]: open_of([found[2]]) for found in map(TRIED.match, text.split('\n')) if found}

@@ -1,6 +1,6 @@
 -- Lemmas for writing a header.
 use Rattle.std.proofs.Common.{◌≡◌, ◌≤◌, ◌+◌, ℕ, List, ◌++◌, length, take, drop, Result, Ok, Err, refl, sym, ap, ◌∙◌}
-use Rattle.std.proofs.Common.{arith, subst}
+use Rattle.std.proofs.Common.{arith, slice_index, subst, Some}
 use Rattle.std.proofs.lemmas.List.{append_assoc, take_at, drop_at, drop-drop, length-append, length-drop}
 use Rattle.goblin_base.specs.declared.container.Container.TheVariants as class
 use Rattle.goblin_base.specs.declared.container.Endian.{Endian}
@@ -8,12 +8,14 @@ use Rattle.goblin_base.specs.declared.error.Error.{Error}
 use Rattle.goblin_base.specs.declared.error.Fault.TheVariants.{InvalidClass}
 use Rattle.goblin_base.specs.FieldLaws.{with_fields, with_fields-image, image-low_fields}
 use Rattle.goblin_base.specs.Fields.{Field, size_of_fields, image_of_fields}
+use Rattle.goblin_base.specs.Room.{room_of}
 use Rattle.goblin_headers.specs.declared.header.Header.{Header}
 use Rattle.goblin_headers.specs.declared.header32.Header.{Header as Raw32}
 use Rattle.goblin_headers.specs.declared.header64.Header.{Header as Raw64}
 use Rattle.goblin_headers.specs.Header.{as32, as64, class_of, header32_size, header32_fields, header32_image}
-use Rattle.goblin_headers.specs.Header.{header32_low}
+use Rattle.goblin_headers.specs.Header.{header32_low, order_named}
 use Rattle.goblin_headers.specs.WriteHeader.{WritesInOrder, WritesHeader32, WritesHeader64, WritesHeader}
+use Rattle.goblin_headers.specs.WriteHeaderLaws.{in_order}
 
 -- the bytes after an identification and the fields that follow it were written
 pub with_header : (order : Endian) (ident old new : List ℕ) (fields : List Field)
@@ -61,3 +63,22 @@ pub no_class : (h : Header) (old : List ℕ) (e : Error)
     → Err e ≡ class_of InvalidClass h.e_ident → WritesHeader h old (Err e) old
 unfolding WritesHeader
 no_class h old e unknown = rw (← unknown) (refl, refl)
+
+-- the order that was used is the one that the data byte names
+pub in_used_order : (ident : List ℕ) (size : ℕ) (image : Endian → List ℕ) (old new : List ℕ) (order used : Endian)
+    → Some order ≡ order_named (slice_index ident 5) → Ok tt ≡ room_of (length old) 0 size
+    → new ≡ image used ++ drop size old → used ≡ order
+    → WritesInOrder ident size image old (Ok size) new
+in_used_order ident size image old new order used some room is same =
+    in_order ident size image old new order tt some room
+    (subst (λ (o : Endian). new ≡ image o ++ drop size old) same is)
+
+-- so it is where the low bits alone are written
+pub low_in_used_order : (raw h : Raw32) (new rest : List ℕ) (order used : Endian)
+    → raw ≡ header32_low h → new ≡ header32_image used raw ++ rest → used ≡ order
+    → new ≡ header32_image order h ++ rest
+low_in_used_order raw h new rest order used is put same =
+    put
+    ∙ ap (λ (r : Raw32). header32_image used r ++ rest) is
+    ∙ ap (λ (image : List ℕ). image ++ rest) (image-low32 used h)
+    ∙ ap (λ (o : Endian). header32_image o h ++ rest) same

@@ -1,5 +1,5 @@
 //! Notes: System V gABI, "Note Section".
-ghost use Rattle.std.specs.Prelude.{⊤, ◌≡◌, ◌+◌, ◌≤◌, ◌<◌, ◌^◌, ◌++◌, IfOk, IfSome, length, min, [], ◌∷◌, take, drop};
+ghost use Rattle.std.specs.Prelude.{⊤, ◌≡◌, ◌+◌, ◌≤◌, ◌<◌, ◌^◌, ◌↔◌, ◌++◌, IsTrue, IfOk, IfSome, length, min, [], ◌∷◌, take, drop};
 ghost use Rattle.std.specs.Iterator.{MakesProgress, UpTo, YieldsFirstBy, at_most};
 ghost use Rattle.std.specs.Iterator.SizeHint.{IsWithinCount};
 ghost use Rattle.goblin_base.specs.Refusal.{Answers};
@@ -18,6 +18,7 @@ pub use goblin_records::note::{
     NT_FILE, NT_GNU_ABI_TAG, NT_GNU_BUILD_ID, NT_GNU_GOLD_VERSION, NT_GNU_HWCAP,
     NT_GNU_PROPERTY_TYPE_0, NT_PRPSINFO, NT_PRSTATUS, NT_SIGINFO, Nhdr32, Nhdr64,
 };
+use std::alloc::AllocError;
 use std::result;
 
 /// An iterator over the notes of a range of bytes.
@@ -392,3 +393,27 @@ pub fn laws()
     ensures few { FewNotes }
     ensures whole { WholeIsNote }
 {}
+
+/// Laws: `==` is true exactly if all fields of two `NotePlaces` are equal. `clone` returns the
+/// places, and never fails. A call returns both.
+pub fn derived_places(
+    places: &NotePlaces,
+    other: &NotePlaces,
+) -> (bool, result::Result<NotePlaces, AllocError>)
+    ensures equal { IsTrue result.0 ↔ (places.now ≡ other.now) }
+    ensures clone { result.1 ≡ Ok places.now }
+{
+    (*places == *other, places.clone())
+}
+
+/// Laws: `==` is true exactly if two parts are the same. `clone` returns the part, and never fails.
+/// A call returns both.
+pub fn derived_part(
+    part: &NotePart,
+    other: &NotePart,
+) -> (bool, result::Result<NotePart, AllocError>)
+    ensures equal { IsTrue result.0 ↔ (part.now ≡ other.now) }
+    ensures clone { result.1 ≡ Ok part.now }
+{
+    (*part == *other, part.clone())
+}

@@ -1,3 +1,4 @@
+use Rattle.std.proofs.Common.{rules}
 use Rattle.goblin_base.specs.LayoutLaws.{image-low}
 use Rattle.goblin_headers.specs.ProgramHeader.{as32}
 use Rattle.goblin_headers.specs.ProgramHeaderLaws.{program_header32_laws}
@@ -5,8 +6,11 @@ use Rattle.goblin_headers.proofs.program_header.ProgramHeaderTryIntoCtxCtx.try_i
 
 pub returns-in-Little : goal.returns-in-Little
 returns-in-Little c =
-    rw c.in-Little.is
-    (rw (c.from.ensures, image-low (program_header32_laws c.args.ctx.le) (as32 c.args.self)) at c.try_into_ctx.ensures)
+    let written =
+    rw (c.from.ensures, image-low (program_header32_laws c.args.ctx.le) (as32 c.args.self)) at c.try_into_ctx.ensures in
+    rw c.in-Little.is (search (rules, written))
 
 pub returns-in-Big : goal.returns-in-Big
-returns-in-Big c = rw c.in-Big.is (rw c.from-in-Big.ensures at c.try_into_ctx-in-Big.ensures)
+returns-in-Big c =
+    let written = rw c.from-in-Big.ensures at c.try_into_ctx-in-Big.ensures in
+    rw c.in-Big.is (search (rules, written))
