@@ -1,10 +1,11 @@
 #!/usr/bin/env python3
-"""Whether files made to ask for much work stay cheap: python3 checks/limits.py, from the repository's root, once the program is built.
+"""Whether files made to ask for much work stay cheap: python3 checks/limits.py, from the repository's root, once the programs are built.
 
 Of each file of checks/hostile.py: the processor seconds that a strict and a permissive run may take, at most some 20 times what
 they took when the limits were set, and for all the address space and the main stack. So memory that is asked for and never touched
 counts too, and no run may end for want of it. Of a text without end the first 100 MB are read, and then no more. What is there for
-speed alone, and no contract says, is noticed here when it is undone.
+speed alone, and no contract says, is noticed here when it is undone. And of each call of the library that allocates, as goblin_refused
+makes it: the address space for a list of the records or strings in 4 MB of bytes and 500 lists of one item, held at once.
 """
 import os
 import resource
@@ -13,6 +14,7 @@ import sys
 import tempfile
 
 PROGRAM = 'crates/goblin_show/out/goblin_show'
+CALLS = 'crates/goblin_refused/out/goblin_refused'
 # The most that was taken when this was set is 28 MB.
 ADDRESS_SPACE = 40 * 1024 * 1024
 STACK = 256 * 1024
@@ -40,6 +42,29 @@ LIMITS = {
     'text_tables': (1, 1),
     'turns': (1, 1),
     'wide': (3, 1),
+}
+# What goblin_refused holds: the most MB of address space, which are 2 to 3 MB more than its 4 MB of bytes, its lists and the program
+# itself took when this was set.
+HELD = {
+    'entries': 9,
+    'lines': 9,
+    'parsed': 9,
+    'permissive': 9,
+    'relocs': 12,
+    'sections': 14,
+    'sections_bytes32': 12,
+    'sections_bytes64': 13,
+    'sections_from': 14,
+    'segments': 13,
+    'segments32': 11,
+    'segments64': 13,
+    'segments_bytes32': 11,
+    'segments_bytes64': 13,
+    'strings': 9,
+    'symbols': 12,
+    'symtab': 12,
+    'table': 12,
+    'unparsed': 9,
 }
 
 
@@ -69,6 +94,14 @@ def took(path, arguments, limit):
     return ended and head != OUT_OF_MEMORY, used.ru_utime + used.ru_stime, used.ru_maxrss * 1024
 
 
+def holds(form, limit):
+    """Whether goblin_refused can hold the lists of a form in so many MB of address space."""
+    def limited():
+        resource.setrlimit(resource.RLIMIT_AS, (limit << 20, limit << 20))
+    ended = subprocess.run([CALLS], input=f'held-{form}\n', text=True, stdout=subprocess.PIPE, preexec_fn=limited)
+    return ended.returncode == 0 and ended.stdout == f'held-{form}: `held`\n'
+
+
 def main():
     wrong = 0
     with tempfile.TemporaryDirectory(prefix='limits-') as folder:
@@ -82,6 +115,9 @@ def main():
                 wrong += not well
                 print(f'{name}, {mode}: {seconds:.2f} of {limit} seconds, {memory >> 20} MB{"" if well else ": OVER THE LIMIT, or it failed"}')
     print(f'limits: {2 * len(LIMITS)} runs, {wrong} over a limit or failed')
+    over = [form for form, limit in HELD.items() if not holds(form, limit)]
+    print(f'limits: {len(HELD)} lists of the library, over the limit of their memory: {", ".join(over) or "none"}')
+    wrong += len(over)
     return 1 if wrong else 0
 
 

@@ -1,7 +1,7 @@
 //! The calls by their names.
 use crate::allocations::First;
 use crate::answer::Answer;
-use crate::{faults, records, strings};
+use crate::{faults, held, records, strings};
 use goblin::error::Result;
 use std::alloc::Global;
 
@@ -14,6 +14,7 @@ pub(crate) fn answer_to(alloc: Global, name: &str) -> Option<Result<Answer>> {
         Some(("strings", form)) => strings::tables(alloc, form),
         Some(("walk", form)) => strings::walks(alloc, form),
         Some(("line", kind)) => faults::line(alloc, kind),
+        Some(("held", form)) => held::held(alloc, form),
         _ => None,
     }
 }
@@ -21,10 +22,14 @@ pub(crate) fn answer_to(alloc: Global, name: &str) -> Option<Result<Answer>> {
 /// Returns what the call with this name does if its first allocation is refused.
 pub(crate) fn first_of(name: &str) -> First {
     match name {
-        "segments-many" | "segments-late64" | "sections-outside" | "sections-many" => {
+        "segments-many" | "segments-late32" | "segments-endless32" | "segments-late64" => {
             First::TakesNone
         }
-        "symbols-many" | "strings-outside" | "strings-early" => First::TakesNone,
+        "sections-outside"
+        | "sections-many"
+        | "symbols-many"
+        | "strings-outside"
+        | "strings-early" => First::TakesNone,
         "segments-parse32" | "segments-parse64" | "segments-bytes32" | "segments-bytes64" => {
             First::GoesOn
         }

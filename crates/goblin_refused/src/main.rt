@@ -4,6 +4,7 @@
 //! makes it twice, with its allocation N refused and with ample memory, and prints whether the two results
 //! are as expected. The runner refuses allocation R of the program, so R - N are made before the call. With
 //! `NAME N R last` it also prints if the call makes allocation N. `checks/refused.sh` tries all calls.
+//! The calls of `held.rt` are made by `checks/limits.py` alone, with little memory.
 #![tactic(auto)]
 
 ghost use Rattle.std.specs.Prelude.{◌≤◌, IfOk};
@@ -12,6 +13,7 @@ mod allocations;
 mod answer;
 mod calls;
 mod faults;
+mod held;
 mod records;
 mod strings;
 

@@ -57,6 +57,14 @@ pub(crate) fn segments(alloc: Global, form: &str) -> Option<Result<Answer>> {
         )),
         "many" => Some(listed(ProgramHeader::parse(alloc, &short, 0, 2, CTX), &first)),
         "late" => Some(listed(ProgramHeader::parse(alloc, &short, 40, 1, CTX), &first)),
+        "late32" => Some(listed(
+            program_header32::ProgramHeader::parse(alloc, &short, 0, 3, LE),
+            &first32,
+        )),
+        "endless32" => Some(listed(
+            program_header32::ProgramHeader::parse(alloc, &short, 0, usize::MAX, LE),
+            &first32,
+        )),
         "late64" => Some(listed(
             program_header64::ProgramHeader::parse(alloc, &short, 40, 1, LE),
             &first64,
