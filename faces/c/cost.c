@@ -1,6 +1,8 @@
-/* Tests that calls over many items take a time in proportion to the number of items: cost
-   It makes a file of zero bytes, in which each range can be read as sections, symbols, relocations, segments, notes or empty strings,
-   and long strings after them.
+/* Tests that calls over many items take a time in proportion to the number of items, and calls for one item a time that doesn't depend
+   on it: cost
+   It makes a file with a header and zero bytes, in which each range can be read as sections, symbols, relocations, segments, notes or
+   empty strings, and with long strings after them. Each call of goblin.h that is passed a file is made here; checks/faces/c.sh compares
+   the two.
    A library that was changed to walk from the first symbol to each other one took more than ten times the limit. */
 #include "goblin.h"
 #include <elf.h>
@@ -89,6 +91,46 @@ static uint64_t offset_of_no_address(void) {
     uint64_t offset;
     return goblin_address_to_offset(bytes, len, &header, 1, &offset, &why) == GOBLIN_END ? SEGMENTS : 0;
 }
+
+/* Defines a function that repeats a call as often as there are items. It returns how often the call returned the status. `i` is the number
+   of calls before. */
+#define REPEATED(name, status, call) \
+    static uint64_t name(void) { \
+        uint64_t i = 0; \
+        while (i < ITEMS && (call) == (status)) i++; \
+        return i; \
+    }
+
+/* What the repeated calls are passed, and what they write. */
+static goblin_header_t named;
+static goblin_section_t section;
+static goblin_segment_t segment;
+static goblin_symbol_t symbol;
+static goblin_reloc_t reloc;
+static goblin_range_t table, range;
+static uint64_t number;
+
+REPEATED(header_read, GOBLIN_OK, goblin_header(bytes, len, &named, &why))
+REPEATED(sections_counted, GOBLIN_OK, goblin_section_count(bytes, len, &header, &number, &why))
+REPEATED(whole_sections_counted, GOBLIN_OK, goblin_whole_sections(bytes, len, &header, &number, &why))
+REPEATED(sections_one_by_one, GOBLIN_OK, goblin_sections(bytes, len, &header, i, &section, 1, &number, &why))
+REPEATED(linked_sections, i ? GOBLIN_OK : GOBLIN_END, goblin_linked_section(bytes, len, &header, i, &section, &why))
+REPEATED(section_names, GOBLIN_OK, goblin_section_names(bytes, len, &named, &section, &why))
+REPEATED(section_by_name, GOBLIN_OK, goblin_section_by_name(bytes, len, &header, &table, "", 0, i, &number, &why))
+REPEATED(bytes_by_name, GOBLIN_END, goblin_bytes_by_name(bytes, len, &header, &table, "", 0, &range, &why))
+REPEATED(section_by_type, GOBLIN_OK, goblin_section_by_type(bytes, len, &header, 0, i, &number, &why))
+REPEATED(section_bytes, GOBLIN_OK, goblin_section_bytes(bytes, len, &section, &range, &why))
+REPEATED(segments_counted, GOBLIN_OK, goblin_segment_count(bytes, len, &header, &number, &why))
+REPEATED(whole_segments_counted, GOBLIN_OK, goblin_whole_segments(bytes, len, &header, &number, &why))
+REPEATED(segment_bytes, GOBLIN_OK, goblin_segment_bytes(bytes, len, &segment, &range, &why))
+REPEATED(first_address, GOBLIN_OK, goblin_address_to_offset(bytes, len, &header, 0, &number, &why))
+REPEATED(symbols_counted, GOBLIN_OK, goblin_symbol_count(bytes, len, &header, &table, &number, &why))
+REPEATED(symbols_one_by_one, GOBLIN_OK, goblin_symbols(bytes, len, &header, &table, i, &symbol, 1, &number, &why))
+REPEATED(symbol_by_name, GOBLIN_OK, goblin_symbol_by_name(bytes, len, &header, &table, &table, "", 0, &number, &why))
+REPEATED(relocs_counted, GOBLIN_OK, goblin_reloc_count(bytes, len, &header, &table, true, &number, &why))
+REPEATED(relocs_one_by_one, GOBLIN_OK, goblin_relocs(bytes, len, &header, &table, true, i, &reloc, 1, &number, &why))
+REPEATED(each_number_of_the_file, GOBLIN_OK, goblin_number(bytes, len, &header, i * 8, 8, &number, &why))
+REPEATED(range_cut, GOBLIN_OK, (goblin_range_in_file(bytes, len, &segment.file, &range), GOBLIN_OK))
 
 static uint64_t each_symbol(void) {
     goblin_range_t table = range_of(ITEMS, sizeof(Elf64_Sym));
@@ -214,17 +256,51 @@ static goblin_range_t long_strings(void) {
     return strings;
 }
 
+/* Fills each of the strings with two bytes in turn, and a last byte. */
+static void fill_strings(uint8_t first, uint8_t second, uint8_t last) {
+    for (size_t i = 0; i < 4 * LONG_SIZE; i++) {
+        size_t place = i % LONG_SIZE;
+        bytes[LONG_AT + i] = place == 0 ? 0 : place == LONG_SIZE - 1 ? last : place % 2 ? first : second;
+    }
+}
+
+/* Returns the offset of the string for a call. */
+static uint64_t long_string(uint64_t i) { return i % 4 * LONG_SIZE + 1; }
+
+/* Compares each string with its first bytes. */
 static uint64_t each_compared(void) {
     goblin_range_t strings = long_strings();
     uint64_t i = 0;
-    while (i < ITEMS && goblin_string_is(bytes, len, &strings, i % 4 * LONG_SIZE + 1, "aaaaaaaa", 8, &why) == GOBLIN_END) i++;
+    while (i < ITEMS && goblin_string_is(bytes, len, &strings, long_string(i), bytes + LONG_AT + 1, 8, &why) == GOBLIN_END) i++;
     return i;
 }
 
 static uint64_t each_start_compared(void) {
     goblin_range_t strings = long_strings();
     uint64_t i = 0;
-    while (i < ITEMS && goblin_string_starts(bytes, len, &strings, i % 4 * LONG_SIZE + 1, "aaaaaaaa", 8, &why) == GOBLIN_OK) i++;
+    while (i < ITEMS && goblin_string_starts(bytes, len, &strings, long_string(i), bytes + LONG_AT + 1, 8, &why) == GOBLIN_OK) i++;
+    return i;
+}
+
+/* Reads each string once, or refuses it. */
+static uint64_t each_long_string(void) {
+    goblin_range_t strings = long_strings(), string;
+    uint64_t i = 0;
+    while (i < 4 && goblin_string(bytes, len, &strings, long_string(i), &string, &why) == GOBLIN_OK) i++;
+    return i;
+}
+
+static uint64_t each_refused(void) {
+    goblin_range_t strings = long_strings(), string;
+    uint64_t i = 0;
+    while (i < 4 && goblin_string(bytes, len, &strings, long_string(i), &string, &why) == GOBLIN_BAD_INPUT) i++;
+    return i;
+}
+
+static uint64_t bytes_of_each_long_string(void) {
+    goblin_range_t strings = long_strings(), string;
+    uint64_t i = 0;
+    while (i < 4 && goblin_string_bytes(bytes, len, &strings, long_string(i), &string, &why) == GOBLIN_OK) i++;
     return i;
 }
 
@@ -237,18 +313,26 @@ static int takes_little(const char *what, uint64_t (*list)(void), uint64_t items
     return found == items && took < LIMIT;
 }
 
-int main(void) {
-    Elf64_Shdr first;
-    int right = 1;
-    memset(&first, 0, sizeof first);
-    first.sh_size = ITEMS;
+/* Makes the file, with a header whose section names are the last section that e_shstrndx can say. */
+static int make_file(void) {
+    Elf64_Ehdr first = {{0x7f, 'E', 'L', 'F', ELFCLASS64, ELFDATA2LSB}, 0, 0, 0, 0, 0, 0, 0, 0, 0, 0, 0, 0, 0};
+    Elf64_Shdr counted;
+    memset(&counted, 0, sizeof counted);
+    counted.sh_size = ITEMS;
+    first.e_shoff = 64, first.e_phoff = 128, first.e_phnum = SEGMENTS, first.e_shstrndx = 0xfffe;
     len = LONG_AT + 4 * LONG_SIZE;
     bytes = (uint8_t *)calloc(1, len);
     array = malloc(ITEMS * sizeof(goblin_section_t));
-    if (!bytes || !array) return 2;
-    memcpy(bytes + 64, &first, sizeof first);
-    for (size_t i = LONG_AT; i < len; i++) bytes[i] = (i - LONG_AT) % LONG_SIZE == 0 ? 0 : 'a';
-    header.ei_class = 2, header.ei_data = 1, header.e_shoff = 64, header.e_phoff = 128, header.e_phnum = SEGMENTS;
+    if (!bytes || !array) return 0;
+    memcpy(bytes, &first, sizeof first);
+    memcpy(bytes + 64, &counted, sizeof counted);
+    fill_strings('a', 'a', 'a');
+    return goblin_header(bytes, len, &header, &why) == GOBLIN_OK;
+}
+
+/* Lists of all items. */
+static int lists_take_little(void) {
+    int right = 1;
     right &= takes_little("each section", each_section, ITEMS);
     right &= takes_little("all sections", all_sections, ITEMS);
     right &= takes_little("a section of a type that none has", section_of_no_type, ITEMS);
@@ -269,8 +353,68 @@ int main(void) {
     right &= takes_little("each number in a range", each_number, ITEMS);
     right &= takes_little("each string", each_string, ITEMS);
     right &= takes_little("the bytes of each string", bytes_of_each_string, ITEMS);
+    return right;
+}
+
+/* Calls that read one item, or count. */
+static int repeated_calls_take_little(void) {
+    int right = 1;
+    Elf64_Phdr load;
+    memset(&load, 0, sizeof load);
+    load.p_type = PT_LOAD, load.p_filesz = 1;
+    named = header;
+    table = range_of(ITEMS, sizeof(Elf64_Sym));
+    right &= takes_little("the header", header_read, ITEMS);
+    right &= takes_little("the number of sections", sections_counted, ITEMS);
+    right &= takes_little("the number of whole sections", whole_sections_counted, ITEMS);
+    right &= takes_little("sections one by one", sections_one_by_one, ITEMS);
+    right &= takes_little("each linked section", linked_sections, ITEMS);
+    right &= takes_little("the section names", section_names, ITEMS);
+    named.e_shstrndx = 0xffff, bytes[64 + offsetof(Elf64_Shdr, sh_link)] = 1;
+    right &= takes_little("the section names by the first section", section_names, ITEMS);
+    right &= takes_little("each section by its name", section_by_name, ITEMS);
+    right &= takes_little("the bytes of the first section with a name", bytes_by_name, ITEMS);
+    right &= takes_little("each section by its type", section_by_type, ITEMS);
+    section.sh_type = SHT_PROGBITS, section.file = table, segment.p_type = PT_LOAD, segment.file = table;
+    right &= takes_little("the bytes of a section", section_bytes, ITEMS);
+    right &= takes_little("the bytes of a segment", segment_bytes, ITEMS);
+    right &= takes_little("the number of segments", segments_counted, ITEMS);
+    right &= takes_little("the number of whole segments", whole_segments_counted, ITEMS);
+    memcpy(bytes + 128, &load, sizeof load);
+    right &= takes_little("the offset of an address in the first segment", first_address, ITEMS);
+    memset(bytes + 128, 0, sizeof load);
+    right &= takes_little("the number of symbols", symbols_counted, ITEMS);
+    right &= takes_little("symbols one by one", symbols_one_by_one, ITEMS);
+    right &= takes_little("the first symbol with a name", symbol_by_name, ITEMS);
+    right &= takes_little("the number of relocations", relocs_counted, ITEMS);
+    right &= takes_little("relocations one by one", relocs_one_by_one, ITEMS);
+    right &= takes_little("each number of the file", each_number_of_the_file, ITEMS);
+    segment.file.size = UINT64_MAX;
+    right &= takes_little("a range cut to the file", range_cut, ITEMS);
+    return right;
+}
+
+/* Long strings, of one or two bytes for each character, the last one with half of one at its end. */
+static int strings_take_little(void) {
+    int right = 1;
     right &= takes_little("each long string compared", each_compared, ITEMS);
     right &= takes_little("the start of each long string compared", each_start_compared, ITEMS);
+    right &= takes_little("each long string", each_long_string, 4);
+    fill_strings(0xc3, 0xa9, 'a');
+    right &= takes_little("each long string of two bytes a character compared", each_compared, ITEMS);
+    right &= takes_little("the start of each such string compared", each_start_compared, ITEMS);
+    right &= takes_little("each such string", each_long_string, 4);
+    fill_strings(0xc3, 0xa9, 0xc3);
+    right &= takes_little("each long string with a bad byte at its end compared", each_compared, ITEMS);
+    right &= takes_little("the start of each string with a bad byte compared", each_start_compared, ITEMS);
+    right &= takes_little("each string with a bad byte", each_refused, 4);
+    right &= takes_little("the bytes of each string with a bad byte", bytes_of_each_long_string, 4);
+    return right;
+}
+
+/* Indexes of the addresses of symbols. */
+static int indexes_take_little(void) {
+    int right = 1;
     fill_symbols(scattered, one);
     right &= takes_little("an index of addresses in no order", address_index, ITEMS);
     right &= takes_little("a symbol at each address", each_address, ITEMS);
@@ -279,6 +423,15 @@ int main(void) {
     right &= takes_little("the first symbol at one address that reaches past each", each_address, ITEMS);
     fill_symbols(one, one);
     right &= takes_little("an index of equal symbols", address_index, 1);
+    return right;
+}
+
+int main(void) {
+    if (!make_file()) return 2;
+    int right = lists_take_little();
+    right &= repeated_calls_take_little();
+    right &= strings_take_little();
+    right &= indexes_take_little();
     free(array);
     free(bytes);
     return right ? 0 : 1;

@@ -16,8 +16,7 @@ static goblin_refusal_t why;
 /* Returns the processor time since a time, in microseconds. */
 static double since(clock_t start) { return 1e6 * (double)(clock() - start) / CLOCKS_PER_SEC; }
 
-/* Searches for a name that no section and no symbol has. Their names start at different offsets of a string of the letter a, whose
-   length is STRINGS. */
+/* Searches for a name that no section and no symbol has. Their names start at different offsets of one string, whose length is STRINGS. */
 static int search(uint8_t *bytes, size_t len, const char *what, const uint8_t *name, size_t name_len) {
     goblin_header_t header;
     goblin_range_t symbols = {64 + SECTIONS * sizeof(Elf64_Shdr), SYMBOLS * sizeof(Elf64_Sym)};
@@ -51,6 +50,11 @@ static int search_made(void) {
     wrong |= search(bytes, len, "one that is not UTF-8", long_name, STRINGS);
     long_name[STRINGS - 1] = 0;
     wrong |= search(bytes, len, "one with a zero byte", long_name, STRINGS);
+    /* Characters of two bytes, and half of one at the end. */
+    for (size_t i = 0; i < STRINGS - 1; i++) bytes[strings + i] = i % 2 ? 0xa9 : 0xc3;
+    wrong |= search(bytes, len, "a short name of two bytes a character", (const uint8_t *)"\303\251\303\251b", 5);
+    for (size_t i = 0; i < STRINGS; i++) long_name[i] = i % 2 ? 0xaa : 0xc3;
+    wrong |= search(bytes, len, "a name as long of two bytes a character", long_name, STRINGS);
     free(bytes);
     return wrong;
 }
