@@ -181,21 +181,25 @@ async function check_unknown(content) {
     }
     assert.match(words[0], /^Refused: .* while reading the section headers: e_shnum \d+, e_shoff 0x/s);
     assert.deepEqual(new Set(words), new Set([words[0]]));
-    const note_section = { name: '.note', type: 7, bytes: Buffer.concat([note('GNU', 3, Buffer.alloc(4)), note('\xff', 1, Buffer.alloc(4))]) };
-    await pick_written('none', elf_file({ sections: [note_section, { name: '.relr.dyn', type: 19, bytes: Buffer.alloc(8) }] }));
+    const relr = (name) => ({ name, type: 19, bytes: Buffer.alloc(8) });
+    const cut_note = note('GNU', 1, Buffer.alloc(16)).subarray(0, -4);
+    const notes = [note('GNU', 3, Buffer.alloc(4)), note('GA\0\xff', 0x100, Buffer.alloc(4)), cut_note];
+    const note_section = { name: '.note', type: 7, bytes: Buffer.concat(notes) };
+    await pick_written('none', elf_file({ sections: [note_section, ...['.relr.dyn', '.relr.b'].map(relr)] }));
     await evaluate(`document.getElementById('tab-symbols').click()`);
     await until(`document.getElementById('panel').textContent.startsWith('The file has no sections of symbols')`);
     await evaluate(`document.getElementById('tab-relocations').click()`);
-    await until(`document.getElementById('panel').textContent.endsWith('Not listed are the packed relocations (SHT_RELR) of .relr.dyn')`);
+    await until(`document.getElementById('panel').textContent.endsWith('Not listed are the packed relocations (SHT_RELR) of .relr.dyn, .relr.b')`);
     assert.equal(await text_of('#tab-relocations span'), '0+');
     // (a location may name a section that is not such a list; then nothing is found)
     await evaluate(`void (location.hash = 'symbols/1')`);
     await until(`document.querySelector('#panel .notice')?.textContent === 'Section 1 holds no symbols.'`);
     await search('a', 'none');
-    // (a note whose owner is not UTF-8 is refused, and those after it are not read)
+    // (a note whose owner is not UTF-8 is read; a cut one is refused, and those after it are not read)
     await open_tab('notes');
-    assert.equal(await text_of('#tab-notes span'), '1+');
-    assert.match(await text_of('#panel .refused'), /^Refused: /);
+    assert.equal(await text_of('#tab-notes span'), '2+');
+    assert.deepEqual(await cells(2), ['GNU', 'GAU+0000\\xff']);
+    assert.match(await text_of('#panel .refused'), /^Refused: .* while reading the descriptor of the note at 0x[0-9a-f]+, of \.note/);
 }
 
 // Returns the legend's percentages by their names.
@@ -209,7 +213,8 @@ const status = (thread) => Buffer.concat([Buffer.alloc(32), packed([thread, 4]),
 const core_notes = [
     ['CORE', 1, 'PRSTATUS', 71], ['CORE', 3, 'PRPSINFO'], ['CORE', 0x53494749, 'SIGINFO'], ['CORE', 6, 'AUXV'], ['CORE', 0x46494c45, 'FILE'],
     ['CORE', 2, 'FPREGSET', 71], ['LINUX', 0x202, 'X86_XSTATE', 71], ['CORE', 1, 'PRSTATUS', 72], ['CORE', 2, 'FPREGSET', 72],
-    ['LINUX', 0x7777, '0x7777', 72],
+    ['LINUX', 0x7777, '0x7777', 72], ['LINUX', 0x205, 'X86_XSAVE_LAYOUT'],
+    ['GDB', 0xff000000, 'GDB_TDESC'], ['GNU', 3, 'GNU_BUILD_ID'],
 ];
 
 // The memory and notes of a core file are pieces, with the number of each thread. So are the segments of a program without section headers.
@@ -240,6 +245,45 @@ async function check_segments() {
     assert.ok(covered > 0 && Math.abs(gap - 100 * (stripped.length - covered) / stripped.length) < 0.1, `gap ${gap} %`);
 }
 
+// In a file with sections code is what executable sections hold, and not the padding of an executable segment.
+async function check_padding() {
+    const content = elf_file({ segments: [{ flags: 5, vaddr: 0x400000, bytes: Buffer.alloc(4096) }],
+        sections: [{ name: '.text', type: 1, flags: 6, addr: 0x401000, bytes: Buffer.alloc(4096, 0x90) }] });
+    content.writeBigUInt64LE(8192n, 64 + 0x20);
+    await pick_written('padding', content);
+    const { code, other } = await shares(), share = (bytes) => Math.round(1000 * bytes / content.length) / 10;
+    assert.deepEqual([code, other], [share(4096), share(4096)]);
+    await pick(files.at(-1));
+    const pattern = /^ {2}\[ *\d+\] \S+ +(?!NOBITS)[A-Z_]+ +\S+ \S+ ([0-9a-f]+) \S+ +[WA]*X/gm, bytes = readFileSync(files.at(-1)).length;
+    const held = [...run('readelf', '-W', '-S', files.at(-1)).matchAll(pattern)].reduce((all, [, size]) => all + parseInt(size, 16), 0);
+    assert.ok(held > 1000 && Math.abs((await shares()).code - 100 * held / bytes) < 0.1);
+}
+
+// The part of a segment that a cut file has is named and hatched. It is no gap.
+async function check_cut() {
+    const path = files.at(-1), pattern = /^ {2}[A-Z_]+ +(0x\S+) \S+ \S+ (0x\S+) \S+ +([RWE ]+) /gm;
+    const all = [...run('readelf', '-W', '-l', path).matchAll(pattern)], last = all.findIndex(([, , , flags]) => flags.trim() === 'R E');
+    const [start, size] = all[last].slice(1, 3).map(Number), end = start + Math.floor(size / 2);
+    await pick_written('cut', readFileSync(path).subarray(0, end));
+    const held = Buffer.alloc(end).fill(1, 0, 64 + 56 * all.length);
+    for (const [, offset, bytes] of all) held.fill(1, Math.min(Number(offset), end), Math.min(Number(offset) + Number(bytes), end));
+    const { gap = 0, 'hatched: cut at the file’s end': cut } = await shares();
+    const share = (bytes) => 100 * bytes / end;
+    assert.ok(Math.abs(gap - share(held.filter((byte) => byte === 0).length)) < 0.1, `gap ${gap} %`);
+    assert.ok(Math.abs(cut - share(end - start)) < 0.1, `cut ${cut} %`);
+    await go(`offset/0x${(end - 1).toString(16)}`, `offset 0x${(end - 1).toString(16)}`);
+    const title = `segment ${last}, LOAD (cut)`;
+    assert.ok((await side()).includes(`in ${title}`) && (await side()).includes(`${title} + 0x${(end - 1 - start).toString(16)}`), await side());
+    // (the lines of the hatching divide its colour)
+    const is_code = await row_of('code', await evaluate(`document.getElementById('canvas').height - 20`));
+    assert.ok(is_code.filter((is_it, i) => is_it && !is_code[i - 1]).length > 20);
+    const damaged = elf_file({ sections: [{ name: '.text', type: 1, flags: 6, bytes: Buffer.alloc(64) }] });
+    damaged.writeBigUInt64LE(1n << 40n, Number(damaged.readBigUInt64LE(0x28)) + 64 + 0x20);
+    await pick_written('damaged', damaged);
+    await open_tab('layout');
+    assert.deepEqual(await cells(5), ['ELF header', '.text (cut)', '.shstrtab', '.text (cut)', 'Section headers']);
+}
+
 // Names depend on the machine and the owner. Numbers without a name are shown as numbers.
 async function check_labels() {
     const bytes = Buffer.alloc(8), text = (name, type, flags = 0) => ({ name, type, flags, bytes });
@@ -259,7 +303,11 @@ async function check_labels() {
     const { index } = symbols_of(dump).find(({ name }) => name === 'main');
     await pick(dump);
     await go(`symbols/${sections_of(dump)['.symtab'].index}/${index}`, 'main');
-    assert.match(await field_of('st_info'), /0x12\s*STB_GLOBAL \(1\), STT_FUNC \(2\)/);
+    assert.equal(await field_of('st_info'), '0x12, STB_GLOBAL (1), STT_FUNC (2)');
+    // (what belongs together is apart in the text, too, which is copied and read aloud)
+    const { size } = symbols_of(dump)[index], { sections } = counts_of(dump);
+    assert.equal(await field_of('st_size'), `${size}, ${size.toLocaleString('en')} bytes`);
+    assert.deepEqual([await text_of('#tab-sections'), await text_of('h1')], [`Sections ${sections}`, 'goblin what an ELF file holds']);
     assert.match(await field_of('st_other'), /STV_DEFAULT \(0\)/);
 }
 
@@ -343,8 +391,8 @@ async function check_section_links() {
     for (const [name, link, info] of links) {
         if (!sections[name]) continue;
         await go(`sections/${sections[name].index}`, name);
-        assert.match(await field_of('sh_link'), new RegExp(`^\\d+\\s*${link.replace('.', '\\.')}$`));
-        if (info) assert.match(await field_of('sh_info'), /^\d+\s*\.got/);
+        assert.match(await field_of('sh_link'), new RegExp(`^\\d+, ${link.replace('.', '\\.')}$`));
+        if (info) assert.match(await field_of('sh_info'), /^\d+, \.got/);
         await follow(link);
         await until_chosen(link);
     }
@@ -366,6 +414,14 @@ async function check_history() {
     await evaluate('history.back()');
     await until_chosen(first);
     assert.equal(await evaluate(`document.querySelector('#panel .row[aria-selected=true]').children[1].textContent`), first);
+    // (a tab where nothing is chosen shows nothing of the tab before)
+    await open_tab('segments');
+    await until_chosen('ELF header');
+    await evaluate('history.back()');
+    await until_chosen(first);
+    await evaluate(`document.getElementById('tab-sections').click()`);
+    await until_chosen('ELF header');
+    assert.equal(await evaluate(`document.querySelector('#panel .row[aria-selected=true]')`), null);
     // (what is not a location leaves a tab open; a failing script would be reported at the end)
     for (const wrong of ['%', 'sections/x', 'offset/0xffffffffffffffff', 'address/0x', 'symbols/99999/1', '__proto__/1']) {
         await evaluate(`void (location.hash = ${quoted(wrong)})`);
@@ -416,6 +472,24 @@ async function check_goto() {
     assert.equal(await fragment(), `symbols/${sections['.symtab'].index}/${main.index}`);
     await go_by_field('there is no such name');
     await until(`!document.getElementById('none').hidden`);
+    // Digits without 0x are decimal or hexadecimal. The page says how it reads them, and has a link to the other reading.
+    const readings = ['offset 0x64, read as decimal', 'offset 0x100, read as hexadecimal'];
+    for (const [text, [taken, other]] of [['100', readings], ['0000000000000100', [...readings].reverse()]]) {
+        await go_by_field(text);
+        await until(`document.getElementById('said').textContent === ${quoted(`${taken}, or ${other}`)}`);
+        await until_chosen(taken.split(',')[0]);
+        await evaluate(`document.querySelector('#said a').click()`);
+        await until_chosen(other.split(',')[0]);
+    }
+    await go_by_field(main.value.toString(16).padStart(16, '0'));
+    await until(`document.querySelector('#chosen h2').textContent.endsWith('0x${main.value.toString(16)}')`);
+    await until(`/^\\w+ 0x${main.value.toString(16)}, read as hexadecimal/.test(document.getElementById('said').textContent)`);
+    // (a name that could be a number is a name)
+    await pick_written('named', elf_file({ sections: [{ name: 'a1', type: 1, bytes: Buffer.alloc(256) }] }));
+    await go_by_field('a1');
+    await until_chosen('a1');
+    await go_by_field('a2');
+    await until_chosen('offset 0xa2');
 }
 
 async function check_search() {
@@ -473,7 +547,11 @@ async function saved(name) {
         const now = readdirSync(browser.downloads), file = now.find(is_done);
         if (file && !now.some((other) => /\.(crdownload|part)$/.test(other))) {
             const content = readFileSync(join(browser.downloads, file), 'utf8');
-            if (content) { assert.match(file, new RegExp(`\\.${name}(\\(\\d+\\))?( \\(\\d+\\))?\\.csv$`)); return content; }
+            if (content) {
+                assert.match(file, new RegExp(`\\.${name}(\\(\\d+\\))?( \\(\\d+\\))?\\.csv$`));
+                rmSync(join(browser.downloads, file)); // (else another of its name would replace it)
+                return content;
+            }
         }
         await new Promise((resume) => setTimeout(resume, 20));
     }
@@ -539,6 +617,38 @@ async function check_formula() {
     await open_tab('symbols');
     const lines = (await saved('symbols')).trim().split('\r\n');
     assert.ok(lines[2].startsWith("1,'=1+1,0x0,") && lines[3].startsWith('2,"a,""b""",0x0,'), lines.join('\n'));
+    // (numbers that the page shows as words and signs are saved as numbers)
+    const content = elf_file({ segments: [{ flags: 5, bytes: Buffer.alloc(4096) }],
+        sections: [{ name: '.rela', type: 4, entsize: 24, bytes: rela({ type: 2, addend: (1n << 64n) - 16n }) }] });
+    await pick_written('numbers', content);
+    const saved_cells = async (name) => {
+        await open_tab(name);
+        return (await saved(name)).trim().split('\r\n').slice(1).map((line) => line.split(','));
+    };
+    assert.equal((await saved_cells('relocations'))[0][4], '-0x10');
+    assert.equal((await saved_cells('segments'))[0][2], '0x5');
+    const parts = (await saved_cells('layout')).map(([, from, to, size, share]) => [Number(to) - Number(from), Number(size), share]);
+    assert.ok(parts.length > 4);
+    assert.deepEqual(parts, parts.map(([size]) => [size, size, (100 * size / content.length).toFixed(2)]));
+}
+
+// Of a refused table nothing can be saved, and by no way another table is.
+async function check_refused_tables() {
+    const bytes = Buffer.alloc(72), tables = { symbols: { type: 2, entsize: 24, bytes }, relocations: { type: 4, entsize: 24, bytes } };
+    for (const [name, table] of Object.entries(tables)) {
+        const content = elf_file({ sections: [{ name: '.read', ...table }, { name: '.refused', ...table }, { name: '.data', type: 1, bytes }] });
+        content.writeBigUInt64LE(1n << 40n, Number(content.readBigUInt64LE(0x28)) + 2 * 64 + 0x20);
+        for (const opened of [[2], [1, 2], [1, 3]]) {
+            await pick_written(`refused-${name}`, content);
+            for (const index of opened) {
+                await evaluate(`void (location.hash = '${name}/${index}')`);
+                await until(`document.querySelector('#panel output')?.textContent === '${{ 1: 3, 2: 'refused', 3: 'none' }[index]}'`);
+                assert.equal(await evaluate(`document.querySelector('#panel .saving').offsetParent !== null`), index === 1);
+                const lines = (await saved(name)).trim().split('\r\n');
+                assert.equal(lines.length, index === 1 ? 4 : 1, `${name} of section ${index}: ${lines}`);
+            }
+        }
+    }
 }
 
 // ---- layout ----
@@ -608,7 +718,20 @@ async function check_widths() {
     await browser.resize(1400, 1600);
 }
 
-// Returns the colours at the start of a row of the map, and their contrast.
+// What is narrower than a pixel is drawn as a pixel: a file of 60,000 sections, and one whose other parts are large.
+async function check_narrow() {
+    const bytes = Buffer.alloc(8), count = 60000, pixels = async (kind) => (await row_of(kind, 12)).filter((is_it) => is_it).length;
+    await pick_written('many', elf_file({ sections: Array.from({ length: count }, () => ({ name: '', type: 1, flags: 2, bytes })) }));
+    const each = Number(/each row has ([\d,]+) bytes/.exec(await text_of('#readout'))[1].replaceAll(',', ''));
+    const wide = await evaluate(`document.getElementById('canvas').width`) - 30 - 7 * 8 - 10, wanted = wide * count * 8 / each;
+    const many = await pixels('constants');
+    assert.ok(each > count * 8 && wanted > 500 && Math.abs(many - wanted) < 4, `${many} pixels, not ${wanted}`);
+    await pick_written('large', elf_file({ sections: [{ name: '.text', type: 1, flags: 6, bytes: Buffer.alloc(1 << 22) }] }));
+    assert.equal(await pixels('header'), 1);
+    assert.ok(await pixels('code') > 500);
+}
+
+// Returns the map, and functions that return the bytes of a colour, and of one of the page's by its name.
 const PIXELS = `(() => {
     const canvas = document.getElementById('canvas'), pen = canvas.getContext('2d');
     const probe = (colour) => {
@@ -618,8 +741,14 @@ const PIXELS = `(() => {
         return [...one.getImageData(0, 0, 1, 1).data].slice(0, 3);
     };
     const style = (name) => probe(getComputedStyle(document.documentElement).getPropertyValue('--' + name));
-    return { pen, canvas, style };
+    return { pen, canvas, probe, style };
 })()`;
+
+// Returns of a row of pixels which have the colour of a kind.
+const row_of = (kind, y) => evaluate(`(() => {
+    const { pen, canvas, style } = ${PIXELS}, wanted = style('${kind}').join(), { data } = pen.getImageData(0, ${y}, canvas.width, 1);
+    return Array.from({ length: canvas.width }, (_, i) => data.slice(4 * i, 4 * i + 3).join() === wanted);
+})()`);
 
 async function check_map() {
     const path = files.at(-1), [segment] = [...run('readelf', '-W', '-l', path).matchAll(/^ {2}LOAD +(\S+) \S+ \S+ (\S+) \S+ R E/gm)];
@@ -627,6 +756,7 @@ async function check_map() {
     await pick(path);
     const each = Number(/each row has ([\d,]+) bytes/.exec(await text_of('#readout'))[1].replaceAll(',', ''));
     await check_gap();
+    await check_colours();
     // A segment is outlined in each of its rows.
     const index = [...run('readelf', '-W', '-l', path).matchAll(/^ {2}[A-Z_]+ +(0x\S+)/gm)].findIndex(([, offset]) => Number(offset) === start);
     await go(`segments/${index}`, `segment ${index}, LOAD`);
@@ -661,11 +791,33 @@ async function check_gap() {
         for (let at = 0; at < data.length; at += 4) if (data[at + 3] === 255 && data.slice(at, at + 3).join() === wanted) count++;
         return { edge, ground: style('raised'), count };
     })()`);
-    const light = (colour) => colour.map((part) => part / 255).map((part) => (part <= 0.04045 ? part / 12.92 : ((part + 0.055) / 1.055) ** 2.4))
-        .reduce((all, part, i) => all + part * [0.2126, 0.7152, 0.0722][i], 0.05);
-    const [more, less] = [light(edge), light(ground)].sort((a, b) => b - a);
     assert.ok(count > 100, `${count} points of gaps`);
-    assert.ok(more / less >= 3, `${more / less} to 1`);
+    assert.ok(contrast(edge, ground) >= 3, `${contrast(edge, ground)} to 1`);
+}
+
+// Returns the contrast of two colours: how many times as light the lighter one is, as the WCAG count it.
+function contrast(...colours) {
+    const [more, less] = colours.map((colour) => colour.map((part) => part / 255)
+        .map((part) => (part <= 0.04045 ? part / 12.92 : ((part + 0.055) / 1.055) ** 2.4))
+        .reduce((all, part, i) => all + part * [0.2126, 0.7152, 0.0722][i], 0.05)).sort((a, b) => b - a);
+    return more / less;
+}
+
+// Edges of what can be used, and names on the map, have a contrast of at least 3 to 1. Kinds whose hues are alike to an eye without green
+// differ in lightness.
+async function check_colours() {
+    const edges = ['#goto', '.bar .button', '#out', '#canvas', '#legend i', '#panel input', '#panel .saving button'];
+    const kinds = ['header', 'tables', 'code', 'data', 'constants', 'names', 'relocations', 'notes', 'other'];
+    const [edge, ground, kind, on] = await evaluate(`(() => {
+        const { probe, style } = ${PIXELS}, edge = (selector) => probe(getComputedStyle(document.querySelector(selector)).borderTopColor);
+        return [${quoted(edges)}.map(edge), ['paper', 'raised'].map(style), ${quoted(kinds)}.map(style), ['paper', 'on-kind'].map(style)];
+    })()`);
+    edge.forEach((colour, i) => ground.forEach((other) => assert.ok(contrast(colour, other) >= 3, `${edges[i]}: ${contrast(colour, other)}`)));
+    kind.forEach((colour, i) => assert.ok(contrast(colour, on[Number(i > 0)]) >= 3, `${kinds[i]}: ${contrast(colour, on[Number(i > 0)])}`));
+    for (const pair of [['code', 'names'], ['data', 'relocations']]) {
+        const between = contrast(...pair.map((name) => kind[kinds.indexOf(name)]));
+        assert.ok(between >= 1.4, `${pair.join(' and ')}: ${between}`);
+    }
 }
 
 async function check_themes() {
@@ -674,6 +826,7 @@ async function check_themes() {
         await until(`matchMedia('(prefers-color-scheme: ${theme})').matches`);
         await pick(files.at(-1));
         await check_gap();
+        await check_colours();
     }
 }
 
@@ -764,11 +917,13 @@ const checks = {
         await check_refusal(Buffer.concat([Buffer.from('MZ'), content.subarray(2)]), 'the file header', 'This is not an ELF file', '4d 5a 4c 46');
         await check_refusal(Buffer.from('text\n'), 'the file header', 'This is not an ELF file', '74 65 78 74 0a');
     },
-    trouble: () => check_trouble(content), unknown: () => check_unknown(content), segments: check_segments, labels: check_labels,
-    loading: () => check_loading(content), symbol_links: check_symbol_links, early_link: check_early_link, section_links: check_section_links,
-    history: check_history, relocation_links: check_relocation_links, goto: check_goto, search: check_search, relocation_names: check_relocation_names,
-    section_indices: check_section_indices, copies: check_copies, words: check_words, cells: check_cells, widths: check_widths,
-    map: check_map, themes: check_themes, names: check_names, keys: check_keys, requests: check_requests, unsupported: check_unsupported,
+    trouble: () => check_trouble(content), unknown: () => check_unknown(content), segments: check_segments, padding: check_padding,
+    cut: check_cut, labels: check_labels, loading: () => check_loading(content), symbol_links: check_symbol_links,
+    early_link: check_early_link, section_links: check_section_links, history: check_history, relocation_links: check_relocation_links,
+    goto: check_goto, search: check_search, relocation_names: check_relocation_names, section_indices: check_section_indices,
+    copies: check_copies, refused_tables: check_refused_tables, words: check_words, cells: check_cells, widths: check_widths,
+    map: check_map, narrow: check_narrow, themes: check_themes, names: check_names, keys: check_keys, requests: check_requests,
+    unsupported: check_unsupported,
 };
 
 // Reports whether the browser has 64-bit memories, which the library needs.

@@ -16,6 +16,9 @@ export function make(name, given = {}, ...content) {
     return element;
 }
 
+/** Returns elements with commas between them, which a copied text has, too. */
+export const joined = (parts) => parts.flatMap((part, i) => (i ? [', ', part] : [part]));
+
 export const button = (text, onclick, given = {}) => make('button', { type: 'button', onclick, ...given }, text);
 
 // Characters that are invisible or change how others look: control and format characters, separators, lone surrogates (which stand for
@@ -48,12 +51,12 @@ export function put_text(element, text) {
 }
 
 let said;
-/** Shows a message in the corner of the page for a while. */
-export function say(text) {
+/** Shows a message in the corner of the page for a while: texts and links, with which it stays longer. */
+export function say(...content) {
     const box = get('said');
-    box.textContent = text;
+    box.replaceChildren(...content);
     clearTimeout(said);
-    said = setTimeout(() => { box.textContent = ''; }, 4000);
+    said = setTimeout(() => { box.textContent = ''; }, content.length > 1 ? 12000 : 4000);
 }
 
 /** Copies a text, and shows a message. */

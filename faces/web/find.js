@@ -1,4 +1,4 @@
-// Finds what a text means: an offset, an address, or names. Each result is { title, detail, to }.
+// Finds what a text means: an offset, an address, or names. Each result is { title, detail, to }, and of digits without 0x also { read }.
 import { file, name_of_section, sections, SYMBOL_TYPES, read_or } from './file.js';
 import { address_details, header_fields, is_address, offset_details } from './details.js';
 import { go_over, open_source } from './lists.js';
@@ -8,19 +8,22 @@ import { hex } from './text.js';
 
 const MOST = 40;
 
-// Returns the number in a text of hexadecimal or decimal digits, or nothing.
-function number_of(text) {
-    if (!/^(0x[0-9a-f]{1,16}|\d{1,19})$/i.test(text)) return undefined;
-    return BigInt(text);
+// Returns the numbers that a text may mean, with the reading of each if it has no 0x: first as decimal, unless it starts with a zero, as nm
+// prints addresses. Letters alone are a name.
+function numbers_in(text) {
+    if (/^(0x[0-9a-f]{1,16}|0*\d)$/i.test(text)) return [{ value: BigInt(text) }];
+    const decimal = /^\d{1,19}$/.test(text) ? [{ value: BigInt(text), read: 'read as decimal' }] : [];
+    const is_hex = /^(?=.*\d)[0-9a-f]{1,16}$/i.test(text), hexadecimal = is_hex ? [{ value: BigInt(`0x${text}`), read: 'read as hexadecimal' }] : [];
+    return text.startsWith('0') ? [...hexadecimal, ...decimal] : [...decimal, ...hexadecimal];
 }
 
-function places_of_number(value) {
+function places_of_number({ value, read }) {
     const found = [];
     if (value < BigInt(file.content.length)) {
-        found.push({ title: `offset ${hex(value)}`, detail: offset_details(Number(value)).what, to: `offset/${hex(value)}` });
+        found.push({ title: `offset ${hex(value)}`, detail: offset_details(Number(value)).what, to: `offset/${hex(value)}`, read });
     }
     if (is_address(value)) {
-        found.push({ title: `address ${hex(value)}`, detail: address_details(value).what, to: `address/${hex(value)}` });
+        found.push({ title: `address ${hex(value)}`, detail: address_details(value).what, to: `address/${hex(value)}`, read });
     }
     // (an offset in a gap is hardly ever meant)
     return found.length === 2 && offset_details(Number(value)).what === 'in a gap' ? found.reverse() : found;
@@ -39,8 +42,6 @@ class Found {
         const rank = this.ranks[at > 0 ? 2 : name.length === this.#wanted.length ? 0 : 1];
         if (rank.length < MOST) rank.push({ title: name, ...place() });
     }
-
-    get places() { return this.ranks.flat().slice(0, MOST); }
 }
 
 function add_small(found) {
@@ -56,8 +57,7 @@ function add_small(found) {
 
 /** Returns the results for a text, the best first, or nothing if it is no longer wanted. */
 export async function find(text, is_wanted) {
-    const value = number_of(text), found = new Found(text);
-    const numbers = value === undefined ? [] : places_of_number(value);
+    const numbers = numbers_in(text).flatMap(places_of_number), found = new Found(text);
     add_small(found);
     for (const { index: table, section } of sections()) {
         if (!SYMBOL_TYPES.includes(section.sh_type)) continue;
@@ -68,5 +68,7 @@ export async function find(text, is_wanted) {
             found.add(name(item, index), () => ({ detail: `symbol ${index} of ${of}`, to: `symbols/${table}/${index}` })));
         if (!is_done) return undefined;
     }
-    return [...numbers, ...found.places].slice(0, MOST);
+    // (a whole name is meant before a number with letters)
+    const [whole, ...others] = found.ranks, first = /^[^x]*[a-f]/i.test(text) ? [whole, numbers] : [numbers, whole];
+    return [...first, ...others].flat().slice(0, MOST);
 }

@@ -1,7 +1,8 @@
 // The field for an offset, an address or a name. The results are below it, the best first.
-import { get, make, put_text } from './dom.js';
+import { get, make, put_text, say } from './dom.js';
 import { ask } from './reader.js';
 import { go } from './route.js';
+import { link_to } from './side.js';
 
 let found = [], active = 0, asked = '';
 
@@ -10,9 +11,9 @@ function show(places) {
     active = 0;
     get('found').hidden = places.length === 0;
     get('goto').setAttribute('aria-expanded', places.length > 0);
-    get('found').replaceChildren(...places.map(({ title, detail, to }, i) => make('li', {
-        role: 'option', id: `found-${i}`, onpointerdown: (event) => { event.preventDefault(); take(to); },
-    }, put_text(make('b'), title), put_text(make('span'), detail))));
+    get('found').replaceChildren(...places.map((place, i) => make('li', {
+        role: 'option', id: `found-${i}`, onpointerdown: (event) => { event.preventDefault(); take(place); },
+    }, put_text(make('b'), place.title), put_text(make('span'), place.read ? `${place.read}: ${place.detail}` : place.detail))));
     mark();
 }
 
@@ -22,10 +23,13 @@ function mark() {
     get('goto').setAttribute('aria-activedescendant', found.length ? `found-${active}` : '');
 }
 
-function take(to) {
+// Goes to a result. If its digits can be read in two ways, says which one is taken, with a link to the other.
+function take({ title, to, read }) {
+    const other = read && found.find((place) => place.read && place.read !== read);
     close();
     get('goto').blur();
     go(to);
+    if (read) say(`${title}, ${read}`, ...(other ? [', or ', link_to({ text: `${other.title}, ${other.read}`, to: other.to })] : []));
 }
 
 function close() {
@@ -50,7 +54,7 @@ async function look() {
 async function key(event) {
     if (event.key === 'Escape') { close(); return; }
     if (event.key === 'Enter') {
-        if (await look() && found[active]) take(found[active].to);
+        if (await look() && found[active]) take(found[active]);
         return;
     }
     const step = { ArrowDown: 1, ArrowUp: -1 }[event.key];

@@ -171,6 +171,12 @@ export class Grid {
         this.draw();
     }
 
+    /** Makes no row the active one. */
+    leave() {
+        this.active = -1;
+        this.draw();
+    }
+
     choose(at, is_step = false) {
         this.activate(at);
         if (this.length > 0) this.chosen(this.active, is_step);

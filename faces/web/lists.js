@@ -1,5 +1,5 @@
-// The lists of the page. Each is a source: its items, the cells of its columns, the values that columns without text are sorted by, and
-// whether an item holds an offset or address.
+// The lists of the page. Each is a source: its items, the cells of its columns, what a saved list has in their place, the values that columns
+// without text are sorted by, and whether an item holds an offset or address.
 import * as goblin from './goblin.js';
 import {
     called, file, name_of_section, part, refusal, RELOCATION_TYPES, section_at, section_refusal, SYMBOL_TYPES, read_or,
@@ -55,7 +55,8 @@ const sources = {
     segments: () => ({
         list: file.elf.program_headers(),
         columns: [
-            text(({ p_type }) => labels.segment_type(p_type)), text(({ p_flags }) => labels.segment_flags(p_flags)),
+            text(({ p_type }) => labels.segment_type(p_type)),
+            { text: ({ p_flags }) => labels.segment_flags(p_flags), plain: ({ p_flags }) => hex(p_flags) },
             number('p_offset'), number('p_filesz'), number('p_vaddr'), number('p_memsz'), number('p_paddr'), number('p_align'),
         ],
         mark: (item) => is_refused(() => file.elf.segment_range(item)),
@@ -81,7 +82,8 @@ const sources = {
             columns: [
                 number('r_offset'), { text: ({ r_type }) => labels.relocation_type(r_type), number: ({ r_type }) => r_type },
                 text((item) => symbol_of_relocation(section.sh_link, item)),
-                { text: addend, number: ({ r_addend = 0n }) => r_addend + half }, number('r_sym', String),
+                { text: addend, plain: (item) => addend(item).replace('−', '-'), number: ({ r_addend = 0n }) => r_addend + half },
+                number('r_sym', String),
             ],
             holds: ({ r_offset }, value) => r_offset === value,
         };
@@ -104,13 +106,14 @@ const sources = {
     layout() {
         const { starts, tops, depths } = parts();
         const size = (at) => starts[at + 1] - starts[at];
-        const share = (at) => `${(100 * size(at) / file.content.length).toFixed(2)} %`;
+        const share = (at) => (100 * size(at) / file.content.length).toFixed(2);
         return {
             list: { length: tops.length, get: (at) => at, *from(at = 0) { for (; at < tops.length; at++) yield at; } },
             columns: [
                 { text: (at) => hex(starts[at]), number: (at) => starts[at] },
                 { text: (at) => hex(starts[at + 1]), number: (at) => starts[at + 1] },
-                { text: (at) => count(size(at)), number: size }, { text: share, number: size },
+                { text: (at) => count(size(at)), plain: (at) => `${size(at)}`, number: size },
+                { text: (at) => `${share(at)} %`, plain: share, number: size },
                 text((at) => (tops[at] ? titled(tops[at]).title : 'gap')),
                 { text: (at) => (depths[at] > 1 ? `${depths[at]} pieces overlap` : ''), number: (at) => depths[at] },
             ],
@@ -138,6 +141,9 @@ export function open_source(list, of) {
 
 /** Returns the cells of an item. The first is its index. */
 export const cells_of = ({ columns }, item, index) => [`${index}`, ...columns.map((column) => column.text(item, index))];
+/** Returns the cells of an item in a saved list, where numbers are plain. */
+export const plain_cells_of = ({ columns }, item, index) =>
+    [`${index}`, ...columns.map((column) => (column.plain ?? column.text)(item, index))];
 
 // ---- views: the items that a search finds, in their order ----
 

@@ -25,14 +25,16 @@ function show_legend() {
         const name = kind < 0 ? 'gap' : map.KINDS[kind];
         sums.set(name, (sums.get(name) ?? 0) + map.starts[i + 1] - map.starts[i]);
     });
-    const overlapped = map.depths.reduce((all, depth, i) => (depth > 1 ? all + map.starts[i + 1] - map.starts[i] : all), 0);
+    const sum = (is_wanted) => map.kinds.reduce((all, _, i) => (is_wanted(i) ? all + map.starts[i + 1] - map.starts[i] : all), 0);
+    const [overlapped, cut] = [sum((i) => map.depths[i] > 1), sum((i) => map.cuts[i])];
     const part = (size) => `${(100 * size / map.size).toFixed(size > 0 && size / map.size < 0.001 ? 2 : 1)} %`;
     const items = [...map.KINDS, 'gap'].filter((name) => sums.has(name)).map((name) => {
         const dot = make('i', { class: name === 'gap' && 'hollow' });
         if (name !== 'gap') dot.style.background = colour(name);
         return make('li', {}, dot, `${words_of(name)} ${part(sums.get(name))}`);
     });
-    if (overlapped) items.push(make('li', {}, `overlapping ${part(overlapped)}`));
+    if (overlapped) items.push(make('li', {}, `hatched: overlapping ${part(overlapped)}`));
+    if (cut) items.push(make('li', {}, `hatched: cut at the file’s end ${part(cut)}`));
     if (map.segments.length) items.push(make('li', {}, 'line below: loaded'));
     get('legend').replaceChildren(...items);
 }
@@ -94,23 +96,34 @@ function draw_map() {
     if (map.chosen) outline(pen, map.chosen.start, map.chosen.end, colour('ink'), 2);
 }
 
-// Draws the parts, and returns those that are wide enough for a name.
-function draw_parts(pen) {
-    const shades = map.KINDS.map(colour), gap = colour('gap'), hatch = hatching(pen), line = colour('raised');
-    const { start, each } = map.view, end = start + each * map.rows, named = [];
-    let seen = { x: 0, y: -1 }; // (of several parts within half a pixel one is drawn)
+// Calls draw(part, x, width, y) for each piece of a row.
+function over_parts(draw) {
+    const { start, each } = map.view, end = start + each * map.rows;
     for (let part = Math.max(part_at(start), 0); part < map.kinds.length && map.starts[part] < end; part++) {
-        over_rows(map.starts[part], map.starts[part + 1], (x, width, y) => {
-            if (y === seen.y && x + width < seen.x + 0.5) return;
-            seen = { x, y };
-            if (map.kinds[part] < 0) { draw_gap(pen, gap, x, width, y); return; }
-            pen.fillStyle = shades[map.kinds[part]];
-            pen.fillRect(x, y, width, BAND);
-            if (map.depths[part] > 1) { pen.fillStyle = hatch; pen.fillRect(x, y, width, BAND); }
-            if (width > 3) { pen.fillStyle = line; pen.fillRect(x + width - 0.75, y, 0.75, BAND); }
-            if (width > 34) named.push({ part, x, width, y });
-        });
+        over_rows(map.starts[part], map.starts[part + 1], (x, width, y) => draw(part, x, width, y));
     }
+}
+
+// Draws the parts, and returns those that are wide enough for a name. Those narrower than a pixel are drawn over the others, as a pixel.
+function draw_parts(pen) {
+    const shades = map.KINDS.map(colour), gap = colour('gap'), hatch = hatching(pen), line = colour('raised'), named = [];
+    over_parts((part, x, width, y) => {
+        if (width < 1) return;
+        if (map.kinds[part] < 0) { draw_gap(pen, gap, x, width, y); return; }
+        pen.fillStyle = shades[map.kinds[part]];
+        pen.fillRect(x, y, width, BAND);
+        if (map.depths[part] > 1 || map.cuts[part]) { pen.fillStyle = hatch; pen.fillRect(x, y, width, BAND); }
+        if (width > 3) { pen.fillStyle = line; pen.fillRect(x + width - 0.75, y, 0.75, BAND); }
+        if (width > 34) named.push({ part, x, width, y });
+    });
+    let seen = {}; // (of several that meet in a pixel the first one is drawn)
+    over_parts((part, x, width, y) => {
+        const pixel = Math.floor(x);
+        if (width >= 1 || map.kinds[part] < 0 || (y === seen.y && pixel === seen.pixel)) return;
+        seen = { pixel, y };
+        pen.fillStyle = shades[map.kinds[part]];
+        pen.fillRect(pixel, y, 1, BAND);
+    });
     return named;
 }
 
@@ -154,7 +167,7 @@ function hatching(pen) {
 function draw_segments(pen) {
     for (const [from, to, flags] of map.segments) {
         pen.fillStyle = colour(flags & 1 ? 'code' : flags & 2 ? 'data' : 'constants');
-        over_rows(from, Math.min(to, map.size), (x, width, y) => pen.fillRect(x, y + BAND + 1.5, width, 2));
+        over_rows(from, Math.min(to, map.size), (x, width, y) => pen.fillRect(x, y + BAND + 1.5, Math.max(width, 1), 2));
     }
 }
 

@@ -88,7 +88,7 @@ const LINUX = new Map([
     [0x46e62b7f, 'PRXFPREG'],
 ]);
 const NOTES = {
-    CORE, LINUX, stapsdt: row('@3 STAPSDT'), Go: row('@1 GO_PKGLIST GO_ABIHASH GO_DEPS GO_BUILDID'),
+    CORE, LINUX, GDB: new Map([[0xff000000, 'GDB_TDESC']]), stapsdt: row('@3 STAPSDT'), Go: row('@1 GO_PKGLIST GO_ABIHASH GO_DEPS GO_BUILDID'),
     FDO: new Map([[0x407c0c0a, 'FDO_DLOPEN_METADATA'], [0xcafe1a7e, 'FDO_PACKAGING_METADATA']]),
     FreeBSD: row('@1 FREEBSD_ABI_TAG FREEBSD_NOINIT_TAG FREEBSD_ARCH_TAG FREEBSD_FEATURE_CTL'), NetBSD: row('@1 NETBSD_IDENT'),
     OpenBSD: row('@1 OPENBSD_IDENT'),

@@ -2,7 +2,7 @@
 import * as goblin from './goblin.js';
 import { called, ET_CORE, file, is_wide, refusal, sections, segments, read_or } from './file.js';
 import { note_type } from './labels.js';
-import { hex } from './text.js';
+import { hex, name_of, NAME } from './text.js';
 
 const MOST_NOTES = 100000, MOST_REFUSALS = 20, NHDR = 12;
 
@@ -10,15 +10,26 @@ function* holders(by) {
     if (by === 'sections') {
         for (const { index, section } of sections()) {
             if (section.sh_type !== goblin.SHT_NOTE) continue;
-            yield { index, title: called(index, section), start: section.sh_offset, notes: (most) => file.elf.readable_notes(section, most) };
+            yield { index, title: called(index, section), start: section.sh_offset, notes: (most) => file.elf.readable_notes_bytes(section, most) };
         }
     } else {
         for (const { index, segment } of segments()) {
             if (segment.p_type !== goblin.PT_NOTE) continue;
-            yield { index, title: `segment ${index}`, start: segment.p_offset, notes: (most) => file.elf.readable_segment_notes(segment, most) };
+            const notes = (most) => file.elf.readable_segment_notes_bytes(segment, most);
+            yield { index, title: `segment ${index}`, start: segment.p_offset, notes };
         }
     }
 }
+
+// Returns a note with its name as text, without the zero byte that ends it. The name may be of any bytes and any size.
+function named({ n_type, name_range, desc_range, next }) {
+    const [offset, size] = [Number(name_range.offset), Number(name_range.size)], { content } = file;
+    const end = offset + (size > 0 && content[offset + size - 1] === 0 ? size - 1 : size);
+    return { n_type, name_range, desc_range, next, name: name_of(content.subarray(offset, Math.min(end, offset + NAME + 1))) };
+}
+
+// The parts of a note that are refused.
+const PARTS = { [goblin.Item.NOTE_HEADER]: 'header', [goblin.Item.NOTE_NAME]: 'name', [goblin.Item.NOTE_DESC]: 'descriptor' };
 
 const found = {};
 /** Returns the notes of each section or segment up to the first refused one, at most a number: each with its type's name and offset. */
@@ -29,13 +40,14 @@ export function notes_of(by) {
     for (const holder of holders(by)) {
         const left = MOST_NOTES - items.length, { notes, refusal: error } = holder.notes(left + 1);
         for (const note of notes.slice(0, left)) {
-            items.push({ holder, note, start: Number(note.name_range.offset) - NHDR, end: Number(note.next) });
+            items.push({ holder, note: named(note), start: Number(note.name_range.offset) - NHDR, end: Number(note.next) });
         }
         is_cut = notes.length > left;
         if (error) {
             const next = Number(notes.at(-1)?.next ?? holder.start);
             const marks = next < file.content.length ? [{ at: next, size: Math.min(NHDR, file.content.length - next) }] : [];
-            refusals.push(refusal(error, `the note at ${hex(next)}, of ${holder.title}`, marks));
+            const part = PARTS[error.item] ? `the ${PARTS[error.item]} of ` : '';
+            refusals.push(refusal(error, `${part}the note at ${hex(next)}, of ${holder.title}`, marks));
         }
         if (is_cut || refusals.length > MOST_REFUSALS) break;
     }
@@ -44,7 +56,7 @@ export function notes_of(by) {
 }
 
 // Adds to each note of a core file its thread. A note of type PRSTATUS has the thread's number, after the signal's number and two sets of
-// signals. The notes up to the next PRSTATUS are of the same thread.
+// signals. The notes of Linux and GDB up to the next PRSTATUS are of the same thread, but for those of the process.
 function name_threads(items) {
     if (file.elf.header.e_type !== ET_CORE) return;
     let thread;
@@ -53,10 +65,11 @@ function name_threads(items) {
         if (note.name === 'CORE' && type === 'PRSTATUS') {
             thread = read_or(undefined, () => file.elf.number(note.desc_range.offset + (is_wide() ? 32n : 24n), 4));
         }
-        if (!OF_PROCESS.has(type)) item.thread = thread;
+        if (OWNERS.has(note.name) && !OF_PROCESS.has(type)) item.thread = thread;
     }
 }
-const OF_PROCESS = new Set(['PRPSINFO', 'AUXV', 'FILE', 'SIGINFO', 'PLATFORM', 'UTSNAME']);
+const OWNERS = new Set(['CORE', 'LINUX', 'GDB']);
+const OF_PROCESS = new Set(['PRPSINFO', 'AUXV', 'FILE', 'SIGINFO', 'PLATFORM', 'UTSNAME', 'GDB_TDESC', 'X86_XSAVE_LAYOUT', 'VMCOREDD']);
 
 /** Returns the title of a note. */
 export function title_of({ note, thread }) {

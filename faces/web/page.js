@@ -42,8 +42,8 @@ const first_tab = () => (shown_file.summary.sections.refused || shown_file.summa
 // Returns what is shown of an item of a tab.
 async function item_of({ name, of, field, index }) {
     if (name === 'header') return choose_field(field);
-    if (index === undefined) return undefined;
     await activate(index);
+    if (index === undefined) return undefined;
     return ask('item', { list: name, index, of });
 }
 
@@ -64,14 +64,14 @@ async function show_place(place) {
     if (mine !== shown_places) return;
     // (in a narrow window the side is visible while something is chosen, else the list)
     document.body.classList.toggle('chosen', Boolean(details));
-    if (details) await show_details(details);
+    const [block] = details?.blocks ?? [];
+    mark_range(block?.at === undefined ? undefined : block, details?.title);
+    await show_side(details ?? unchosen());
 }
 
-async function show_details(details) {
-    const [block] = details.blocks ?? [];
-    mark_range(block?.at === undefined ? undefined : block, details.title);
-    await show_side(details);
-}
+// Returns what the side shows while nothing is chosen.
+const unchosen = () => ({ title: 'ELF header', kind: 'header', what: 'at the start of the file',
+    blocks: [{ word: 'bytes', at: 0, size: shown_file.summary.header_size }] });
 
 // ---- files ----
 
@@ -174,8 +174,6 @@ async function show_file(file, reader, summary) {
     show_map(summary.map, file.size);
     show_tabs();
     get('panel').replaceChildren();
-    const blocks = [{ word: 'bytes', at: 0, size: summary.header_size }];
-    await show_side({ title: 'ELF header', kind: 'header', what: 'at the start of the file', blocks });
     await show_place(current_place());
 }
 

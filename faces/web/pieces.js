@@ -23,49 +23,49 @@ export function kind_of_segment({ p_type, p_flags }) {
 
 export const title_of_segment = (index, { p_type }) => `segment ${index}, ${segment_type(p_type)}`;
 
-// Collects pieces inside the file. Each is cut at the end of the file.
+// Collects pieces inside the file. Each is cut at the end of the file, and those that are cut are collected apart.
 function collector() {
-    const found = [];
+    const found = [], cut = [];
     const add = (start, size, given) => {
-        const end = Math.min(start + size, file.content.length);
-        if (end > start) found.push({ ...given, start, end });
+        const whole_end = start + size, end = Math.min(whole_end, file.content.length), is_cut = end < whole_end;
+        if (end > start) (is_cut ? cut : found).push({ ...given, start, end, whole_end, is_cut });
     };
-    return { found, add };
+    return { found, cut, add };
 }
 
-// Returns the pieces that are drawn first: header, program headers, section headers, and the bytes of sections. Those that end past the end
-// of the file are refused, and not drawn.
+// Returns the pieces that are drawn first: header, program headers, section headers, and the bytes of sections. And those of them that end
+// past the end of the file, which the library refuses.
 function pieces_of_sections() {
-    const { found, add } = collector();
-    const { e_phoff, e_phnum, e_shoff } = file.elf.header;
+    const { found, cut, add } = collector();
+    const { e_phoff, e_phnum, e_shoff, e_shnum } = file.elf.header;
     add(0, size_of('header'), { title: 'ELF header', kind: 'header', to: 'header' });
     if (e_phnum) add(Number(e_phoff), e_phnum * size_of('segment'), { title: 'Program headers', kind: 'tables', to: 'segments' });
-    const length = read_or(0, () => file.elf.section_headers().length);
+    const length = read_or(e_shnum, () => file.elf.section_headers().length);
     if (length) add(Number(e_shoff), length * size_of('section'), { title: 'Section headers', kind: 'tables', to: 'sections' });
     for (const { index, section } of sections()) {
-        const range = read_or(undefined, () => file.elf.section_range(section));
+        const range = read_or({ offset: section.sh_offset, size: section.sh_size }, () => file.elf.section_range(section));
         if (range) add(Number(range.offset), Number(range.size), { section: index, kind: kind_of(section), to: `sections/${index}` });
     }
-    return found;
+    return { found, cut };
 }
 
-// Returns the pieces that are drawn elsewhere: segments, and their notes above them.
+// Returns the pieces that are drawn elsewhere: segments, those that end past the end of the file too, and their notes above them. In a file
+// with sections, what a loaded segment has outside of them is mostly padding, and neither code nor data.
 function pieces_of_segments() {
-    const { found, add } = collector();
+    const { found, cut, add } = collector(), has_sections = [...sections()].some(({ section }) => section.sh_type !== goblin.SHT_NULL);
     for (const { index, segment } of segments()) {
-        const range = read_or(undefined, () => file.elf.segment_range(segment));
-        const title = title_of_segment(index, segment);
-        if (range) add(Number(range.offset), Number(range.size), { title, kind: kind_of_segment(segment), to: `segments/${index}` });
+        const { p_type, p_offset, p_filesz } = segment, kind = has_sections && p_type === goblin.PT_LOAD ? 'other' : kind_of_segment(segment);
+        add(Number(p_offset), Number(p_filesz), { title: title_of_segment(index, segment), kind, to: `segments/${index}` });
     }
-    notes_of('segments').items.forEach((item, index) =>
-        add(item.start, item.end - item.start, { title: title_of(item), kind: 'notes', to: `notes/segments/${index}` }));
-    return found;
+    notes_of('segments').items.forEach((item, index) => add(item.start, Math.min(item.end, file.content.length) - item.start,
+        { title: title_of(item), kind: 'notes', to: `notes/segments/${index}` }));
+    return [...found, ...cut];
 }
 
 // A heap of pieces. The one with the last start is on top, and of those with the same start the shortest.
 class Heap {
     items = [];
-    before(a, b) { return a.start > b.start || (a.start === b.start && a.end < b.end); }
+    before(a, b) { return a.start > b.start || (a.start === b.start && a.whole_end < b.whole_end); }
     swap(a, b) { [this.items[a], this.items[b]] = [this.items[b], this.items[a]]; }
     push(item) {
         let at = this.items.push(item) - 1;
@@ -117,7 +117,7 @@ let known;
  */
 export function parts() {
     if (known) return known;
-    const first = pieces_of_sections(), second = pieces_of_segments(), size = file.content.length;
+    const { found: first, cut } = pieces_of_sections(), second = [...cut, ...pieces_of_segments()], size = file.content.length;
     const ends = new Set([0, size, ...ends_of(first)]);
     const cuts = [...new Set([...ends, ...ends_of(second)])].sort((a, b) => a - b);
     const over = new Cover(first), under = new Cover(second), starts = [], tops = [], depths = [];
@@ -135,7 +135,8 @@ export function parts() {
 }
 
 /** Returns a piece with its title. */
-export const titled = ({ section, title, ...piece }) => ({ ...piece, title: title ?? called(section, section_at(section)) });
+export const titled = ({ section, title = called(section, section_at(section)), ...piece }) =>
+    ({ ...piece, title: piece.is_cut ? `${title} (cut)` : title });
 
 // How many pieces of a part are named at most.
 const MOST_NAMED = 8;

@@ -1,5 +1,5 @@
 // The side: what is chosen, with its fields, links and bytes.
-import { button, get, hex, make, plural, put_text, visible } from './dom.js';
+import { button, get, hex, joined, make, plural, put_text, visible } from './dom.js';
 import { copy_hex, hex_view, refusal_of } from './hex.js';
 import { colour } from './map.js';
 import { ask } from './reader.js';
@@ -11,11 +11,8 @@ export const link_to = ({ text, to }) => put_text(make('a', { href: `#${to}` }),
 
 /** Returns the cell of a field: its value, its meaning and its links. */
 export function value_of({ value, meaning, links }) {
-    const cell = make('td');
-    if (value) cell.append(put_text(make('span'), value));
-    if (meaning) cell.append(put_text(make('span', { class: 'meaning' }), meaning));
-    cell.append(...links.map(link_to));
-    return cell;
+    const said = meaning && put_text(make('span', { class: 'meaning' }), meaning);
+    return make('td', {}, ...joined([value && put_text(make('span'), value), said, ...links.map(link_to)].filter((part) => part)));
 }
 
 async function content_of({ at, size, refused }) {

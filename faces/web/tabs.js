@@ -1,5 +1,5 @@
 // The tabs: the header's fields, and the lists with their searches.
-import { button, copy, get, hex, make, number, plural, say, visible } from './dom.js';
+import { button, copy, get, hex, joined, make, number, plural, say, visible } from './dom.js';
 import { Grid } from './grid.js';
 import { refusal_of } from './hex.js';
 import { ask, shown_file } from './reader.js';
@@ -83,7 +83,7 @@ export function show_tabs() {
     get('tabs').replaceChildren(...list.map(([name, title, count]) => make('button', {
         type: 'button', role: 'tab', id: `tab-${name}`, 'aria-controls': 'panel', 'aria-selected': 'false', tabindex: '-1',
         onclick: () => go(name),
-    }, title, make('span', { class: count === 'refused' ? 'bad' : '' }, count))));
+    }, `${title} `, make('span', { class: count === 'refused' ? 'bad' : '' }, count))));
 }
 
 export function set_up_tabs() {
@@ -208,6 +208,7 @@ async function refresh(mine) {
     const is_shown = !view.refused && !view.is_none;
     grid.box.hidden = !is_shown;
     output.textContent = view.refused ? 'refused' : view.is_none ? 'none' : count_of(view, query);
+    mine.saving.hidden = !is_shown || view.length === 0;
     grid.show(is_shown ? view.length : 0);
 }
 
@@ -224,7 +225,7 @@ async function notices_of({ name, of }, { refused, is_none }) {
 function others_of(name) {
     const { others = [] } = shown_file.summary[name] ?? {};
     if (!others.length) return [];
-    return [make('p', { class: 'others' }, 'Not listed are the packed relocations (SHT_RELR) of ', ...others.map(link_to))];
+    return [make('p', { class: 'others' }, 'Not listed are the packed relocations (SHT_RELR) of ', ...joined(others.map(link_to)))];
 }
 
 const MOST_REFUSALS = 3;
@@ -238,7 +239,9 @@ const place_of = ({ name, of }, index) => (of === undefined ? `${name}/${index}`
 
 async function go_to_row(mine, at, is_step) {
     const index = await ask('index', { list: mine.name, at });
-    if (open === mine) go(place_of(mine, index), is_step);
+    if (open !== mine) return;
+    mine.own = index; // (the list has already moved to that row, and perhaps on since)
+    go(place_of(mine, index), is_step);
 }
 
 // Goes to a row, and to what is shown of it.
@@ -249,10 +252,14 @@ async function open_row(mine, at) {
     get('chosen').querySelector('h2')?.focus();
 }
 
-/** Makes the item with an index the active row of the open list. If the search hides it, the search ends. */
+/** Makes the item with an index the active row of the open list, or none. If the search hides it, the search ends. */
 export async function activate(index) {
     const mine = open, { name, grid } = mine;
     if (!grid || grid.box.hidden) return;
+    const is_own = mine.own === index;
+    mine.own = undefined;
+    if (index === undefined) grid.leave();
+    if (index === undefined || is_own) return;
     let at = await ask('position', { list: name, index });
     if (at < 0) {
         Object.assign(mine, { query: '', column: 0, is_descending: false });
@@ -277,9 +284,10 @@ function tools(mine) {
     }
     const hidden = (shown_file.summary[name]?.all ?? 0) - (shown_file.summary[name]?.found?.length ?? 0);
     if (hidden > 0) bar.append(make('span', {}, `and ${number(hidden)} more: choose them among the sections`));
-    bar.append(mine.search = search_field(mine), output, make('span', { class: 'saving' },
+    mine.saving = make('span', { class: 'saving' },
         button('Copy cell', () => copy_active(grid, ({ [grid.column]: cell }) => cell, 'the cell')),
-        button('Copy row', () => copy_active(grid, (cells) => cells.join('\t'), 'the row')), button('Save CSV', () => save(mine))));
+        button('Copy row', () => copy_active(grid, (cells) => cells.join('\t'), 'the row')), button('Save CSV', () => save(mine)));
+    bar.append(mine.search = search_field(mine), output, mine.saving);
     return bar;
 }
 

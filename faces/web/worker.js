@@ -8,7 +8,7 @@ import {
 } from './file.js';
 import { find } from './find.js';
 import * as labels from './labels.js';
-import { arranged, cells_of, go_over, open_source } from './lists.js';
+import { arranged, cells_of, go_over, open_source, plain_cells_of } from './lists.js';
 import { notes_of } from './notes.js';
 import { KINDS, parts, titled } from './pieces.js';
 import { symtab_at } from './resolve.js';
@@ -60,7 +60,8 @@ function map() {
         if (p_type === 1 && loaded.length < MOST_LOADED) loaded.push([Number(p_offset), Number(p_offset + p_filesz), p_flags & 7]);
     }
     const kinds = Int8Array.from(tops, (top) => (top ? KINDS.indexOf(top.kind) : -1));
-    return { starts: Float64Array.from(starts), kinds, depths: Uint32Array.from(depths), segments: loaded, KINDS };
+    const cuts = Uint8Array.from(tops, (top) => Number(top?.is_cut ?? false));
+    return { starts: Float64Array.from(starts), kinds, depths: Uint32Array.from(depths), cuts, segments: loaded, KINDS };
 }
 
 // Returns the number of characters of the longest number of some kinds.
@@ -107,8 +108,8 @@ function begin(name) {
     return () => runs[name] === run;
 }
 
-const CSV_QUOTED = /[",\r\n]/, CSV_FORMULA = /^[=+\-@\t\r]/;
-// (a spreadsheet would run a text that starts like a formula)
+const CSV_QUOTED = /[",\r\n]/, CSV_FORMULA = /^([=+@\t\r]|-(?!0x[0-9a-f]+$))/;
+// (a spreadsheet would run a text that starts like a formula, which a negative number is not)
 function csv_cell(text) {
     const safe = CSV_FORMULA.test(text) ? `'${text}` : text;
     return CSV_QUOTED.test(safe) ? `"${safe.replaceAll('"', '""')}"` : safe;
@@ -139,8 +140,10 @@ const calls = {
     async view({ list, of, query = '', column = 0, is_descending = false }) {
         const is_wanted = begin(list), before = views[list];
         const source = before && before.of === of ? before.source : open_source(list, of);
-        if (!source) return { is_none: true };
-        if (source.refused) return source;
+        if (!source || source.refused) {
+            views[list] = { source, of, order: [], length: 0 }; // (so nothing of the list before is saved)
+            return source ?? { is_none: true };
+        }
         const order = await arranged(source, { query, column, is_descending, list }, is_wanted);
         if (!is_wanted()) return { is_over: true };
         views[list] = { source, of, order, length: order ? order.length : source.list.length };
@@ -171,9 +174,9 @@ const calls = {
     async csv({ list, titles }) {
         const { source, order } = views[list], lines = [csv_line(titles)];
         if (order) {
-            for (const index of order) lines.push(csv_line(cells_of(source, source.list.get(index), index)));
+            for (const index of order) lines.push(csv_line(plain_cells_of(source, source.list.get(index), index)));
         } else {
-            await go_over(source, 'csv', () => true, (item, index) => { lines.push(csv_line(cells_of(source, item, index))); });
+            await go_over(source, 'csv', () => true, (item, index) => { lines.push(csv_line(plain_cells_of(source, item, index))); });
         }
         return new Blob(lines, { type: 'text/csv' });
     },
