@@ -24,8 +24,9 @@ try:
 show:
 	@sh checks/show.sh show
 
-# All that shows that the code is proved and works; `gate` tries every edit too, and leaves those of must-fail/ to the toolchain's own
-# gate, which takes longer. At the end stands what each part took. (ROOM is a folder of the run's own, which took.py makes.)
+# All that shows that the code is proved and works; `gate` tries every edit too, and leaves those of must-fail/, but not their controls,
+# to the toolchain's own gate, which takes longer. At the end stands what each part took. (ROOM is a folder of the run's own, which
+# took.py makes.)
 test:
 	$(has_rt)
 	@python3 checks/took.py whole $(MAKE) --no-print-directory -j1 tested left
@@ -36,14 +37,15 @@ gate:
 
 # First what takes seconds. Then side by side, so that two processors have work up to the end: every proof that the toolchain
 # hasn't cached on this machine, with the tests and the stored runs, and after it the program's words, real files, and what hostile
-# files may take; the must-fail edits of each crate that is proved, at a low priority, since the longest proof waits for the crates;
-# the library for C, which is made in a copy over the libraries that are proved, and then called from C, Rust and JavaScript; and
-# allocations that fail.
+# files may take; the must-fail edits of each crate that is proved, and their controls, at a low priority, since the longest proof waits
+# for the crates; the library for C, which the toolchain proves and makes in a copy, and which is then called from C, Rust and
+# JavaScript; and allocations that fail.
 tested:
 	sh checks/quotes.sh
 	sh checks/lint.sh
 	python3 checks/edits --fits
-	@$(MAKE) --no-print-directory -j5 words files limits called $(if $(WHOLE),,must-fail) refused unit
+	sh checks/views.sh
+	@$(MAKE) --no-print-directory -j5 words files limits called must-fail refused unit
 
 # Every edit, and the test of the script that tries them.
 tried:
@@ -68,12 +70,11 @@ limits: proved
 
 called:
 	@mkdir "$(ROOM)/copy"; git ls-files | tr '\n' '\0' | xargs -0 cp --parents -t "$(ROOM)/copy"
-	@python3 checks/taken.py "$(ROOM)/proved" "$(ROOM)/copy" goblin_c
 	@cd "$(ROOM)/copy" && sh checks/faces.sh
 
 must-fail:
 	@mkdir "$(ROOM)/edited"; git ls-files | tr '\n' '\0' | xargs -0 cp --parents -t "$(ROOM)/edited"
-	$(part) must-fail nice -n 3 python3 checks/must_fail.py "$(ROOM)/proved" "$(ROOM)/edited"
+	$(part) must-fail nice -n 3 python3 checks/must_fail.py "$(ROOM)/proved" "$(ROOM)/edited" $(if $(WHOLE),controls)
 
 refused:
 	$(part) refused sh checks/refused.sh

@@ -1,9 +1,11 @@
 #!/bin/sh
-# Checks that pages and comments have no private words, that no line of a definition or a proof is over 120 columns, that docs/MAP.md
-# names the files of its changes, and, if shellcheck is installed, that it reports nothing for the shell scripts. Run from the
-# repository's root.
+# Checks that pages and comments have no private words, that laws pin the constants that promises cite, that what pages name exists, that
+# no line of a definition or a proof is over 120 columns, that docs/MAP.md names the files of its changes, and, if shellcheck is
+# installed, that it reports nothing for the shell scripts. Run from the repository's root.
 set -eu
 python3 checks/private_words.py
+python3 checks/pinned.py
+python3 checks/page_names.py
 python3 - << 'END'
 import subprocess
 import sys

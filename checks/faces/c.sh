@@ -87,6 +87,18 @@ check_constants() {
     echo "constants with the same name have the same number in goblin.h and elf.h"
 }
 
+# Fails unless cost.c makes each call of goblin.h that is passed a file, so that each has a limit on its time.
+check_cost() {
+    awk '/^\/\* ---- the calls of the library ----/ { exit }
+        /^(GOBLIN_CALL )?(uint(32|64)_t|void) goblin_[a-z_]*\(const uint8_t \*bytes/ { sub(/\(.*/, ""); print $NF }' faces/c/goblin.h > "$folder/calls"
+    [ -s "$folder/calls" ] || fail "goblin.h has no calls that are passed a file"
+    while read -r call; do
+        grep -qF "$call(bytes, len" faces/c/cost.c || fail "$call is passed a file and cost.c does not call it: give it a row there"
+    done < "$folder/calls"
+    quietly "$folder/cost"
+    echo "c: $(wc -l < "$folder/output") lists and repeated calls, among them the $(wc -l < "$folder/calls") that are passed a file, take less than their limit (cost.c)"
+}
+
 check_bench() {
     if echo '#include <gelf.h>' | cc -E - > "$folder/output" 2>&1; then
         quietly strictly cc -std=c99 -Ifaces/c -o "$folder/bench" faces/c/bench.c -L"$folder" -lgoblin_c -lelf
@@ -169,8 +181,7 @@ check_constants
 for program in nm size symbolize values made search cost needed strings flag truncated; do build $program -std=c99; done
 quietly "$folder/search"
 echo "c: $(wc -l < "$folder/output") searches among long names take less than their limit (search.c)"
-quietly "$folder/cost"
-echo "c: $(wc -l < "$folder/output") lists of many items take less than their limit (cost.c)"
+check_cost
 check_bench
 check_programs
 check_damaged

@@ -29,9 +29,10 @@ build() {
     quietly strictly cc "$@" -I"$folder" -o "$folder/$program" "faces/c/$program.c" -L"$folder" -lgoblin_c
 }
 
-# Makes the library for a target in a folder, as it is installed. What checks have not proved yet is proved first.
+# Makes the library for a target in a folder, as it is installed. What checks have not proved yet is proved first, at a low priority, since
+# the longest proof of a gate waits for the processors.
 make_library() {
-    LIBRARY='' CPU='' LIBDIR='' TARGET=$1 sh faces/install.sh "$2/installed"
+    LIBRARY='' CPU='' LIBDIR='' TARGET=$1 nice -n 3 sh faces/install.sh "$2/installed"
     mv "$2/installed/lib/libgoblin_c.a" "$2/"
 }
 
