@@ -4,7 +4,7 @@ use Rattle.std.proofs.Common.{arith}
 use Rattle.std.proofs.lemmas.Bool.{cases_lt}
 use Rattle.std.proofs.lemmas.Grind.{same_number_lists}
 use Rattle.goblin_records.specs.declared.sym.Sym.{Sym}
-use Rattle.goblin.specs.AddressIndex.{IndexIsUnique, IsAddressIndex, StandsBefore, size_of, value_of}
+use Rattle.goblin.specs.AddressIndex.{IndexIsUnique, IsAddressIndex, StandsBefore, value_of}
 
 -- no entry stands before itself, and of two entries only one stands before the other
 not_both : (symbols : List Sym) (x y : ℕ) → StandsBefore symbols x y → StandsBefore symbols y x → ⊥

@@ -8,7 +8,6 @@ use Rattle.std.specs.Int.{div_ceil, next_multiple_of}
 use Rattle.goblin_base.specs.declared.container.Ctx.{Ctx}
 use Rattle.goblin_base.specs.declared.container.Endian.{Endian}
 use Rattle.goblin_base.specs.declared.scroll.Error.{Error as Misplaced}
-use Rattle.goblin_base.specs.FieldLaws.{values_at-append}
 use Rattle.goblin_base.specs.Record.{read_within, unless_fault}
 use Rattle.goblin_base.specs.RecordLaws.{fits-room_of}
 use Rattle.goblin_base.specs.Refusal.{Refusal, refusal_of, misplaced, bad_offset}
@@ -16,7 +15,8 @@ use Rattle.goblin_base.specs.Room.{room_of}
 use Rattle.goblin_base.specs.Steps.{◌>>=◌, refuse_as, refuse_if}
 use Rattle.goblin_base.specs.Utf8.{text_or_fault}
 use Rattle.goblin_records.specs.declared.note.Nhdr32.{Nhdr32}
-use Rattle.goblin_records.specs.Nhdr.{nhdr32_of, nhdr32_of_values, nhdr32_size, nhdr32_widths}
+use Rattle.goblin_records.specs.Nhdr.{nhdr32_of, nhdr32_size}
+use Rattle.goblin_records.specs.NhdrLaws.{nhdr32_laws}
 use Rattle.goblin.specs.declared.elf.note.NotePlaces.{NotePlaces}
 use Rattle.goblin.specs.Note.{NoteParts, note_align, bytes_at, text_at, places_of, read_places, places_at, note_at}
 use Rattle.goblin.specs.Note.{item_and_rest, items_within, note_items, whole_places, whole_places_of}
@@ -126,7 +126,7 @@ room_of-fits len offset size fits = grind (arith, nat_tests)
 header_first : (order : Endian) (bytes : List ℕ) (size : ℕ)
     → nhdr32_size ≤ length (take size bytes) → nhdr32_of order (take size bytes) ≡ nhdr32_of order bytes
 header_first order bytes size room =
-    sym (ap nhdr32_of_values (values_at-append order (take size bytes) (drop size bytes) 0 nhdr32_widths room))
+    sym ((nhdr32_laws order).reads_front (take size bytes) (drop size bytes) room)
     ∙ ap (nhdr32_of order) (take-append-drop size bytes)
 
 -- the whole note of some bytes that hold its parts

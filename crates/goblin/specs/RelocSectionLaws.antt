@@ -7,7 +7,7 @@ use Rattle.std.proofs.Math.Seq.{take-add}
 use Rattle.std.proofs.lemmas.Bool.{cases_lt}
 use Rattle.std.proofs.lemmas.Bool.Decides.{nat_tests}
 use Rattle.std.proofs.lemmas.List.{get_or-drop, length-drop, length-take-le, take-append-drop, take-take}
-use Rattle.goblin_base.specs.Layout.{IsRecord}
+use Rattle.goblin_base.specs.Layout.{IsRecord, Layout}
 use Rattle.goblin_base.specs.Number.{IsBytes}
 use Rattle.goblin_base.specs.Record.{unless_fault}
 use Rattle.goblin_base.specs.RecordLaws.{unless_fault-is, fits-room_of}
@@ -28,14 +28,16 @@ IsBytes-drop : (k : ℕ) (bytes : List ℕ) → IsBytes bytes → IsBytes (drop 
 IsBytes-drop k bytes are i = rw (get_or-drop k bytes i 0) (are (k + i))
 
 -- records that were read one after another are written as the bytes that they were read from
-flat_map-records :
-    {R : Type 0} {size : ℕ} {read : List ℕ → R} {image : R → List ℕ} {low : R → R} {Fits : R → Type 0}
-    → IsRecord size read image low Fits → (n : ℕ) (bytes : List ℕ) → IsBytes bytes → n * size ≤ length bytes
-    → flat_map image (records size read n bytes) ≡ take (n * size) bytes
-flat_map-records {size = size} {read = read} {image = image} laws zero bytes are room =
-    let none : zero * size ≡ 0 = omega arith in
-    rw (no_records size read zero bytes refl, none) refl
-flat_map-records {size = size} {read = read} {image = image} laws (suc n) bytes are room =
+flat_map-records : {R : Type 0} {l : Layout R}
+    → IsRecord l → (n : ℕ) (bytes : List ℕ) → IsBytes bytes → n * l.size ≤ length bytes
+    → flat_map l.image (records l.size l.read n bytes) ≡ take (n * l.size) bytes
+flat_map-records {l = l} laws zero bytes are room =
+    let none : zero * l.size ≡ 0 = omega arith in
+    rw (no_records l.size l.read zero bytes refl, none) refl
+flat_map-records {l = l} laws (suc n) bytes are room =
+    let size = l.size in
+    let read = l.read in
+    let image = l.image in
     let less : suc n - 1 ≡ n = omega arith in
     let whole : suc n * size ≡ size + n * size = omega arith in
     let long : n * size ≤ length (drop size bytes) = omega (arith, length-drop size bytes) in

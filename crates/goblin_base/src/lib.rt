@@ -10,6 +10,7 @@ pub mod digits;
 pub mod entries;
 pub mod error;
 pub mod find;
+pub mod laid_out;
 mod marks;
 pub mod number;
 pub mod options;

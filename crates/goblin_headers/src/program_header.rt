@@ -4,23 +4,18 @@ ghost use Rattle.std.specs.Int.Bits.{bit_or};
 ghost use Rattle.std.specs.Prelude.{◌≡◌, ◌≤◌, ◌↔◌, IsTrue, IfErr, IsOk, find, length, replicate, [], ◌∷◌};
 ghost use Rattle.goblin_base.specs.Fields.{values_of};
 ghost use Rattle.goblin_base.specs.Layout.{IsOneImage, IsSameInEachClass};
-ghost use Rattle.goblin_base.specs.LayoutLaws.{obeys};
-ghost use Rattle.goblin_base.specs.Record.{read_within, Writes};
 ghost use Rattle.goblin_base.specs.Refusal.{Answers, Gives, Refuses};
-ghost use Rattle.goblin_base.specs.Steps.{with_size};
 ghost use Rattle.goblin_base.specs.declared.container.Container.{Container};
 ghost use Rattle.goblin_base.specs.declared.container.Endian.{Endian};
 ghost use Rattle.goblin_headers.specs.Constants.{segment_flag_numbers, segment_type_numbers};
-ghost use Rattle.goblin_headers.specs.ProgramHeader.{as64, program_header_size, program_header_of, program_header_image, program_header_low, ProgramHeaderFits, program_header64_fields};
+ghost use Rattle.goblin_headers.specs.ProgramHeader.{as64, program_header64, program_header_layout, program_header_size};
 ghost use Rattle.goblin_headers.specs.ProgramHeaders.{loaded_from, loads, new_program_header, program_header_alone, program_headers_from, program_headers_tested, program_headers_whole};
 ghost use Rattle.goblin_headers.specs.Ranges.{span};
 
 pub use crate::{program_header32, program_header64};
 use goblin_base::container::{Container, Ctx, Endian};
 use goblin_base::error::Result;
-use goblin_base::record::Record;
-use goblin_base::room::room;
-use goblin_base::scroll::{SizeWith, TryFromCtx, TryIntoCtx};
+use goblin_base::laid_out::LaidOut;
 use goblin_base::table::{Table, read_all, read_alone, whole_records};
 use std::alloc::{AllocError, Global};
 use std::ops::Range;
@@ -52,7 +47,7 @@ impl ProgramHeader {
     pub fn size(ctx: Ctx) -> usize
         ensures { result ≡ program_header_size ctx.container }
     {
-        ProgramHeader::size_with(&ctx)
+        ProgramHeader::size_in(ctx)
     }
 
     /// Returns a header of a loadable segment, aligned to 2 MiB, with all other fields 0.
@@ -225,95 +220,64 @@ impl ProgramHeader {
             None => None,
         }
     }
-
-    // Reads the program header at the start of the bytes.
-    #[inline(always)]
-    fn at(bytes: &[u8], class: Container, order: Endian) -> ProgramHeader
-        requires { program_header_size class ≤ length bytes.now }
-        ensures { result ≡ program_header_of class order bytes.now }
-    {
-        match class {
-            Container::Little => program_header32::ProgramHeader::at(bytes, order).into(),
-            Container::Big => program_header64::ProgramHeader::at(bytes, order).into(),
-        }
-    }
 }
 
-impl SizeWith<Ctx> for ProgramHeader {
-    ghost size_of = { λ ctx. program_header_size ctx.container };
+impl LaidOut<Ctx> for ProgramHeader {
+    ghost use Rattle.goblin_headers.specs.ProgramHeaderLaws.{program_header_laws};
 
-    fn size_with(ctx: &Ctx) -> usize {
+    ghost layout = { λ ctx. program_header_layout ctx.container ctx.le };
+
+    fn size_in(ctx: Ctx) -> usize {
         match ctx.container {
             Container::Little => program_header32::SIZEOF_PHDR,
             Container::Big => program_header64::SIZEOF_PHDR,
         }
     }
-}
 
-/// Fails with the fault of `room` if the bytes don't hold the record.
-impl<'a> TryFromCtx<'a, Ctx> for ProgramHeader {
-    ghost try_from_gives = { λ bytes ctx answer.
-        let size = program_header_size ctx.container in
-        answer ≡ with_size size (read_within size (program_header_of ctx.container ctx.le) bytes) };
-
-    fn try_from_ctx(bytes: &'a [u8], ctx: Ctx) -> Result<(Self, usize)> {
-        let header = ProgramHeader::read_record(bytes, ctx)?;
-        Ok((header, ProgramHeader::size(ctx)))
-    }
-}
-
-/// Fails with the fault of `room` if the buffer doesn't hold the record, and then writes no byte.
-impl TryIntoCtx<Ctx> for ProgramHeader {
-    ghost try_into_gives = { λ header ctx old answer new.
-        let image = program_header_image ctx.container ctx.le header in
-        Writes (program_header_size ctx.container) image old answer new };
-
-    fn try_into_ctx(self, bytes: &mut [u8], ctx: Ctx) -> Result<usize> {
-        match ctx.container {
-            Container::Little => {
-                program_header32::ProgramHeader::from(self).try_into_ctx(bytes, ctx.le)
-            }
-            Container::Big => {
-                program_header64::ProgramHeader::from(self).try_into_ctx(bytes, ctx.le)
-            }
-        }
-    }
-}
-
-impl Record<Ctx> for ProgramHeader {
-    ghost use Rattle.goblin_headers.specs.ProgramHeaderLaws.{program_header_laws};
-
-    ghost read = { λ ctx. program_header_of ctx.container ctx.le };
-
-    ghost image = { λ ctx. program_header_image ctx.container ctx.le };
-
-    ghost fits = { λ ctx. ProgramHeaderFits ctx.container };
-
-    #[tactic(auto, using(goblin_base::specs::RecordLaws::record_answers))]
     #[inline]
-    fn read_record(bytes: &[u8], ctx: Ctx) -> Result<Self> {
-        room(bytes.len(), 0, ProgramHeader::size(ctx))?;
+    fn get(bytes: &[u8], ctx: Ctx) -> ProgramHeader {
         // (asked here, the byte order isn't asked at each field)
-        match ctx.le {
-            Endian::Little => Ok(ProgramHeader::at(bytes, ctx.container, Endian::Little)),
-            Endian::Big => Ok(ProgramHeader::at(bytes, ctx.container, Endian::Big)),
+        match (ctx.container, ctx.le) {
+            (Container::Little, Endian::Little) => program_header32::ProgramHeader::get(
+                bytes,
+                Endian::Little,
+            ).into(),
+            (Container::Little, Endian::Big) => program_header32::ProgramHeader::get(
+                bytes,
+                Endian::Big,
+            ).into(),
+            (Container::Big, Endian::Little) => program_header64::ProgramHeader::get(
+                bytes,
+                Endian::Little,
+            ).into(),
+            (Container::Big, Endian::Big) => program_header64::ProgramHeader::get(
+                bytes,
+                Endian::Big,
+            ).into(),
         }
     }
 
-    ghost laws = { λ ctx. obeys (program_header_laws ctx.container ctx.le) };
+    fn put(self, bytes: &mut [u8], ctx: Ctx) {
+        match ctx.container {
+            Container::Little => program_header32::ProgramHeader::from(self).put(bytes, ctx.le),
+            Container::Big => program_header64::ProgramHeader::from(self).put(bytes, ctx.le),
+        }
+    }
+
+    ghost layout_laws = { λ ctx. program_header_laws ctx.container ctx.le };
 }
 
 /// Laws of program headers: the image is the only list of bytes that is read as the header, and a
 /// list of headers that fit both classes is read back the same in each class and byte order.
 pub fn laws()
     ensures image { (class : Container) (order : Endian) →
-        IsOneImage (program_header_size class) (program_header_of class order) (program_header_image class order) (program_header_low class) }
-    ensures same { IsSameInEachClass program_header_size program_header_of program_header_image ProgramHeaderFits }
+        IsOneImage (program_header_layout class order) }
+    ensures same { IsSameInEachClass program_header_layout }
 {}
 
 /// A law: every field of the default program header is 0. A call returns that program header.
 pub fn default_is_zeros() -> ProgramHeader
-    ensures { values_of (program_header64_fields (as64 result)) ≡ replicate 8 0 }
+    ensures { values_of (program_header64.fields (as64 result)) ≡ replicate 8 0 }
 {
     ProgramHeader::default()
 }

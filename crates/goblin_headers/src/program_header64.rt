@@ -2,23 +2,19 @@
 ghost use Rattle.std.specs.Prelude.{◌≡◌, ◌≤◌, ◌*◌, ◌↔◌, IsTrue, length, IfErr, IfOk, IsOk, alloc_error, replicate, [], ◌∷◌};
 ghost use Rattle.goblin_base.specs.Eager.{records_in, room_of_each};
 ghost use Rattle.goblin_base.specs.Fields.{values_of};
-ghost use Rattle.goblin_base.specs.Layout.{IsOneImage};
-ghost use Rattle.goblin_base.specs.LayoutLaws.{obeys};
-ghost use Rattle.goblin_base.specs.Record.{read_within, Writes};
+ghost use Rattle.goblin_base.specs.Layout.{IsOneImage, shaped};
 ghost use Rattle.goblin_base.specs.Refusal.{Gives};
-ghost use Rattle.goblin_base.specs.Steps.{with_size};
 ghost use Rattle.goblin_base.specs.Table.{records};
 ghost use Rattle.goblin_base.specs.declared.container.Endian.{Endian};
 ghost use Rattle.goblin_headers.specs.Constants.{segment_flag_numbers, segment_type_numbers};
-ghost use Rattle.goblin_headers.specs.ProgramHeader.{program_header64_fields, program_header64_of, program_header64_image, program_header64_size, program_header64_low};
+ghost use Rattle.goblin_headers.specs.ProgramHeader.{program_header64};
 
 use crate::program_header::ProgramHeader as ElfProgramHeader;
 use goblin_base::container::Endian;
 use goblin_base::error::{Error, Result};
+use goblin_base::laid_out::LaidOut;
 use goblin_base::number::{get_u32, get_u64, put_u32, put_u64};
-use goblin_base::record::Record;
-use goblin_base::room::room;
-use goblin_base::scroll::{LE, SizeWith, TryFromCtx, TryIntoCtx};
+use goblin_base::scroll::LE;
 use goblin_base::table::{Table, read_in_range};
 use std::alloc::{AllocError, Global};
 use std::result;
@@ -65,7 +61,7 @@ impl ProgramHeader {
         order: Endian,
     ) -> Result<Vec<ProgramHeader>>
         ensures given { let expected =
-            records_in SIZEOF_PHDR (program_header64_of order) bytes.now offset count in
+            records_in SIZEOF_PHDR ((shaped program_header64 order).read) bytes.now offset count in
             Gives (λ v. v.items) result expected }
         ensures range { IfErr (room_of_each (length bytes.now) offset SIZEOF_PHDR count)
             (λ e. result ≡ Err (Error.Scroll e)) }
@@ -84,28 +80,11 @@ impl ProgramHeader {
     pub fn from_bytes(alloc: Global, bytes: &[u8], n: usize) -> Result<Vec<ProgramHeader>>
         requires { n * SIZEOF_PHDR ≤ length bytes.now }
         ensures ok { IfOk result (λ v.
-            v.items ≡ records SIZEOF_PHDR (program_header64_of endian.Little) n bytes.now) }
+            v.items ≡ records SIZEOF_PHDR ((shaped program_header64 endian.Little).read) n bytes.now) }
         ensures err { IfErr result (λ e. e ≡ Error.Memory alloc_error) }
         ensures none { (n ≡ 0) → IsOk result }
     {
         Table::<ProgramHeader, Endian>::of(bytes, n, LE).to_vec(alloc)
-    }
-
-    // Reads the program header at the start of the bytes.
-    pub(crate) fn at(bytes: &[u8], order: Endian) -> ProgramHeader
-        requires { SIZEOF_PHDR ≤ length bytes.now }
-        ensures { result ≡ program_header64_of order bytes.now }
-    {
-        ProgramHeader {
-            p_type: get_u32(bytes, 0, order),
-            p_flags: get_u32(bytes, 4, order),
-            p_offset: get_u64(bytes, 8, order),
-            p_vaddr: get_u64(bytes, 16, order),
-            p_paddr: get_u64(bytes, 24, order),
-            p_filesz: get_u64(bytes, 32, order),
-            p_memsz: get_u64(bytes, 40, order),
-            p_align: get_u64(bytes, 48, order),
-        }
     }
 }
 
@@ -147,33 +126,29 @@ impl From<ElfProgramHeader> for ProgramHeader {
     }
 }
 
-impl SizeWith<Endian> for ProgramHeader {
-    ghost size_of = { λ _. program_header64_size };
+impl LaidOut<Endian> for ProgramHeader {
+    ghost use Rattle.goblin_headers.specs.ProgramHeaderLaws.{program_header64_laws};
 
-    fn size_with(_order: &Endian) -> usize {
+    ghost layout = { shaped program_header64 };
+
+    fn size_in(_order: Endian) -> usize {
         SIZEOF_PHDR
     }
-}
 
-/// Fails with the fault of `room` if the bytes don't hold the record.
-impl<'a> TryFromCtx<'a, Endian> for ProgramHeader {
-    ghost try_from_gives = { λ bytes order answer.
-        answer ≡ with_size program_header64_size (read_within program_header64_size (program_header64_of order) bytes) };
-
-    fn try_from_ctx(bytes: &'a [u8], order: Endian) -> Result<(Self, usize)> {
-        let header = ProgramHeader::read_record(bytes, order)?;
-        Ok((header, SIZEOF_PHDR))
+    fn get(bytes: &[u8], order: Endian) -> ProgramHeader {
+        ProgramHeader {
+            p_type: get_u32(bytes, 0, order),
+            p_flags: get_u32(bytes, 4, order),
+            p_offset: get_u64(bytes, 8, order),
+            p_vaddr: get_u64(bytes, 16, order),
+            p_paddr: get_u64(bytes, 24, order),
+            p_filesz: get_u64(bytes, 32, order),
+            p_memsz: get_u64(bytes, 40, order),
+            p_align: get_u64(bytes, 48, order),
+        }
     }
-}
 
-/// Fails with the fault of `room` if the buffer doesn't hold the record, and then writes no byte.
-impl TryIntoCtx<Endian> for ProgramHeader {
-    ghost try_into_gives = { λ header order old answer new.
-        Writes program_header64_size (program_header64_image order header) old answer new };
-
-    #[tactic(auto, using(goblin_base::specs::RecordLaws::record_answers))]
-    fn try_into_ctx(self, bytes: &mut [u8], order: Endian) -> Result<usize> {
-        room(bytes.len(), 0, SIZEOF_PHDR)?;
+    fn put(self, bytes: &mut [u8], order: Endian) {
         put_u32(bytes, 0, self.p_type, order);
         put_u32(bytes, 4, self.p_flags, order);
         put_u64(bytes, 8, self.p_offset, order);
@@ -182,38 +157,20 @@ impl TryIntoCtx<Endian> for ProgramHeader {
         put_u64(bytes, 32, self.p_filesz, order);
         put_u64(bytes, 40, self.p_memsz, order);
         put_u64(bytes, 48, self.p_align, order);
-        Ok(SIZEOF_PHDR)
-    }
-}
-
-impl Record<Endian> for ProgramHeader {
-    ghost use Rattle.goblin_headers.specs.ProgramHeader.{ProgramHeader64Fits};
-    ghost use Rattle.goblin_headers.specs.ProgramHeaderLaws.{program_header64_laws};
-
-    ghost read = { program_header64_of };
-
-    ghost image = { program_header64_image };
-
-    ghost fits = { λ _. ProgramHeader64Fits };
-
-    #[tactic(auto, using(goblin_base::specs::RecordLaws::record_answers))]
-    fn read_record(bytes: &[u8], order: Endian) -> Result<Self> {
-        room(bytes.len(), 0, SIZEOF_PHDR)?;
-        Ok(ProgramHeader::at(bytes, order))
     }
 
-    ghost laws = { λ order. obeys (program_header64_laws order) };
+    ghost layout_laws = { program_header64_laws };
 }
 
 /// A law: the image of a program header is the only list of bytes that is read as that header.
 pub fn laws()
     ensures image { (order : Endian) →
-        IsOneImage program_header64_size (program_header64_of order) (program_header64_image order) program_header64_low }
+        IsOneImage (shaped program_header64 order) }
 {}
 
 /// A law: every field of the default program header is 0. A call returns that program header.
 pub fn default_is_zeros() -> ProgramHeader
-    ensures { values_of (program_header64_fields result) ≡ replicate 8 0 }
+    ensures { values_of (program_header64.fields result) ≡ replicate 8 0 }
 {
     ProgramHeader::default()
 }
@@ -231,7 +188,7 @@ pub use crate::constants_program_header::{PF_MASKOS, PF_MASKPROC, PF_R, PF_W, PF
 /// Laws: the numbers of this module's own constants and of those that it re-exports, under the
 /// names that they have here. A call does nothing.
 pub fn constants()
-    ensures size { SIZEOF_PHDR ≡ program_header64_size }
+    ensures size { SIZEOF_PHDR ≡ 56 }
     ensures types { PT_NULL ∷ PT_LOAD ∷ PT_DYNAMIC ∷ PT_INTERP ∷ PT_NOTE ∷ PT_SHLIB ∷ PT_PHDR
         ∷ PT_TLS ∷ PT_NUM ∷ PT_LOOS ∷ PT_HIOS ∷ PT_LOPROC ∷ PT_HIPROC ∷ PT_GNU_EH_FRAME
         ∷ PT_GNU_STACK ∷ PT_GNU_RELRO ∷ PT_GNU_PROPERTY ∷ PT_LOSUNW ∷ PT_SUNWBSS ∷ PT_SUNWSTACK

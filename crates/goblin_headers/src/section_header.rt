@@ -4,25 +4,21 @@ ghost use Rattle.std.specs.Prelude.{◌≡◌, ◌≤◌, ◌<◌, ◌↔◌, �
 ghost use Rattle.std.specs.Option.{option_map};
 ghost use Rattle.goblin_base.specs.Fields.{values_of};
 ghost use Rattle.goblin_base.specs.Layout.{IsOneImage, IsSameInEachClass};
-ghost use Rattle.goblin_base.specs.LayoutLaws.{obeys};
-ghost use Rattle.goblin_base.specs.Record.{read_within, Writes};
 ghost use Rattle.goblin_base.specs.Refusal.{Answers, Gives, Refuses};
-ghost use Rattle.goblin_base.specs.Steps.{with_size};
 ghost use Rattle.goblin_base.specs.Strtab.{has_name, unparsed};
 ghost use Rattle.goblin_base.specs.declared.container.Container.{Container};
 ghost use Rattle.goblin_base.specs.declared.container.Endian.{Endian};
 ghost use Rattle.goblin_headers.specs.Constants.{section_flag_numbers, section_index_numbers, section_type_numbers};
 ghost use Rattle.goblin_headers.specs.Ranges.{span};
-ghost use Rattle.goblin_headers.specs.SectionHeader.{as64, section_header_size, section_header_of, section_header_image, section_header_low, SectionHeaderFits, section_header64_fields};
+ghost use Rattle.goblin_headers.specs.SectionHeader.{as64, section_header64, section_header_image, section_header_layout, section_header_size};
 ghost use Rattle.goblin_headers.specs.SectionHeaders.{new_section_header, count_from, header_count, linked, names_index, section_header_alone, section_headers_from, section_headers_from_tested, section_headers_of, section_headers_of_tested, section_headers_stated, section_headers_whole, size_checked, size_checked_in};
 ghost use Rattle.goblin_headers.specs.SectionNames.{section_flag_names};
 
 pub use crate::{section_header32, section_header64};
 use goblin_base::container::{Container, Ctx, Endian};
 use goblin_base::error::{Error, Fault, Result};
-use goblin_base::record::Record;
-use goblin_base::room::room;
-use goblin_base::scroll::{IntoCtx, SizeWith, TryFromCtx, TryIntoCtx};
+use goblin_base::laid_out::LaidOut;
+use goblin_base::scroll::IntoCtx;
 use goblin_base::strtab::{Strtab, WantedName};
 use goblin_base::table::{Table, read_all, read_alone, read_at, whole_records};
 use std::alloc::{AllocError, Global};
@@ -59,7 +55,7 @@ impl SectionHeader {
     pub fn size(ctx: Ctx) -> usize
         ensures { result ≡ section_header_size ctx.container }
     {
-        SectionHeader::size_with(&ctx)
+        SectionHeader::size_in(ctx)
     }
 
     /// Returns a header of type `SHT_PROGBITS` with the flag `SHF_ALLOC`, aligned to 512 bytes,
@@ -453,68 +449,6 @@ impl SectionHeader {
             count
         }
     }
-
-    // Reads the section header at the start of the bytes.
-    #[inline(always)]
-    fn at(bytes: &[u8], class: Container, order: Endian) -> SectionHeader
-        requires { section_header_size class ≤ length bytes.now }
-        ensures { result ≡ section_header_of class order bytes.now }
-    {
-        match class {
-            Container::Little => section_header32::SectionHeader::at(bytes, order).into(),
-            Container::Big => section_header64::SectionHeader::at(bytes, order).into(),
-        }
-    }
-
-    // Writes the section header at the start of the bytes.
-    fn put(self, bytes: &mut [u8], ctx: Ctx)
-        requires { section_header_size ctx.container ≤ length bytes.old }
-        ensures { let image = section_header_image ctx.container ctx.le self in
-            bytes.new ≡ image ++ drop (section_header_size ctx.container) bytes.old }
-    {
-        match ctx.container {
-            Container::Little => section_header32::SectionHeader::from(self).put(bytes, ctx.le),
-            Container::Big => section_header64::SectionHeader::from(self).put(bytes, ctx.le),
-        }
-    }
-}
-
-impl SizeWith<Ctx> for SectionHeader {
-    ghost size_of = { λ ctx. section_header_size ctx.container };
-
-    fn size_with(ctx: &Ctx) -> usize {
-        match ctx.container {
-            Container::Little => section_header32::SIZEOF_SHDR,
-            Container::Big => section_header64::SIZEOF_SHDR,
-        }
-    }
-}
-
-/// Fails with the fault of `room` if the bytes don't hold the record.
-impl<'a> TryFromCtx<'a, Ctx> for SectionHeader {
-    ghost try_from_gives = { λ bytes ctx answer.
-        let size = section_header_size ctx.container in
-        answer ≡ with_size size (read_within size (section_header_of ctx.container ctx.le) bytes) };
-
-    fn try_from_ctx(bytes: &'a [u8], ctx: Ctx) -> Result<(Self, usize)> {
-        let header = SectionHeader::read_record(bytes, ctx)?;
-        Ok((header, SectionHeader::size(ctx)))
-    }
-}
-
-/// Fails with the fault of `room` if the buffer doesn't hold the record, and then writes no byte.
-impl TryIntoCtx<Ctx> for SectionHeader {
-    ghost try_into_gives = { λ header ctx old answer new.
-        let image = section_header_image ctx.container ctx.le header in
-        Writes (section_header_size ctx.container) image old answer new };
-
-    #[tactic(auto, using(goblin_base::specs::RecordLaws::record_answers))]
-    fn try_into_ctx(self, bytes: &mut [u8], ctx: Ctx) -> Result<usize> {
-        let size = SectionHeader::size(ctx);
-        room(bytes.len(), 0, size)?;
-        self.put(bytes, ctx);
-        Ok(size)
-    }
 }
 
 /// The buffer must hold a section header.
@@ -530,40 +464,62 @@ impl IntoCtx<Ctx> for SectionHeader {
     }
 }
 
-impl Record<Ctx> for SectionHeader {
+impl LaidOut<Ctx> for SectionHeader {
     ghost use Rattle.goblin_headers.specs.SectionHeaderLaws.{section_header_laws};
 
-    ghost read = { λ ctx. section_header_of ctx.container ctx.le };
+    ghost layout = { λ ctx. section_header_layout ctx.container ctx.le };
 
-    ghost image = { λ ctx. section_header_image ctx.container ctx.le };
-
-    ghost fits = { λ ctx. SectionHeaderFits ctx.container };
-
-    #[tactic(auto, using(goblin_base::specs::RecordLaws::record_answers))]
-    #[inline]
-    fn read_record(bytes: &[u8], ctx: Ctx) -> Result<Self> {
-        room(bytes.len(), 0, SectionHeader::size(ctx))?;
-        // (asked here, the byte order isn't asked at each field)
-        match ctx.le {
-            Endian::Little => Ok(SectionHeader::at(bytes, ctx.container, Endian::Little)),
-            Endian::Big => Ok(SectionHeader::at(bytes, ctx.container, Endian::Big)),
+    fn size_in(ctx: Ctx) -> usize {
+        match ctx.container {
+            Container::Little => section_header32::SIZEOF_SHDR,
+            Container::Big => section_header64::SIZEOF_SHDR,
         }
     }
 
-    ghost laws = { λ ctx. obeys (section_header_laws ctx.container ctx.le) };
+    #[inline]
+    fn get(bytes: &[u8], ctx: Ctx) -> SectionHeader {
+        // (asked here, the byte order isn't asked at each field)
+        match (ctx.container, ctx.le) {
+            (Container::Little, Endian::Little) => section_header32::SectionHeader::get(
+                bytes,
+                Endian::Little,
+            ).into(),
+            (Container::Little, Endian::Big) => section_header32::SectionHeader::get(
+                bytes,
+                Endian::Big,
+            ).into(),
+            (Container::Big, Endian::Little) => section_header64::SectionHeader::get(
+                bytes,
+                Endian::Little,
+            ).into(),
+            (Container::Big, Endian::Big) => section_header64::SectionHeader::get(
+                bytes,
+                Endian::Big,
+            ).into(),
+        }
+    }
+
+    fn put(self, bytes: &mut [u8], ctx: Ctx) {
+        match ctx.container {
+            Container::Little => section_header32::SectionHeader::from(self).put(bytes, ctx.le),
+            Container::Big => section_header64::SectionHeader::from(self).put(bytes, ctx.le),
+        }
+    }
+
+    ghost layout_laws = { λ ctx. section_header_laws ctx.container ctx.le };
 }
 
 /// Laws of section headers: the image is the only list of bytes that is read as the header, and a
 /// list of headers that fit both classes is read back the same in each class and byte order.
 pub fn laws()
     ensures image { (class : Container) (order : Endian) →
-        IsOneImage (section_header_size class) (section_header_of class order) (section_header_image class order) (section_header_low class) }
-    ensures same { IsSameInEachClass section_header_size section_header_of section_header_image SectionHeaderFits }
+        IsOneImage (section_header_layout class order) }
+    ensures same { IsSameInEachClass section_header_layout }
 {}
 
 /// A law: every field of the default section header is 0. A call returns that section header.
 pub fn default_is_zeros() -> SectionHeader
-    ensures { values_of (section_header64_fields (as64 result)) ≡ replicate 10 0 }
+    ensures { values_of (section_header64.fields (as64 result)) ≡ replicate 10 0 }
 {
     SectionHeader::default()
 }

@@ -1,23 +1,19 @@
 //! Section headers of the 32-bit class: System V gABI, "Section Header" (`Elf32_Shdr`).
 ghost use Rattle.std.specs.Prelude.{◌≡◌, ◌≤◌, ◌*◌, ◌↔◌, ◌++◌, IsTrue, length, drop, map, IfErr, IfOk, IsOk, alloc_error, replicate, [], ◌∷◌};
 ghost use Rattle.goblin_base.specs.Fields.{values_of};
-ghost use Rattle.goblin_base.specs.Layout.{IsOneImage};
-ghost use Rattle.goblin_base.specs.LayoutLaws.{obeys};
-ghost use Rattle.goblin_base.specs.Record.{read_within, Writes};
-ghost use Rattle.goblin_base.specs.Steps.{with_size};
+ghost use Rattle.goblin_base.specs.Layout.{IsOneImage, low_bits, shaped};
 ghost use Rattle.goblin_base.specs.Table.{records};
 ghost use Rattle.goblin_base.specs.declared.container.Endian.{Endian};
 ghost use Rattle.goblin_headers.specs.Constants.{section_flag_numbers, section_index_numbers, section_type_numbers};
-ghost use Rattle.goblin_headers.specs.SectionHeader.{section_header32_fields, section_header32_of, section_header32_image, section_header32_size, section_header32_low};
+ghost use Rattle.goblin_headers.specs.SectionHeader.{section_header32};
 ghost use Rattle.goblin_headers.specs.SectionNames.{section_flag_names};
 
 use crate::section_header::SectionHeader as ElfSectionHeader;
 use goblin_base::container::Endian;
 use goblin_base::error::{Error, Result};
+use goblin_base::laid_out::LaidOut;
 use goblin_base::number::{get_u32, put_u32};
-use goblin_base::record::Record;
-use goblin_base::room::room;
-use goblin_base::scroll::{LE, SizeWith, TryFromCtx, TryIntoCtx};
+use goblin_base::scroll::LE;
 use goblin_base::table::Table;
 use std::alloc::{AllocError, Global};
 use std::result;
@@ -63,47 +59,11 @@ impl SectionHeader {
     pub fn from_bytes(alloc: Global, bytes: &[u8], n: usize) -> Result<Vec<SectionHeader>>
         requires { n * SIZEOF_SHDR ≤ length bytes.now }
         ensures ok { IfOk result (λ v.
-            v.items ≡ records SIZEOF_SHDR (section_header32_of endian.Little) n bytes.now) }
+            v.items ≡ records SIZEOF_SHDR ((shaped section_header32 endian.Little).read) n bytes.now) }
         ensures err { IfErr result (λ e. e ≡ Error.Memory alloc_error) }
         ensures none { (n ≡ 0) → IsOk result }
     {
         Table::<SectionHeader, Endian>::of(bytes, n, LE).to_vec(alloc)
-    }
-
-    // Reads the section header at the start of the bytes.
-    pub(crate) fn at(bytes: &[u8], order: Endian) -> SectionHeader
-        requires { SIZEOF_SHDR ≤ length bytes.now }
-        ensures { result ≡ section_header32_of order bytes.now }
-    {
-        SectionHeader {
-            sh_name: get_u32(bytes, 0, order),
-            sh_type: get_u32(bytes, 4, order),
-            sh_flags: get_u32(bytes, 8, order),
-            sh_addr: get_u32(bytes, 12, order),
-            sh_offset: get_u32(bytes, 16, order),
-            sh_size: get_u32(bytes, 20, order),
-            sh_link: get_u32(bytes, 24, order),
-            sh_info: get_u32(bytes, 28, order),
-            sh_addralign: get_u32(bytes, 32, order),
-            sh_entsize: get_u32(bytes, 36, order),
-        }
-    }
-
-    // Writes the section header at the start of the bytes.
-    pub(crate) fn put(&self, bytes: &mut [u8], order: Endian)
-        requires { SIZEOF_SHDR ≤ length bytes.old }
-        ensures { bytes.new ≡ section_header32_image order self.now ++ drop SIZEOF_SHDR bytes.old }
-    {
-        put_u32(bytes, 0, self.sh_name, order);
-        put_u32(bytes, 4, self.sh_type, order);
-        put_u32(bytes, 8, self.sh_flags, order);
-        put_u32(bytes, 12, self.sh_addr, order);
-        put_u32(bytes, 16, self.sh_offset, order);
-        put_u32(bytes, 20, self.sh_size, order);
-        put_u32(bytes, 24, self.sh_link, order);
-        put_u32(bytes, 28, self.sh_info, order);
-        put_u32(bytes, 32, self.sh_addralign, order);
-        put_u32(bytes, 36, self.sh_entsize, order);
     }
 }
 
@@ -132,7 +92,7 @@ impl From<SectionHeader> for ElfSectionHeader {
 impl From<ElfSectionHeader> for SectionHeader {
     ghost use Rattle.goblin_headers.specs.SectionHeader.{as32};
 
-    ghost from_gives = { λ header raw. raw ≡ section_header32_low (as32 header) };
+    ghost from_gives = { λ header raw. raw ≡ low_bits section_header32 (as32 header) };
 
     fn from(header: ElfSectionHeader) -> Self {
         SectionHeader {
@@ -150,66 +110,55 @@ impl From<ElfSectionHeader> for SectionHeader {
     }
 }
 
-impl SizeWith<Endian> for SectionHeader {
-    ghost size_of = { λ _. section_header32_size };
-
-    fn size_with(_order: &Endian) -> usize {
-        SIZEOF_SHDR
-    }
-}
-
-/// Fails with the fault of `room` if the bytes don't hold the record.
-impl<'a> TryFromCtx<'a, Endian> for SectionHeader {
-    ghost try_from_gives = { λ bytes order answer.
-        answer ≡ with_size section_header32_size (read_within section_header32_size (section_header32_of order) bytes) };
-
-    fn try_from_ctx(bytes: &'a [u8], order: Endian) -> Result<(Self, usize)> {
-        let header = SectionHeader::read_record(bytes, order)?;
-        Ok((header, SIZEOF_SHDR))
-    }
-}
-
-/// Fails with the fault of `room` if the buffer doesn't hold the record, and then writes no byte.
-impl TryIntoCtx<Endian> for SectionHeader {
-    ghost try_into_gives = { λ header order old answer new.
-        Writes section_header32_size (section_header32_image order header) old answer new };
-
-    #[tactic(auto, using(goblin_base::specs::RecordLaws::record_answers))]
-    fn try_into_ctx(self, bytes: &mut [u8], order: Endian) -> Result<usize> {
-        room(bytes.len(), 0, SIZEOF_SHDR)?;
-        self.put(bytes, order);
-        Ok(SIZEOF_SHDR)
-    }
-}
-
-impl Record<Endian> for SectionHeader {
-    ghost use Rattle.goblin_headers.specs.SectionHeader.{SectionHeader32Fits};
+impl LaidOut<Endian> for SectionHeader {
     ghost use Rattle.goblin_headers.specs.SectionHeaderLaws.{section_header32_laws};
 
-    ghost read = { section_header32_of };
+    ghost layout = { shaped section_header32 };
 
-    ghost image = { section_header32_image };
-
-    ghost fits = { λ _. SectionHeader32Fits };
-
-    #[tactic(auto, using(goblin_base::specs::RecordLaws::record_answers))]
-    fn read_record(bytes: &[u8], order: Endian) -> Result<Self> {
-        room(bytes.len(), 0, SIZEOF_SHDR)?;
-        Ok(SectionHeader::at(bytes, order))
+    fn size_in(_order: Endian) -> usize {
+        SIZEOF_SHDR
     }
 
-    ghost laws = { λ order. obeys (section_header32_laws order) };
+    fn get(bytes: &[u8], order: Endian) -> SectionHeader {
+        SectionHeader {
+            sh_name: get_u32(bytes, 0, order),
+            sh_type: get_u32(bytes, 4, order),
+            sh_flags: get_u32(bytes, 8, order),
+            sh_addr: get_u32(bytes, 12, order),
+            sh_offset: get_u32(bytes, 16, order),
+            sh_size: get_u32(bytes, 20, order),
+            sh_link: get_u32(bytes, 24, order),
+            sh_info: get_u32(bytes, 28, order),
+            sh_addralign: get_u32(bytes, 32, order),
+            sh_entsize: get_u32(bytes, 36, order),
+        }
+    }
+
+    fn put(self, bytes: &mut [u8], order: Endian) {
+        put_u32(bytes, 0, self.sh_name, order);
+        put_u32(bytes, 4, self.sh_type, order);
+        put_u32(bytes, 8, self.sh_flags, order);
+        put_u32(bytes, 12, self.sh_addr, order);
+        put_u32(bytes, 16, self.sh_offset, order);
+        put_u32(bytes, 20, self.sh_size, order);
+        put_u32(bytes, 24, self.sh_link, order);
+        put_u32(bytes, 28, self.sh_info, order);
+        put_u32(bytes, 32, self.sh_addralign, order);
+        put_u32(bytes, 36, self.sh_entsize, order);
+    }
+
+    ghost layout_laws = { section_header32_laws };
 }
 
 /// A law: the image of a section header is the only list of bytes that is read as that header.
 pub fn laws()
     ensures image { (order : Endian) →
-        IsOneImage section_header32_size (section_header32_of order) (section_header32_image order) section_header32_low }
+        IsOneImage (shaped section_header32 order) }
 {}
 
 /// A law: every field of the default section header is 0. A call returns that section header.
 pub fn default_is_zeros() -> SectionHeader
-    ensures { values_of (section_header32_fields result) ≡ replicate 10 0 }
+    ensures { values_of (section_header32.fields result) ≡ replicate 10 0 }
 {
     SectionHeader::default()
 }
@@ -240,7 +189,7 @@ pub use crate::constants_section_header::{
 /// Laws: the numbers of this module's own constants and of those that it re-exports, under the
 /// names that they have here. A call does nothing.
 pub fn constants()
-    ensures size { SIZEOF_SHDR ≡ section_header32_size }
+    ensures size { SIZEOF_SHDR ≡ 40 }
     ensures indices { SHN_UNDEF ∷ SHN_LORESERVE ∷ SHN_LOPROC ∷ SHN_BEFORE ∷ SHN_AFTER ∷ SHN_HIPROC
         ∷ SHN_LOOS ∷ SHN_HIOS ∷ SHN_ABS ∷ SHN_COMMON ∷ SHN_XINDEX ∷ SHN_HIRESERVE ∷ []
         ≡ section_index_numbers }

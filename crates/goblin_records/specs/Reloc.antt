@@ -6,8 +6,8 @@ use Rattle.goblin_base.specs.declared.container.Container.TheVariants.{Little, B
 use Rattle.goblin_base.specs.declared.container.Endian.{Endian}
 use Rattle.goblin_base.specs.declared.container.Endian.TheVariants as order
 use Rattle.goblin_base.specs.Container.{word_size}
-use Rattle.goblin_base.specs.Fields.{Field, image_of_fields, field, FieldsFit, values_at, widths_of, lows_of}
-use Rattle.goblin_base.specs.Layout.{IsOneImage, IsSameInEachClass}
+use Rattle.goblin_base.specs.Fields.{Field, image_of_fields, field}
+use Rattle.goblin_base.specs.Layout.{Layout, Shape, shaped, low_bits, IsOneImage, IsSameInEachClass}
 use Rattle.goblin_base.specs.Signed.{FitsSigned, signed_of, complement, signed_low}
 use Rattle.goblin_records.specs.declared.reloc.Reloc.{Reloc}
 use Rattle.goblin_records.specs.declared.reloc.RelocCtx.{RelocCtx}
@@ -18,157 +18,69 @@ use Rattle.goblin_records.specs.declared.reloc64.Rela.{Rela as Rela64}
 use Rattle.goblin_records.specs.RelocInfo.{symbols, types, symbol_in, type_in, info_of, mips64el_pair}
 use Rattle.goblin_records.specs.RelocInfo.{mips64el_pair_inverse}
 
--- ---- the 32-bit class
--- the size of a 32-bit relocation in bytes, without an addend and with one
-abbrev pub rel32_size : ℕ
-rel32_size = 8
-
-abbrev pub rela32_size : ℕ
-rela32_size = 12
-
--- the fields in file order, each with its width in bytes; a negative addend is its two's complement
-abbrev pub rel32_fields : Rel32 → List Field
-rel32_fields r = field 4 r.r_offset ∷ field 4 r.r_info ∷ []
-
-abbrev pub rela32_fields : Rela32 → List Field
-rela32_fields r = field 4 r.r_offset ∷ field 4 r.r_info ∷ field 4 (complement 4 r.r_addend) ∷ []
-
--- the 32-bit relocation with these field values, in file order; a missing value is 0, and the addend is signed
-abbrev pub rel32_of_values : List ℕ → Rel32
-rel32_of_values values = record { r_offset = slice_index values 0; r_info = slice_index values 1 }
-
-abbrev pub rela32_of_values : List ℕ → Rela32
-rela32_of_values values = record {
-  r_offset = slice_index values 0;
-  r_info = slice_index values 1;
-  r_addend = signed_of 4 (slice_index values 2);
+-- ---- one class
+-- the fields of a relocation in file order, without an addend and with one, each with its width in bytes; a negative
+-- addend is its two's complement
+abbrev pub rel32 : Shape Rel32
+rel32 = record {
+  fields = λ r. field 4 r.r_offset ∷ field 4 r.r_info ∷ [];
+  of_values = λ values. record { r_offset = slice_index values 0; r_info = slice_index values 1 };
 }
 
--- the 32-bit relocations whose fields are all 0
-abbrev pub rel32_zero : Rel32
-rel32_zero = rel32_of_values []
+abbrev pub rela32 : Shape Rela32
+rela32 = record {
+  fields = λ r. field 4 r.r_offset ∷ field 4 r.r_info ∷ field 4 (complement 4 r.r_addend) ∷ [];
+  of_values = λ values. record {
+    r_offset = slice_index values 0;
+    r_info = slice_index values 1;
+    r_addend = signed_of 4 (slice_index values 2);
+  };
+}
 
-abbrev pub rela32_zero : Rela32
-rela32_zero = rela32_of_values []
+abbrev pub rel64 : Shape Rel64
+rel64 = record {
+  fields = λ r. field 8 r.r_offset ∷ field 8 r.r_info ∷ [];
+  of_values = λ values. record { r_offset = slice_index values 0; r_info = slice_index values 1 };
+}
 
--- the widths of these fields, in the same order
-abbrev pub rel32_widths : List ℕ
-rel32_widths = widths_of (rel32_fields rel32_zero)
+abbrev pub rela64 : Shape Rela64
+rela64 = record {
+  fields = λ r. field 8 r.r_offset ∷ field 8 r.r_info ∷ field 8 (complement 8 r.r_addend) ∷ [];
+  of_values = λ values. record {
+    r_offset = slice_index values 0;
+    r_info = slice_index values 1;
+    r_addend = signed_of 8 (slice_index values 2);
+  };
+}
 
-abbrev pub rela32_widths : List ℕ
-rela32_widths = widths_of (rela32_fields rela32_zero)
-
--- the 32-bit relocation read from bytes: each field is the number at its offset
-abbrev pub rel32_of : Endian → List ℕ → Rel32
-rel32_of order bytes = rel32_of_values (values_at order bytes 0 rel32_widths)
-
-abbrev pub rela32_of : Endian → List ℕ → Rela32
-rela32_of order bytes = rela32_of_values (values_at order bytes 0 rela32_widths)
-
--- the bytes that a 32-bit relocation is written as
-abbrev pub rel32_image : Endian → Rel32 → List ℕ
-rel32_image order r = image_of_fields order (rel32_fields r)
-
-abbrev pub rela32_image : Endian → Rela32 → List ℕ
-rela32_image order r = image_of_fields order (rela32_fields r)
-
--- the 32-bit relocation with the low bits of each field, as many as its width holds
-abbrev pub rel32_low : Rel32 → Rel32
-rel32_low r = rel32_of_values (lows_of (rel32_fields r))
-
+-- the relocation with the low bits of each field, as many as its width holds, and the addend cut to its width
 abbrev pub rela32_low : Rela32 → Rela32
-rela32_low r = record {
-  r_offset = r.r_offset % 256 ^ 4;
-  r_info = r.r_info % 256 ^ 4;
-  r_addend = signed_low 4 r.r_addend;
-}
-
--- each field is in the range of its width
-abbrev pub Rel32Fits : Rel32 → Type 0
-Rel32Fits r = FieldsFit (rel32_fields r)
-
-abbrev pub Rela32Fits : Rela32 → Type 0
-Rela32Fits r = (r.r_offset < 256 ^ 4) × (r.r_info < 256 ^ 4) × FitsSigned 4 r.r_addend
-
--- ---- the 64-bit class
--- the size of a 64-bit relocation in bytes, without an addend and with one
-abbrev pub rel64_size : ℕ
-rel64_size = 16
-
-abbrev pub rela64_size : ℕ
-rela64_size = 24
-
--- the fields in file order, each with its width in bytes; a negative addend is its two's complement
-abbrev pub rel64_fields : Rel64 → List Field
-rel64_fields r = field 8 r.r_offset ∷ field 8 r.r_info ∷ []
-
-abbrev pub rela64_fields : Rela64 → List Field
-rela64_fields r = field 8 r.r_offset ∷ field 8 r.r_info ∷ field 8 (complement 8 r.r_addend) ∷ []
-
--- the 64-bit relocation with these field values, in file order; a missing value is 0, and the addend is signed
-abbrev pub rel64_of_values : List ℕ → Rel64
-rel64_of_values values = record { r_offset = slice_index values 0; r_info = slice_index values 1 }
-
-abbrev pub rela64_of_values : List ℕ → Rela64
-rela64_of_values values = record {
-  r_offset = slice_index values 0;
-  r_info = slice_index values 1;
-  r_addend = signed_of 8 (slice_index values 2);
-}
-
--- the 64-bit relocations whose fields are all 0
-abbrev pub rel64_zero : Rel64
-rel64_zero = rel64_of_values []
-
-abbrev pub rela64_zero : Rela64
-rela64_zero = rela64_of_values []
-
--- the widths of these fields, in the same order
-abbrev pub rel64_widths : List ℕ
-rel64_widths = widths_of (rel64_fields rel64_zero)
-
-abbrev pub rela64_widths : List ℕ
-rela64_widths = widths_of (rela64_fields rela64_zero)
-
--- the 64-bit relocation read from bytes: each field is the number at its offset
-abbrev pub rel64_of : Endian → List ℕ → Rel64
-rel64_of order bytes = rel64_of_values (values_at order bytes 0 rel64_widths)
-
-abbrev pub rela64_of : Endian → List ℕ → Rela64
-rela64_of order bytes = rela64_of_values (values_at order bytes 0 rela64_widths)
-
--- the bytes that a 64-bit relocation is written as
-abbrev pub rel64_image : Endian → Rel64 → List ℕ
-rel64_image order r = image_of_fields order (rel64_fields r)
-
-abbrev pub rela64_image : Endian → Rela64 → List ℕ
-rela64_image order r = image_of_fields order (rela64_fields r)
-
--- the 64-bit relocation with the low bits of each field, as many as its width holds
-abbrev pub rel64_low : Rel64 → Rel64
-rel64_low r = rel64_of_values (lows_of (rel64_fields r))
+rela32_low r = record (low_bits rela32 r) { r_addend = signed_low 4 r.r_addend }
 
 abbrev pub rela64_low : Rela64 → Rela64
-rela64_low r = record {
-  r_offset = r.r_offset % 256 ^ 8;
-  r_info = r.r_info % 256 ^ 8;
-  r_addend = signed_low 8 r.r_addend;
-}
+rela64_low r = record (low_bits rela64 r) { r_addend = signed_low 8 r.r_addend }
 
 -- each field is in the range of its width
-abbrev pub Rel64Fits : Rel64 → Type 0
-Rel64Fits r = FieldsFit (rel64_fields r)
+abbrev pub Rela32Fits : Rela32 → Type 0
+Rela32Fits r = (r.r_offset < 256 ^ 4) × (r.r_info < 256 ^ 4) × FitsSigned 4 r.r_addend
 
 abbrev pub Rela64Fits : Rela64 → Type 0
 Rela64Fits r = (r.r_offset < 256 ^ 8) × (r.r_info < 256 ^ 8) × FitsSigned 8 r.r_addend
 
+-- how relocations with an addend lie in bytes
+abbrev pub rela32_layout : Endian → Layout Rela32
+rela32_layout order = record (shaped rela32 order) { low = rela32_low; Fits = Rela32Fits }
+
+abbrev pub rela64_layout : Endian → Layout Rela64
+rela64_layout order = record (shaped rela64 order) { low = rela64_low; Fits = Rela64Fits }
+
 -- ---- either class
 -- the size of a relocation in bytes, with an addend or without, in a class
 abbrev pub reloc_size : Bool → Container → ℕ
-reloc_size false Little = rel32_size
-reloc_size true Little = rela32_size
-reloc_size false Big = rel64_size
-reloc_size true Big = rela64_size
+reloc_size false Little = 8
+reloc_size true Little = 12
+reloc_size false Big = 16
+reloc_size true Big = 24
 
 -- the relocation with the fields of a raw one, its `r_info` split
 abbrev pub rel_widened32 : Rel32 → Reloc
@@ -227,17 +139,17 @@ rela_as64 r = record {
 
 -- the relocation read from bytes, with an addend or without, in a class
 abbrev pub reloc_of : Bool → Container → Endian → List ℕ → Reloc
-reloc_of false Little order bytes = rel_widened32 (rel32_of order bytes)
-reloc_of true Little order bytes = rela_widened32 (rela32_of order bytes)
-reloc_of false Big order bytes = rel_widened64 (rel64_of order bytes)
-reloc_of true Big order bytes = rela_widened64 (rela64_of order bytes)
+reloc_of false Little order bytes = rel_widened32 ((shaped rel32 order).read bytes)
+reloc_of true Little order bytes = rela_widened32 ((shaped rela32 order).read bytes)
+reloc_of false Big order bytes = rel_widened64 ((shaped rel64 order).read bytes)
+reloc_of true Big order bytes = rela_widened64 ((shaped rela64 order).read bytes)
 
 -- the fields of a relocation in file order, each with its width in bytes
 abbrev pub reloc_fields : Bool → Container → Reloc → List Field
-reloc_fields false Little r = rel32_fields (rel_as32 r)
-reloc_fields true Little r = rela32_fields (rela_as32 r)
-reloc_fields false Big r = rel64_fields (rel_as64 r)
-reloc_fields true Big r = rela64_fields (rela_as64 r)
+reloc_fields false Little r = rel32.fields (rel_as32 r)
+reloc_fields true Little r = rela32.fields (rela_as32 r)
+reloc_fields false Big r = rel64.fields (rel_as64 r)
+reloc_fields true Big r = rela64.fields (rela_as64 r)
 
 -- the bytes that a relocation is written as
 abbrev pub reloc_image : Bool → Container → Endian → Reloc → List ℕ
@@ -245,9 +157,9 @@ reloc_image is_rela class order r = image_of_fields order (reloc_fields is_rela 
 
 -- the relocation with the low bits of each field, as many as its width holds
 abbrev pub reloc_low : Bool → Container → Reloc → Reloc
-reloc_low false Little r = rel_widened32 (rel32_low (rel_as32 r))
+reloc_low false Little r = rel_widened32 (low_bits rel32 (rel_as32 r))
 reloc_low true Little r = rela_widened32 (rela32_low (rela_as32 r))
-reloc_low false Big r = rel_widened64 (rel64_low (rel_as64 r))
+reloc_low false Big r = rel_widened64 (low_bits rel64 (rel_as64 r))
 reloc_low true Big r = rela_widened64 (rela64_low (rela_as64 r))
 
 -- there is an addend exactly if one is written, and it fits its width
@@ -261,6 +173,16 @@ pub record RelocFits (is_rela : Bool) (class : Container) (r : Reloc) : Type 0 w
   pub symbol : r.r_sym < symbols class
   pub typ : r.r_type < types class
   pub addend : AddendFits is_rela (word_size class) r.r_addend
+
+-- how relocations lie in bytes, with an addend or without, in a class
+abbrev pub reloc_layout : Bool → Container → Endian → Layout Reloc
+reloc_layout is_rela class order = record {
+  size = reloc_size is_rela class;
+  read = reloc_of is_rela class order;
+  image = reloc_image is_rela class order;
+  low = reloc_low is_rela class;
+  Fits = RelocFits is_rela class;
+}
 
 -- the relocation that a stored one means: in a little-endian MIPS64 file its symbol and type are decoded
 abbrev pub as_meant : Bool → Reloc → Reloc
@@ -304,21 +226,27 @@ reloc_low_in c r = as_meant c.is_mips64el (reloc_low c.is_rela c.ctx.container (
 abbrev pub RelocFitsIn : RelocCtx → Reloc → Type 0
 RelocFitsIn c r = StoredFits c.is_mips64el c.is_rela c.ctx.container r
 
+-- how relocations lie in bytes in a context
+abbrev pub reloc_layout_in : RelocCtx → Layout Reloc
+reloc_layout_in c = record {
+  size = reloc_size c.is_rela c.ctx.container;
+  read = reloc_in c;
+  image = reloc_image_in c;
+  low = reloc_low_in c;
+  Fits = RelocFitsIn c;
+}
+
 -- the image of a relocation is the only list of bytes of its size that is read as the low bits of the one that is
 -- stored for it
 abbrev pub OneImage : Type 0
-OneImage =
-    (c : RelocCtx) → IsOneImage (reloc_size c.is_rela c.ctx.container) (reloc_in c) (reloc_image_in c) (reloc_low_in c)
+OneImage = (c : RelocCtx) → IsOneImage (reloc_layout_in c)
 
 -- relocations that fit both classes, written one after another in either class and order, are read in that class and
 -- order as the same relocations; with addends and without, of MIPS64 and not
 abbrev pub SameInEachClass : Type 0
 SameInEachClass =
     (is_rela is_mips64el : Bool)
-    → IsSameInEachClass (reloc_size is_rela)
-    (λ class order. reloc_in (context is_rela class order is_mips64el))
-    (λ class order. reloc_image_in (context is_rela class order is_mips64el))
-    (StoredFits is_mips64el is_rela)
+    → IsSameInEachClass (λ class order. reloc_layout_in (context is_rela class order is_mips64el))
 
 -- the default relocation: all fields 0, without an addend
 abbrev pub reloc_zero : Reloc

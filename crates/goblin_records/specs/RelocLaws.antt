@@ -7,8 +7,8 @@ use Rattle.std.proofs.Math.Nat.{mod-eq_of_lt}
 use Rattle.goblin_base.specs.declared.container.Endian.{Endian}
 use Rattle.goblin_base.specs.declared.container.Container.{Container}
 use Rattle.goblin_base.specs.declared.container.Container.TheVariants.{Little, Big}
-use Rattle.goblin_base.specs.Layout.{IsRecord}
-use Rattle.goblin_base.specs.LayoutLaws.{layout_laws, converted_laws, one_image, same_in_each_class}
+use Rattle.goblin_base.specs.Layout.{IsRecord, shaped}
+use Rattle.goblin_base.specs.LayoutLaws.{shape_laws, converted_laws, one_image, same_in_each_class}
 use Rattle.goblin_base.specs.Signed.{FitsSigned}
 use Rattle.goblin_base.specs.SignedLaws.{signed_of-complement, complement-lt, complement-mod}
 use Rattle.goblin_base.specs.SignedLaws.{complement-signed_number_at}
@@ -16,64 +16,53 @@ use Rattle.goblin_base.specs.FieldLaws.{number_at-lt}
 use Rattle.goblin_base.specs.Number.{IsBytes, number_at}
 use Rattle.goblin_records.specs.declared.reloc.Reloc.{Reloc}
 use Rattle.goblin_records.specs.declared.reloc.RelocCtx.{RelocCtx}
-use Rattle.goblin_records.specs.Reloc.{rel32_size, rel32_of, rel32_of_values, rel32_widths, rel32_fields, rel32_image}
-use Rattle.goblin_records.specs.Reloc.{rel32_low, Rel32Fits, rela32_size, rela32_of, rela32_of_values, rela32_widths}
-use Rattle.goblin_records.specs.Reloc.{rela32_fields, rela32_image, rela32_low, Rela32Fits, rel64_size, rel64_of}
-use Rattle.goblin_records.specs.Reloc.{rel64_of_values, rel64_widths, rel64_fields, rel64_image, rel64_low, Rel64Fits}
-use Rattle.goblin_records.specs.Reloc.{rela64_size, rela64_of, rela64_of_values, rela64_widths, rela64_fields}
-use Rattle.goblin_records.specs.Reloc.{rela64_image, rela64_low, Rela64Fits, reloc_size, reloc_of, reloc_image}
-use Rattle.goblin_records.specs.Reloc.{reloc_low, RelocFits, rel_widened32, rela_widened32, rel_widened64}
+use Rattle.goblin_records.specs.Reloc.{rel32, rel64, rela32, rela64, rela32_layout, rela64_layout, reloc_size, reloc_of}
+use Rattle.goblin_records.specs.Reloc.{reloc_layout, reloc_layout_in}
+use Rattle.goblin_records.specs.Reloc.{RelocFits, rel_widened32, rela_widened32, rel_widened64}
 use Rattle.goblin_records.specs.Reloc.{rela_widened64, rel_as32, rela_as32, rel_as64, rela_as64, as_meant, as_stored}
-use Rattle.goblin_records.specs.Reloc.{StoredFits, reloc_in, reloc_image_in, reloc_low_in, RelocFitsIn, context}
-use Rattle.goblin_records.specs.Reloc.{OneImage, SameInEachClass}
+use Rattle.goblin_records.specs.Reloc.{StoredFits, context, OneImage, SameInEachClass}
 use Rattle.goblin_records.specs.RelocInfo.{symbols, types, symbol_in, type_in, info_of}
 use Rattle.goblin_records.specs.RelocInfoLaws.{info_of-parts, joins_its_parts, reversed-reversed}
 
 -- the laws of relocations without an addend follow from the list of fields
-pub rel32_laws : (order : Endian) → IsRecord rel32_size (rel32_of order) (rel32_image order) rel32_low Rel32Fits
-rel32_laws order = layout_laws {widths = rel32_widths} {fields = rel32_fields} (record {
-  of_values = rel32_of_values;
-  reads = λ order bytes. refl;
+pub rel32_laws : (order : Endian) → IsRecord (shaped rel32 order)
+rel32_laws = shape_laws rel32 (record {
+  size_positive = lit< tt;
   has_widths = λ r. refl;
   lows = λ r. refl;
   fitting = λ r fits. (fits, refl);
   fields_read = λ order bytes are room. refl;
-}) order (lit< tt)
+})
+
+pub rel64_laws : (order : Endian) → IsRecord (shaped rel64 order)
+rel64_laws = shape_laws rel64 (record {
+  size_positive = lit< tt;
+  has_widths = λ r. refl;
+  lows = λ r. refl;
+  fitting = λ r fits. (fits, refl);
+  fields_read = λ order bytes are room. refl;
+})
 
 -- and so do those of relocations with one
-pub rela32_laws : (order : Endian) → IsRecord rela32_size (rela32_of order) (rela32_image order) rela32_low Rela32Fits
-rela32_laws order = layout_laws {widths = rela32_widths} {fields = rela32_fields} (record {
-  of_values = rela32_of_values;
-  reads = λ order bytes. refl;
+pub rela32_laws : (order : Endian) → IsRecord (rela32_layout order)
+rela32_laws = shape_laws rela32 (record {
+  size_positive = lit< tt;
   has_widths = λ r. refl;
   lows = λ r. rw (complement-mod 4 r.r_addend) refl;
   fitting = λ r fits.
       ((fits.0, (fits.1, (complement-lt 4 r.r_addend, tt))), rw (signed_of-complement 4 r.r_addend fits.2) refl);
   fields_read = λ order bytes are room. rw (complement-signed_number_at order bytes 8 4 are room) refl;
-}) order (lit< tt)
+})
 
--- the laws of relocations without an addend follow from the list of fields
-pub rel64_laws : (order : Endian) → IsRecord rel64_size (rel64_of order) (rel64_image order) rel64_low Rel64Fits
-rel64_laws order = layout_laws {widths = rel64_widths} {fields = rel64_fields} (record {
-  of_values = rel64_of_values;
-  reads = λ order bytes. refl;
-  has_widths = λ r. refl;
-  lows = λ r. refl;
-  fitting = λ r fits. (fits, refl);
-  fields_read = λ order bytes are room. refl;
-}) order (lit< tt)
-
--- and so do those of relocations with one
-pub rela64_laws : (order : Endian) → IsRecord rela64_size (rela64_of order) (rela64_image order) rela64_low Rela64Fits
-rela64_laws order = layout_laws {widths = rela64_widths} {fields = rela64_fields} (record {
-  of_values = rela64_of_values;
-  reads = λ order bytes. refl;
+pub rela64_laws : (order : Endian) → IsRecord (rela64_layout order)
+rela64_laws = shape_laws rela64 (record {
+  size_positive = lit< tt;
   has_widths = λ r. refl;
   lows = λ r. rw (complement-mod 8 r.r_addend) refl;
   fitting = λ r fits.
       ((fits.0, (fits.1, (complement-lt 8 r.r_addend, tt))), rw (signed_of-complement 8 r.r_addend fits.2) refl);
   fields_read = λ order bytes are room. rw (complement-signed_number_at order bytes 16 8 are room) refl;
-}) order (lit< tt)
+})
 
 -- a symbol and a type that fit are the parts of their `r_info`, which is in range
 parts_of : (class : Container) (symbol typ : ℕ) → symbol < symbols class → typ < types class → let info =
@@ -103,8 +92,7 @@ joins_64 order bytes are room = joins_its_parts Big (number_at order bytes 8 8) 
 
 -- a relocation of either class, with an addend or without, is a converted raw one
 pub reloc_laws : (is_rela : Bool) (class : Container) (order : Endian)
-    → IsRecord (reloc_size is_rela class) (reloc_of is_rela class order) (reloc_image is_rela class order)
-    (reloc_low is_rela class) (RelocFits is_rela class)
+    → IsRecord (reloc_layout is_rela class order)
 reloc_laws false Little order =
     converted_laws rel_widened32 rel_as32 (RelocFits false Little) (rel32_laws order)
     (λ r fits. let parts = parts_of Little r.r_sym r.r_type fits.symbol fits.typ in
@@ -150,9 +138,8 @@ stored-meant : (r : Reloc) → r.r_sym < 2 ^ 32 → r.r_type < 2 ^ 32 → as_sto
 stored-meant r s t = rw (mod-eq_of_lt t, reversed-reversed r.r_sym s) refl
 
 -- relocations of MIPS64 obey the same laws
-stored_laws : (is_mips64el is_rela : Bool) (class : Container) (order : Endian) → let c =
-    context is_rela class order is_mips64el in
-    IsRecord (reloc_size is_rela class) (reloc_in c) (reloc_image_in c) (reloc_low_in c) (RelocFitsIn c)
+stored_laws : (is_mips64el is_rela : Bool) (class : Container) (order : Endian)
+    → IsRecord (reloc_layout_in (context is_rela class order is_mips64el))
 stored_laws false is_rela class order = reloc_laws is_rela class order
 stored_laws true is_rela class order =
     converted_laws (as_meant true) (as_stored true) (StoredFits true is_rela class) (reloc_laws is_rela class order)
@@ -160,8 +147,7 @@ stored_laws true is_rela class order =
     (λ bytes are room. let w = words is_rela class order bytes are room in
     stored-meant (reloc_of is_rela class order bytes) w.0 w.1)
 
-pub reloc_laws_in : (c : RelocCtx)
-    → IsRecord (reloc_size c.is_rela c.ctx.container) (reloc_in c) (reloc_image_in c) (reloc_low_in c) (RelocFitsIn c)
+pub reloc_laws_in : (c : RelocCtx) → IsRecord (reloc_layout_in c)
 reloc_laws_in c = stored_laws c.is_mips64el c.is_rela c.ctx.container c.ctx.le
 
 pub one_image_in : OneImage

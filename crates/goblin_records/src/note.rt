@@ -1,17 +1,11 @@
 //! Note headers of both classes, and the types of notes: System V gABI, "Note Section".
 ghost use Rattle.std.specs.Prelude.{◌≡◌, [], ◌∷◌};
-ghost use Rattle.goblin_base.specs.Layout.{IsOneImage};
-ghost use Rattle.goblin_base.specs.LayoutLaws.{obeys};
-ghost use Rattle.goblin_base.specs.Record.{read_within, Writes};
-ghost use Rattle.goblin_base.specs.Steps.{with_size};
-ghost use Rattle.goblin_records.specs.Nhdr.{nhdr32_of, nhdr32_image, nhdr32_low, nhdr32_size, nhdr64_of, nhdr64_image, nhdr64_low, nhdr64_size};
+ghost use Rattle.goblin_base.specs.Layout.{IsOneImage, shaped, zero};
+ghost use Rattle.goblin_records.specs.Nhdr.{nhdr32, nhdr64};
 
 use goblin_base::container::Endian;
-use goblin_base::error::Result;
+use goblin_base::laid_out::LaidOut;
 use goblin_base::number::{get_u32, get_u64, put_u32, put_u64};
-use goblin_base::record::Record;
-use goblin_base::room::room;
-use goblin_base::scroll::{SizeWith, TryFromCtx, TryIntoCtx};
 use std::alloc::AllocError;
 use std::result;
 
@@ -29,61 +23,30 @@ pub struct Nhdr32 {
 // The size of an `Nhdr32` in bytes.
 const SIZEOF_NHDR32: usize = 4 + 4 + 4;
 
-impl SizeWith<Endian> for Nhdr32 {
-    ghost size_of = { λ _. nhdr32_size };
-
-    fn size_with(_order: &Endian) -> usize {
-        SIZEOF_NHDR32
-    }
-}
-
-/// Fails with the fault of `room` if the bytes don't hold the record.
-impl<'a> TryFromCtx<'a, Endian> for Nhdr32 {
-    ghost try_from_gives = { λ bytes order answer.
-        answer ≡ with_size nhdr32_size (read_within nhdr32_size (nhdr32_of order) bytes) };
-
-    fn try_from_ctx(bytes: &'a [u8], order: Endian) -> Result<(Self, usize)> {
-        let header = Nhdr32::read_record(bytes, order)?;
-        Ok((header, SIZEOF_NHDR32))
-    }
-}
-
-/// Fails with the fault of `room` if the buffer doesn't hold the record, and then writes no byte.
-impl TryIntoCtx<Endian> for Nhdr32 {
-    ghost try_into_gives = { λ header order old answer new.
-        Writes nhdr32_size (nhdr32_image order header) old answer new };
-
-    #[tactic(auto, using(goblin_base::specs::RecordLaws::record_answers))]
-    fn try_into_ctx(self, bytes: &mut [u8], order: Endian) -> Result<usize> {
-        room(bytes.len(), 0, SIZEOF_NHDR32)?;
-        put_u32(bytes, 0, self.n_namesz, order);
-        put_u32(bytes, 4, self.n_descsz, order);
-        put_u32(bytes, 8, self.n_type, order);
-        Ok(SIZEOF_NHDR32)
-    }
-}
-
-impl Record<Endian> for Nhdr32 {
-    ghost use Rattle.goblin_records.specs.Nhdr.{Nhdr32Fits};
+impl LaidOut<Endian> for Nhdr32 {
     ghost use Rattle.goblin_records.specs.NhdrLaws.{nhdr32_laws};
 
-    ghost read = { nhdr32_of };
+    ghost layout = { shaped nhdr32 };
 
-    ghost image = { nhdr32_image };
+    fn size_in(_order: Endian) -> usize {
+        SIZEOF_NHDR32
+    }
 
-    ghost fits = { λ _. Nhdr32Fits };
-
-    #[tactic(auto, using(goblin_base::specs::RecordLaws::record_answers))]
-    fn read_record(bytes: &[u8], order: Endian) -> Result<Self> {
-        room(bytes.len(), 0, SIZEOF_NHDR32)?;
-        Ok(Nhdr32 {
+    fn get(bytes: &[u8], order: Endian) -> Nhdr32 {
+        Nhdr32 {
             n_namesz: get_u32(bytes, 0, order),
             n_descsz: get_u32(bytes, 4, order),
             n_type: get_u32(bytes, 8, order),
-        })
+        }
     }
 
-    ghost laws = { λ order. obeys (nhdr32_laws order) };
+    fn put(self, bytes: &mut [u8], order: Endian) {
+        put_u32(bytes, 0, self.n_namesz, order);
+        put_u32(bytes, 4, self.n_descsz, order);
+        put_u32(bytes, 8, self.n_type, order);
+    }
+
+    ghost layout_laws = { nhdr32_laws };
 }
 
 /// The header of a note, in words of 8 bytes.
@@ -100,72 +63,41 @@ pub struct Nhdr64 {
 // The size of an `Nhdr64` in bytes.
 const SIZEOF_NHDR64: usize = 8 + 8 + 8;
 
-impl SizeWith<Endian> for Nhdr64 {
-    ghost size_of = { λ _. nhdr64_size };
-
-    fn size_with(_order: &Endian) -> usize {
-        SIZEOF_NHDR64
-    }
-}
-
-/// Fails with the fault of `room` if the bytes don't hold the record.
-impl<'a> TryFromCtx<'a, Endian> for Nhdr64 {
-    ghost try_from_gives = { λ bytes order answer.
-        answer ≡ with_size nhdr64_size (read_within nhdr64_size (nhdr64_of order) bytes) };
-
-    fn try_from_ctx(bytes: &'a [u8], order: Endian) -> Result<(Self, usize)> {
-        let header = Nhdr64::read_record(bytes, order)?;
-        Ok((header, SIZEOF_NHDR64))
-    }
-}
-
-/// Fails with the fault of `room` if the buffer doesn't hold the record, and then writes no byte.
-impl TryIntoCtx<Endian> for Nhdr64 {
-    ghost try_into_gives = { λ header order old answer new.
-        Writes nhdr64_size (nhdr64_image order header) old answer new };
-
-    #[tactic(auto, using(goblin_base::specs::RecordLaws::record_answers))]
-    fn try_into_ctx(self, bytes: &mut [u8], order: Endian) -> Result<usize> {
-        room(bytes.len(), 0, SIZEOF_NHDR64)?;
-        put_u64(bytes, 0, self.n_namesz, order);
-        put_u64(bytes, 8, self.n_descsz, order);
-        put_u64(bytes, 16, self.n_type, order);
-        Ok(SIZEOF_NHDR64)
-    }
-}
-
-impl Record<Endian> for Nhdr64 {
-    ghost use Rattle.goblin_records.specs.Nhdr.{Nhdr64Fits};
+impl LaidOut<Endian> for Nhdr64 {
     ghost use Rattle.goblin_records.specs.NhdrLaws.{nhdr64_laws};
 
-    ghost read = { nhdr64_of };
+    ghost layout = { shaped nhdr64 };
 
-    ghost image = { nhdr64_image };
+    fn size_in(_order: Endian) -> usize {
+        SIZEOF_NHDR64
+    }
 
-    ghost fits = { λ _. Nhdr64Fits };
-
-    #[tactic(auto, using(goblin_base::specs::RecordLaws::record_answers))]
-    fn read_record(bytes: &[u8], order: Endian) -> Result<Self> {
-        room(bytes.len(), 0, SIZEOF_NHDR64)?;
-        Ok(Nhdr64 {
+    fn get(bytes: &[u8], order: Endian) -> Nhdr64 {
+        Nhdr64 {
             n_namesz: get_u64(bytes, 0, order),
             n_descsz: get_u64(bytes, 8, order),
             n_type: get_u64(bytes, 16, order),
-        })
+        }
     }
 
-    ghost laws = { λ order. obeys (nhdr64_laws order) };
+    fn put(self, bytes: &mut [u8], order: Endian) {
+        put_u64(bytes, 0, self.n_namesz, order);
+        put_u64(bytes, 8, self.n_descsz, order);
+        put_u64(bytes, 16, self.n_type, order);
+    }
+
+    ghost layout_laws = { nhdr64_laws };
 }
 
 /// Laws of note headers: the size, and that the image is the only list of bytes that is read as the
 /// header.
 pub fn laws()
-    ensures size32 { SIZEOF_NHDR32 ≡ nhdr32_size }
-    ensures size64 { SIZEOF_NHDR64 ≡ nhdr64_size }
+    ensures size32 { SIZEOF_NHDR32 ≡ 12 }
+    ensures size64 { SIZEOF_NHDR64 ≡ 24 }
     ensures image32 { (order : Endian) →
-        IsOneImage nhdr32_size (nhdr32_of order) (nhdr32_image order) nhdr32_low }
+        IsOneImage (shaped nhdr32 order) }
     ensures image64 { (order : Endian) →
-        IsOneImage nhdr64_size (nhdr64_of order) (nhdr64_image order) nhdr64_low }
+        IsOneImage (shaped nhdr64 order) }
 {}
 
 /// A law: `clone` returns the note header, and never fails. A call returns the clone.

@@ -1,16 +1,13 @@
 //! Relocations of either class, with an addend or without: System V gABI, "Relocation".
 ghost use Rattle.std.specs.Prelude.{◌≡◌, ◌≤◌, ◌↔◌, ◌++◌, IsTrue, length, drop};
-ghost use Rattle.goblin_base.specs.LayoutLaws.{obeys};
-ghost use Rattle.goblin_base.specs.Record.{read_within, Writes};
-ghost use Rattle.goblin_base.specs.Steps.{with_size};
-ghost use Rattle.goblin_records.specs.Reloc.{reloc_size, reloc_of, reloc_image, as_meant, as_stored, reloc_in, reloc_image_in, OneImage, SameInEachClass, reloc_ctx_default, reloc_zero};
+ghost use Rattle.goblin_base.specs.Record.{Writes};
+ghost use Rattle.goblin_records.specs.Reloc.{as_meant, as_stored, reloc_ctx_default, reloc_image, reloc_layout, reloc_layout_in, reloc_of, reloc_size, reloc_zero, OneImage, SameInEachClass};
 
 pub use crate::{reloc32, reloc64};
 use goblin_base::container::{Container, Ctx, Endian};
 use goblin_base::error::Result;
-use goblin_base::record::Record;
-use goblin_base::room::room;
-use goblin_base::scroll::{IntoCtx, SizeWith, TryFromCtx, TryIntoCtx};
+use goblin_base::laid_out::LaidOut;
+use goblin_base::scroll::{IntoCtx, TryIntoCtx};
 use std::alloc::AllocError;
 use std::result;
 
@@ -73,43 +70,17 @@ impl Reloc {
         self.try_into_ctx(bytes, layout)
     }
 
-    // Reads the relocation at the start of the bytes.
-    fn at(bytes: &[u8], is_rela: bool, ctx: Ctx) -> Reloc
-        requires { reloc_size is_rela ctx.container ≤ length bytes.now }
-        ensures { result ≡ reloc_of is_rela ctx.container ctx.le bytes.now }
-    {
-        // (asked here, the byte order isn't asked at each field)
-        match ctx.le {
-            Endian::Little => Reloc::at_in(bytes, is_rela, ctx.container, Endian::Little),
-            Endian::Big => Reloc::at_in(bytes, is_rela, ctx.container, Endian::Big),
-        }
-    }
-
     // Reads the relocation of a class and a byte order at the start of the bytes.
     #[inline(always)]
-    fn at_in(bytes: &[u8], is_rela: bool, class: Container, order: Endian) -> Reloc
+    fn get_in(bytes: &[u8], is_rela: bool, class: Container, order: Endian) -> Reloc
         requires { reloc_size is_rela class ≤ length bytes.now }
         ensures { result ≡ reloc_of is_rela class order bytes.now }
     {
         match (class, is_rela) {
-            (Container::Little, true) => reloc32::Rela::at(bytes, order).into(),
-            (Container::Little, false) => reloc32::Rel::at(bytes, order).into(),
-            (Container::Big, true) => reloc64::Rela::at(bytes, order).into(),
-            (Container::Big, false) => reloc64::Rel::at(bytes, order).into(),
-        }
-    }
-
-    // Writes the relocation at the start of the bytes.
-    fn put(self, bytes: &mut [u8], is_rela: bool, ctx: Ctx)
-        requires { reloc_size is_rela ctx.container ≤ length bytes.old }
-        ensures { let image = reloc_image is_rela ctx.container ctx.le self in
-            bytes.new ≡ image ++ drop (reloc_size is_rela ctx.container) bytes.old }
-    {
-        match (ctx.container, is_rela) {
-            (Container::Little, true) => reloc32::Rela::from(self).put(bytes, ctx.le),
-            (Container::Little, false) => reloc32::Rel::from(self).put(bytes, ctx.le),
-            (Container::Big, true) => reloc64::Rela::from(self).put(bytes, ctx.le),
-            (Container::Big, false) => reloc64::Rel::from(self).put(bytes, ctx.le),
+            (Container::Little, true) => reloc32::Rela::get(bytes, order).into(),
+            (Container::Little, false) => reloc32::Rel::get(bytes, order).into(),
+            (Container::Big, true) => reloc64::Rela::get(bytes, order).into(),
+            (Container::Big, false) => reloc64::Rel::get(bytes, order).into(),
         }
     }
 
@@ -147,42 +118,6 @@ impl Reloc {
     }
 }
 
-impl SizeWith<(bool, Ctx)> for Reloc {
-    ghost size_of = { λ c. reloc_size c.0 c.1.container };
-
-    fn size_with(ctx: &(bool, Ctx)) -> usize {
-        Reloc::size(ctx.0, ctx.1)
-    }
-}
-
-/// Fails with the fault of `room` if the bytes don't hold the record.
-impl<'a> TryFromCtx<'a, (bool, Ctx)> for Reloc {
-    ghost try_from_gives = { λ bytes c answer.
-        let size = reloc_size c.0 c.1.container in
-        answer ≡ with_size size (read_within size (reloc_of c.0 c.1.container c.1.le) bytes) };
-
-    fn try_from_ctx(bytes: &'a [u8], ctx: (bool, Ctx)) -> Result<(Self, usize)> {
-        let reloc = Reloc::read_record(bytes, ctx)?;
-        Ok((reloc, Reloc::size(ctx.0, ctx.1)))
-    }
-}
-
-/// Fails with the fault of `room` if the buffer doesn't hold the record, and then writes no byte.
-/// With addends, a missing one is written as 0; without addends, none is written.
-impl TryIntoCtx<(bool, Ctx)> for Reloc {
-    ghost try_into_gives = { λ reloc c old answer new.
-        let image = reloc_image c.0 c.1.container c.1.le reloc in
-        Writes (reloc_size c.0 c.1.container) image old answer new };
-
-    #[tactic(auto, using(goblin_base::specs::RecordLaws::record_answers))]
-    fn try_into_ctx(self, bytes: &mut [u8], ctx: (bool, Ctx)) -> Result<usize> {
-        let size = Reloc::size(ctx.0, ctx.1);
-        room(bytes.len(), 0, size)?;
-        self.put(bytes, ctx.0, ctx.1);
-        Ok(size)
-    }
-}
-
 /// The buffer must hold a relocation.
 impl IntoCtx<(bool, Ctx)> for Reloc {
     ghost can_into = { λ _ c old. reloc_size c.0 c.1.container ≤ length old };
@@ -192,82 +127,66 @@ impl IntoCtx<(bool, Ctx)> for Reloc {
         new ≡ reloc_image c.0 c.1.container c.1.le reloc ++ rest };
 
     fn into_ctx(self, bytes: &mut [u8], ctx: (bool, Ctx)) {
-        self.put(bytes, ctx.0, ctx.1);
+        self.put(bytes, ctx);
     }
 }
 
-impl Record<(bool, Ctx)> for Reloc {
-    ghost use Rattle.goblin_records.specs.Reloc.{RelocFits};
+/// With addends, a missing one is written as 0; without addends, none is written.
+impl LaidOut<(bool, Ctx)> for Reloc {
     ghost use Rattle.goblin_records.specs.RelocLaws.{reloc_laws};
 
-    ghost read = { λ c. reloc_of c.0 c.1.container c.1.le };
+    ghost layout = { λ c. reloc_layout c.0 c.1.container c.1.le };
 
-    ghost image = { λ c. reloc_image c.0 c.1.container c.1.le };
+    fn size_in(ctx: (bool, Ctx)) -> usize {
+        Reloc::size(ctx.0, ctx.1)
+    }
 
-    ghost fits = { λ c. RelocFits c.0 c.1.container };
-
-    #[tactic(auto, using(goblin_base::specs::RecordLaws::record_answers))]
     #[inline]
-    fn read_record(bytes: &[u8], ctx: (bool, Ctx)) -> Result<Self> {
-        room(bytes.len(), 0, Reloc::size(ctx.0, ctx.1))?;
-        Ok(Reloc::at(bytes, ctx.0, ctx.1))
+    fn get(bytes: &[u8], ctx: (bool, Ctx)) -> Reloc {
+        let (is_rela, ctx) = ctx;
+        // (asked here, the byte order isn't asked at each field)
+        match ctx.le {
+            Endian::Little => Reloc::get_in(bytes, is_rela, ctx.container, Endian::Little),
+            Endian::Big => Reloc::get_in(bytes, is_rela, ctx.container, Endian::Big),
+        }
     }
 
-    ghost laws = { λ c. obeys (reloc_laws c.0 c.1.container c.1.le) };
-}
-
-impl SizeWith<RelocCtx> for Reloc {
-    ghost size_of = { λ c. reloc_size c.is_rela c.ctx.container };
-
-    fn size_with(ctx: &RelocCtx) -> usize {
-        Reloc::size(ctx.is_rela, ctx.ctx)
+    fn put(self, bytes: &mut [u8], ctx: (bool, Ctx)) {
+        let (is_rela, ctx) = ctx;
+        match (ctx.container, is_rela) {
+            (Container::Little, true) => reloc32::Rela::from(self).put(bytes, ctx.le),
+            (Container::Little, false) => reloc32::Rel::from(self).put(bytes, ctx.le),
+            (Container::Big, true) => reloc64::Rela::from(self).put(bytes, ctx.le),
+            (Container::Big, false) => reloc64::Rel::from(self).put(bytes, ctx.le),
+        }
     }
-}
 
-/// Fails with the fault of `room` if the buffer doesn't hold the record, and then writes no byte.
-impl TryIntoCtx<RelocCtx> for Reloc {
-    ghost try_into_gives = { λ reloc c old answer new.
-        Writes (reloc_size c.is_rela c.ctx.container) (reloc_image_in c reloc) old answer new };
-
-    fn try_into_ctx(self, bytes: &mut [u8], ctx: RelocCtx) -> Result<usize> {
-        let stored = self.stored(ctx.is_mips64el);
-        stored.try_into_ctx(bytes, (ctx.is_rela, ctx.ctx))
-    }
-}
-
-/// Fails with the fault of `room` if the bytes don't hold the record.
-impl<'a> TryFromCtx<'a, RelocCtx> for Reloc {
-    ghost try_from_gives = { λ bytes c answer.
-        let size = reloc_size c.is_rela c.ctx.container in
-        answer ≡ with_size size (read_within size (reloc_in c) bytes) };
-
-    fn try_from_ctx(bytes: &'a [u8], ctx: RelocCtx) -> Result<(Self, usize)> {
-        let reloc = Reloc::read_record(bytes, ctx)?;
-        Ok((reloc, Reloc::size(ctx.is_rela, ctx.ctx)))
-    }
+    ghost layout_laws = { λ c. reloc_laws c.0 c.1.container c.1.le };
 }
 
 /// If the context says so, symbol and type are read and written as little-endian MIPS64 files store
 /// them.
-impl Record<RelocCtx> for Reloc {
-    ghost use Rattle.goblin_records.specs.Reloc.{RelocFitsIn};
+impl LaidOut<RelocCtx> for Reloc {
     ghost use Rattle.goblin_records.specs.RelocLaws.{reloc_laws_in};
 
-    ghost read = { reloc_in };
+    ghost layout = { reloc_layout_in };
 
-    ghost image = { reloc_image_in };
-
-    ghost fits = { RelocFitsIn };
-
-    #[tactic(auto, using(goblin_base::specs::RecordLaws::record_answers))]
-    #[inline]
-    fn read_record(bytes: &[u8], ctx: RelocCtx) -> Result<Self> {
-        room(bytes.len(), 0, Reloc::size(ctx.is_rela, ctx.ctx))?;
-        let read = Reloc::at(bytes, ctx.is_rela, ctx.ctx);
-        Ok(read.meant(ctx.is_mips64el))
+    fn size_in(ctx: RelocCtx) -> usize {
+        Reloc::size(ctx.is_rela, ctx.ctx)
     }
 
-    ghost laws = { λ c. obeys (reloc_laws_in c) };
+    #[inline]
+    fn get(bytes: &[u8], ctx: RelocCtx) -> Reloc {
+        let stored = Reloc::get(bytes, (ctx.is_rela, ctx.ctx));
+        stored.meant(ctx.is_mips64el)
+    }
+
+    fn put(self, bytes: &mut [u8], ctx: RelocCtx) {
+        let stored = self.stored(ctx.is_mips64el);
+        stored.put(bytes, (ctx.is_rela, ctx.ctx));
+    }
+
+    ghost layout_laws = { reloc_laws_in };
 }
 
 /// Laws of relocations: the image is the only list of bytes that is read as the relocation, and a

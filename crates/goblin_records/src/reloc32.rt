@@ -1,21 +1,15 @@
 //! Relocations of the 32-bit class: System V gABI, "Relocation" (`Elf32_Rel` and `Elf32_Rela`).
 ghost use Rattle.std.specs.Prelude.{◌≡◌, ◌≤◌, ◌↔◌, ◌++◌, IsTrue, length, drop};
-ghost use Rattle.goblin_base.specs.Layout.{IsOneImage};
-ghost use Rattle.goblin_base.specs.LayoutLaws.{obeys};
-ghost use Rattle.goblin_base.specs.Record.{read_within, Writes};
-ghost use Rattle.goblin_base.specs.Steps.{with_size};
+ghost use Rattle.goblin_base.specs.Layout.{IsOneImage, low_bits, shaped, zero};
 ghost use Rattle.goblin_base.specs.declared.container.Container.TheVariants as class;
 ghost use Rattle.goblin_base.specs.declared.container.Endian.{Endian};
-ghost use Rattle.goblin_records.specs.Reloc.{rel32_size, rel32_of, rel32_image, rel32_low, rel32_zero, rela32_size, rela32_of, rela32_image, rela32_low, rela32_zero};
+ghost use Rattle.goblin_records.specs.Reloc.{rel32, rela32, rela32_layout, rela32_low};
 ghost use Rattle.goblin_records.specs.RelocInfo.{symbol_in, type_in, info_of, JoinsItsParts};
 
 use crate::reloc::Reloc;
 use goblin_base::container::Endian;
-use goblin_base::error::Result;
+use goblin_base::laid_out::LaidOut;
 use goblin_base::number::{get_i32, get_u32, put_i32, put_u32};
-use goblin_base::record::Record;
-use goblin_base::room::room;
-use goblin_base::scroll::{SizeWith, TryFromCtx, TryIntoCtx};
 use std::alloc::AllocError;
 use std::result;
 
@@ -65,52 +59,6 @@ pub fn r_info(sym: u32, typ: u32) -> u32
     ensures { result ≡ info_of class.Little sym typ }
 {
     (sym << 8) + (typ & 0xff)
-}
-
-impl Rela {
-    // Reads the relocation at the start of the bytes.
-    pub(crate) fn at(bytes: &[u8], order: Endian) -> Rela
-        requires { SIZEOF_RELA ≤ length bytes.now }
-        ensures { result ≡ rela32_of order bytes.now }
-    {
-        Rela {
-            r_offset: get_u32(bytes, 0, order),
-            r_info: get_u32(bytes, 4, order),
-            r_addend: get_i32(bytes, 8, order),
-        }
-    }
-
-    // Writes the relocation at the start of the bytes.
-    pub(crate) fn put(&self, bytes: &mut [u8], order: Endian)
-        requires { SIZEOF_RELA ≤ length bytes.old }
-        ensures { bytes.new ≡ rela32_image order self.now ++ drop SIZEOF_RELA bytes.old }
-    {
-        put_u32(bytes, 0, self.r_offset, order);
-        put_u32(bytes, 4, self.r_info, order);
-        put_i32(bytes, 8, self.r_addend, order);
-    }
-}
-
-impl Rel {
-    // Reads the relocation at the start of the bytes.
-    pub(crate) fn at(bytes: &[u8], order: Endian) -> Rel
-        requires { SIZEOF_REL ≤ length bytes.now }
-        ensures { result ≡ rel32_of order bytes.now }
-    {
-        Rel {
-            r_offset: get_u32(bytes, 0, order),
-            r_info: get_u32(bytes, 4, order),
-        }
-    }
-
-    // Writes the relocation at the start of the bytes.
-    pub(crate) fn put(&self, bytes: &mut [u8], order: Endian)
-        requires { SIZEOF_REL ≤ length bytes.old }
-        ensures { bytes.new ≡ rel32_image order self.now ++ drop SIZEOF_REL bytes.old }
-    {
-        put_u32(bytes, 0, self.r_offset, order);
-        put_u32(bytes, 4, self.r_info, order);
-    }
 }
 
 impl From<Rela> for Reloc {
@@ -164,7 +112,7 @@ impl From<Reloc> for Rela {
 impl From<Reloc> for Rel {
     ghost use Rattle.goblin_records.specs.Reloc.{rel_as32};
 
-    ghost from_gives = { λ reloc raw. raw ≡ rel32_low (rel_as32 reloc) };
+    ghost from_gives = { λ reloc raw. raw ≡ low_bits rel32 (rel_as32 reloc) };
 
     fn from(rel: Reloc) -> Self {
         Rel {
@@ -174,119 +122,67 @@ impl From<Reloc> for Rel {
     }
 }
 
-impl SizeWith<Endian> for Rela {
-    ghost size_of = { λ _. rela32_size };
-
-    fn size_with(_order: &Endian) -> usize {
-        SIZEOF_RELA
-    }
-}
-
-/// Fails with the fault of `room` if the bytes don't hold the record.
-impl<'a> TryFromCtx<'a, Endian> for Rela {
-    ghost try_from_gives = { λ bytes order answer.
-        answer ≡ with_size rela32_size (read_within rela32_size (rela32_of order) bytes) };
-
-    fn try_from_ctx(bytes: &'a [u8], order: Endian) -> Result<(Self, usize)> {
-        let rela = Rela::read_record(bytes, order)?;
-        Ok((rela, SIZEOF_RELA))
-    }
-}
-
-/// Fails with the fault of `room` if the buffer doesn't hold the record, and then writes no byte.
-impl TryIntoCtx<Endian> for Rela {
-    ghost try_into_gives = { λ rela order old answer new.
-        Writes rela32_size (rela32_image order rela) old answer new };
-
-    #[tactic(auto, using(goblin_base::specs::RecordLaws::record_answers))]
-    fn try_into_ctx(self, bytes: &mut [u8], order: Endian) -> Result<usize> {
-        room(bytes.len(), 0, SIZEOF_RELA)?;
-        self.put(bytes, order);
-        Ok(SIZEOF_RELA)
-    }
-}
-
-impl Record<Endian> for Rela {
-    ghost use Rattle.goblin_records.specs.Reloc.{Rela32Fits};
+impl LaidOut<Endian> for Rela {
     ghost use Rattle.goblin_records.specs.RelocLaws.{rela32_laws};
 
-    ghost read = { rela32_of };
+    ghost layout = { rela32_layout };
 
-    ghost image = { rela32_image };
-
-    ghost fits = { λ _. Rela32Fits };
-
-    #[tactic(auto, using(goblin_base::specs::RecordLaws::record_answers))]
-    fn read_record(bytes: &[u8], order: Endian) -> Result<Self> {
-        room(bytes.len(), 0, SIZEOF_RELA)?;
-        Ok(Rela::at(bytes, order))
+    fn size_in(_order: Endian) -> usize {
+        SIZEOF_RELA
     }
 
-    ghost laws = { λ order. obeys (rela32_laws order) };
-}
-
-impl SizeWith<Endian> for Rel {
-    ghost size_of = { λ _. rel32_size };
-
-    fn size_with(_order: &Endian) -> usize {
-        SIZEOF_REL
+    fn get(bytes: &[u8], order: Endian) -> Rela {
+        Rela {
+            r_offset: get_u32(bytes, 0, order),
+            r_info: get_u32(bytes, 4, order),
+            r_addend: get_i32(bytes, 8, order),
+        }
     }
-}
 
-/// Fails with the fault of `room` if the bytes don't hold the record.
-impl<'a> TryFromCtx<'a, Endian> for Rel {
-    ghost try_from_gives = { λ bytes order answer.
-        answer ≡ with_size rel32_size (read_within rel32_size (rel32_of order) bytes) };
-
-    fn try_from_ctx(bytes: &'a [u8], order: Endian) -> Result<(Self, usize)> {
-        let rel = Rel::read_record(bytes, order)?;
-        Ok((rel, SIZEOF_REL))
+    fn put(self, bytes: &mut [u8], order: Endian) {
+        put_u32(bytes, 0, self.r_offset, order);
+        put_u32(bytes, 4, self.r_info, order);
+        put_i32(bytes, 8, self.r_addend, order);
     }
+
+    ghost layout_laws = { rela32_laws };
 }
 
-/// Fails with the fault of `room` if the buffer doesn't hold the record, and then writes no byte.
-impl TryIntoCtx<Endian> for Rel {
-    ghost try_into_gives = { λ rel order old answer new.
-        Writes rel32_size (rel32_image order rel) old answer new };
-
-    #[tactic(auto, using(goblin_base::specs::RecordLaws::record_answers))]
-    fn try_into_ctx(self, bytes: &mut [u8], order: Endian) -> Result<usize> {
-        room(bytes.len(), 0, SIZEOF_REL)?;
-        self.put(bytes, order);
-        Ok(SIZEOF_REL)
-    }
-}
-
-impl Record<Endian> for Rel {
-    ghost use Rattle.goblin_records.specs.Reloc.{Rel32Fits};
+impl LaidOut<Endian> for Rel {
     ghost use Rattle.goblin_records.specs.RelocLaws.{rel32_laws};
 
-    ghost read = { rel32_of };
+    ghost layout = { shaped rel32 };
 
-    ghost image = { rel32_image };
-
-    ghost fits = { λ _. Rel32Fits };
-
-    #[tactic(auto, using(goblin_base::specs::RecordLaws::record_answers))]
-    fn read_record(bytes: &[u8], order: Endian) -> Result<Self> {
-        room(bytes.len(), 0, SIZEOF_REL)?;
-        Ok(Rel::at(bytes, order))
+    fn size_in(_order: Endian) -> usize {
+        SIZEOF_REL
     }
 
-    ghost laws = { λ order. obeys (rel32_laws order) };
+    fn get(bytes: &[u8], order: Endian) -> Rel {
+        Rel {
+            r_offset: get_u32(bytes, 0, order),
+            r_info: get_u32(bytes, 4, order),
+        }
+    }
+
+    fn put(self, bytes: &mut [u8], order: Endian) {
+        put_u32(bytes, 0, self.r_offset, order);
+        put_u32(bytes, 4, self.r_info, order);
+    }
+
+    ghost layout_laws = { rel32_laws };
 }
 
 /// Laws of relocations: the sizes, and that an image is the only list of bytes that is read as the
 /// relocation; all fields of the default ones are 0; an `r_info` is the one of its symbol and its
 /// type.
 pub fn laws()
-    ensures sizes { (SIZEOF_RELA ≡ rela32_size) × (SIZEOF_REL ≡ rel32_size) }
+    ensures sizes { (SIZEOF_RELA ≡ 12) × (SIZEOF_REL ≡ 8) }
     ensures rela_image { (order : Endian) →
-        IsOneImage rela32_size (rela32_of order) (rela32_image order) rela32_low }
+        IsOneImage (rela32_layout order) }
     ensures rel_image { (order : Endian) →
-        IsOneImage rel32_size (rel32_of order) (rel32_image order) rel32_low }
-    ensures rela_zeros { (rela : Rela) → ⟦<Rela as Default>⟧.is_default rela → rela ≡ rela32_zero }
-    ensures rel_zeros { (rel : Rel) → ⟦<Rel as Default>⟧.is_default rel → rel ≡ rel32_zero }
+        IsOneImage (shaped rel32 order) }
+    ensures rela_zeros { (rela : Rela) → ⟦<Rela as Default>⟧.is_default rela → rela ≡ zero rela32 }
+    ensures rel_zeros { (rel : Rel) → ⟦<Rel as Default>⟧.is_default rel → rel ≡ zero rel32 }
     ensures joins { JoinsItsParts class.Little }
 {}
 

@@ -1,21 +1,15 @@
 //! Relocations of the 64-bit class: System V gABI, "Relocation" (`Elf64_Rel` and `Elf64_Rela`).
 ghost use Rattle.std.specs.Prelude.{◌≡◌, ◌<◌, ◌≤◌, ◌^◌, ◌↔◌, ◌++◌, IsTrue, length, drop};
-ghost use Rattle.goblin_base.specs.Layout.{IsOneImage};
-ghost use Rattle.goblin_base.specs.LayoutLaws.{obeys};
-ghost use Rattle.goblin_base.specs.Record.{read_within, Writes};
-ghost use Rattle.goblin_base.specs.Steps.{with_size};
+ghost use Rattle.goblin_base.specs.Layout.{IsOneImage, low_bits, shaped, zero};
 ghost use Rattle.goblin_base.specs.declared.container.Container.TheVariants as class;
 ghost use Rattle.goblin_base.specs.declared.container.Endian.{Endian};
-ghost use Rattle.goblin_records.specs.Reloc.{rel64_size, rel64_of, rel64_image, rel64_low, rel64_zero, rela64_size, rela64_of, rela64_image, rela64_low, rela64_zero};
+ghost use Rattle.goblin_records.specs.Reloc.{rel64, rela64, rela64_layout, rela64_low};
 ghost use Rattle.goblin_records.specs.RelocInfo.{symbol_in, type_in, info_of, JoinsItsParts, mips64el_info, mips64el_info_inverse, Mips64elInverse, Mips64elOneToOne, Mips64elFourTimes};
 
 use crate::reloc::Reloc;
 use goblin_base::container::Endian;
-use goblin_base::error::Result;
+use goblin_base::laid_out::LaidOut;
 use goblin_base::number::{get_i64, get_u64, put_i64, put_u64};
-use goblin_base::record::Record;
-use goblin_base::room::room;
-use goblin_base::scroll::{SizeWith, TryFromCtx, TryIntoCtx};
 use std::alloc::AllocError;
 use std::result;
 
@@ -83,52 +77,6 @@ pub fn mips64el_r_info_inverse(info: u64) -> u64
     r_info(r_type(info).swap_bytes() as u64, r_sym(info) as u64)
 }
 
-impl Rela {
-    // Reads the relocation at the start of the bytes.
-    pub(crate) fn at(bytes: &[u8], order: Endian) -> Rela
-        requires { SIZEOF_RELA ≤ length bytes.now }
-        ensures { result ≡ rela64_of order bytes.now }
-    {
-        Rela {
-            r_offset: get_u64(bytes, 0, order),
-            r_info: get_u64(bytes, 8, order),
-            r_addend: get_i64(bytes, 16, order),
-        }
-    }
-
-    // Writes the relocation at the start of the bytes.
-    pub(crate) fn put(&self, bytes: &mut [u8], order: Endian)
-        requires { SIZEOF_RELA ≤ length bytes.old }
-        ensures { bytes.new ≡ rela64_image order self.now ++ drop SIZEOF_RELA bytes.old }
-    {
-        put_u64(bytes, 0, self.r_offset, order);
-        put_u64(bytes, 8, self.r_info, order);
-        put_i64(bytes, 16, self.r_addend, order);
-    }
-}
-
-impl Rel {
-    // Reads the relocation at the start of the bytes.
-    pub(crate) fn at(bytes: &[u8], order: Endian) -> Rel
-        requires { SIZEOF_REL ≤ length bytes.now }
-        ensures { result ≡ rel64_of order bytes.now }
-    {
-        Rel {
-            r_offset: get_u64(bytes, 0, order),
-            r_info: get_u64(bytes, 8, order),
-        }
-    }
-
-    // Writes the relocation at the start of the bytes.
-    pub(crate) fn put(&self, bytes: &mut [u8], order: Endian)
-        requires { SIZEOF_REL ≤ length bytes.old }
-        ensures { bytes.new ≡ rel64_image order self.now ++ drop SIZEOF_REL bytes.old }
-    {
-        put_u64(bytes, 0, self.r_offset, order);
-        put_u64(bytes, 8, self.r_info, order);
-    }
-}
-
 impl From<Rela> for Reloc {
     ghost use Rattle.goblin_records.specs.Reloc.{rela_widened64};
 
@@ -179,7 +127,7 @@ impl From<Reloc> for Rela {
 impl From<Reloc> for Rel {
     ghost use Rattle.goblin_records.specs.Reloc.{rel_as64};
 
-    ghost from_gives = { λ reloc raw. raw ≡ rel64_low (rel_as64 reloc) };
+    ghost from_gives = { λ reloc raw. raw ≡ low_bits rel64 (rel_as64 reloc) };
 
     fn from(rel: Reloc) -> Self {
         Rel {
@@ -189,119 +137,67 @@ impl From<Reloc> for Rel {
     }
 }
 
-impl SizeWith<Endian> for Rela {
-    ghost size_of = { λ _. rela64_size };
-
-    fn size_with(_order: &Endian) -> usize {
-        SIZEOF_RELA
-    }
-}
-
-/// Fails with the fault of `room` if the bytes don't hold the record.
-impl<'a> TryFromCtx<'a, Endian> for Rela {
-    ghost try_from_gives = { λ bytes order answer.
-        answer ≡ with_size rela64_size (read_within rela64_size (rela64_of order) bytes) };
-
-    fn try_from_ctx(bytes: &'a [u8], order: Endian) -> Result<(Self, usize)> {
-        let rela = Rela::read_record(bytes, order)?;
-        Ok((rela, SIZEOF_RELA))
-    }
-}
-
-/// Fails with the fault of `room` if the buffer doesn't hold the record, and then writes no byte.
-impl TryIntoCtx<Endian> for Rela {
-    ghost try_into_gives = { λ rela order old answer new.
-        Writes rela64_size (rela64_image order rela) old answer new };
-
-    #[tactic(auto, using(goblin_base::specs::RecordLaws::record_answers))]
-    fn try_into_ctx(self, bytes: &mut [u8], order: Endian) -> Result<usize> {
-        room(bytes.len(), 0, SIZEOF_RELA)?;
-        self.put(bytes, order);
-        Ok(SIZEOF_RELA)
-    }
-}
-
-impl Record<Endian> for Rela {
-    ghost use Rattle.goblin_records.specs.Reloc.{Rela64Fits};
+impl LaidOut<Endian> for Rela {
     ghost use Rattle.goblin_records.specs.RelocLaws.{rela64_laws};
 
-    ghost read = { rela64_of };
+    ghost layout = { rela64_layout };
 
-    ghost image = { rela64_image };
-
-    ghost fits = { λ _. Rela64Fits };
-
-    #[tactic(auto, using(goblin_base::specs::RecordLaws::record_answers))]
-    fn read_record(bytes: &[u8], order: Endian) -> Result<Self> {
-        room(bytes.len(), 0, SIZEOF_RELA)?;
-        Ok(Rela::at(bytes, order))
+    fn size_in(_order: Endian) -> usize {
+        SIZEOF_RELA
     }
 
-    ghost laws = { λ order. obeys (rela64_laws order) };
-}
-
-impl SizeWith<Endian> for Rel {
-    ghost size_of = { λ _. rel64_size };
-
-    fn size_with(_order: &Endian) -> usize {
-        SIZEOF_REL
+    fn get(bytes: &[u8], order: Endian) -> Rela {
+        Rela {
+            r_offset: get_u64(bytes, 0, order),
+            r_info: get_u64(bytes, 8, order),
+            r_addend: get_i64(bytes, 16, order),
+        }
     }
-}
 
-/// Fails with the fault of `room` if the bytes don't hold the record.
-impl<'a> TryFromCtx<'a, Endian> for Rel {
-    ghost try_from_gives = { λ bytes order answer.
-        answer ≡ with_size rel64_size (read_within rel64_size (rel64_of order) bytes) };
-
-    fn try_from_ctx(bytes: &'a [u8], order: Endian) -> Result<(Self, usize)> {
-        let rel = Rel::read_record(bytes, order)?;
-        Ok((rel, SIZEOF_REL))
+    fn put(self, bytes: &mut [u8], order: Endian) {
+        put_u64(bytes, 0, self.r_offset, order);
+        put_u64(bytes, 8, self.r_info, order);
+        put_i64(bytes, 16, self.r_addend, order);
     }
+
+    ghost layout_laws = { rela64_laws };
 }
 
-/// Fails with the fault of `room` if the buffer doesn't hold the record, and then writes no byte.
-impl TryIntoCtx<Endian> for Rel {
-    ghost try_into_gives = { λ rel order old answer new.
-        Writes rel64_size (rel64_image order rel) old answer new };
-
-    #[tactic(auto, using(goblin_base::specs::RecordLaws::record_answers))]
-    fn try_into_ctx(self, bytes: &mut [u8], order: Endian) -> Result<usize> {
-        room(bytes.len(), 0, SIZEOF_REL)?;
-        self.put(bytes, order);
-        Ok(SIZEOF_REL)
-    }
-}
-
-impl Record<Endian> for Rel {
-    ghost use Rattle.goblin_records.specs.Reloc.{Rel64Fits};
+impl LaidOut<Endian> for Rel {
     ghost use Rattle.goblin_records.specs.RelocLaws.{rel64_laws};
 
-    ghost read = { rel64_of };
+    ghost layout = { shaped rel64 };
 
-    ghost image = { rel64_image };
-
-    ghost fits = { λ _. Rel64Fits };
-
-    #[tactic(auto, using(goblin_base::specs::RecordLaws::record_answers))]
-    fn read_record(bytes: &[u8], order: Endian) -> Result<Self> {
-        room(bytes.len(), 0, SIZEOF_REL)?;
-        Ok(Rel::at(bytes, order))
+    fn size_in(_order: Endian) -> usize {
+        SIZEOF_REL
     }
 
-    ghost laws = { λ order. obeys (rel64_laws order) };
+    fn get(bytes: &[u8], order: Endian) -> Rel {
+        Rel {
+            r_offset: get_u64(bytes, 0, order),
+            r_info: get_u64(bytes, 8, order),
+        }
+    }
+
+    fn put(self, bytes: &mut [u8], order: Endian) {
+        put_u64(bytes, 0, self.r_offset, order);
+        put_u64(bytes, 8, self.r_info, order);
+    }
+
+    ghost layout_laws = { rel64_laws };
 }
 
 /// Laws of relocations: the sizes, and that an image is the only list of bytes that is read as the
 /// relocation; all fields of the default ones are 0; an `r_info` is the one of its symbol and its
 /// type; `mips64el_r_info` and `mips64el_r_info_inverse` undo each other.
 pub fn laws()
-    ensures sizes { (SIZEOF_RELA ≡ rela64_size) × (SIZEOF_REL ≡ rel64_size) }
+    ensures sizes { (SIZEOF_RELA ≡ 24) × (SIZEOF_REL ≡ 16) }
     ensures rela_image { (order : Endian) →
-        IsOneImage rela64_size (rela64_of order) (rela64_image order) rela64_low }
+        IsOneImage (rela64_layout order) }
     ensures rel_image { (order : Endian) →
-        IsOneImage rel64_size (rel64_of order) (rel64_image order) rel64_low }
-    ensures rela_zeros { (rela : Rela) → ⟦<Rela as Default>⟧.is_default rela → rela ≡ rela64_zero }
-    ensures rel_zeros { (rel : Rel) → ⟦<Rel as Default>⟧.is_default rel → rel ≡ rel64_zero }
+        IsOneImage (shaped rel64 order) }
+    ensures rela_zeros { (rela : Rela) → ⟦<Rela as Default>⟧.is_default rela → rela ≡ zero rela64 }
+    ensures rel_zeros { (rel : Rel) → ⟦<Rel as Default>⟧.is_default rel → rel ≡ zero rel64 }
     ensures joins { JoinsItsParts class.Big }
     ensures inverse { Mips64elInverse }
     ensures one_to_one { Mips64elOneToOne }

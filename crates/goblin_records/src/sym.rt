@@ -1,23 +1,19 @@
 //! Symbols of either class: System V gABI, "Symbol Table".
 ghost use Rattle.std.specs.Prelude.{◌≡◌, ◌≤◌, ◌<◌, ◌/◌, ◌↔◌, ◌++◌, IsTrue, length, drop, codes, IsOk, [], ◌∷◌};
 ghost use Rattle.goblin_base.specs.Layout.{IsOneImage, IsSameInEachClass};
-ghost use Rattle.goblin_base.specs.LayoutLaws.{obeys};
-ghost use Rattle.goblin_base.specs.Record.{read_within, Writes};
 ghost use Rattle.goblin_base.specs.Refusal.{buffer_too_short, Gives, Refuses};
-ghost use Rattle.goblin_base.specs.Steps.{with_size};
 ghost use Rattle.goblin_base.specs.declared.container.Container.{Container};
 ghost use Rattle.goblin_base.specs.declared.container.Endian.{Endian};
 ghost use Rattle.goblin_records.specs.Constants.{bind_numbers, type_numbers, visibility_numbers};
-ghost use Rattle.goblin_records.specs.Sym.{is_in_section, sym_size, sym_of, sym_image, sym_low, SymFits, symbols_from, sym_zero};
+ghost use Rattle.goblin_records.specs.Sym.{is_in_section, sym_image, sym_layout, sym_size, sym_zero, symbols_from};
 ghost use Rattle.goblin_records.specs.SymParts.{bind_of, type_of, visibility_of, IsGlobalImport, IsImport, type_name};
 ghost use Rattle.goblin_records.specs.declared.sym.Sym.{Sym};
 
 pub use crate::{sym32, sym64};
 use goblin_base::container::{Container, Ctx, Endian};
 use goblin_base::error::Result;
-use goblin_base::record::Record;
-use goblin_base::room::room;
-use goblin_base::scroll::{IntoCtx, SizeWith, TryFromCtx, TryIntoCtx};
+use goblin_base::laid_out::LaidOut;
+use goblin_base::scroll::IntoCtx;
 use goblin_base::table::read_all;
 use std::alloc::{AllocError, Global};
 use std::result;
@@ -120,64 +116,6 @@ impl Sym {
     {
         read_all(alloc, bytes, offset, count, ctx, "symbols")
     }
-
-    // Reads the symbol at the start of the bytes.
-    #[inline(always)]
-    fn at(bytes: &[u8], class: Container, order: Endian) -> Sym
-        requires { sym_size class ≤ length bytes.now }
-        ensures { result ≡ sym_of class order bytes.now }
-    {
-        match class {
-            Container::Little => sym32::Sym::at(bytes, order).into(),
-            Container::Big => sym64::Sym::at(bytes, order).into(),
-        }
-    }
-
-    // Writes the symbol at the start of the bytes.
-    fn put(self, bytes: &mut [u8], ctx: Ctx)
-        requires { sym_size ctx.container ≤ length bytes.old }
-        ensures { let image = sym_image ctx.container ctx.le self in
-            bytes.new ≡ image ++ drop (sym_size ctx.container) bytes.old }
-    {
-        match ctx.container {
-            Container::Little => sym32::Sym::from(self).put(bytes, ctx.le),
-            Container::Big => sym64::Sym::from(self).put(bytes, ctx.le),
-        }
-    }
-}
-
-impl SizeWith<Ctx> for Sym {
-    ghost size_of = { λ ctx. sym_size ctx.container };
-
-    fn size_with(ctx: &Ctx) -> usize {
-        Sym::size(ctx.container)
-    }
-}
-
-/// Fails with the fault of `room` if the bytes don't hold the record.
-impl<'a> TryFromCtx<'a, Ctx> for Sym {
-    ghost try_from_gives = { λ bytes ctx answer.
-        let size = sym_size ctx.container in
-        answer ≡ with_size size (read_within size (sym_of ctx.container ctx.le) bytes) };
-
-    fn try_from_ctx(bytes: &'a [u8], ctx: Ctx) -> Result<(Self, usize)> {
-        let sym = Sym::read_record(bytes, ctx)?;
-        Ok((sym, Sym::size(ctx.container)))
-    }
-}
-
-/// Fails with the fault of `room` if the buffer doesn't hold the record, and then writes no byte.
-impl TryIntoCtx<Ctx> for Sym {
-    ghost try_into_gives = { λ sym ctx old answer new.
-        Writes (sym_size ctx.container) (sym_image ctx.container ctx.le sym) old answer new };
-
-    #[tactic(auto, using(goblin_base::specs::RecordLaws::record_answers))]
-    fn try_into_ctx(self, bytes: &mut [u8], ctx: Ctx) -> Result<usize> {
-        let size = Sym::size(ctx.container);
-        room(bytes.len(), 0, size)?;
-        self.put(bytes, ctx);
-        Ok(size)
-    }
 }
 
 /// The buffer must hold a symbol.
@@ -192,26 +130,34 @@ impl IntoCtx<Ctx> for Sym {
     }
 }
 
-impl Record<Ctx> for Sym {
+impl LaidOut<Ctx> for Sym {
     ghost use Rattle.goblin_records.specs.SymLaws.{sym_laws};
 
-    ghost read = { λ ctx. sym_of ctx.container ctx.le };
+    ghost layout = { λ ctx. sym_layout ctx.container ctx.le };
 
-    ghost image = { λ ctx. sym_image ctx.container ctx.le };
+    fn size_in(ctx: Ctx) -> usize {
+        Sym::size(ctx.container)
+    }
 
-    ghost fits = { λ ctx. SymFits ctx.container };
-
-    #[tactic(auto, using(goblin_base::specs::RecordLaws::record_answers))]
-    fn read_record(bytes: &[u8], ctx: Ctx) -> Result<Self> {
-        room(bytes.len(), 0, Sym::size(ctx.container))?;
+    #[inline]
+    fn get(bytes: &[u8], ctx: Ctx) -> Sym {
         // (asked here, the byte order isn't asked at each field)
-        match ctx.le {
-            Endian::Little => Ok(Sym::at(bytes, ctx.container, Endian::Little)),
-            Endian::Big => Ok(Sym::at(bytes, ctx.container, Endian::Big)),
+        match (ctx.container, ctx.le) {
+            (Container::Little, Endian::Little) => sym32::Sym::get(bytes, Endian::Little).into(),
+            (Container::Little, Endian::Big) => sym32::Sym::get(bytes, Endian::Big).into(),
+            (Container::Big, Endian::Little) => sym64::Sym::get(bytes, Endian::Little).into(),
+            (Container::Big, Endian::Big) => sym64::Sym::get(bytes, Endian::Big).into(),
         }
     }
 
-    ghost laws = { λ ctx. obeys (sym_laws ctx.container ctx.le) };
+    fn put(self, bytes: &mut [u8], ctx: Ctx) {
+        match ctx.container {
+            Container::Little => sym32::Sym::from(self).put(bytes, ctx.le),
+            Container::Big => sym64::Sym::from(self).put(bytes, ctx.le),
+        }
+    }
+
+    ghost layout_laws = { λ ctx. sym_laws ctx.container ctx.le };
 }
 
 /// Returns the binding: the high four bits of `st_info`.
@@ -255,8 +201,8 @@ pub fn get_type(info: u8) -> &'static str
 /// the default symbol are 0.
 pub fn laws()
     ensures image { (class : Container) (order : Endian) →
-        IsOneImage (sym_size class) (sym_of class order) (sym_image class order) (sym_low class) }
-    ensures same { IsSameInEachClass sym_size sym_of sym_image SymFits }
+        IsOneImage (sym_layout class order) }
+    ensures same { IsSameInEachClass sym_layout }
     ensures zeros { (sym : Sym) → ⟦<Sym as Default>⟧.is_default sym → sym ≡ sym_zero }
 {}
 

@@ -1,22 +1,16 @@
 //! Symbols of the 32-bit class: System V gABI, "Symbol Table" (`Elf32_Sym`).
 ghost use Rattle.std.specs.Prelude.{◌≡◌, ◌≤◌, ◌↔◌, ◌++◌, IsTrue, length, drop, [], ◌∷◌};
-ghost use Rattle.goblin_base.specs.Layout.{IsOneImage};
-ghost use Rattle.goblin_base.specs.LayoutLaws.{obeys};
-ghost use Rattle.goblin_base.specs.Record.{read_within, Writes};
-ghost use Rattle.goblin_base.specs.Steps.{with_size};
+ghost use Rattle.goblin_base.specs.Layout.{IsOneImage, low_bits, shaped, zero};
 ghost use Rattle.goblin_base.specs.declared.container.Endian.{Endian};
 ghost use Rattle.goblin_records.specs.Constants.{bind_numbers, type_numbers, visibility_numbers};
-ghost use Rattle.goblin_records.specs.Sym.{sym32_size, sym32_of, sym32_image, sym32_low, sym32_zero};
+ghost use Rattle.goblin_records.specs.Sym.{sym32};
 ghost use Rattle.goblin_records.specs.SymParts.{type_of, IsImport};
 ghost use Rattle.goblin_records.specs.declared.sym32.Sym.{Sym};
 
 use crate::sym::Sym as ElfSym;
 use goblin_base::container::Endian;
-use goblin_base::error::Result;
+use goblin_base::laid_out::LaidOut;
 use goblin_base::number::{get_u8, get_u16, get_u32, put_u8, put_u16, put_u32};
-use goblin_base::record::Record;
-use goblin_base::room::room;
-use goblin_base::scroll::{SizeWith, TryFromCtx, TryIntoCtx};
 use std::alloc::AllocError;
 use std::result;
 
@@ -56,34 +50,6 @@ impl Sym {
     {
         st_type(self.st_info) == STT_FUNC
     }
-
-    // Reads the symbol at the start of the bytes.
-    pub(crate) fn at(bytes: &[u8], order: Endian) -> Sym
-        requires { SIZEOF_SYM ≤ length bytes.now }
-        ensures { result ≡ sym32_of order bytes.now }
-    {
-        Sym {
-            st_name: get_u32(bytes, 0, order),
-            st_value: get_u32(bytes, 4, order),
-            st_size: get_u32(bytes, 8, order),
-            st_info: get_u8(bytes, 12),
-            st_other: get_u8(bytes, 13),
-            st_shndx: get_u16(bytes, 14, order),
-        }
-    }
-
-    // Writes the symbol at the start of the bytes.
-    pub(crate) fn put(&self, bytes: &mut [u8], order: Endian)
-        requires { SIZEOF_SYM ≤ length bytes.old }
-        ensures { bytes.new ≡ sym32_image order self.now ++ drop SIZEOF_SYM bytes.old }
-    {
-        put_u32(bytes, 0, self.st_name, order);
-        put_u32(bytes, 4, self.st_value, order);
-        put_u32(bytes, 8, self.st_size, order);
-        put_u8(bytes, 12, self.st_info);
-        put_u8(bytes, 13, self.st_other);
-        put_u16(bytes, 14, self.st_shndx, order);
-    }
 }
 
 impl From<Sym> for ElfSym {
@@ -107,7 +73,7 @@ impl From<Sym> for ElfSym {
 impl From<ElfSym> for Sym {
     ghost use Rattle.goblin_records.specs.Sym.{as32};
 
-    ghost from_gives = { λ sym raw. raw ≡ sym32_low (as32 sym) };
+    ghost from_gives = { λ sym raw. raw ≡ low_bits sym32 (as32 sym) };
 
     fn from(sym: ElfSym) -> Self {
         Sym {
@@ -121,63 +87,44 @@ impl From<ElfSym> for Sym {
     }
 }
 
-impl SizeWith<Endian> for Sym {
-    ghost size_of = { λ _. sym32_size };
-
-    fn size_with(_order: &Endian) -> usize {
-        SIZEOF_SYM
-    }
-}
-
-/// Fails with the fault of `room` if the bytes don't hold the record.
-impl<'a> TryFromCtx<'a, Endian> for Sym {
-    ghost try_from_gives = { λ bytes order answer.
-        answer ≡ with_size sym32_size (read_within sym32_size (sym32_of order) bytes) };
-
-    fn try_from_ctx(bytes: &'a [u8], order: Endian) -> Result<(Self, usize)> {
-        let sym = Sym::read_record(bytes, order)?;
-        Ok((sym, SIZEOF_SYM))
-    }
-}
-
-/// Fails with the fault of `room` if the buffer doesn't hold the record, and then writes no byte.
-impl TryIntoCtx<Endian> for Sym {
-    ghost try_into_gives = { λ sym order old answer new.
-        Writes sym32_size (sym32_image order sym) old answer new };
-
-    #[tactic(auto, using(goblin_base::specs::RecordLaws::record_answers))]
-    fn try_into_ctx(self, bytes: &mut [u8], order: Endian) -> Result<usize> {
-        room(bytes.len(), 0, SIZEOF_SYM)?;
-        self.put(bytes, order);
-        Ok(SIZEOF_SYM)
-    }
-}
-
-impl Record<Endian> for Sym {
-    ghost use Rattle.goblin_records.specs.Sym.{Sym32Fits};
+impl LaidOut<Endian> for Sym {
     ghost use Rattle.goblin_records.specs.SymLaws.{sym32_laws};
 
-    ghost read = { sym32_of };
+    ghost layout = { shaped sym32 };
 
-    ghost image = { sym32_image };
-
-    ghost fits = { λ _. Sym32Fits };
-
-    #[tactic(auto, using(goblin_base::specs::RecordLaws::record_answers))]
-    fn read_record(bytes: &[u8], order: Endian) -> Result<Self> {
-        room(bytes.len(), 0, SIZEOF_SYM)?;
-        Ok(Sym::at(bytes, order))
+    fn size_in(_order: Endian) -> usize {
+        SIZEOF_SYM
     }
 
-    ghost laws = { λ order. obeys (sym32_laws order) };
+    fn get(bytes: &[u8], order: Endian) -> Sym {
+        Sym {
+            st_name: get_u32(bytes, 0, order),
+            st_value: get_u32(bytes, 4, order),
+            st_size: get_u32(bytes, 8, order),
+            st_info: get_u8(bytes, 12),
+            st_other: get_u8(bytes, 13),
+            st_shndx: get_u16(bytes, 14, order),
+        }
+    }
+
+    fn put(self, bytes: &mut [u8], order: Endian) {
+        put_u32(bytes, 0, self.st_name, order);
+        put_u32(bytes, 4, self.st_value, order);
+        put_u32(bytes, 8, self.st_size, order);
+        put_u8(bytes, 12, self.st_info);
+        put_u8(bytes, 13, self.st_other);
+        put_u16(bytes, 14, self.st_shndx, order);
+    }
+
+    ghost layout_laws = { sym32_laws };
 }
 
 /// Laws of symbols: the image is the only list of bytes that is read as the symbol. All fields of
 /// the default symbol are 0.
 pub fn laws()
     ensures image { (order : Endian) →
-        IsOneImage sym32_size (sym32_of order) (sym32_image order) sym32_low }
-    ensures zeros { (sym : Sym) → ⟦<Sym as Default>⟧.is_default sym → sym ≡ sym32_zero }
+        IsOneImage (shaped sym32 order) }
+    ensures zeros { (sym : Sym) → ⟦<Sym as Default>⟧.is_default sym → sym ≡ zero sym32 }
 {}
 
 /// Laws: `==` is true exactly if all fields of two symbols are equal. `clone` returns the symbol,
@@ -204,7 +151,7 @@ pub use crate::sym::{get_type, is_import, st_bind, st_type, st_visibility};
 /// Laws: the numbers of this module's own constants and of those that it re-exports, under the
 /// names that they have here. A call does nothing.
 pub fn constants()
-    ensures size { SIZEOF_SYM ≡ sym32_size }
+    ensures size { SIZEOF_SYM ≡ 16 }
     ensures bindings { STB_LOCAL ∷ STB_GLOBAL ∷ STB_WEAK ∷ STB_NUM ∷ STB_LOOS ∷ STB_GNU_UNIQUE
         ∷ STB_HIOS ∷ STB_LOPROC ∷ STB_HIPROC ∷ []
         ≡ bind_numbers }

@@ -1,6 +1,0 @@
-use Rattle.goblin_base.specs.FieldLaws.{with_fields-image}
-use Rattle.goblin_headers.specs.SectionHeader.{section_header64_fields}
-use Rattle.goblin_headers.proofs.section_header64.SectionHeader.put.Goals as goal
-
-pub returns : goal.returns
-returns c = cc (with_fields-image c.args.order c.args.bytes.now 0 (section_header64_fields c.args.self.now) c.requires)

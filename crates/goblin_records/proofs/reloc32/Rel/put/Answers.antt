@@ -1,6 +1,0 @@
-use Rattle.goblin_base.specs.FieldLaws.{with_fields-image}
-use Rattle.goblin_records.specs.Reloc.{rel32_fields}
-use Rattle.goblin_records.proofs.reloc32.Rel.put.Goals as goal
-
-pub returns : goal.returns
-returns c = cc (with_fields-image c.args.order c.args.bytes.now 0 (rel32_fields c.args.self.now) c.requires)
