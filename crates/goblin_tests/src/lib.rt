@@ -26,6 +26,8 @@ mod number;
 #[cfg(test)]
 mod options;
 #[cfg(test)]
+mod own_record;
+#[cfg(test)]
 mod paths;
 #[cfg(test)]
 mod program_header;
