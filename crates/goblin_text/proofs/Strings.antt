@@ -1,8 +1,8 @@
 -- Strings: the bytes before the first zero byte.
 use Rattle.std.proofs.Common.{◌≡◌, ◌≢◌, ◌∙◌, ℕ, ◌+◌, ◌-◌, ◌<◌, ◌≤◌, ◌==◌, Bool, false, cond, not, eqb, List, ◌++◌}
-use Rattle.std.proofs.Common.{length, get_or, take, drop, refl, sym, ap, ⊎_elim, arith, slice_range}
+use Rattle.std.proofs.Common.{length, get_or, take, drop, sym, ap, ⊎_elim, arith, slice_range}
 use Rattle.std.proofs.Math.Seq.{take-append-add}
-use Rattle.std.proofs.lemmas.Bool.{both_ways, cases_lt, cond-true, cond-false, eq-eqb, lt-ltb, le-ltb}
+use Rattle.std.proofs.lemmas.Bool.{both_ways, cases_lt, eq-eqb}
 use Rattle.std.proofs.lemmas.Bool.Decides.{nat_tests}
 use Rattle.std.proofs.lemmas.List.{get_or-take, length-take, length-take-le, take-append-le, take-take, take_all}
 use Rattle.std.proofs.lemmas.List.Folds.{prefix_len-append}

@@ -1,5 +1,5 @@
 -- The lines of the shown text.
-use Rattle.std.specs.Prelude.{ℕ, ◌==◌, ◌||◌, nat_lt, Bool, if◌then◌else◌, List, [], ◌∷◌, slice_index, codes, decimal}
+use Rattle.std.specs.Prelude.{ℕ, ◌==◌, ◌||◌, nat_lt, Bool, if◌then◌else◌, List, slice_index, codes, decimal}
 use Rattle.std.specs.Prelude.{map, ℤ, Option, None, Some}
 use Rattle.std.specs.Fmt.{signed_decimal}
 use Rattle.goblin.specs.declared.elf.header.Header.{Header}

@@ -1,6 +1,6 @@
 -- What is shown of the bytes of a file.
-use Rattle.std.specs.Prelude.{◌≡◌, ◌≢◌, ℕ, ◌+◌, ◌++◌, ◌/◌, ◌==◌, ◌&&◌, ◌||◌, nat_lt, not, Bool, false, if◌then◌else◌}
-use Rattle.std.specs.Prelude.{List, [], ◌∷◌, length, slice_get, Option, None, Some, Result, Ok, Err, unwrap_or}
+use Rattle.std.specs.Prelude.{◌≡◌, ℕ, ◌+◌, ◌/◌, ◌==◌, ◌&&◌, ◌||◌, nat_lt, not, Bool, false, if◌then◌else◌}
+use Rattle.std.specs.Prelude.{List, [], ◌∷◌, length, slice_get, Option, None, Some, Result, Ok, unwrap_or}
 use Rattle.goblin.specs.declared.container.Ctx.{Ctx}
 use Rattle.goblin.specs.declared.elf.header.Header.{Header}
 use Rattle.goblin.specs.declared.elf.section_header.SectionHeader.{SectionHeader}
@@ -12,7 +12,7 @@ use Rattle.goblin.specs.declared.options.ParseMode.{ParseMode}
 use Rattle.goblin.specs.declared.options.ParseMode.TheVariants.{Strict, Permissive}
 use Rattle.goblin.specs.Header.{class_of, names_index_of, order_of}
 use Rattle.goblin.specs.ReadHeader.{read_header}
-use Rattle.goblin.specs.Refusal.{Refusal, out_of_memory, refusal_of}
+use Rattle.goblin.specs.Refusal.{Refusal, refusal_of}
 use Rattle.goblin.specs.SectionHeaders.{section_headers_of, section_headers_of_tested, size_checked_in}
 use Rattle.goblin.specs.RelocSection.{is_of_mips64el, relocs_of}
 use Rattle.goblin.specs.Steps.{◌>>=◌, refuse_as}
