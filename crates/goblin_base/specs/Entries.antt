@@ -12,6 +12,12 @@ pub record Seen : Type 0 where
 abbrev pub CountsAtLeast : ℕ → ℕ → ℕ → Type 0
 CountsAtLeast before looks after = min (before + looks) (2 ^ 128 - 1) ≤ after
 
+-- a reading under a count: the bytes stay the same, and at least and at most so many looks are taken
+pub record Reads (old new : Seen) (least most : ℕ) : Type 0 where
+  pub unchanged : new.bytes ≡ old.bytes
+  pub looks : new.count ≤ old.count + most
+  pub looks_least : CountsAtLeast old.count least new.count
+
 -- places, and how many of them were read
 pub record Probed : Type 0 where
   pub places : List ℕ

@@ -1,8 +1,9 @@
--- What names took, and what is left to them.
-use Rattle.std.proofs.Common.{◌≡◌, ℕ, ◌+◌, ◌*◌, ◌≤◌, eqb, cond, true, false, List, [], ◌∷◌, ◌++◌, ap, arith, length}
-use Rattle.std.proofs.Common.{length-append, subst, sym}
+-- The looks that names in a text take: those of its lines, and what is left of them.
+use Rattle.std.proofs.Common.{◌≡◌, ◌∙◌, ℕ, ◌+◌, ◌*◌, ◌≤◌, eqb, cond, true, false, List, [], ◌∷◌, ◌++◌, ap, arith}
+use Rattle.std.proofs.Common.{length, length-append, subst, sym}
 use Rattle.std.proofs.lemmas.List.{length-map}
 use Rattle.goblin.specs.Texts.{◌&◌}
+use Rattle.goblin_base.specs.Entries.{CountsAtLeast}
 use Rattle.goblin.specs.Strtab.{StringTable}
 use Rattle.std.specs.Prelude.{vec_items}
 use Rattle.goblin.specs.declared.elf.header.Header.{Header}
@@ -11,12 +12,10 @@ use Rattle.goblin_text.specs.Accepted.{parts_text, relocs_text, symbols_text}
 use Rattle.goblin_text.specs.StringRanges.{strings_in}
 use Rattle.goblin_text.specs.Shown.{name_at, section_lines}
 use Rattle.goblin_text.specs.declared.accept.Parts.{Parts}
+use Rattle.goblin_text.specs.declared.accept.SymbolPart.{SymbolPart}
 use Rattle.goblin_text.specs.Lines.{header_line, named_line, newline, printable, printed, section_head, section_line}
-use Rattle.goblin_text.specs.Looks.{NamesView, LooksAtMost, line_looks, lines_in, name_looks, names_looks, table_looks}
-
--- of a text the looks so far were taken, and those of the rest are left
-abbrev pub LooksSoFar : NamesView → NamesView → List ℕ → List ℕ → Type 0
-LooksSoFar old new all rest = new.count + new.left + names_looks rest ≤ old.count + old.left + names_looks all
+use Rattle.goblin_text.specs.Looks.{IsShort, LooksAtMost, NamesView, ReadsNames, line_looks, lines_in, name_looks}
+use Rattle.goblin_text.specs.Looks.{names_looks, table_looks}
 
 pub lines-append : (a b : List ℕ) → lines_in (a ++ b) ≡ lines_in a + lines_in b
 lines-append [] b = omega arith
@@ -45,17 +44,41 @@ named_line_looks head name =
       lines-append (printed name) newline,
     )
 
+-- of a text the names so far were read, and the looks of the rest are left
+pub record ReadSoFar (old new : NamesView) (all rest : List ℕ) : Type 0 where
+  pub unchanged : new.bytes ≡ old.bytes
+  pub looks : IsShort old.bytes
+      → new.count + new.left + names_looks rest ≤ old.count + old.left + names_looks all
+  pub looks_least : CountsAtLeast old.count 0 new.count
+
 -- with one line more
-pub more_looks : (old mid new : NamesView) (all rest line next : List ℕ)
-    → LooksSoFar old mid all rest → rest ≡ line ++ next → LooksAtMost mid new (names_looks line)
-    → LooksSoFar old new all next
-more_looks old mid new all rest line next s e p = omega (arith, s, ap names_looks e, looks-append line next, p)
+pub more_read : (old mid new : NamesView) (all rest line next : List ℕ)
+    → ReadSoFar old mid all rest → rest ≡ line ++ next → ReadsNames mid new 0 (names_looks line)
+    → ReadSoFar old new all next
+more_read old mid new all rest line next s e r = record {
+  unchanged = r.unchanged ∙ s.unchanged;
+  looks = λ short.
+      omega (
+        arith,
+        s.looks short,
+        ap names_looks e,
+        looks-append line next,
+        r.looks (subst IsShort (sym s.unchanged) short),
+      );
+  looks_least = omega (arith, s.looks_least, r.looks_least);
+}
 
 -- where a line failed
-pub looks_at_failure : (old mid new : NamesView) (all rest line next : List ℕ)
-    → LooksSoFar old mid all rest → rest ≡ line ++ next → LooksAtMost mid new (names_looks line)
-    → LooksAtMost old new (names_looks all)
-looks_at_failure old mid new all rest line next s e p = omega (arith, s, ap names_looks e, looks-append line next, p)
+pub read_at_failure : (old mid new : NamesView) (all rest line next : List ℕ)
+    → ReadSoFar old mid all rest → rest ≡ line ++ next → ReadsNames mid new 0 (names_looks line)
+    → ReadsNames old new 0 (names_looks all)
+read_at_failure old mid new all rest line next s e r =
+    let more = more_read old mid new all rest line next s e r in
+    record {
+      unchanged = more.unchanged;
+      looks = λ short. omega (arith, more.looks short);
+      looks_least = more.looks_least;
+    }
 
 -- the parts of a file's text
 parts_looks : (bytes : List ℕ) (header : Header) (sections : List SectionHeader) (parts : Parts)
@@ -73,19 +96,37 @@ parts_looks bytes header sections parts =
       looks-append symbols relocs,
     )
 
-pub sections_in_parts : (old new : NamesView) (bytes : List ℕ) (header : Header) (sections : List SectionHeader)
-    (parts : Parts)
-    → LooksAtMost old new (names_looks (section_lines (strings_in bytes parts.strings) 0 sections))
-    → LooksAtMost old new (names_looks (parts_text bytes header sections parts))
-sections_in_parts old new bytes header sections parts s = omega (arith, s, parts_looks bytes header sections parts)
+-- the names of sections are read
+pub sections_in_parts : (old new : NamesView) (header : Header) (sections : List SectionHeader) (parts : Parts)
+    → ReadsNames old new 0 (names_looks (section_lines (strings_in old.bytes parts.strings) 0 sections))
+    → ReadsNames old new 0 (names_looks (parts_text old.bytes header sections parts))
+sections_in_parts old new header sections parts s = record {
+  unchanged = s.unchanged;
+  looks = λ short. omega (arith, s.looks short, parts_looks old.bytes header sections parts);
+  looks_least = s.looks_least;
+}
 
-pub names_in_parts : (old mid new : NamesView) (bytes : List ℕ) (header : Header) (sections : List SectionHeader)
-    (parts : Parts)
-    → LooksAtMost old mid (names_looks (section_lines (strings_in bytes parts.strings) 0 sections))
-    → LooksAtMost mid new (names_looks (symbols_text bytes (vec_items parts.symbols)))
-    → LooksAtMost old new (names_looks (parts_text bytes header sections parts))
-names_in_parts old mid new bytes header sections parts s t =
-    omega (arith, s, t, parts_looks bytes header sections parts)
+-- and then those of symbols
+pub names_in_parts : (old mid new : NamesView) (header : Header) (sections : List SectionHeader) (parts : Parts)
+    (symbols : List SymbolPart)
+    → ReadsNames old mid 0 (names_looks (section_lines (strings_in old.bytes parts.strings) 0 sections))
+    → symbols ≡ vec_items parts.symbols → ReadsNames mid new 0 (names_looks (symbols_text mid.bytes symbols))
+    → ReadsNames old new 0 (names_looks (parts_text old.bytes header sections parts))
+names_in_parts old mid new header sections parts symbols s are t =
+    let text : symbols_text mid.bytes symbols ≡ symbols_text old.bytes (vec_items parts.symbols) =
+    ap (λ b. symbols_text b symbols) s.unchanged ∙ ap (symbols_text old.bytes) are in
+    record {
+      unchanged = t.unchanged ∙ s.unchanged;
+      looks = λ short.
+          omega (
+            arith,
+            s.looks short,
+            t.looks (subst IsShort (sym s.unchanged) short),
+            ap names_looks text,
+            parts_looks old.bytes header sections parts,
+          );
+      looks_least = omega (arith, s.looks_least, t.looks_least);
+    }
 
 -- ---- lines
 header-line : (h : Header) → 1 ≤ lines_in (header_line h)

@@ -6,6 +6,7 @@ use Rattle.goblin.specs.declared.options.ParseMode.{ParseMode}
 use Rattle.goblin.specs.ReadHeader.{read_header}
 use Rattle.goblin.specs.Refusal.{refusal_of}
 use Rattle.goblin.specs.Steps.{◌>>=◌, refuse_as}
+use Rattle.goblin_base.specs.Entries.{CountsAtLeast}
 use Rattle.goblin_text.specs.declared.runs.TheConstants.{BLOCK}
 use Rattle.goblin_text.specs.Ran.{input_limit}
 use Rattle.goblin_text.specs.Shown.{ctx_of, sections_of, shown}
@@ -35,10 +36,17 @@ IsShort bytes = length bytes ≤ input_limit
 abbrev pub LooksAtMost : (old new : NamesView) (most : ℕ) → Type 0
 LooksAtMost old new most = new.count + new.left ≤ old.count + old.left + most
 
--- and where bytes are refused, two more at each of them
-abbrev pub LooksByResult : {T E : Type 0} → (old new : NamesView) → Result T E → (most : ℕ) → Type 0
-LooksByResult old new (Ok done) most = LooksAtMost old new most
-LooksByResult old new (Err e) most = LooksAtMost old new (most + 2 * length old.bytes)
+-- a reading of names under a count: the bytes stay the same, at least so many looks are taken, and at most so many if
+-- the file is no longer than the program takes
+pub record ReadsNames (old new : NamesView) (least most : ℕ) : Type 0 where
+  pub unchanged : new.bytes ≡ old.bytes
+  pub looks : IsShort old.bytes → LooksAtMost old new most
+  pub looks_least : CountsAtLeast old.count least new.count
+
+-- how many looks are taken at most by what has this result: where bytes are refused, two more at each of them
+abbrev pub looks_by : {T E : Type 0} → Result T E → (most : ℕ) → List ℕ → ℕ
+looks_by (Ok done) most bytes = most
+looks_by (Err e) most bytes = most + 2 * length bytes
 
 -- how many looks a block takes, which is read once: two at each of its bytes and of three more, and six at its edges
 abbrev pub block_looks : ℕ

@@ -1,11 +1,10 @@
 //! Accepting a file: all that can be refused is tested here, so that writing its text takes no memory.
-ghost use Rattle.std.specs.Prelude.{◌≡◌, ◌+◌, ◌*◌, IfErr, IfOk, OnErr, length};
+ghost use Rattle.std.specs.Prelude.{◌≡◌, ◌+◌, ◌*◌, IfErr, IfOk, length};
 ghost use Rattle.goblin.specs.Refusal.{Answers, Gives, Refuses};
 ghost use Rattle.goblin.specs.SectionHeaders.{section_headers_of_tested};
 ghost use Rattle.goblin_text.specs.Accepted.{accepted_text, parts_text, relocs_text, symbols_text};
 ghost use Rattle.goblin_text.specs.StringRanges.{strings_in};
-ghost use Rattle.goblin_base.specs.Entries.{CountsAtLeast};
-ghost use Rattle.goblin_text.specs.Looks.{IsShort, LooksAtMost, LooksByResult, section_count, table_looks, tables_looks};
+ghost use Rattle.goblin_text.specs.Looks.{ReadsNames, looks_by, section_count, table_looks};
 ghost use Rattle.goblin_text.specs.Shown.{Adds, ctx_of, each_shown, file_shown, has_relocs, has_symbols, relocs_shown, sections_of, shown, sizes_checked, strings_at, strings_of, symbols_shown, tested};
 
 use crate::file_bytes::FileBytes;
@@ -119,9 +118,8 @@ impl Context<'_> {
         ensures given { let expected = strings_of self.now.opts.now.parse_mode names.old.bytes
             (Some section.now) in
             Answers (strings_in names.old.bytes) result expected }
-        ensures unchanged { names.new.bytes ≡ names.old.bytes }
-        ensures looks { IsShort names.old.bytes → LooksByResult names.old names.new result table_looks }
-        ensures looks_least { CountsAtLeast names.old.count 0 names.new.count }
+        ensures reading { let most = looks_by result table_looks names.old.bytes in
+            ReadsNames names.old names.new 0 most }
     {
         if section.sh_type == SHT_NOBITS {
             return Ok(Strings::Missing);
@@ -137,9 +135,8 @@ impl Context<'_> {
         ensures given { let expected = strings_at self.now.opts.now.parse_mode names.old.bytes
             self.now.sections.now index in
             Answers (strings_in names.old.bytes) result expected }
-        ensures unchanged { names.new.bytes ≡ names.old.bytes }
-        ensures looks { IsShort names.old.bytes → LooksByResult names.old names.new result table_looks }
-        ensures looks_least { CountsAtLeast names.old.count 0 names.new.count }
+        ensures reading { let most = looks_by result table_looks names.old.bytes in
+            ReadsNames names.old names.new 0 most }
     {
         if index == 0 {
             return Ok(Strings::Missing);
@@ -163,9 +160,8 @@ impl Context<'_> {
             self.now.ctx self.now.sections.now number section.now in
             Adds (symbols_text file.old.bytes parts.old.items)
             (symbols_text file.old.bytes parts.new.items) result expected }
-        ensures unchanged { file.new.bytes ≡ file.old.bytes }
-        ensures looks { IsShort file.old.bytes → LooksByResult file.old file.new result table_looks }
-        ensures looks_least { CountsAtLeast file.old.count 0 file.new.count }
+        ensures reading { let most = looks_by result table_looks file.old.bytes in
+            ReadsNames file.old file.new 0 most }
     {
         if !has_symbols(section) {
             return Ok(());
@@ -192,10 +188,8 @@ impl Context<'_> {
             Adds (symbols_text file.old.bytes parts.old.items)
             (symbols_text file.old.bytes parts.new.items) result
             (each_shown shows 0 self.now.sections.now) }
-        ensures unchanged { file.new.bytes ≡ file.old.bytes }
-        ensures looks { let most = table_looks * length self.now.sections.now in
-            IsShort file.old.bytes → LooksByResult file.old file.new result most }
-        ensures looks_least { CountsAtLeast file.old.count 0 file.new.count }
+        ensures reading { let tables = table_looks * length self.now.sections.now in
+            ReadsNames file.old file.new 0 (looks_by result tables file.old.bytes) }
     {
         for (number, section) in self.sections.iter().enumerate() {
             self.accept_symbols(file, parts, number, section)?;
@@ -253,10 +247,8 @@ impl Context<'_> {
         ensures given { let expected = file_shown self.now.opts.now.parse_mode file.old.bytes
             self.now.header.now self.now.ctx self.now.sections.now in
             Gives (parts_text file.old.bytes self.now.header.now self.now.sections.now) result expected }
-        ensures unchanged { file.new.bytes ≡ file.old.bytes }
-        ensures looks { let most = table_looks * (length self.now.sections.now + 1) in
-            IsShort file.old.bytes → LooksByResult file.old file.new result most }
-        ensures looks_least { CountsAtLeast file.old.count 0 file.new.count }
+        ensures reading { let tables = table_looks * (length self.now.sections.now + 1) in
+            ReadsNames file.old file.new 0 (looks_by result tables file.old.bytes) }
     {
         let index = self.header.names_index(self.sections.first());
         let strings = self.strings_at(&mut file.names, index)?;
@@ -291,16 +283,13 @@ pub fn accept<'a>(
 
     // Out of memory masks no refusal of the header, and none of the section headers' first tests.
     ensures tested { IfErr (tested file.old.bytes) (λ refusal. Refuses result refusal) }
-    ensures unchanged { file.new.bytes ≡ file.old.bytes }
     ensures sections { IfOk result (λ accepted.
         length accepted.sections.items ≡ section_count opts.now.parse_mode file.old.bytes) }
 
     // Looks at string tables.
-    ensures looks { IsShort file.old.bytes → IfOk result (λ accepted.
-        LooksAtMost file.old file.new (table_looks * (length accepted.sections.items + 1))) }
-    ensures looks_refused { let most = tables_looks opts.now.parse_mode file.old.bytes in
-        IsShort file.old.bytes → OnErr result (LooksAtMost file.old file.new most) }
-    ensures looks_least { CountsAtLeast file.old.count 0 file.new.count }
+    ensures reading { let count = section_count opts.now.parse_mode file.old.bytes in
+        let most = looks_by result (table_looks * (count + 1)) file.old.bytes in
+        ReadsNames file.old file.new 0 most }
 {
     let (header, _) = file.header()?;
     let ctx = ctx_of(&header)?;

@@ -5,9 +5,9 @@ ghost use Rattle.std.specs.Str.Lossy.{utf8_valid_len};
 ghost use Rattle.goblin.specs.Pieces.{first_bad, piece_start};
 ghost use Rattle.goblin.specs.Refusal.{Answers};
 ghost use Rattle.goblin.specs.Strtab.{table_of};
-ghost use Rattle.goblin_base.specs.Entries.{CountsAtLeast};
+ghost use Rattle.goblin_base.specs.Entries.{CountsAtLeast, Reads};
 ghost use Rattle.goblin_text.specs.StringRanges.{text_table};
-ghost use Rattle.goblin_text.specs.Runs.{after_continuation, char_start, up_to_zero};
+ghost use Rattle.goblin_text.specs.Runs.{EndsAt, IsTextUpTo, after_continuation, char_start, up_to_zero};
 
 use goblin::error::Result;
 use goblin::options::ParseMode;
@@ -22,9 +22,7 @@ pub fn after_continuation(view: &mut CountedBytes<'_>, from: usize) -> usize
     ensures within { result ≤ length view.old.bytes }
     ensures from { from ≤ result }
     ensures to { result ≤ from + 1 }
-    ensures unchanged { view.new.bytes ≡ view.old.bytes }
-    ensures looks { view.new.count ≤ view.old.count + 1 }
-    ensures looks_least { CountsAtLeast view.old.count 1 view.new.count }
+    ensures reading { Reads view.old view.new 1 1 }
 {
     let b = view.get(from).unwrap_or(0);
     if from < view.len() && b >= 0x80 && b < 0xC0 {
@@ -43,9 +41,7 @@ pub fn char_start(view: &mut CountedBytes<'_>, place: usize) -> usize
     ensures within { result ≤ length view.old.bytes }
     ensures from { place ≤ result }
     ensures to { result ≤ place + 3 }
-    ensures unchanged { view.new.bytes ≡ view.old.bytes }
-    ensures looks { view.new.count ≤ view.old.count + 3 }
-    ensures looks_least { CountsAtLeast view.old.count 3 view.new.count }
+    ensures reading { Reads view.old view.new 3 3 }
 {
     let second = after_continuation(view, place);
     let third = after_continuation(view, second);
@@ -61,9 +57,8 @@ pub fn end_of_string(view: &mut CountedBytes<'_>, from: usize, to: usize) -> usi
         ≡ up_to_zero (slice_range view.old.bytes from to) }
     ensures from { from ≤ result }
     ensures to { result ≤ to }
-    ensures unchanged { view.new.bytes ≡ view.old.bytes }
-    ensures looks { view.new.count ≤ view.old.count + (min (result + 1) to - from) }
-    ensures looks_least { CountsAtLeast view.old.count (min (result + 1) to - from) view.new.count }
+    ensures reading { let looks = min (result + 1) to - from in
+        Reads view.old view.new looks looks }
 {
     view.find(0, from, to)
 }
@@ -73,9 +68,7 @@ pub fn is_text(view: &mut CountedBytes<'_>, from: usize, to: usize) -> bool
     requires ordered { from ≤ to }
     requires within { to ≤ length view.old.bytes }
     ensures value { IsTrue result ↔ IsUtf8 (slice_range view.old.bytes from to) }
-    ensures unchanged { view.new.bytes ≡ view.old.bytes }
-    ensures looks { view.new.count ≤ view.old.count + (to - from) }
-    ensures looks_least { CountsAtLeast view.old.count (to - from) view.new.count }
+    ensures reading { Reads view.old view.new (to - from) (to - from) }
 {
     view.str(from, to).is_ok()
 }
@@ -88,9 +81,7 @@ pub fn text<'a>(view: &mut CountedBytes<'a>, from: usize, to: usize) -> &'a str
     ensures value { let bytes = slice_range view.old.bytes from to in
         result.now ≡ (if is_utf8 bytes then bytes else []) }
     ensures bound { length result.now ≤ to - from }
-    ensures unchanged { view.new.bytes ≡ view.old.bytes }
-    ensures looks { view.new.count ≤ view.old.count + (to - from) }
-    ensures looks_least { CountsAtLeast view.old.count (to - from) view.new.count }
+    ensures reading { Reads view.old view.new (to - from) (to - from) }
 {
     match view.str(from, to) {
         Ok(text) => text,
@@ -106,9 +97,7 @@ pub fn refuse_unless_text(view: &mut CountedBytes<'_>, from: usize, to: usize) -
     ensures given { let bytes = slice_range view.old.bytes from to in
         Answers (λ _. text_table bytes) result (table_of ParseMode.Strict bytes 0) }
     ensures text { OnOk result (IsUtf8 (slice_range view.old.bytes from to)) }
-    ensures unchanged { view.new.bytes ≡ view.old.bytes }
-    ensures looks { view.new.count ≤ view.old.count + 2 * (to - from) }
-    ensures looks_least { CountsAtLeast view.old.count (to - from) view.new.count }
+    ensures reading { Reads view.old view.new (to - from) (2 * (to - from)) }
     ensures looks_least_refused { let bytes = slice_range view.old.bytes from to in
         let searched = utf8_valid_len bytes - first_bad bytes 0 in
         IfErr result (λ _. CountsAtLeast view.old.count (to - from + searched) view.new.count) }
@@ -123,6 +112,22 @@ pub fn refuse_unless_text(view: &mut CountedBytes<'_>, from: usize, to: usize) -
     }
 }
 
+/// Returns where the string from one place on ends, up to another, or `None` if it is not UTF-8. It is at most two looks
+/// at each byte up to the zero byte.
+pub fn end_of_text(view: &mut CountedBytes<'_>, from: usize, to: usize) -> Option<usize>
+    requires ordered { from ≤ to }
+    requires within { to ≤ length view.old.bytes }
+    ensures stop { EndsAt view.old.bytes from to result }
+    ensures text { IsTextUpTo view.old.bytes from result }
+    ensures reading { Reads view.old view.new 0 (2 * (to - from)) }
+{
+    let stop = end_of_string(view, from, to);
+    if !is_text(view, from, stop) {
+        return None;
+    }
+    Some(stop)
+}
+
 // Returns where the last string of a range begins: after its last zero byte, or where the range does.
 fn start_of_last_string(view: &mut CountedBytes<'_>, from: usize, to: usize) -> usize
     requires ordered { from ≤ to }
@@ -131,9 +136,7 @@ fn start_of_last_string(view: &mut CountedBytes<'_>, from: usize, to: usize) -> 
         result ≡ from + piece_start bytes 0 (to - from) }
     ensures from { from ≤ result }
     ensures to { result ≤ to }
-    ensures unchanged { view.new.bytes ≡ view.old.bytes }
-    ensures looks { view.new.count ≤ view.old.count + (to - from) }
-    ensures looks_least { CountsAtLeast view.old.count (to - result) view.new.count }
+    ensures reading { Reads view.old view.new (to - result) (to - from) }
 {
     view.rfind(0, from, to)
 }

@@ -1,18 +1,17 @@
 //! The string tables of a file and their names, read where they are. So that no byte is read again and again, `Names`
 //! stores of the file's blocks how far text goes on from each.
-ghost use Rattle.std.specs.Prelude.{◌≡◌, ◌↔◌, ◌+◌, ◌*◌, ◌<◌, ◌≤◌, ◌⊎◌, ◌-◌, ◌/◌, IsTrue, MatchOption, OnErr, OnOk, length, min, slice_range};
+ghost use Rattle.std.specs.Prelude.{◌≡◌, ◌↔◌, ◌+◌, ◌*◌, ◌<◌, ◌≤◌, ◌⊎◌, ◌-◌, ◌/◌, IfSome, IsTrue, OnOk, length, min, slice_range};
 ghost use Rattle.std.specs.Str.{IsUtf8};
 ghost use Rattle.goblin.specs.declared.options.ParseMode.{ParseMode};
 ghost use Rattle.goblin.specs.Refusal.{Answers};
 ghost use Rattle.goblin.specs.Strtab.{strtab_of, table_of};
 ghost use Rattle.goblin_text.specs.StringRanges.{strings_in, text_table};
-ghost use Rattle.goblin_base.specs.Entries.{CountsAtLeast};
-ghost use Rattle.goblin_text.specs.Looks.{IsCached, IsShort, IsUnread, LooksAtMost, LooksByResult, name_looks, table_looks};
+ghost use Rattle.goblin_text.specs.Looks.{IsCached, IsShort, IsUnread, LooksAtMost, ReadsNames, looks_by, name_looks, table_looks};
 ghost use Rattle.goblin_text.specs.Runs.{EndsAt, IsLong, IsTextUpTo, last_block};
 ghost use Rattle.goblin_text.specs.Shown.{name_at};
 
 use crate::looks::{
-    after_continuation, char_start, end_of_string, is_text, refuse_unless_text, text,
+    after_continuation, char_start, end_of_string, end_of_text, is_text, refuse_unless_text, text,
 };
 use crate::runs::{BLOCK, BLOCKS, Kind, none_known, run_end};
 use goblin::error::Result;
@@ -96,18 +95,14 @@ impl<'a> Names<'a> {
     pub fn table(&mut self, offset: usize, size: usize, opts: &ParseOptions) -> Result<Strings>
         ensures given { let expected = strtab_of opts.now.parse_mode self.old.bytes offset size 0 in
             Answers (strings_in self.old.bytes) result expected }
-        ensures unchanged { self.new.bytes ≡ self.old.bytes }
-        ensures looks { IsShort self.old.bytes
-            → OnOk result (LooksAtMost self.old self.new table_looks) }
-        ensures looks_refused { IsShort self.old.bytes
-            → OnErr result (LooksAtMost self.old self.new (table_looks + 2 * length self.old.bytes)) }
+        ensures reading { let most = looks_by result table_looks self.old.bytes in
+            ReadsNames self.old self.new 0 most }
 
         // A strict table that is asked for again at once takes no look.
         ensures cached { OnOk result (opts.now.parse_mode ≡ ParseMode.Strict
             → IsCached self.new offset (offset + size)) }
         ensures looks_cached { IsCached self.old offset (offset + size)
             → self.new.count ≡ self.old.count }
-        ensures looks_least { CountsAtLeast self.old.count 0 self.new.count }
     {
         let (start, end) = range_of(self.view.len(), offset, size, opts.parse_mode)?;
         if !opts.parse_mode.is_permissive() {
@@ -123,11 +118,10 @@ impl<'a> Names<'a> {
         requires within { end ≤ length self.old.bytes }
         ensures given { let bytes = slice_range self.old.bytes start end in
             Answers (λ _. text_table bytes) result (table_of ParseMode.Strict bytes 0) }
-        ensures unchanged { self.new.bytes ≡ self.old.bytes }
-        ensures looks { IsShort self.old.bytes → LooksByResult self.old self.new result table_looks }
+        ensures reading { let most = looks_by result table_looks self.old.bytes in
+            ReadsNames self.old self.new 0 most }
         ensures cached { OnOk result (IsCached self.new start end) }
         ensures looks_cached { IsCached self.old start end → self.new.count ≡ self.old.count }
-        ensures looks_least { CountsAtLeast self.old.count 0 self.new.count }
     {
         if start == self.text_start && end == self.text_end {
             return Ok(());
@@ -152,9 +146,7 @@ impl<'a> Names<'a> {
         requires ordered { start ≤ end }
         requires within { end ≤ length self.old.bytes }
         ensures value { IsTrue result ↔ IsUtf8 (slice_range self.old.bytes start end) }
-        ensures unchanged { self.new.bytes ≡ self.old.bytes }
-        ensures looks { IsShort self.old.bytes → LooksAtMost self.old self.new table_looks }
-        ensures looks_least { CountsAtLeast self.old.count 0 self.new.count }
+        ensures reading { ReadsNames self.old self.new 0 table_looks }
     {
         let first = start / BLOCK + 1;
         let last = last_block(end);
@@ -175,11 +167,9 @@ impl<'a> Names<'a> {
     /// Returns the string at an offset of a file's strings, or an empty one if there is none.
     pub fn name(&mut self, strings: Strings, offset: usize) -> &'a str
         ensures name { result.now ≡ name_at (strings_in self.old.bytes strings) offset }
-        ensures unchanged { self.new.bytes ≡ self.old.bytes }
         ensures cached { IsCached self.new self.old.text_start self.old.text_end }
-        ensures looks { IsShort self.old.bytes
-            → LooksAtMost self.old self.new (name_looks + length result.now) }
-        ensures looks_least { CountsAtLeast self.old.count (length result.now) self.new.count }
+        ensures reading { let len = length result.now in
+            ReadsNames self.old self.new len (name_looks + len) }
     {
         match strings {
             Strings::Missing => "",
@@ -196,11 +186,9 @@ impl<'a> Names<'a> {
         requires within { end ≤ length self.old.bytes }
         ensures name { let table = text_table (slice_range self.old.bytes start end) in
             result.now ≡ name_at table offset }
-        ensures unchanged { self.new.bytes ≡ self.old.bytes }
         ensures cached { IsCached self.new self.old.text_start self.old.text_end }
-        ensures looks { IsShort self.old.bytes
-            → LooksAtMost self.old self.new (name_looks + length result.now) }
-        ensures looks_least { CountsAtLeast self.old.count (length result.now) self.new.count }
+        ensures reading { let len = length result.now in
+            ReadsNames self.old self.new len (name_looks + len) }
     {
         if offset >= end - start {
             return "";
@@ -230,14 +218,11 @@ impl<'a> Names<'a> {
         requires ordered { place ≤ end }
         requires within { end ≤ length self.old.bytes }
         ensures stop { EndsAt self.old.bytes place end result }
-        ensures unchanged { self.new.bytes ≡ self.old.bytes }
         ensures cached { IsCached self.new self.old.text_start self.old.text_end }
-        ensures looks { IsShort self.old.bytes → MatchOption result
-            (LooksAtMost self.old self.new (4 * BLOCK + 32))
-            (λ stop. ((stop ≤ place + (2 * BLOCK + 3)) × LooksAtMost self.old self.new (3 * BLOCK + 34))
-            ⊎ (IsUtf8 (slice_range self.old.bytes place stop)
-            × LooksAtMost self.old self.new (4 * BLOCK + 32))) }
-        ensures looks_least { CountsAtLeast self.old.count 0 self.new.count }
+        ensures reading { ReadsNames self.old self.new 0 (4 * BLOCK + 32) }
+        ensures looks_near { IsShort self.old.bytes → IfSome result (λ stop.
+            ((stop ≤ place + (2 * BLOCK + 3)) × LooksAtMost self.old self.new (3 * BLOCK + 34))
+            ⊎ IsUtf8 (slice_range self.old.bytes place stop)) }
     {
         let near = end.min(place.saturating_add(BLOCK));
         let stop = end_of_string(&mut self.view, place, near);
@@ -256,10 +241,8 @@ impl<'a> Names<'a> {
         requires { IsLong self.old.bytes place end }
         ensures stop { EndsAt self.old.bytes place end result }
         ensures text { IsTextUpTo self.old.bytes place result }
-        ensures unchanged { self.new.bytes ≡ self.old.bytes }
         ensures cached { IsCached self.new self.old.text_start self.old.text_end }
-        ensures looks { IsShort self.old.bytes → LooksAtMost self.old self.new (3 * BLOCK + 24) }
-        ensures looks_least { CountsAtLeast self.old.count 0 self.new.count }
+        ensures reading { ReadsNames self.old self.new 0 (3 * BLOCK + 24) }
     {
         let first = place / BLOCK + 1;
         let last = last_block(end);
@@ -274,25 +257,7 @@ impl<'a> Names<'a> {
         } else {
             char_start(&mut self.view, (run + 1) * BLOCK)
         };
-        self.end_of_text(from, to)
-    }
-
-    // Returns where the string from a place on ends, up to another, or `None` if it is not UTF-8.
-    fn end_of_text(&mut self, from: usize, to: usize) -> Option<usize>
-        requires ordered { from ≤ to }
-        requires within { to ≤ length self.old.bytes }
-        ensures stop { EndsAt self.old.bytes from to result }
-        ensures text { IsTextUpTo self.old.bytes from result }
-        ensures unchanged { self.new.bytes ≡ self.old.bytes }
-        ensures cached { IsCached self.new self.old.text_start self.old.text_end }
-        ensures looks { LooksAtMost self.old self.new (2 * (to - from)) }
-        ensures looks_least { CountsAtLeast self.old.count 0 self.new.count }
-    {
-        let stop = end_of_string(&mut self.view, from, to);
-        if !is_text(&mut self.view, from, stop) {
-            return None;
-        }
-        Some(stop)
+        end_of_text(&mut self.view, from, to)
     }
 }
 

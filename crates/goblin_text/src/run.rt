@@ -1,8 +1,7 @@
 //! A run: from the bytes that a reader gives to the text that a writer holds.
 ghost use Rattle.std.specs.Prelude.{◌≡◌, ◌≢◌, ℕ, ◌+◌, ◌*◌, ◌↔◌, ◌≤◌, List, IsTrue, OnOk, OnErr, length};
 ghost use Rattle.std.specs.Io.KnownBytes.{Appends};
-ghost use Rattle.goblin_base.specs.Entries.{CountsAtLeast};
-ghost use Rattle.goblin_text.specs.Looks.{IsShort, IsUnread, LooksAtMost, line_looks, lines_in, section_count, shown_looks, table_looks, tables_looks};
+ghost use Rattle.goblin_text.specs.Looks.{IsShort, IsUnread, LooksAtMost, ReadsNames, line_looks, lines_in, section_count, shown_looks, table_looks, tables_looks};
 ghost use Rattle.goblin_text.specs.Ran.{HasRun, IsErrorLine, IsReasonOf, WritesRefusal, input_limit, read_limit, status_of};
 ghost use Rattle.goblin_text.specs.Shown.{shown};
 
@@ -112,7 +111,6 @@ pub fn show_file<W: Sink>(
     ensures heeded { result ≢ Outcome.Failed →
         (W.marks writer.new).reported_error ≡ (W.marks writer.old).reported_error }
     ensures failed { result ≡ Outcome.Failed → IsTrue (W.marks writer.new).reported_error }
-    ensures unchanged { file.new.bytes ≡ file.old.bytes }
 
     // The looks for names if the text was written, if it was refused, and however it ended.
     ensures looks_shown { IsShort file.old.bytes → (text : List ℕ) → result ≡ Outcome.Shown
@@ -120,9 +118,8 @@ pub fn show_file<W: Sink>(
         → LooksAtMost file.old file.new (length text + line_looks * lines_in text) }
     ensures looks_refused { IsShort file.old.bytes → result ≡ Outcome.Refused
         → LooksAtMost file.old file.new (tables_looks opts.now.parse_mode file.old.bytes) }
-    ensures looks { IsShort file.old.bytes → LooksAtMost file.old file.new
+    ensures reading { ReadsNames file.old file.new 0
         (tables_looks opts.now.parse_mode file.old.bytes + shown_looks opts.now.parse_mode file.old.bytes) }
-    ensures looks_least { CountsAtLeast file.old.count 0 file.new.count }
 
     // The looks for names, of a file of which no byte was looked at before.
     ensures most_shown { IsShort file.old.bytes → IsUnread file.old → (text : List ℕ)

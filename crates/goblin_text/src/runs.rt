@@ -1,6 +1,6 @@
 //! Runs of a file's blocks that are text, or text with no zero byte. Each block is read once for each of the two.
 ghost use Rattle.std.specs.Prelude.{◌≡◌, ◌↔◌, ◌+◌, ◌-◌, ◌*◌, ◌<◌, ◌≤◌, IsTrue, List, ℕ, length, slice_index, slice_range};
-ghost use Rattle.goblin_base.specs.Entries.{CountsAtLeast};
+ghost use Rattle.goblin_base.specs.Entries.{Reads};
 ghost use Rattle.goblin_text.specs.Looks.{block_looks};
 ghost use Rattle.goblin_text.specs.Runs.{AreRunEnds, IsBlock, IsRunEnd, IsOfKind, blocks, unknown};
 
@@ -45,9 +45,7 @@ fn is_of(view: &mut CountedBytes<'_>, kind: Kind, from: usize, to: usize) -> boo
     requires ordered { from ≤ to }
     requires within { to ≤ length view.old.bytes }
     ensures value { IsTrue result ↔ IsOfKind kind (slice_range view.old.bytes from to) }
-    ensures unchanged { view.new.bytes ≡ view.old.bytes }
-    ensures looks { view.new.count ≤ view.old.count + 2 * (to - from) }
-    ensures looks_least { CountsAtLeast view.old.count 0 view.new.count }
+    ensures reading { Reads view.old view.new 0 (2 * (to - from)) }
 {
     match kind {
         Kind::Text => is_text(view, from, to),
@@ -60,9 +58,7 @@ fn is_block_of(view: &mut CountedBytes<'_>, kind: Kind, block: usize) -> bool
     requires bound { block < BLOCKS }
     requires within { (block + 1) * BLOCK ≤ length view.old.bytes }
     ensures value { IsTrue result ↔ IsBlock kind view.old.bytes block }
-    ensures unchanged { view.new.bytes ≡ view.old.bytes }
-    ensures looks { view.new.count ≤ view.old.count + block_looks }
-    ensures looks_least { CountsAtLeast view.old.count 0 view.new.count }
+    ensures reading { Reads view.old view.new 0 block_looks }
 {
     let from = char_start(view, block * BLOCK);
     let to = char_start(view, (block + 1) * BLOCK);
@@ -84,9 +80,7 @@ fn find_run_end(
     ensures within { result.read ≤ blocks view.old.bytes }
     ensures to { result.read ≤ result.end + 1 }
     ensures unknown { (k : ℕ) → first ≤ k → k < result.read → slice_index ends.now k ≡ 0 }
-    ensures unchanged { view.new.bytes ≡ view.old.bytes }
-    ensures looks { view.new.count ≤ view.old.count + block_looks * (result.read - first) }
-    ensures looks_least { CountsAtLeast view.old.count 0 view.new.count }
+    ensures reading { Reads view.old view.new 0 (block_looks * (result.read - first)) }
 {
     let blocks = (view.len() / BLOCK).min(BLOCKS);
     let mut block = first;
@@ -124,11 +118,9 @@ pub fn run_end(
     requires known { AreRunEnds kind view.old.bytes ends.old }
     ensures end { IsRunEnd kind view.old.bytes first result }
     ensures known { AreRunEnds kind view.old.bytes ends.new }
-    ensures unchanged { view.new.bytes ≡ view.old.bytes }
-    ensures looks { let n = blocks view.old.bytes in
-        view.new.count + block_looks * unknown n ends.new
-        ≤ view.old.count + block_looks * unknown n ends.old }
-    ensures looks_least { CountsAtLeast view.old.count 0 view.new.count }
+    ensures fewer { let n = blocks view.old.bytes in unknown n ends.new ≤ unknown n ends.old }
+    ensures reading { let n = blocks view.old.bytes in
+        Reads view.old view.new 0 (block_looks * (unknown n ends.old - unknown n ends.new)) }
 {
     let found = find_run_end(view, kind, ends, first);
     for block in first..found.read {

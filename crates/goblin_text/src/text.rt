@@ -5,8 +5,7 @@ ghost use Rattle.goblin.specs.Refusal.{Gives, Refuses};
 ghost use Rattle.goblin_text.specs.Accepted.{accepted_text, relocs_text, symbols_text};
 ghost use Rattle.goblin_text.specs.StringRanges.{strings_in};
 ghost use Rattle.goblin_text.specs.Lines.{section_line, symbol_line};
-ghost use Rattle.goblin_base.specs.Entries.{CountsAtLeast};
-ghost use Rattle.goblin_text.specs.Looks.{IsShort, LooksAtMost, names_looks};
+ghost use Rattle.goblin_text.specs.Looks.{ReadsNames, names_looks};
 ghost use Rattle.goblin_text.specs.Put.{Puts};
 ghost use Rattle.goblin_text.specs.Shown.{PermissiveShowsStrict, name_at, reloc_lines, section_lines, shown, symbol_lines, tested};
 
@@ -37,11 +36,8 @@ fn put_named_section<T: Target>(
         Puts (T.state target.old) (T.state target.new) result
         (section_line number section.now name) }
     ensures same_writer { T.writer_name target.new ≡ T.writer_name target.old }
-    ensures unchanged { names.new.bytes ≡ names.old.bytes }
-    ensures looks { let name = name_at (strings_in names.old.bytes strings) section.now.sh_name in
-        IsShort names.old.bytes → LooksAtMost names.old names.new
-        (names_looks (section_line number section.now name)) }
-    ensures looks_least { CountsAtLeast names.old.count 0 names.new.count }
+    ensures reading { let name = name_at (strings_in names.old.bytes strings) section.now.sh_name in
+        ReadsNames names.old names.new 0 (names_looks (section_line number section.now name)) }
 {
     let name = names.name(strings, section.sh_name);
     put_section(target, number, section, name)
@@ -57,11 +53,9 @@ fn put_sections<T: Target>(
         Puts (T.state target.old) (T.state target.new) result
         (section_lines strings 0 file.now.sections.items) }
     ensures same_writer { T.writer_name target.new ≡ T.writer_name target.old }
-    ensures unchanged { names.new.bytes ≡ names.old.bytes }
-    ensures looks { let strings = strings_in names.old.bytes file.now.parts.strings in
-        IsShort names.old.bytes → LooksAtMost names.old names.new
+    ensures reading { let strings = strings_in names.old.bytes file.now.parts.strings in
+        ReadsNames names.old names.new 0
         (names_looks (section_lines strings 0 file.now.sections.items)) }
-    ensures looks_least { CountsAtLeast names.old.count 0 names.new.count }
 {
     let sections = file.sections.as_slice();
     for (number, section) in sections.iter().enumerate() {
@@ -83,11 +77,9 @@ fn put_named_symbol<T: Target>(
         Puts (T.state target.old) (T.state target.new) result
         (symbol_line part.now.section number symbol.now name) }
     ensures same_writer { T.writer_name target.new ≡ T.writer_name target.old }
-    ensures unchanged { names.new.bytes ≡ names.old.bytes }
-    ensures looks { let name = name_at (strings_in names.old.bytes part.now.strings) symbol.now.st_name in
-        IsShort names.old.bytes → LooksAtMost names.old names.new
+    ensures reading { let name = name_at (strings_in names.old.bytes part.now.strings) symbol.now.st_name in
+        ReadsNames names.old names.new 0
         (names_looks (symbol_line part.now.section number symbol.now name)) }
-    ensures looks_least { CountsAtLeast names.old.count 0 names.new.count }
 {
     let name = names.name(part.strings, symbol.st_name);
     put_symbol(target, part.section, number, symbol, name)
@@ -103,11 +95,9 @@ fn put_symbols<T: Target>(
         Puts (T.state target.old) (T.state target.new) result
         (symbol_lines strings part.now.section 0 part.now.table.symbols) }
     ensures same_writer { T.writer_name target.new ≡ T.writer_name target.old }
-    ensures unchanged { names.new.bytes ≡ names.old.bytes }
-    ensures looks { let strings = strings_in names.old.bytes part.now.strings in
-        IsShort names.old.bytes → LooksAtMost names.old names.new
+    ensures reading { let strings = strings_in names.old.bytes part.now.strings in
+        ReadsNames names.old names.new 0
         (names_looks (symbol_lines strings part.now.section 0 part.now.table.symbols)) }
-    ensures looks_least { CountsAtLeast names.old.count 0 names.new.count }
 {
     for (number, symbol) in part.table.iter().enumerate() {
         put_named_symbol(target, names, part, number, &symbol)?;
@@ -124,10 +114,8 @@ fn put_all_symbols<T: Target>(
     ensures put { Puts (T.state target.old) (T.state target.new) result
         (symbols_text names.old.bytes parts.now) }
     ensures same_writer { T.writer_name target.new ≡ T.writer_name target.old }
-    ensures unchanged { names.new.bytes ≡ names.old.bytes }
-    ensures looks { let text = symbols_text names.old.bytes parts.now in
-        IsShort names.old.bytes → LooksAtMost names.old names.new (names_looks text) }
-    ensures looks_least { CountsAtLeast names.old.count 0 names.new.count }
+    ensures reading { let text = symbols_text names.old.bytes parts.now in
+        ReadsNames names.old names.new 0 (names_looks text) }
 {
     for part in parts {
         put_symbols(target, names, part)?;
@@ -172,10 +160,8 @@ fn put_text<T: Target>(
     ensures put { let text = accepted_text names.old.bytes file.now in
         Puts (T.state target.old) (T.state target.new) result text }
     ensures same_writer { T.writer_name target.new ≡ T.writer_name target.old }
-    ensures unchanged { names.new.bytes ≡ names.old.bytes }
-    ensures looks { let text = accepted_text names.old.bytes file.now in
-        IsShort names.old.bytes → LooksAtMost names.old names.new (names_looks text) }
-    ensures looks_least { CountsAtLeast names.old.count 0 names.new.count }
+    ensures reading { let text = accepted_text names.old.bytes file.now in
+        ReadsNames names.old names.new 0 (names_looks text) }
 {
     put_header(target, &file.header)?;
     put_sections(target, names, file)?;
@@ -196,10 +182,8 @@ fn write_through<W: Sink>(
     ensures heeded { OnOk result ((W.marks target.new.writer.now).reported_error
         ≡ (W.marks target.old.writer.now).reported_error) }
     ensures err { OnErr result (IsTrue (W.marks target.new.writer.now).reported_error) }
-    ensures unchanged { names.new.bytes ≡ names.old.bytes }
-    ensures looks { let text = accepted_text names.old.bytes file.now in
-        IsShort names.old.bytes → LooksAtMost names.old names.new (names_looks text) }
-    ensures looks_least { CountsAtLeast names.old.count 0 names.new.count }
+    ensures reading { let text = accepted_text names.old.bytes file.now in
+        ReadsNames names.old names.new 0 (names_looks text) }
 {
     put_text(target, names, file)?;
     target.finish()?;
@@ -217,12 +201,10 @@ pub fn write_text<W: Sink>(
     ensures heeded { OnOk result
         ((W.marks writer.new).reported_error ≡ (W.marks writer.old).reported_error) }
     ensures err { OnErr result (IsTrue (W.marks writer.new).reported_error) }
-    ensures unchanged { names.new.bytes ≡ names.old.bytes }
 
     // The looks for names.
-    ensures looks { let text = accepted_text names.old.bytes file.now in
-        IsShort names.old.bytes → LooksAtMost names.old names.new (names_looks text) }
-    ensures looks_least { CountsAtLeast names.old.count 0 names.new.count }
+    ensures reading { let text = accepted_text names.old.bytes file.now in
+        ReadsNames names.old names.new 0 (names_looks text) }
 {
     let mut target = Buffered::new(writer);
     write_through(&mut target, names, file)

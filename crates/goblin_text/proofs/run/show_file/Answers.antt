@@ -12,7 +12,7 @@ returns-in-Ok-write_text-clause-looks_shown g c = λ short text done is.
     let all : text ≡ parts_text old.bytes file.header file.sections.items file.parts =
     grind (arith, common_steps, is) in
     let tables : LooksAtMost old c.accept.new.file (table_looks * (length file.sections.items + 1)) =
-    c.in-Ok.ensures.looks short in
+    omega (arith, c.in-Ok.ensures.reading.looks short, c.in-Ok.ensures.sections) in
     let names : LooksAtMost c.accept.new.file c.write_text.new.names
     (names_looks (parts_text old.bytes file.header file.sections.items file.parts)) =
     grind (arith, common_steps, short) in

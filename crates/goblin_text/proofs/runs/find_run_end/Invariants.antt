@@ -1,5 +1,5 @@
-use Rattle.std.specs.Prelude.{◌≡◌, ℕ, ◌+◌, ◌-◌, ◌*◌, ◌<◌, ◌≤◌, slice_index}
-use Rattle.goblin_base.specs.Entries.{CountsAtLeast}
+use Rattle.std.specs.Prelude.{◌≡◌, ℕ, ◌-◌, ◌*◌, ◌<◌, ◌≤◌, slice_index}
+use Rattle.goblin_base.specs.Entries.{Reads}
 use Rattle.goblin_text.specs.Looks.{block_looks}
 use Rattle.goblin_text.specs.Runs.{IsRun, blocks}
 use Rattle.goblin_text.proofs.runs.find_run_end.Given as goal
@@ -7,13 +7,11 @@ use Rattle.goblin_text.proofs.runs.find_run_end.Given as goal
 -- the blocks so far are of the kind, and of none it is known where its run ends
 abbrev pub invariant-loop-block : goal.invariant-loop-block
 invariant-loop-block l = record {
-  same : l.view.bytes ≡ l.initial.view.bytes;
   from : l.first ≤ l.block;
   to : l.block ≤ blocks l.initial.view.bytes;
   run : IsRun l.kind l.initial.view.bytes l.first l.block;
   unknown : (k : ℕ) → l.first ≤ k → k < l.block → slice_index l.ends k ≡ 0;
-  least : CountsAtLeast l.initial.view.count 0 l.view.count;
-  looks : l.view.count ≤ l.initial.view.count + block_looks * (l.block - l.first);
+  reading : Reads l.initial.view l.view 0 (block_looks * (l.block - l.first));
 }
 
 abbrev pub decreases-loop-block : goal.decreases-loop-block

@@ -1,9 +1,7 @@
 use Rattle.std.proofs.Common.{◌≡◌, drop}
 use Rattle.goblin_text.proofs.Puts.{PutSoFar}
-use Rattle.goblin_text.proofs.LineLooks.{LooksSoFar}
+use Rattle.goblin_text.proofs.LineLooks.{ReadSoFar}
 use Rattle.goblin_text.specs.Accepted.{symbols_text}
-use Rattle.goblin_base.specs.Entries.{CountsAtLeast}
-use Rattle.goblin_text.specs.Looks.{IsShort}
 use Rattle.goblin_text.proofs.text.put_all_symbols.Given as goal
 
 -- the lines so far were put, and took no more looks than they may
@@ -14,9 +12,7 @@ invariant-loop-part g l =
     let all = symbols_text old.bytes l.parts in
     let rest = symbols_text old.bytes (drop l.part-index l.parts) in
     record {
-      same : l.names.bytes ≡ old.bytes;
-      looks : IsShort old.bytes → LooksSoFar old l.names all rest;
-      least : CountsAtLeast old.count 0 l.names.count;
+      reading : ReadSoFar old l.names all rest;
       put : PutSoFar (target.state l.initial.target) (target.state l.target) all rest;
       same_writer : target.writer_name l.target ≡ target.writer_name l.initial.target;
     }

@@ -1,29 +1,24 @@
 use Rattle.std.proofs.Common.{◌+◌, arith, drop}
 use Rattle.std.proofs.lemmas.Grind.{common_steps}
 use Rattle.goblin_text.proofs.Puts.{more_put}
-use Rattle.goblin_text.proofs.LineLooks.{looks_at_failure, more_looks}
+use Rattle.goblin_text.proofs.LineLooks.{more_read, read_at_failure}
 use Rattle.goblin_text.specs.StringRanges.{strings_in}
 use Rattle.goblin_text.specs.Shown.{section_lines}
 use Rattle.goblin_text.proofs.text.put_sections.Goals as goal
 
 pub loop-number-preserved : goal.loop-number-preserved
 loop-number-preserved g c = record {
-  same = grind (arith, common_steps);
-  looks = λ short.
-      more_looks c.args.names.now c.loop-number.names c.put_named_section.new.names _ _ _ _
-      (c.loop-number.invariant.looks short) (grind (arith, common_steps))
-      (c.put_named_section.ensures.looks (grind (arith, common_steps)));
-  least = omega (arith, c.loop-number.invariant.least, c.put_named_section.ensures.looks_least);
+  reading = more_read c.args.names.now c.loop-number.names c.put_named_section.new.names _ _ _ _
+      c.loop-number.invariant.reading (grind (arith, common_steps)) c.put_named_section.ensures.reading;
   put = more_put _ _ _ _ _ _ _ c.loop-number.invariant.put
       (grind (arith, common_steps)) c.in_ok-put_named_section.ensures.put;
   same_writer = grind (arith, common_steps);
 }
 
-pub returns-in_err-put_named_section-clause-looks : goal.returns-in_err-put_named_section-clause-looks
-returns-in_err-put_named_section-clause-looks g c = λ short.
+pub returns-in_err-put_named_section-clause-reading : goal.returns-in_err-put_named_section-clause-reading
+returns-in_err-put_named_section-clause-reading g c =
     let next = section_lines (strings_in c.args.names.now.bytes c.args.file.now.parts.strings)
     (c.loop-number.number + 1)
     (drop (c.loop-number.number + 1) c.args.file.now.sections.items) in
-    looks_at_failure c.args.names.now c.loop-number.names c.put_named_section.new.names _ _ _ next
-    (c.loop-number.invariant.looks short) (grind (arith, common_steps))
-    (c.put_named_section.ensures.looks (grind (arith, common_steps)))
+    read_at_failure c.args.names.now c.loop-number.names c.put_named_section.new.names _ _ _ next
+    c.loop-number.invariant.reading (grind (arith, common_steps)) c.put_named_section.ensures.reading

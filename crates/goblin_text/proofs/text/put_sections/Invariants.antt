@@ -1,9 +1,7 @@
 use Rattle.std.proofs.Common.{◌≡◌, drop}
 use Rattle.goblin_text.proofs.Puts.{PutSoFar}
 use Rattle.goblin_text.specs.StringRanges.{strings_in}
-use Rattle.goblin_text.proofs.LineLooks.{LooksSoFar}
-use Rattle.goblin_base.specs.Entries.{CountsAtLeast}
-use Rattle.goblin_text.specs.Looks.{IsShort}
+use Rattle.goblin_text.proofs.LineLooks.{ReadSoFar}
 use Rattle.goblin_text.specs.Shown.{section_lines}
 use Rattle.goblin_text.proofs.text.put_sections.Given as goal
 
@@ -16,9 +14,7 @@ invariant-loop-number g l =
     let all = section_lines strings 0 l.file.sections.items in
     let rest = section_lines strings l.number (drop l.number l.file.sections.items) in
     record {
-      same : l.names.bytes ≡ old.bytes;
-      looks : IsShort old.bytes → LooksSoFar old l.names all rest;
-      least : CountsAtLeast old.count 0 l.names.count;
+      reading : ReadSoFar old l.names all rest;
       put : PutSoFar (target.state l.initial.target) (target.state l.target) all rest;
       same_writer : target.writer_name l.target ≡ target.writer_name l.initial.target;
     }

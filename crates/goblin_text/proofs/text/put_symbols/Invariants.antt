@@ -1,10 +1,8 @@
 use Rattle.std.proofs.Common.{◌≡◌, ◌+◌, ◌<◌, length}
 use Prim.Native.Nat.{◌^◌}
 use Rattle.goblin_text.proofs.Puts.{PutSoFar}
-use Rattle.goblin_text.proofs.LineLooks.{LooksSoFar}
+use Rattle.goblin_text.proofs.LineLooks.{ReadSoFar}
 use Rattle.goblin_text.specs.StringRanges.{strings_in}
-use Rattle.goblin_base.specs.Entries.{CountsAtLeast}
-use Rattle.goblin_text.specs.Looks.{IsShort}
 use Rattle.goblin_text.specs.Shown.{symbol_lines}
 use Rattle.goblin_text.proofs.text.put_symbols.Given as goal
 
@@ -17,9 +15,7 @@ invariant-loop-number g l =
     let all = symbol_lines strings l.part.section 0 l.part.table.symbols in
     let rest = symbol_lines strings l.part.section l.number l.symbol-iterator in
     record {
-      same : l.names.bytes ≡ old.bytes;
-      looks : IsShort old.bytes → LooksSoFar old l.names all rest;
-      least : CountsAtLeast old.count 0 l.names.count;
+      reading : ReadSoFar old l.names all rest;
       count : l.number + length l.symbol-iterator < 2 ^ 64;
       put : PutSoFar (target.state l.initial.target) (target.state l.target) all rest;
       same_writer : target.writer_name l.target ≡ target.writer_name l.initial.target;

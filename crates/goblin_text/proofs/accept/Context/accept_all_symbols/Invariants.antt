@@ -1,8 +1,7 @@
 use Rattle.std.proofs.Common.{◌≡◌, ◌++◌, ◌*◌, ℕ, List, drop}
 use Rattle.goblin_base.proofs.LineLemmas.{after}
 use Rattle.goblin_text.specs.Accepted.{symbols_text}
-use Rattle.goblin_base.specs.Entries.{CountsAtLeast}
-use Rattle.goblin_text.specs.Looks.{IsShort, LooksAtMost, table_looks}
+use Rattle.goblin_text.specs.Looks.{ReadsNames, table_looks}
 use Rattle.goblin_text.specs.Shown.{each_shown, symbols_shown}
 use Rattle.goblin_text.proofs.accept.Context.accept_all_symbols.Given as goal
 
@@ -13,9 +12,7 @@ invariant-loop-number l =
     let bytes = l.initial.file.bytes in
     let shows = symbols_shown context.opts.now.parse_mode bytes context.ctx context.sections.now in
     record {
-      same : l.file.bytes ≡ bytes;
-      looks : IsShort bytes → LooksAtMost l.initial.file l.file (table_looks * l.number);
-      least : CountsAtLeast l.initial.file.count 0 l.file.count;
+      reading : ReadsNames l.initial.file l.file 0 (table_looks * l.number);
       shown : (lines : List ℕ) × (symbols_text bytes l.parts.items ≡ symbols_text bytes l.initial.parts.items ++ lines)
           × (each_shown shows 0 context.sections.now
           ≡ after lines (each_shown shows l.number (drop l.number context.sections.now)));

@@ -27,14 +27,18 @@ returns-in-None-clause-name c =
     ∙ name_in_range c.args.self.now.bytes c.args.start c.args.end c.args.offset c.requires.ordered c.requires.within
     c.if-offset-end.false
 
-pub returns-in-Some-clause-looks : goal.returns-in-Some-clause-looks
-returns-in-Some-clause-looks c = λ short.
+pub returns-in-Some-clause-reading : goal.returns-in-Some-clause-reading
+returns-in-Some-clause-reading c =
     let bytes = c.args.self.now.bytes in
     let place = c.args.start + c.args.offset in
     let stop = c.in-Some.stop in
     let size : length (slice_range c.end_of_name.new.self.bytes place stop) ≡ stop - place =
     length-range c.end_of_name.new.self.bytes place stop c.in-Some.ensures.stop.order (grind (arith, common_steps)) in
-    elim (c.in-Some.ensures.looks (grind (arith, common_steps))) [
-      | inl near ↦ grind (arith, common_steps, near)
-      | inr text ↦ grind (arith, common_steps, text, size, text_length)
-    ]
+    record {
+      unchanged = grind (arith, common_steps);
+      looks = λ short. elim (c.in-Some.ensures.looks_near (grind (arith, common_steps))) [
+        | inl near ↦ grind (arith, common_steps, near)
+        | inr text ↦ grind (arith, common_steps, text, size, text_length)
+      ];
+      looks_least = grind (arith, common_steps);
+    }
