@@ -25,13 +25,15 @@ use Rattle.goblin_text.proofs.Strings.{get_up, goes_on, no_zero_whole, stops, wh
 use Rattle.goblin_text.specs.Runs.{LacksText, char_start, after_continuation, up_to_zero}
 
 -- ---- the place after a byte that goes on with a character
-abbrev pub is_continuation : ℕ → Type 0
-is_continuation b = (128 ≤ b) × (b < 192)
+-- a byte that goes on with a character
+pub record IsContinuation (b : ℕ) : Type 0 where
+  pub from : 128 ≤ b
+  pub below : b < 192
 
 -- a byte that goes on with a character is passed over, and another one isn't
 pub data Passed (bytes : List ℕ) (p : ℕ) : Type 0 where
-  over : after_continuation bytes p ≡ p + 1 → is_continuation (get_or bytes p 0) → Passed bytes p
-  stays : after_continuation bytes p ≡ p → ¬ (is_continuation (get_or bytes p 0)) → Passed bytes p
+  over : after_continuation bytes p ≡ p + 1 → IsContinuation (get_or bytes p 0) → Passed bytes p
+  stays : after_continuation bytes p ≡ p → ¬ (IsContinuation (get_or bytes p 0)) → Passed bytes p
 
 pub after_continuation_is : (bytes : List ℕ) (p : ℕ) → Passed bytes p
 unfolding after_continuation
@@ -39,11 +41,11 @@ after_continuation_is bytes p = tested (leb 128 (get_or bytes p 0)) (ltb (get_or
   where
     tested : (a b : Bool) → leb 128 (get_or bytes p 0) ≡ a → ltb (get_or bytes p 0) 192 ≡ b
         → after_continuation bytes p ≡ cond (a && b) (p + 1) p → Passed bytes p
-    tested true true e f is = over is (grind (arith, nat_tests), grind (arith, nat_tests))
+    tested true true e f is = over is (record { from = grind (arith, nat_tests); below = grind (arith, nat_tests) })
     tested true false e f is =
-        stays is (λ h. let x : 192 ≤ get_or bytes p 0 = grind (arith, nat_tests) in omega (arith, h.1))
+        stays is (λ h. let x : 192 ≤ get_or bytes p 0 = grind (arith, nat_tests) in omega (arith, h.below))
     tested false b e f is =
-        stays is (λ h. let x : get_or bytes p 0 < 128 = grind (arith, nat_tests) in omega (arith, h.0))
+        stays is (λ h. let x : get_or bytes p 0 < 128 = grind (arith, nat_tests) in omega (arith, h.from))
 
 after_continuation_bounds : (bytes : List ℕ) (p : ℕ)
     → (p ≤ after_continuation bytes p) × (after_continuation bytes p ≤ p + 1)
@@ -53,18 +55,18 @@ after_continuation_bounds bytes p = elim (after_continuation_is bytes p) [
 ]
 
 -- what is passed over goes on with a character
-passed : (bytes : List ℕ) (p q : ℕ) → p ≤ q → q < after_continuation bytes p → is_continuation (get_or bytes q 0)
+passed : (bytes : List ℕ) (p q : ℕ) → p ≤ q → q < after_continuation bytes p → IsContinuation (get_or bytes q 0)
 passed bytes p q l h = elim (after_continuation_is bytes p) [
-  | over e on ↦ (let same : p ≡ q = omega (arith, e) in subst (λ k. is_continuation (get_or bytes k 0)) same on)
+  | over e on ↦ (let same : p ≡ q = omega (arith, e) in subst (λ k. IsContinuation (get_or bytes k 0)) same on)
   | stays e off ↦ absurd (omega (arith, e))
 ]
 
 -- where the byte after a place goes on with a character, the byte there does
-passed_before : (bytes : List ℕ) (p : ℕ) → is_continuation (get_or bytes (after_continuation bytes p) 0)
-    → (after_continuation bytes p ≡ p + 1) × is_continuation (get_or bytes p 0)
+passed_before : (bytes : List ℕ) (p : ℕ) → IsContinuation (get_or bytes (after_continuation bytes p) 0)
+    → (after_continuation bytes p ≡ p + 1) × IsContinuation (get_or bytes p 0)
 passed_before bytes p h = elim (after_continuation_is bytes p) [
   | over e on ↦ (e, on)
-  | stays e off ↦ absurd (off (subst (λ k. is_continuation (get_or bytes k 0)) e h))
+  | stays e off ↦ absurd (off (subst (λ k. IsContinuation (get_or bytes k 0)) e h))
 ]
 
 -- ---- the edge
@@ -78,7 +80,7 @@ char_start_bounds bytes place =
     (omega arith, omega arith)
 
 -- what stands between a place and its edge goes on with a character
-passed_to_start : (bytes : List ℕ) (p q : ℕ) → p ≤ q → q < char_start bytes p → is_continuation (get_or bytes q 0)
+passed_to_start : (bytes : List ℕ) (p q : ℕ) → p ≤ q → q < char_start bytes p → IsContinuation (get_or bytes q 0)
 unfolding char_start
 passed_to_start bytes p q l h =
     let a = after_continuation bytes p in
@@ -89,8 +91,8 @@ passed_to_start bytes p q l h =
     (cases_lt q a)
 
 -- if the byte at the edge goes on with a character, the three before it do too
-four_go_on : (bytes : List ℕ) (p : ℕ) → is_continuation (get_or bytes (char_start bytes p) 0)
-    → (char_start bytes p ≡ p + 3) × ((j : ℕ) → p ≤ j → j ≤ p + 3 → is_continuation (get_or bytes j 0))
+four_go_on : (bytes : List ℕ) (p : ℕ) → IsContinuation (get_or bytes (char_start bytes p) 0)
+    → (char_start bytes p ≡ p + 3) × ((j : ℕ) → p ≤ j → j ≤ p + 3 → IsContinuation (get_or bytes j 0))
 unfolding char_start
 four_go_on bytes p h =
     let z = passed_before bytes (after_continuation bytes (after_continuation bytes p)) h in
@@ -102,7 +104,7 @@ four_go_on bytes p h =
           (λ (s : j < char_start bytes p). passed_to_start bytes p j l s)
           (λ (s : char_start bytes p ≤ j).
           let same : char_start bytes p ≡ j = omega arith in
-          subst (λ k. is_continuation (get_or bytes k 0)) same h)
+          subst (λ k. IsContinuation (get_or bytes k 0)) same h)
           (cases_lt j (char_start bytes p)),
     )
 
@@ -175,12 +177,12 @@ char_start-boundary bytes text i p l size u holds =
           let there : i + n ≡ char_start bytes p = omega arith in
           let byte : get_or text n 0 ≡ get_or bytes (char_start bytes p) 0 =
           holds n some ∙ ap (λ q. get_or bytes q 0) there in
-          let four = four_go_on bytes p (omega arith, omega arith) in
+          let four = four_go_on bytes p (record { from = omega arith; below = omega arith }) in
           let cut = cut_near text (n - 3) u (omega arith) in
           let short : cut.place < length text = omega (arith, cut.to, four.0) in
           let same : get_or text cut.place 0 ≡ get_or bytes (i + cut.place) 0 = holds cut.place short in
           let on = four.1 (i + cut.place) (omega (arith, cut.from, four.0)) (omega (arith, cut.to, four.0)) in
-          absurd (omega (arith, cut.boundary.1 short (omega (arith, on.0)), on.1)))
+          absurd (omega (arith, cut.boundary.1 short (omega (arith, on.from)), on.below)))
           (λ (high : 192 ≤ get_or text n 0). high)
           (cases_lt (get_or text n 0) 192),
     )
@@ -242,5 +244,5 @@ whole_to_start bytes i p k l m h short is =
     whole_no_zero (slice_range bytes i k) q is (omega (arith, size)) (get_range bytes i k q (omega arith) ∙ byte))
     (λ (s : k ≤ i + q).
     let on = passed_to_start bytes p (i + q) (omega arith) (omega (arith, n, length-front)) in
-    absurd (omega (arith, on.0, byte)))
+    absurd (omega (arith, on.from, byte)))
     (cases_lt (i + q) k))

@@ -54,8 +54,8 @@ name_later bytes i j o l m h on =
     let byte : get_or (slice_range bytes i j) o 0 ≡ get_or bytes (i + o) 0 = get_range bytes i j o h in
     elim (after_continuation_is bytes (i + o)) [
       | over e g ↦ sym
-          (name-later (slice_range bytes i j) 0 o (lit< tt) (omega arith) (omega (arith, byte, g.0))
-          (omega (arith, byte, g.1)))
+          (name-later (slice_range bytes i j) 0 o (lit< tt) (omega arith) (omega (arith, byte, g.from))
+          (omega (arith, byte, g.below)))
       | stays e none ↦ absurd (omega (arith, on, e))
     ]
 

@@ -25,8 +25,9 @@ abbrev pub IsCached : NamesView → (start end : ℕ) → Type 0
 IsCached names start end = (names.text_start ≡ start) × (names.text_end ≡ end)
 
 -- no byte was looked at yet
-abbrev pub IsUnread : NamesView → Type 0
-IsUnread names = (names.count ≡ 0) × (names.left ≤ 5 * length names.bytes)
+pub record IsUnread (names : NamesView) : Type 0 where
+  pub none : names.count ≡ 0
+  pub left : names.left ≤ 5 * length names.bytes
 
 -- the file is no longer than the program takes
 abbrev pub IsShort : List ℕ → Type 0

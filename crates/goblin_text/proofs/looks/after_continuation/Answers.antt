@@ -1,3 +1,5 @@
+-- If a test of the code fails, the byte at the place is no continuation byte: the failed test contradicts one of the
+-- two bounds of such a byte, and past the end the byte reads as 0.
 use Rattle.std.proofs.Common.{◌≡◌, ◌≤◌, arith, get_or, length, sym}
 use Rattle.std.proofs.lemmas.Grind.{common_steps}
 use Rattle.std.proofs.lemmas.List.{get_or_past}
@@ -18,11 +20,11 @@ returns-else-from-len-clause-value c =
       | over e on ↦
           let no : ⊥ = elim c.else-from-len.branch [
             | else-from-len-via-then-from-len+then-b-ge128+else-b-lt192 w ↦ omega
-                (arith, on.1, byte, w.if-b-lt192.false)
-            | else-from-len-via-then-from-len+else-b-ge128 w ↦ omega (arith, on.0, byte, w.if-b-ge128.false)
+                (arith, on.below, byte, w.if-b-lt192.false)
+            | else-from-len-via-then-from-len+else-b-ge128 w ↦ omega (arith, on.from, byte, w.if-b-ge128.false)
             | else-from-len-via-else-from-len w ↦
                 let all : length bytes ≤ c.args.from = grind (arith, common_steps, w.if-from-len.false) in
-                omega (arith, on.0, get_or_past bytes c.args.from 0 all)
+                omega (arith, on.from, get_or_past bytes c.args.from 0 all)
           ] in
           absurd no
     ]

@@ -1,3 +1,5 @@
+-- The refused piece is the first one that is not UTF-8: the bytes up to the first fault are UTF-8, so it is the last
+-- string before the fault, which is searched for backwards from there.
 use Rattle.std.proofs.Common.{◌≡◌, ◌∙◌, ◌+◌, ◌-◌, ap, arith, length, slice_range, take, Err}
 use Rattle.std.proofs.lemmas.Grind.{common_steps}
 use Rattle.std.proofs.lemmas.List.{length-take-le}

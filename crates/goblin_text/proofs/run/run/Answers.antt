@@ -1,3 +1,5 @@
+-- A run whose input is too long, or for which memory ran out, writes one line with that reason or fails, as `refuse`
+-- says. Of the reader it says what `input_of` says.
 use Rattle.std.proofs.Common.{arith, inl, inr, refl}
 use Rattle.std.proofs.lemmas.Grind.{common_steps}
 use Rattle.std.specs.Fmt.{digits}
@@ -8,8 +10,10 @@ unfolding digits
 returns-in-TooLong g c = record {
   shown = λ e. absurd (c.refuse.ensures.shown e);
   refused = λ e.
-      let why = c.in-TooLong.ensures.input in
-      (_, inr (inl (why.0, why.1, refl)), c.refuse.ensures.refused e);
+      let input = c.in-TooLong.ensures.input in
+      let bytes = input.0 in
+      let too_many = input.1 in
+      (_, inr (inl (bytes, too_many, refl)), c.refuse.ensures.refused e);
   failed = λ e. inr (c.refuse.ensures.failed e);
   heeds_reader = grind (arith, common_steps);
   heeds_writer = grind (arith, common_steps);

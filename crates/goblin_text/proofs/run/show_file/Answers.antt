@@ -1,3 +1,5 @@
+-- The looks for a text that is shown are those of its string tables and its names: the header and each section have a
+-- line, and the looks of a line are enough for one table and one name.
 use Rattle.std.proofs.Common.{◌≡◌, ◌+◌, ◌*◌, arith, length, refl}
 use Rattle.std.proofs.lemmas.Grind.{common_steps}
 use Rattle.goblin_text.proofs.LineLooks.{looks_shown}
@@ -22,7 +24,7 @@ returns-in-Ok-write_text-clause-looks_shown g c = λ short text done is.
 -- of a file of which no byte was looked at before, the same
 pub returns-in-Ok-write_text-clause-most_shown : goal.returns-in-Ok-write_text-clause-most_shown
 returns-in-Ok-write_text-clause-most_shown g c = λ short unread text done is.
-    omega (arith, returns-in-Ok-write_text-clause-looks_shown g c short text done is, unread.0, unread.1)
+    omega (arith, returns-in-Ok-write_text-clause-looks_shown g c short text done is, unread.none, unread.left)
 
 -- a text that could not be written was not shown
 pub returns-in-Ok-clause-shown : goal.returns-in-Ok-clause-shown

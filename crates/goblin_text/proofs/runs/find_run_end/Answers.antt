@@ -1,3 +1,4 @@
+-- A block whose end is known ends the search: the blocks before it are of the kind, so the run goes on to that end.
 use Rattle.std.proofs.Common.{◌≡◌, ◌<◌, arith, get_or, length, subst, sym}
 use Rattle.std.proofs.lemmas.Grind.{common_steps}
 use Rattle.goblin_text.proofs.RunEnds.{end_after, end_known}

@@ -1,3 +1,5 @@
+-- The lines of all parts are put: each turn puts those of the first part that is left. So the looks of the parts so far
+-- and of those that are left are the looks of all, also where a part fails.
 use Rattle.std.proofs.Common.{◌+◌, arith, drop}
 use Rattle.std.proofs.lemmas.Grind.{common_steps}
 use Rattle.goblin_text.proofs.Puts.{more_put}

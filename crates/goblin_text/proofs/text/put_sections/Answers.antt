@@ -1,3 +1,5 @@
+-- The lines of all sections are put: each turn puts the first line of those that are left. So the looks of the lines so
+-- far and of those that are left are the looks of all, also where a line fails.
 use Rattle.std.proofs.Common.{◌+◌, arith, drop}
 use Rattle.std.proofs.lemmas.Grind.{common_steps}
 use Rattle.goblin_text.proofs.Puts.{more_put}

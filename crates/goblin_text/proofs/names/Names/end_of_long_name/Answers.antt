@@ -1,3 +1,5 @@
+-- A long name ends in the first block that isn't text with no zero byte, or after the last block: up to there it is
+-- text with no zero byte, so its end is the one that is found from there on.
 use Rattle.std.proofs.Common.{◌≡◌, ◌+◌, ◌*◌, ◌<◌, ◌≤◌, arith, slice_range, subst}
 use Rattle.std.proofs.lemmas.Bool.{both_ways}
 use Rattle.std.proofs.lemmas.Grind.{common_steps}

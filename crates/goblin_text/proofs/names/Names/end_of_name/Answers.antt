@@ -1,3 +1,5 @@
+-- The string ends where the searches find its first zero byte: in the bytes of one block, or else, as these have none,
+-- where the rest of it ends.
 use Rattle.std.proofs.Common.{◌≡◌, ◌≤◌, arith, length, slice_range}
 use Rattle.std.proofs.lemmas.Grind.{common_steps}
 use Rattle.goblin_text.proofs.Strings.{string-after, string-within}

@@ -1,3 +1,5 @@
+-- The name is the string from its place on, if that is text: a place past the end or at a continuation byte has none. A
+-- long name is text and is returned whole, so its length bounds the looks for it.
 use Rattle.std.proofs.Common.{◌≡◌, ◌∙◌, ◌+◌, ◌-◌, ap, arith, inl, inr, length, slice_range}
 use Rattle.std.proofs.lemmas.Grind.{common_steps}
 use Rattle.goblin_text.proofs.FoundNames.{name_in_range, name_later, nothing, name_past_end, text_length}

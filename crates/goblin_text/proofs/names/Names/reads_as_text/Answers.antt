@@ -1,3 +1,4 @@
+-- A range is text exactly if its two ends are text and the blocks between them: no edge cuts a character.
 use Rattle.std.proofs.Common.{◌≡◌, ◌<◌, ◌≤◌, arith, refl, slice_range, subst, sym}
 use Rattle.std.proofs.lemmas.Bool.{both_ways}
 use Rattle.std.proofs.lemmas.Grind.{common_steps}

@@ -1,3 +1,5 @@
+-- The table is the one that the library finds, because it is that of the range's bytes. A mode that isn't permissive is
+-- strict, and in strict mode these bytes are tested.
 use Rattle.std.proofs.Common.{◌≡◌, ◌∙◌, ap, arith, length, slice_range, subst, sym}
 use Rattle.std.proofs.lemmas.Bool.{both_ways}
 use Rattle.std.proofs.lemmas.Grind.{common_steps}

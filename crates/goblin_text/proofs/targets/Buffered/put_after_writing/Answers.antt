@@ -1,3 +1,5 @@
+-- The bytes come after those that the buffer had: these are written first, which empties the buffer, and then the bytes
+-- are written, or fill it.
 use Rattle.std.proofs.Common.{sym, subst}
 use Rattle.std.specs.Io.KnownBytes.{Appends, Keeps}
 use Rattle.goblin_text.proofs.Puts.{added, appends_kept, emptied}

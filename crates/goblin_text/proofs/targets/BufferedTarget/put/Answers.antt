@@ -1,3 +1,4 @@
+-- A piece that fits is put: the writer and the bytes in the buffer are as before, and the piece comes after them.
 use Rattle.std.proofs.Common.{arith, subst, sym}
 use Rattle.std.proofs.KnownBytes.{Keeps-refl}
 use Rattle.std.proofs.lemmas.Grind.{common_steps}
