@@ -20,9 +20,9 @@ use Rattle.std.proofs.lemmas.Str.{IsCharBoundary-at_seam, IsCharBoundary-from_re
 use Rattle.std.proofs.lemmas.Str.{IsUtf8-take, len_utf8_bounds, length-encode}
 use Rattle.std.specs.Str.{IsUtf8, IsCharBoundary}
 use lib.Utf8.{encode, encodes, scalar, scalars}
-use Rattle.goblin_text.proofs.Ranges.{get_range, length-range, rest_of_range, split}
+use Rattle.goblin_text.proofs.ByteRanges.{get_range, length-range, rest_of_range, split}
 use Rattle.goblin_text.proofs.Strings.{get_up, goes_on, no_zero_whole, stops, whole, whole_no_zero}
-use Rattle.goblin_text.specs.Runs.{LacksText, char_start, after_continuation, up_to_zero}
+use Rattle.goblin_text.specs.BlockRuns.{LacksText, char_start, after_continuation, up_to_zero}
 
 -- ---- the place after a byte that goes on with a character
 -- a byte that goes on with a character

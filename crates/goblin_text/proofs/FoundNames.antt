@@ -12,9 +12,9 @@ use Rattle.goblin.specs.TextLaws.{name-later, name-past, names_are_plain}
 use Rattle.goblin.specs.Utf8.{invalid_utf8}
 use Rattle.goblin_text.proofs.CharStarts.{after_continuation_is}
 use Rattle.goblin_text.proofs.CharStarts.Passed.{over, stays}
-use Rattle.goblin_text.proofs.Ranges.{get_range, length-range, rest_of_range}
+use Rattle.goblin_text.proofs.ByteRanges.{get_range, length-range, rest_of_range}
 use Rattle.goblin_text.specs.StringRanges.{text_table}
-use Rattle.goblin_text.specs.Runs.{LacksText, after_continuation, up_to_zero}
+use Rattle.goblin_text.specs.BlockRuns.{LacksText, after_continuation, up_to_zero}
 use Rattle.goblin_text.specs.Shown.{name_at}
 
 pub name_past_end : (bytes : List ℕ) (o : ℕ) → length bytes ≤ o → [] ≡ name_at (text_table bytes) o

@@ -13,7 +13,8 @@ use Rattle.goblin_text.specs.StringRanges.{strings_in}
 use Rattle.goblin_text.specs.Shown.{name_at, section_lines}
 use Rattle.goblin_text.specs.declared.accept.Parts.{Parts}
 use Rattle.goblin_text.specs.declared.accept.SymbolPart.{SymbolPart}
-use Rattle.goblin_text.specs.Lines.{header_line, named_line, newline, printable, printed, section_head, section_line}
+use Rattle.goblin_text.specs.ShownLines.{header_line, named_line, newline, printable, printed, section_head}
+use Rattle.goblin_text.specs.ShownLines.{section_line}
 use Rattle.goblin_text.specs.Looks.{IsShort, LooksAtMost, NamesView, ReadsNames, line_looks, lines_in, name_looks}
 use Rattle.goblin_text.specs.Looks.{names_looks, table_looks}
 

@@ -5,12 +5,12 @@ use Rattle.std.proofs.lemmas.Bool.{cases_lt}
 use Rattle.std.specs.Str.{IsUtf8}
 use Rattle.goblin.specs.TextLaws.{texts-join}
 use Rattle.goblin_text.proofs.CharStarts.{char_start_bounds, lacks-on, whole_to_start}
-use Rattle.goblin_text.proofs.Joins.{lacks-after, of_up_to}
+use Rattle.goblin_text.proofs.JoinedRanges.{lacks-after, of_up_to}
 use Rattle.goblin_text.proofs.Strings.{string-after, string-within}
-use Rattle.goblin_text.specs.declared.runs.Kind.TheVariants.{ZeroFree}
-use Rattle.goblin_text.specs.declared.runs.TheConstants.{BLOCK}
-use Rattle.goblin_text.specs.Runs.{EndsAt, IsBlock, IsLong, IsZeroFree, IsRun, IsTextUpTo, LacksText, block_start}
-use Rattle.goblin_text.specs.Runs.{next_block, up_to_zero}
+use Rattle.goblin_text.specs.declared.block_runs.Kind.TheVariants.{ZeroFree}
+use Rattle.goblin_text.specs.declared.block_runs.TheConstants.{BLOCK}
+use Rattle.goblin_text.specs.BlockRuns.{EndsAt, IsBlock, IsLong, IsZeroFree, IsRun, IsTextUpTo, LacksText, block_start}
+use Rattle.goblin_text.specs.BlockRuns.{next_block, up_to_zero}
 
 -- text with no zero byte goes on from a place up to a block
 pub record RunsTo (bytes : List ℕ) (place run : ℕ) : Type 0 where

@@ -2,7 +2,7 @@
 use Rattle.std.proofs.Common.{◌≡◌, ℕ, arith}
 use Rattle.std.proofs.lemmas.Bool.Decides.{nat_tests}
 use lib.Utf8.{encode}
-use Rattle.goblin_text.specs.Lines.{printable, printed}
+use Rattle.goblin_text.specs.ShownLines.{printable, printed}
 
 -- the bytes of a character as it prints
 pub encode-printable : (c : ℕ) → encode (printable c) ≡ printed (encode c)

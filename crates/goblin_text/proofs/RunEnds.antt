@@ -5,8 +5,8 @@ use Rattle.std.proofs.Common.{sym, ap, subst, ⊎_elim, arith}
 use Rattle.std.proofs.lemmas.Bool.{cases_eq, cases_lt}
 use Rattle.std.proofs.lemmas.Bool.Decides.{nat_tests}
 use Rattle.std.proofs.lemmas.List.{get_or-replicate, length-replicate}
-use Rattle.goblin_text.specs.declared.runs.Kind.{Kind}
-use Rattle.goblin_text.specs.Runs.{AreRunEnds, IsRunEnd, IsRun, unknown}
+use Rattle.goblin_text.specs.declared.block_runs.Kind.{Kind}
+use Rattle.goblin_text.specs.BlockRuns.{AreRunEnds, IsRunEnd, IsRun, unknown}
 
 -- no end is stored at first
 pub none_known : (kind : Kind) (bytes : List ℕ) (n : ℕ) → AreRunEnds kind bytes (replicate n 0)

@@ -8,8 +8,8 @@ use Rattle.std.proofs.lemmas.List.{get_or-take, length-take, length-take-le, tak
 use Rattle.std.proofs.lemmas.List.Folds.{prefix_len-append}
 use Rattle.std.proofs.lemmas.List.Sums.{fails_before_first, passes_at_first, prefix_len-le-length}
 use Rattle.std.specs.List.{position_or_len}
-use Rattle.goblin_text.proofs.Ranges.{get_range, length-range, split}
-use Rattle.goblin_text.specs.Runs.{up_to_zero}
+use Rattle.goblin_text.proofs.ByteRanges.{get_range, length-range, split}
+use Rattle.goblin_text.specs.BlockRuns.{up_to_zero}
 
 abbrev no_zero : ℕ → Bool
 no_zero b = not (b == 0)

@@ -3,10 +3,10 @@ use Rattle.std.proofs.Common.{ℕ, ◌+◌, ◌*◌, ◌<◌, ◌≤◌, List, l
 use Rattle.std.specs.Str.{IsUtf8}
 use Rattle.goblin.specs.TextLaws.{texts-join}
 use Rattle.goblin_text.proofs.CharStarts.{char_start_bounds, text_cut}
-use Rattle.goblin_text.proofs.Joins.{of_up_to}
-use Rattle.goblin_text.specs.declared.runs.Kind.TheVariants.{Text}
-use Rattle.goblin_text.specs.declared.runs.TheConstants.{BLOCK}
-use Rattle.goblin_text.specs.Runs.{IsBlock, IsRun, block_start, last_block, next_block}
+use Rattle.goblin_text.proofs.JoinedRanges.{of_up_to}
+use Rattle.goblin_text.specs.declared.block_runs.Kind.TheVariants.{Text}
+use Rattle.goblin_text.specs.declared.block_runs.TheConstants.{BLOCK}
+use Rattle.goblin_text.specs.BlockRuns.{IsBlock, IsRun, block_start, last_block, next_block}
 
 -- the parts of a range are text: up to the next block, the blocks, and what is left
 pub record AreText (bytes : List ℕ) (start end : ℕ) : Type 0 where

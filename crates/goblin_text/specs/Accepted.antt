@@ -9,7 +9,7 @@ use Rattle.goblin_text.specs.declared.accept.Parts.{Parts}
 use Rattle.goblin_text.specs.declared.accept.RelocPart.{RelocPart}
 use Rattle.goblin_text.specs.declared.accept.SymbolPart.{SymbolPart}
 use Rattle.goblin_text.specs.StringRanges.{strings_in}
-use Rattle.goblin_text.specs.Lines.{header_line}
+use Rattle.goblin_text.specs.ShownLines.{header_line}
 use Rattle.goblin_text.specs.Shown.{reloc_lines, section_lines, symbol_lines}
 
 -- the lines of the symbols of some parts of a file with these bytes

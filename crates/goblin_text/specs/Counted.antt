@@ -1,5 +1,5 @@
 -- What clauses see of a `Counted`.
-use Rattle.goblin_text.specs.Marks.{Marks}
+use Rattle.goblin_text.specs.StreamMarks.{Marks}
 use Rattle.goblin_text.specs.declared.counted.Counted.{Counted}
 
 -- the reader or writer inside

@@ -7,8 +7,8 @@ use Rattle.goblin.specs.ReadHeader.{read_header}
 use Rattle.goblin.specs.Refusal.{refusal_of}
 use Rattle.goblin.specs.Steps.{◌>>=◌, refuse_as}
 use Rattle.goblin_base.specs.Entries.{CountsAtLeast}
-use Rattle.goblin_text.specs.declared.runs.TheConstants.{BLOCK}
-use Rattle.goblin_text.specs.Ran.{input_limit}
+use Rattle.goblin_text.specs.declared.block_runs.TheConstants.{BLOCK}
+use Rattle.goblin_text.specs.RunOutcome.{input_limit}
 use Rattle.goblin_text.specs.Shown.{ctx_of, sections_of, shown}
 
 -- the bytes of a file, how many looks at them were taken, how many more the blocks may take that weren't read yet, and

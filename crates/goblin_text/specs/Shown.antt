@@ -21,7 +21,7 @@ use Rattle.goblin.specs.Sym.{sym_size}
 use Rattle.goblin.specs.Symtab.{symtab_by}
 use Rattle.goblin.specs.Texts.{◌&◌}
 pub use Rattle.goblin_base.specs.Lines.{Adds}
-use Rattle.goblin_text.specs.Lines.{header_line, reloc_line, section_line, symbol_line}
+use Rattle.goblin_text.specs.ShownLines.{header_line, reloc_line, section_line, symbol_line}
 use Rattle.goblin_text.specs.Options.{is_permissive}
 
 -- the class and the byte order of a header

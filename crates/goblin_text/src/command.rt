@@ -3,7 +3,7 @@ ghost use Rattle.std.specs.Prelude.{◌≡◌, ◌<◌, None, Some, OnErr, OnOk}
 ghost use Rattle.goblin.specs.declared.options.ParseOptions.{ParseOptions};
 ghost use Rattle.goblin_text.specs.declared.run.Outcome.{Outcome};
 ghost use Rattle.goblin_text.specs.Options.{wanted};
-ghost use Rattle.goblin_text.specs.Ran.{HasRun, WritesUsage, status_of};
+ghost use Rattle.goblin_text.specs.RunOutcome.{HasRun, WritesUsage, status_of};
 
 use crate::options::options_of;
 use crate::run::{Outcome, run};

@@ -1,7 +1,7 @@
 //! A reader or a writer of std, with marks of what it reported.
 ghost use Rattle.std.specs.Prelude.{◌≡◌};
 ghost use Rattle.goblin_text.specs.Counted.{inner_of, marks_of};
-ghost use Rattle.goblin_text.specs.Marks.{no_marks};
+ghost use Rattle.goblin_text.specs.StreamMarks.{no_marks};
 
 use crate::streams::{Sink, Source, is_interruption};
 use std::io;

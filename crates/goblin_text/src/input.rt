@@ -2,8 +2,8 @@
 ghost use Rattle.std.specs.Prelude.{◌≡◌, ◌≢◌, ◌+◌, ◌<◌, ◌≤◌, OnOk, drop, take, vec_len};
 ghost use Rattle.std.specs.Io.{ReadsAtMost};
 ghost use Rattle.std.specs.Io.KnownBytes.{ReadConsumes};
-ghost use Rattle.goblin_text.specs.Marks.{after_read};
-ghost use Rattle.goblin_text.specs.Ran.{IsInput, IsInputWithin, ReadsAtMostOneMore, read_limit};
+ghost use Rattle.goblin_text.specs.StreamMarks.{after_read};
+ghost use Rattle.goblin_text.specs.RunOutcome.{IsInput, IsInputWithin, ReadsAtMostOneMore, read_limit};
 
 use crate::streams::{Source, is_interruption};
 use std::alloc::{AllocError, Global};

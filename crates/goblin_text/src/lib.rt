@@ -3,6 +3,7 @@
 #![tactic(auto)]
 
 mod accept;
+mod block_runs;
 pub mod command;
 pub mod counted;
 pub mod file_bytes;
@@ -12,7 +13,6 @@ mod looks;
 pub mod names;
 pub mod options;
 pub mod run;
-mod runs;
 pub mod streams;
 mod targets;
 pub mod text;

@@ -2,8 +2,8 @@
 ghost use Rattle.std.specs.Prelude.{◌≡◌, Some, map};
 ghost use Rattle.std.specs.List.{concat};
 ghost use Rattle.goblin.specs.Texts.{◌&◌};
-ghost use Rattle.goblin_text.specs.Lines.{addend_text, header_line, is_control, newline, printable, printed, reloc_line, section_line, symbol_line};
-ghost use Rattle.goblin_text.specs.Put.{Puts};
+ghost use Rattle.goblin_text.specs.ShownLines.{addend_text, header_line, is_control, newline, printable, printed, reloc_line, section_line, symbol_line};
+ghost use Rattle.goblin_text.specs.TargetState.{Puts};
 
 use crate::targets::Target;
 use goblin::elf::header::{
@@ -109,7 +109,7 @@ pub fn put_header<T: Target>(target: &mut T, header: &Header) -> Result<(), T::E
 }
 
 /// Puts the line of the section with a number and a name.
-#[tactic(auto, unfolding(crate::specs::Lines::section_head))]
+#[tactic(auto, unfolding(crate::specs::ShownLines::section_head))]
 pub fn put_section<T: Target>(
     target: &mut T,
     number: usize,
@@ -139,7 +139,7 @@ pub fn put_section<T: Target>(
 }
 
 /// Puts the line of the symbol with a number and a name, of the section with a number.
-#[tactic(auto, unfolding(crate::specs::Lines::symbol_head))]
+#[tactic(auto, unfolding(crate::specs::ShownLines::symbol_head))]
 pub fn put_symbol<T: Target>(
     target: &mut T,
     section: usize,

@@ -7,7 +7,7 @@ ghost use Rattle.goblin.specs.Refusal.{Answers};
 ghost use Rattle.goblin.specs.Strtab.{table_of};
 ghost use Rattle.goblin_base.specs.Entries.{CountsAtLeast, Reads};
 ghost use Rattle.goblin_text.specs.StringRanges.{text_table};
-ghost use Rattle.goblin_text.specs.Runs.{EndsAt, IsTextUpTo, after_continuation, char_start, up_to_zero};
+ghost use Rattle.goblin_text.specs.BlockRuns.{EndsAt, IsTextUpTo, after_continuation, char_start, up_to_zero};
 
 use goblin::error::Result;
 use goblin::options::ParseMode;
@@ -15,7 +15,7 @@ use goblin_base::counted_bytes::CountedBytes;
 use goblin_base::utf8::invalid_utf8;
 
 /// Returns the place after a continuation byte, or the same place. It is one look.
-#[tactic(auto, using(crate::proofs::Ranges::reads), unfolding(crate::specs::Runs::after_continuation))]
+#[tactic(auto, using(crate::proofs::ByteRanges::reads), unfolding(crate::specs::BlockRuns::after_continuation))]
 pub fn after_continuation(view: &mut CountedBytes<'_>, from: usize) -> usize
     requires { from ≤ length view.old.bytes }
     ensures value { result ≡ after_continuation view.old.bytes from }
@@ -34,7 +34,7 @@ pub fn after_continuation(view: &mut CountedBytes<'_>, from: usize) -> usize
 
 /// Returns where the characters from a place on begin: after up to three continuation bytes. It is three
 /// looks.
-#[tactic(auto, unfolding(crate::specs::Runs::char_start))]
+#[tactic(auto, unfolding(crate::specs::BlockRuns::char_start))]
 pub fn char_start(view: &mut CountedBytes<'_>, place: usize) -> usize
     requires { place ≤ length view.old.bytes }
     ensures value { result ≡ char_start view.old.bytes place }

@@ -7,13 +7,13 @@ ghost use Rattle.goblin.specs.Refusal.{Answers};
 ghost use Rattle.goblin.specs.Strtab.{strtab_of, table_of};
 ghost use Rattle.goblin_text.specs.StringRanges.{strings_in, text_table};
 ghost use Rattle.goblin_text.specs.Looks.{IsCached, IsShort, IsUnread, LooksAtMost, ReadsNames, looks_by, name_looks, table_looks};
-ghost use Rattle.goblin_text.specs.Runs.{EndsAt, IsLong, IsTextUpTo, last_block};
+ghost use Rattle.goblin_text.specs.BlockRuns.{EndsAt, IsLong, IsTextUpTo, last_block};
 ghost use Rattle.goblin_text.specs.Shown.{name_at};
 
+use crate::block_runs::{BLOCK, BLOCKS, Kind, none_known, run_end};
 use crate::looks::{
     after_continuation, char_start, end_of_string, end_of_text, is_text, refuse_unless_text, text,
 };
-use crate::runs::{BLOCK, BLOCKS, Kind, none_known, run_end};
 use goblin::error::Result;
 use goblin::options::ParseOptions;
 use goblin::strtab::range_of;
@@ -46,9 +46,9 @@ pub struct Names<'a> {
 impl<'a> Model for Names<'a> {
     ghost use Rattle.std.specs.Prelude.{◌+◌, ◌*◌, slice_range};
     ghost use Rattle.std.specs.Str.{IsUtf8};
-    ghost use Rattle.goblin_text.specs.declared.runs.Kind.TheVariants.{Text, ZeroFree};
+    ghost use Rattle.goblin_text.specs.declared.block_runs.Kind.TheVariants.{Text, ZeroFree};
     ghost use Rattle.goblin_text.specs.Looks.{NamesView, block_looks};
-    ghost use Rattle.goblin_text.specs.Runs.{AreRunEnds, blocks, unknown};
+    ghost use Rattle.goblin_text.specs.BlockRuns.{AreRunEnds, blocks, unknown};
 
     ghost Value = { NamesView };
 

@@ -2,13 +2,13 @@
 ghost use Rattle.std.specs.Prelude.{◌≡◌, ◌≢◌, ℕ, ◌+◌, ◌*◌, ◌↔◌, ◌≤◌, List, IsTrue, OnOk, OnErr, length};
 ghost use Rattle.std.specs.Io.KnownBytes.{Appends};
 ghost use Rattle.goblin_text.specs.Looks.{IsShort, IsUnread, LooksAtMost, ReadsNames, line_looks, lines_in, section_count, shown_looks, table_looks, tables_looks};
-ghost use Rattle.goblin_text.specs.Ran.{HasRun, IsErrorLine, IsReasonOf, WritesRefusal, input_limit, read_limit, status_of};
+ghost use Rattle.goblin_text.specs.RunOutcome.{HasRun, IsErrorLine, IsReasonOf, WritesRefusal, input_limit, read_limit, status_of};
 ghost use Rattle.goblin_text.specs.Shown.{shown};
 
 use crate::accept::accept;
+use crate::block_runs::{BLOCK, BLOCKS};
 use crate::file_bytes::FileBytes;
 use crate::input::{INPUT_LIMIT, Input, READ_LIMIT, TOO_LONG, input_of};
-use crate::runs::{BLOCK, BLOCKS};
 use crate::streams::{Sink, Source};
 use crate::text::write_text;
 use goblin::error::Error;

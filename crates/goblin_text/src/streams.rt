@@ -3,7 +3,7 @@ ghost use Rattle.std.specs.Prelude.{◌≡◌, ℕ, List, Option, OnOk};
 ghost use Rattle.std.specs.Io.{ReadsAtMost};
 ghost use Rattle.std.specs.Io.KnownBytes.{Appends, Keeps, ReadConsumes};
 ghost use Rattle.std.specs.IoError.{error_kind};
-ghost use Rattle.goblin_text.specs.Marks.{Marks, after_read, after_write, is_interruption};
+ghost use Rattle.goblin_text.specs.StreamMarks.{Marks, after_read, after_write, is_interruption};
 
 use std::io;
 use std::io::ErrorKind;

@@ -2,7 +2,7 @@
 ghost use Rattle.std.specs.Prelude.{◌≡◌, ◌↔◌, ◌+◌, ◌≤◌, ◌++◌, IsTrue, OnErr, OnOk, Some, false, length, [], string_bytes, take};
 ghost use Rattle.std.specs.Borrow.{GName};
 ghost use Rattle.std.specs.Io.KnownBytes.{Appends, Keeps};
-ghost use Rattle.goblin_text.specs.Put.{Puts, State, held};
+ghost use Rattle.goblin_text.specs.TargetState.{Puts, State, held};
 
 use crate::streams::Sink;
 use std::alloc::{AllocError, Global};
@@ -143,7 +143,7 @@ impl<W: Sink> Target for Buffered<'_, W> {
 }
 
 // Copies bytes over as many others. A single one, as most parts are, is copied without a call.
-#[tactic(auto, using(crate::proofs::Puts::set_single))]
+#[tactic(auto, using(crate::proofs::TargetLemmas::set_single))]
 fn copy(room: &mut [u8], bytes: &[u8])
     requires { length room.old ≡ length bytes.now }
     ensures { room.new ≡ bytes.now }

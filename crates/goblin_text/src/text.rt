@@ -4,9 +4,9 @@ ghost use Rattle.std.specs.Io.KnownBytes.{Appends};
 ghost use Rattle.goblin.specs.Refusal.{Gives, Refuses};
 ghost use Rattle.goblin_text.specs.Accepted.{accepted_text, relocs_text, symbols_text};
 ghost use Rattle.goblin_text.specs.StringRanges.{strings_in};
-ghost use Rattle.goblin_text.specs.Lines.{section_line, symbol_line};
+ghost use Rattle.goblin_text.specs.ShownLines.{section_line, symbol_line};
 ghost use Rattle.goblin_text.specs.Looks.{ReadsNames, names_looks};
-ghost use Rattle.goblin_text.specs.Put.{Puts};
+ghost use Rattle.goblin_text.specs.TargetState.{Puts};
 ghost use Rattle.goblin_text.specs.Shown.{PermissiveShowsStrict, name_at, reloc_lines, section_lines, shown, symbol_lines, tested};
 
 use crate::accept::{Accepted, RelocPart, SymbolPart, accept};

@@ -1,5 +1,5 @@
 //! Runs over cut files, and over readers and writers that fail at each of their calls.
-use crate::runs::{Interrupted, PERMISSIVE, STRICT, SYMBOLS, SYMBOLS_TEXT, bytes_of, ends};
+use crate::run::{Interrupted, PERMISSIVE, STRICT, SYMBOLS, SYMBOLS_TEXT, bytes_of, ends};
 use goblin::options::ParseOptions;
 use goblin_text::counted::Counted;
 use goblin_text::input::{Input, input_within};

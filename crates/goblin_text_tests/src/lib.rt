@@ -10,4 +10,4 @@ mod names;
 #[cfg(test)]
 mod refusals;
 #[cfg(test)]
-mod runs;
+mod run;

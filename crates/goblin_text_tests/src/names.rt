@@ -1,6 +1,6 @@
 //! Names from tables that begin and end at the edges of the file's blocks. What is cached leads to the same names as a walk
 //! over each table, as `Strtab::parse_with_opts` makes it, or the same refusal.
-use crate::runs::{PERMISSIVE, STRICT};
+use crate::run::{PERMISSIVE, STRICT};
 use goblin::error::Result;
 use goblin::options::ParseOptions;
 use goblin::strtab::Strtab;

@@ -1,6 +1,6 @@
 //! Refusals of files for many numbers, with ample memory. Each line is what std's formatting makes of its numbers: where the
 //! program is out of memory for a single number, it writes another line.
-use crate::runs::{PERMISSIVE, STRICT, bytes_of, ends};
+use crate::run::{PERMISSIVE, STRICT, bytes_of, ends};
 use goblin::options::ParseOptions;
 use goblin_text::counted::Counted;
 use goblin_text::file_bytes::FileBytes;

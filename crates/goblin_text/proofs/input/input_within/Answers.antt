@@ -3,7 +3,7 @@
 use Rattle.std.proofs.Common.{arith}
 use Rattle.std.proofs.lemmas.Grind.{common_steps}
 use Rattle.std.proofs.KnownBytes.{Consumes-kept}
-use Rattle.goblin_text.proofs.Reading.{Consumes-after}
+use Rattle.goblin_text.proofs.InputLemmas.{Consumes-after}
 use Rattle.goblin_text.proofs.input.input_within.Goals as goal
 
 pub returns-then-filled-gt-INPUT_LIMIT-clause-input :

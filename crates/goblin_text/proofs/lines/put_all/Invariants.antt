@@ -1,6 +1,6 @@
 use Rattle.std.proofs.Common.{◌≡◌, drop, map}
 use Rattle.std.specs.List.{concat}
-use Rattle.goblin_text.proofs.Puts.{PutSoFar}
+use Rattle.goblin_text.proofs.TargetLemmas.{PutSoFar}
 use Rattle.goblin_text.proofs.lines.put_all.Given as goal
 
 -- the texts so far were put

@@ -5,7 +5,7 @@ use Rattle.std.proofs.lemmas.Str.{encodes-append}
 use Rattle.std.specs.Io.KnownBytes.{Appends}
 use Rattle.std.specs.Prelude.{encode_utf8_all}
 use Rattle.goblin_text.proofs.Printed.{encode-printable}
-use Rattle.goblin_text.specs.Lines.{printed}
+use Rattle.goblin_text.specs.ShownLines.{printed}
 use Rattle.goblin_text.proofs.lines.put_replaced.Goals as goal
 
 pub loop-c-preserved : goal.loop-c-preserved

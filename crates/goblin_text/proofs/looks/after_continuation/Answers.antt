@@ -5,7 +5,7 @@ use Rattle.std.proofs.lemmas.Grind.{common_steps}
 use Rattle.std.proofs.lemmas.List.{get_or_past}
 use Rattle.goblin_text.proofs.CharStarts.{after_continuation_is}
 use Rattle.goblin_text.proofs.CharStarts.Passed.{over, stays}
-use Rattle.goblin_text.proofs.Ranges.{reads}
+use Rattle.goblin_text.proofs.ByteRanges.{reads}
 use Rattle.goblin_text.proofs.looks.after_continuation.Goals.{else-from-len-via-then-from-len+then-b-ge128+else-b-lt192}
 use Rattle.goblin_text.proofs.looks.after_continuation.Goals.{else-from-len-via-then-from-len+else-b-ge128}
 use Rattle.goblin_text.proofs.looks.after_continuation.Goals.{else-from-len-via-else-from-len}

@@ -9,7 +9,7 @@ use Rattle.std.specs.Str.Lossy.{utf8_valid_len}
 use Rattle.goblin.specs.Pieces.{first_bad, piece_start}
 use Rattle.goblin.specs.Utf8.{invalid_utf8}
 use Rattle.goblin_text.proofs.Faults.{first_bad_of_front, front_of_range, table_refused, table_taken}
-use Rattle.goblin_text.proofs.Ranges.{length-range}
+use Rattle.goblin_text.proofs.ByteRanges.{length-range}
 use Rattle.goblin_text.proofs.looks.refuse_unless_text.Goals.{After-start_of_last_string-start}
 use Rattle.goblin_text.proofs.looks.refuse_unless_text.Goals as goal
 

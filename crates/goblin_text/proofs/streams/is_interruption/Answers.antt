@@ -1,7 +1,7 @@
 use Rattle.std.proofs.Common.{◌≡◌, ◌≢◌, ap, false, refl}
 use Rattle.std.specs.declared.io.ErrorKind.{ErrorKind}
 use Rattle.std.specs.declared.io.ErrorKind.TheVariants.{Interrupted}
-use Rattle.goblin_text.specs.Marks.{is_interruption}
+use Rattle.goblin_text.specs.StreamMarks.{is_interruption}
 use Rattle.goblin_text.proofs.streams.is_interruption.Goals as goal
 
 -- no other kind is an interruption

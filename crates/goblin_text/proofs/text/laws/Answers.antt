@@ -1,4 +1,4 @@
-use Rattle.goblin_text.proofs.Modes.{permissive_shows_strict}
+use Rattle.goblin_text.proofs.StrictAndPermissive.{permissive_shows_strict}
 use Rattle.goblin_text.proofs.text.laws.Goals as goal
 
 pub returns : goal.returns

@@ -1,6 +1,6 @@
 use Rattle.std.proofs.Common.{arith}
 use Rattle.std.proofs.lemmas.Grind.{common_steps}
-use Rattle.goblin_text.proofs.Puts.{more_put}
+use Rattle.goblin_text.proofs.TargetLemmas.{more_put}
 use Rattle.goblin_text.proofs.text.put_all_relocs.Goals as goal
 
 pub loop-part-preserved : goal.loop-part-preserved

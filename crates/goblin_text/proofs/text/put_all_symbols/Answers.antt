@@ -2,7 +2,7 @@
 -- and of those that are left are the looks of all, also where a part fails.
 use Rattle.std.proofs.Common.{◌+◌, arith, drop}
 use Rattle.std.proofs.lemmas.Grind.{common_steps}
-use Rattle.goblin_text.proofs.Puts.{more_put}
+use Rattle.goblin_text.proofs.TargetLemmas.{more_put}
 use Rattle.goblin_text.proofs.LineLooks.{more_read, read_at_failure}
 use Rattle.goblin_text.specs.Accepted.{symbols_text}
 use Rattle.goblin_text.proofs.text.put_all_symbols.Goals as goal

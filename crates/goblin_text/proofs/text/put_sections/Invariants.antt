@@ -1,5 +1,5 @@
 use Rattle.std.proofs.Common.{◌≡◌, drop}
-use Rattle.goblin_text.proofs.Puts.{PutSoFar}
+use Rattle.goblin_text.proofs.TargetLemmas.{PutSoFar}
 use Rattle.goblin_text.specs.StringRanges.{strings_in}
 use Rattle.goblin_text.proofs.LineLooks.{ReadSoFar}
 use Rattle.goblin_text.specs.Shown.{section_lines}

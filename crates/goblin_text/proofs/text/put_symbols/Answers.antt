@@ -2,7 +2,7 @@
 -- lines so far and of those that are left are the looks of all, also where a line fails.
 use Rattle.std.proofs.Common.{◌+◌, arith}
 use Rattle.std.proofs.lemmas.Grind.{common_steps}
-use Rattle.goblin_text.proofs.Puts.{more_put}
+use Rattle.goblin_text.proofs.TargetLemmas.{more_put}
 use Rattle.goblin_text.proofs.LineLooks.{more_read, read_at_failure}
 use Rattle.goblin_text.specs.StringRanges.{strings_in}
 use Rattle.goblin_text.specs.Shown.{symbol_lines}

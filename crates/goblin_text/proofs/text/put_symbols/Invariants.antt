@@ -1,6 +1,6 @@
 use Rattle.std.proofs.Common.{◌≡◌, ◌+◌, ◌<◌, length}
 use Prim.Native.Nat.{◌^◌}
-use Rattle.goblin_text.proofs.Puts.{PutSoFar}
+use Rattle.goblin_text.proofs.TargetLemmas.{PutSoFar}
 use Rattle.goblin_text.proofs.LineLooks.{ReadSoFar}
 use Rattle.goblin_text.specs.StringRanges.{strings_in}
 use Rattle.goblin_text.specs.Shown.{symbol_lines}

@@ -1,7 +1,7 @@
 use Rattle.std.proofs.Common.{refl}
-use Rattle.goblin_text.proofs.Puts.{through}
+use Rattle.goblin_text.proofs.TargetLemmas.{through}
 use Rattle.goblin_text.specs.Accepted.{accepted_text}
-use Rattle.goblin_text.specs.Put.{held}
+use Rattle.goblin_text.specs.TargetState.{held}
 use Rattle.goblin_text.proofs.text.write_through.Goals as goal
 
 pub returns-clause-ok : goal.returns-clause-ok

@@ -4,7 +4,7 @@ use Rattle.std.proofs.Common.{◌≡◌, ◌∙◌, ◌+◌, ◌-◌, ap, arith,
 use Rattle.std.proofs.lemmas.Grind.{common_steps}
 use Rattle.goblin_text.proofs.FoundNames.{name_in_range, name_later, nothing, name_past_end, text_length}
 use Rattle.goblin_text.proofs.FoundNames.{text_or_nothing}
-use Rattle.goblin_text.proofs.Ranges.{length-range}
+use Rattle.goblin_text.proofs.ByteRanges.{length-range}
 use Rattle.goblin_text.proofs.names.Names.name_within.Goals as goal
 
 pub returns-then-offset-end-clause-name : goal.returns-then-offset-end-clause-name

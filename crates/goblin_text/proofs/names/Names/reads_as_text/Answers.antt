@@ -4,8 +4,8 @@ use Rattle.std.proofs.lemmas.Bool.{both_ways}
 use Rattle.std.proofs.lemmas.Grind.{common_steps}
 use Rattle.std.specs.Str.{IsUtf8}
 use Rattle.goblin_text.proofs.TextBlocks.{parts_are_text, text_has_parts}
-use Rattle.goblin_text.specs.declared.runs.Kind.TheVariants.{Text}
-use Rattle.goblin_text.specs.Runs.{IsRunEnd, block_start, blocks, last_block, next_block}
+use Rattle.goblin_text.specs.declared.block_runs.Kind.TheVariants.{Text}
+use Rattle.goblin_text.specs.BlockRuns.{IsRunEnd, block_start, blocks, last_block, next_block}
 use Rattle.goblin_text.proofs.names.Names.reads_as_text.Goals.{After-run_end}
 use Rattle.goblin_text.proofs.names.Names.reads_as_text.Goals as goal
 

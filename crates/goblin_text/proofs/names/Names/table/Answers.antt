@@ -5,7 +5,7 @@ use Rattle.std.proofs.lemmas.Bool.{both_ways}
 use Rattle.std.proofs.lemmas.Grind.{common_steps}
 use Rattle.goblin.specs.Refusal.{Answers}
 use Rattle.goblin.specs.Strtab.{IsRange, strtab_of, table_of, walked}
-use Rattle.goblin_text.proofs.Tables.{is_strict, table_is}
+use Rattle.goblin_text.proofs.StringTables.{is_strict, table_is}
 use Rattle.goblin_text.specs.StringRanges.{strings_in}
 use Rattle.goblin_text.proofs.names.Names.table.Goals.{then-not-is_permissive+in_ok-refuse_unless_text}
 use Rattle.goblin_text.proofs.names.Names.table.Goals.{else-not-is_permissive}

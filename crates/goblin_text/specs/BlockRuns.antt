@@ -4,9 +4,9 @@ use Rattle.std.specs.Prelude.{if◌then◌else◌, List, [], ◌∷◌, length, 
 use Rattle.std.specs.List.{before_first}
 use Rattle.std.specs.Option.{IfSome, MatchOption}
 use Rattle.std.specs.Str.{IsUtf8}
-use Rattle.goblin_text.specs.declared.runs.TheConstants.{BLOCK, BLOCKS}
-use Rattle.goblin_text.specs.declared.runs.Kind.{Kind}
-use Rattle.goblin_text.specs.declared.runs.Kind.TheVariants.{Text, ZeroFree}
+use Rattle.goblin_text.specs.declared.block_runs.TheConstants.{BLOCK, BLOCKS}
+use Rattle.goblin_text.specs.declared.block_runs.Kind.{Kind}
+use Rattle.goblin_text.specs.declared.block_runs.Kind.TheVariants.{Text, ZeroFree}
 
 -- the place after a continuation byte, or the same place
 unfoldable pub after_continuation : List ℕ → ℕ → ℕ

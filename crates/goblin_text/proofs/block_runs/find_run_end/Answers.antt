@@ -2,8 +2,8 @@
 use Rattle.std.proofs.Common.{◌≡◌, ◌<◌, arith, get_or, length, subst, sym}
 use Rattle.std.proofs.lemmas.Grind.{common_steps}
 use Rattle.goblin_text.proofs.RunEnds.{end_after, end_known}
-use Rattle.goblin_text.specs.Runs.{IsRunEnd}
-use Rattle.goblin_text.proofs.runs.find_run_end.Goals as goal
+use Rattle.goblin_text.specs.BlockRuns.{IsRunEnd}
+use Rattle.goblin_text.proofs.block_runs.find_run_end.Goals as goal
 
 pub returns-then-known-gt0-clause-end : goal.returns-then-known-gt0-clause-end
 returns-then-known-gt0-clause-end c =

@@ -1,4 +1,4 @@
--- What is put into what takes a text.
+-- The state of a target, and what is put into it.
 use Rattle.std.specs.Prelude.{◌≡◌, ℕ, List, take, Option, Bool, IsTrue, Result, Ok, Err}
 use Rattle.std.specs.Io.KnownBytes.{Appends, append_known}
 

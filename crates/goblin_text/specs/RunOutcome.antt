@@ -1,4 +1,4 @@
--- What a run read and wrote.
+-- How a run ends: what it reads and writes.
 use Rattle.std.specs.Prelude.{◌≡◌, ◌≢◌, ℕ, ◌+◌, ◌-◌, ◌^◌, ◌<◌, ◌≤◌, ◌⊎◌, min, IsTrue, List, length, codes, decimal}
 use Rattle.std.specs.Prelude.{Option, Ok, Err, vec_items}
 use Rattle.std.specs.Io.KnownBytes.{Appends, Consumes, IsAtEnd}
@@ -6,8 +6,8 @@ use Rattle.goblin.specs.Refusal.{Refusal, out_of_memory, refusal_of}
 use Rattle.goblin.specs.Texts.{◌&◌, refusal_text}
 use Rattle.goblin.specs.declared.error.Error.{Error}
 use Rattle.goblin.specs.declared.options.ParseMode.{ParseMode}
-use Rattle.goblin_text.specs.Lines.{newline}
-use Rattle.goblin_text.specs.Marks.{Marks}
+use Rattle.goblin_text.specs.ShownLines.{newline}
+use Rattle.goblin_text.specs.StreamMarks.{Marks}
 use Rattle.goblin_text.specs.Shown.{shown}
 use Rattle.goblin_text.specs.declared.input.Input.{Input}
 use Rattle.goblin_text.specs.declared.input.Input.TheVariants as inputs

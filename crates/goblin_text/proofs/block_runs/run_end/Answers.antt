@@ -3,8 +3,8 @@
 use Rattle.std.proofs.Common.{◌∙◌, ◌<◌, ◌≢◌, arith, get_or-set_other, length, refl}
 use Rattle.std.proofs.lemmas.Grind.{common_steps}
 use Rattle.goblin_text.proofs.RunEnds.{end_later, end_more, unknown_less}
-use Rattle.goblin_text.specs.Runs.{blocks}
-use Rattle.goblin_text.proofs.runs.run_end.Goals as goal
+use Rattle.goblin_text.specs.BlockRuns.{blocks}
+use Rattle.goblin_text.proofs.block_runs.run_end.Goals as goal
 
 pub loop-block-preserved : goal.loop-block-preserved
 loop-block-preserved c =

@@ -2,7 +2,7 @@
 ghost use Rattle.std.specs.Prelude.{◌≡◌, ◌↔◌, ◌+◌, ◌-◌, ◌*◌, ◌<◌, ◌≤◌, IsTrue, List, ℕ, length, slice_index, slice_range};
 ghost use Rattle.goblin_base.specs.Entries.{Reads};
 ghost use Rattle.goblin_text.specs.Looks.{block_looks};
-ghost use Rattle.goblin_text.specs.Runs.{AreRunEnds, IsBlock, IsRunEnd, IsOfKind, blocks, unknown};
+ghost use Rattle.goblin_text.specs.BlockRuns.{AreRunEnds, IsBlock, IsRunEnd, IsOfKind, blocks, unknown};
 
 use crate::input::INPUT_LIMIT;
 use crate::looks::{char_start, end_of_string, is_text};

@@ -1,4 +1,4 @@
--- Runs of blocks: bytes of a kind one after another.
+-- Ranges one after another: if each is of a kind, so are they joined, and so is a run of blocks.
 use Rattle.std.proofs.Common.{◌≡◌, ◌∙◌, ℕ, zero, suc, ◌+◌, ◌-◌, ◌*◌, ◌≤◌, List, ◌++◌, length, take, sym, ap, subst}
 use Rattle.std.proofs.Common.{arith, length-append, slice_range}
 use Rattle.std.proofs.Math.Seq.{take-append_seam, drop-append_seam}
@@ -6,12 +6,12 @@ use Rattle.std.proofs.lemmas.Str.{IsCharBoundary-from_take, IsUtf8-append, IsUtf
 use Rattle.std.specs.Str.{IsUtf8}
 use Rattle.goblin.specs.TextLaws.{texts-join}
 use Rattle.goblin_text.proofs.CharStarts.{char_start_bounds}
-use Rattle.goblin_text.proofs.Ranges.{split}
+use Rattle.goblin_text.proofs.ByteRanges.{split}
 use Rattle.goblin_text.proofs.Strings.{goes_on}
-use Rattle.goblin_text.specs.declared.runs.Kind.{Kind}
-use Rattle.goblin_text.specs.declared.runs.Kind.TheVariants.{Text, ZeroFree}
-use Rattle.goblin_text.specs.declared.runs.TheConstants.{BLOCK}
-use Rattle.goblin_text.specs.Runs.{IsBlock, IsOfKind, IsZeroFree, IsRun, LacksText, block_start, up_to_zero}
+use Rattle.goblin_text.specs.declared.block_runs.Kind.{Kind}
+use Rattle.goblin_text.specs.declared.block_runs.Kind.TheVariants.{Text, ZeroFree}
+use Rattle.goblin_text.specs.declared.block_runs.TheConstants.{BLOCK}
+use Rattle.goblin_text.specs.BlockRuns.{IsBlock, IsOfKind, IsZeroFree, IsRun, LacksText, block_start, up_to_zero}
 
 -- what follows a text in a text is text
 rest_is_text : (a b : List ℕ) → IsUtf8 a → IsUtf8 (a ++ b) → IsUtf8 b

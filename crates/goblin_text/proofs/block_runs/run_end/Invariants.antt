@@ -1,6 +1,6 @@
 use Rattle.std.specs.Prelude.{◌≡◌, ℕ, ◌+◌, ◌-◌, ◌<◌, ◌≤◌, slice_index}
-use Rattle.goblin_text.specs.Runs.{AreRunEnds, blocks, unknown}
-use Rattle.goblin_text.proofs.runs.run_end.Given as goal
+use Rattle.goblin_text.specs.BlockRuns.{AreRunEnds, blocks, unknown}
+use Rattle.goblin_text.proofs.block_runs.run_end.Given as goal
 
 -- the end is stored of the blocks so far, and isn't known of the others
 abbrev pub invariant-loop-block : goal.invariant-loop-block
