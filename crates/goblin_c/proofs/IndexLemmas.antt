@@ -1,11 +1,12 @@
 -- Items by index are those of the library's lists, in the context that a file's header names.
 use Rattle.std.proofs.Common.{◌≡◌, ◌+◌, ◌<◌, ◌≤◌, ◌==◌, ℕ, zero, suc, Bool, true, false, nat_le, if◌then◌else◌, List}
-use Rattle.std.proofs.Common.{[], ◌∷◌, length, drop, map, slice_get, slice_index, Some, None, Result, Ok, Err, refl}
-use Rattle.std.proofs.Common.{sym, ap, subst, ◌∙◌, arith}
+use Rattle.std.proofs.Common.{[], ◌∷◌, length, drop, slice_get, slice_index, Option, Some, None, Result, Ok, Err}
+use Rattle.std.proofs.Common.{refl, sym, ap, subst, ◌∙◌, arith}
 use Rattle.std.proofs.lemmas.Bool.{leb-false, leb-true}
 use Rattle.std.proofs.lemmas.Bool.Decides.{nat_tests}
 use Rattle.std.proofs.lemmas.List.{length-drop, length-map}
 use Rattle.std.proofs.lemmas.Option.{slice_get-map, slice_get_past}
+use Rattle.std.specs.Option.{option_map}
 use Rattle.goblin_base.specs.declared.container.Container.{Container}
 use Rattle.goblin_base.specs.declared.container.Ctx.{Ctx}
 use Rattle.goblin_base.specs.declared.container.Endian.{Endian}
@@ -17,7 +18,7 @@ use Rattle.goblin_c.specs.Refused.{RefusalAt, refused_at}
 use Rattle.goblin_c.specs.declared.types.GoblinSection.{GoblinSection}
 use Rattle.goblin.specs.Header.{class_named, order_named}
 use Rattle.goblin.specs.RelocSection.{relocs_of}
-use Rattle.goblin.specs.SectionHeaders.{link_of, names_index}
+use Rattle.goblin.specs.SectionHeaders.{is_table, link_of, linked, names_index}
 use Rattle.goblin_headers.proofs.HeaderLemmas.{header_laws}
 use Rattle.goblin_headers.proofs.RawTrips.{ident_byte}
 use Rattle.goblin_headers.proofs.ReadHeaderLemmas.{was_read}
@@ -30,7 +31,7 @@ use Rattle.goblin_c.specs.Types.{symbol_converted}
 use Rattle.goblin_c.specs.Answers.{symbols_converted, table_at}
 use Rattle.goblin_c.specs.Laws.{ContextIsTheHeaders, FilledByIndex, GivenFrom, HasHeader, NamesByIndex, NamesContext}
 use Rattle.goblin_c.specs.Laws.{RelocsByIndex, SectionsByIndex, SegmentsByIndex, SymbolsByIndex, TablesByIndex}
-use Rattle.goblin_c.specs.Laws.{ReturnsCount, ReturnsEach, table_converted}
+use Rattle.goblin_c.specs.Laws.{ReturnsCount, ReturnsEach, table_converted, table_of}
 
 -- the class and the byte order of a file's header
 named : (bytes : List ℕ) (h : Header)
@@ -142,30 +143,44 @@ filled_by_index = record {
 }
 
 -- the table at an index is the section that is stored there
-table_there : (all : Result (List GoblinSection) RefusalAt) (index : ℕ)
-    → (all >>= λ items. Ok (table_at items index)) ≡ table_converted index (item_of all index)
-table_there (Ok items) index = refl
+converted_if : (test : Bool) (s : SectionHeader)
+    → option_map section_converted (if test then Some s else None)
+    ≡ (if test then Some (section_converted s) else None)
+converted_if true s = refl
+converted_if false s = refl
+
+converted_table : (index : ℕ) (found : Option SectionHeader)
+    → option_map section_converted (linked index found) ≡ table_of index (option_map section_converted found)
+converted_table index None = refl
+converted_table index (Some s) = converted_if (is_table index s.sh_type) s
+
+table_there : (all : Result (List SectionHeader) RefusalAt) (index : ℕ)
+    → (all >>= λ items. Ok (table_at items index))
+    ≡ table_converted index (item_of (each_converted section_converted all) index)
+table_there (Ok items) index =
+    let here = slice_get-map section_converted items index in
+    ap Ok (converted_table index (slice_get items index) ∙ ap (table_of index) (sym here))
 table_there (Err refusal) index = refl
 
 pub tables_by_index : TablesByIndex
-tables_by_index bytes h index = table_there (sections_converted bytes h) index
+tables_by_index bytes h index = table_there (sections_expected bytes h) index
 
 -- the table with the index in the header, or the one that the first section links to
 in_header : (all : Result (List SectionHeader) RefusalAt) (index : ℕ)
     → (index == 0xffff) ≡ false
-    → (all >>= λ items. Ok (table_at (map section_converted items) (names_index index (slice_get items 0))))
-    ≡ (each_converted section_converted all >>= λ items. Ok (table_at items index))
+    → (all >>= λ items. Ok (table_at items (names_index index (slice_get items 0))))
+    ≡ (all >>= λ items. Ok (table_at items index))
 in_header (Ok items) index other = rw other refl
 in_header (Err refusal) index other = refl
 
 in_first : (all : Result (List SectionHeader) RefusalAt) (first : GoblinSection)
     → item_of (each_converted section_converted all) 0 ≡ Ok (Some first)
-    → (all >>= λ items. Ok (table_at (map section_converted items) (link_of (slice_get items 0))))
-    ≡ (each_converted section_converted all >>= λ items. Ok (table_at items first.sh_link))
+    → (all >>= λ items. Ok (table_at items (link_of (slice_get items 0))))
+    ≡ (all >>= λ items. Ok (table_at items first.sh_link))
 in_first (Ok []) first is = absurd (cc)
 in_first (Ok (s ∷ items)) first is =
     let link : link_of (Some s) ≡ first.sh_link = cc in
-    ap (λ (index : ℕ). Ok (table_at (map section_converted (s ∷ items)) index)) link
+    ap (λ (index : ℕ). Ok (table_at (s ∷ items) index)) link
 in_first (Err refusal) first is = absurd (cc)
 
 pub names_by_index : NamesByIndex

@@ -1,5 +1,5 @@
 -- The expected results of calls, by the library's definitions: an item, none past the last one, or a refusal.
-use Rattle.std.specs.Prelude.{ℕ, ◌+◌, ◌/◌, ◌==◌, ◌||◌, nat_le, if◌then◌else◌, List, length, drop, map, position}
+use Rattle.std.specs.Prelude.{ℕ, ◌+◌, ◌/◌, ◌==◌, nat_le, if◌then◌else◌, List, length, drop, map, position}
 use Rattle.std.specs.Prelude.{slice_get, Bool, Option, Some, None, Result, Ok}
 use Rattle.std.specs.Option.{option_map}
 use Rattle.goblin_base.specs.declared.container.Ctx.{Ctx}
@@ -12,7 +12,7 @@ use Rattle.goblin_base.specs.Strtab.{range_in, plain, has_name, unparsed}
 use Rattle.goblin.specs.Addresses.{symbol_at}
 use Rattle.goblin.specs.declared.elf.section_header.SectionHeader.{SectionHeader}
 use Rattle.goblin.specs.ReadHeader.{read_header}
-use Rattle.goblin.specs.SectionHeaders.{section_headers_of}
+use Rattle.goblin.specs.SectionHeaders.{linked, section_headers_of}
 use Rattle.goblin.specs.declared.elf.sym.Sym.{Sym}
 use Rattle.goblin.specs.Sym.{sym_size}
 use Rattle.goblin.specs.declared.elf.program_header.ProgramHeader.{ProgramHeader}
@@ -188,22 +188,17 @@ symbol_by_address_expected bytes h range address = do
   symbols ← symbols_expected bytes h range
   Ok (symbol_at address symbols)
 
--- a section, where it is a table by its index: index 0 is no section, and one of type 8 has no bytes in the file
-abbrev pub table_of : ℕ → Option GoblinSection → Option GoblinSection
-table_of index (Some section) = if index == 0 || section.sh_type == 8 then None else Some section
-table_of index None = None
+-- the section at an index for C, if it is a table that others name by that index
+abbrev pub table_at : List SectionHeader → ℕ → Option GoblinSection
+table_at sections index = option_map section_converted (linked index (slice_get sections index))
 
-abbrev pub table_at : List GoblinSection → ℕ → Option GoblinSection
-table_at sections index = table_of index (slice_get sections index)
-
--- the table at an index
 abbrev pub table_expected : List ℕ → GoblinHeader → ℕ → Result (Option GoblinSection) RefusalAt
 table_expected bytes h index = do
-  sections ← sections_converted bytes h
+  sections ← sections_expected bytes h
   Ok (table_at sections index)
 
 -- the section that holds the sections' names, if it is a table
 abbrev pub section_names_expected : List ℕ → GoblinHeader → Result (Option GoblinSection) RefusalAt
 section_names_expected bytes h = do
   sections ← sections_expected bytes h
-  Ok (table_at (map section_converted sections) (names_index_of h (slice_get sections 0)))
+  Ok (table_at sections (names_index_of h (slice_get sections 0)))

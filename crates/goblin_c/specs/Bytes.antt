@@ -7,6 +7,7 @@ use Rattle.goblin_base.specs.Refusal.{misplaced}
 use Rattle.goblin_base.specs.Room.{room_of}
 use Rattle.goblin_base.specs.Steps.{◌>>=◌, refuse_as}
 use Rattle.goblin_base.specs.Wanted.{is_piece, starts_piece}
+use Rattle.goblin.specs.SectionHeaders.{is_nobits}
 use Rattle.goblin_c.specs.Refused.{RefusalAt, refused_at}
 use Rattle.goblin_c.specs.Answers.{ctx_of, strings_expected}
 use Rattle.goblin_c.specs.declared.types.GoblinHeader.{GoblinHeader}
@@ -14,10 +15,10 @@ use Rattle.goblin_c.specs.declared.types.GoblinRange.{GoblinRange}
 use Rattle.goblin_c.specs.declared.types.GoblinSection.{GoblinSection}
 use Rattle.goblin_c.specs.declared.types.GoblinSegment.{GoblinSegment}
 
--- a section has bytes in the file: it is not of type 0, which stands for no section, nor of type 8, and has a size
--- (System V gABI, "Sections")
+-- a section has bytes in the file: it is not of type 0, which stands for no section, nor of the type without bytes in
+-- the file, and has a size (System V gABI, "Sections")
 abbrev pub section_has_bytes : GoblinSection → Bool
-section_has_bytes s = not (s.sh_type == 0 || s.sh_type == 8 || s.file.size == 0)
+section_has_bytes s = not (s.sh_type == 0 || is_nobits s.sh_type || s.file.size == 0)
 
 -- so has a segment: it is not of type 0, which stands for none, and has a size ("Program Header")
 abbrev pub segment_has_bytes : GoblinSegment → Bool

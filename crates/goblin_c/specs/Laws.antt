@@ -1,6 +1,6 @@
 -- Laws of the calls: the items that they store one by one are those that the library reads at once.
 use Rattle.std.specs.Prelude.{◌≡◌, ◌≢◌, ◌↔◌, ◌⊎◌, ◌+◌, ◌-◌, ◌/◌, ◌<◌, ◌≤◌, ℕ, zero, suc, min, Bool, List, [], ◌∷◌}
-use Rattle.std.specs.Prelude.{length, take, drop, slice_get, Option, Some, None, Result, Ok, Err}
+use Rattle.std.specs.Prelude.{if◌then◌else◌, length, take, drop, slice_get, Option, Some, None, Result, Ok, Err}
 use Rattle.std.specs.Option.{option_map}
 use Rattle.goblin_base.specs.declared.container.Ctx.{Ctx}
 use Rattle.goblin_base.specs.declared.error.Fault.TheVariants.{InvalidClass, InvalidEndianness}
@@ -16,7 +16,7 @@ use Rattle.goblin.specs.Notes.{items_left}
 use Rattle.goblin.specs.ProgramHeaders.{program_headers_from}
 use Rattle.goblin.specs.ReadHeader.{read_header}
 use Rattle.goblin.specs.RelocSection.{is_of_mips64el, relocs_of}
-use Rattle.goblin.specs.SectionHeaders.{section_headers_of}
+use Rattle.goblin.specs.SectionHeaders.{is_table, section_headers_of}
 use Rattle.goblin.specs.declared.elf.sym.Sym.{Sym}
 use Rattle.goblin.specs.Sym.{sym_size}
 use Rattle.goblin.specs.Symtab.{symtab_of}
@@ -26,7 +26,7 @@ use Rattle.goblin_c.specs.Answers.{section_count_expected, section_expected, seg
 use Rattle.goblin_c.specs.Answers.{symbol_expected, reloc_expected, string_expected, symbol_count_expected}
 use Rattle.goblin_c.specs.Answers.{reloc_count_expected, sections_from_expected, symbols_from_expected}
 use Rattle.goblin_c.specs.Answers.{relocs_from_expected, section_names_expected, section_by_name_expected}
-use Rattle.goblin_c.specs.Answers.{symbol_by_name_expected, strings_expected, table_of, table_expected}
+use Rattle.goblin_c.specs.Answers.{symbol_by_name_expected, strings_expected, table_expected}
 use Rattle.goblin_c.specs.Bytes.{section_bytes_expected, segment_bytes_expected, string_bytes_expected}
 use Rattle.goblin_c.specs.Bytes.{string_is_expected, string_starts_expected}
 use Rattle.goblin_c.specs.Laid.{closed, laid}
@@ -219,7 +219,11 @@ StringsLieInFile =
     (bytes : List ℕ) (range : GoblinRange) (offset : ℕ) (found : GoblinRange)
     → string_expected bytes range offset ≡ Ok (Some found) → LiesIn bytes found
 
--- the section at an index, if it is a table by that index
+-- a section, if it is a table that others name by its index
+abbrev pub table_of : ℕ → Option GoblinSection → Option GoblinSection
+table_of index (Some section) = if is_table index section.sh_type then Some section else None
+table_of index None = None
+
 abbrev pub table_converted : ℕ → Result (Option GoblinSection) RefusalAt → Result (Option GoblinSection) RefusalAt
 table_converted index found = do
   section ← found

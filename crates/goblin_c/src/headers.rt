@@ -12,7 +12,7 @@ use crate::types::{
 use goblin::container::{Container, Ctx, Endian};
 use goblin::elf::header::{ELFCLASS64, ELFDATA2MSB, Header};
 use goblin::elf::program_header::ProgramHeader;
-use goblin::elf::section_header::{SHT_NOBITS, SectionHeader};
+use goblin::elf::section_header::SectionHeader;
 use goblin::scroll::{LE, TryFromCtx};
 use goblin_base::table::Table;
 
@@ -101,15 +101,9 @@ pub fn section_by_type(
 
 // Returns the section at an index for C, if it is a table by that index.
 fn converted_table(sections: &Table<'_, SectionHeader, Ctx>, index: usize) -> Option<GoblinSection>
-    ensures { result ≡ table_at (map section_converted sections.now) index }
+    ensures { result ≡ table_at sections.now index }
 {
-    if index == 0 {
-        return None;
-    }
-    match sections.converted(index) {
-        Some(section) if section.sh_type != SHT_NOBITS => Some(section),
-        _ => None,
-    }
+    Some(convert_section(&SectionHeader::linked_in(sections, index)?))
 }
 
 /// Returns the section at an index for C, if it is a table.

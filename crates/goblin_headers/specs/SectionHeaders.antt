@@ -1,5 +1,5 @@
 -- New section headers, lists of them, and whether a section lies in its file (System V gABI, "Section Header").
-use Rattle.std.specs.Prelude.{◌+◌, ◌/◌, ◌^◌, ◌||◌, ◌==◌, ℕ, nat_lt, nat_le, if◌then◌else◌, List, [], codes, drop}
+use Rattle.std.specs.Prelude.{◌+◌, ◌/◌, ◌^◌, ◌||◌, ◌==◌, ℕ, nat_lt, nat_le, if◌then◌else◌, not, List, [], codes, drop}
 use Rattle.std.specs.Prelude.{length, max, Bool, true, Option, Some, None, Result, Ok}
 use Rattle.goblin_base.specs.declared.container.Ctx.{Ctx}
 use Rattle.goblin_base.specs.declared.error.Error.{Error}
@@ -11,6 +11,7 @@ use Rattle.goblin_base.specs.Record.{unless_fault}
 use Rattle.goblin_base.specs.Refusal.{Refusal, buffer_too_short, misplaced}
 use Rattle.goblin_base.specs.Room.{room_of}
 use Rattle.goblin_base.specs.Steps.{◌>>=◌, refuse_if, refuse_as}
+use Rattle.goblin_headers.specs.declared.constants_section_header.TheConstants.{SHT_NOBITS}
 use Rattle.goblin_headers.specs.declared.section_header.SectionHeader.{SectionHeader}
 use Rattle.goblin_headers.specs.SectionHeader.{section_header_size, section_header_of}
 
@@ -96,17 +97,24 @@ link_of None = 0
 abbrev pub names_index : ℕ → Option SectionHeader → ℕ
 names_index index first = if index == 0xffff then link_of first else index
 
--- the section at an index as a table that others name by the index: index 0 is no section, and a section of type 8 has
--- no bytes in the file
+-- sections of this type have no bytes in the file
+abbrev pub is_nobits : ℕ → Bool
+is_nobits sh_type = sh_type == SHT_NOBITS
+
+-- others may name a section of this type by its index as a table: index 0 is no section, and a table has bytes in the
+-- file
+abbrev pub is_table : ℕ → ℕ → Bool
+is_table index sh_type = not (index == 0 || is_nobits sh_type)
+
+-- the section at an index, if it is such a table
 abbrev pub linked : ℕ → Option SectionHeader → Option SectionHeader
-linked index (Some section) = if index == 0 || section.sh_type == 8 then None else Some section
+linked index (Some section) = if is_table index section.sh_type then Some section else None
 linked index None = None
 
--- whether a section with bytes in the file (not of type 8) lies in a file of so many bytes, and its addresses end
--- below 2 ^ 64
+-- whether a section with bytes in the file lies in a file of so many bytes, and its addresses end below 2 ^ 64
 abbrev pub size_checked : ℕ → SectionHeader → Result (Unit {0}) Error
 size_checked len s =
-    if s.sh_type == 8 || s.sh_size == 0 then Ok tt
+    if is_nobits s.sh_type || s.sh_size == 0 then Ok tt
     else do
       _ ← refuse_if (nat_lt len (s.sh_offset + s.sh_size))
           (Malformed (SectionOffset s.sh_name s.sh_size s.sh_offset (nat_le (2 ^ 64) (s.sh_offset + s.sh_size))))

@@ -11,7 +11,7 @@ ghost use Rattle.goblin_base.specs.declared.container.Endian.{Endian};
 ghost use Rattle.goblin_headers.specs.Constants.{section_flag_numbers, section_index_numbers, section_type_numbers};
 ghost use Rattle.goblin_headers.specs.Ranges.{span};
 ghost use Rattle.goblin_headers.specs.SectionHeader.{as64, section_header64, section_header_image, section_header_layout, section_header_size};
-ghost use Rattle.goblin_headers.specs.SectionHeaders.{new_section_header, count_from, header_count, linked, names_index, section_header_alone, section_headers_from, section_headers_from_tested, section_headers_of, section_headers_of_tested, section_headers_stated, section_headers_whole, size_checked, size_checked_in};
+ghost use Rattle.goblin_headers.specs.SectionHeaders.{new_section_header, count_from, header_count, is_table, linked, names_index, section_header_alone, section_headers_from, section_headers_from_tested, section_headers_of, section_headers_of_tested, section_headers_stated, section_headers_whole, size_checked, size_checked_in};
 ghost use Rattle.goblin_headers.specs.SectionNames.{section_flag_names};
 
 pub use crate::{section_header32, section_header64};
@@ -80,7 +80,7 @@ impl SectionHeader {
     /// Returns the section's range of file offsets in bytes, or `None` for a section without bytes
     /// in the file (`SHT_NOBITS`, type 8). An end past `usize::MAX` is `usize::MAX`.
     pub fn file_range(&self) -> Option<Range<usize>>
-        ensures none { IsNone result ↔ (self.now.sh_type ≡ 8) }
+        ensures none { IsNone result ↔ (self.now.sh_type ≡ SHT_NOBITS) }
         ensures some { IfSome result (λ range.
             (range.start, range.end) ≡ span self.now.sh_offset self.now.sh_size) }
     {
@@ -259,6 +259,13 @@ impl SectionHeader {
         }
     }
 
+    // Reports whether another section or the file's header may name this section by an index as a table.
+    fn is_table(&self, index: usize) -> bool
+        ensures { result ≡ is_table index self.now.sh_type }
+    {
+        index != 0 && self.sh_type != SHT_NOBITS
+    }
+
     /// Returns the section at an index that another section or the file's header names as a table, or
     /// `None` for index 0, past the end, and for a section without bytes in the file (`SHT_NOBITS`).
     pub fn linked(sections: &[SectionHeader], index: usize) -> Option<&SectionHeader>
@@ -267,7 +274,7 @@ impl SectionHeader {
     {
         sections
             .get(index)
-            .filter(|section| index != 0 && section.sh_type != SHT_NOBITS)
+            .filter(|section| section.is_table(index))
     }
 
     /// Returns the section at an index of a lazy table, as [`SectionHeader::linked`] does.
@@ -278,7 +285,7 @@ impl SectionHeader {
         ensures value { result ≡ linked index (slice_get sections.now index) }
     {
         match sections.get(index) {
-            Some(section) if index != 0 && section.sh_type != SHT_NOBITS => Some(section),
+            Some(section) if section.is_table(index) => Some(section),
             _ => None,
         }
     }

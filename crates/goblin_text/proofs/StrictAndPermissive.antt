@@ -8,7 +8,7 @@ use Rattle.goblin.specs.declared.options.ParseMode.TheVariants.{Strict, Permissi
 use Rattle.goblin.specs.Header.{names_index_of}
 use Rattle.goblin.specs.ReadHeader.{read_header}
 use Rattle.goblin.specs.Refusal.{Refusal, refusal_of}
-use Rattle.goblin.specs.SectionHeaders.{section_headers_of}
+use Rattle.goblin.specs.SectionHeaders.{linked, section_headers_of}
 use Rattle.goblin.specs.Steps.{◌>>=◌, refuse_as}
 use Rattle.goblin.specs.StrtabLaws.{StrictIsPermissive}
 use Rattle.goblin.specs.Sym.{sym_size}
@@ -57,12 +57,12 @@ sections bytes h ctx =
 strings_here : StrictIsPermissive
     → (bytes : List ℕ) (s : Option SectionHeader) → Keeps (strings_of Strict bytes s) (strings_of Permissive bytes s)
 strings_here strtabs bytes None = same _
-strings_here strtabs bytes (Some s) = otherwise (s.sh_type == 8) _ _ _ (strtabs bytes s.sh_offset s.sh_size 0)
+strings_here strtabs bytes (Some s) = strtabs bytes s.sh_offset s.sh_size 0
 
 strings : StrictIsPermissive → (bytes : List ℕ) (found : List SectionHeader) (index : ℕ)
     → Keeps (strings_at Strict bytes found index) (strings_at Permissive bytes found index)
 unfolding strings_at
-strings strtabs bytes found index = strings_here strtabs bytes (if index == 0 then None else slice_get found index)
+strings strtabs bytes found index = strings_here strtabs bytes (linked index (slice_get found index))
 
 symbols : StrictIsPermissive
     → (bytes : List ℕ) (ctx : Ctx) (found : List SectionHeader) (number : ℕ) (s : SectionHeader)

@@ -13,7 +13,7 @@ use Rattle.goblin.specs.declared.options.ParseMode.TheVariants.{Strict, Permissi
 use Rattle.goblin.specs.Header.{class_of, names_index_of, order_of}
 use Rattle.goblin.specs.ReadHeader.{read_header}
 use Rattle.goblin.specs.Refusal.{Refusal, refusal_of}
-use Rattle.goblin.specs.SectionHeaders.{section_headers_of, section_headers_of_tested, size_checked_in}
+use Rattle.goblin.specs.SectionHeaders.{linked, section_headers_of, section_headers_of_tested, size_checked_in}
 use Rattle.goblin.specs.RelocSection.{is_of_mips64el, relocs_of}
 use Rattle.goblin.specs.Steps.{◌>>=◌, refuse_as}
 use Rattle.goblin.specs.Strtab.{StringTable, look_up, strtab_of}
@@ -48,16 +48,14 @@ sections_of mode bytes h ctx = do
 abbrev pub no_strings : StringTable
 no_strings = record { bytes = []; delim = 0; is_parsed = false }
 
--- the string table that a section is: none where there is no section, or it has no bytes in the file (type 8)
+-- the string table that a section is, or no strings without a section
 abbrev pub strings_of : ParseMode → List ℕ → Option SectionHeader → Result StringTable Refusal
 strings_of mode bytes None = Ok no_strings
-strings_of mode bytes (Some s) =
-    if s.sh_type == 8 then Ok no_strings else strtab_of mode bytes s.sh_offset s.sh_size 0
+strings_of mode bytes (Some s) = strtab_of mode bytes s.sh_offset s.sh_size 0
 
--- the string table that is the section with an index: index 0 is no section
+-- the string table that others name by an index
 unfoldable pub strings_at : ParseMode → List ℕ → List SectionHeader → ℕ → Result StringTable Refusal
-strings_at mode bytes sections index =
-    strings_of mode bytes (if index == 0 then None else slice_get sections index)
+strings_at mode bytes sections index = strings_of mode bytes (linked index (slice_get sections index))
 
 -- the string at an offset of a table, or an empty one if there is none
 abbrev pub name_at : StringTable → ℕ → List ℕ

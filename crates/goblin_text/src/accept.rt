@@ -5,16 +5,14 @@ ghost use Rattle.goblin.specs.SectionHeaders.{section_headers_of_tested};
 ghost use Rattle.goblin_text.specs.Accepted.{accepted_text, parts_text, relocs_text, symbols_text};
 ghost use Rattle.goblin_text.specs.StringRanges.{strings_in};
 ghost use Rattle.goblin_text.specs.Looks.{ReadsNames, looks_by, section_count, table_looks};
-ghost use Rattle.goblin_text.specs.Shown.{Adds, ctx_of, each_shown, file_shown, has_relocs, has_symbols, relocs_shown, sections_of, shown, sizes_checked, strings_at, strings_of, symbols_shown, tested};
+ghost use Rattle.goblin_text.specs.Shown.{Adds, ctx_of, each_shown, file_shown, has_relocs, has_symbols, relocs_shown, sections_of, shown, sizes_checked, strings_at, symbols_shown, tested};
 
 use crate::file_bytes::FileBytes;
 use crate::names::{Names, Strings};
 use goblin::container::Ctx;
 use goblin::elf::header::Header;
 use goblin::elf::reloc::{RelocSection, is_mips64el};
-use goblin::elf::section_header::{
-    SHT_DYNSYM, SHT_NOBITS, SHT_REL, SHT_RELA, SHT_SYMTAB, SectionHeader,
-};
+use goblin::elf::section_header::{SHT_DYNSYM, SHT_REL, SHT_RELA, SHT_SYMTAB, SectionHeader};
 use goblin::elf::sym::{Sym, Symtab};
 use goblin::error::Result;
 use goblin::options::ParseOptions;
@@ -113,23 +111,7 @@ struct Context<'b> {
 }
 
 impl Context<'_> {
-    // Returns the string table that a section holds.
-    fn strings_of(&self, names: &mut Names<'_>, section: &SectionHeader) -> Result<Strings>
-        ensures given { let expected = strings_of self.now.opts.now.parse_mode names.old.bytes
-            (Some section.now) in
-            Answers (strings_in names.old.bytes) result expected }
-        ensures reading { let most = looks_by result table_looks names.old.bytes in
-            ReadsNames names.old names.new 0 most }
-    {
-        if section.sh_type == SHT_NOBITS {
-            return Ok(Strings::Missing);
-        }
-        let offset = section.sh_offset as usize;
-        let size = section.sh_size as usize;
-        names.table(offset, size, self.opts)
-    }
-
-    // Returns the string table of the section with an index. Index 0 stands for no section.
+    // Returns the string table that the file's header or a section names by an index.
     #[tactic(auto, unfolding(crate::specs::Shown::strings_at))]
     fn strings_at(&self, names: &mut Names<'_>, index: usize) -> Result<Strings>
         ensures given { let expected = strings_at self.now.opts.now.parse_mode names.old.bytes
@@ -138,13 +120,12 @@ impl Context<'_> {
         ensures reading { let most = looks_by result table_looks names.old.bytes in
             ReadsNames names.old names.new 0 most }
     {
-        if index == 0 {
+        let Some(section) = SectionHeader::linked(self.sections, index) else {
             return Ok(Strings::Missing);
-        }
-        match self.sections.get(index) {
-            Some(section) => self.strings_of(names, section),
-            None => Ok(Strings::Missing),
-        }
+        };
+        let offset = section.sh_offset as usize;
+        let size = section.sh_size as usize;
+        names.table(offset, size, self.opts)
     }
 
     // Adds the symbols of the section with a number to the parts, if it holds symbols.

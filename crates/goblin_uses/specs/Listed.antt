@@ -14,16 +14,16 @@ use Rattle.goblin.specs.Note.{NoteParts, note_items}
 use Rattle.goblin.specs.Ranges.{span}
 use Rattle.goblin.specs.Refusal.{Refusal, refusal_of}
 use Rattle.goblin.specs.RelocSection.{is_of_mips64el, relocs_of}
+use Rattle.goblin.specs.SectionHeaders.{is_nobits}
 use Rattle.goblin.specs.Steps.{◌>>=◌, refuse_as}
 use Rattle.goblin.specs.Strtab.{StringTable, table_of}
 use Rattle.goblin.specs.Symtab.{Symbols, symtab_in}
 
--- the bytes of a section in the file: none without a section, for a section without bytes (type 8), or past the file's
--- end
+-- the bytes of a section in the file: none without a section, for a section without bytes, or past the file's end
 abbrev pub bytes_of : List ℕ → Option SectionHeader → List ℕ
 bytes_of bytes None = []
 bytes_of bytes (Some s) =
-    if (s.sh_type == 8) || nat_lt (length bytes) (s.sh_offset + s.sh_size) then []
+    if is_nobits s.sh_type || nat_lt (length bytes) (s.sh_offset + s.sh_size) then []
     else take s.sh_size (drop s.sh_offset bytes)
 
 -- the symbols of a section, as many as it holds whole
