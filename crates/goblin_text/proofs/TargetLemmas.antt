@@ -1,7 +1,7 @@
 -- What of a text was put into a target, and what is left of it.
 use Rattle.std.proofs.Common.{◌≡◌, ◌∙◌, ◌++◌, ◌∷◌, ◌≤◌, ℕ, List, [], Option, None, Some, ap, append_assoc, get_or, set}
 use Rattle.std.proofs.Common.{append-nil, arith, length, min, refl, subst, sym, take, ⊎_elim, ◌<◌}
-use Rattle.std.proofs.KnownBytes.{Appends-kept, Appends-trans, append_known-grown, append_known-moved}
+use Rattle.std.proofs.KnownBytes.{Appends-trans, append_known-grown, append_known-moved}
 use Rattle.std.proofs.lemmas.Bool.{cases_lt}
 use Rattle.std.proofs.lemmas.List.{take_all}
 use Rattle.std.specs.Io.KnownBytes.{Appends, Keeps, append_known}
@@ -64,12 +64,6 @@ pub added : (a b : Option (List ℕ)) (old new : List ℕ) (filled more : ℕ) (
     → Keeps a (held b old filled) → take more new ≡ take filled old ++ text → Appends a (held b new more) text
 unfolding held
 added a b old new filled more text p e = append_known-grown a b (take filled old) (take more new) text p e
-
--- a text went through a room that was empty, and is written
-pub through : (a b c d : Option (List ℕ)) (room : List ℕ) (filled : ℕ) (text : List ℕ)
-    → b ≡ held a room filled → filled ≡ 0 → Appends b c text → Keeps c d → Appends a d text
-through a b c d room filled text is none p q =
-    subst (λ k. Appends k d text) (is ∙ emptied a room filled none) (Appends-kept b c d text p q)
 
 -- a single byte in the place of another
 pub set_single : (xs ys : List ℕ) → length xs ≡ 1 → length ys ≡ 1 → set xs 0 (get_or ys 0 0) ≡ ys

@@ -1,5 +1,5 @@
 -- What is shown of the bytes of a file.
-use Rattle.std.specs.Prelude.{◌≡◌, ℕ, ◌+◌, ◌/◌, ◌==◌, ◌&&◌, ◌||◌, nat_lt, not, Bool, false, if◌then◌else◌}
+use Rattle.std.specs.Prelude.{◌≡◌, ℕ, ◌+◌, ◌/◌, ◌==◌, ◌&&◌, ◌||◌, nat_lt, not, Bool, if◌then◌else◌}
 use Rattle.std.specs.Prelude.{List, [], ◌∷◌, length, slice_get, Option, None, Some, Result, Ok, unwrap_or}
 use Rattle.goblin.specs.declared.container.Ctx.{Ctx}
 use Rattle.goblin.specs.declared.elf.header.Header.{Header}
@@ -23,6 +23,7 @@ use Rattle.goblin.specs.Texts.{◌&◌}
 pub use Rattle.goblin_base.specs.Lines.{Adds}
 use Rattle.goblin_text.specs.ShownLines.{header_line, reloc_line, section_line, symbol_line}
 use Rattle.goblin_text.specs.Options.{is_permissive}
+use Rattle.goblin_text.specs.StringRanges.{text_table}
 
 -- the class and the byte order of a header
 abbrev pub ctx_of : Header → Result Ctx Error
@@ -44,13 +45,9 @@ sections_of mode bytes h ctx = do
   _ ← refuse_as refusal_of (sizes_checked mode (length bytes) sections)
   Ok sections
 
--- no strings
-abbrev pub no_strings : StringTable
-no_strings = record { bytes = []; delim = 0; is_parsed = false }
-
--- the string table that a section is, or no strings without a section
+-- the string table that a section is, or an empty one without a section
 abbrev pub strings_of : ParseMode → List ℕ → Option SectionHeader → Result StringTable Refusal
-strings_of mode bytes None = Ok no_strings
+strings_of mode bytes None = Ok (text_table [])
 strings_of mode bytes (Some s) = strtab_of mode bytes s.sh_offset s.sh_size 0
 
 -- the string table that others name by an index

@@ -2,8 +2,6 @@
 use Rattle.std.specs.Prelude.{ℕ, true, List, slice_range}
 use Rattle.goblin.specs.Strtab.{StringTable}
 use Rattle.goblin_text.specs.declared.names.Strings.{Strings}
-use Rattle.goblin_text.specs.declared.names.Strings.TheVariants.{Missing, Within}
-use Rattle.goblin_text.specs.Shown.{no_strings}
 
 -- the table with the delimiter 0 of these bytes
 abbrev pub text_table : List ℕ → StringTable
@@ -11,5 +9,4 @@ text_table bytes = record { bytes = bytes; delim = 0; is_parsed = true }
 
 -- the table that strings of a file are
 abbrev pub strings_in : List ℕ → Strings → StringTable
-strings_in bytes Missing = no_strings
-strings_in bytes (Within start end) = text_table (slice_range bytes start end)
+strings_in bytes strings = text_table (slice_range bytes strings.start strings.end)

@@ -121,7 +121,7 @@ impl Context<'_> {
             ReadsNames names.old names.new 0 most }
     {
         let Some(section) = SectionHeader::linked(self.sections, index) else {
-            return Ok(Strings::Missing);
+            return Ok(Strings { start: 0, end: 0 });
         };
         let offset = section.sh_offset as usize;
         let size = section.sh_size as usize;

@@ -20,13 +20,11 @@ use goblin::strtab::range_of;
 use goblin_base::counted_bytes::CountedBytes;
 use std::marker::Model;
 
-/// The strings that names come from.
+/// The strings that names come from: the file's bytes from one place to another, none if the places are the same.
 #[derive(Clone, Copy)]
-pub enum Strings {
-    /// There are none, and no names.
-    Missing,
-    /// The file's bytes from one place to another.
-    Within { start: usize, end: usize },
+pub struct Strings {
+    pub start: usize,
+    pub end: usize,
 }
 
 /// The bytes of a file, and what is known of its blocks: where the run of text from each one on ends, and where the run
@@ -108,7 +106,7 @@ impl<'a> Names<'a> {
         if !opts.parse_mode.is_permissive() {
             self.refuse_unless_text(start, end)?;
         }
-        Ok(Strings::Within { start, end })
+        Ok(Strings { start, end })
     }
 
     // Refuses the string table of a range, unless it is text. It is read, unless it is the one that was last found to be
@@ -171,13 +169,8 @@ impl<'a> Names<'a> {
         ensures reading { let len = length result.now in
             ReadsNames self.old self.new len (name_looks + len) }
     {
-        match strings {
-            Strings::Missing => "",
-            Strings::Within { start, end } => {
-                let end = end.min(self.view.len());
-                self.name_within(start.min(end), end, offset)
-            }
-        }
+        let end = strings.end.min(self.view.len());
+        self.name_within(strings.start.min(end), end, offset)
     }
 
     // Returns the string at an offset of the bytes from one place of the file to another.

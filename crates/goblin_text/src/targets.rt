@@ -38,10 +38,12 @@ pub struct Buffered<'a, W> {
 
 impl<'a, W: Sink> Buffered<'a, W> {
     /// Returns an empty buffer.
+    #[tactic(auto, using(crate::proofs::Puts::emptied))]
     pub fn new(writer: &'a mut W) -> Self
         ensures same_writer { result.writer.ghost_name ≡ writer.entry.ghost_name }
         ensures writer { result.writer.now ≡ writer.old }
-        ensures filled { result.filled ≡ 0 }
+        ensures empty { held (W.contents result.writer.now) result.room result.filled
+            ≡ W.contents writer.old }
     {
         Buffered {
             writer,

@@ -169,27 +169,6 @@ fn put_text<T: Target>(
     put_all_relocs(target, file.parts.relocs.as_slice())
 }
 
-// Writes the text of a file through an empty buffer.
-fn write_through<W: Sink>(
-    target: &mut Buffered<'_, W>,
-    names: &mut Names<'_>,
-    file: &Accepted<'_>,
-) -> io::Result<()>
-    requires { target.old.filled ≡ 0 }
-    ensures same_writer { target.new.writer.ghost_name ≡ target.old.writer.ghost_name }
-    ensures ok { OnOk result (Appends (W.contents target.old.writer.now)
-        (W.contents target.new.writer.now) (accepted_text names.old.bytes file.now)) }
-    ensures heeded { OnOk result ((W.marks target.new.writer.now).reported_error
-        ≡ (W.marks target.old.writer.now).reported_error) }
-    ensures err { OnErr result (IsTrue (W.marks target.new.writer.now).reported_error) }
-    ensures reading { let text = accepted_text names.old.bytes file.now in
-        ReadsNames names.old names.new 0 (names_looks text) }
-{
-    put_text(target, names, file)?;
-    target.finish()?;
-    Ok(())
-}
-
 /// Writes the text of a file. It takes no memory.
 pub fn write_text<W: Sink>(
     writer: &mut W,
@@ -207,7 +186,8 @@ pub fn write_text<W: Sink>(
         ReadsNames names.old names.new 0 (names_looks text) }
 {
     let mut target = Buffered::new(writer);
-    write_through(&mut target, names, file)
+    put_text(&mut target, names, file)?;
+    target.finish()
 }
 
 /// Returns the text of a file with these bytes: the line of its header, one for each section, then one for each
