@@ -23,11 +23,11 @@ use std::result;
 
 /// An iterator over the notes of a range of bytes.
 ///
-/// <!-- quoted: crates/goblin_uses/src/notes.rt -->
+/// <!-- quoted: crates/goblin_tests/src/note.rt -->
 /// ```
 /// for note in notes {
-///     push_line(text, &note?)?;
-/// }
+///     let note = note?;
+///     if note.n_type == NT_GNU_BUILD_ID && note.name == "GNU" {
 /// ```
 #[derive(Debug, Drop)]
 pub struct NoteDataIterator<'a> {
