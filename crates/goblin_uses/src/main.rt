@@ -1,43 +1,49 @@
-//! Lists what an ELF file on standard input holds: its symbols, its functions by size, its
-//! relocations and its notes. It is a small program over `goblin`, with ordinary loops.
+//! Lists what an ELF file on standard input holds: its loaded segments, its symbols, its functions,
+//! its relocations and its notes. It is a small program over `goblin`, with no proof files.
 //!
-//! The lines that a call of each module adds are proved. `main` and `list` show how the calls go
-//! together, and have no contract: which sections are listed, in which order, and what is printed
-//! before an error is not proved. One stored run (`stdin` and `stdout`) tests it.
+//! Contracts say what is taken from the file, what each line shows, and which error comes first.
+//! No contract says that a loop adds a line for each item, that `list` lists each section, or what
+//! is printed before an error. One stored run (`stdin` and `stdout`) tests that.
 #![tactic(auto)]
 
 mod functions;
 mod names;
 mod notes;
 mod relocations;
+mod segments;
 mod symbols;
 
 use functions::push_functions;
 use goblin::elf::header::Header;
+use goblin::elf::program_header::ProgramHeader;
 use goblin::elf::section_header::{SHT_NOTE, SHT_REL, SHT_RELA, SHT_SYMTAB, SectionHeader};
 use goblin::error::Result;
 use goblin::scroll::{LE, TryFromCtx};
 use notes::push_notes;
 use relocations::push_relocations;
+use segments::push_segments;
 use std::alloc::Global;
 use std::io;
 use std::io::Read;
-use symbols::push_symbols;
+use symbols::{push_symbols, strings_of};
 
 // Adds the lines of a file, up to the first error.
 fn list(alloc: Global, text: &mut String, bytes: &[u8]) -> Result<()> {
     let (header, _) = Header::try_from_ctx(bytes, LE)?;
     let ctx = header.ctx()?;
+    let count = usize::from(header.e_phnum);
+    let segments = ProgramHeader::parse(alloc, bytes, header.e_phoff as usize, count, ctx)?;
+    push_segments(alloc, text, bytes, segments.as_slice())?;
     let count = usize::from(header.e_shnum);
     let sections = SectionHeader::parse(alloc, bytes, header.e_shoff as usize, count, ctx)?;
     push_symbols(alloc, text, bytes)?;
     for section in &sections {
         match section.sh_type {
             SHT_SYMTAB => {
-                let strings = SectionHeader::linked(sections.as_slice(), section.sh_link as usize);
+                let strings = strings_of(sections.as_slice(), section);
                 push_functions(alloc, text, bytes, section, strings, ctx)?;
             }
-            SHT_REL | SHT_RELA => push_relocations(text, bytes, section, &header, ctx)?,
+            SHT_REL | SHT_RELA => push_relocations(alloc, text, bytes, section, &header, ctx)?,
             SHT_NOTE => push_notes(text, bytes, section, ctx)?,
             _ => {}
         }

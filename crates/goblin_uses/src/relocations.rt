@@ -1,71 +1,45 @@
 //! The relocations of a file.
-ghost use Rattle.std.specs.Prelude.{◌≡◌, ◌++◌, Err, IfErr, OnOk, count_by, string_bytes};
-ghost use Rattle.goblin_uses.specs.Lines.{Adds, names_symbol, relocation_line, relocation_lines, relocations_listed, relocations_line};
+ghost use Rattle.std.specs.Prelude.{◌≡◌, ◌++◌, ◌==◌, Err, IfErr, IfOk, OnOk, codes, count_by, decimal, length, map, not, pos, string_bytes, unwrap_or};
+ghost use Rattle.std.specs.Fmt.{signed_decimal};
+ghost use Rattle.goblin.specs.Texts.{◌&◌, hexadecimal};
 ghost use Rattle.goblin_uses.specs.Listed.{relocations_of};
 
 use goblin::container::Ctx;
 use goblin::elf::header::Header;
-use goblin::elf::reloc::{Reloc, RelocSection, is_mips64el};
+use goblin::elf::reloc::{RelocSection, is_mips64el};
 use goblin::elf::section_header::{SHT_RELA, SectionHeader};
 use goblin::error::Result;
-use std::alloc::AllocError;
+use std::alloc::{AllocError, Global};
 
-/// Returns the number of relocations that name a symbol.
-pub fn count_named(relocations: &RelocSection) -> usize
-    ensures { result ≡ count_by names_symbol relocations.now }
-{
-    relocations.iter().filter(|reloc| reloc.r_sym != 0).count()
+/// What is shown of a relocation.
+#[derive(Clone, Copy, Debug, PartialEq)]
+pub struct Row {
+    /// The offset or the address that is relocated.
+    pub offset: u64,
+    /// The index of the symbol, or 0 if there is none.
+    pub symbol: usize,
+    /// The addend, or 0 if there is none.
+    pub addend: i64,
 }
 
-// Adds the line of one relocation.
-fn push_line(text: &mut String, index: usize, reloc: &Reloc) -> std::result::Result<(), AllocError>
-    ensures { OnOk result
-        (string_bytes text.new ≡ string_bytes text.old ++ relocation_line index reloc.now) }
-{
-    let offset = reloc.r_offset;
-    let symbol = reloc.r_sym;
-    let addend = reloc.r_addend.unwrap_or(0);
-    write!(
-        text,
-        "{index} at 0x{offset:x}: symbol {symbol}, addend {addend}\n"
-    )
-}
-
-// Adds a line for each relocation.
-fn push_each(text: &mut String, relocations: &RelocSection) -> std::result::Result<(), AllocError>
-    ensures { OnOk result
-        (string_bytes text.new ≡ string_bytes text.old ++ relocation_lines 0 relocations.now) }
-{
-    for (index, reloc) in relocations.iter().enumerate() {
-        push_line(text, index, &reloc)?;
-    }
-    Ok(())
-}
-
-// Adds the line with the number of relocations that name a symbol.
-fn push_count(text: &mut String, relocations: &RelocSection) -> std::result::Result<(), AllocError>
-    ensures { OnOk result
-        (string_bytes text.new ≡ string_bytes text.old ++ relocations_line relocations.now) }
-{
-    let named = count_named(relocations);
-    let all = relocations.len();
-    write!(text, "{named} of {all} relocations name a symbol\n")
-}
-
-/// Adds the lines of the relocations of a section.
+/// Returns the rows of the relocations of a section, in order.
 ///
 /// # Errors
 ///
 /// Those of the relocations, else out of memory.
-pub fn push_relocations(
-    text: &mut String,
+pub fn rows(
+    alloc: Global,
     bytes: &[u8],
     section: &SectionHeader,
     header: &Header,
     ctx: Ctx,
-) -> Result<()>
-    ensures added { let expected = relocations_listed bytes.now section.now header.now ctx in
-        Adds (string_bytes text.old) (string_bytes text.new) result expected }
+) -> Result<Vec<Row>>
+    ensures rows { IfOk (relocations_of bytes.now section.now header.now ctx)
+        (λ relocations. IfOk result (λ rows. rows.items ≡ map (λ r. record {
+          offset = r.r_offset;
+          symbol = r.r_sym;
+          addend = unwrap_or r.r_addend (pos 0);
+        }) relocations)) }
     ensures first { IfErr (relocations_of bytes.now section.now header.now ctx)
         (λ e. result ≡ Err e) }
 {
@@ -77,7 +51,67 @@ pub fn push_relocations(
         ctx,
         is_mips64el(header),
     )?;
-    push_count(text, &relocations)?;
-    push_each(text, &relocations)?;
+    let rows = relocations.iter().map(|reloc| Row {
+        offset: reloc.r_offset,
+        symbol: reloc.r_sym,
+        addend: reloc.r_addend.unwrap_or(0),
+    });
+    Ok(rows.collect(alloc)?)
+}
+
+/// Returns the number of rows that name a symbol.
+pub fn count_named(rows: &[Row]) -> usize
+    ensures { result ≡ count_by (λ row. not (row.symbol == 0)) rows.now }
+{
+    rows.iter().filter(|row| row.symbol != 0).count()
+}
+
+/// Adds the lines of the relocations of a section.
+///
+/// # Errors
+///
+/// Those of the relocations, else out of memory.
+pub fn push_relocations(
+    alloc: Global,
+    text: &mut String,
+    bytes: &[u8],
+    section: &SectionHeader,
+    header: &Header,
+    ctx: Ctx,
+) -> Result<()>
+    ensures first { IfErr (relocations_of bytes.now section.now header.now ctx)
+        (λ e. result ≡ Err e) }
+{
+    let rows = rows(alloc, bytes, section, header, ctx)?;
+    push_count(text, rows.as_slice())?;
+    for (index, row) in rows.iter().enumerate() {
+        push_line(text, index, row)?;
+    }
     Ok(())
+}
+
+// Adds the line with the number of relocations that name a symbol.
+fn push_count(text: &mut String, rows: &[Row]) -> std::result::Result<(), AllocError>
+    ensures { let named = count_by (λ row. not (row.symbol == 0)) rows.now in
+        OnOk result (string_bytes text.new ≡ string_bytes text.old ++ (decimal named & codes " of "
+        & decimal (length rows.now) & codes " relocations name a symbol\n")) }
+{
+    let named = count_named(rows);
+    let all = rows.len();
+    write!(text, "{named} of {all} relocations name a symbol\n")
+}
+
+// Adds the line of one relocation.
+fn push_line(text: &mut String, index: usize, row: &Row) -> std::result::Result<(), AllocError>
+    ensures { OnOk result (string_bytes text.new ≡ string_bytes text.old ++ (decimal index
+        & codes " at 0x" & hexadecimal row.now.offset & codes ": symbol " & decimal row.now.symbol
+        & codes ", addend " & signed_decimal row.now.addend & codes "\n")) }
+{
+    let offset = row.offset;
+    let symbol = row.symbol;
+    let addend = row.addend;
+    write!(
+        text,
+        "{index} at 0x{offset:x}: symbol {symbol}, addend {addend}\n"
+    )
 }
