@@ -1,3 +1,6 @@
+-- Places rise, so what is known of the place that was read holds for all on that side of it: the places before `low`
+-- and those from `low + size` on are known. Each turn takes one binary digit off `size`, which bounds the reads from
+-- both sides.
 use Rattle.std.proofs.Common.{◌≡◌, ℕ, ◌+◌, ◌-◌, ◌/◌, ◌<◌, ◌≤◌, ⊎_elim, List, length, slice_index, ap, ◌∙◌, arith}
 use Rattle.std.proofs.lemmas.Bool.{cases_lt, cond-true, cond-false, le-leb, lt-leb}
 use Rattle.goblin_base.specs.Search.{IsRising, digits}

@@ -1,3 +1,6 @@
+-- The lowest bit that is left of the delimiters' mask is at the first delimiter (`next_delim`): the piece ends there,
+-- or, if no bit is left, none of the marked bytes is the delimiter and the search goes on after them. The bytes up to
+-- there are ASCII exactly if the other mask's lowest bit comes no earlier (`ascii_more`).
 use Rattle.std.proofs.Common.{◌≡◌, ℕ, ◌+◌, ◌-◌, ◌/◌, ◌^◌, ◌↔◌, subst, refl, sym, ap, ◌∙◌, List}
 use Rattle.std.proofs.Common.{true, arith}
 use Rattle.goblin_base.specs.Ascii.{lowest_set}

@@ -1,3 +1,5 @@
+-- No byte from the start of the piece up to `at` is the delimiter (`none`), and the marks reach no further than `at`.
+-- Only the bytes from `max marks.until from` of the call on were looked at since: those before were already marked.
 use Rattle.std.proofs.Common.{◌≡◌, ℕ, ◌+◌, ◌-◌, ◌<◌, ◌≤◌, ◌↔◌, false, true, eqb, length, get_or, max}
 use Rattle.goblin_base.specs.Entries.{CountsAtLeast}
 use Rattle.goblin_base.specs.Marks.{AreAscii, HaveMarks}

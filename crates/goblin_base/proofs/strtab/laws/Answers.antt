@@ -1,3 +1,5 @@
+-- The function has no code: each clause is a lemma about definitions. LawLemmas and TextLaws prove those of UTF-8,
+-- tables and look-ups, DigitsLemmas that of binary digits.
 use Rattle.goblin_base.proofs.DigitsLemmas.{digits_count}
 use Rattle.goblin_base.proofs.LawLemmas.{text_is_utf8, closed_form, joins_again, permissive_accepts}
 use Rattle.goblin_base.proofs.LawLemmas.{strict_is_permissive, look_up_has_plain, strict_look_up_is_plain}

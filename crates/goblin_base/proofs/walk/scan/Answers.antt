@@ -1,3 +1,7 @@
+-- The result follows from what holds at each byte (`IsScanned`): no delimiter was passed, and the piece is UTF-8
+-- exactly if its rest completes the state. At the delimiter or at the end the rest is empty, so the state decides
+-- (`scan_ends`). A byte that may not come there excludes each start up to it (`scan_faults`). A look changes the count
+-- only, so the view's bytes are those of the call (`same`).
 use Rattle.std.proofs.Common.{◌≡◌, length, get_or, slice_index, false, eqb, sym, ap, subst, ◌∙◌, refl, arith}
 use Rattle.std.proofs.lemmas.Bool.{eq-eqb, ne_eqb}
 use Rattle.goblin_base.specs.Utf8.{after_byte}

@@ -1,3 +1,7 @@
+-- Each turn stores the entries that the definition has there: one for a piece that is text (`walked_text`), those of
+-- `walk_damaged` for any other in permissive mode. In strict mode a piece that isn't text is the first such one,
+-- because all before it are text (`strict`, `walked_fault`). A piece of ASCII is text (`no_fault`), so ASCII bytes
+-- never reach these last two cases.
 use Rattle.std.proofs.Common.{rules, ◌≡◌, ◌+◌, ◌-◌, ◌<◌, ◌≤◌, ℕ, List, false, true, length, slice_index, refl, sym, ap}
 use Rattle.std.proofs.Common.{subst, ◌∙◌, Ok, Err}
 use Rattle.std.proofs.Common.{arith}

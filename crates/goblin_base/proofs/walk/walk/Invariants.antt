@@ -1,3 +1,5 @@
+-- The entries stored so far and those from i on are all entries (`walked`), and strict mode found only text before i
+-- (`strict`). The marks reach at most sixteen bytes past i, as `next_end` requires (`near`).
 use Rattle.std.proofs.Common.{◌≡◌, ◌+◌, ◌-◌, ◌*◌, ◌≤◌, length, max, min}
 use Rattle.std.specs.Str.{IsAscii}
 use Rattle.goblin_base.specs.Entries.{CountsAtLeast}

@@ -1,3 +1,7 @@
+-- The digits of `left`, put before the digits that are written, are those of the number at each turn (`digits` of the
+-- invariant): a turn moves one digit from the first to the second (`digits-more`). Twenty bytes are enough, because
+-- `left` has at most `start + 1` digits (`short`, which a division keeps by `shorter`): where `start` is 0 it is a
+-- single digit.
 use Rattle.std.proofs.Common.{◌≡◌, ◌∙◌, ◌+◌, ◌-◌, ◌*◌, ◌/◌, ◌%◌, ◌<◌, ◌^◌, ◌∷◌, ℕ, drop, false, length, lit<, refl, set}
 use Rattle.std.proofs.Common.{suc, subst, sym, ap, arith, length-set}
 use Rattle.std.proofs.Math.Nat.{one-mul, pow-suc, pow-zero}
