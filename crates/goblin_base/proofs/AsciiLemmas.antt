@@ -1,6 +1,10 @@
 -- The ASCII bytes at the start of a string: from the lanes of one load to the piece.
+--
+-- A mask of sixteen bytes has its lowest bit at the first byte that passes a test. A search of all bytes is one of the
+-- next sixteen, and, if none of them passes, one of those after them. So the run that is found ends at the first byte
+-- that is the delimiter or not ASCII; it is ASCII, and it is the whole piece unless a byte that isn't ASCII ends it.
 use Rattle.std.proofs.Common.{◌≡◌, ℕ, ◌+◌, ◌-◌, ◌%◌, ◌^◌, ◌<◌, ◌≤◌, ◌==◌, eqb, leb, cond, Bool, true, false, not, ◌||◌}
-use Rattle.std.proofs.Common.{bit_or, List, map, take, drop, length, get_or, refl, ap, ◌∙◌, ⊎_elim, arith, Ok}
+use Rattle.std.proofs.Common.{bit_or, List, ◌++◌, map, take, drop, length, get_or, refl, ap, ◌∙◌, ⊎_elim, arith, Ok}
 use Rattle.std.proofs.lemmas.Bool.{cases_lt, cond-true, cond-false, eq-eqb, ne_eqb, leb-false, or_parts}
 use Rattle.std.proofs.lemmas.List.{length-map, length-take, get_or-take, get_or_past, take_rest}
 use Rattle.std.proofs.lemmas.List.Folds.{prefix_len-append}
@@ -8,7 +12,7 @@ use Rattle.std.proofs.lemmas.List.Sums.{prefix_len-le-length, fails_before_first
 use Rattle.std.proofs.lemmas.Simd.{map-map, mask_l-mod, first_set_mask_l, chunk-drop, length-chunk}
 use Rattle.std.proofs.lemmas.Str.{IsUtf8-from_ascii, is_utf8-from_IsUtf8}
 use Rattle.std.specs.List.{position_or_len, prefix_len}
-use Rattle.std.specs.Str.{IsAscii, IsUtf8}
+use Rattle.std.specs.Str.{IsAscii, IsUtf8, is_utf8}
 use lib.Lanes.{chunk, mask_l, top}
 use Rattle.goblin_base.proofs.StrtabLemmas.{first_or_length}
 use Rattle.goblin_base.specs.Ascii.{ends_run, lowest_set}
@@ -20,26 +24,37 @@ use Rattle.goblin_base.specs.Utf8.{text_or_fault}
 abbrev pub lane : ℕ → ℕ → ℕ
 lane d b = bit_or (cond (eqb b d) 255 0) (cond (leb 128 b) 255 0)
 
+-- its top bit is set if either test holds
 either : (x y : Bool) → top 7 (bit_or (cond x 255 0) (cond y 255 0)) ≡ (x || y)
 either true true = refl
 either true false = refl
 either false true = refl
 either false false = refl
 
--- the lowest bit of the mask is at the first byte that ends the run
+-- the mask of the lanes' top bits is that of the bytes that end the run
 mask_is : (d : ℕ) (v z : List ℕ)
     → length v ≡ 16 → z ≡ map (lane d) v → mask_l (map (top 7) z) % 2 ^ 64 ≡ mask_l (map (ends_run d) v)
 mask_is d v z long lanes =
+    let top_of_lane : (λ b. top 7 (lane d b)) ≡ ends_run d = λ i b. either (eqb b d) (leb 128 b) i in
     let tops : map (top 7) z ≡ map (ends_run d) v =
-    ap (map (top 7)) lanes ∙ map-map (top 7) (lane d) v ∙ ap (λ f. map f v) (λ i b. either (eqb b d) (leb 128 b) i) in
+    ap (map (top 7)) lanes
+    ∙ map-map (top 7) (lane d) v
+    ∙ ap (λ f. map f v) top_of_lane in
+    let few : length (map (ends_run d) v) ≤ 64 = omega (arith, length-map v (ends_run d), long) in
     ap (λ l. mask_l l % 2 ^ 64) tops
-    ∙ mask_l-mod (map (ends_run d) v) 64 (omega (arith, length-map v (ends_run d), long))
+    ∙ mask_l-mod (map (ends_run d) v) 64 few
 
+-- so is the lowest bit of the vectors' mask
 pub run_is : (d : ℕ) (v z : List ℕ) (r : ℕ)
     → length v ≡ 16 → z ≡ map (lane d) v → r ≡ lowest_set (mask_l (map (top 7) z) % 2 ^ 64) 16
     → r ≡ position_or_len (ends_run d) v
 run_is d v z r long lanes found =
-    found ∙ ap (λ m. lowest_set m 16) (mask_is d v z long lanes) ∙ first_set_mask_l (ends_run d) v 16 long (omega arith)
+    let mask : mask_l (map (top 7) z) % 2 ^ 64 ≡ mask_l (map (ends_run d) v) = mask_is d v z long lanes in
+    let first : lowest_set (mask_l (map (ends_run d) v)) 16 ≡ position_or_len (ends_run d) v =
+    first_set_mask_l (ends_run d) v 16 long (omega arith) in
+    found
+    ∙ ap (λ m. lowest_set m 16) mask
+    ∙ first
 
 -- what stands before the first byte of a kind, from an offset on: it ends in the next 16 bytes, or goes on after them
 pub stops_here : (test : ℕ → Bool) (bytes : List ℕ) (at : ℕ)
@@ -47,24 +62,26 @@ pub stops_here : (test : ℕ → Bool) (bytes : List ℕ) (at : ℕ)
     → position_or_len test (drop at bytes) ≡ position_or_len test (take 16 (drop at bytes))
 stops_here test bytes at room short =
     let p : ℕ → Bool = λ b. not (test b) in
-    let long = length-chunk at 16 bytes room in
-    let apart : ¬ (prefix_len p (chunk at 16 bytes) ≡ length (chunk at 16 bytes)) =
+    let split : drop at bytes ≡ chunk at 16 bytes ++ drop (at + 16) bytes = chunk-drop at 16 bytes in
+    let long : length (chunk at 16 bytes) ≡ 16 = length-chunk at 16 bytes room in
+    let not_all : ¬ (prefix_len p (chunk at 16 bytes) ≡ length (chunk at 16 bytes)) =
     λ e. absurd (omega (arith, e, long, short)) in
-    ap (prefix_len p) (chunk-drop at 16 bytes)
+    ap (prefix_len p) split
     ∙ prefix_len-append p (chunk at 16 bytes) (drop (at + 16) bytes)
-    ∙ cond-false _ _ _ (ne_eqb _ _ apart)
+    ∙ cond-false _ _ _ (ne_eqb _ _ not_all)
 
 pub passes_on : (test : ℕ → Bool) (bytes : List ℕ) (at : ℕ)
     → at + 16 ≤ length bytes → 16 ≤ position_or_len test (take 16 (drop at bytes))
     → position_or_len test (drop at bytes) ≡ 16 + position_or_len test (drop (at + 16) bytes)
 passes_on test bytes at room all =
     let p : ℕ → Bool = λ b. not (test b) in
-    let long = length-chunk at 16 bytes room in
-    let same : prefix_len p (chunk at 16 bytes) ≡ length (chunk at 16 bytes) =
+    let split : drop at bytes ≡ chunk at 16 bytes ++ drop (at + 16) bytes = chunk-drop at 16 bytes in
+    let long : length (chunk at 16 bytes) ≡ 16 = length-chunk at 16 bytes room in
+    let whole : prefix_len p (chunk at 16 bytes) ≡ length (chunk at 16 bytes) =
     omega (arith, long, all, prefix_len-le-length p (chunk at 16 bytes)) in
-    ap (prefix_len p) (chunk-drop at 16 bytes)
+    ap (prefix_len p) split
     ∙ prefix_len-append p (chunk at 16 bytes) (drop (at + 16) bytes)
-    ∙ cond-true _ _ _ (eq-eqb _ _ same)
+    ∙ cond-true _ _ _ (eq-eqb _ _ whole)
     ∙ ap (λ n. n + prefix_len p (drop (at + 16) bytes)) long
 
 -- so it is with a run
@@ -93,21 +110,36 @@ pub delim_is : (d : ℕ) (v : List ℕ) (mask r : ℕ)
     → length v ≡ 16 → mask ≡ mask_l (map (λ b. eqb b d) v) → r ≡ lowest_set mask 16
     → r ≡ position_or_len (λ b. b == d) v
 delim_is d v mask r long marked found =
-    found ∙ ap (λ m. lowest_set m 16) marked ∙ first_set_mask_l (λ b. eqb b d) v 16 long (omega arith)
+    let first : lowest_set (mask_l (map (λ b. eqb b d) v)) 16 ≡ position_or_len (λ b. b == d) v =
+    first_set_mask_l (λ b. eqb b d) v 16 long (omega arith) in
+    found
+    ∙ ap (λ m. lowest_set m 16) marked
+    ∙ first
 
 -- the bytes of a run, and the one that ends it
 module _ (d n : ℕ) (bytes : List ℕ) (is : n ≡ position_or_len (ends_run d) bytes) where
   in_run : (k : ℕ) → k < n → ends_run d (get_or bytes k 0) ≡ false
   in_run k l = fails_before_first (ends_run d) bytes k 0 (omega (arith, is))
 
-  -- each byte of it is ASCII
+  -- none of them is the delimiter, and each is ASCII
+  not_delim : (k : ℕ) → k < n → eqb (get_or bytes k 0) d ≡ false
+  not_delim k l = (or_parts (eqb (get_or bytes k 0) d) (leb 128 (get_or bytes k 0)) (in_run k l)).0
+
+  below_128 : (k : ℕ) → k < n → get_or bytes k 0 < 128
+  below_128 k l =
+      let low : leb 128 (get_or bytes k 0) ≡ false =
+      (or_parts (eqb (get_or bytes k 0) d) (leb 128 (get_or bytes k 0)) (in_run k l)).1 in
+      leb-false 128 (get_or bytes k 0) low
+
   run_is_ascii : IsAscii (take n bytes)
   run_is_ascii i = ⊎_elim
-      (λ (l : i < n). let at = get_or-take n bytes i 0 l in
-      let low = leb-false 128 (get_or bytes i 0)
-      (or_parts (eqb (get_or bytes i 0) d) (leb 128 (get_or bytes i 0)) (in_run i l)).1 in
+      (λ (l : i < n).
+      let at : get_or (take n bytes) i 0 ≡ get_or bytes i 0 = get_or-take n bytes i 0 l in
+      let low : get_or bytes i 0 < 128 = below_128 i l in
       omega (arith, at, low))
-      (λ (l : n ≤ i). let none = get_or_past (take n bytes) i 0 (omega (arith, length-take n bytes)) in
+      (λ (l : n ≤ i).
+      let past : length (take n bytes) ≤ i = omega (arith, length-take n bytes) in
+      let none : get_or (take n bytes) i 0 ≡ 0 = get_or_past (take n bytes) i 0 past in
       omega (arith, none))
       (cases_lt i n)
 
@@ -118,9 +150,10 @@ module _ (d n : ℕ) (bytes : List ℕ) (is : n ≡ position_or_len (ends_run d)
   pub run_is_plain : (n < length bytes → eqb (get_or bytes n 0) d ≡ true) → plain bytes d 0 ≡ Ok (take n bytes)
   unfolding piece
   run_is_plain ended =
-      let ends : ℕ → Bool = λ b. b == d in
-      let first : position_or_len ends bytes ≡ n =
-      position_or_len_is ends bytes n 0 (omega (arith, is, prefix_len-le-length (λ b. not (ends_run d b)) bytes))
-      (λ k l. (or_parts (eqb (get_or bytes k 0) d) (leb 128 (get_or bytes k 0)) (in_run k l)).0) ended in
-      let same : piece bytes d 0 ≡ take n bytes = ap (λ k. take k bytes) first in
-      ap (λ p. text_or_fault p (length bytes - 0)) same ∙ cond-true _ _ _ (is_utf8-from_IsUtf8 _ run_is_text)
+      let within : n ≤ length bytes = omega (arith, is, prefix_len-le-length (λ b. not (ends_run d b)) bytes) in
+      let first : position_or_len (λ b. b == d) bytes ≡ n =
+      position_or_len_is (λ b. b == d) bytes n 0 within not_delim ended in
+      let whole : piece bytes d 0 ≡ take n bytes = ap (λ k. take k bytes) first in
+      let text : is_utf8 (take n bytes) ≡ true = is_utf8-from_IsUtf8 _ run_is_text in
+      ap (λ p. text_or_fault p (length bytes - 0)) whole
+      ∙ cond-true _ _ _ text
