@@ -1,4 +1,9 @@
 -- Reading one byte of UTF-8.
+--
+-- A state says how many bytes are missing, and between which bounds the next one lies. If a byte leads to a next state,
+-- bytes complete the state after it exactly if they complete the next one; if it leads to none, no bytes that begin
+-- with it complete the state (`steps`). A byte that may go on with a character begins none, because the bounds lie
+-- within 0x80 and 0xBF (`IsInner`).
 use Rattle.std.proofs.Common.{◌≡◌, ℕ, zero, suc, ◌-◌, ◌<◌, ◌≤◌, Bool, true, false, cond, ◌&&◌, ltb, leb, List, ◌∷◌}
 use Rattle.std.proofs.Common.{refl, sym, subst, inl, inr, arith, lt-ltb, le-leb, ne_eqb, Option, Some, None}
 use Rattle.std.proofs.lemmas.Bool.{and_parts, and_from, both_ways, cond-true, ltb-true, ltb-false, leb-true}

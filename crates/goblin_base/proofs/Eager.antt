@@ -1,4 +1,9 @@
 -- Lists of records that are read one after another.
+--
+-- A loop that reads one record after another keeps where it is, which records it has, and that the tests of room for
+-- those that are left decide for all (`ReadSoFar`). So it ends with the list, or with the error of the first record
+-- that doesn't lie in the bytes. A division finds that record: all fit (`all_fit`), or it is the one after those that
+-- fit (`first_without`).
 use Rattle.std.proofs.Common.{◌≡◌, ◌<◌, ◌≤◌, ◌+◌, ◌*◌, ◌/◌, ◌-◌, ℕ, zero, suc, List, [], ◌∷◌, ◌++◌, length, take, drop}
 use Rattle.std.proofs.Common.{false, nat_lt, Result, Ok, Err, refl, sym, ap, ◌∙◌, arith}
 use Rattle.std.proofs.Math.Nat.{le-div_iff_mul-le, div-lt_iff_lt-mul, div-mul-le_self}

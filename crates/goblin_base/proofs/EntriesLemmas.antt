@@ -1,4 +1,8 @@
 -- Entries stored as places.
+--
+-- A stored place stands for the bytes from it up to one before the next place. A place is added where the last entry
+-- closed, so the entries before it stay the same (`between_push`), and in the walk it is the next entry of the
+-- definition (`walked_text`, `walked_empty`).
 use Rattle.std.proofs.Common.{◌≡◌, ℕ, zero, suc, ◌+◌, ◌-◌, ◌<◌, ◌≤◌, true, false, take, drop, List, [], ◌∷◌, ◌++◌}
 use Rattle.std.proofs.Common.{length, get_or, refl, sym, ap, subst, ◌∙◌, arith}
 use Rattle.std.specs.List.{slice_range}

@@ -1,4 +1,8 @@
 -- The strings of a table, joined, are its bytes.
+--
+-- If each whole piece is UTF-8, the entry at the start of one is that piece, and the next entry begins after its
+-- delimiter. So the entries from a start on, joined, are the bytes from there on, by induction on the bytes that are
+-- left (`joined_from`). After a delimiter at the end no entry begins: that one is what `tail` adds.
 use Rattle.std.proofs.Common.{◌≡◌, ℕ, zero, suc, ◌+◌, ◌-◌, ◌<◌, ◌≤◌, ⊎_elim, true, false, cond, eqb, List, [], ◌∷◌}
 use Rattle.std.proofs.Common.{◌++◌, map, length, get_or, take, drop, refl, sym, ap, ◌∙◌, arith, append_assoc}
 use Rattle.std.proofs.lemmas.Bool.{cases_lt, cases_Bool, cond-true, cond-false, lt-ltb, le-ltb, eqb-true, and_from}

@@ -1,4 +1,8 @@
 -- Where the last piece before an offset begins: by the mask of sixteen bytes, or by a byte.
+--
+-- No bit of a mask of r binary digits is set from r on, and the one before is: so the last marked byte of sixteen is
+-- found by counting leading zeros (`last_is`). A piece begins after the last delimiter: in these bytes if one of them
+-- is it (`start_in`), and otherwise where it begins for the bytes before them (`start_across`).
 use Rattle.std.proofs.Common.{◌≡◌, ◌≢◌, ℕ, zero, suc, ◌+◌, ◌-◌, ◌*◌, ◌/◌, ◌%◌, ◌^◌, ◌<◌, ◌≤◌, eqb}
 use Rattle.std.proofs.Common.{Bool, true, false, cond, List, map, length, get_or, refl, sym, ap, subst, ◌∙◌}
 use Rattle.std.proofs.Common.{⊎_elim, arith}

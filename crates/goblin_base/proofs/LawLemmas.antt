@@ -1,4 +1,8 @@
 -- The laws of string tables.
+--
+-- If a strict walk succeeds, no whole piece is bad (`good_if_walked`): joining the strings and the strict look-up rest
+-- on that. If strict mode accepts a range, permissive mode cuts out the same bytes (`range_alike`), and the table of a
+-- range is that of its bytes: the laws of ranges rest on these two.
 use Rattle.std.proofs.Common.{◌≡◌, ℕ, ◌+◌, ◌-◌, ◌^◌, ◌<◌, ◌≤◌, ⊎_elim, Bool, true, false, cond, not, ltb, leb, List, []}
 use Rattle.std.proofs.Common.{length, take, drop, map, refl, sym, ap, ◌∙◌, arith, Some, Result, Ok, Err}
 use Rattle.std.proofs.lemmas.Bool.{cases_lt, cases_Bool, cond-true, cond-false, lt-ltb, le-ltb, both_ways}

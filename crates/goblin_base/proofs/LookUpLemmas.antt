@@ -1,4 +1,8 @@
 -- A look-up among the entries is the look-up in the bytes.
+--
+-- The entry that follows the last one at or before an offset begins after the offset (`entry_at`). If the last one's
+-- piece is UTF-8, the offset is in it, and the piece at the offset is the rest of it (`piece_rest`), which is UTF-8
+-- exactly if a character begins there. Otherwise the entry is empty and stands at the offset itself (`look_up`).
 use Rattle.std.proofs.Common.{◌≡◌, ℕ, zero, suc, ◌+◌, ◌-◌, ◌<◌, ◌≤◌, ⊎_elim, true, false, List, [], ◌∷◌, length, get_or}
 use Rattle.std.proofs.Common.{take, drop, refl, sym, ap, subst, ◌∙◌, arith, Option, Some, None}
 use Rattle.std.proofs.lemmas.Bool.{cases_lt, cases_Bool, cond-true, cond-false, lt-ltb, le-ltb, both_ways}

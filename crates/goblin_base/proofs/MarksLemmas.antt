@@ -1,4 +1,8 @@
 -- Marks of sixteen bytes: what they say of the bytes from a place on.
+--
+-- Shifting a mask down leaves the bits of the bytes from a place on (`mask_down`), so the lowest of them is at the next
+-- byte that passes the test (`next_is`). In the mask of the delimiter that is where the piece ends (`next_delim`); in
+-- the mask of the bytes from 128 on it says whether the piece is ASCII up to there (`ascii_more`).
 use Rattle.std.proofs.Common.{◌≡◌, ℕ, zero, suc, ◌+◌, ◌-◌, ◌/◌, ◌^◌, ◌<◌, ◌≤◌, ◌↔◌, eqb, leb, Bool, true, false}
 use Rattle.std.proofs.Common.{not, ◌&&◌, List, [], ◌∷◌, map, take, drop, length, get_or, shr-shr, refl, sym, ap, ◌∙◌}
 use Rattle.std.proofs.Common.{⊎_elim, arith}

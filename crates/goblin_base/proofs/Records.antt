@@ -1,4 +1,8 @@
 -- The records of a table.
+--
+-- The record with an index is the one that its own bytes are read as (`get_records`). These are as many as it needs, so
+-- reading them doesn't fail (`read_field`, `read_first`). What an iterator takes is the first record, and what is left
+-- are the records of the bytes after it (`next_is`).
 use Rattle.std.proofs.Common.{◌≡◌, ◌<◌, ◌≤◌, ◌+◌, ◌*◌, ◌-◌, ℕ, zero, suc, List, [], ◌∷◌, ◌++◌, map, length, take, drop}
 use Rattle.std.proofs.Common.{Option, Some, None, Result, Ok, refl, sym, ap, ◌∙◌, arith}
 use Rattle.std.specs.List.{slice_get, slice_range, range_with_len}

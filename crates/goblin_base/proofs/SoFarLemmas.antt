@@ -1,4 +1,8 @@
 -- What the walk has found when it comes to an offset i.
+--
+-- The piece at i, if it is UTF-8, is the next entry of the definition (`entry_of_text`), so the entries so far and
+-- those from there on stay all entries (`found_more`). While each piece was text, no bad piece begins before i: so a
+-- piece at i that isn't text is the first bad one, where strict mode fails (`walked_fault`).
 use Rattle.std.proofs.Common.{◌≡◌, ℕ, ◌+◌, ◌-◌, ◌<◌, ◌≤◌, ⊎_elim, true, false, cond, ltb, List, [], ◌∷◌, ◌++◌, length}
 use Rattle.std.proofs.Common.{refl, sym, ap, ◌∙◌, arith, Ok, Err, append_assoc, append-nil}
 use Rattle.std.proofs.lemmas.Bool.{cases_lt, both_ways, cond-true, cond-false, lt-ltb, le-ltb, false≢true}

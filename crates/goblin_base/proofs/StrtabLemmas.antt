@@ -1,4 +1,8 @@
 -- From ranges and walks to string tables.
+--
+-- The table of a range is defined in steps that can fail. Where the range is cut out, it is the table of these bytes
+-- (`strtab_in_range`); where the walk succeeds, it has all entries (`walked_entries`). A look-up in it is the one in
+-- the bytes, because its entries are theirs (`look_up_among`).
 use Rattle.std.proofs.Common.{◌≡◌, ℕ, ◌+◌, ◌-◌, ◌≤◌, Bool, true, false, cond, ltb, drop, List, [], length, get_or, refl}
 use Rattle.std.proofs.Common.{sym, ap, subst, ◌∙◌, ◌<◌, ⊎_elim, not, arith, Option, None, Result, Ok, Err}
 use Rattle.std.proofs.lemmas.Bool.{cases_lt, cond-true, cond-false, lt-ltb, le-ltb}

@@ -1,4 +1,9 @@
 -- The plain walk, entry by entry and offset by offset.
+--
+-- The offset after an entry passes the test of `is_entry_place` if the entry's offset does (`entry_place_next`), and
+-- none between the two passes it (`inside_entry`). So the entries of the walk are those of the offsets that pass it,
+-- each tested for itself (`entries_closed`). Inside a piece no other whole piece begins (`no_bad_start_inside`), so
+-- strict mode, which tests each piece from its start, fails where `first_bad` says (`first_bad_is`).
 use Rattle.std.proofs.Common.{◌≡◌, ℕ, zero, suc, ◌+◌, ◌-◌, ◌<◌, ◌≤◌, ⊎_elim, true, false, cond, ltb, List, [], ◌∷◌, map}
 use Rattle.std.proofs.Common.{length, refl, sym, ap, subst, ◌∙◌, arith}
 use Rattle.std.proofs.lemmas.Bool.{cases_lt, cases_Bool, cond-true, cond-false, lt-ltb, le-ltb, eq-eqb, ne_eqb}

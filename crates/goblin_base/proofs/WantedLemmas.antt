@@ -1,4 +1,8 @@
 -- Names among the strings of a table.
+--
+-- A text that stands at an offset and doesn't contain the delimiter is the piece there (`piece-name`). The piece itself
+-- stands there and doesn't contain it (`piece-stands`, `piece-apart`). So comparing bytes decides whether the piece is
+-- the text, without a search for the piece's end, and the UTF-8 of the name is that of the piece (`stands_Decides`).
 use Rattle.std.proofs.Common.{◌≡◌, ℕ, ◌<◌, ◌≤◌, Bool, true, false, if◌then◌else◌, not, ◌&&◌, eqb, leb, ltb, List}
 use Rattle.std.proofs.Common.{length, get_or, take, drop, refl, sym, ap, subst, ◌∙◌, ⊎_elim, arith, Ok, Err}
 use Rattle.std.proofs.lemmas.Bool.{cases_lt, le-leb, leb-true, and_parts, and_from, or_cases, or_left, or_right}
