@@ -1,3 +1,6 @@
+-- In each branch the raw header that was read, widened, is the header of either class (`read_header-raw`): the tests
+-- before it have shown that the bytes are long enough, start with the magic number and name the class of the branch
+-- (`Begins`). Only the class differs between the two.
 use Rattle.std.proofs.Common.{refl, sym, ◌∙◌}
 use Rattle.goblin_base.specs.declared.container.Container.TheVariants as class
 use Rattle.goblin_headers.specs.Header.{widened32, widened64, header32_of, header64_of}
