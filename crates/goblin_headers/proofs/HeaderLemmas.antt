@@ -1,4 +1,9 @@
 -- Headers of each class and of both: an identification as it is, followed by numbers of given widths.
+--
+-- The laws are proved once, for any header that is an identification and then numbers (`layout_laws`): the numbers by
+-- the laws of fields, the identification because it is the first 16 bytes. A header of either class has them because
+-- widening and narrowing undo each other (`widened_laws`). What bytes are read as a header follows from the laws alone
+-- (`one_header_image`).
 use Rattle.std.proofs.Common.{◌≡◌, ◌≤◌, ◌+◌, ℕ, List, [], ◌++◌, length, take, refl, sym, ap, ◌∙◌, arith}
 use Rattle.std.proofs.Math.Seq.{take-add}
 use Rattle.std.proofs.lemmas.List.{append_assoc, append-nil, length-append, take_all, take_at}

@@ -1,5 +1,9 @@
 -- Headers of one class are read back from the bytes that they were written as, and written back as those they were read
 -- from.
+--
+-- The image begins with the identification, whose data byte names the byte order: so what is written in that order is
+-- read in it too (`raw_reads_back`). What was read says in which order and that the bytes were enough
+-- (`was_read_in_order`), so it is written in that order, over the same bytes (`raw_writes_back`).
 use Rattle.std.proofs.Common.{◌≡◌, ◌<◌, ◌≤◌, ℕ, List, ◌++◌, length, take, drop, slice_index, Some, Result, Ok, refl, ap}
 use Rattle.std.proofs.Common.{◌∙◌, arith}
 use Rattle.std.proofs.lemmas.List.{append_assoc, get_or_append_left, get_or-take, length-append, take-append-drop}

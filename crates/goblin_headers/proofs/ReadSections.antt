@@ -1,4 +1,9 @@
 -- Lemmas for reading the section headers of a file.
+--
+-- The first header is read from its own bytes alone, and decides how many are asked for (`same_first`, `first_counts`).
+-- If the bytes don't hold it, the list and its tests are refused with that error (`first_tested`). Otherwise the list
+-- is that of so many records, and the test that is left is whether the bytes could hold so many (`from_is`,
+-- `all_tested`).
 use Rattle.std.proofs.Common.{◌≡◌, ◌<◌, ◌≤◌, ◌/◌, ◌+◌, ℕ, List, length, take, drop, codes, max, nat_lt, true, false}
 use Rattle.std.proofs.Common.{Result, Ok, Err, IfErr, inl, inr, refl, sym, ap, ◌∙◌, arith}
 use Rattle.std.proofs.lemmas.Bool.{cases_lt}

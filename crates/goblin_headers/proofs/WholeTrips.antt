@@ -1,5 +1,9 @@
 -- Headers of either class are read back from the bytes that they were written as, and written back as those they were
 -- read from.
+--
+-- They go as those of one class, with two tests more: the image begins with the identification, so the magic number and
+-- the class byte are read as they were written (`reads_back`). A header that was read names the class and the byte
+-- order of its bytes (`came_from`), so it is written as it was read (`writes_back`).
 use Rattle.std.proofs.Common.{◌≡◌, ◌≤◌, ℕ, true, nat_eq, List, [], ◌++◌, length, take, drop, slice_index, Some, Result}
 use Rattle.std.proofs.Common.{Ok, refl, sym, ap, ◌∙◌, arith, rules}
 use Rattle.std.specs.List.{starts_with}

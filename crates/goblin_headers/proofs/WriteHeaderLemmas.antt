@@ -1,4 +1,8 @@
 -- Lemmas for writing a header.
+--
+-- After the identification the fields are written one after another, which leaves the image and the rest of the buffer
+-- (`with_header`). A header of either class is written as the raw one of its class: for the 32-bit class that has the
+-- low bits alone, but these have the same image (`image-low32`).
 use Rattle.std.proofs.Common.{◌≡◌, ◌≤◌, ◌+◌, ℕ, List, ◌++◌, length, take, drop, Result, Ok, Err, refl, sym, ap, ◌∙◌}
 use Rattle.std.proofs.Common.{arith, slice_index, subst, Some}
 use Rattle.std.proofs.lemmas.List.{append_assoc, take_at, drop_at, drop-drop, length-append, length-drop}
