@@ -1,3 +1,5 @@
+-- The function has no code: each clause is a lemma about definitions. An image is the only one because the layouts keep
+-- the laws of records (`one_image`). What holds of an `r_info` is proved in RelocInfoLaws.
 use Rattle.goblin_base.specs.declared.container.Container.TheVariants.{Big}
 use Rattle.goblin_base.specs.LayoutLaws.{one_image}
 use Rattle.goblin_records.specs.RelocLaws.{rel64_laws, rela64_laws}
