@@ -1,3 +1,6 @@
+-- From the end of the bytes on the definitions have no note and no places (`note_at-past`, `places_at-past`). Before it
+-- they read the rest of the bytes, as the function does (`places_at-before`, `note_at-read`). That the places lie
+-- inside the bytes is a law of the definition (`read-within`).
 use Rattle.std.proofs.Common.{arith}
 use Rattle.goblin.proofs.NoteLemmas.{places_at-before, places_at-past, note_at-past, note_at-read, read-within}
 use Rattle.goblin.proofs.elf.note.Note.at.Goals as goal

@@ -1,3 +1,7 @@
+-- The items that are left begin with what the function returns, in each of its three cases: there are none from the end
+-- of the range on (`note_items-past`); a note is followed by the items from its end on (`note_items-note`), a refusal
+-- by none (`note_items-refusal`). A note has at least the size of its header (`notes_advance`), so fewer headers fit
+-- after it.
 use Rattle.std.proofs.Common.{arith}
 use Rattle.goblin.specs.NoteLaws.{at_ok, notes_advance}
 use Rattle.goblin.proofs.NoteLemmas.{note_items-past, note_items-note, note_items-refusal}

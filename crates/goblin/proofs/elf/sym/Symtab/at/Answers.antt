@@ -1,3 +1,6 @@
+-- After i symbols `found` is the first of the nearest among them, or `None` if none is at the address or below it
+-- (`one_more`). After all symbols that is the one which the definition finds (`found_all`). The loop's index is below
+-- the table's length, so `get` returns a symbol (`some-within`).
 use Rattle.std.proofs.Common.{sym, ◌∙◌, arith}
 use Rattle.goblin.proofs.AddressLemmas.{one_more, found_all}
 use Rattle.goblin.proofs.Positions.{some-within}

@@ -1,3 +1,7 @@
+-- Entries rise, so those at the address or below it come first (`up_to_first`), and among these those that are passed
+-- (`passed_first`): each search finds where such a run ends. With no entry at the address or below it there is no
+-- symbol (`nothing_found`). Otherwise the last such entry isn't passed, so the second search ends before it or at it
+-- (`first_inside`), at the entry of the symbol (`found_symbol`).
 use Rattle.std.proofs.Common.{sym, ◌∙◌, arith}
 use Rattle.goblin.proofs.AddressIndexLemmas.{first_inside, found_symbol, nothing_found, passed_first, up_to_first}
 use Rattle.goblin.proofs.elf.sym.Symtab.at_in.Goals as goal

@@ -1,3 +1,6 @@
+-- After i entries those that are kept stand for all of them (`IsKept`). An entry is kept if none is yet, or if it is
+-- higher or larger than the last one (`kept_more`). Otherwise the last one stands for it too, because entries are
+-- sorted by value and index (`kept_same`).
 use Rattle.std.proofs.Common.{sym, ◌∙◌, refl, arith}
 use Rattle.goblin.proofs.AddressIndexSteps.{kept_more, kept_same}
 use Rattle.goblin.proofs.elf.sym.Symtab.keep_larger.Goals as goal

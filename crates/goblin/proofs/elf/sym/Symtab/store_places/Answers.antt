@@ -1,3 +1,6 @@
+-- After i symbols the first `filled` entries are those that have a place (`ArePlaced`). There is room for each, because
+-- the entries are as many as the symbols that have one (`has_room`). So in the end no entry is left over: each names
+-- such a symbol (`each_placed`), and each such symbol has an entry (`each_contained`).
 use Rattle.std.proofs.Common.{◌≡◌, ℕ, length, rules, sym, subst, ◌∙◌, arith}
 use Rattle.goblin.proofs.AddressIndexSteps.{ArePlaced, each_contained, each_placed, has_room, placed_more, placed_same}
 use Rattle.goblin.proofs.Positions.{some-within}
