@@ -1,4 +1,10 @@
 -- A search by halves in an index of addresses finds the symbol for an address.
+--
+-- The first search ends after the entries at the address or below it. The second ends at the first of these that is as
+-- high as the last one, and reaches past the address if the last one does (`stays`). Each symbol at the address or
+-- below it has an entry among these that stands for it (`stands_for`). So none is higher than the symbol that is found,
+-- none that is as high reaches past the address unless that one does, and none that is as near comes earlier (`comes`):
+-- only the symbol of the definition is so (`found_is`).
 use Rattle.std.proofs.Common.{◌≡◌, ◌≤◌, ◌<◌, ◌+◌, ◌-◌, ◌&&◌, ◌||◌, not, ℕ, Bool, true, false, ltb, leb, List}
 use Rattle.std.proofs.Common.{length, get_or, take, slice_get, slice_index, Some, None, inl, inr}
 use Rattle.std.proofs.Common.{refl, sym, ap, ◌∙◌, arith}

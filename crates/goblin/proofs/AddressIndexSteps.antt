@@ -1,4 +1,8 @@
 -- How an index of addresses is made: its entries are stored, sorted, and those that stand for others are kept.
+--
+-- The stored entries are those of the symbols that have a place (`each_placed`, `each_contained`), and sorting only
+-- moves them. Of the sorted ones an entry is kept if it is higher or larger than the last one kept, so those kept rise
+-- (`kept_more`); for any other the last one kept stands (`kept_same`). `is_index` puts the steps together.
 use Rattle.std.proofs.Common.{◌≡◌, ◌≤◌, ◌<◌, ◌+◌, ◌-◌, ◌||◌, ℕ, zero, suc, true, false, ltb, List, length, get_or}
 use Rattle.std.proofs.Common.{take, slice_get, slice_index, slice_set, Some, inl, inr, refl, sym, ap, subst, ◌∙◌, arith}
 use Rattle.std.proofs.lemmas.Bool.{cases_lt, false≢true}

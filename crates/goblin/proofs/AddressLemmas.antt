@@ -1,4 +1,8 @@
 -- The symbol that is found for an address comes first of all that are at it or below it.
+--
+-- How near a symbol is makes one number (`rank_of`). A search keeps the first symbol with the highest such number
+-- (`IsSoFar`, `one_more`). The definition has the same one, as no symbol is nearer and none before it is as near
+-- (`found_is`); and so has the law, in its own words (`found_comes_first`, `first_is_found`).
 use Rattle.std.proofs.Common.{◌≡◌, ◌≤◌, ◌<◌, ◌+◌, ◌*◌, ◌&&◌, ◌||◌, not, ℕ, zero, suc, Bool, true, false, ltb, eqb, cond}
 use Rattle.std.proofs.Common.{if◌then◌else◌, List, [], ◌∷◌, length, get_or, slice_get, Option, Some, None, inl, inr}
 use Rattle.std.proofs.Common.{refl, sym, ap, subst, ◌∙◌, arith}

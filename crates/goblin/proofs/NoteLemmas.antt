@@ -1,4 +1,8 @@
 -- Lemmas for reading notes and for the notes' iterators.
+--
+-- Reading at an offset is reading the rest of the bytes from there on. What holds of the items of a range follows from
+-- one step of their definition (`note_by_note`): at the range's end there is none, and before it there is one, which is
+-- the last if it is a refusal.
 use Rattle.std.proofs.Common.{◌≡◌, ◌+◌, ◌-◌, ◌<◌, ◌≤◌, ℕ, min, List, [], ◌∷◌, length, take, drop, Result, Ok, Err, IfOk}
 use Rattle.std.proofs.Common.{inl, inr, refl, ◌∙◌, arith}
 use Rattle.std.proofs.lemmas.Bool.{cases_lt, le-leb, lt-leb}

@@ -1,4 +1,7 @@
 -- The ranges of notes that an iterator goes through.
+--
+-- A range yields an item exactly before its end (`unspent`, `at_end`). So a range that yields none doesn't change, and
+-- the items after it are all that are left (`skipped`); one that yields an item is the only one that changes (`moved`).
 use Rattle.std.proofs.Common.{◌≡◌, ◌+◌, ◌<◌, ◌≤◌, ℕ, List, [], ◌∷◌, ◌++◌, Result, length, take, drop, get_or, set, inl}
 use Rattle.std.proofs.Common.{inr, refl, sym, ap, ◌∙◌, arith, add-one, drop-cons}
 use Rattle.std.proofs.lemmas.Bool.{cases_lt, le-leb, lt-ltb, le-ltb}
