@@ -5,4 +5,7 @@ use Rattle.goblin_c.proofs.lists.fill.Given as goal
 abbrev pub invariant-loop-i : goal.invariant-loop-i
 invariant-loop-i g l =
     let all = g.L.Listed.listed l.all in
-    (l.first + l.i ≤ length all) × (l.buffer ≡ laid (take l.i (drop l.first all)) l.initial.buffer)
+    record {
+      within : l.first + l.i ≤ length all;
+      filled : l.buffer ≡ laid (take l.i (drop l.first all)) l.initial.buffer;
+    }

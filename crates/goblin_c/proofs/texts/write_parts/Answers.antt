@@ -1,4 +1,7 @@
-use Rattle.std.proofs.Common.{ℕ, ◌++◌, ◌+◌, ◌∙◌, ap, append_assoc, arith, sym, take}
+-- After each part the buffer holds the text of the parts so far, or as much of it as fits, and `len` is the length of
+-- that text (`laid-part`, `long-part`): with one part more the text goes on with that part's (`joined_more`). The
+-- length is bounded because there are at most 16 parts, each of at most 100 bytes (`short_parts`).
+use Rattle.std.proofs.Common.{ℕ, List, length, ◌≤◌, ◌++◌, ◌+◌, ◌∙◌, ap, append_assoc, arith, sym, take}
 use Rattle.goblin_base.specs.Texts.{facts_of, joined, prefix}
 use Rattle.goblin_base.proofs.PartsLemmas.{joined_more}
 use Rattle.goblin_c.proofs.TextLemmas.{laid-part, long-part, short_parts}
@@ -6,25 +9,31 @@ use Rattle.goblin_c.proofs.texts.write_parts.Goals as goal
 
 pub write_part-len-requires-clause-part : goal.write_part-len-requires-clause-part
 write_part-len-requires-clause-part c =
-    (short_parts c.parts-parts.result.now c.parts-parts.ensures.bound).1 c.loop-part.part-index _ c.loop-part-test.true
+    let each_short = (short_parts c.parts-parts.result.now c.parts-parts.ensures.bound).1 in
+    each_short c.loop-part.part-index _ c.loop-part-test.true
 
 pub loop-part-preserved : goal.loop-part-preserved
 loop-part-preserved c =
     let l = c.loop-part in
+    let start = prefix c.args.report.now.kind in
     let facts = facts_of c.args.report.now in
     let parts = c.parts-parts.result.now in
-    let done = c.write_part-len.ensures in
-    let text = λ (n : ℕ). prefix c.args.report.now.kind ++ joined facts (take n parts) in
+    let text : ℕ → List ℕ = λ n. start ++ joined facts (take n parts) in
+    let now = text l.part-index in
+    let then = text (l.part-index + 1) in
+    let wrote = c.write_part-len.ensures in
     let more =
-    ap (λ rest. prefix c.args.report.now.kind ++ rest) (joined_more facts parts l.part-index _ c.loop-part-test.true)
-    ∙ sym (append_assoc (prefix c.args.report.now.kind) (joined facts (take l.part-index parts)) _) in (
-      laid-part (text l.part-index)
-          (text (l.part-index + 1)) _ c.args.buffer.now l.buffer c.write_part-len.new.buffer l.len more l.invariant.0
-          l.invariant.1 done.written,
-      long-part (text l.part-index)
-          (text (l.part-index + 1)) _ c.write_part-len.result l.len more l.invariant.1 done.value,
-      omega arith,
-    )
+    ap (λ rest. start ++ rest) (joined_more facts parts l.part-index _ c.loop-part-test.true)
+    ∙ sym (append_assoc start (joined facts (take l.part-index parts)) _) in
+    record {
+      written = laid-part now then _ c.args.buffer.now l.buffer c.write_part-len.new.buffer l.len more
+          l.invariant.written l.invariant.value wrote.written;
+      value = long-part now then _ c.write_part-len.result l.len more l.invariant.value wrote.value;
+      bound = omega (arith, wrote.bound, l.invariant.bound);
+    }
 
 pub returns-clause-bound : goal.returns-clause-bound
-returns-clause-bound c = omega (arith, (short_parts c.parts-parts.result.now c.parts-parts.ensures.bound).0)
+returns-clause-bound c =
+    let few : length c.parts-parts.result.now ≤ 16 =
+    (short_parts c.parts-parts.result.now c.parts-parts.ensures.bound).0 in
+    omega (arith, few)

@@ -6,4 +6,8 @@ use Rattle.goblin_c.proofs.texts.write_parts.Given as goal
 abbrev pub invariant-loop-part : goal.invariant-loop-part
 invariant-loop-part l =
     let text = prefix l.report.kind ++ joined (facts_of l.report) (take l.part-index l.parts) in
-    (l.buffer ≡ laid text l.fn.buffer) × (l.len ≡ length text) × (l.len ≤ 100 + l.part-index * 100)
+    record {
+      written : l.buffer ≡ laid text l.fn.buffer;
+      value : l.len ≡ length text;
+      bound : l.len ≤ 100 + l.part-index * 100;
+    }
