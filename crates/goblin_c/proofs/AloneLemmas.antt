@@ -1,4 +1,9 @@
 -- Records by index whatever the others are, and where records lie.
+--
+-- The records of a list that isn't refused stand one after another in the file (`IsListed`). So the record with an
+-- index is read from its own bytes, which lie in the file (`look`), and read alone it is the same (`same_alone`): its
+-- offset isn't cut to 64 bits, because no slice is so long. A record alone is stored exactly if its index is below the
+-- count and its bytes lie in the file (`whole_alone`).
 use Rattle.std.proofs.Common.{◌≡◌, ◌≤◌, ◌<◌, ◌+◌, ◌-◌, ◌*◌, ◌/◌, ℕ, Bool, true, false, nat_le, min, List, length}
 use Rattle.std.proofs.Common.{take}
 use Rattle.std.proofs.Common.{drop, map, slice_get, Option, Some, None, Result, Ok, Err, if◌then◌else◌, refl, sym, ap}

@@ -1,4 +1,7 @@
 -- Items by index are those of the library's lists, in the context that a file's header names.
+--
+-- A header names one context, so the context that C hands back is the one that is asked for (`one_context`). The item
+-- for C at an index is the one that the library's item at that index is converted to (`listed`).
 use Rattle.std.proofs.Common.{◌≡◌, ◌+◌, ◌<◌, ◌≤◌, ◌==◌, ℕ, zero, suc, Bool, true, false, nat_le, if◌then◌else◌, List}
 use Rattle.std.proofs.Common.{[], ◌∷◌, length, drop, slice_get, slice_index, Option, Some, None, Result, Ok, Err}
 use Rattle.std.proofs.Common.{refl, sym, ap, subst, ◌∙◌, arith}

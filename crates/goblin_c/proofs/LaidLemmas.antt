@@ -1,4 +1,8 @@
 -- A buffer that is filled item by item.
+--
+-- A buffer that holds the first items of a list has room for the next one right after them (`laid-more`), so each step
+-- of a loop adds one (`laid-step`). Once they are as many as the list or the buffer has, they are all that the buffer
+-- can hold (`laid-enough`).
 use Rattle.std.proofs.Common.{◌≡◌, ◌<◌, ◌≤◌, ◌+◌, ◌-◌, min, ℕ, zero, suc, List, [], ◌∷◌, ◌++◌, length, take, drop}
 use Rattle.std.proofs.Common.{get_or, Some, None, slice_get, take_all, refl, sym, ap, ◌∙◌, arith}
 use Rattle.std.proofs.Math.ListN.{set}

@@ -1,4 +1,7 @@
 -- The lists of records that calls read, and the record with an index of them.
+--
+-- A list that was read passed the test of room for each of its records, so all of them lie in the bytes (`each_fits`).
+-- The record with an index is then the one that its own bytes are read as (`item_at`).
 use Rattle.std.proofs.Common.{◌≡◌, ◌≤◌, ◌<◌, ◌+◌, ◌-◌, ◌*◌, ◌/◌, ◌^◌, ◌==◌, ℕ, zero, suc, Bool, true, false, nat_le}
 use Rattle.std.proofs.Common.{nat_lt}
 use Rattle.std.proofs.Common.{List, [], length, take, drop, max, slice_get, Some, None, Result, Ok, Err}

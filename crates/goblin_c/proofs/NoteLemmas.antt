@@ -1,4 +1,8 @@
 -- Notes one by one are the items of their range.
+--
+-- What a call stores is one step of the definition of a range's items: the note at the offset, and the items from the
+-- next offset on (`items_there`). So several calls, each at the offset that the last one stored, store as many items
+-- (`in_a_row`). The parts of a note lie in the file because its places do (`notes_lie_in_file`).
 use Rattle.std.proofs.Common.{◌≡◌, ◌+◌, ◌-◌, ◌<◌, ◌≤◌, ℕ, zero, suc, Bool, true, false, nat_le, if◌then◌else◌, List}
 use Rattle.std.proofs.Common.{[], ◌∷◌}
 use Rattle.std.proofs.Common.{length, take, drop, Option, Some, None, Result, Ok, Err, refl, sym, ap, subst, ◌∙◌, arith}

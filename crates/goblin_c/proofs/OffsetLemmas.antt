@@ -1,4 +1,9 @@
 -- Offsets of addresses, numbers in ranges, and ranges that are cut to the file.
+--
+-- Cutting a range to the file keeps its bytes, because no range has bytes past the file's end (`same_bytes`). A number
+-- is read only after the tests of room for its range and for itself (`number_by`). The library's search stops at the
+-- first segment that passes its test (`first_loads`, `none_loads`), and the test is the one that is stated for C
+-- (`loads-Decides`).
 use Rattle.std.proofs.Common.{◌≡◌, ◌≤◌, ◌<◌, ◌+◌, ◌-◌, ◌^◌, ◌==◌, ◌&&◌, ℕ, zero, suc, Bool, true, false, true≢false}
 use Rattle.std.proofs.Common.{nat_le}
 use Rattle.std.proofs.Common.{nat_lt, min, List, [], ◌∷◌, length, take, drop, find, slice_get, Option, Some, None}

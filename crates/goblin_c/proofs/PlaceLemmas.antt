@@ -1,4 +1,8 @@
 -- Where the bytes of stored ranges lie.
+--
+-- A range is stored only after the test of room for it (`range_lies`). The bytes of a string are the piece at its
+-- offset, which is no longer than the strings from there on (`piece_short`, `stored_piece`): so what is compared with
+-- the piece is compared with the file's bytes at the range that is stored (`compared_by`).
 use Rattle.std.proofs.Common.{◌≡◌, ◌↔◌, ◌≤◌, ◌<◌, ◌+◌, ◌-◌, ◌==◌, ℕ, Bool, true, false, true≢false, if◌then◌else◌}
 use Rattle.std.proofs.Common.{List, length, take, drop, Option, Some, None, Result, Ok, Err, refl, sym, ap, subst, ◌∙◌}
 use Rattle.std.proofs.Common.{arith}

@@ -1,4 +1,8 @@
 -- Looking for the first item that passes a test, from an index on.
+--
+-- The library's test decides what is asked of the item for C. Each item for C was converted from one of the list
+-- (`converted_one`), and the library's search stops at the first of these that passes its test: so none for C before it
+-- is so, and none at all if the search finds none (`finds`).
 use Rattle.std.proofs.Common.{◌≡◌, ◌≤◌, ◌<◌, ◌+◌, ◌-◌, ◌==◌, ℕ, zero, suc, Bool, true, false, true≢false, List, [], ◌∷◌}
 use Rattle.std.proofs.Common.{length, map, drop, get_or, slice_get, Option, Some, None, Result, Ok, Err, position, refl}
 use Rattle.std.proofs.Common.{sym, ap, subst, ◌∙◌, arith}

@@ -1,4 +1,9 @@
 -- Strings at the ranges that calls store, and what is found by its name.
+--
+-- A string that a call stores was read at an offset of the string table (`string_is`), and the table's bytes are those
+-- of its range (`in_range`): so the string stands in the file at both offsets together (`piece_there`). The library's
+-- look-up passes a name exactly if a call stores a string with its bytes (`named-Decides`), so the first item that it
+-- finds is the first with that name (`by_name`).
 use Rattle.std.proofs.Common.{◌≡◌, ◌+◌, ◌-◌, ◌<◌, ◌≤◌, ◌==◌, ℕ, Bool, true, nat_le, nat_lt, List, length, take, drop}
 use Rattle.std.proofs.Common.{min, map, position, slice_get, Option, Some, Result, Ok, Err, inl, inr, refl, sym, ap}
 use Rattle.std.proofs.Common.{subst, ◌∙◌, arith}
