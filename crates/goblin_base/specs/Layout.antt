@@ -4,7 +4,8 @@ use Rattle.goblin_base.specs.declared.container.Container.{Container}
 use Rattle.goblin_base.specs.declared.container.Container.TheVariants.{Little, Big}
 use Rattle.goblin_base.specs.declared.container.Endian.{Endian}
 use Rattle.goblin_base.specs.declared.error.Error.{Error}
-use Rattle.goblin_base.specs.Fields.{Field, FieldsFit, image_of_fields, values_at, fields_at, total, widths_of, values_of, lows_of}
+use Rattle.goblin_base.specs.Fields.{Field, FieldsFit, image_of_fields, values_at, fields_at, total, widths_of}
+use Rattle.goblin_base.specs.Fields.{values_of, lows_of}
 use Rattle.goblin_base.specs.Number.{IsBytes}
 use Rattle.goblin_base.specs.Record.{Writes}
 use Rattle.goblin_base.specs.Table.{records}
@@ -57,7 +58,8 @@ converted widen narrow BothFit l = record {
   Fits = BothFit;
 }
 
--- what a shape must state; `low` keeps the low bits of each field, and `Fits` says that each is in the range of its width
+-- what a shape must state; `low` keeps the low bits of each field, and `Fits` says that each is in the range of its
+-- width
 pub record IsShape {R : Type 0} (s : Shape R) (low : R → R) (Fits : R → Type 0) : Type 0 where
   -- there is at least one byte
   pub size_positive : 0 < total (widths s)
@@ -87,7 +89,8 @@ pub record IsRecord {R : Type 0} (l : Layout R) : Type 0 where
   -- of any record the low bits are read back
   pub reads_low : (x : R) → l.read (l.image x) ≡ l.low x
   -- bytes that were read are written back as they were
-  pub writes_back : (bytes : List ℕ) → IsBytes bytes → l.size ≤ length bytes → l.image (l.read bytes) ≡ take l.size bytes
+  pub writes_back : (bytes : List ℕ)
+      → IsBytes bytes → l.size ≤ length bytes → l.image (l.read bytes) ≡ take l.size bytes
 
 -- what every type of records obeys: the laws of reading and writing, and what its writer does
 pub record Obeys {R : Type 0} (size : ℕ) (read : List ℕ → R) (image : R → List ℕ) (Fits : R → Type 0)

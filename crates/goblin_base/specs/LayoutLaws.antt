@@ -7,7 +7,8 @@ use Rattle.goblin_base.specs.declared.container.Endian.{Endian}
 use Rattle.goblin_base.specs.Fields.{Field, values_at, total, widths_of, size_of_fields, image_of_fields}
 use Rattle.goblin_base.specs.FieldLaws.{values_at-append, values_at-image_low, lows_of-fits, image-fields_at}
 use Rattle.goblin_base.specs.FieldLaws.{length-image_of_fields, IsBytes-image_of_fields}
-use Rattle.goblin_base.specs.Layout.{Shape, shaped, widths, IsShape, Layout, converted, IsRecord, Obeys, IsOneImage, IsSameInEachClass}
+use Rattle.goblin_base.specs.Layout.{Shape, shaped, widths, IsShape, Layout, converted, IsRecord, Obeys}
+use Rattle.goblin_base.specs.Layout.{IsOneImage, IsSameInEachClass}
 use Rattle.goblin_base.specs.Number.{IsBytes}
 use Rattle.goblin_base.specs.Record.{Writes}
 use Rattle.goblin_base.specs.TableLaws.{records-flat_map}

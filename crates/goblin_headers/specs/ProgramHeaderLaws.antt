@@ -5,8 +5,8 @@ use Rattle.goblin_base.specs.declared.container.Container.{Container}
 use Rattle.goblin_base.specs.declared.container.Container.TheVariants.{Little, Big}
 use Rattle.goblin_base.specs.Layout.{IsRecord, shaped}
 use Rattle.goblin_base.specs.LayoutLaws.{shape_laws, converted_laws}
-use Rattle.goblin_headers.specs.ProgramHeader.{program_header32, program_header64, program_header_layout, ProgramHeaderFits}
-use Rattle.goblin_headers.specs.ProgramHeader.{as32, as64, widened32, widened64}
+use Rattle.goblin_headers.specs.ProgramHeader.{program_header32, program_header64, program_header_layout}
+use Rattle.goblin_headers.specs.ProgramHeader.{ProgramHeaderFits, as32, as64, widened32, widened64}
 
 -- the laws follow from the lists of fields
 pub program_header32_laws : (order : Endian) → IsRecord (shaped program_header32 order)
@@ -30,6 +30,8 @@ program_header64_laws = shape_laws program_header64 (record {
 -- a program header is the raw one of its class with its fields widened, and different raw ones are widened differently
 pub program_header_laws : (class : Container) (order : Endian) → IsRecord (program_header_layout class order)
 program_header_laws Little order =
-    converted_laws widened32 as32 (ProgramHeaderFits Little) (program_header32_laws order) (λ h fits. (fits, refl)) (λ bytes are room. refl)
+    converted_laws widened32 as32 (ProgramHeaderFits Little) (program_header32_laws order) (λ h fits. (fits, refl))
+    (λ bytes are room. refl)
 program_header_laws Big order =
-    converted_laws widened64 as64 (ProgramHeaderFits Big) (program_header64_laws order) (λ h fits. (fits, refl)) (λ bytes are room. refl)
+    converted_laws widened64 as64 (ProgramHeaderFits Big) (program_header64_laws order) (λ h fits. (fits, refl))
+    (λ bytes are room. refl)
