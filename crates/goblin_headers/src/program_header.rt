@@ -3,10 +3,8 @@ ghost use Rattle.std.specs.Int.{IsBitSet};
 ghost use Rattle.std.specs.Int.Bits.{bit_or};
 ghost use Rattle.std.specs.Prelude.{◌≡◌, ◌≤◌, ◌↔◌, IsTrue, IfErr, IsOk, find, length, replicate, [], ◌∷◌};
 ghost use Rattle.goblin_base.specs.Fields.{values_of};
-ghost use Rattle.goblin_base.specs.Layout.{IsOneImage, IsSameInEachClass};
+ghost use Rattle.goblin_base.specs.Layout.{IsSameInEachClass};
 ghost use Rattle.goblin_base.specs.Refusal.{Answers, Gives, Refuses};
-ghost use Rattle.goblin_base.specs.declared.container.Container.{Container};
-ghost use Rattle.goblin_base.specs.declared.container.Endian.{Endian};
 ghost use Rattle.goblin_headers.specs.Constants.{segment_flag_numbers, segment_type_numbers};
 ghost use Rattle.goblin_headers.specs.ProgramHeader.{as64, program_header64, program_header_layout, program_header_size};
 ghost use Rattle.goblin_headers.specs.ProgramHeaders.{loaded_from, loads, new_program_header, program_header_alone, program_headers_from, program_headers_tested, program_headers_whole};
@@ -267,11 +265,9 @@ impl LaidOut<Ctx> for ProgramHeader {
     ghost layout_laws = { λ ctx. program_header_laws ctx.container ctx.le };
 }
 
-/// Laws of program headers: the image is the only list of bytes that is read as the header, and a
-/// list of headers that fit both classes is read back the same in each class and byte order.
+/// A law: a list of program headers that fit both classes is read back the same in each class and byte
+/// order.
 pub fn laws()
-    ensures image { (class : Container) (order : Endian) →
-        IsOneImage (program_header_layout class order) }
     ensures same { IsSameInEachClass program_header_layout }
 {}
 

@@ -2,10 +2,9 @@
 ghost use Rattle.std.specs.Prelude.{◌≡◌, ◌≤◌, ◌*◌, ◌↔◌, IsTrue, length, IfErr, IfOk, IsOk, alloc_error, replicate, [], ◌∷◌};
 ghost use Rattle.goblin_base.specs.Eager.{records_in, room_of_each};
 ghost use Rattle.goblin_base.specs.Fields.{values_of};
-ghost use Rattle.goblin_base.specs.Layout.{IsOneImage, low_bits, shaped};
+ghost use Rattle.goblin_base.specs.Layout.{low_bits, shaped};
 ghost use Rattle.goblin_base.specs.Refusal.{Gives};
 ghost use Rattle.goblin_base.specs.Table.{records};
-ghost use Rattle.goblin_base.specs.declared.container.Endian.{Endian};
 ghost use Rattle.goblin_headers.specs.Constants.{segment_flag_numbers, segment_type_numbers};
 ghost use Rattle.goblin_headers.specs.ProgramHeader.{program_header32};
 
@@ -162,12 +161,6 @@ impl LaidOut<Endian> for ProgramHeader {
 
     ghost layout_laws = { program_header32_laws };
 }
-
-/// A law: the image of a program header is the only list of bytes that is read as that header.
-pub fn laws()
-    ensures image { (order : Endian) →
-        IsOneImage (shaped program_header32 order) }
-{}
 
 /// A law: every field of the default program header is 0. A call returns that program header.
 pub fn default_is_zeros() -> ProgramHeader

@@ -3,11 +3,9 @@ ghost use Rattle.std.specs.Int.{IsBitSet};
 ghost use Rattle.std.specs.Prelude.{◌≡◌, ◌≤◌, ◌<◌, ◌↔◌, ◌+◌, ◌++◌, ◌^◌, IsTrue, IfErr, IsNone, IsOk, IfSome, length, drop, map, position, replicate, slice_get, [], ◌∷◌};
 ghost use Rattle.std.specs.Option.{option_map};
 ghost use Rattle.goblin_base.specs.Fields.{values_of};
-ghost use Rattle.goblin_base.specs.Layout.{IsOneImage, IsSameInEachClass};
+ghost use Rattle.goblin_base.specs.Layout.{IsSameInEachClass};
 ghost use Rattle.goblin_base.specs.Refusal.{Answers, Gives, Refuses};
 ghost use Rattle.goblin_base.specs.Strtab.{has_name, unparsed};
-ghost use Rattle.goblin_base.specs.declared.container.Container.{Container};
-ghost use Rattle.goblin_base.specs.declared.container.Endian.{Endian};
 ghost use Rattle.goblin_headers.specs.Constants.{section_flag_numbers, section_index_numbers, section_type_numbers};
 ghost use Rattle.goblin_headers.specs.Ranges.{span};
 ghost use Rattle.goblin_headers.specs.SectionHeader.{as64, section_header64, section_header_image, section_header_layout, section_header_size};
@@ -516,11 +514,9 @@ impl LaidOut<Ctx> for SectionHeader {
     ghost layout_laws = { λ ctx. section_header_laws ctx.container ctx.le };
 }
 
-/// Laws of section headers: the image is the only list of bytes that is read as the header, and a
-/// list of headers that fit both classes is read back the same in each class and byte order.
+/// A law: a list of section headers that fit both classes is read back the same in each class and byte
+/// order.
 pub fn laws()
-    ensures image { (class : Container) (order : Endian) →
-        IsOneImage (section_header_layout class order) }
     ensures same { IsSameInEachClass section_header_layout }
 {}
 

@@ -1,9 +1,8 @@
 //! Section headers of the 64-bit class: System V gABI, "Section Header" (`Elf64_Shdr`).
 ghost use Rattle.std.specs.Prelude.{◌≡◌, ◌≤◌, ◌*◌, ◌↔◌, ◌++◌, IsTrue, length, drop, map, IfErr, IfOk, IsOk, alloc_error, replicate, [], ◌∷◌};
 ghost use Rattle.goblin_base.specs.Fields.{values_of};
-ghost use Rattle.goblin_base.specs.Layout.{IsOneImage, low_bits, shaped};
+ghost use Rattle.goblin_base.specs.Layout.{low_bits, shaped};
 ghost use Rattle.goblin_base.specs.Table.{records};
-ghost use Rattle.goblin_base.specs.declared.container.Endian.{Endian};
 ghost use Rattle.goblin_headers.specs.Constants.{section_flag_numbers, section_index_numbers, section_type_numbers};
 ghost use Rattle.goblin_headers.specs.SectionHeader.{section_header64};
 ghost use Rattle.goblin_headers.specs.SectionNames.{section_flag_names};
@@ -149,12 +148,6 @@ impl LaidOut<Endian> for SectionHeader {
 
     ghost layout_laws = { section_header64_laws };
 }
-
-/// A law: the image of a section header is the only list of bytes that is read as that header.
-pub fn laws()
-    ensures image { (order : Endian) →
-        IsOneImage (shaped section_header64 order) }
-{}
 
 /// A law: every field of the default section header is 0. A call returns that section header.
 pub fn default_is_zeros() -> SectionHeader

@@ -7,7 +7,7 @@ use Rattle.goblin_base.specs.declared.container.Endian.{Endian}
 use Rattle.goblin_base.specs.declared.container.Endian.TheVariants as order
 use Rattle.goblin_base.specs.Container.{word_size}
 use Rattle.goblin_base.specs.Fields.{Field, image_of_fields, field}
-use Rattle.goblin_base.specs.Layout.{Layout, Shape, shaped, low_bits, IsOneImage, IsSameInEachClass}
+use Rattle.goblin_base.specs.Layout.{Layout, Shape, shaped, low_bits, IsSameInEachClass}
 use Rattle.goblin_base.specs.Signed.{FitsSigned, signed_of, complement, signed_low}
 use Rattle.goblin_records.specs.declared.reloc.Reloc.{Reloc}
 use Rattle.goblin_records.specs.declared.reloc.RelocCtx.{RelocCtx}
@@ -235,11 +235,6 @@ reloc_layout_in c = record {
   low = reloc_low_in c;
   Fits = RelocFitsIn c;
 }
-
--- the image of a relocation is the only list of bytes of its size that is read as the low bits of the one that is
--- stored for it
-abbrev pub OneImage : Type 0
-OneImage = (c : RelocCtx) → IsOneImage (reloc_layout_in c)
 
 -- relocations that fit both classes, written one after another in either class and order, are read in that class and
 -- order as the same relocations; with addends and without, of MIPS64 and not

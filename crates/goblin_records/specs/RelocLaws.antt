@@ -8,7 +8,7 @@ use Rattle.goblin_base.specs.declared.container.Endian.{Endian}
 use Rattle.goblin_base.specs.declared.container.Container.{Container}
 use Rattle.goblin_base.specs.declared.container.Container.TheVariants.{Little, Big}
 use Rattle.goblin_base.specs.Layout.{IsRecord, shaped}
-use Rattle.goblin_base.specs.LayoutLaws.{shape_laws, converted_laws, one_image, same_in_each_class}
+use Rattle.goblin_base.specs.LayoutLaws.{shape_laws, converted_laws, same_in_each_class}
 use Rattle.goblin_base.specs.Signed.{FitsSigned}
 use Rattle.goblin_base.specs.SignedLaws.{signed_of-complement, complement-lt, complement-mod}
 use Rattle.goblin_base.specs.SignedLaws.{complement-signed_number_at}
@@ -20,7 +20,7 @@ use Rattle.goblin_records.specs.Reloc.{rel32, rel64, rela32, rela64, rela32_layo
 use Rattle.goblin_records.specs.Reloc.{reloc_layout, reloc_layout_in}
 use Rattle.goblin_records.specs.Reloc.{RelocFits, rel_widened32, rela_widened32, rel_widened64}
 use Rattle.goblin_records.specs.Reloc.{rela_widened64, rel_as32, rela_as32, rel_as64, rela_as64, as_meant, as_stored}
-use Rattle.goblin_records.specs.Reloc.{StoredFits, context, OneImage, SameInEachClass}
+use Rattle.goblin_records.specs.Reloc.{StoredFits, context, SameInEachClass}
 use Rattle.goblin_records.specs.RelocInfo.{symbols, types, symbol_in, type_in, info_of}
 use Rattle.goblin_records.specs.RelocInfoLaws.{info_of-parts, joins_its_parts, reversed-reversed}
 
@@ -149,9 +149,6 @@ stored_laws true is_rela class order =
 
 pub reloc_laws_in : (c : RelocCtx) → IsRecord (reloc_layout_in c)
 reloc_laws_in c = stored_laws c.is_mips64el c.is_rela c.ctx.container c.ctx.le
-
-pub one_image_in : OneImage
-one_image_in c = one_image (reloc_laws_in c)
 
 pub same_in_classes : SameInEachClass
 same_in_classes is_rela is_mips64el = same_in_each_class (λ class order. stored_laws is_mips64el is_rela class order)

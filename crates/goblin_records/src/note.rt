@@ -89,15 +89,10 @@ impl LaidOut<Endian> for Nhdr64 {
     ghost layout_laws = { nhdr64_laws };
 }
 
-/// Laws of note headers: the size, and that the image is the only list of bytes that is read as the
-/// header.
+/// Laws of note headers: their sizes.
 pub fn laws()
     ensures size32 { SIZEOF_NHDR32 ≡ 12 }
     ensures size64 { SIZEOF_NHDR64 ≡ 24 }
-    ensures image32 { (order : Endian) →
-        IsOneImage (shaped nhdr32 order) }
-    ensures image64 { (order : Endian) →
-        IsOneImage (shaped nhdr64 order) }
 {}
 
 /// A law: `clone` returns the note header, and never fails. A call returns the clone.

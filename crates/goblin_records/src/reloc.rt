@@ -1,7 +1,7 @@
 //! Relocations of either class, with an addend or without: System V gABI, "Relocation".
 ghost use Rattle.std.specs.Prelude.{◌≡◌, ◌≤◌, ◌↔◌, ◌++◌, IsTrue, length, drop};
 ghost use Rattle.goblin_base.specs.Record.{Writes};
-ghost use Rattle.goblin_records.specs.Reloc.{as_meant, as_stored, reloc_ctx_default, reloc_image, reloc_layout, reloc_layout_in, reloc_of, reloc_size, reloc_zero, OneImage, SameInEachClass};
+ghost use Rattle.goblin_records.specs.Reloc.{as_meant, as_stored, reloc_ctx_default, reloc_image, reloc_layout, reloc_layout_in, reloc_of, reloc_size, reloc_zero, SameInEachClass};
 
 pub use crate::{reloc32, reloc64};
 use goblin_base::container::{Container, Ctx, Endian};
@@ -189,12 +189,10 @@ impl LaidOut<RelocCtx> for Reloc {
     ghost layout_laws = { reloc_laws_in };
 }
 
-/// Laws of relocations: the image is the only list of bytes that is read as the relocation, and a
-/// list of relocations that fit both classes is read back the same in each class and byte order.
-/// The default relocation has all fields 0 and no addend. The default context has no addends, isn't
+/// Laws of relocations: a list of relocations that fit both classes is read back the same in each
+/// class and byte order. The default relocation has all fields 0 and no addend. The default context has no addends, isn't
 /// MIPS64, and is of the default class and byte order.
 pub fn laws()
-    ensures image { OneImage }
     ensures same { SameInEachClass }
     ensures zeros { (reloc : Reloc) → ⟦<Reloc as Default>⟧.is_default reloc → reloc ≡ reloc_zero }
     ensures context { (ctx : RelocCtx) → ⟦<RelocCtx as Default>⟧.is_default ctx → ctx ≡ reloc_ctx_default }

@@ -1,8 +1,7 @@
 //! Relocations of the 32-bit class: System V gABI, "Relocation" (`Elf32_Rel` and `Elf32_Rela`).
 ghost use Rattle.std.specs.Prelude.{◌≡◌, ◌≤◌, ◌↔◌, ◌++◌, IsTrue, length, drop};
-ghost use Rattle.goblin_base.specs.Layout.{IsOneImage, low_bits, shaped, zero};
+ghost use Rattle.goblin_base.specs.Layout.{low_bits, shaped, zero};
 ghost use Rattle.goblin_base.specs.declared.container.Container.TheVariants as class;
-ghost use Rattle.goblin_base.specs.declared.container.Endian.{Endian};
 ghost use Rattle.goblin_records.specs.Reloc.{rel32, rela32, rela32_layout, rela32_low};
 ghost use Rattle.goblin_records.specs.RelocInfo.{symbol_in, type_in, info_of, JoinsItsParts};
 
@@ -172,15 +171,10 @@ impl LaidOut<Endian> for Rel {
     ghost layout_laws = { rel32_laws };
 }
 
-/// Laws of relocations: the sizes, and that an image is the only list of bytes that is read as the
-/// relocation; all fields of the default ones are 0; an `r_info` is the one of its symbol and its
-/// type.
+/// Laws of relocations: the sizes; all fields of the default ones are 0; an `r_info` is the one of its
+/// symbol and its type.
 pub fn laws()
     ensures sizes { (SIZEOF_RELA ≡ 12) × (SIZEOF_REL ≡ 8) }
-    ensures rela_image { (order : Endian) →
-        IsOneImage (rela32_layout order) }
-    ensures rel_image { (order : Endian) →
-        IsOneImage (shaped rel32 order) }
     ensures rela_zeros { (rela : Rela) → ⟦<Rela as Default>⟧.is_default rela → rela ≡ zero rela32 }
     ensures rel_zeros { (rel : Rel) → ⟦<Rel as Default>⟧.is_default rel → rel ≡ zero rel32 }
     ensures joins { JoinsItsParts class.Little }

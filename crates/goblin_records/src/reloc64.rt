@@ -1,8 +1,7 @@
 //! Relocations of the 64-bit class: System V gABI, "Relocation" (`Elf64_Rel` and `Elf64_Rela`).
 ghost use Rattle.std.specs.Prelude.{◌≡◌, ◌<◌, ◌≤◌, ◌^◌, ◌↔◌, ◌++◌, IsTrue, length, drop};
-ghost use Rattle.goblin_base.specs.Layout.{IsOneImage, low_bits, shaped, zero};
+ghost use Rattle.goblin_base.specs.Layout.{low_bits, shaped, zero};
 ghost use Rattle.goblin_base.specs.declared.container.Container.TheVariants as class;
-ghost use Rattle.goblin_base.specs.declared.container.Endian.{Endian};
 ghost use Rattle.goblin_records.specs.Reloc.{rel64, rela64, rela64_layout, rela64_low};
 ghost use Rattle.goblin_records.specs.RelocInfo.{symbol_in, type_in, info_of, JoinsItsParts, mips64el_info, mips64el_info_inverse, Mips64elInverse, Mips64elOneToOne, Mips64elFourTimes};
 
@@ -187,15 +186,10 @@ impl LaidOut<Endian> for Rel {
     ghost layout_laws = { rel64_laws };
 }
 
-/// Laws of relocations: the sizes, and that an image is the only list of bytes that is read as the
-/// relocation; all fields of the default ones are 0; an `r_info` is the one of its symbol and its
-/// type; `mips64el_r_info` and `mips64el_r_info_inverse` undo each other.
+/// Laws of relocations: the sizes; all fields of the default ones are 0; an `r_info` is the one of its
+/// symbol and its type; `mips64el_r_info` and `mips64el_r_info_inverse` undo each other.
 pub fn laws()
     ensures sizes { (SIZEOF_RELA ≡ 24) × (SIZEOF_REL ≡ 16) }
-    ensures rela_image { (order : Endian) →
-        IsOneImage (rela64_layout order) }
-    ensures rel_image { (order : Endian) →
-        IsOneImage (shaped rel64 order) }
     ensures rela_zeros { (rela : Rela) → ⟦<Rela as Default>⟧.is_default rela → rela ≡ zero rela64 }
     ensures rel_zeros { (rel : Rel) → ⟦<Rel as Default>⟧.is_default rel → rel ≡ zero rel64 }
     ensures joins { JoinsItsParts class.Big }

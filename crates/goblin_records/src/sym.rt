@@ -1,9 +1,7 @@
 //! Symbols of either class: System V gABI, "Symbol Table".
 ghost use Rattle.std.specs.Prelude.{◌≡◌, ◌≤◌, ◌<◌, ◌/◌, ◌↔◌, ◌++◌, IsTrue, length, drop, codes, IsOk, [], ◌∷◌};
-ghost use Rattle.goblin_base.specs.Layout.{IsOneImage, IsSameInEachClass};
+ghost use Rattle.goblin_base.specs.Layout.{IsSameInEachClass};
 ghost use Rattle.goblin_base.specs.Refusal.{buffer_too_short, Gives, Refuses};
-ghost use Rattle.goblin_base.specs.declared.container.Container.{Container};
-ghost use Rattle.goblin_base.specs.declared.container.Endian.{Endian};
 ghost use Rattle.goblin_records.specs.Constants.{bind_numbers, type_numbers, visibility_numbers};
 ghost use Rattle.goblin_records.specs.Sym.{is_in_section, sym_image, sym_layout, sym_size, sym_zero, symbols_from};
 ghost use Rattle.goblin_records.specs.SymParts.{bind_of, type_of, visibility_of, IsGlobalImport, IsImport, type_name};
@@ -196,12 +194,9 @@ pub fn get_type(info: u8) -> &'static str
     type_to_str(st_type(info))
 }
 
-/// Laws of symbols: the image is the only list of bytes that is read as the symbol, and a list of
-/// symbols that fit both classes is read back the same in each class and byte order. All fields of
-/// the default symbol are 0.
+/// Laws of symbols: a list of symbols that fit both classes is read back the same in each class and
+/// byte order. All fields of the default symbol are 0.
 pub fn laws()
-    ensures image { (class : Container) (order : Endian) →
-        IsOneImage (sym_layout class order) }
     ensures same { IsSameInEachClass sym_layout }
     ensures zeros { (sym : Sym) → ⟦<Sym as Default>⟧.is_default sym → sym ≡ sym_zero }
 {}

@@ -1,7 +1,6 @@
 //! Symbols of the 32-bit class: System V gABI, "Symbol Table" (`Elf32_Sym`).
 ghost use Rattle.std.specs.Prelude.{◌≡◌, ◌≤◌, ◌↔◌, ◌++◌, IsTrue, length, drop, [], ◌∷◌};
-ghost use Rattle.goblin_base.specs.Layout.{IsOneImage, low_bits, shaped, zero};
-ghost use Rattle.goblin_base.specs.declared.container.Endian.{Endian};
+ghost use Rattle.goblin_base.specs.Layout.{low_bits, shaped, zero};
 ghost use Rattle.goblin_records.specs.Constants.{bind_numbers, type_numbers, visibility_numbers};
 ghost use Rattle.goblin_records.specs.Sym.{sym32};
 ghost use Rattle.goblin_records.specs.SymParts.{type_of, IsImport};
@@ -119,11 +118,8 @@ impl LaidOut<Endian> for Sym {
     ghost layout_laws = { sym32_laws };
 }
 
-/// Laws of symbols: the image is the only list of bytes that is read as the symbol. All fields of
-/// the default symbol are 0.
+/// A law: all fields of the default symbol are 0.
 pub fn laws()
-    ensures image { (order : Endian) →
-        IsOneImage (shaped sym32 order) }
     ensures zeros { (sym : Sym) → ⟦<Sym as Default>⟧.is_default sym → sym ≡ zero sym32 }
 {}
 

@@ -1,8 +1,6 @@
 -- The function has no code: each clause is a lemma about definitions. An image is the only one because the layouts keep
 -- the laws of records (`one_image`). What holds of an `r_info` is proved in RelocInfoLaws.
 use Rattle.goblin_base.specs.declared.container.Container.TheVariants.{Big}
-use Rattle.goblin_base.specs.LayoutLaws.{one_image}
-use Rattle.goblin_records.specs.RelocLaws.{rel64_laws, rela64_laws}
 use Rattle.goblin_records.specs.RelocInfoLaws.{joins_its_parts, mips64el_four_times, mips64el_inverse}
 use Rattle.goblin_records.specs.RelocInfoLaws.{mips64el_one_to_one}
 use Rattle.goblin_records.proofs.reloc64.laws.Goals as goal
@@ -18,9 +16,3 @@ returns-clause-one_to_one c = mips64el_one_to_one
 
 pub returns-clause-four_times : goal.returns-clause-four_times
 returns-clause-four_times c = mips64el_four_times
-
-pub returns-clause-rela_image : goal.returns-clause-rela_image
-returns-clause-rela_image c order = one_image (rela64_laws order)
-
-pub returns-clause-rel_image : goal.returns-clause-rel_image
-returns-clause-rel_image c order = one_image (rel64_laws order)

@@ -1,9 +1,6 @@
-use Rattle.goblin_base.specs.LayoutLaws.{one_image, same_in_each_class}
+use Rattle.goblin_base.specs.LayoutLaws.{same_in_each_class}
 use Rattle.goblin_records.specs.SymLaws.{sym_laws}
 use Rattle.goblin_records.proofs.sym.laws.Goals as goal
-
-pub returns-clause-image : goal.returns-clause-image
-returns-clause-image c class order = one_image (sym_laws class order)
 
 pub returns-clause-same : goal.returns-clause-same
 returns-clause-same c = same_in_each_class sym_laws

@@ -1,0 +1,5 @@
+use Rattle.goblin_base.specs.LayoutLaws.{one_image}
+use Rattle.goblin_base.proofs.laid_out.laws.Goals as goal
+
+pub returns : goal.returns
+returns c start = record { image = λ ctx. one_image (c.met.R.LaidOut.layout_laws ctx) }

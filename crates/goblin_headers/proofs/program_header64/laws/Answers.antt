@@ -1,6 +1,0 @@
-use Rattle.goblin_base.specs.LayoutLaws.{one_image}
-use Rattle.goblin_headers.specs.ProgramHeaderLaws.{program_header64_laws}
-use Rattle.goblin_headers.proofs.program_header64.laws.Goals as goal
-
-pub returns : goal.returns
-returns c = record { image = λ order. one_image (program_header64_laws order) }
