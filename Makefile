@@ -13,7 +13,7 @@ unexport FILE
 # Says what to set where the command rt is missing.
 has_rt = @sh checks/has_rt.sh 'make $@'
 # A part of a run, whose name and command follow.
-part = @python3 checks/took.py part
+part = @python3 checks/part_times.py part
 
 # Shows a file, by the program built without a proof: make try FILE=/bin/true
 try:
@@ -26,14 +26,14 @@ show:
 
 # All that shows that the code is proved and works; `gate` tries every edit too, and leaves those of must-fail/, but not their controls,
 # to the toolchain's own gate, which takes longer. At the end stands what each part took. (ROOM is a folder of the run's own, which
-# took.py makes.)
+# part_times.py makes.)
 test:
 	$(has_rt)
-	@python3 checks/took.py whole $(MAKE) --no-print-directory -j1 tested left
+	@python3 checks/part_times.py whole $(MAKE) --no-print-directory -j1 tested left
 
 gate:
 	$(has_rt)
-	@python3 checks/took.py whole $(MAKE) --no-print-directory -j1 tested tried left WHOLE=whole
+	@python3 checks/part_times.py whole $(MAKE) --no-print-directory -j1 tested tried left WHOLE=whole
 
 # First what takes seconds. Then side by side, so that two processors have work up to the end: every proof that the toolchain
 # hasn't cached on this machine, with the tests and the stored runs, and after it the program's words, real files, and what hostile
@@ -80,7 +80,7 @@ refused:
 	$(part) refused sh checks/refused.sh
 
 unit:
-	@python3 checks/took.py unit
+	@python3 checks/part_times.py unit
 
 edited:
 	$(part) edits python3 checks/edits

@@ -12,7 +12,7 @@ trap 'exit 1' HUP INT TERM
 try() {
     subject=$1
     shift
-    python3 checks/took.py part "$subject" sh "checks/faces/$subject.sh" "$folder" "$@"
+    python3 checks/part_times.py part "$subject" sh "checks/faces/$subject.sh" "$folder" "$@"
 }
 
 python3 faces/constants.py --check

@@ -13,7 +13,7 @@ files = subprocess.run(['git', 'ls-files', '*.antt'], stdout=subprocess.PIPE, te
 long = [f'{name}:{number}' for name in files for number, line in enumerate(open(name, encoding='utf-8'), 1) if len(line) > 121]
 sys.exit('lint: over 120 columns: ' + ', '.join(long) if long else 0)
 END
-python3 checks/places.py
+python3 checks/map_rows.py
 if ! command -v shellcheck > /dev/null; then
     echo "lint: skipped, because shellcheck is not installed"
     exit 0

@@ -20,7 +20,7 @@ import sys
 sys.dont_write_bytecode = True
 sys.path.insert(0, f'{os.path.dirname(os.path.abspath(__file__))}/edits')
 from edit import BODY, apply, edits_of, path_among
-from taken import are_proved, sources, take
+from proved_libraries import are_proved, sources, take
 from verdict import PROVED, VALUES_OPEN, Said, tried_in
 
 WRONG, RIGHT = 'must-fail', 'controls'

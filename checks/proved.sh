@@ -5,8 +5,8 @@
 # itself passes where an edit fits no code, can't be read, or is refused only by a name that it took away, by a stored answer that no
 # longer fits, or by a limit of the prover.
 # Where a run has a folder ROOM, the copy is its folder `proved`, and what the toolchain says is left there as `proofs`, while it is
-# said, and in the end `proofs.passed` if all passed, and `proofs.ended`: checks/taken.py and checks/must_fail.py read them. The
-# programs that it built are put in their places. Run from the repository's root.
+# said, and in the end `proofs.passed` if all passed, and `proofs.ended`: checks/proved_libraries.py and checks/must_fail.py read
+# them. The programs that it built are put in their places. Run from the repository's root.
 set -eu
 own=$(mktemp -d)
 room=${ROOM:-$own}

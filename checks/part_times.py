@@ -1,10 +1,10 @@
 #!/usr/bin/env python3
 """Says what a gate took, part by part.
 
-    python3 checks/took.py whole COMMAND ..        runs a command that runs parts, and prints a table of them; the environment
-                                                   variable ROOM names a folder of the run's own
-    python3 checks/took.py part NAME COMMAND ..    runs a part, and notes in ROOM what it took
-    python3 checks/took.py unit                    a part that only makes the proof of one unit
+    python3 checks/part_times.py whole COMMAND ..        runs a command that runs parts, and prints a table of them; the environment
+                                                         variable ROOM names a folder of the run's own
+    python3 checks/part_times.py part NAME COMMAND ..    runs a part, and notes in ROOM what it took
+    python3 checks/part_times.py unit                    a part that only makes the proof of one unit
 
 Processor seconds depend on the machine and on what runs beside. So does a unit: it is the processor seconds of a small proof that
 each run makes from nothing, of a crate that the toolchain brings. So units compare runs on different machines.
@@ -46,7 +46,7 @@ def unit():
             if os.path.isfile(said):
                 with open(said, encoding='utf-8') as text:
                     print(text.read())
-            print('took: the small proof that measures one unit failed')
+            print('part_times: the small proof that measures one unit failed')
     return status
 
 
@@ -62,7 +62,7 @@ def parts_in(room):
 def whole(command):
     """Runs a command, and prints a line for each part of it, in the order in which they began, and one for all."""
     start = time.time()
-    with tempfile.TemporaryDirectory(prefix='took-') as room:
+    with tempfile.TemporaryDirectory(prefix='part_times-') as room:
         status = subprocess.run(command, env={**os.environ, 'ROOM': room}).returncode
         parts = parts_in(room)
     proof = next((seconds for name, _, _, seconds in parts if name == UNIT), None)

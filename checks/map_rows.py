@@ -1,5 +1,5 @@
 #!/usr/bin/env python3
-"""Whether docs/MAP.md names the files that a change touches: python3 checks/places.py [--write], from the repository's root.
+"""Whether docs/MAP.md names the files that a change touches: python3 checks/map_rows.py [--write], from the repository's root.
 
 Each row of MAP's table "Where to change what" has an example of its change: names that exist today. They are searched as whole words
 in the files that git tracks, or in those below the paths after "in". Pages and edits are left out. The files found
@@ -70,9 +70,10 @@ def main(options):
             page.write('\n'.join(lines))
         return 0
     if rows == 0 or wrong:
-        print(f'places: {wrong} of {rows} rows of {PAGE} do not name the files of their change; python3 checks/places.py --write mends them')
+        print(f'map_rows: {wrong} of {rows} rows of {PAGE} do not name the files of their change; '
+              'python3 checks/map_rows.py --write mends them')
         return 1
-    print(f'places: the {rows} rows of {PAGE} name the files of their changes')
+    print(f'map_rows: the {rows} rows of {PAGE} name the files of their changes')
     return 0
 
 
