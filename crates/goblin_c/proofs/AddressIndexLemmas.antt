@@ -9,7 +9,7 @@ use Rattle.goblin.specs.declared.elf.sym.Sym.{Sym}
 use Rattle.goblin_c.specs.declared.kinds.TheConstants.{OK, END}
 use Rattle.goblin_c.specs.declared.types.GoblinRefusal.{GoblinRefusal}
 use Rattle.goblin_c.specs.Index.{FindsIn, HoldsIndex, IndexFindsSymbols, StoresIndex}
-use Rattle.goblin_c.specs.Answers.{symbols_expected}
+use Rattle.goblin_c.specs.Expected.{symbols_expected}
 use Rattle.goblin_c.specs.Refused.{RefusalAt}
 
 ok_is_not_end : OK ≡ END → ⊥

@@ -37,8 +37,8 @@ use Rattle.goblin_c.specs.declared.types.GoblinRange.{GoblinRange}
 use Rattle.goblin_c.specs.declared.types.GoblinSection.{GoblinSection}
 use Rattle.goblin_c.specs.declared.types.GoblinSegment.{GoblinSegment}
 use Rattle.goblin_c.specs.Alone.{section_alone_expected, segment_alone_expected}
-use Rattle.goblin_c.specs.Answers.{ctx_of, each_converted, item_of, sections_expected}
-use Rattle.goblin_c.specs.Answers.{section_by_name_expected, section_expected, segments_expected, symbols_expected}
+use Rattle.goblin_c.specs.Expected.{ctx_of, each_converted, item_of, sections_expected}
+use Rattle.goblin_c.specs.Expected.{section_by_name_expected, section_expected, segments_expected, symbols_expected}
 use Rattle.goblin_c.specs.Types.{section_converted, segment_converted, symbol_converted}
 use Rattle.goblin_c.specs.Bytes.{section_bytes_expected}
 use Rattle.goblin_c.specs.Laws.{LiesIn}

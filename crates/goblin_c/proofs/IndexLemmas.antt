@@ -25,13 +25,13 @@ use Rattle.goblin.specs.SectionHeaders.{is_table, link_of, linked, names_index}
 use Rattle.goblin_headers.proofs.HeaderLemmas.{header_laws}
 use Rattle.goblin_headers.proofs.RawTrips.{ident_byte}
 use Rattle.goblin_headers.proofs.ReadHeaderLemmas.{was_read}
-use Rattle.goblin_c.specs.Answers.{count_of, ctx_of, each_converted, item_of, items_from}
-use Rattle.goblin_c.specs.Answers.{reloc_count_expected, reloc_expected, relocs_expected}
-use Rattle.goblin_c.specs.Answers.{relocs_converted, sections_expected, sections_converted}
-use Rattle.goblin_c.specs.Answers.{segments_expected, symbols_expected}
+use Rattle.goblin_c.specs.Expected.{count_of, ctx_of, each_converted, item_of, items_from}
+use Rattle.goblin_c.specs.Expected.{reloc_count_expected, reloc_expected, relocs_expected}
+use Rattle.goblin_c.specs.Expected.{relocs_converted, sections_expected, sections_converted}
+use Rattle.goblin_c.specs.Expected.{segments_expected, symbols_expected}
 use Rattle.goblin_c.specs.Types.{header_converted, reloc_converted, section_converted, segment_converted}
 use Rattle.goblin_c.specs.Types.{symbol_converted}
-use Rattle.goblin_c.specs.Answers.{symbols_converted, table_at}
+use Rattle.goblin_c.specs.Expected.{symbols_converted, table_at}
 use Rattle.goblin_c.specs.Laws.{ContextIsTheHeaders, FilledByIndex, GivenFrom, HasHeader, NamesByIndex, NamesContext}
 use Rattle.goblin_c.specs.Laws.{RelocsByIndex, SectionsByIndex, SegmentsByIndex, SymbolsByIndex, TablesByIndex}
 use Rattle.goblin_c.specs.Laws.{ReturnsCount, ReturnsEach, table_converted, table_of}

@@ -20,7 +20,7 @@ use Rattle.goblin_c.specs.Refused.{RefusalAt, refused_at}
 use Rattle.goblin_c.specs.declared.types.GoblinHeader.{GoblinHeader}
 use Rattle.goblin_c.specs.declared.types.GoblinNote.{GoblinNote}
 use Rattle.goblin_c.specs.declared.types.GoblinRange.{GoblinRange}
-use Rattle.goblin_c.specs.Answers.{ctx_of}
+use Rattle.goblin_c.specs.Expected.{ctx_of}
 use Rattle.goblin_c.specs.Notes.{bytes_from, note_expected}
 use Rattle.goblin_c.specs.Types.{note_converted}
 use Rattle.goblin_c.specs.Laws.{LiesIn, NotesAreItems, NotesInARow, NotesLieInFile, items_reported, note_in}

@@ -25,7 +25,7 @@ use Rattle.goblin.specs.declared.elf.program_header.ProgramHeader.{ProgramHeader
 use Rattle.goblin_c.specs.declared.types.GoblinHeader.{GoblinHeader}
 use Rattle.goblin_c.specs.declared.types.GoblinRange.{GoblinRange}
 use Rattle.goblin_c.specs.declared.types.GoblinSegment.{GoblinSegment}
-use Rattle.goblin_c.specs.Answers.{segment_expected, segments_expected}
+use Rattle.goblin_c.specs.Expected.{segment_expected, segments_expected}
 use Rattle.goblin_c.specs.Types.{segment_converted}
 use Rattle.goblin_c.specs.Bytes.{is_width, number_expected, range_expected}
 use Rattle.goblin_c.specs.Laws.{LiesIn, bytes_in}

@@ -16,7 +16,7 @@ use Rattle.goblin_base.specs.Pieces.{piece}
 use Rattle.goblin_base.specs.RecordLaws.{fits-room_of}
 use Rattle.goblin_base.specs.Wanted.{is_piece, starts_piece}
 use Rattle.goblin_c.specs.declared.types.GoblinRange.{GoblinRange}
-use Rattle.goblin_c.specs.Answers.{strings_expected}
+use Rattle.goblin_c.specs.Expected.{strings_expected}
 use Rattle.goblin_c.specs.Bytes.{range_expected, string_bytes_expected, string_is_expected, string_starts_expected}
 use Rattle.goblin_c.specs.Laws.{BytesLieInFile, LiesIn, StringsAreBytes, StringsAreCompared, StringsLieInFile, bytes_in}
 use Rattle.goblin_c.specs.Refused.{RefusalAt}

@@ -15,7 +15,7 @@ use Rattle.std.specs.Option.{option_map}
 use Rattle.goblin_base.specs.Steps.{◌>>=◌}
 use Rattle.goblin_c.specs.Refused.{RefusalAt}
 use Rattle.goblin_c.specs.declared.types.GoblinSection.{GoblinSection}
-use Rattle.goblin_c.specs.Answers.{each_converted, item_of, sections_expected}
+use Rattle.goblin_c.specs.Expected.{each_converted, item_of, sections_expected}
 use Rattle.goblin_c.specs.Types.{section_converted}
 use Rattle.goblin_c.specs.Laws.{FindsFrom, RefusesAll, SectionsByType}
 use Rattle.goblin_c.proofs.IndexLemmas.{get_drop}

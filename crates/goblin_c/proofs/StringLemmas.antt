@@ -20,8 +20,8 @@ use Rattle.goblin_base.specs.Steps.{◌>>=◌}
 use Rattle.goblin_base.specs.Strtab.{has_name, is_text_of, plain, range_in}
 use Rattle.goblin_c.specs.Refused.{RefusalAt, refused_at}
 use Rattle.goblin_c.specs.declared.types.GoblinRange.{GoblinRange}
-use Rattle.goblin_c.specs.Answers.{each_converted, is_named, item_of, sections_expected}
-use Rattle.goblin_c.specs.Answers.{string_expected, strings_expected, symbols_expected}
+use Rattle.goblin_c.specs.Expected.{each_converted, is_named, item_of, sections_expected}
+use Rattle.goblin_c.specs.Expected.{string_expected, strings_expected, symbols_expected}
 use Rattle.goblin_c.specs.Types.{section_converted, symbol_converted}
 use Rattle.goblin_c.specs.Laws.{FindsFirst, FindsFrom, IsNameAt, RefusesAll, RefusesEither, SectionsByName}
 use Rattle.goblin_c.specs.Laws.{StringsAreThere}

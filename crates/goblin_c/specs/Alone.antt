@@ -12,7 +12,7 @@ use Rattle.goblin_c.specs.declared.types.GoblinHeader.{GoblinHeader}
 use Rattle.goblin_c.specs.declared.types.GoblinSection.{GoblinSection}
 use Rattle.goblin_c.specs.declared.types.GoblinSegment.{GoblinSegment}
 use Rattle.goblin_c.specs.Refused.{RefusalAt, refused_at}
-use Rattle.goblin_c.specs.Answers.{ctx_of}
+use Rattle.goblin_c.specs.Expected.{ctx_of}
 use Rattle.goblin_c.specs.Types.{section_converted, segment_converted}
 
 -- how many section headers there are whole

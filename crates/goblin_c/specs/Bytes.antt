@@ -9,7 +9,7 @@ use Rattle.goblin_base.specs.Steps.{◌>>=◌, refuse_as}
 use Rattle.goblin_base.specs.Wanted.{is_piece, starts_piece}
 use Rattle.goblin.specs.SectionHeaders.{is_nobits}
 use Rattle.goblin_c.specs.Refused.{RefusalAt, refused_at}
-use Rattle.goblin_c.specs.Answers.{ctx_of, strings_expected}
+use Rattle.goblin_c.specs.Expected.{ctx_of, strings_expected}
 use Rattle.goblin_c.specs.declared.types.GoblinHeader.{GoblinHeader}
 use Rattle.goblin_c.specs.declared.types.GoblinRange.{GoblinRange}
 use Rattle.goblin_c.specs.declared.types.GoblinSection.{GoblinSection}

@@ -8,7 +8,7 @@ use Rattle.goblin_c.specs.declared.kinds.TheConstants.{OK, END}
 use Rattle.goblin_c.specs.declared.types.GoblinHeader.{GoblinHeader}
 use Rattle.goblin_c.specs.declared.types.GoblinRange.{GoblinRange}
 use Rattle.goblin_c.specs.declared.types.GoblinRefusal.{GoblinRefusal}
-use Rattle.goblin_c.specs.Answers.{symbols_expected, symbol_by_address_expected}
+use Rattle.goblin_c.specs.Expected.{symbols_expected, symbol_by_address_expected}
 use Rattle.goblin_c.specs.Refused.{RefusalAt}
 use Rattle.goblin_c.specs.Types.{refusal_converted}
 

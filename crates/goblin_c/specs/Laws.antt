@@ -21,12 +21,12 @@ use Rattle.goblin.specs.declared.elf.sym.Sym.{Sym}
 use Rattle.goblin.specs.Sym.{sym_size}
 use Rattle.goblin.specs.Symtab.{symtab_of}
 use Rattle.goblin_c.specs.Refused.{RefusalAt, refused_at}
-use Rattle.goblin_c.specs.Answers.{ctx_of, is_mips64el, section_by_type_expected}
-use Rattle.goblin_c.specs.Answers.{section_count_expected, section_expected, segment_count_expected, segment_expected}
-use Rattle.goblin_c.specs.Answers.{symbol_expected, reloc_expected, string_expected, symbol_count_expected}
-use Rattle.goblin_c.specs.Answers.{reloc_count_expected, sections_from_expected, symbols_from_expected}
-use Rattle.goblin_c.specs.Answers.{relocs_from_expected, section_names_expected, section_by_name_expected}
-use Rattle.goblin_c.specs.Answers.{symbol_by_name_expected, strings_expected, table_expected}
+use Rattle.goblin_c.specs.Expected.{ctx_of, is_mips64el, section_by_type_expected}
+use Rattle.goblin_c.specs.Expected.{section_count_expected, section_expected, segment_count_expected, segment_expected}
+use Rattle.goblin_c.specs.Expected.{symbol_expected, reloc_expected, string_expected, symbol_count_expected}
+use Rattle.goblin_c.specs.Expected.{reloc_count_expected, sections_from_expected, symbols_from_expected}
+use Rattle.goblin_c.specs.Expected.{relocs_from_expected, section_names_expected, section_by_name_expected}
+use Rattle.goblin_c.specs.Expected.{symbol_by_name_expected, strings_expected, table_expected}
 use Rattle.goblin_c.specs.Bytes.{section_bytes_expected, segment_bytes_expected, string_bytes_expected}
 use Rattle.goblin_c.specs.Bytes.{string_is_expected, string_starts_expected}
 use Rattle.goblin_c.specs.Laid.{closed, laid}

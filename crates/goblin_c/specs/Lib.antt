@@ -1,6 +1,6 @@
 pub mod Alone
-pub mod Answers
 pub mod Bytes
+pub mod Expected
 pub mod Index
 pub mod Laid
 pub mod Laws

@@ -13,7 +13,7 @@ use Rattle.goblin_c.specs.declared.types.GoblinSection.{GoblinSection}
 use Rattle.goblin_c.specs.declared.types.GoblinSegment.{GoblinSegment}
 use Rattle.goblin_c.specs.Alone.{section_alone_expected, segment_alone_expected, whole_sections_expected}
 use Rattle.goblin_c.specs.Alone.{whole_segments_expected}
-use Rattle.goblin_c.specs.Answers.{ctx_of, section_expected, segment_expected, symbol_expected}
+use Rattle.goblin_c.specs.Expected.{ctx_of, section_expected, segment_expected, symbol_expected}
 use Rattle.goblin_c.specs.Types.{section_converted, segment_converted, symbol_converted}
 use Rattle.goblin_c.specs.Laws.{LiesIn, RefusesAll, bytes_in}
 use Rattle.goblin_c.specs.Places.{address_to_offset_expected, bytes_by_name_expected, cut_range, number_in_expected}

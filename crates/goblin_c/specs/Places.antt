@@ -12,8 +12,8 @@ use Rattle.goblin.specs.SectionHeader.{section_header_size}
 use Rattle.goblin.specs.Sym.{sym_size}
 use Rattle.goblin_c.specs.declared.types.GoblinHeader.{GoblinHeader}
 use Rattle.goblin_c.specs.declared.types.GoblinRange.{GoblinRange}
-use Rattle.goblin_c.specs.Answers.{ctx_of, section_by_name_expected, section_expected, segment_expected}
-use Rattle.goblin_c.specs.Answers.{segments_expected, symbol_expected}
+use Rattle.goblin_c.specs.Expected.{ctx_of, section_by_name_expected, section_expected, segment_expected}
+use Rattle.goblin_c.specs.Expected.{segments_expected, symbol_expected}
 use Rattle.goblin_c.specs.Bytes.{is_width, number_expected, range_expected, section_bytes_expected}
 use Rattle.goblin_c.specs.Refused.{RefusalAt, refused_at}
 

@@ -17,16 +17,16 @@ use Rattle.goblin_c.specs.declared.types.GoblinHeader.{GoblinHeader}
 use Rattle.goblin_c.specs.declared.types.GoblinRange.{GoblinRange}
 use Rattle.goblin_c.specs.declared.types.GoblinSection.{GoblinSection}
 use Rattle.goblin_c.specs.declared.types.GoblinSegment.{GoblinSegment}
-use Rattle.goblin_c.specs.Answers.{ctx_of, header_expected, reloc_count_expected, reloc_expected, relocs_from_expected}
-use Rattle.goblin_c.specs.Answers.{relocs_expected}
-use Rattle.goblin_c.specs.Answers.{section_by_name_expected, section_by_type_expected, section_count_expected}
-use Rattle.goblin_c.specs.Answers.{section_names_expected}
-use Rattle.goblin_c.specs.Answers.{section_expected, sections_from_expected, sections_expected, segment_count_expected}
-use Rattle.goblin_c.specs.Answers.{segment_expected}
-use Rattle.goblin_c.specs.Answers.{segments_expected, string_expected, strings_expected, symbol_by_address_expected}
-use Rattle.goblin_c.specs.Answers.{symbol_by_name_expected, symbol_count_expected, symbol_expected}
-use Rattle.goblin_c.specs.Answers.{symbols_from_expected, symbols_expected}
-use Rattle.goblin_c.specs.Answers.{count_of, each_converted, item_of, items_from, table_expected}
+use Rattle.goblin_c.specs.Expected.{ctx_of, header_expected, reloc_count_expected, reloc_expected, relocs_from_expected}
+use Rattle.goblin_c.specs.Expected.{relocs_expected}
+use Rattle.goblin_c.specs.Expected.{section_by_name_expected, section_by_type_expected, section_count_expected}
+use Rattle.goblin_c.specs.Expected.{section_names_expected}
+use Rattle.goblin_c.specs.Expected.{section_expected, sections_from_expected, sections_expected, segment_count_expected}
+use Rattle.goblin_c.specs.Expected.{segment_expected}
+use Rattle.goblin_c.specs.Expected.{segments_expected, string_expected, strings_expected, symbol_by_address_expected}
+use Rattle.goblin_c.specs.Expected.{symbol_by_name_expected, symbol_count_expected, symbol_expected}
+use Rattle.goblin_c.specs.Expected.{symbols_from_expected, symbols_expected}
+use Rattle.goblin_c.specs.Expected.{count_of, each_converted, item_of, items_from, table_expected}
 use Rattle.goblin_c.specs.Bytes.{number_expected, section_bytes_expected, segment_bytes_expected, string_bytes_expected}
 use Rattle.goblin_c.specs.Bytes.{string_is_expected, string_starts_expected}
 use Rattle.goblin_c.specs.Alone.{section_alone_expected, segment_alone_expected, whole_sections_expected}

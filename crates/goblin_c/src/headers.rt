@@ -1,7 +1,7 @@
 //! The header, the section headers and the program headers, as the library reads them.
 ghost use Rattle.std.specs.Prelude.{◌≡◌, ◌+◌, ◌<◌, ◌==◌, ◌^◌, IfSome, drop, map, position};
 ghost use Rattle.goblin_c.specs.Refused.{Answers};
-ghost use Rattle.goblin_c.specs.Answers.{ctx_of, header_expected, section_by_type_expected, section_names_expected, sections_expected, segments_expected, table_at, table_expected};
+ghost use Rattle.goblin_c.specs.Expected.{ctx_of, header_expected, section_by_type_expected, section_names_expected, sections_expected, segments_expected, table_at, table_expected};
 ghost use Rattle.goblin_c.specs.Types.{section_converted, segment_converted};
 
 use crate::lists::Listed;

@@ -1,6 +1,6 @@
 //! An index of the addresses of a table's symbols, in an array of the caller's, and searches in it.
 ghost use Rattle.goblin.specs.Steps.{refuse_as};
-ghost use Rattle.goblin_c.specs.Answers.{symbols_expected};
+ghost use Rattle.goblin_c.specs.Expected.{symbols_expected};
 ghost use Rattle.goblin_c.specs.Index.{FindsIn, StoresIndex};
 ghost use Rattle.goblin_c.specs.Refused.{refusal_at};
 

@@ -2,7 +2,7 @@
 //! buffer of the caller's.
 ghost use Rattle.std.specs.Prelude.{◌≡◌, ◌-◌, ◌<◌, List, drop, length, min, slice_get};
 ghost use Rattle.goblin_c.specs.Refused.{Answers};
-ghost use Rattle.goblin_c.specs.Answers.{count_of, item_of, items_from};
+ghost use Rattle.goblin_c.specs.Expected.{count_of, item_of, items_from};
 ghost use Rattle.goblin_c.specs.Laid.{laid};
 ghost use Rattle.goblin_c.specs.Status.{Fills, converted_list};
 

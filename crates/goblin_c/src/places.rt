@@ -7,7 +7,7 @@ ghost use Rattle.goblin.specs.Steps.{refuse_as};
 ghost use Rattle.goblin_base.specs.Alone.{offset_of};
 ghost use Rattle.goblin_c.specs.Alone.{section_alone_expected, segment_alone_expected, whole_sections_expected};
 ghost use Rattle.goblin.specs.ProgramHeaders.{program_headers_whole};
-ghost use Rattle.goblin_c.specs.Answers.{ctx_of, item_of};
+ghost use Rattle.goblin_c.specs.Expected.{ctx_of, item_of};
 ghost use Rattle.goblin_c.specs.Places.{address_to_offset_expected, bytes_by_name_expected, cut_range, number_in_expected, range_of, record_range_cut, section_place_expected, segment_place_expected, symbol_place_expected};
 ghost use Rattle.goblin_c.specs.Refused.{Answers, refused_at};
 ghost use Rattle.goblin_c.specs.Status.{converted_list};

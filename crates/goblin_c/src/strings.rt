@@ -1,7 +1,7 @@
 //! Strings, and where they lie in the file.
 ghost use Rattle.std.specs.Prelude.{◌≡◌, ◌+◌, ◌≤◌, IfOk, length};
 ghost use Rattle.goblin_c.specs.Refused.{Answers};
-ghost use Rattle.goblin_c.specs.Answers.{string_expected, strings_expected};
+ghost use Rattle.goblin_c.specs.Expected.{string_expected, strings_expected};
 
 use crate::refused::{Result, refused_at};
 use crate::types::GoblinRange;

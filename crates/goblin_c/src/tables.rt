@@ -1,7 +1,7 @@
 //! Symbols, relocations and what is found by its name, as the library reads them.
 ghost use Rattle.std.specs.Prelude.{◌≡◌, length, map, position};
 ghost use Rattle.goblin_c.specs.Refused.{Answers};
-ghost use Rattle.goblin_c.specs.Answers.{ctx_of, relocs_expected, section_by_name_expected, symbol_by_address_expected, symbol_by_name_expected, is_named, symbol_expected, symbols_expected};
+ghost use Rattle.goblin_c.specs.Expected.{ctx_of, relocs_expected, section_by_name_expected, symbol_by_address_expected, symbol_by_name_expected, is_named, symbol_expected, symbols_expected};
 ghost use Rattle.goblin_c.specs.Types.{reloc_converted, symbol_converted};
 
 use crate::headers::{ctx_of, sections_of};

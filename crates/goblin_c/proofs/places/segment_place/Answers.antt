@@ -1,7 +1,7 @@
 use Rattle.std.proofs.Common.{ap, refl, ◌∙◌}
 use Rattle.goblin_base.specs.declared.container.Ctx.{Ctx}
 use Rattle.goblin.specs.ProgramHeader.{program_header_of, program_header_size}
-use Rattle.goblin_c.specs.Answers.{ctx_of}
+use Rattle.goblin_c.specs.Expected.{ctx_of}
 use Rattle.goblin_c.specs.Types.{segment_converted}
 use Rattle.goblin_c.proofs.AloneLemmas.{lists_segments, place_is}
 use Rattle.goblin_c.proofs.places.segment_place.Goals as goal
