@@ -1,6 +1,6 @@
 pub mod AddressIndexLemmas
 pub mod AloneLemmas
-pub mod LaidLemmas
+pub mod FilledBufferLemmas
 pub mod ListedLemmas
 pub mod OffsetLemmas
 pub mod DigitLemmas

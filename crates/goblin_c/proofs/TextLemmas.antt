@@ -4,9 +4,9 @@ use Rattle.std.proofs.Common.{take, drop, sym, ap, ◌∙◌, length-append, ari
 use Rattle.std.proofs.lemmas.Bool.{and_parts, leb-true}
 use Rattle.goblin_base.specs.declared.texts.Part.{Part}
 use Rattle.goblin_base.specs.Texts.{are_short, each_short, is_short}
-use Rattle.goblin_c.specs.Laid.{laid}
+use Rattle.goblin_c.specs.FilledBuffer.{laid}
 use Rattle.goblin_c.specs.Laws.{KindsAreAnswers}
-use Rattle.goblin_c.proofs.LaidLemmas.{laid-appended}
+use Rattle.goblin_c.proofs.FilledBufferLemmas.{laid-appended}
 
 short_at : (parts : List Part) (i : ℕ) (d : Part)
     → IsTrue (each_short parts) → i < length parts → IsTrue (is_short (get_or parts i d))

@@ -29,7 +29,7 @@ use Rattle.goblin_c.specs.Expected.{relocs_from_expected, section_names_expected
 use Rattle.goblin_c.specs.Expected.{symbol_by_name_expected, strings_expected, table_expected}
 use Rattle.goblin_c.specs.Bytes.{section_bytes_expected, segment_bytes_expected, string_bytes_expected}
 use Rattle.goblin_c.specs.Bytes.{string_is_expected, string_starts_expected}
-use Rattle.goblin_c.specs.Laid.{closed, laid}
+use Rattle.goblin_c.specs.FilledBuffer.{closed, laid}
 use Rattle.goblin_c.specs.Notes.{note_bytes_expected, note_expected}
 use Rattle.goblin_c.specs.Types.{header_converted, refusal_converted, reloc_converted, section_converted}
 use Rattle.goblin_c.specs.Types.{segment_converted, symbol_converted}

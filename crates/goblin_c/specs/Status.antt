@@ -4,7 +4,7 @@ use Rattle.goblin_c.specs.Refused.{RefusalAt, refusal_at}
 use Rattle.goblin_c.specs.declared.refused.Refused.{Refused}
 use Rattle.goblin_c.specs.declared.kinds.TheConstants.{OK, END}
 use Rattle.goblin_c.specs.declared.types.GoblinRefusal.{GoblinRefusal}
-use Rattle.goblin_c.specs.Laid.{laid}
+use Rattle.goblin_c.specs.FilledBuffer.{laid}
 use Rattle.goblin_c.specs.Types.{refusal_converted}
 
 -- the items for C of a list that a call returned

@@ -7,7 +7,7 @@ ghost use Rattle.goblin_c.specs.Alone.{section_alone_expected, segment_alone_exp
 ghost use Rattle.goblin_c.specs.Expected.{header_expected, reloc_count_expected, reloc_expected, section_by_type_expected, section_count_expected, section_expected, segment_count_expected, segment_expected, string_expected, symbol_count_expected, symbol_expected, relocs_from_expected, sections_from_expected, symbols_from_expected, section_by_name_expected, section_names_expected, symbol_by_address_expected, symbol_by_name_expected, symbols_expected, table_expected};
 ghost use Rattle.goblin_c.specs.Bytes.{number_expected, section_bytes_expected, segment_bytes_expected, string_bytes_expected, string_is_expected, string_starts_expected};
 ghost use Rattle.goblin_c.specs.Index.{FindsIn, StoresIndex};
-ghost use Rattle.goblin_c.specs.Laid.{closed, laid};
+ghost use Rattle.goblin_c.specs.FilledBuffer.{closed, laid};
 ghost use Rattle.goblin_c.specs.Layout.{layout};
 ghost use Rattle.goblin_c.specs.Notes.{StoresNote, note_bytes_expected, note_expected};
 ghost use Rattle.goblin_c.specs.Places.{address_to_offset_expected, bytes_by_name_expected, cut_range, number_in_expected, section_place_expected, segment_place_expected, symbol_place_expected};

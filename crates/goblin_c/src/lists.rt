@@ -3,7 +3,7 @@
 ghost use Rattle.std.specs.Prelude.{◌≡◌, ◌-◌, ◌<◌, List, drop, length, min, slice_get};
 ghost use Rattle.goblin_c.specs.Refused.{Answers};
 ghost use Rattle.goblin_c.specs.Expected.{count_of, item_of, items_from};
-ghost use Rattle.goblin_c.specs.Laid.{laid};
+ghost use Rattle.goblin_c.specs.FilledBuffer.{laid};
 ghost use Rattle.goblin_c.specs.Status.{Fills, converted_list};
 
 use crate::kinds::{END, OK};
@@ -44,7 +44,7 @@ pub fn item_of<L: Listed>(list: Result<L>, index: u64) -> Result<Option<L::Conve
 }
 
 // Fills a buffer with the items from an index on. Returns how many it holds.
-#[tactic(auto, using(crate::proofs::LaidLemmas::laid_steps))]
+#[tactic(auto, using(crate::proofs::FilledBufferLemmas::laid_steps))]
 fn fill<L: Listed>(all: &L, first: usize, buffer: &mut [L::Converted]) -> usize
     requires { first < length (L.listed all.now) }
     ensures written { buffer.new ≡ laid (drop first (L.listed all.now)) buffer.old }

@@ -2,7 +2,7 @@
 ghost use Rattle.std.specs.Prelude.{◌≡◌, ◌+◌, ◌≤◌, ◌<◌, ◌^◌, ◌++◌, IsTrue, false, drop, length, take};
 ghost use Rattle.std.specs.Fmt.{digit_glyph, digits};
 ghost use Rattle.goblin_base.specs.Texts.{facts_of, is_short, facts_text, part_text, word_of};
-ghost use Rattle.goblin_c.specs.Laid.{closed, laid};
+ghost use Rattle.goblin_c.specs.FilledBuffer.{closed, laid};
 ghost use Rattle.goblin_c.specs.Texts.{converted_text, facts_from, item_text, TextIsSame};
 
 use crate::kinds;

@@ -1,6 +1,6 @@
 //! Bytes and texts, written into a buffer of the caller's and cut at its end.
 ghost use Rattle.std.specs.Prelude.{◌≡◌, ◌+◌, ◌<◌, ◌^◌, ◌++◌, drop, length, take};
-ghost use Rattle.goblin_c.specs.Laid.{closed, laid};
+ghost use Rattle.goblin_c.specs.FilledBuffer.{closed, laid};
 
 /// Writes a text with a zero byte after it, or as much of them as the buffer holds. Returns the length of the text.
 pub fn write_text(text: &str, buffer: &mut [u8]) -> u64
@@ -23,7 +23,7 @@ fn write_closed(bytes: &[u8], buffer: &mut [u8]) -> u64
 
 /// Writes as much of a text after the bytes so far as the buffer holds. Returns how many bytes there are then, if none
 /// is cut.
-#[tactic(auto, using(crate::proofs::LaidLemmas::laid_steps))]
+#[tactic(auto, using(crate::proofs::FilledBufferLemmas::laid_steps))]
 pub fn write_after(text: &[u8], len: u64, buffer: &mut [u8]) -> u64
     requires { len + length text.now < 2 ^ 64 }
     ensures written { buffer.new ≡ take len buffer.old ++ laid text.now (drop len buffer.old) }
@@ -36,7 +36,7 @@ pub fn write_after(text: &[u8], len: u64, buffer: &mut [u8]) -> u64
 }
 
 // Writes as many bytes as the buffer holds. Returns the number of all bytes.
-#[tactic(auto, using(crate::proofs::LaidLemmas::laid_steps))]
+#[tactic(auto, using(crate::proofs::FilledBufferLemmas::laid_steps))]
 fn write_bytes(bytes: &[u8], buffer: &mut [u8]) -> u64
     ensures written { buffer.new ≡ laid bytes.now buffer.old }
     ensures value { result ≡ length bytes.now }

@@ -1,4 +1,4 @@
-use Rattle.goblin_c.proofs.LaidLemmas.{buffer_is_filled, text_is_closed}
+use Rattle.goblin_c.proofs.FilledBufferLemmas.{buffer_is_filled, text_is_closed}
 use Rattle.goblin_c.proofs.IndexLemmas.{filled_by_index}
 use Rattle.goblin_c.proofs.laws.buffers.Goals as goal
 

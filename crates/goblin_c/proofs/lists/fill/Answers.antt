@@ -3,7 +3,7 @@
 use Rattle.std.proofs.Common.{◌≡◌, ◌<◌, ◌+◌, length, slice_get, Some, sym, ◌∙◌, arith}
 use Rattle.std.proofs.lemmas.List.{set-get_or}
 use Rattle.std.proofs.lemmas.Option.{slice_get_within}
-use Rattle.goblin_c.proofs.LaidLemmas.{laid-item, laid-ended}
+use Rattle.goblin_c.proofs.FilledBufferLemmas.{laid-item, laid-ended}
 use Rattle.goblin_c.proofs.lists.fill.Goals as goal
 
 pub loop-i-preserved : goal.loop-i-preserved

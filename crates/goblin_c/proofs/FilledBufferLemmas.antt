@@ -12,7 +12,7 @@ use Rattle.std.proofs.lemmas.List.{take_rest}
 use Rattle.std.proofs.lemmas.Slice.{take-put_mid}
 use borrow.Rule.Slice.PartMut.{put_mid}
 use Rattle.goblin.proofs.Positions.{some-within}
-use Rattle.goblin_c.specs.Laid.{laid}
+use Rattle.goblin_c.specs.FilledBuffer.{laid}
 use Rattle.goblin_c.specs.Laws.{IsFilled, BufferIsFilled, TextIsClosed}
 
 -- one item more
