@@ -34,7 +34,7 @@ use Rattle.goblin_c.specs.Types.{symbol_converted}
 use Rattle.goblin_c.specs.Expected.{symbols_converted, table_at}
 use Rattle.goblin_c.specs.Laws.{ContextIsTheHeaders, FilledByIndex, GivenFrom, HasHeader, NamesByIndex, NamesContext}
 use Rattle.goblin_c.specs.Laws.{RelocsByIndex, SectionsByIndex, SegmentsByIndex, SymbolsByIndex, TablesByIndex}
-use Rattle.goblin_c.specs.Laws.{ReturnsCount, ReturnsEach, table_converted, table_of}
+use Rattle.goblin_c.specs.Laws.{ReturnsCount, ReturnsEach, table_converted, section_if_table}
 
 -- the class and the byte order of a file's header
 named : (bytes : List ℕ) (h : Header)
@@ -153,7 +153,7 @@ converted_if true s = refl
 converted_if false s = refl
 
 converted_table : (index : ℕ) (found : Option SectionHeader)
-    → option_map section_converted (linked index found) ≡ table_of index (option_map section_converted found)
+    → option_map section_converted (linked index found) ≡ section_if_table index (option_map section_converted found)
 converted_table index None = refl
 converted_table index (Some s) = converted_if (is_table index s.sh_type) s
 
@@ -162,7 +162,7 @@ table_there : (all : Result (List SectionHeader) RefusalAt) (index : ℕ)
     ≡ table_converted index (item_of (each_converted section_converted all) index)
 table_there (Ok items) index =
     let here = slice_get-map section_converted items index in
-    ap Ok (converted_table index (slice_get items index) ∙ ap (table_of index) (sym here))
+    ap Ok (converted_table index (slice_get items index) ∙ ap (section_if_table index) (sym here))
 table_there (Err refusal) index = refl
 
 pub tables_by_index : TablesByIndex

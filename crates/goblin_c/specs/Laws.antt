@@ -220,14 +220,14 @@ StringsLieInFile =
     → string_expected bytes range offset ≡ Ok (Some found) → LiesIn bytes found
 
 -- a section, if it is a table that others name by its index
-abbrev pub table_of : ℕ → Option GoblinSection → Option GoblinSection
-table_of index (Some section) = if is_table index section.sh_type then Some section else None
-table_of index None = None
+abbrev pub section_if_table : ℕ → Option GoblinSection → Option GoblinSection
+section_if_table index (Some section) = if is_table index section.sh_type then Some section else None
+section_if_table index None = None
 
 abbrev pub table_converted : ℕ → Result (Option GoblinSection) RefusalAt → Result (Option GoblinSection) RefusalAt
 table_converted index found = do
   section ← found
-  Ok (table_of index section)
+  Ok (section_if_table index section)
 
 -- the table at each index is the section there, where that is one
 abbrev pub TablesByIndex : Type 0

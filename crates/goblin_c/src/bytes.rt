@@ -8,7 +8,7 @@ ghost use Rattle.goblin_c.specs.Bytes.{is_width, number_expected, range_expected
 
 use crate::headers::ctx_of;
 use crate::refused::{Refused, Result};
-use crate::strings::strings_of;
+use crate::strings::string_table_bytes;
 use crate::types::{GoblinHeader, GoblinRange, GoblinSection, GoblinSegment};
 use goblin::elf::program_header::PT_NULL;
 use goblin::elf::section_header::{SHT_NOBITS, SHT_NULL};
@@ -65,7 +65,7 @@ pub fn string_bytes(bytes: &[u8], range: &GoblinRange, offset: u64) -> Result<Op
     ensures { Answers (λ found. found) result
         (string_bytes_expected bytes.now range.now offset) }
 {
-    let strings = strings_of(bytes, range)?;
+    let strings = string_table_bytes(bytes, range)?;
     let start = offset as usize;
     if start >= strings.len() {
         return Ok(None);
@@ -81,7 +81,7 @@ pub fn string_is(bytes: &[u8], range: &GoblinRange, offset: u64, text: &[u8]) ->
     ensures { Answers (λ found. found) result
         (string_is_expected bytes.now range.now offset text.now) }
 {
-    let strings = strings_of(bytes, range)?;
+    let strings = string_table_bytes(bytes, range)?;
     Ok(if is_piece(strings, 0, offset as usize, text) {
         Some(())
     } else {
@@ -99,7 +99,7 @@ pub fn string_starts(
     ensures { Answers (λ found. found) result
         (string_starts_expected bytes.now range.now offset text.now) }
 {
-    let strings = strings_of(bytes, range)?;
+    let strings = string_table_bytes(bytes, range)?;
     Ok(if starts_piece(strings, 0, offset as usize, text) {
         Some(())
     } else {

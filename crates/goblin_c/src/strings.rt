@@ -11,7 +11,7 @@ use goblin::strtab::bytes_in_range;
 
 /// Returns the bytes of a string table.
 #[tactic(auto, unfolding(goblin_base::specs::Strtab::range_in))]
-pub fn strings_of<'a>(bytes: &'a [u8], range: &GoblinRange) -> Result<&'a [u8]>
+pub fn string_table_bytes<'a>(bytes: &'a [u8], range: &GoblinRange) -> Result<&'a [u8]>
     ensures given { Answers (λ strings. strings.now) result
         (strings_expected bytes.now range.now) }
     ensures fits { IfOk result (λ strings. range.now.offset + length strings.now ≤ length bytes.now) }
@@ -29,7 +29,7 @@ pub fn strings_of<'a>(bytes: &'a [u8], range: &GoblinRange) -> Result<&'a [u8]>
 pub fn string_at(bytes: &[u8], range: &GoblinRange, offset: u64) -> Result<Option<GoblinRange>>
     ensures { Answers (λ found. found) result (string_expected bytes.now range.now offset) }
 {
-    let strings = strings_of(bytes, range)?;
+    let strings = string_table_bytes(bytes, range)?;
     match strtab::string_at(strings, 0, offset as usize) {
         Some(text) => {
             let place = range.offset + offset;

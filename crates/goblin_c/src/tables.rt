@@ -7,7 +7,7 @@ ghost use Rattle.goblin_c.specs.Types.{reloc_converted, symbol_converted};
 use crate::headers::{ctx_of, sections_of};
 use crate::lists::{Listed, item_of};
 use crate::refused::{Result, refused_at};
-use crate::strings::strings_of;
+use crate::strings::string_table_bytes;
 use crate::types::{
     GoblinHeader, GoblinRange, GoblinReloc, GoblinSymbol, convert_reloc, convert_symbol,
 };
@@ -133,7 +133,7 @@ pub fn section_by_name(
         (section_by_name_expected bytes.now header.now names.now name.now first) }
 {
     let sections = sections_of(bytes, header)?;
-    let strings = strings_of(bytes, names)?;
+    let strings = string_table_bytes(bytes, names)?;
     let found = SectionHeader::find_in_from(&sections, first as usize, strings, 0, name);
     Ok(found.map(|index| index as u64))
 }
@@ -150,7 +150,7 @@ pub fn symbol_by_name(
         (symbol_by_name_expected bytes.now header.now range.now names.now name.now) }
 {
     let symbols = symbols_of(bytes, header, range)?;
-    let strings = strings_of(bytes, names)?;
+    let strings = string_table_bytes(bytes, names)?;
     let found = symbols.find_in(strings, 0, name);
     Ok(found.map(|index| index as u64))
 }
