@@ -12,7 +12,7 @@ use Rattle.goblin_base.specs.Search.{IsRising}
 use Rattle.std.proofs.lemmas.Str.{is_utf8-from_IsUtf8, IsUtf8-nil}
 use Rattle.goblin_base.specs.Pieces.{piece_end, is_readable, entries_from}
 use Rattle.goblin_base.proofs.WalkLemmas.{entries_more_bad}
-use Rattle.goblin_base.proofs.SoFarLemmas.{found_more, text_from_readable, entry_of_text}
+use Rattle.goblin_base.proofs.WalkProgressLemmas.{found_more, text_from_readable, entry_of_text}
 use Rattle.goblin_base.specs.Scan.{IsWalkedTo}
 use Rattle.goblin_base.specs.Entries.{next_of, entries_between, IsText, AreTexts}
 

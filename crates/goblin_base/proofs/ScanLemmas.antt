@@ -9,7 +9,7 @@ use Rattle.goblin_base.specs.Utf8.{awaits_first, after_byte}
 use Rattle.goblin_base.specs.Pieces.{piece_end, piece, is_readable}
 use Rattle.goblin_base.specs.Scan.{IsDamaged, IsScan, scan_end}
 use Rattle.goblin_base.proofs.Utf8Lemmas.{Completes, any_bounds, IsUtf8-from_Completes, Completes-from_IsUtf8}
-use Rattle.goblin_base.proofs.AwaitedLemmas.{CompletesFrom, IsInner, Steps, StepsTo, steps}
+use Rattle.goblin_base.proofs.Utf8ByteLemmas.{CompletesFrom, IsInner, Steps, StepsTo, steps}
 use Rattle.goblin_base.proofs.WalkLemmas.{bad_within}
 use Rattle.goblin_base.proofs.PiecesLemmas.{end_is, end_same, end_from, at_end, piece_more, piece_at_end}
 

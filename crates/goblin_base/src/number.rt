@@ -1,5 +1,5 @@
 //! Numbers in bytes, in either byte order: System V gABI, "Data Representation" and "Data Encoding".
-#![tactic(auto, using(crate::proofs::Orders::numbers))]
+#![tactic(auto, using(crate::proofs::ByteorderLemmas::numbers))]
 
 ghost use Rattle.std.specs.Prelude.{◌≡◌, ◌≤◌, ◌+◌, length};
 ghost use Rattle.goblin_base.specs.declared.container.Endian.{Endian};

@@ -16,9 +16,9 @@ use Rattle.goblin_base.specs.Strtab.{walked}
 use Rattle.goblin_base.specs.Utf8.{invalid_utf8}
 use Rattle.goblin_base.proofs.EntriesLemmas.{walked_none, walked_text}
 use Rattle.goblin_base.proofs.MarksLemmas.{low_is_text}
-use Rattle.goblin_base.proofs.SoFarLemmas.{IsTextSoFar, readable_from_text, bad_from_fault, bad_here, text_so_far_none}
-use Rattle.goblin_base.proofs.SoFarLemmas.{text_so_far_more, nothing_passed, walked_fault, walked_all}
-use Rattle.goblin_base.proofs.SoFarLemmas.{strict_if_not_permissive, found_all}
+use Rattle.goblin_base.proofs.WalkProgressLemmas.{IsTextSoFar, readable_from_text, bad_from_fault, bad_here}
+use Rattle.goblin_base.proofs.WalkProgressLemmas.{text_so_far_none, text_so_far_more, nothing_passed, walked_fault}
+use Rattle.goblin_base.proofs.WalkProgressLemmas.{walked_all, strict_if_not_permissive, found_all}
 use Rattle.goblin_base.proofs.walk.walk.Goals as goal
 
 -- what the test of the piece at i says of the bytes, which it didn't change

@@ -6,7 +6,7 @@ use Rattle.goblin_base.specs.Entries.{CountsAtLeast}
 use Rattle.goblin_base.specs.Marks.{HaveMarks}
 use Rattle.goblin_base.specs.Scan.{IsWalkedTo}
 use Rattle.goblin_base.specs.declared.options.ParseMode.TheVariants.{Strict}
-use Rattle.goblin_base.proofs.SoFarLemmas.{IsTextSoFar}
+use Rattle.goblin_base.proofs.WalkProgressLemmas.{IsTextSoFar}
 use Rattle.goblin_base.proofs.walk.walk.Given as goal
 
 abbrev pub invariant-loop-i : goal.invariant-loop-i
