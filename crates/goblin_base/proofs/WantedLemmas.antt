@@ -18,7 +18,7 @@ use Rattle.std.specs.List.{position_or_len, list_any}
 use Rattle.std.specs.Str.{bytes_eq, is_utf8}
 use Rattle.goblin_base.specs.Pieces.{piece}
 use Rattle.goblin_base.specs.Refusal.{Refusal}
-use Rattle.goblin_base.specs.Strtab.{StringTable, has_name, is_text_of}
+use Rattle.goblin_base.specs.Strtab.{has_name, is_text_of}
 use Rattle.goblin_base.specs.Wanted.{begins_at, can_be_string, is_apart, is_piece, stands_at, starts_piece}
 
 module _ (bytes : List ℕ) (d o : ℕ) where
@@ -154,13 +154,13 @@ reading_Decides true p name fault =
     ((λ t. (refl, (bytes_eq-Decides p name).0 t)), (λ h. (bytes_eq-Decides p name).1 h.1))
 reading_Decides false p name fault = ((λ t. absurd (false≢true t)), (λ h. absurd (false≢true h.0)))
 
-pub name_is_standing : (t : StringTable) (o : ℕ) (name : List ℕ)
-    → has_name t o name ≡ (ltb o (length t.bytes) && (stands_at t.bytes t.delim o name && can_be_string t.delim name))
+pub name_is_standing : (bytes : List ℕ) (d o : ℕ) (name : List ℕ)
+    → has_name bytes d o name ≡ (ltb o (length bytes) && (stands_at bytes d o name && can_be_string d name))
 unfolding has_name
-name_is_standing t o name =
-    ap (λ b. ltb o (length t.bytes) && b)
-    (same_from_decides _ _ (reading_Decides (is_utf8 (piece t.bytes t.delim o)) (piece t.bytes t.delim o) name _)
-    (stands_Decides t.bytes t.delim o name))
+name_is_standing bytes d o name =
+    ap (λ b. ltb o (length bytes) && b)
+    (same_from_decides _ _ (reading_Decides (is_utf8 (piece bytes d o)) (piece bytes d o) name _)
+    (stands_Decides bytes d o name))
 
 -- so the tests of the piece at an offset are those of the bytes there
 bool_Decides : (b : Bool) → Decides b (b ≡ true)

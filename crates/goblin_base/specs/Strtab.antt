@@ -19,10 +19,6 @@ pub record StringTable : Type 0 where
   pub delim : ℕ
   pub is_parsed : Bool
 
--- the table of these bytes, not parsed
-abbrev pub unparsed : List ℕ → ℕ → StringTable
-unparsed bytes delim = record { bytes = bytes; delim = delim; is_parsed = false }
-
 -- an error of the range: strict mode fails with it, permissive mode goes on with these bytes
 abbrev pub or_cut : ParseMode → Fault → List ℕ → Result (List ℕ) Fault
 or_cut Strict fault bytes = Err fault
@@ -78,10 +74,9 @@ abbrev pub is_text_of : List ℕ → Result (List ℕ) Refusal → Bool
 is_text_of name (Ok text) = bytes_eq text name
 is_text_of name (Err refusal) = false
 
--- whether the plain reading at an offset is this name; past the table there is none
-unfoldable pub has_name : StringTable → ℕ → List ℕ → Bool
-has_name table offset name =
-    nat_lt offset (length table.bytes) && is_text_of name (plain table.bytes table.delim offset)
+-- whether the plain reading at an offset is this name; past the bytes there is none
+unfoldable pub has_name : List ℕ → ℕ → ℕ → List ℕ → Bool
+has_name bytes delim offset name = nat_lt offset (length bytes) && is_text_of name (plain bytes delim offset)
 
 -- the look-up at an offset; a table that wasn't parsed has no texts
 abbrev pub look_up : StringTable → ℕ → Option (List ℕ)

@@ -10,7 +10,7 @@ ghost use Rattle.goblin_base.specs.Refusal.{Answers, Gives, malformed};
 ghost use Rattle.goblin_base.specs.Search.{IsLastUpTo};
 ghost use Rattle.goblin_base.specs.Steps.{refuse_as};
 ghost use Rattle.goblin_base.specs.Strtab.{IsRange, RefusesFirst, has_name, look_up, plain, range_in, strings_of, strtab_of};
-ghost use Rattle.goblin_base.specs.Strtab.{table_of, texts_of, unparsed};
+ghost use Rattle.goblin_base.specs.Strtab.{table_of, texts_of};
 ghost use Rattle.goblin_base.specs.Wanted.{begins_at, can_be_string, is_apart, is_piece, stands_at, starts_piece};
 ghost use Rattle.goblin_base.specs.StrtabLaws.{ClosedForm, DependsOnRange, DigitsCount, JoinsAgain, LookUpHasPlain};
 ghost use Rattle.goblin_base.specs.StrtabLaws.{PermissiveAccepts, StrictIsPermissive, StrictLookUpIsPlain, TextIsUtf8};
@@ -290,7 +290,7 @@ impl<'a> Strtab<'a> {
     /// tests the name itself only once.
     #[tactic(auto, using(crate::proofs::WantedLemmas::name_is_standing))]
     pub fn has_name(&self, offset: usize, name: &[u8]) -> bool
-        ensures { result ≡ has_name self.now offset name.now }
+        ensures { result ≡ has_name self.now.bytes self.now.delim offset name.now }
     {
         offset < self.bytes.len()
             && stands_at(self.bytes, self.delim, offset, name)
@@ -360,8 +360,7 @@ impl<'n> WantedName<'n> {
     /// their table. The name is read only to compare it.
     #[tactic(auto, using(crate::proofs::WantedLemmas::name_is_standing))]
     pub fn is_at(&self, strings: &[u8], offset: usize) -> bool
-        ensures { let table = unparsed strings.now self.now.delim in
-            result ≡ has_name table offset self.now.bytes }
+        ensures { result ≡ has_name strings.now self.now.delim offset self.now.bytes }
     {
         self.is_possible
             && offset < strings.len()
@@ -398,7 +397,8 @@ impl Wanted<'_> {
     /// compare it.
     #[tactic(auto, unfolding(crate::specs::Strtab::has_name))]
     pub fn is_at(&self, offset: usize) -> bool
-        ensures { result ≡ has_name self.now.table offset self.now.name }
+        ensures { let table = self.now.table in
+            result ≡ has_name table.bytes table.delim offset self.now.name }
     {
         let table: &Strtab<'_> = self.table;
         self.name.is_at(table.bytes, offset)

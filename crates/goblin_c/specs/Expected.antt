@@ -8,7 +8,7 @@ use Rattle.goblin_base.specs.declared.container.Endian.TheVariants as endian
 use Rattle.goblin_base.specs.declared.options.ParseMode.TheVariants.{Strict}
 use Rattle.goblin_base.specs.Refusal.{malformed, refusal_of}
 use Rattle.goblin_base.specs.Steps.{◌>>=◌, refuse_as}
-use Rattle.goblin_base.specs.Strtab.{range_in, plain, has_name, unparsed}
+use Rattle.goblin_base.specs.Strtab.{range_in, plain, has_name}
 use Rattle.goblin.specs.Addresses.{symbol_at}
 use Rattle.goblin.specs.declared.elf.section_header.SectionHeader.{SectionHeader}
 use Rattle.goblin.specs.ReadHeader.{read_header}
@@ -165,7 +165,7 @@ string_expected bytes range offset = do
 
 -- whether the plain reading at an offset of some strings is a name
 abbrev pub is_named : List ℕ → List ℕ → ℕ → Bool
-is_named strings name offset = has_name (unparsed strings 0) offset name
+is_named strings name offset = has_name strings 0 offset name
 
 -- the index of the first section with a name, from an index on, and of the first symbol with a name
 abbrev pub section_by_name_expected : List ℕ → GoblinHeader → GoblinRange → List ℕ → ℕ → Result (Option ℕ) RefusalAt

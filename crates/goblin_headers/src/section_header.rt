@@ -5,7 +5,7 @@ ghost use Rattle.std.specs.Option.{option_map};
 ghost use Rattle.goblin_base.specs.Fields.{values_of};
 ghost use Rattle.goblin_base.specs.Layout.{IsSameInEachClass};
 ghost use Rattle.goblin_base.specs.Refusal.{Answers, Gives, Refuses};
-ghost use Rattle.goblin_base.specs.Strtab.{has_name, unparsed};
+ghost use Rattle.goblin_base.specs.Strtab.{has_name};
 ghost use Rattle.goblin_headers.specs.Constants.{section_flag_numbers, section_index_numbers, section_type_numbers};
 ghost use Rattle.goblin_headers.specs.Ranges.{span};
 ghost use Rattle.goblin_headers.specs.SectionHeader.{as64, section_header64, section_header_image, section_header_layout, section_header_size};
@@ -294,8 +294,8 @@ impl SectionHeader {
     /// whose name is past the table's end or isn't UTF-8 has no name. At most `name.len() + 1`
     /// bytes are read for each section.
     pub fn find(sections: &[SectionHeader], names: &Strtab<'_>, name: &[u8]) -> Option<usize>
-        ensures { result
-            ≡ position (λ section. has_name names.now section.sh_name name.now) sections.now }
+        ensures { let is_named = has_name names.now.bytes names.now.delim in
+            result ≡ position (λ section. is_named section.sh_name name.now) sections.now }
     {
         let wanted = names.wanted(name);
         sections
@@ -312,8 +312,8 @@ impl SectionHeader {
         delim: u8,
         name: &[u8],
     ) -> Option<usize>
-        ensures { let table = unparsed strings.now delim in result
-            ≡ position (λ section. has_name table section.sh_name name.now) sections.now }
+        ensures { result ≡ position (λ section.
+            has_name strings.now delim section.sh_name name.now) sections.now }
     {
         let wanted = WantedName::new(name, delim);
         sections
@@ -329,9 +329,8 @@ impl SectionHeader {
         delim: u8,
         name: &[u8],
     ) -> Option<usize>
-        ensures value { let table = unparsed strings.now delim in result
-            ≡ position (λ section. has_name table section.sh_name name.now)
-            (drop first sections.now) }
+        ensures value { result ≡ position (λ section.
+            has_name strings.now delim section.sh_name name.now) (drop first sections.now) }
         ensures bound { IfSome result (λ place. first + place < 2 ^ 64) }
     {
         let wanted = WantedName::new(name, delim);
@@ -350,10 +349,8 @@ impl SectionHeader {
         delim: u8,
         name: &[u8],
     ) -> Option<usize>
-        ensures { let table = unparsed strings.now delim in
-            result ≡ option_map (λ place. first + place)
-            (position (λ section. has_name table section.sh_name name.now)
-            (drop first sections.now)) }
+        ensures { result ≡ option_map (λ place. first + place) (position (λ section.
+            has_name strings.now delim section.sh_name name.now) (drop first sections.now)) }
     {
         match SectionHeader::position_from(sections, first, strings, delim, name) {
             Some(place) => Some(first + place),

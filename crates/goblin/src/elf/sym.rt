@@ -4,7 +4,7 @@ ghost use Rattle.std.specs.Option.{option_map};
 ghost use Rattle.goblin.specs.AddressIndex.{IndexIsUnique};
 ghost use Rattle.goblin.specs.Addresses.{has_place, is_below, reaches, symbol_at, taken, SymbolAtComesFirst};
 ghost use Rattle.goblin.specs.Symtab.{symbols_at, symtab_by, symtab_in, symtab_of, DependsOnItsRange, PermissiveKeepsStrict};
-ghost use Rattle.goblin_base.specs.Strtab.{has_name, unparsed};
+ghost use Rattle.goblin_base.specs.Strtab.{has_name};
 ghost use Rattle.goblin_records.specs.Constants.{bind_numbers, type_numbers, visibility_numbers};
 ghost use Rattle.goblin_records.specs.Sym.{sym_size};
 
@@ -208,8 +208,8 @@ impl<'a> Symtab<'a> {
     /// name is past the table's end or isn't UTF-8 has no name. At most `name.len() + 1` bytes are
     /// read for each symbol.
     pub fn find(&self, names: &Strtab<'_>, name: &[u8]) -> Option<usize>
-        ensures { result
-            ≡ position (λ symbol. has_name names.now symbol.st_name name.now) self.now.symbols }
+        ensures { let is_named = has_name names.now.bytes names.now.delim in
+            result ≡ position (λ symbol. is_named symbol.st_name name.now) self.now.symbols }
     {
         let wanted = names.wanted(name);
         self.iter().position(|symbol| wanted.is_at(symbol.st_name))
@@ -218,8 +218,8 @@ impl<'a> Symtab<'a> {
     /// Returns the index of the first symbol with this name, as [`Symtab::find`] does. The names
     /// are read from the bytes of a string table whose strings end with `delim`.
     pub fn find_in(&self, strings: &[u8], delim: u8, name: &[u8]) -> Option<usize>
-        ensures { let table = unparsed strings.now delim in result
-            ≡ position (λ symbol. has_name table symbol.st_name name.now) self.now.symbols }
+        ensures { result ≡ position (λ symbol.
+            has_name strings.now delim symbol.st_name name.now) self.now.symbols }
     {
         let wanted = WantedName::new(name, delim);
         self.iter()

@@ -2,7 +2,7 @@ use Rattle.std.proofs.Common.{rules, ◌∙◌}
 use Rattle.std.proofs.lemmas.Iterator.Adapters.{YieldsList-from_skip}
 use Rattle.std.proofs.lemmas.Iterator.Consumers.{YieldsList-from_first}
 use Rattle.std.proofs.lemmas.Iterator.Search.{position_from_yields_List}
-use Rattle.goblin_base.specs.Strtab.{has_name, unparsed}
+use Rattle.goblin_base.specs.Strtab.{has_name}
 use Rattle.goblin_headers.proofs.section_header.SectionHeader.position_from.Goals as goal
 
 pub returns-clause-value : goal.returns-clause-value
@@ -11,5 +11,5 @@ returns-clause-value c =
     (YieldsList-from_first (λ x. x) (λ left. left) c.args.sections.now (c.skip.ensures.source ∙ c.iter.ensures.value))
     c.skip.ensures.count in
     position_from_yields_List
-    (λ section. has_name (unparsed c.args.strings.now c.args.delim) section.sh_name c.args.name.now) _ _
+    (λ section. has_name c.args.strings.now c.args.delim section.sh_name c.args.name.now) _ _
     c.position.result c.position.ensures.ran rest (λ x b q k. search rules)

@@ -6,7 +6,9 @@ use Rattle.goblin.proofs.elf.sym.Symtab.find.Goals as goal
 
 pub returns : goal.returns
 returns c =
+    let names = c.args.names.now in
     position_from_yields_List
-    (λ symbol. has_name c.args.names.now symbol.st_name c.args.name.now) _ _ c.position.result c.position.ensures.ran
+    (λ symbol. has_name names.bytes names.delim symbol.st_name c.args.name.now) _ _ c.position.result
+    c.position.ensures.ran
     (YieldsList-from_first (λ x. x) (λ left. left) c.args.self.now.symbols c.iter.ensures.value)
     (λ x b q k. search rules)
