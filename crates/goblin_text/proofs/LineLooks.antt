@@ -45,6 +45,15 @@ named_line_looks head name =
       lines-append (printed name) newline,
     )
 
+-- names are read, and then more names
+pub more_names : (old mid new : NamesView) (a b most : ℕ)
+    → a + b ≤ most → ReadsNames old mid 0 a → ReadsNames mid new 0 b → ReadsNames old new 0 most
+more_names old mid new a b most l s t = record {
+  unchanged = t.unchanged ∙ s.unchanged;
+  looks = λ short. omega (arith, l, s.looks short, t.looks (subst IsShort (sym s.unchanged) short));
+  looks_least = omega (arith, s.looks_least, t.looks_least);
+}
+
 -- of a text the names so far were read, and the looks of the rest are left
 pub record ReadSoFar (old new : NamesView) (all rest : List ℕ) : Type 0 where
   pub unchanged : new.bytes ≡ old.bytes
@@ -116,18 +125,11 @@ pub names_in_parts : (old mid new : NamesView) (header : Header) (sections : Lis
 names_in_parts old mid new header sections parts symbols s are t =
     let text : symbols_text mid.bytes symbols ≡ symbols_text old.bytes (vec_items parts.symbols) =
     ap (λ b. symbols_text b symbols) s.unchanged ∙ ap (symbols_text old.bytes) are in
-    record {
-      unchanged = t.unchanged ∙ s.unchanged;
-      looks = λ short.
-          omega (
-            arith,
-            s.looks short,
-            t.looks (subst IsShort (sym s.unchanged) short),
-            ap names_looks text,
-            parts_looks old.bytes header sections parts,
-          );
-      looks_least = omega (arith, s.looks_least, t.looks_least);
-    }
+    let most : names_looks (section_lines (strings_in old.bytes parts.strings) 0 sections)
+    + names_looks (symbols_text mid.bytes symbols)
+    ≤ names_looks (parts_text old.bytes header sections parts) =
+    omega (arith, ap names_looks text, parts_looks old.bytes header sections parts) in
+    more_names old mid new _ _ _ most s t
 
 -- ---- lines
 header-line : (h : Header) → 1 ≤ lines_in (header_line h)

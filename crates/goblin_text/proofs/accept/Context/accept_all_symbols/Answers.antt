@@ -1,9 +1,11 @@
 use Rattle.std.proofs.Common.{arith}
 use Rattle.std.proofs.lemmas.Grind.{common_steps}
+use Rattle.goblin_text.proofs.LineLooks.{more_names}
 use Rattle.goblin_text.proofs.accept.Context.accept_all_symbols.Goals as goal
 
 pub loop-number-preserved : goal.loop-number-preserved
 loop-number-preserved c = record {
-  reading = grind (arith, common_steps);
+  reading = more_names c.args.file.now c.loop-number.file c.accept_symbols.new.file _ _ _ (omega arith)
+      c.loop-number.invariant.reading c.in_ok-accept_symbols.ensures.reading;
   shown = grind (arith, common_steps);
 }
