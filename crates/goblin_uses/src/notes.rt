@@ -10,6 +10,7 @@ use goblin::container::Ctx;
 use goblin::elf::note::{Note, NoteDataIterator};
 use goblin::elf::section_header::SectionHeader;
 use goblin::error::Result;
+use std::alloc::AllocError;
 
 /// Returns the notes of a section.
 pub fn notes_of<'a>(bytes: &'a [u8], section: &SectionHeader, ctx: Ctx) -> NoteDataIterator<'a>
@@ -32,6 +33,15 @@ pub fn count_notes(notes: NoteDataIterator) -> usize
     ensures { result ≡ length (items_left notes.entry) }
 {
     notes.count()
+}
+
+// Adds the line with the number of notes.
+fn push_count(text: &mut String, notes: NoteDataIterator) -> std::result::Result<(), AllocError>
+    ensures { OnOk result (string_bytes text.new ≡ string_bytes text.old
+        ++ (decimal (length (items_left notes.entry)) & codes " notes\n")) }
+{
+    let count = count_notes(notes);
+    write!(text, "{count} notes\n")
 }
 
 // Adds the line of a note, or returns the error of one that can't be read.
@@ -60,8 +70,7 @@ pub fn push_notes(
     section: &SectionHeader,
     ctx: Ctx,
 ) -> Result<()> {
-    let count = count_notes(notes_of(bytes, section, ctx));
-    write!(text, "{count} notes\n")?;
+    push_count(text, notes_of(bytes, section, ctx))?;
     let notes = notes_of(bytes, section, ctx);
     for note in notes {
         push_line(text, note)?;
