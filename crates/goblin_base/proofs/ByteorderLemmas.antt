@@ -9,7 +9,7 @@ use Rattle.byteorder.specs.Endian.{big_from, little_from}
 use Rattle.byteorder.specs.Numbers.{big_from-cons, little_from-cons}
 use Rattle.goblin_base.specs.declared.container.Endian.{Endian}
 use Rattle.goblin_base.specs.declared.container.Endian.TheVariants.{Little, Big}
-use Rattle.goblin_base.specs.Number.{weighted_sum, number, digits, spelled, number_at}
+use Rattle.goblin_base.specs.Number.{weighted_sum, number, low_bytes, spelled, number_at}
 use Rattle.goblin_base.specs.NumberLaws.{weighted_sum-cons, weighted_sum-last, number-one, spelled-one, length-spelled}
 use Rattle.goblin_base.specs.NumberLaws.{number-spelled, spelled-number}
 use Rattle.goblin_base.specs.FieldLaws.{number_at-with_number}
@@ -41,25 +41,25 @@ next_power : (k x : ℕ) → x / 256 ^ k / 256 ≡ x / 256 ^ suc k
 next_power k x = div-div-eq-div-mul x (256 ^ k) 256 ∙ ap (λ (p : ℕ). x / p) (sym (pow-suc 256 k))
 
 -- the bytes that `LittleEndian` writes
-bytes_low_first-is : (k i x : ℕ) → bytes_low_first i k x ≡ digits k (x / 256 ^ i)
+bytes_low_first-is : (k i x : ℕ) → bytes_low_first i k x ≡ low_bytes k (x / 256 ^ i)
 bytes_low_first-is zero i x = refl
 bytes_low_first-is (suc k) i x = rw (byte_at-pow i x, next_power i x, bytes_low_first-is k (suc i) x) refl
 
 -- the digits of a number, and the next one above them
-digits-last : (k x : ℕ) → digits (suc k) x ≡ digits k x ++ x / 256 ^ k % 256 ∷ []
-digits-last zero x = rw (div-one x) refl
-digits-last (suc k) x =
-    let rest = digits-last k (x / 256) in
+low_bytes-last : (k x : ℕ) → low_bytes (suc k) x ≡ low_bytes k x ++ x / 256 ^ k % 256 ∷ []
+low_bytes-last zero x = rw (div-one x) refl
+low_bytes-last (suc k) x =
+    let rest = low_bytes-last k (x / 256) in
     let e = div-div-eq-div-mul x 256 (256 ^ k) in
     let p : 256 * 256 ^ k ≡ 256 ^ suc k = omega (arith, pow-suc 256 k) in
-    ap (λ ds. x % 256 ∷ ds) (rest ∙ ap (λ d. digits k (x / 256) ++ d % 256 ∷ []) (e ∙ ap (λ (p : ℕ). x / p) p))
+    ap (λ ds. x % 256 ∷ ds) (rest ∙ ap (λ d. low_bytes k (x / 256) ++ d % 256 ∷ []) (e ∙ ap (λ (p : ℕ). x / p) p))
 
 -- the bytes that `BigEndian` writes
-bytes_high_first-is : (k x : ℕ) → bytes_high_first k x ≡ reverse (digits k x)
+bytes_high_first-is : (k x : ℕ) → bytes_high_first k x ≡ reverse (low_bytes k x)
 bytes_high_first-is zero x = refl
 bytes_high_first-is (suc k) x =
-    let turned = reverse-append (digits k x) (x / 256 ^ k % 256 ∷ []) in
-    rw (byte_at-pow k x, bytes_high_first-is k x, digits-last k x, turned) refl
+    let turned = reverse-append (low_bytes k x) (x / 256 ^ k % 256 ∷ []) in
+    rw (byte_at-pow k x, bytes_high_first-is k x, low_bytes-last k x, turned) refl
 
 -- the slice of the n bytes at an offset
 part : (bytes : List ℕ) (place n : ℕ) → take (place + n - place) (drop place bytes) ≡ take n (drop place bytes)
@@ -107,8 +107,8 @@ pub write_little : (order : Endian) (bytes new : List ℕ) (place n x : ℕ)
     → put_mid place (place + n - place) bytes new ≡ with_number order bytes place n x
 unfolding spelled with_number
 write_little order bytes new place n x is h e =
-    let same : bytes_low_first 0 n x ≡ digits n x = bytes_low_first-is n 0 x ∙ ap (digits n) (div-one x) in
-    rw is (written bytes (digits n x) new place n h (rw same at e))
+    let same : bytes_low_first 0 n x ≡ low_bytes n x = bytes_low_first-is n 0 x ∙ ap (low_bytes n) (div-one x) in
+    rw is (written bytes (low_bytes n x) new place n h (rw same at e))
 
 -- what `BigEndian` writes at an offset
 pub write_big : (order : Endian) (bytes new : List ℕ) (place n x : ℕ)
@@ -117,7 +117,7 @@ pub write_big : (order : Endian) (bytes new : List ℕ) (place n x : ℕ)
     → put_mid place (place + n - place) bytes new ≡ with_number order bytes place n x
 unfolding spelled with_number
 write_big order bytes new place n x is h e =
-    rw is (written bytes (reverse (digits n x)) new place n h (rw (bytes_high_first-is n x) at e))
+    rw is (written bytes (reverse (low_bytes n x)) new place n h (rw (bytes_high_first-is n x) at e))
 
 -- the byte at an offset
 pub read_one : (order : Endian) (bytes : List ℕ) (place : ℕ)

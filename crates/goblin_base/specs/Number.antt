@@ -23,14 +23,14 @@ abbrev pub number_at : Endian → List ℕ → ℕ → ℕ → ℕ
 number_at order bytes place width = number order (take width (drop place bytes))
 
 -- the lowest `width` digits of a number in base 256, the lowest first
-abbrev pub digits : ℕ → ℕ → List ℕ
-digits zero x = []
-digits (suc width) x = x % 256 ∷ digits width (x / 256)
+abbrev pub low_bytes : ℕ → ℕ → List ℕ
+low_bytes zero x = []
+low_bytes (suc width) x = x % 256 ∷ low_bytes width (x / 256)
 
 -- the `width` bytes of a number, or of its low digits if it doesn't fit
 unfoldable pub spelled : Endian → ℕ → ℕ → List ℕ
-spelled Little width x = digits width x
-spelled Big width x = reverse (digits width x)
+spelled Little width x = low_bytes width x
+spelled Big width x = reverse (low_bytes width x)
 
 -- a number that fits a width is read back from its bytes
 abbrev pub ReadsSpelling : Type 0

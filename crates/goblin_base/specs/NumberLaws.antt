@@ -7,7 +7,7 @@ use Rattle.std.proofs.lemmas.List.{length-reverse, reverse-reverse, get_or-rever
 use lib.Arith.{mod-mul}
 use Rattle.goblin_base.specs.declared.container.Endian.{Endian}
 use Rattle.goblin_base.specs.declared.container.Endian.TheVariants.{Little, Big}
-use Rattle.goblin_base.specs.Number.{IsBytes, weighted_sum, number, digits, spelled}
+use Rattle.goblin_base.specs.Number.{IsBytes, weighted_sum, number, low_bytes, spelled}
 
 -- a rank higher is 256 times as much
 pub weighted_sum-next : (rank : ℕ) (bytes : List ℕ) → weighted_sum (rank + 1) bytes ≡ 256 * weighted_sum rank bytes
@@ -31,9 +31,9 @@ weighted_sum-last (first ∷ bytes) byte =
     rw (weighted_sum-cons first (bytes ++ byte ∷ []), weighted_sum-cons first bytes, rest, power) (omega arith)
 
 -- the digits are as many as the width
-pub length-digits : (n x : ℕ) → length (digits n x) ≡ n
-length-digits zero x = refl
-length-digits (suc n) x = let e = length-digits n (x / 256) in omega (arith, e)
+pub length-low_bytes : (n x : ℕ) → length (low_bytes n x) ≡ n
+length-low_bytes zero x = refl
+length-low_bytes (suc n) x = let e = length-low_bytes n (x / 256) in omega (arith, e)
 
 -- the number of n bytes is below 256 ^ n
 pub weighted_sum-lt : (bytes : List ℕ) → IsBytes bytes → weighted_sum 0 bytes < 256 ^ length bytes
@@ -44,22 +44,22 @@ weighted_sum-lt (b ∷ bytes) h =
     rw (weighted_sum-cons b bytes, pow-suc 256 (length bytes)) (omega arith)
 
 -- a number that fits is the sum of its digits
-pub weighted_sum-digits : (n x : ℕ) → x < 256 ^ n → weighted_sum 0 (digits n x) ≡ x
-weighted_sum-digits zero x h = omega arith
-weighted_sum-digits (suc n) x h =
+pub weighted_sum-low_bytes : (n x : ℕ) → x < 256 ^ n → weighted_sum 0 (low_bytes n x) ≡ x
+weighted_sum-low_bytes zero x h = omega arith
+weighted_sum-low_bytes (suc n) x h =
     let e = pow-suc 256 n in
     let small : x / 256 < 256 ^ n = omega arith in
-    let rest = weighted_sum-digits n (x / 256) small in
+    let rest = weighted_sum-low_bytes n (x / 256) small in
     rw weighted_sum-cons (omega (arith, rest))
 
 -- bytes are the digits of their number
-pub digits-weighted_sum : (bytes : List ℕ) → IsBytes bytes → digits (length bytes) (weighted_sum 0 bytes) ≡ bytes
-digits-weighted_sum [] h = refl
-digits-weighted_sum (b ∷ bytes) h =
+pub low_bytes-weighted_sum : (bytes : List ℕ) → IsBytes bytes → low_bytes (length bytes) (weighted_sum 0 bytes) ≡ bytes
+low_bytes-weighted_sum [] h = refl
+low_bytes-weighted_sum (b ∷ bytes) h =
     let byte : b < 256 = h 0 in
     let low : (b + 256 * weighted_sum 0 bytes) % 256 ≡ b = omega arith in
     let high : (b + 256 * weighted_sum 0 bytes) / 256 ≡ weighted_sum 0 bytes = omega arith in
-    let rest = digits-weighted_sum bytes (λ i. h (suc i)) in
+    let rest = low_bytes-weighted_sum bytes (λ i. h (suc i)) in
     rw (weighted_sum-cons b bytes, low, high, rest) refl
 
 -- reversed bytes are bytes
@@ -72,16 +72,16 @@ IsBytes-reverse bytes h i =
     ]
 
 -- the digits of a number are bytes
-IsBytes-digits : (n x : ℕ) → IsBytes (digits n x)
-IsBytes-digits zero x i = omega arith
-IsBytes-digits (suc n) x zero = omega arith
-IsBytes-digits (suc n) x (suc i) = IsBytes-digits n (x / 256) i
+IsBytes-low_bytes : (n x : ℕ) → IsBytes (low_bytes n x)
+IsBytes-low_bytes zero x i = omega arith
+IsBytes-low_bytes (suc n) x zero = omega arith
+IsBytes-low_bytes (suc n) x (suc i) = IsBytes-low_bytes n (x / 256) i
 
 -- the bytes of a number are bytes
 pub IsBytes-spelled : (order : Endian) (n x : ℕ) → IsBytes (spelled order n x)
 unfolding spelled
-IsBytes-spelled Little n x = IsBytes-digits n x
-IsBytes-spelled Big n x = IsBytes-reverse (digits n x) (IsBytes-digits n x)
+IsBytes-spelled Little n x = IsBytes-low_bytes n x
+IsBytes-spelled Big n x = IsBytes-reverse (low_bytes n x) (IsBytes-low_bytes n x)
 
 -- bytes before bytes are bytes
 pub IsBytes-append : (front back : List ℕ) → IsBytes front → IsBytes back → IsBytes (front ++ back)
@@ -92,8 +92,8 @@ IsBytes-append (x ∷ front) back f b (suc i) = IsBytes-append front back (λ j.
 -- the bytes of a number are as many as the width
 pub length-spelled : (order : Endian) (n x : ℕ) → length (spelled order n x) ≡ n
 unfolding spelled
-length-spelled Little n x = length-digits n x
-length-spelled Big n x = length-reverse (digits n x) ∙ length-digits n x
+length-spelled Little n x = length-low_bytes n x
+length-spelled Big n x = length-reverse (low_bytes n x) ∙ length-low_bytes n x
 
 -- the number of n bytes is below 256 ^ n
 pub number-lt : (order : Endian) (bytes : List ℕ) → IsBytes bytes → number order bytes < 256 ^ length bytes
@@ -104,35 +104,35 @@ number-lt Big bytes h = rw (← length-reverse bytes) (weighted_sum-lt (reverse 
 -- a number that fits is read back
 pub number-spelled : (order : Endian) (n x : ℕ) → x < 256 ^ n → number order (spelled order n x) ≡ x
 unfolding number spelled
-number-spelled Little n x h = weighted_sum-digits n x h
-number-spelled Big n x h = ap (weighted_sum 0) (reverse-reverse (digits n x)) ∙ weighted_sum-digits n x h
+number-spelled Little n x h = weighted_sum-low_bytes n x h
+number-spelled Big n x h = ap (weighted_sum 0) (reverse-reverse (low_bytes n x)) ∙ weighted_sum-low_bytes n x h
 
 -- the number of some bytes is written as the same bytes
 pub spelled-number : (order : Endian) (bytes : List ℕ)
     → IsBytes bytes → spelled order (length bytes) (number order bytes) ≡ bytes
 unfolding number spelled
-spelled-number Little bytes h = digits-weighted_sum bytes h
+spelled-number Little bytes h = low_bytes-weighted_sum bytes h
 spelled-number Big bytes h =
-    let e = digits-weighted_sum (reverse bytes) (IsBytes-reverse bytes h) in
+    let e = low_bytes-weighted_sum (reverse bytes) (IsBytes-reverse bytes h) in
     rw length-reverse at (ap reverse e) ∙ reverse-reverse bytes
 
 -- the digits of a number depend on its low part only
-digits-mod : (n x : ℕ) → digits n (x % 256 ^ n) ≡ digits n x
-digits-mod zero x = refl
-digits-mod (suc n) x =
+low_bytes-mod : (n x : ℕ) → low_bytes n (x % 256 ^ n) ≡ low_bytes n x
+low_bytes-mod zero x = refl
+low_bytes-mod (suc n) x =
     let positive : 0 < 256 ^ n = omega (arith, one-le-pow n 256 (omega arith)) in
     let power : 256 ^ suc n ≡ 256 ^ n * 256 = omega (arith, pow-suc 256 n) in
     let split : x % 256 ^ suc n ≡ (x / 256 % 256 ^ n) * 256 + x % 256 =
     ap (λ (m : ℕ). x % m) power ∙ mod-mul x positive (omega arith) in
     let low : x % 256 ^ suc n % 256 ≡ x % 256 = omega (arith, split) in
     let high : x % 256 ^ suc n / 256 ≡ x / 256 % 256 ^ n = omega (arith, split) in
-    rw (low, high, digits-mod n (x / 256)) refl
+    rw (low, high, low_bytes-mod n (x / 256)) refl
 
 -- so do its bytes
 pub spelled-mod : (order : Endian) (n x : ℕ) → spelled order n (x % 256 ^ n) ≡ spelled order n x
 unfolding spelled
-spelled-mod Little n x = digits-mod n x
-spelled-mod Big n x = ap reverse (digits-mod n x)
+spelled-mod Little n x = low_bytes-mod n x
+spelled-mod Big n x = ap reverse (low_bytes-mod n x)
 
 -- the number of one byte is the byte
 pub number-one : (order : Endian) (b : ℕ) → number order (b ∷ []) ≡ b
