@@ -38,7 +38,7 @@ pub struct Buffered<'a, W> {
 
 impl<'a, W: Sink> Buffered<'a, W> {
     /// Returns an empty buffer.
-    #[tactic(auto, using(crate::proofs::Puts::emptied))]
+    #[tactic(auto, using(crate::proofs::TargetLemmas::emptied))]
     pub fn new(writer: &'a mut W) -> Self
         ensures same_writer { result.writer.ghost_name ≡ writer.entry.ghost_name }
         ensures writer { result.writer.now ≡ writer.old }
