@@ -16,7 +16,7 @@ use Rattle.goblin.specs.Symtab.{symtab_by}
 use Rattle.goblin.specs.SymtabLaws.{permissive_keeps_strict}
 use Rattle.std.specs.Prelude.{slice_get}
 use Rattle.goblin_text.specs.Shown.{ctx_of, each_shown, file_shown, has_symbols, sections_of, shown, sizes_checked}
-use Rattle.goblin_text.specs.Shown.{strings_at, strings_of, symbols_shown, PermissiveShowsStrict}
+use Rattle.goblin_text.specs.Shown.{section_strings, strings_at, symbols_shown, PermissiveShowsStrict}
 
 -- the second result is the first one, if that is a value
 abbrev pub Keeps : {A E : Type 0} → Result A E → Result A E → Type 0
@@ -55,7 +55,8 @@ sections bytes h ctx =
     (within refusal_of _ _ λ done h. passes (length bytes) found) λ done. same (Ok found)
 
 strings_here : StrictIsPermissive
-    → (bytes : List ℕ) (s : Option SectionHeader) → Keeps (strings_of Strict bytes s) (strings_of Permissive bytes s)
+    → (bytes : List ℕ) (s : Option SectionHeader)
+    → Keeps (section_strings Strict bytes s) (section_strings Permissive bytes s)
 strings_here strtabs bytes None = same _
 strings_here strtabs bytes (Some s) = strtabs bytes s.sh_offset s.sh_size 0
 

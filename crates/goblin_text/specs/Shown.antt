@@ -46,13 +46,13 @@ sections_of mode bytes h ctx = do
   Ok sections
 
 -- the string table that a section is, or an empty one without a section
-abbrev pub strings_of : ParseMode → List ℕ → Option SectionHeader → Result StringTable Refusal
-strings_of mode bytes None = Ok (text_table [])
-strings_of mode bytes (Some s) = strtab_of mode bytes s.sh_offset s.sh_size 0
+abbrev pub section_strings : ParseMode → List ℕ → Option SectionHeader → Result StringTable Refusal
+section_strings mode bytes None = Ok (text_table [])
+section_strings mode bytes (Some s) = strtab_of mode bytes s.sh_offset s.sh_size 0
 
 -- the string table that others name by an index
 unfoldable pub strings_at : ParseMode → List ℕ → List SectionHeader → ℕ → Result StringTable Refusal
-strings_at mode bytes sections index = strings_of mode bytes (linked index (slice_get sections index))
+strings_at mode bytes sections index = section_strings mode bytes (linked index (slice_get sections index))
 
 -- the string at an offset of a table, or an empty one if there is none
 abbrev pub name_at : StringTable → ℕ → List ℕ
