@@ -1,5 +1,5 @@
 -- What clauses see of a `Counted`.
-use Rattle.goblin_text.specs.StreamMarks.{Marks}
+use Rattle.goblin_text.specs.StreamMarks.{StreamMarks}
 use Rattle.goblin_text.specs.declared.counted.Counted.{Counted}
 
 -- the reader or writer inside
@@ -7,7 +7,7 @@ abbrev pub inner_of : {T : Type 0} → Counted T → T
 inner_of c = c.inner
 
 -- what it has reported so far
-abbrev pub marks_of : {T : Type 0} → Counted T → Marks
+abbrev pub marks_of : {T : Type 0} → Counted T → StreamMarks
 marks_of c =
     record {
       read_calls = c.read_calls;

@@ -7,7 +7,7 @@ use Rattle.goblin.specs.Texts.{◌&◌, refusal_text}
 use Rattle.goblin.specs.declared.error.Error.{Error}
 use Rattle.goblin.specs.declared.options.ParseMode.{ParseMode}
 use Rattle.goblin_text.specs.ShownLines.{newline}
-use Rattle.goblin_text.specs.StreamMarks.{Marks}
+use Rattle.goblin_text.specs.StreamMarks.{StreamMarks}
 use Rattle.goblin_text.specs.Shown.{shown}
 use Rattle.goblin_text.specs.declared.input.Input.{Input}
 use Rattle.goblin_text.specs.declared.input.Input.TheVariants as inputs
@@ -23,7 +23,7 @@ abbrev pub read_limit : ℕ
 read_limit = 33554432
 
 -- The reader returned these bytes, which are no more than the program takes, and its end: none is left.
-pub record ReadsAll (old new : Option (List ℕ)) (marks : Marks) (bytes : List ℕ) : Type 0 where
+pub record ReadsAll (old new : Option (List ℕ)) (marks : StreamMarks) (bytes : List ℕ) : Type 0 where
   pub taken : Consumes old new bytes
   pub all : IsAtEnd new
   pub short : length bytes ≤ input_limit
@@ -39,24 +39,24 @@ abbrev pub ReadsAtMostOneMore : Option (List ℕ) → Option (List ℕ) → Type
 ReadsAtMostOneMore old new = (bytes : List ℕ) × Consumes old new bytes × (length bytes ≤ input_limit + 1)
 
 -- The reader was called this often, and didn't return its end.
-pub record ReadsInVain (limit : ℕ) (before after : Marks) : Type 0 where
+pub record ReadsInVain (limit : ℕ) (before after : StreamMarks) : Type 0 where
   pub calls : min (before.read_calls + limit) (2 ^ 64 - 1) ≤ after.read_calls
   pub endless : after.reported_end ≡ before.reported_end
 
 -- The reader reported an error that was no interruption, or it was called as often as it may be, without an end.
-pub record FailsToRead (before after : Marks) : Type 0 where
+pub record FailsToRead (before after : StreamMarks) : Type 0 where
   pub error : IsTrue after.reported_error
   pub reason : IsTrue after.reported_failure ⊎ ReadsInVain read_limit before after
 
 -- what was read: memory runs out before a call that was still to be made
-abbrev pub IsInput : Input → Option (List ℕ) → Option (List ℕ) → Marks → Marks → Type 0
+abbrev pub IsInput : Input → Option (List ℕ) → Option (List ℕ) → StreamMarks → StreamMarks → Type 0
 IsInput (inputs.Whole v) old new before after = ReadsAll old new after (vec_items v)
 IsInput inputs.TooLong old new before after = (bytes : List ℕ) × ReadsTooMuch old new bytes
 IsInput inputs.OutOfMemory old new before after = after.read_calls < before.read_calls + read_limit
 IsInput inputs.Failed old new before after = FailsToRead before after
 
 -- what was read in so many calls: in fewer than there may be bytes, the reader may report no error
-abbrev pub IsInputWithin : (limit : ℕ) → Input → Option (List ℕ) → Option (List ℕ) → Marks → Marks → Type 0
+abbrev pub IsInputWithin : (limit : ℕ) → Input → Option (List ℕ) → Option (List ℕ) → StreamMarks → StreamMarks → Type 0
 IsInputWithin limit (inputs.Whole v) old new before after = ReadsAll old new after (vec_items v)
 IsInputWithin limit inputs.TooLong old new before after = (bytes : List ℕ) × ReadsTooMuch old new bytes
 IsInputWithin limit inputs.OutOfMemory old new before after = after.read_calls < before.read_calls + limit
@@ -65,7 +65,7 @@ IsInputWithin limit inputs.Failed old new before after =
     × (input_limit < limit → IsTrue after.reported_error)
 
 -- the writer holds the text of all bytes more, and no other
-abbrev pub IsShown : ParseMode → (old new : Option (List ℕ)) → Marks → (held holds : Option (List ℕ)) → Type 0
+abbrev pub IsShown : ParseMode → (old new : Option (List ℕ)) → StreamMarks → (held holds : Option (List ℕ)) → Type 0
 IsShown mode old new marks held holds =
     (bytes : List ℕ) × ReadsAll old new marks bytes × (text : List ℕ) × (shown mode bytes ≡ Ok text)
     × Appends held holds text
@@ -79,7 +79,7 @@ abbrev pub usage_line : List ℕ
 usage_line = codes "usage: goblin_show [permissive]" & newline
 
 -- the writer holds the line on how the program is called more, and no other, or it reported an error
-abbrev pub WritesUsage : Option (List ℕ) → Option (List ℕ) → Marks → Type 0
+abbrev pub WritesUsage : Option (List ℕ) → Option (List ℕ) → StreamMarks → Type 0
 WritesUsage held holds marks = Appends held holds usage_line ⊎ IsTrue marks.reported_error
 
 -- a line for an error: its text, unless memory ran out
@@ -93,7 +93,7 @@ too_long = codes "input is longer than " & decimal input_limit & codes " bytes"
 
 -- why a line is written in place of a text: all bytes were read and are refused, or they are too many, or memory ran
 -- out
-abbrev pub IsReason : ParseMode → (old new : Option (List ℕ)) → Marks → List ℕ → Type 0
+abbrev pub IsReason : ParseMode → (old new : Option (List ℕ)) → StreamMarks → List ℕ → Type 0
 IsReason mode old new marks line =
     ((bytes : List ℕ) × ReadsAll old new marks bytes × (r : Refusal) × (shown mode bytes ≡ Err r)
     × (line ≡ refusal_text r))
@@ -107,8 +107,8 @@ IsReasonOf mode bytes line =
 
 -- How a run ended. Of the reader, what is left and the marks are given, before and after; of the writer, what it holds
 -- and the marks.
-pub record HasRun (mode : ParseMode) (outcome : Outcome) (old new : Option (List ℕ)) (before after : Marks)
-    (held holds : Option (List ℕ)) (first last : Marks) : Type 0 where
+pub record HasRun (mode : ParseMode) (outcome : Outcome) (old new : Option (List ℕ)) (before after : StreamMarks)
+    (held holds : Option (List ℕ)) (first last : StreamMarks) : Type 0 where
   -- the reader returned its end, and the text of all its bytes was written
   pub shown : outcome ≡ outcomes.Shown → IsShown mode old new after held holds
   -- one line with the reason was written

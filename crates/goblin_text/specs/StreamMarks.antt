@@ -8,14 +8,14 @@ use Rattle.std.specs.declared.io.ErrorKind.TheVariants.{Interrupted}
 
 -- how many read calls there were, which stops at the greatest u64, and whether an error, a read error that is no
 -- interruption, and the end were reported
-pub record Marks : Type 0 where
+pub record StreamMarks : Type 0 where
   pub read_calls : ℕ
   pub reported_error : Bool
   pub reported_failure : Bool
   pub reported_end : Bool
 
 -- before any call
-abbrev pub no_marks : Marks
+abbrev pub no_marks : StreamMarks
 no_marks = record { read_calls = 0; reported_error = false; reported_failure = false; reported_end = false }
 
 -- the kind of an error after which a call is tried again
@@ -34,7 +34,7 @@ is_end (Ok count) buf = (count == 0) && nat_lt 0 (length buf)
 is_end (Err e) buf = false
 
 -- the marks after `read(buf)` returned this
-abbrev pub after_read : Marks → Result ℕ Error → List ℕ → Marks
+abbrev pub after_read : StreamMarks → Result ℕ Error → List ℕ → StreamMarks
 after_read m answer buf = record {
   read_calls = min (m.read_calls + 1) (2 ^ 64 - 1);
   reported_error = m.reported_error || is_err answer;
@@ -43,5 +43,5 @@ after_read m answer buf = record {
 }
 
 -- the marks after `write_all` or `flush` returned this
-abbrev pub after_write : {T E : Type 0} → Marks → Result T E → Marks
+abbrev pub after_write : {T E : Type 0} → StreamMarks → Result T E → StreamMarks
 after_write m answer = record m { reported_error = m.reported_error || is_err answer }

@@ -3,7 +3,7 @@ ghost use Rattle.std.specs.Prelude.{◌≡◌, ℕ, List, Option, OnOk};
 ghost use Rattle.std.specs.Io.{ReadsAtMost};
 ghost use Rattle.std.specs.Io.KnownBytes.{Appends, Keeps, ReadConsumes};
 ghost use Rattle.std.specs.IoError.{error_kind};
-ghost use Rattle.goblin_text.specs.StreamMarks.{Marks, after_read, after_write, is_interruption};
+ghost use Rattle.goblin_text.specs.StreamMarks.{StreamMarks, after_read, after_write, is_interruption};
 
 use std::io;
 use std::io::ErrorKind;
@@ -21,7 +21,7 @@ pub trait Source {
     ghost remaining: { Self → Option (List ℕ) };
 
     // What it has reported so far.
-    ghost marks: { Self → Marks };
+    ghost marks: { Self → StreamMarks };
 
     /// Reads some bytes into the front of a buffer, and returns how many. 0 is the end, if the buffer isn't empty.
     fn read(&mut self, buf: &mut [u8]) -> io::Result<usize>
@@ -36,7 +36,7 @@ pub trait Sink {
     ghost contents: { Self → Option (List ℕ) };
 
     // What it has reported so far.
-    ghost marks: { Self → Marks };
+    ghost marks: { Self → StreamMarks };
 
     /// Writes all of these bytes. After an error it is open how many were written.
     fn write_all(&mut self, bytes: &[u8]) -> io::Result<()>
