@@ -61,7 +61,7 @@ fi
 
 # The page, which headless browsers open as a file.
 size=$(wc -c < "$web/index.html")
-if [ "$size" -gt 360000 ]; then echo "the page is too large: it has $size bytes, and may have at most 360,000"; exit 1; fi
+if [ "$size" -gt 450000 ]; then echo "the page is too large: it has $size bytes, and may have at most 450,000"; exit 1; fi
 
 # Opens the page in a browser, by the first of some commands that the machine has: open_page NAME COMMAND ..
 open_page() {

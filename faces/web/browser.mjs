@@ -181,16 +181,12 @@ async function check_unknown(content) {
     }
     assert.match(words[0], /^Refused: .* while reading the section headers: e_shnum \d+, e_shoff 0x/s);
     assert.deepEqual(new Set(words), new Set([words[0]]));
-    const relr = (name) => ({ name, type: 19, bytes: Buffer.alloc(8) });
     const cut_note = note('GNU', 1, Buffer.alloc(16)).subarray(0, -4);
     const notes = [note('GNU', 3, Buffer.alloc(4)), note('GA\0\xff', 0x100, Buffer.alloc(4)), cut_note];
     const note_section = { name: '.note', type: 7, bytes: Buffer.concat(notes) };
-    await pick_written('none', elf_file({ sections: [note_section, ...['.relr.dyn', '.relr.b'].map(relr)] }));
+    await pick_written('none', elf_file({ sections: [note_section] }));
     await evaluate(`document.getElementById('tab-symbols').click()`);
-    await until(`document.getElementById('panel').textContent.startsWith('The file has no sections of symbols')`);
-    await evaluate(`document.getElementById('tab-relocations').click()`);
-    await until(`document.getElementById('panel').textContent.endsWith('Not listed are the packed relocations (SHT_RELR) of .relr.dyn, .relr.b')`);
-    assert.equal(await text_of('#tab-relocations span'), '0+');
+    await until(`document.getElementById('panel').textContent.startsWith('The file has no symbols')`);
     // (a location may name a section that is not such a list; then nothing is found)
     await evaluate(`void (location.hash = 'symbols/1')`);
     await until(`document.querySelector('#panel .notice')?.textContent === 'Section 1 holds no symbols.'`);
@@ -200,6 +196,32 @@ async function check_unknown(content) {
     assert.equal(await text_of('#tab-notes span'), '2+');
     assert.deepEqual(await cells(2), ['GNU', 'GAU+0000\\xff']);
     assert.match(await text_of('#panel .refused'), /^Refused: .* while reading the descriptor of the note at 0x[0-9a-f]+, of \.note/);
+}
+
+// Packed relocations are counted and listed, and so are the symbols and relocations that only the dynamic section leads to. The page says of
+// both that they are outside of what is proved.
+async function check_own_tables() {
+    const words = [[0x1000, 8], [0b1011, 8], [0b11, 8], [0x2000, 8]], wanted = ['0x1000', '0x1008', '0x1018', '0x1200', '0x2000'];
+    const path = await pick_written('packed', elf_file({ type: 3, sections: [{ name: '.relr.dyn', type: 19, flags: 2, bytes: packed(...words) }] }));
+    const listed = run('readelf', '-W', '-r', path).split('offsets')[1].trim().split('\n').map((line) => `0x${parseInt(line, 16).toString(16)}`);
+    await open_tab('relocations');
+    assert.deepEqual([listed, await cells(1), await text_of('#tab-relocations span')], [wanted, wanted, '5']);
+    assert.match(await text_of('#panel .others'), /packed relocations .* outside of what is proved/i);
+    await go('relocations/1/3', 'packed relocation 3');
+    assert.match(await field_of('r_offset'), /^0x1200/);
+    const whole = files.at(-1), content = readFileSync(whole), of = sections_of(whole), output = run('readelf', '-W', '-s', '-r', whole);
+    await pick_written('headless', content.fill(0, 0x28, 0x30).fill(0, 0x3a, 0x40));
+    const [symbols, ...relocations] = ['.dynsym', '.rela.dyn', '.rela.plt'].map((name) => of[name].size / 24);
+    assert.equal(await text_of('#tab-symbols span'), `${symbols}`);
+    assert.equal(await text_of('#tab-relocations span'), `${relocations[0] + relocations[1]}`);
+    const names = [...output.split("'.dynsym'")[1].matchAll(/^ *\d+: .* (?:UND|ABS|\d+) ?([^@ \n]*)/gm)].map(([, name]) => name);
+    await open_tab('symbols');
+    assert.match(await text_of('#panel .others'), /the numbers of the dynamic section, which is outside of what is proved/);
+    assert.deepEqual((await cells(1)).slice(0, 20), names.slice(0, 20));
+    await evaluate(`void (location.hash = 'relocations/DT_JMPREL')`);
+    await until(`document.querySelector('#panel output')?.textContent === '${relocations[1]}' && (${drawn})`);
+    const of_plt = [...output.split("'.rela.plt'")[1].matchAll(/R_\w+ +[0-9a-f]+ ([^@ ]+)/g)].map(([, name]) => name);
+    assert.deepEqual((await cells(3)).slice(0, 20), of_plt.slice(0, 20));
 }
 
 // Returns the legend's percentages by their names.
@@ -917,7 +939,8 @@ const checks = {
         await check_refusal(Buffer.concat([Buffer.from('MZ'), content.subarray(2)]), 'the file header', 'This is not an ELF file', '4d 5a 4c 46');
         await check_refusal(Buffer.from('text\n'), 'the file header', 'This is not an ELF file', '74 65 78 74 0a');
     },
-    trouble: () => check_trouble(content), unknown: () => check_unknown(content), segments: check_segments, padding: check_padding,
+    trouble: () => check_trouble(content), unknown: () => check_unknown(content), own_tables: check_own_tables,
+    segments: check_segments, padding: check_padding,
     cut: check_cut, labels: check_labels, loading: () => check_loading(content), symbol_links: check_symbol_links,
     early_link: check_early_link, section_links: check_section_links, history: check_history, relocation_links: check_relocation_links,
     goto: check_goto, search: check_search, relocation_names: check_relocation_names, section_indices: check_section_indices,

@@ -1,8 +1,8 @@
 // What the side of the page shows of an item or a location: a title, fields with links, and blocks of the file's bytes.
 import * as goblin from './goblin.js';
 import {
-    called, file, GROUP, is_wide, part, RELOCATION_TYPES, section_at, section_refusal, sections, segment_refusal,
-    size_of, SYMBOL_TYPES, read_or,
+    called, EM_MIPS, ET_CORE, file, GROUP, is_wide, name_of_section, part, RELOCATION_TYPES, RELR, section_at, section_refusal, sections,
+    segment_refusal, size_of, SYMBOL_TYPES, read_or,
 } from './file.js';
 import * as labels from './labels.js';
 import { addend, section_word, symbol_of_relocation } from './lists.js';
@@ -57,7 +57,7 @@ const INFO_WORDS = { [goblin.SHT_SYMTAB]: 'symbols that are local', [goblin.SHT_
 // Returns the list that a section holds.
 function list_of({ sh_type }, index) {
     if (SYMBOL_TYPES.includes(sh_type)) return { text: 'its symbols', to: `symbols/${index}` };
-    if (RELOCATION_TYPES.includes(sh_type)) return { text: 'its relocations', to: `relocations/${index}` };
+    if (RELOCATION_TYPES.includes(sh_type) || sh_type === RELR) return { text: 'its relocations', to: `relocations/${index}` };
     return undefined;
 }
 
@@ -124,14 +124,15 @@ function symbol_details(item, index, table) {
         title: name_of_symbol(table, index, item) || `symbol ${index}`, what: `symbol ${count(index)} of ${called(table)}`,
         kind: of === undefined || !section_at(of) ? undefined : kind_of(section_at(of)),
         fields: [
-            field('st_name', hex(st_name)), field('st_value', hex(st_value), place ? with_offset(called(of), place.from) : '', address),
+            field('st_name', hex(st_name)),
+            field('st_value', hex(st_value), place?.section ? with_offset(called(of), place.from) : '', address),
             field('st_size', st_size, bytes_word(st_size)), field('st_info', hex(st_info), info),
             field('st_other', hex(st_other), `${prefixed('STV_', labels.symbol_visibility(visibility))} (${visibility})`),
             field('st_shndx', hex(item.st_shndx), of === undefined ? section_word(table, index, item) : `section ${of}`,
                 of === undefined ? undefined : to_section_number(of)),
         ],
         blocks: [
-            ...(place ? [{ word: st_size ? `bytes in ${called(of)}` : from_place(of), at: place.at, size: place.size }] : []),
+            ...(place ? [{ ...place, word: !place.section ? 'bytes' : st_size ? `bytes in ${called(of)}` : from_place(of) }] : []),
             entry(table, index, 'symbol'),
         ],
     };
@@ -141,17 +142,20 @@ function relocation_details(item, index, of) {
     const section = section_at(of), { r_offset, r_type, r_sym } = item;
     const place = place_of_relocation(section, item), name = symbol_of_relocation(section.sh_link, item);
     const target = !has_addresses() && place ? { ...to_offset(place.at), text: with_offset(called(place.section), place.from) } : undefined;
-    const changed = has_addresses() ? symbol_of_address(r_offset) : undefined;
+    const changed = has_addresses() ? symbol_of_address(r_offset) : undefined, is_packed = section.sh_type === RELR;
     return {
-        title: name || labels.relocation_type(r_type), what: `relocation ${count(index)} of ${called(of)}`, kind: 'relocations',
+        title: is_packed ? `packed relocation ${count(index)}` : name || labels.relocation_type(r_type),
+        what: `relocation ${count(index)} of ${called(of)}`, kind: 'relocations',
         fields: [
             field('r_offset', hex(r_offset), '', target ?? at_address(r_offset), changed && to_symbol(changed)),
-            field('r_type', r_type, prefixed('', labels.relocation_type(r_type)) === `${r_type}` ? '' : labels.relocation_type(r_type)),
-            field('r_sym', r_sym, '', symbol_link(section.sh_link, r_sym)), field('r_addend', addend(item)),
+            ...(is_packed ? [field('type', 'relative, packed')] : [
+                field('r_type', r_type, prefixed('', labels.relocation_type(r_type)) === `${r_type}` ? '' : labels.relocation_type(r_type)),
+                field('r_sym', r_sym, '', symbol_link(section.sh_link, r_sym)), field('r_addend', addend(item))]),
         ],
         blocks: [
-            ...(place ? [{ word: from_place(place.section), at: place.at, size: place.size }] : []),
-            entry(of, index, item.r_addend === undefined ? 'rel' : 'rela'),
+            ...(place ? [{ ...place, word: from_place(place.section) }] : []),
+            is_packed ? { word: 'all of them', at: Number(section.sh_offset), size: Number(section.sh_size) }
+                : entry(of, index, item.r_addend === undefined ? 'rel' : 'rela'),
         ],
     };
 }

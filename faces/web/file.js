@@ -15,6 +15,7 @@ export const size_of = (kind) => SIZES[kind][Number(is_wide())];
 export const ET_REL = 1;
 export const ET_CORE = 4;
 export const EM_ARM = 40;
+export const EM_MIPS = 8;
 export const STRTAB = 3;
 export const GROUP = 17;
 export const SYMTAB_SHNDX = 18;
@@ -85,7 +86,11 @@ export function segment_refusal(error, index) {
 
 // ---- sections ----
 
-export const section_at = (index) => file.elf.section_header(index);
+/** The tables that the dynamic section leads to, and no section header, by the name of their tag: as sections, which the page makes. */
+export const own_sections = new Map();
+
+/** Returns a section, by its index, or one of the page's own, by its name. */
+export const section_at = (index) => (typeof index === 'string' ? own_sections.get(index) : file.elf.section_header(index));
 
 /** Returns all sections with their indices, or none if they are refused. */
 export function* sections() {
@@ -93,6 +98,13 @@ export function* sections() {
     if (!list) return;
     for (const [index, section] of list.entries()) yield { index, section };
 }
+
+/** Reports whether a section has debug information, which its name says. */
+export const is_debug = (section) => !(section.sh_flags & 2n) && /^\.(z?debug_|gdb_index|stab|line$)/.test(name_of_section(section));
+
+/** Returns the indices of all symbol tables, and the name of the page's own. */
+export const symbol_tables = () => [...sections(), ...Array.from(own_sections, ([index, section]) => ({ index, section }))]
+    .filter(({ section }) => SYMBOL_TYPES.includes(section.sh_type)).map(({ index }) => index);
 
 /** Returns all segments with their indices, or none if they are refused. */
 export function* segments() {
@@ -115,4 +127,5 @@ export function name_of_section({ sh_name }) {
 }
 
 /** Returns the title of a section: its name, or its index if it has none. */
-export const called = (index, section = section_at(index)) => name_of_section(section) || `section ${index}`;
+export const called = (index, section = section_at(index)) =>
+    (typeof index === 'string' ? index : name_of_section(section) || `section ${index}`);

@@ -1,5 +1,5 @@
 // Finds what a text means: an offset, an address, or names. Each result is { title, detail, to }, and of digits without 0x also { read }.
-import { file, name_of_section, sections, SYMBOL_TYPES, read_or } from './file.js';
+import { called, file, name_of_section, sections, symbol_tables, read_or } from './file.js';
 import { address_details, header_fields, is_address, offset_details } from './details.js';
 import { go_over, open_source } from './lists.js';
 import { notes_of, title_of } from './notes.js';
@@ -59,11 +59,10 @@ function add_small(found) {
 export async function find(text, is_wanted) {
     const numbers = numbers_in(text).flatMap(places_of_number), found = new Found(text);
     add_small(found);
-    for (const { index: table, section } of sections()) {
-        if (!SYMBOL_TYPES.includes(section.sh_type)) continue;
+    for (const table of symbol_tables()) {
         const source = read_or(undefined, () => symtab_at(table)) && open_source('symbols', table);
         if (!source || source.refused) continue;
-        const name = source.columns[0].text, of = name_of_section(section) || `section ${table}`;
+        const name = source.columns[0].text, of = called(table);
         const is_done = await go_over(source, 'find', is_wanted, (item, index) =>
             found.add(name(item, index), () => ({ detail: `symbol ${index} of ${of}`, to: `symbols/${table}/${index}` })));
         if (!is_done) return undefined;

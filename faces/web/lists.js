@@ -2,8 +2,9 @@
 // without text are sorted by, and whether an item holds an offset or address.
 import * as goblin from './goblin.js';
 import {
-    called, file, name_of_section, part, refusal, RELOCATION_TYPES, section_at, section_refusal, SYMBOL_TYPES, read_or,
+    called, file, name_of_section, part, refusal, RELOCATION_TYPES, RELR, section_at, section_refusal, SYMBOL_TYPES, read_or,
 } from './file.js';
+import { packed_offsets } from './dynamic.js';
 import * as labels from './labels.js';
 import { notes_of } from './notes.js';
 import { parts, titled } from './pieces.js';
@@ -37,6 +38,16 @@ function descriptor({ note }) {
     const { offset, size } = note.desc_range;
     const bytes = file.content.subarray(Number(offset), Number(offset) + Math.min(Number(size), DESCRIPTOR));
     return Array.from(bytes, (byte) => byte.toString(16).padStart(2, '0')).join('') + (size > DESCRIPTOR ? '…' : '');
+}
+
+// Returns the list of packed relocations, which have nothing but their offsets. A number that is added is in place.
+function packed(offsets) {
+    const item = (at) => (at < offsets.length ? { r_offset: offsets[at], r_type: 0, r_sym: 0, r_addend: undefined } : undefined);
+    return {
+        list: { length: offsets.length, get: item, *from(at = 0) { for (; at < offsets.length; at++) yield item(at); } },
+        columns: [number('r_offset'), text(() => 'packed, relative'), text(() => ''), text(addend), text(() => '')],
+        holds: ({ r_offset }, value) => r_offset === value,
+    };
 }
 
 const sources = {
@@ -77,6 +88,7 @@ const sources = {
 
     relocations(index) {
         const section = section_at(index), half = 1n << 63n;
+        if (section.sh_type === RELR) return packed(packed_offsets(section));
         return {
             list: file.elf.relocs(section),
             columns: [
@@ -124,7 +136,7 @@ const sources = {
 
 // Reports whether there is such a list. A list of symbols or relocations is a section of that type.
 function is_there(list, of) {
-    const types = { symbols: SYMBOL_TYPES, relocations: RELOCATION_TYPES }[list];
+    const types = { symbols: SYMBOL_TYPES, relocations: [...RELOCATION_TYPES, RELR] }[list];
     return types ? types.includes(section_at(of)?.sh_type) : Object.hasOwn(sources, list);
 }
 

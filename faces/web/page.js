@@ -33,7 +33,8 @@ function tab_of(place) {
     if (name === 'header') return { name, field: first };
     if (!is_list(name)) return { name: first_tab() };
     if (name === 'notes') return { name, of: ['sections', 'segments'].includes(first) ? first : undefined, index: whole(second) };
-    if (name === 'symbols' || name === 'relocations') return { name, of: whole(first), index: whole(second) };
+    const of = /^DT_[A-Z]+$/.test(first) ? first : whole(first);
+    if (name === 'symbols' || name === 'relocations') return { name, of, index: whole(second) };
     return { name, index: whole(first) };
 }
 

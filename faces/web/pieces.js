@@ -1,6 +1,6 @@
 // The pieces of the file, and the parts that the ends of pieces divide it into.
 import * as goblin from './goblin.js';
-import { called, file, RELOCATION_TYPES, section_at, sections, segments, size_of, STRTAB, SYMBOL_TYPES, read_or } from './file.js';
+import { called, file, is_debug, RELOCATION_TYPES, RELR, section_at, sections, segments, size_of, STRTAB, SYMBOL_TYPES, read_or } from './file.js';
 import { segment_type } from './labels.js';
 import { notes_of, title_of } from './notes.js';
 
@@ -8,7 +8,7 @@ export const KINDS = ['header', 'tables', 'code', 'data', 'constants', 'names', 
 
 export function kind_of({ sh_type, sh_flags }) {
     if (SYMBOL_TYPES.includes(sh_type) || sh_type === STRTAB) return 'names';
-    if (RELOCATION_TYPES.includes(sh_type)) return 'relocations';
+    if (RELOCATION_TYPES.includes(sh_type) || sh_type === RELR) return 'relocations';
     if (sh_type === goblin.SHT_NOTE) return 'notes';
     if (sh_flags & 4n) return 'code';
     if (sh_flags & 2n) return sh_flags & 1n ? 'data' : 'constants';

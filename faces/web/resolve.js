@@ -1,6 +1,6 @@
 // Resolves symbols, relocations and addresses: to sections, segments, symbols and bytes of the file.
 import * as goblin from './goblin.js';
-import { called, EM_ARM, ET_REL, file, name_at, section_at, sections, segments, SYMBOL_TYPES, SYMTAB_SHNDX, read_or } from './file.js';
+import { called, EM_ARM, ET_REL, file, name_at, section_at, sections, segments, SYMBOL_TYPES, symbol_tables, SYMTAB_SHNDX, read_or } from './file.js';
 import { hex } from './text.js';
 
 const STT_SECTION = 3, STT_FUNC = 2, STT_TLS = 6, PT_LOAD = 1, PT_TLS = 7, SHF_ALLOC = 2n, SHF_TLS = 0x400n;
@@ -16,7 +16,8 @@ const tables = new Map();
 export function symtab_at(index) {
     if (!tables.has(index)) {
         const section = index ? section_at(index) : undefined;
-        tables.set(index, section && SYMBOL_TYPES.includes(section.sh_type) ? file.elf.symtab(section) : undefined);
+        const symtab = section && SYMBOL_TYPES.includes(section.sh_type) ? file.elf.symtab(section) : undefined;
+        tables.set(index, section?.strtab ? Object.assign(symtab, { strtab: section.strtab }) : symtab);
     }
     return tables.get(index);
 }
@@ -64,6 +65,8 @@ const UNSIZED = 16n, PLACE = 8n;
 /** Returns the bytes of a symbol in the file, or some if its size is unknown, or nothing if it has none there. */
 export function bytes_of_symbol(table, index, symbol) {
     const of = section_of_symbol(table, index, symbol), section = of === undefined ? undefined : section_at(of);
+    const at = of !== undefined && !section && has_addresses() ? offset_of_address(address_of_symbol(symbol)) : undefined;
+    if (at !== undefined) return { at, size: Math.min(Number(symbol.st_size || UNSIZED), file.content.length - at) };
     if (!section || section.sh_type === goblin.SHT_NOBITS) return undefined;
     return bytes_in(section, of, address_of_symbol(symbol) - (has_addresses() ? section.sh_addr : 0n), symbol.st_size || UNSIZED);
 }
@@ -135,8 +138,7 @@ export function address_of_offset(offset) {
 /** Returns the symbol for an address: its table, index and name, and the distance from its start; or nothing. */
 export function symbol_of_address(address) {
     if (!has_addresses()) return undefined;
-    for (const { index: table, section } of sections()) {
-        if (!SYMBOL_TYPES.includes(section.sh_type)) continue;
+    for (const table of symbol_tables()) {
         const thumb = file.elf.header.e_machine === EM_ARM ? 1n : 0n;
         const index = read_or(undefined, () => symtab_at(table).by_address(address | thumb));
         if (index === undefined) continue;

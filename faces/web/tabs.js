@@ -1,10 +1,10 @@
 // The tabs: the header's fields, and the lists with their searches.
-import { button, copy, get, hex, joined, make, number, plural, say, visible } from './dom.js';
+import { button, copy, get, hex, make, number, plural, say, visible } from './dom.js';
 import { Grid } from './grid.js';
 import { refusal_of } from './hex.js';
 import { ask, shown_file } from './reader.js';
 import { go } from './route.js';
-import { link_to, value_of } from './side.js';
+import { value_of } from './side.js';
 
 // Columns: the title, the least width, whether the column shares the rest of the width, and the standard's name of the field.
 const wide = (least, share) => (share ? `minmax(${least}px, ${share}fr)` : `${least}px`);
@@ -58,10 +58,10 @@ let open = { name: undefined };
 // ---- tabs ----
 
 // Returns the number of items in the tables as text, with `+` if there are more, or `refused`.
-function sum_of({ refused, found, all, others = [] }) {
+function sum_of({ refused, found, all }) {
     if (refused || (found.length > 0 && found.every(({ length }) => length === undefined))) return 'refused';
     const known = found.reduce((total, { length = 0 }) => total + length, 0);
-    return all > found.length || others.length ? `${number(known)}+` : number(known);
+    return all > found.length ? `${number(known)}+` : number(known);
 }
 
 // Returns the number of notes of sections, or of segments if these have more, as text, with `+` if there are more, or `refused`.
@@ -169,8 +169,14 @@ function choices(name) {
 }
 
 const NONE = {
-    symbols: 'The file has no sections of symbols (SHT_SYMTAB, SHT_DYNSYM).',
-    relocations: 'The file has no sections of relocations (SHT_RELA, SHT_REL).',
+    symbols: 'The file has no symbols: no section of them (SHT_SYMTAB, SHT_DYNSYM), and no DT_SYMTAB.',
+    relocations: 'The file has no relocations: no section of them (SHT_RELA, SHT_REL, SHT_RELR), and no DT_RELA, DT_REL, DT_JMPREL or DT_RELR.',
+};
+
+// What is said of tables that are not wholly read by proved calls.
+const OWN = {
+    packed: 'Packed relocations are read by this page itself, by numbers. They are outside of what is proved.',
+    own: 'This page found this table by the numbers of the dynamic section, which is outside of what is proved. Proved calls read its entries.',
 };
 
 async function list_panel(mine, wanted) {
@@ -178,7 +184,7 @@ async function list_panel(mine, wanted) {
     if (summary[name]?.refused) return [await refusal_of(summary[name].refused)];
     let list = Object.hasOwn(NONE, name) || name === 'notes' ? choices(name) : [{ of: undefined }];
     if (wanted !== undefined && !list.some(({ of }) => of === wanted)) list = [{ of: wanted, text: `section ${wanted}` }, ...list];
-    if (list.length === 0) return [make('p', { class: 'empty' }, NONE[name]), ...others_of(name)];
+    if (list.length === 0) return [make('p', { class: 'empty' }, NONE[name])];
     // (a refusal is shown before an empty list)
     const weight = ({ length }) => length ?? 0.5;
     const longest = list.reduce((best, item) => (weight(item) > weight(best) ? item : best));
@@ -218,14 +224,9 @@ const count_of = ({ length, all }, query) => (query ? `${number(length)} of ${nu
 async function notices_of({ name, of }, { refused, is_none }) {
     if (name === 'notes') return note_refusals(of);
     if (is_none) return [make('p', { class: 'empty' }, `Section ${of} holds no ${name}.`)];
-    return refused ? [await refusal_of(refused)] : others_of(name);
-}
-
-// Returns the message for relocation sections that are not listed.
-function others_of(name) {
-    const { others = [] } = shown_file.summary[name] ?? {};
-    if (!others.length) return [];
-    return [make('p', { class: 'others' }, 'Not listed are the packed relocations (SHT_RELR) of ', ...joined(others.map(link_to)))];
+    if (refused) return [await refusal_of(refused)];
+    const table = shown_file.summary[name]?.found?.find(({ index }) => index === of), said = table?.is_packed ? OWN.packed : table?.is_own && OWN.own;
+    return said ? [make('p', { class: 'others' }, said)] : [];
 }
 
 const MOST_REFUSALS = 3;

@@ -4,8 +4,10 @@
 import init, * as goblin from './goblin.js';
 import { address_details, header_fields, is_address, item_details, offset_details } from './details.js';
 import {
-    called, file, header_refusal, is_wide, list_refusal, part, RELOCATION_TYPES, RELR, sections, segments, SYMBOL_TYPES, read_or,
+    called, file, header_refusal, is_wide, list_refusal, own_sections, part, RELOCATION_TYPES, RELR, section_refusal, sections, segments,
+    SYMBOL_TYPES, symbol_tables, read_or,
 } from './file.js';
+import { find_own_sections, packed_offsets } from './dynamic.js';
 import { find } from './find.js';
 import * as labels from './labels.js';
 import { arranged, cells_of, go_over, open_source, plain_cells_of } from './lists.js';
@@ -35,17 +37,17 @@ const MOST_TABLES = 200;
 function tables(types, list_of) {
     const found = [];
     let all = 0;
-    for (const { index, section } of sections()) {
+    const own = Array.from(own_sections, ([index, section]) => ({ index, section }));
+    for (const { index, section } of [...sections(), ...own]) {
         if (!types.includes(section.sh_type) || ++all > MOST_TABLES) continue;
         // (a refusal is shown once the section is chosen)
-        found.push({ index, name: called(index, section), length: read_or(undefined, () => list_of(section, index).length) });
+        const length = read_or(undefined, () => list_of(section, index).length), is_packed = section.sh_type === RELR;
+        found.push({ index, name: called(index, section), length, is_packed, is_own: typeof index === 'string' });
     }
     return { found, all };
 }
 
-// Returns the sections of type SHT_RELR, whose relocations are packed as bits. The library doesn't read them.
-const packed_relocations = () => [...sections()].filter(({ section }) => section.sh_type === RELR).slice(0, MOST_TABLES)
-    .map(({ index, section }) => ({ text: called(index, section), to: `sections/${index}` }));
+const relocations_of = (section) => (section.sh_type === RELR ? packed_offsets(section) : file.elf.relocs(section));
 
 function notes_summary(by, headers) {
     if (headers.refused) return { length: undefined, refusals: [headers.refused] };
@@ -79,6 +81,7 @@ function signs() {
 
 function overview() {
     const { elf } = file, { header } = elf;
+    find_own_sections();
     const headers = {
         sections: part(() => ({ length: elf.section_headers().length }),
             (error) => list_refusal(error, 'the section headers', 'e_shoff', 'e_shnum')),
@@ -91,7 +94,7 @@ function overview() {
         words: [labels.file_class(header.ei_class), elf.little_endian() ? 'little endian' : 'big endian', labels.file_type(header.e_type),
             labels.machine(header.e_machine), `entry ${hex(header.e_entry)}`],
         symbols: refused ? { refused } : tables(SYMBOL_TYPES, (section, index) => symtab_at(index)),
-        relocations: refused ? { refused } : { ...tables(RELOCATION_TYPES, (section) => elf.relocs(section)), others: packed_relocations() },
+        relocations: refused ? { refused } : tables([...RELOCATION_TYPES, RELR], relocations_of),
         notes: { sections: notes_summary('sections', headers.sections), segments: notes_summary('segments', headers.segments) },
         map: map(), signs: signs(),
     };
