@@ -82,14 +82,10 @@ function section_details(item, index) {
 
 // How many sections of a segment are named at most.
 const MOST_SECTIONS = 24;
-function sections_in({ p_offset, p_filesz, p_vaddr, p_memsz }) {
+function sections_in(segment) {
     const found = [];
     for (const { index, section } of sections()) {
-        const { sh_type, sh_offset, sh_size, sh_addr, sh_flags } = section;
-        const is_in = sh_type === goblin.SHT_NOBITS
-            ? sh_flags & 2n && sh_addr >= p_vaddr && sh_addr + sh_size <= p_vaddr + p_memsz && sh_size > 0n
-            : sh_offset >= p_offset && sh_offset + sh_size <= p_offset + p_filesz && sh_size > 0n;
-        if (is_in && found.push(to_section(index)) > MOST_SECTIONS) break;
+        if (index && goblin.segment_holds(segment, section) && found.push(to_section(index)) > MOST_SECTIONS) break;
     }
     return found;
 }
