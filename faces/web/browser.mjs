@@ -224,6 +224,63 @@ async function check_own_tables() {
     assert.deepEqual((await cells(3)).slice(0, 20), of_plt.slice(0, 20));
 }
 
+// Returns the rows of the summary: the name and value of each, and whether it is marked as not proved.
+async function facts(path) {
+    await pick(path);
+    await evaluate(`document.querySelector('[role=tab]').click()`);
+    await until(`document.querySelector('#panel .summary h3')`);
+    const rows = await evaluate(`[...document.querySelectorAll('#panel .summary tr')].map(({ children: [name, value] }) =>
+        [name.textContent, value.textContent])`);
+    return rows.map(([name, value]) => [name, value.replace(/ not proved$/, ''), value.endsWith(' not proved')]);
+}
+
+// The first tab says in words what readelf lists of a program. What rests on the dynamic section is marked, and what rests on headers is not.
+async function check_summary() {
+    const path = files.at(-1), rows = await facts(path), of = (name) => rows.filter(([title]) => title === name).map(([, value]) => value);
+    const listed = run('readelf', '-W', '-d', '-l', '-n', '-s', '-V', path), has = (pattern) => pattern.test(listed);
+    const needs = listed.split('Version needs section')[1].matchAll(/File: (\S+).*\n((?:.* Name: .*\n)*)/g);
+    const libraries = Object.fromEntries(Array.from(needs, ([, name, lines]) =>
+        [name, [...lines.matchAll(/Name: (\S+)/g)].map(([, version]) => version)]));
+    assert.deepEqual(of('needs'), [...listed.matchAll(/\(NEEDED\) .*\[(.*)\]/g)].map(([, name]) => [name, ...libraries[name] ?? []].join(', ')));
+    assert.match(of('interpreter')[0], new RegExp(`^${/program interpreter: (.*)\]/.exec(listed)[1]}, segment \\d+$`));
+    assert.deepEqual([...of('build ID'), ...of('kind'), ...of('position-independent')],
+        [`${/Build ID: (\w+)/.exec(listed)[1]}, note`, 'Position-independent program for x86-64', 'yes']);
+    assert.match(await text_of('#file'), /position-independent program for x86-64/);
+    assert.match(of('read-only relocations')[0], has(/GNU_RELRO/) ? (has(/BIND_NOW|Flags: .*NOW/) ? /^full/ : /^partial/) : /^no/);
+    assert.match(of('stack')[0], has(/GNU_STACK .* RW /) ? /^not executable, / : /^executable, /);
+    assert.equal(of('stack canary')[0], has(/ __stack_chk_fail(@|$)/m) ? 'yes, __stack_chk_fail' : 'no symbol of one');
+    assert.match(of('stripped')[0], has(/'.symtab'/) ? /^no, / : /^yes/);
+    for (const [name, , is_own] of rows) assert.equal(is_own, /^(kind|needs|read-only relocations|debug file)$/.test(name), name);
+    const largest = Object.entries(sections_of(path)).sort(([, a], [, b]) => b.size - a.size)[0];
+    assert.ok(rows.some(([size, value]) => size.startsWith(`${largest[1].size.toLocaleString('en')} bytes, `) && value === largest[0]));
+    const functions = symbols_of(dump).filter(({ type, size }) => type === 'FUNC' && size > 0).sort((a, b) => b.size - a.size).slice(0, 10);
+    const found = (await facts(dump)).slice(-functions.length);
+    assert.equal(found[0][1], functions[0].name);
+    assert.deepEqual(found.map(([size]) => size), functions.map(({ size }) => `${size.toLocaleString('en')} bytes`));
+    const { kind: words, 'debug information': debug } = Object.fromEntries(await facts(made));
+    assert.deepEqual([words, debug], ['Object file for x86-64', '64 bytes, .debug_info']);
+}
+
+// Of a core the signal, the command, the threads with their registers, and the mapped files, by the layouts of Linux for x86-64.
+async function check_core() {
+    const put = (size, ...numbers) => numbers.reduce((all, [at, value, width = 8]) => (all.set(packed([value, width]), at), all), Buffer.alloc(size));
+    const thread = (id, rip, rsp) => note('CORE', 1, put(336, [12, 11, 2], [32, id, 4], [112 + 80, 0x77], [112 + 128, rip], [112 + 152, rsp]));
+    const process = put(136, [24, 70, 4]);
+    process.write('program', 40);
+    process.write('./program --all', 56);
+    const ranges = [[0x400000, 0x401000, 0], [0x401000, 0x402000, 1], [0x7f0000, 0x7f1000, 0]].flat().map((number) => [number, 8]);
+    const mapped = Buffer.concat([packed([3, 8], [4096, 8], ...ranges), Buffer.from('/bin/a\0/bin/a\0/lib/b c\0')]);
+    const notes = [thread(71, 0x401234, 0x7fff00), note('CORE', 3, process), note('CORE', 0x46494c45, mapped), thread(72, 0x401300, 0x7ffe00)];
+    const rows = await facts(await pick_written('process', elf_file({ type: 4, segments: [{ type: 4, bytes: Buffer.concat(notes) }] })));
+    const start = rows.findIndex(([name]) => name === 'signal');
+    assert.deepEqual(rows.slice(start, start + 7), [['signal', '11, SIGSEGV', true], ['thread 71', 'rip 0x401234, rsp 0x7fff00, note', true],
+        ['command', './program --all, note', true], ['process', '70', true], ['mapped file', '/bin/a, 2 ranges from 0x400000 on', true],
+        ['mapped file', '/lib/b c, 1 range from 0x7f0000 on', true], ['thread 72', 'rip 0x401300, rsp 0x7ffe00, note', true]]);
+    await go('notes/segments/0', 'CORE PRSTATUS, thread 71');
+    assert.deepEqual([await field_of('rax'), await field_of('rip')], ['0x77', '0x401234']);
+    assert.match(await field_of('registers'), /not proved/);
+}
+
 // Returns the legend's percentages by their names.
 async function shares() {
     const items = await evaluate(`[...document.querySelectorAll('#legend li')].map((item) => item.textContent)`);
@@ -828,6 +885,7 @@ function contrast(...colours) {
 // Edges of what can be used, and names on the map, have a contrast of at least 3 to 1. Kinds whose hues are alike to an eye without green
 // differ in lightness.
 async function check_colours() {
+    await open_tab('sections');
     const edges = ['#goto', '.bar .button', '#out', '#canvas', '#legend i', '#panel input', '#panel .saving button'];
     const kinds = ['header', 'tables', 'code', 'data', 'constants', 'names', 'relocations', 'notes', 'other'];
     const [edge, ground, kind, on] = await evaluate(`(() => {
@@ -940,7 +998,7 @@ const checks = {
         await check_refusal(Buffer.from('text\n'), 'the file header', 'This is not an ELF file', '74 65 78 74 0a');
     },
     trouble: () => check_trouble(content), unknown: () => check_unknown(content), own_tables: check_own_tables,
-    segments: check_segments, padding: check_padding,
+    summary: check_summary, core: check_core, segments: check_segments, padding: check_padding,
     cut: check_cut, labels: check_labels, loading: () => check_loading(content), symbol_links: check_symbol_links,
     early_link: check_early_link, section_links: check_section_links, history: check_history, relocation_links: check_relocation_links,
     goto: check_goto, search: check_search, relocation_names: check_relocation_names, section_indices: check_section_indices,

@@ -1,5 +1,6 @@
 // What the side of the page shows of an item or a location: a title, fields with links, and blocks of the file's bytes.
 import * as goblin from './goblin.js';
+import { registers_of } from './core.js';
 import {
     called, EM_MIPS, ET_CORE, file, GROUP, is_wide, name_of_section, part, RELOCATION_TYPES, RELR, section_at, section_refusal, sections,
     segment_refusal, size_of, SYMBOL_TYPES, read_or,
@@ -158,13 +159,16 @@ function relocation_details(item, index, of) {
 
 function note_details(item, index, by) {
     const { note, holder, start, end, thread } = item, type = labels.note_type(note);
-    const of = { text: holder.title, to: `${by}/${holder.index}` };
+    const of = { text: holder.title, to: `${by}/${holder.index}` }, is_status = note.name === 'CORE' && type === 'PRSTATUS';
+    const registers = is_status && file.elf.header.e_type === ET_CORE ? registers_of(item) : [];
     return {
         title: title_of(item), what: `note ${count(index)} of ${by}`, kind: 'notes',
         fields: [
             field('name', note.name), field('n_type', hex(note.n_type), type.startsWith('0x') ? '' : prefixed('NT_', type)),
             field('n_descsz', note.desc_range.size, bytes_word(note.desc_range.size)), field('from', '', '', of),
             ...(thread === undefined ? [] : [field('thread', thread)]),
+            ...(registers.length ? [field('registers', '', 'not proved: read by this page, by numbers')] : []),
+            ...registers.map(([register, value]) => field(register, hex(value), '', is_address(value) ? at_address(value) : undefined)),
         ],
         blocks: [
             { word: 'descriptor', at: Number(note.desc_range.offset), size: Number(note.desc_range.size) },

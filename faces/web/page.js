@@ -31,18 +31,17 @@ const PLACES = {
 function tab_of(place) {
     const [name, first, second] = place.split('/');
     if (name === 'header') return { name, field: first };
-    if (!is_list(name)) return { name: first_tab() };
+    if (!is_list(name)) return { name: 'summary' };
     if (name === 'notes') return { name, of: ['sections', 'segments'].includes(first) ? first : undefined, index: whole(second) };
     const of = /^DT_[A-Z]+$/.test(first) ? first : whole(first);
     if (name === 'symbols' || name === 'relocations') return { name, of, index: whole(second) };
     return { name, index: whole(first) };
 }
 
-const first_tab = () => (shown_file.summary.sections.refused || shown_file.summary.sections.length === 0 ? 'header' : 'sections');
-
 // Returns what is shown of an item of a tab.
 async function item_of({ name, of, field, index }) {
     if (name === 'header') return choose_field(field);
+    if (name === 'summary') return undefined;
     await activate(index);
     if (index === undefined) return undefined;
     return ask('item', { list: name, index, of });
@@ -56,7 +55,7 @@ async function show_place(place) {
     let details;
     if (Object.hasOwn(PLACES, name)) {
         details = await PLACES[name](first);
-        if (!get('panel').firstChild) await open_tab(first_tab());
+        if (!get('panel').firstChild) await open_tab('summary');
     } else {
         const tab = tab_of(place);
         if (!await open_tab(tab.name, tab.of)) return;

@@ -76,9 +76,10 @@ export function show_tabs() {
     const { summary } = shown_file, length = ({ refused, length: count }) => (refused ? 'refused' : number(count));
     open = { name: undefined };
     const list = [
-        ['header', 'Header', ''], ['sections', 'Sections', length(summary.sections)], ['segments', 'Segments', length(summary.segments)],
-        ['symbols', 'Symbols', sum_of(summary.symbols)], ['relocations', 'Relocations', sum_of(summary.relocations)],
-        ['notes', 'Notes', notes_sum(summary.notes)], ['layout', 'Layout', number(summary.map.kinds.length)],
+        ['summary', 'Summary', ''], ['header', 'Header', ''], ['sections', 'Sections', length(summary.sections)],
+        ['segments', 'Segments', length(summary.segments)], ['symbols', 'Symbols', sum_of(summary.symbols)],
+        ['relocations', 'Relocations', sum_of(summary.relocations)], ['notes', 'Notes', notes_sum(summary.notes)],
+        ['layout', 'Layout', number(summary.map.kinds.length)],
     ];
     get('tabs').replaceChildren(...list.map(([name, title, count]) => make('button', {
         type: 'button', role: 'tab', id: `tab-${name}`, 'aria-controls': 'panel', 'aria-selected': 'false', tabindex: '-1',
@@ -122,7 +123,7 @@ export async function open_tab(name, of) {
     const mine = open = { name, of };
     select_tab(name);
     mine.ready = (async () => {
-        const content = name === 'header' ? header_panel() : await list_panel(mine, of);
+        const content = name === 'summary' ? await summary_panel() : name === 'header' ? header_panel() : await list_panel(mine, of);
         if (open === mine) get('panel').replaceChildren(...content);
         if (open === mine) mine.grid?.draw();
     })();
@@ -130,7 +131,22 @@ export async function open_tab(name, of) {
     return open === mine;
 }
 
-// ---- the header ----
+// ---- the summary and the header ----
+
+// Returns the facts in words. Those that the page reads itself are marked.
+async function summary_panel() {
+    const mark = () => make('span', { class: 'own' }, 'not proved');
+    const line = ({ name, is_own, ...fact }) => {
+        const cell = value_of(fact);
+        cell.append(...(is_own ? [' ', mark()] : []));
+        return make('tr', {}, make('th', { scope: 'row' }, name), cell);
+    };
+    const group = ([title, rows]) => make('section', {}, make('h3', {}, title), make('table', { class: 'fields', 'aria-label': title },
+        make('tbody', {}, ...rows.map(line))));
+    const said = make('p', { class: 'others' }, 'Facts rest on fields that proved calls return. Those marked ', mark(),
+        ' rest on the dynamic section or on the contents of notes, which this page reads itself, by numbers.');
+    return [make('div', { class: 'scroll', tabindex: '0' }, make('div', { class: 'summary' }, ...(await ask('summary')).map(group)), said)];
+}
 
 function header_panel() {
     const rows = shown_file.summary.header.map(({ name, at, size, words, ...field }) => {

@@ -14,6 +14,7 @@ import { arranged, cells_of, go_over, open_source, plain_cells_of } from './list
 import { notes_of } from './notes.js';
 import { KINDS, parts, titled } from './pieces.js';
 import { symtab_at } from './resolve.js';
+import { kind_in_words, summary } from './summary.js';
 import { hex } from './text.js';
 
 // ---- opening ----
@@ -91,8 +92,8 @@ function overview() {
     const { refused } = headers.sections;
     return {
         ...headers, header: header_fields(), header_size: is_wide() ? 64 : 52,
-        words: [labels.file_class(header.ei_class), elf.little_endian() ? 'little endian' : 'big endian', labels.file_type(header.e_type),
-            labels.machine(header.e_machine), `entry ${hex(header.e_entry)}`],
+        words: [kind_in_words(), labels.file_class(header.ei_class), elf.little_endian() ? 'little endian' : 'big endian',
+            labels.file_type(header.e_type), labels.machine(header.e_machine), `entry ${hex(header.e_entry)}`],
         symbols: refused ? { refused } : tables(SYMBOL_TYPES, (section, index) => symtab_at(index)),
         relocations: refused ? { refused } : tables([...RELOCATION_TYPES, RELR], relocations_of),
         notes: { sections: notes_summary('sections', headers.sections), segments: notes_summary('segments', headers.segments) },
@@ -192,6 +193,7 @@ const calls = {
     offset: (offset) => (offset < file.content.length ? offset_details(offset) : undefined),
     address: (address) => (is_address(address) ? address_details(address) : undefined),
     find: (text) => find(text, begin('find')),
+    summary: () => summary(begin('summary')),
 };
 
 onmessage = async ({ data: { id, call, given } }) => {
