@@ -179,7 +179,7 @@ async function check_unknown(content) {
         await until(`document.querySelector('#panel .refused') !== null`);
         words.push(await text_of('#panel .refused'));
     }
-    assert.match(words[0], /^Refused: .* while reading the section headers: e_shnum \d+, e_shoff 0x/s);
+    assert.match(words[0], /^The section headers begin at 0x2000, .*Refused: .* while reading the section headers: e_shnum \d+, e_shoff 0x/s);
     assert.deepEqual(new Set(words), new Set([words[0]]));
     const cut_note = note('GNU', 1, Buffer.alloc(16)).subarray(0, -4);
     const notes = [note('GNU', 3, Buffer.alloc(4)), note('GA\0\xff', 0x100, Buffer.alloc(4)), cut_note];
@@ -601,9 +601,9 @@ async function check_search() {
 // Types that have other names in readelf than in the ABI.
 const NAMED_OTHERWISE = { 40: [32, 33, 34, 35, 36, 37, 129, 135], 183: [1028, 1029, 1030] };
 
-// The types of relocations of five machines have readelf's names.
+// The types of relocations of several machines have readelf's names.
 async function check_relocation_names() {
-    for (const [machine, least] of [[62, 43], [3, 42], [183, 117], [40, 117], [243, 53]]) {
+    for (const [machine, least] of [[62, 43], [3, 42], [183, 117], [40, 117], [243, 53], [22, 66], [21, 130]]) {
         const bytes = Buffer.concat(Array.from({ length: 1040 }, (_, type) => rela({ type })));
         const path = await pick_written(`types${machine}`, elf_file({ machine, sections: [{ name: '.rela', type: 4, entsize: 24, bytes }] }));
         const names = new Map([...run('readelf', '-W', '-r', path).matchAll(/^0{16} +([0-9a-f]{16}) (R_\w+)/gm)].map(([, info, name]) =>
@@ -616,6 +616,13 @@ async function check_relocation_names() {
         assert.deepEqual(both.map(([name]) => name), both.map(([, name]) => name), `machine ${machine}`);
         assert.ok(both.length >= least, `${both.length} names of machine ${machine}`);
     }
+    // (in 64-bit files for MIPS a relocation has three types, the first one in the last byte)
+    const three = rela({ type: 0 });
+    three.set([0, 24, 5, 7], 12);
+    const path = await pick_written('mips', elf_file({ machine: 8, sections: [{ name: '.rela', type: 4, entsize: 24, bytes: three }] }));
+    await open_tab('relocations');
+    const types = [...run('readelf', '-W', '-r', path).matchAll(/R_MIPS_\w+/g)].map(([name]) => name);
+    assert.deepEqual([types, await cells(2)], [['R_MIPS_GPREL16', 'R_MIPS_HI16', 'R_MIPS_SUB'], [types.join(' ')]]);
 }
 
 // Saves the open list, and returns the content of the file.
@@ -731,6 +738,19 @@ async function check_refused_tables() {
 }
 
 // ---- layout ----
+
+// What a file is that is no ELF file, and what a refusal means, in words.
+async function check_plain_words() {
+    const others = { '!<arch>\n': 'an archive', '\x1f\x8b': 'by gzip', '#!/': 'a script', MZ: 'DOS (PE)', '\xcf\xfa\xed\xfe': 'a Mach-O file' };
+    for (const [begin, words] of Object.entries(others)) {
+        await check_refusal(Buffer.from(begin.padEnd(80, ' '), 'latin1'), words, 'This is not an ELF file');
+    }
+    await pick_written('short', content.subarray(0, 0x1000));
+    await evaluate(`document.getElementById('tab-sections').click()`);
+    await until(`document.querySelector('#panel .plainly') !== null`);
+    assert.match(await text_of('#panel .plainly'), /^The section headers begin at 0x1800, the file ends at 0x1000: it is cut/);
+    assert.ok((await facts(join(folder, 'short'))).some(([, value]) => value === 'unknown, the section headers are refused'));
+}
 
 async function check_words() {
     await pick(made);
@@ -1002,6 +1022,7 @@ const checks = {
     cut: check_cut, labels: check_labels, loading: () => check_loading(content), symbol_links: check_symbol_links,
     early_link: check_early_link, section_links: check_section_links, history: check_history, relocation_links: check_relocation_links,
     goto: check_goto, search: check_search, relocation_names: check_relocation_names, section_indices: check_section_indices,
+    plain_words: check_plain_words, 
     copies: check_copies, refused_tables: check_refused_tables, words: check_words, cells: check_cells, widths: check_widths,
     map: check_map, narrow: check_narrow, themes: check_themes, names: check_names, keys: check_keys, requests: check_requests,
     unsupported: check_unsupported,

@@ -45,10 +45,17 @@ export function read_or(other, read) {
     }
 }
 
-/** Returns a refusal for the page: the library's text, what was being read, and the bytes that hold its offset. */
-export function refusal(error, what, marks) {
+/** Returns a refusal for the page: the library's text, what was being read, the bytes that hold its offset, and perhaps what that means. */
+export function refusal(error, what, marks, words) {
     if (!(error instanceof GoblinError)) throw error;
-    return { text: error.message, kind: error.kind, what, marks };
+    return { text: error.message, kind: error.kind, what, marks, words };
+}
+
+// Returns in words that something ends past the end of the file, or nothing if it doesn't.
+function words_of_cut(what, start, size) {
+    const end = BigInt(file.content.length), [verb, at] = start >= end ? ['begin', start] : ['end', start + size];
+    if (start + size <= end) return undefined;
+    return `${what} ${verb} at ${hex(at)}, the file ends at ${hex(end)}: it is cut, or the numbers are wrong.`;
 }
 
 export function header_refusal(error) {
@@ -66,7 +73,8 @@ export function list_refusal(error, what, offset, number) {
     const { header } = file.elf;
     const mark = (name) => { const [at, size] = FIELDS[name][Number(is_wide())]; return { at, size }; };
     const values = `${number} ${count(header[number])}, ${offset} ${hex(header[offset])}, file size ${count(file.content.length)} bytes`;
-    return refusal(error, `${what}: ${values}`, [mark(offset), mark(number)]);
+    const size = BigInt(header[number] * size_of(number === 'e_shnum' ? 'section' : 'segment'));
+    return refusal(error, `${what}: ${values}`, [mark(offset), mark(number)], words_of_cut(what.replace('t', 'T'), header[offset], size));
 }
 
 export function section_refusal(error, what, index) {
@@ -74,14 +82,16 @@ export function section_refusal(error, what, index) {
     const values = `${what} of section ${index}: offset ${hex(sh_offset)}, size ${hex(sh_size)}`;
     const at = Number(file.elf.header.e_shoff) + index * size_of('section');
     const mark = { at: at + (is_wide() ? 0x18 : 0x10), size: is_wide() ? 16 : 8 };
-    return refusal(error, `${values}, in a file of ${count(file.content.length)} bytes`, [mark]);
+    return refusal(error, `${values}, in a file of ${count(file.content.length)} bytes`, [mark],
+        words_of_cut(`The bytes of ${called(index)}`, sh_offset, sh_size));
 }
 
 export function segment_refusal(error, index) {
     const { p_offset, p_filesz } = file.elf.program_header(index);
     const size = size_of('segment'), at = Number(file.elf.header.e_phoff) + index * size;
     const values = `the bytes of segment ${index}: offset ${hex(p_offset)}, file size ${hex(p_filesz)}`;
-    return refusal(error, `${values}, in a file of ${count(file.content.length)} bytes`, [{ at, size }]);
+    return refusal(error, `${values}, in a file of ${count(file.content.length)} bytes`, [{ at, size }],
+        words_of_cut(`The bytes of segment ${index}`, p_offset, p_filesz));
 }
 
 // ---- sections ----

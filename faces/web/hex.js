@@ -54,9 +54,9 @@ export function lines_of(bytes, first, each, is_marked) {
 }
 
 /** Returns a refusal: the library's text, what was being read, and the bytes that hold its offset. */
-export async function refusal_of({ text, kind, what, marks }, reader_ask = ask, each = innerWidth < 600 ? 8 : 16) {
+export async function refusal_of({ text, kind, what, marks, words }, reader_ask = ask, each = innerWidth < 600 ? 8 : 16) {
     const box = make('div', { class: 'refused', role: 'group', 'aria-label': 'Refusal' },
-        make('h3', {}, 'Refused: ', put_text(make('span'), text)),
+        ...(words ? [put_text(make('p', { class: 'plainly' }), words)] : []), make('h3', {}, 'Refused: ', put_text(make('span'), text)),
         make('p', { class: 'what' }, `Refusal ${kind}, while reading ${what}.`));
     if (marks.length === 0) return box;
     const least = Math.min(...marks.map(({ at }) => at)), most = Math.max(...marks.map(({ at, size }) => at + size));

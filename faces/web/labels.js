@@ -1,7 +1,7 @@
 // Names of numbers: the library's, which are goblin's, if they are right for the file's machine and system; else the page's own; else the
 // number.
 import * as goblin from './goblin.js';
-import { file } from './file.js';
+import { file, is_wide } from './file.js';
 import * as own from './names.js';
 import { hex } from './text.js';
 
@@ -48,7 +48,7 @@ export const osabi = label('ELFOSABI_', own.osabi, () => 'UNKNOWN', String);
 export const prefixed = (prefix, name) => (/^(0x|\d+$)/.test(name) ? name : `${prefix}${name}`);
 
 /** Returns the name of a relocation's type with its prefix, or the number. */
-export const relocation_type = once((type) => own.relocation_type(type, file.elf.header.e_machine) ?? `${type}`);
+export const relocation_type = once((type) => own.relocation_type(type, file.elf.header.e_machine, is_wide()) ?? `${type}`);
 
 const BITS = Array.from({ length: 32 }, (_, bit) => bit);
 /** Returns the names of a section's flags. Flags without a name are numbers. */

@@ -149,12 +149,21 @@ function trouble(file, text) {
     document.body.removeAttribute('aria-busy');
 }
 
+// What a file is that starts with some characters, each a byte, and is no ELF file.
+const OTHERS = [['MZ', 'a program for Windows or DOS (PE)'], ['\xcf\xfa\xed\xfe', 'a Mach-O file'], ['\xce\xfa\xed\xfe', 'a Mach-O file'],
+    ['\xfe\xed\xfa\xce', 'a Mach-O file'], ['\xfe\xed\xfa\xcf', 'a Mach-O file'], ['\xca\xfe\xba\xbe', 'a Mach-O file or a Java class'],
+    ['!<arch>\n', 'an archive (ar): its members may be ELF files'], ['!<thin>\n', 'a thin archive (ar)'], ['\x1f\x8b', 'compressed by gzip'],
+    ['BZh', 'compressed by bzip2'], ['\xfd7zXZ\0', 'compressed by xz'], ['\x28\xb5\x2f\xfd', 'compressed by zstd'], ['PK\x03\x04', 'a zip archive'],
+    ['#!', 'a script'], ['\0asm', 'a WebAssembly module'], ['BC\xc0\xde', 'LLVM bitcode']];
+
 async function show_refusal(file, reader, { refused, start }) {
     replace(reader, file, undefined);
     const box = await refusal_of(refused, (call, given) => reader.ask(call, given));
     const is_elf = MAGIC.slice(0, start.length).every((byte, i) => start[i] === byte);
+    const other = OTHERS.find(([begin]) => String.fromCharCode(...start).startsWith(begin));
     const words = is_elf ? [] : [
         make('h2', {}, 'This is not an ELF file'),
+        ...(other ? [make('p', {}, `By its first bytes it is ${other[1]}.`)] : []),
         make('p', { class: 'what' }, 'An ELF file starts with 7f 45 4c 46. This one starts with:'),
         lines_of(start, 0, innerWidth < 600 ? 8 : 16, (byte) => byte < MAGIC.length && start[byte] !== MAGIC[byte]),
     ];
