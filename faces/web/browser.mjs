@@ -752,6 +752,21 @@ async function check_plain_words() {
     assert.ok((await facts(join(folder, 'short'))).some(([, value]) => value === 'unknown, the section headers are refused'));
 }
 
+// A link by a name leads to a section or symbol of a file that is built anew, wherever it is there.
+async function check_named_links() {
+    const text = sections_of(dump)['.text'], main = symbols_of(dump).find(({ name }) => name === 'main');
+    await pick(dump);
+    await evaluate(`void (navigator.clipboard.writeText = async (given) => { globalThis.copied = given; })`);
+    for (const [place, name, value] of [['section=.text', 'sh_offset', text.offset], ['symbol=main', 'st_value', main.value]]) {
+        await go(place, place.split('=')[1]);
+        assert.match(await field_of(name), new RegExp(`^0x${value.toString(16)}\\b`));
+        await press_button('Copy link');
+        await until(`globalThis.copied === ${quoted(`${url}#${place}`)}`);
+    }
+    await go('symbol=%', 'ELF header');
+    await go('section=.no', 'ELF header');
+}
+
 async function check_words() {
     await pick(made);
     assert.match(await text_of('#file'), /little endian/);
@@ -1022,7 +1037,7 @@ const checks = {
     cut: check_cut, labels: check_labels, loading: () => check_loading(content), symbol_links: check_symbol_links,
     early_link: check_early_link, section_links: check_section_links, history: check_history, relocation_links: check_relocation_links,
     goto: check_goto, search: check_search, relocation_names: check_relocation_names, section_indices: check_section_indices,
-    plain_words: check_plain_words, 
+    named_links: check_named_links, plain_words: check_plain_words, 
     copies: check_copies, refused_tables: check_refused_tables, words: check_words, cells: check_cells, widths: check_widths,
     map: check_map, narrow: check_narrow, themes: check_themes, names: check_names, keys: check_keys, requests: check_requests,
     unsupported: check_unsupported,

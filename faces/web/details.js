@@ -24,6 +24,9 @@ const bytes_word = (size) => `${count(size)} bytes`;
 const at_address = (address) => (has_addresses() && address > 0n ? { ...to_address(address), text: 'address' } : undefined);
 const at_offset = (offset) => (Number(offset) < file.content.length ? { ...to_offset(offset), text: 'offset' } : undefined);
 
+// Returns a location by a name, if the name is whole and UTF-8.
+const link_by_name = (kind, name) => (name && name.isWellFormed() && !name.endsWith('…') ? `${kind}=${encodeURIComponent(name)}` : undefined);
+
 // Returns the link to an entry of a table.
 function entry(of, index, kind) {
     const size = size_of(kind);
@@ -66,7 +69,7 @@ function section_details(item, index) {
     const { sh_name, sh_type, sh_flags, sh_addr, sh_offset, sh_size, sh_link, sh_info, sh_addralign, sh_entsize } = item;
     const header = { word: 'section header', at: Number(file.elf.header.e_shoff) + index * size_of('section'), size: size_of('section') };
     return {
-        title: called(index, item), what: `section ${count(index)}`, kind: kind_of(item),
+        title: called(index, item), what: `section ${count(index)}`, kind: kind_of(item), link: link_by_name('section', name_of_section(item)),
         fields: [
             field('sh_name', hex(sh_name)),
             field('sh_type', hex(sh_type), prefixed('SHT_', labels.section_type(sh_type)), list_of(item, index)),
@@ -120,6 +123,7 @@ function symbol_details(item, index, table) {
     return {
         title: name_of_symbol(table, index, item) || `symbol ${index}`, what: `symbol ${count(index)} of ${called(table)}`,
         kind: of === undefined || !section_at(of) ? undefined : kind_of(section_at(of)),
+        link: link_by_name('symbol', name_of_symbol(table, index, item)),
         fields: [
             field('st_name', hex(st_name)),
             field('st_value', hex(st_value), place?.section ? with_offset(called(of), place.from) : '', address),

@@ -47,10 +47,21 @@ async function item_of({ name, of, field, index }) {
     return ask('item', { list: name, index, of });
 }
 
+// Returns the text of an encoded one, or the text itself if it is none.
+const decoded = (text) => { try { return decodeURIComponent(text); } catch { return text; } };
+
+// Returns the location of a section or symbol that a location names, as `symbol=main`: so a link survives that a file is built anew.
+async function found_by_name(place) {
+    const [, kind, name] = /^(section|symbol)=(.+)$/.exec(place) ?? [];
+    return kind ? await ask('named', [kind, decoded(name)]) ?? 'summary' : place;
+}
+
 let shown_places = 0;
-async function show_place(place) {
+async function show_place(given) {
     const mine = ++shown_places;
     if (!shown_file.summary) return;
+    const place = await found_by_name(given);
+    if (mine !== shown_places) return;
     const [name, first] = place.split('/');
     let details;
     if (Object.hasOwn(PLACES, name)) {

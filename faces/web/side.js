@@ -1,5 +1,5 @@
 // The side: what is chosen, with its fields, links and bytes.
-import { button, get, hex, joined, make, plural, put_text, visible } from './dom.js';
+import { button, copy, get, hex, joined, make, plural, put_text, visible } from './dom.js';
 import { copy_hex, hex_view, refusal_of } from './hex.js';
 import { colour } from './map.js';
 import { ask } from './reader.js';
@@ -40,7 +40,7 @@ async function bytes_box(blocks) {
 
 let asked = 0;
 /** Shows the worker's description of what is chosen. */
-export async function show_side({ title, what, kind, fields = [], blocks = [] }) {
+export async function show_side({ title, what, kind, link, fields = [], blocks = [] }) {
     const mine = ++asked;
     const bytes = blocks.length ? [await bytes_box(blocks)] : [];
     if (mine !== asked) return;
@@ -50,6 +50,7 @@ export async function show_side({ title, what, kind, fields = [], blocks = [] })
         dot.style.background = colour(kind);
         sub.prepend(dot);
     }
+    if (link) sub.append(button('Copy link', () => copy(`${location.href.split('#')[0]}#${link}`, 'a link by the name'), { class: 'copy' }));
     const rows = fields.map((field) => make('tr', {}, make('th', { scope: 'row' }, field.name), value_of(field)));
     const table = rows.length ? [make('div', { class: 'list' }, make('table', { class: 'fields' }, make('tbody', {}, ...rows)))] : [];
     get('chosen').replaceChildren(put_text(make('h2', { tabindex: '-1' }), title), sub, ...table, ...bytes);
