@@ -767,6 +767,26 @@ async function check_named_links() {
     await go('section=.no', 'ELF header');
 }
 
+// A row of bytes has as many as there is room for. A field of a record shows its bytes, and a byte its field.
+async function check_fields() {
+    const { index, size, offset } = sections_of(dump)['.text'], little = (number) => packed([number, 8]).toString('hex');
+    await pick(dump);
+    for (const [width, each] of [[1600, 16], [1280, 8], [800, 16], [400, 8], [1400, 8]]) {
+        await browser.resize(width, 1000);
+        await go('header', 'ELF header');
+        await go(`sections/${index}`, '.text');
+        await until(`document.querySelector('#chosen .hex .row')?.row`);
+        assert.equal((await text_of('#chosen .hex .row :nth-child(2)')).trim().split(' ').length, each, `${width}`);
+    }
+    const lit = () => evaluate(`['tr.lit th', '.hex .cell:nth-child(2) .lit'].map((place) =>
+        [...document.querySelectorAll('#chosen ' + place)].map((item) => item.textContent).join(''))`);
+    await press_button('sh_size');
+    await until(`document.querySelector('#chosen .hex .lit') !== null`);
+    assert.deepEqual(await lit(), ['sh_size', little(size)]);
+    await evaluate(`document.querySelector('#chosen .hex [data-field=sh_offset]').dispatchEvent(new PointerEvent('pointerover', { bubbles: true }))`);
+    assert.deepEqual(await lit(), ['sh_offset', little(offset)]);
+}
+
 async function check_words() {
     await pick(made);
     assert.match(await text_of('#file'), /little endian/);
@@ -1037,7 +1057,7 @@ const checks = {
     cut: check_cut, labels: check_labels, loading: () => check_loading(content), symbol_links: check_symbol_links,
     early_link: check_early_link, section_links: check_section_links, history: check_history, relocation_links: check_relocation_links,
     goto: check_goto, search: check_search, relocation_names: check_relocation_names, section_indices: check_section_indices,
-    named_links: check_named_links, plain_words: check_plain_words, 
+    named_links: check_named_links, fields: check_fields, plain_words: check_plain_words, 
     copies: check_copies, refused_tables: check_refused_tables, words: check_words, cells: check_cells, widths: check_widths,
     map: check_map, narrow: check_narrow, themes: check_themes, names: check_names, keys: check_keys, requests: check_requests,
     unsupported: check_unsupported,

@@ -27,11 +27,33 @@ const at_offset = (offset) => (Number(offset) < file.content.length ? { ...to_of
 // Returns a location by a name, if the name is whole and UTF-8.
 const link_by_name = (kind, name) => (name && name.isWellFormed() && !name.endsWith('…') ? `${kind}=${encodeURIComponent(name)}` : undefined);
 
-// Returns the link to an entry of a table.
-function entry(of, index, kind) {
-    const size = size_of(kind);
-    return { word: `entry in ${called(of)}`, at: Number(section_at(of).sh_offset) + index * size, size };
+// The fields of records with their sizes if these are not four bytes, in files of each class. A `w` is 4 or 8, by the class.
+const RECORDS = {
+    header: ['magic ei_class:1 ei_data:1 ei_version:1 ei_osabi:1 ei_abiversion:1 padding:7 e_type:2 e_machine:2 e_version e_entry:w e_phoff:w'
+        + ' e_shoff:w e_flags e_ehsize:2 e_phentsize:2 e_phnum:2 e_shentsize:2 e_shnum:2 e_shstrndx:2'],
+    section: ['sh_name sh_type sh_flags:w sh_addr:w sh_offset:w sh_size:w sh_link sh_info sh_addralign:w sh_entsize:w'],
+    segment: ['p_type p_offset p_vaddr p_paddr p_filesz p_memsz p_flags p_align',
+        'p_type p_flags p_offset:w p_vaddr:w p_paddr:w p_filesz:w p_memsz:w p_align:w'],
+    symbol: ['st_name st_value st_size st_info:1 st_other:1 st_shndx:2', 'st_name st_info:1 st_other:1 st_shndx:2 st_value:w st_size:w'],
+    rela: ['r_offset r_type:1 r_sym:3 r_addend', 'r_offset:w r_type r_sym r_addend:w'],
+    symbol_first: ['r_offset r_sym:3 r_type:1 r_addend', 'r_offset:w r_sym r_type r_addend:w'],
+    note: ['n_namesz n_descsz n_type'],
+};
+
+// Returns a record at an offset of the file, with the bytes of each field.
+function record(word, kind, at, size = size_of(kind)) {
+    const is_first = !file.elf.little_endian() || (file.elf.header.e_machine === EM_MIPS && is_wide());
+    const form = RECORDS[/^rel/.test(kind) ? (is_first ? 'symbol_first' : 'rela') : kind];
+    let next = at;
+    const fields = (form[Number(is_wide())] ?? form[0]).split(' ').map((text) => {
+        const [name, wide = 4] = text.split(':'), own = wide === 'w' ? (is_wide() ? 8 : 4) : Number(wide);
+        return { name, at: (next += own) - own, size: own };
+    });
+    return { word, at, size, fields: fields.filter((item) => item.at < at + size) };
 }
+
+// Returns the entry of a table.
+const entry = (of, index, kind) => record(`entry in ${called(of)}`, kind, Number(section_at(of).sh_offset) + index * size_of(kind));
 
 // Returns the bytes of a range, or their refusal.
 function block(word, range, refused) {
@@ -67,7 +89,7 @@ function list_of({ sh_type }, index) {
 
 function section_details(item, index) {
     const { sh_name, sh_type, sh_flags, sh_addr, sh_offset, sh_size, sh_link, sh_info, sh_addralign, sh_entsize } = item;
-    const header = { word: 'section header', at: Number(file.elf.header.e_shoff) + index * size_of('section'), size: size_of('section') };
+    const header = record('section header', 'section', Number(file.elf.header.e_shoff) + index * size_of('section'));
     return {
         title: called(index, item), what: `section ${count(index)}`, kind: kind_of(item), link: link_by_name('section', name_of_section(item)),
         fields: [
@@ -97,7 +119,7 @@ function sections_in(segment) {
 function segment_details(item, index) {
     const { p_type, p_flags, p_offset, p_vaddr, p_paddr, p_filesz, p_memsz, p_align } = item;
     const inside = sections_in(item), is_cut = inside.length > MOST_SECTIONS;
-    const header = { word: 'program header', at: Number(file.elf.header.e_phoff) + index * size_of('segment'), size: size_of('segment') };
+    const header = record('program header', 'segment', Number(file.elf.header.e_phoff) + index * size_of('segment'));
     return {
         title: title_of_segment(index, item), what: `segment ${count(index)} of ${count(file.elf.header.e_phnum)}`,
         kind: kind_of_segment(item),
@@ -176,7 +198,7 @@ function note_details(item, index, by) {
         ],
         blocks: [
             { word: 'descriptor', at: Number(note.desc_range.offset), size: Number(note.desc_range.size) },
-            { word: 'whole note', at: start, size: Math.min(end, file.content.length) - start },
+            record('whole note', 'note', start, Math.min(end, file.content.length) - start),
         ],
     };
 }
@@ -251,10 +273,6 @@ export function address_details(address) {
 
 // ---- the header ----
 
-const FIELDS = ['e_type', 'e_machine', 'e_version', 'e_entry', 'e_phoff', 'e_shoff', 'e_flags', 'e_ehsize', 'e_phentsize', 'e_phnum',
-    'e_shentsize', 'e_shnum', 'e_shstrndx'];
-const IDENT = ['ei_class', 'ei_data', 'ei_version', 'ei_osabi', 'ei_abiversion'];
-
 // The fields' meanings, in a few words.
 const WORDS = {
     ei_class: 'class', ei_data: 'byte order', ei_version: 'version of the format', ei_osabi: 'operating system and ABI',
@@ -282,14 +300,10 @@ const header_links = ({ e_entry, e_phoff, e_shoff, e_shstrndx }) => ({
 
 /** Returns the header's fields, each with its bytes. */
 export function header_fields() {
-    const { header } = file.elf, word = is_wide() ? 8 : 4;
-    const sizes = [2, 2, 4, word, word, word, 4, 2, 2, 2, 2, 2, 2], meanings = header_meanings(header), links = header_links(header);
-    let at = 16;
-    const places = [...IDENT.map((name, i) => ({ name, at: 4 + i, size: 1 })),
-        ...FIELDS.map((name, i) => ({ name, at: (at += sizes[i]) - sizes[i], size: sizes[i] }))];
-    return places.map(({ name, at: place, size }) => {
+    const { header } = file.elf, meanings = header_meanings(header), links = header_links(header);
+    return record('ELF header', 'header', 0).fields.filter(({ name }) => WORDS[name]).map(({ name, at, size }) => {
         const value = ['e_entry', 'e_phoff', 'e_shoff', 'e_flags'].includes(name) ? hex(header[name]) : `${header[name]}`;
         const [meaning, leads] = [meanings[name] ?? '', links[name] ? [links[name]] : []];
-        return { name, at: place, size, value, meaning, words: WORDS[name], links: leads };
+        return { name, at, size, value, meaning, words: WORDS[name], links: leads };
     });
 }

@@ -1,35 +1,50 @@
 // Bytes of the file: a view of any number of them, and the bytes of a refusal.
-import { copy, make, plural, put_text } from './dom.js';
+import { copy, get, make, plural, put_text } from './dom.js';
 import { Grid } from './grid.js';
 import { ask } from './reader.js';
 
-const EACH = 8, MOST_COPIED = 1 << 20, MOST_MARKED = 256;
+const MOST_COPIED = 1 << 20, MOST_MARKED = 256;
 const two = (byte) => byte.toString(16).padStart(2, '0');
 const place = (at) => at.toString(16).padStart(8, '0');
 const printed = (byte) => (byte > 0x1f && byte < 0x7f ? String.fromCharCode(byte) : '·');
 
-/** Returns a view of a number of bytes of the file, from an offset on. */
-export function hex_view(at, size) {
-    const first = Math.floor(at / EACH) * EACH;
-    const put = (of) => (cell, row) => {
-        cell.replaceChildren();
-        (row ?? []).forEach((byte, i) => {
-            const is_in = row.at + i >= at && row.at + i < at + size;
-            cell.append(is_in ? of(byte) : make('span', { class: 'dim' }, of(byte)), of === printed || i === EACH - 1 ? '' : ' ');
-        });
+let lit;
+/** Marks a field of a record in its row and in its bytes, or none. */
+export function light(name) {
+    lit = name;
+    for (const item of get('chosen').querySelectorAll('[data-field]')) item.classList.toggle('lit', item.dataset.field === name);
+}
+
+/** Returns how many bytes a row has in a view of a width. */
+export const bytes_in = (width) => (width >= 1060 ? 32 : width >= 590 ? 16 : 8);
+
+/**
+ * Returns a view of a number of bytes of the file, from an offset on, with `each` bytes in a row. Bytes of the fields of a record, each with
+ * its name, offset and size, have a colour of the field, and its name.
+ */
+export function hex_view(at, size, each, fields = []) {
+    const first = Math.floor(at / each) * each;
+    const node_of = (text, place) => {
+        const field = fields.findIndex(({ at: start, size: own }) => place >= start && place < start + own), { name } = fields[field] ?? {};
+        if (name) return make('i', { 'data-field': name, 'data-tint': field % 4, title: name, class: name === lit && 'lit' }, text);
+        return place >= at && place < at + size ? text : make('span', { class: 'dim' }, text);
     };
+    const put = (of) => (cell, row) => {
+        cell.replaceChildren(...(row ?? []).flatMap((byte, i) => [node_of(of(byte), row.at + i), of === printed || i === each - 1 ? '' : ' ']));
+    };
+    const wide = Math.ceil((3 * each - 1) * 7.3) + 10;
     const columns = [
-        { wide: '74px', least: 74, is_dim: true }, { wide: '178px', least: 178, put: put(two) }, { wide: '1fr', least: 60, put: put(printed) },
+        { wide: '74px', least: 74, is_dim: true }, { wide: `${wide}px`, least: wide, put: put(two) }, { wide: '1fr', least: 60, put: put(printed) },
     ];
     const rows = async (from, count) => {
-        const bytes = await ask('bytes', [first + from * EACH, count * EACH]);
-        return Array.from({ length: Math.ceil(bytes.length / EACH) }, (_, i) => {
-            const row = Object.assign([...bytes.subarray(i * EACH, (i + 1) * EACH)], { at: first + (from + i) * EACH });
+        const bytes = await ask('bytes', [first + from * each, count * each]);
+        return Array.from({ length: Math.ceil(bytes.length / each) }, (_, i) => {
+            const row = Object.assign([...bytes.subarray(i * each, (i + 1) * each)], { at: first + (from + i) * each });
             return [place(row.at), row, row];
         });
     };
     const grid = new Grid('Bytes of the file', columns, { rows, high: 20, kind: 'hex' });
-    queueMicrotask(() => grid.show(Math.ceil((at + size - first) / EACH)));
+    queueMicrotask(() => grid.show(Math.ceil((at + size - first) / each)));
     return grid.box;
 }
 

@@ -5,7 +5,7 @@ import { lines_of, refusal_of } from './hex.js';
 import { mark_range, set_up_map, show_map } from './map.js';
 import { ask, is_supported, Reader, shown_file } from './reader.js';
 import { current_place, note_place, on_place } from './route.js';
-import { show_side } from './side.js';
+import { set_up_side, show_side } from './side.js';
 import { activate, choose_field, is_list, open_tab, set_up_tabs, show_tabs } from './tabs.js';
 
 const MAGIC = [0x7f, 0x45, 0x4c, 0x46];
@@ -82,7 +82,7 @@ async function show_place(given) {
 
 // Returns what the side shows while nothing is chosen.
 const unchosen = () => ({ title: 'ELF header', kind: 'header', what: 'at the start of the file',
-    blocks: [{ word: 'bytes', at: 0, size: shown_file.summary.header_size }] });
+    blocks: [{ word: 'bytes', at: 0, size: shown_file.summary.header_size, fields: shown_file.summary.header }] });
 
 // ---- files ----
 
@@ -219,6 +219,7 @@ function start() {
     get('limit').textContent = LIMIT_WORDS;
     get('chosen').before(button('‹ List', () => document.body.classList.remove('chosen'), { id: 'back' }));
     set_up_map();
+    set_up_side();
     set_up_tabs();
     set_up_goto();
     set_up_files();

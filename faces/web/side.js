@@ -1,10 +1,10 @@
 // The side: what is chosen, with its fields, links and bytes.
 import { button, copy, get, hex, joined, make, plural, put_text, visible } from './dom.js';
-import { copy_hex, hex_view, refusal_of } from './hex.js';
+import { bytes_in, copy_hex, hex_view, light, refusal_of } from './hex.js';
 import { colour } from './map.js';
 import { ask } from './reader.js';
 
-const SIDE_BYTES = 8;
+const SIDE_BYTES = 8, SIDE_WIDTH = 372;
 
 /** Returns a link to a location. */
 export const link_to = ({ text, to }) => put_text(make('a', { href: `#${to}` }), text);
@@ -15,10 +15,13 @@ export function value_of({ value, meaning, links }) {
     return make('td', {}, ...joined([value && put_text(make('span'), value), said, ...links.map(link_to)].filter((part) => part)));
 }
 
-async function content_of({ at, size, refused }) {
+// Returns the width that bytes have. In a low window they are beside the fields.
+const room = () => (matchMedia('(max-height: 600px) and (min-width: 561px)').matches ? SIDE_WIDTH : get('chosen').clientWidth);
+
+async function content_of({ at, size, refused, fields }) {
     if (refused) return [await refusal_of(refused, ask, SIDE_BYTES)];
     const lies = at === undefined ? 'no bytes in the file' : `${hex(at)} to ${hex(at + size)}, ${plural(size, 'byte')}`;
-    return [make('p', { class: 'lies' }, lies), ...(size > 0 ? [hex_view(at, size)] : [])];
+    return [make('p', { class: 'lies' }, lies), ...(size > 0 ? [hex_view(at, size, shown_each = bytes_in(room()), fields)] : [])];
 }
 
 // Returns the view of the chosen block of bytes, at first the first one.
@@ -34,15 +37,26 @@ async function bytes_box(blocks) {
         const shown = await content_of(block);
         if (current === block) content.replaceChildren(...shown);
     };
+    shown_again = () => show(current);
     await show(blocks[0]);
-    return make('div', { class: 'bytes' }, make('div', { class: 'blocks' }, ...choices, copying), content);
+    return { box: make('div', { class: 'bytes' }, make('div', { class: 'blocks' }, ...choices, copying), content), show };
+}
+
+// How many bytes a row has, and what shows the bytes again once the width has changed.
+let shown_each, shown_again;
+
+export function set_up_side() {
+    for (const event of ['pointerover', 'focusin']) {
+        get('chosen').addEventListener(event, ({ target }) => light(target.closest('[data-field]')?.dataset.field));
+    }
+    addEventListener('resize', () => { if (shown_again && bytes_in(room()) !== shown_each) shown_again(); });
 }
 
 let asked = 0;
 /** Shows the worker's description of what is chosen. */
 export async function show_side({ title, what, kind, link, fields = [], blocks = [] }) {
     const mine = ++asked;
-    const bytes = blocks.length ? [await bytes_box(blocks)] : [];
+    const bytes = blocks.length ? await bytes_box(blocks) : undefined, record = blocks.find((block) => block.fields);
     if (mine !== asked) return;
     const sub = put_text(make('p', { class: 'sub' }), what);
     if (kind) {
@@ -51,7 +65,14 @@ export async function show_side({ title, what, kind, link, fields = [], blocks =
         sub.prepend(dot);
     }
     if (link) sub.append(button('Copy link', () => copy(`${location.href.split('#')[0]}#${link}`, 'a link by the name'), { class: 'copy' }));
-    const rows = fields.map((field) => make('tr', {}, make('th', { scope: 'row' }, field.name), value_of(field)));
+    // (the name of a field of a record shows its bytes)
+    const rows = fields.map((field) => {
+        const tint = record?.fields.findIndex(({ name }) => name === field.name) ?? -1;
+        if (tint < 0) return make('tr', {}, make('th', { scope: 'row' }, field.name), value_of(field));
+        const show_bytes = async () => { await bytes.show(record); light(field.name); };
+        return make('tr', { 'data-field': field.name, 'data-tint': tint % 4 },
+            make('th', { scope: 'row' }, button(field.name, show_bytes, { title: 'show its bytes' })), value_of(field));
+    });
     const table = rows.length ? [make('div', { class: 'list' }, make('table', { class: 'fields' }, make('tbody', {}, ...rows)))] : [];
-    get('chosen').replaceChildren(put_text(make('h2', { tabindex: '-1' }), title), sub, ...table, ...bytes);
+    get('chosen').replaceChildren(put_text(make('h2', { tabindex: '-1' }), title), sub, ...table, ...(bytes ? [bytes.box] : []));
 }

@@ -170,7 +170,8 @@ export function choose_field(wanted) {
     const field = shown_file.summary.header.find(({ name }) => name === wanted);
     if (!field) return undefined;
     const { name, at, size, words, value, meaning, links } = field;
-    const [fields, blocks] = [[{ name: 'value', value, meaning, links }], [{ word: 'bytes', at, size }]];
+    const [fields, blocks] = [[{ name: 'value', value, meaning, links }], [{ word: 'bytes', at, size },
+        { word: 'header', at: 0, size: shown_file.summary.header_size, fields: shown_file.summary.header }]];
     return { title: name, kind: 'header', what: words, fields, blocks };
 }
 
