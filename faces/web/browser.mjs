@@ -546,6 +546,7 @@ async function check_goto() {
     assert.match(await side(), /main \+ 0x1/);
     await go_by_field('.dynstr');
     await until_chosen('.dynstr');
+    await until(`document.activeElement === document.querySelector('#chosen h2')`);
     await go_by_field('main');
     await until_chosen('main');
     assert.equal(await fragment(), `symbols/${sections['.symtab'].index}/${main.index}`);
@@ -750,6 +751,9 @@ async function check_plain_words() {
     await until(`document.querySelector('#panel .plainly') !== null`);
     assert.match(await text_of('#panel .plainly'), /^The section headers begin at 0x1800, the file ends at 0x1000: it is cut/);
     assert.ok((await facts(join(folder, 'short'))).some(([, value]) => value === 'unknown, the section headers are refused'));
+    await browser.evaluate(`document.getElementById('example').click()`);
+    await until(`document.querySelector('#file b')?.textContent === 'example'`);
+    assert.match(await text_of('#file'), /program at fixed addresses for x86-64/);
 }
 
 // A link by a name leads to a section or symbol of a file that is built anew, wherever it is there.
@@ -818,6 +822,24 @@ async function check_cells() {
 }
 
 const sizes = [[1280, 900], [800, 900], [400, 800]];
+
+// In low and narrow windows the first result of a search is in view, and so are the first bytes of what is chosen.
+async function check_low() {
+    const is_seen = (place) => `(({ top, bottom }) => top >= 0 && bottom <= innerHeight)(document.querySelector('${place}').getBoundingClientRect())`;
+    await pick(dump);
+    const { index } = sections_of(dump)['.symtab'], all = symbols_of(dump), number = all.filter(({ name }) => name.includes('main')).length;
+    for (const [width, height] of [[800, 360], [640, 450], [400, 800]]) {
+        await browser.resize(width, height);
+        await go(`symbols/${index}`, 'ELF header');
+        await evaluate(`document.getElementById('back').click()`);
+        await search('main', `${number} of ${all.length.toLocaleString('en')}`);
+        assert.ok(await evaluate(is_seen('#panel .body .row')), `${width} ${height}`);
+        await go('section=.text', '.text');
+        await until(`document.querySelector('#chosen .hex .row')?.row`);
+        assert.ok(await evaluate(is_seen('#chosen .hex .row')), `${width} ${height}`);
+    }
+    await browser.resize(1400, 1600);
+}
 
 // In windows of three widths: the map takes at most a third, no word is broken, and the page has no scroll bar but that of the list.
 async function check_widths() {
@@ -942,7 +964,7 @@ function contrast(...colours) {
 async function check_colours() {
     await open_tab('sections');
     const edges = ['#goto', '.bar .button', '#out', '#canvas', '#legend i', '#panel input', '#panel .saving button'];
-    const kinds = ['header', 'tables', 'code', 'data', 'constants', 'names', 'relocations', 'notes', 'other'];
+    const kinds = ['header', 'tables', 'code', 'data', 'constants', 'names', 'relocations', 'notes', 'debug', 'other'];
     const [edge, ground, kind, on] = await evaluate(`(() => {
         const { probe, style } = ${PIXELS}, edge = (selector) => probe(getComputedStyle(document.querySelector(selector)).borderTopColor);
         return [${quoted(edges)}.map(edge), ['paper', 'raised'].map(style), ${quoted(kinds)}.map(style), ['paper', 'on-kind'].map(style)];
@@ -1002,7 +1024,9 @@ async function check_keys() {
     await until_chosen('.text');
     const active = `document.activeElement.getAttribute('aria-activedescendant')`;
     assert.equal(await evaluate(`document.getElementById(${active}).children[1].textContent`), '.text');
-    await evaluate(`document.getElementById('tab-sections').focus()`);
+    await evaluate(`(document.getElementById('tab-header').click(), document.querySelector('[popovertarget]').click())`);
+    await until(`document.querySelector('.fields.header')?.getAttribute('role') === 'grid' && document.querySelector('#keys:popover-open') !== null`);
+    await evaluate(`(document.querySelector('#keys').hidePopover(), ['click', 'focus'].forEach((act) => document.querySelector('#tab-sections')[act]()))`);
     await browser.press('ArrowRight');
     await until(`document.activeElement.id === 'tab-segments' && document.activeElement.ariaSelected === 'true'`);
 }
@@ -1057,7 +1081,7 @@ const checks = {
     cut: check_cut, labels: check_labels, loading: () => check_loading(content), symbol_links: check_symbol_links,
     early_link: check_early_link, section_links: check_section_links, history: check_history, relocation_links: check_relocation_links,
     goto: check_goto, search: check_search, relocation_names: check_relocation_names, section_indices: check_section_indices,
-    named_links: check_named_links, fields: check_fields, plain_words: check_plain_words, 
+    named_links: check_named_links, fields: check_fields, low: check_low, plain_words: check_plain_words, 
     copies: check_copies, refused_tables: check_refused_tables, words: check_words, cells: check_cells, widths: check_widths,
     map: check_map, narrow: check_narrow, themes: check_themes, names: check_names, keys: check_keys, requests: check_requests,
     unsupported: check_unsupported,

@@ -24,11 +24,11 @@ function mark() {
 }
 
 // Goes to a result. If its digits can be read in two ways, says which one is taken, with a link to the other.
-function take({ title, to, read }) {
+async function take({ title, to, read }) {
     const other = read && found.find((place) => place.read && place.read !== read);
     close();
-    get('goto').blur();
-    go(to);
+    await go(to);
+    get('chosen').querySelector('h2')?.focus();
     if (read) say(`${title}, ${read}`, ...(other ? [', or ', link_to({ text: `${other.title}, ${other.read}`, to: other.to })] : []));
 }
 

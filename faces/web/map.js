@@ -4,9 +4,9 @@ import { ask, shown_file } from './reader.js';
 import { go } from './route.js';
 
 // In pixels: the height of a row's bar, the distance to the next one, and the space above. In rows: their greatest number.
-const BAND = 15, STEP = 23, TOP = 8, MOST_ROWS = 16, SHARE = 1 / 3;
+const BAND = 15, STEP = 23, TOP = 8, MOST_ROWS = 16, SHARE = 1 / 3, LOW = 600;
 const map = { part: -1, over: -1, chosen: undefined, rows: MOST_ROWS, view: { start: 0, each: 1 } };
-const KIND_WORDS = { header: 'ELF header', tables: 'header tables', names: 'symbols and names' };
+const KIND_WORDS = { header: 'ELF header', tables: 'header tables', names: 'symbols and names', debug: 'debug information' };
 const words_of = (kind) => KIND_WORDS[kind] ?? kind;
 export const colour = (kind) => getComputedStyle(document.documentElement).getPropertyValue(`--${kind}`);
 
@@ -27,12 +27,14 @@ function show_legend() {
     });
     const sum = (is_wanted) => map.kinds.reduce((all, _, i) => (is_wanted(i) ? all + map.starts[i + 1] - map.starts[i] : all), 0);
     const [overlapped, cut] = [sum((i) => map.depths[i] > 1), sum((i) => map.cuts[i])];
-    const part = (size) => `${(100 * size / map.size).toFixed(size > 0 && size / map.size < 0.001 ? 2 : 1)} %`;
-    const items = [...map.KINDS, 'gap'].filter((name) => sums.has(name)).map((name) => {
+    const part = (size) => `${(100 * size / map.size).toFixed(1)} %`, is_small = (name) => sums.get(name) / map.size < 0.0005;
+    const named = [...map.KINDS, 'gap'].filter((name) => sums.has(name)), small = named.filter(is_small).map(words_of);
+    const items = named.filter((name) => !is_small(name)).map((name) => {
         const dot = make('i', { class: name === 'gap' && 'hollow' });
         if (name !== 'gap') dot.style.background = colour(name);
         return make('li', {}, dot, `${words_of(name)} ${part(sums.get(name))}`);
     });
+    if (small.length) items.push(make('li', {}, `each below 0.05 %: ${small.join(', ')}`));
     if (overlapped) items.push(make('li', {}, `hatched: overlapping ${part(overlapped)}`));
     if (cut) items.push(make('li', {}, `hatched: cut at the file’s end ${part(cut)}`));
     if (map.segments.length) items.push(make('li', {}, 'line below: loaded'));
@@ -43,7 +45,7 @@ function show_legend() {
 function fit() {
     const canvas = get('canvas'), was_whole = map.view.each === map.whole || !map.whole;
     const others = canvas.parentElement.offsetHeight - canvas.offsetHeight;
-    map.rows = Math.min(Math.max(Math.floor((innerHeight * SHARE - others - TOP - 4) / STEP), 1), MOST_ROWS);
+    map.rows = Math.min(Math.max(Math.floor((innerHeight * (innerHeight > LOW ? SHARE : SHARE / 3) - others - TOP - 4) / STEP), 1), MOST_ROWS);
     map.whole = Math.max(2 ** Math.ceil(Math.log2(Math.max(map.size, 1) / map.rows)), 16);
     if (was_whole || map.view.each > map.whole) map.view = { start: 0, each: map.whole };
     draw_map();

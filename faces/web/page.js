@@ -199,6 +199,9 @@ async function show_file(file, reader, summary) {
 
 function set_up_files() {
     get('pick').addEventListener('change', ({ target }) => { if (target.files[0]) open(target.files[0]); target.value = ''; });
+    get('example').addEventListener('click', () => {
+        open(new File([Uint8Array.from(atob(get('example-file').textContent), (sign) => sign.charCodeAt(0))], 'example'));
+    });
     let inside = 0;
     const over = (by) => { inside = Math.max(inside + by, 0); document.body.classList.toggle('over', inside > 0); };
     addEventListener('dragenter', (event) => { event.preventDefault(); over(1); });

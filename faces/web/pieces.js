@@ -4,15 +4,16 @@ import { called, file, is_debug, RELOCATION_TYPES, RELR, section_at, sections, s
 import { segment_type } from './labels.js';
 import { notes_of, title_of } from './notes.js';
 
-export const KINDS = ['header', 'tables', 'code', 'data', 'constants', 'names', 'relocations', 'notes', 'other'];
+export const KINDS = ['header', 'tables', 'code', 'data', 'constants', 'names', 'relocations', 'notes', 'debug', 'other'];
 
-export function kind_of({ sh_type, sh_flags }) {
+export function kind_of(section) {
+    const { sh_type, sh_flags } = section;
     if (SYMBOL_TYPES.includes(sh_type) || sh_type === STRTAB) return 'names';
     if (RELOCATION_TYPES.includes(sh_type) || sh_type === RELR) return 'relocations';
     if (sh_type === goblin.SHT_NOTE) return 'notes';
     if (sh_flags & 4n) return 'code';
     if (sh_flags & 2n) return sh_flags & 1n ? 'data' : 'constants';
-    return 'other';
+    return is_debug(section) ? 'debug' : 'other';
 }
 
 export function kind_of_segment({ p_type, p_flags }) {

@@ -15,8 +15,8 @@ const place = (least) => ({ ...right('#', 'index', least), is_dim: true });
 // Returns the columns of each list, for the widths of some kinds of numbers.
 const COLUMNS = {
     sections: ({ address, offset, align, index }) => [
-        place(30), left('Name', 'sh_name', 110, 2), left('Type', 'sh_type', 92, 1), right('Address', 'sh_addr', address, 0.4),
-        right('Offset', 'sh_offset', offset, 0.3), right('Size', 'sh_size', offset, 0.3), left('Flags', 'sh_flags', 116, 1.3),
+        place(30), left('Name', 'sh_name', 110, 4), left('Type', 'sh_type', 92, 0.6), right('Address', 'sh_addr', address, 0.4),
+        right('Offset', 'sh_offset', offset, 0.3), right('Size', 'sh_size', offset, 0.3), left('Flags', 'sh_flags', 118, 0.3),
         right('Link', 'sh_link', index), right('Info', 'sh_info', index), right('Align', 'sh_addralign', align), right('Entry', 'sh_entsize', 36),
     ],
     segments: ({ address, offset }) => [
@@ -25,13 +25,13 @@ const COLUMNS = {
         right('Memory size', 'p_memsz', Math.max(offset, 80), 0.5), right('Physical', 'p_paddr', address, 1), right('Align', 'p_align', 66),
     ],
     symbols: ({ address }) => [
-        place(48), left('Name', 'st_name', 180, 2), right('Value', 'st_value', address, 0.6), right('Size', 'st_size', 62),
+        place(48), left('Name', 'st_name, not demangled', 180, 5), right('Value', 'st_value', address, 0.3), right('Size', 'st_size', 62),
         left('Type', 'st_info, its low four bits', 74), left('Binding', 'st_info, its high four bits', 64),
         left('Visibility', 'st_other', 78), left('Section', 'st_shndx', 90, 0.5),
     ],
     relocations: ({ address }) => [
-        place(48), right('Offset', 'r_offset', address, 0.6), left('Type', 'r_type', 190, 1), left('Symbol', 'the name of r_sym', 160, 2),
-        right('Addend', 'r_addend', address, 0.6), right('Index', 'r_sym', 56),
+        place(48), right('Offset', 'r_offset', address, 0.6), left('Type', 'r_type', 190, 0.5),
+        left('Symbol', 'the name of r_sym, not demangled', 160, 4), right('Addend', 'r_addend', address, 0.6), right('Index', 'r_sym', 56),
     ],
     notes: () => [
         place(40), left('From', 'the section or segment', 120, 1), left('Owner', 'the name', 72, 0.6), left('Type', 'n_type', 130, 0.8),
@@ -160,7 +160,7 @@ function header_panel() {
         });
         return row;
     });
-    const table = make('table', { class: 'fields header', 'aria-label': 'Fields of the header' }, make('tbody', {}, ...rows));
+    const table = make('table', { class: 'fields header', role: 'grid', 'aria-label': 'Fields of the header' }, make('tbody', {}, ...rows));
     return [make('div', { class: 'scroll' }, table)];
 }
 
