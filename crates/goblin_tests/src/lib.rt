@@ -25,7 +25,6 @@ mod note;
 mod number;
 #[cfg(test)]
 mod options;
-#[cfg(test)]
 mod own_record;
 #[cfg(test)]
 mod paths;

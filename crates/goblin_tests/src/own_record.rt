@@ -5,14 +5,20 @@ ghost use Rattle.goblin_base.specs.LayoutLaws.{obeys};
 ghost use Rattle.goblin_base.specs.Record.{Writes};
 ghost use Rattle.goblin_tests.specs.OwnRecord.{place, place_laws, port, port_laws};
 
+#[cfg(test)]
 use crate::compare::{is, returns};
-use goblin_base::container::{BE, Endian, LE};
+use goblin_base::container::Endian;
+#[cfg(test)]
+use goblin_base::container::{BE, LE};
 use goblin_base::error::Result;
 use goblin_base::laid_out::LaidOut;
+#[cfg(test)]
+use goblin_base::laid_out::laws;
 use goblin_base::number::{get_u16, get_u32, put_u16, put_u32};
 use goblin_base::record::Record;
 use goblin_base::room::room;
 use goblin_base::scroll::{SizeWith, TryIntoCtx};
+#[cfg(test)]
 use goblin_base::table::{Table, read_alone};
 
 #[derive(Clone, Copy, Debug, PartialEq)]
@@ -93,12 +99,14 @@ fn tables_take_a_record_that_states_its_layout(rt: HostRuntime) {
         port: 80,
     };
     assert!(rt; is(rt, table.get(1), Some(second)) && is(rt, table.get(2), None));
+    laws::<Place, Endian>();
     let mut bytes = [0xaa; 7];
     let written = second.try_into_ctx(&mut bytes, LE);
     assert!(rt; returns(rt, written, 6) && bytes == [0x02, 0, 0, 0x0a, 0x50, 0, 0xaa]);
 }
 
 // Reports whether the second of two ports after one byte is this one.
+#[cfg(test)]
 fn has_second(rt: HostRuntime, order: Endian, number: u16) -> bool {
     match read_alone::<Port, Endian>(b"\x99\x01\xbb\x00\x50", 1, 2, 1, order) {
         Ok(found) => is(rt, found, Some(Port { number })),

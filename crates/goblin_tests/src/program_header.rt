@@ -394,6 +394,4 @@ fn calls_the_laws_of_program_headers() {
     program_header32::constants();
     program_header64::constants();
     program_header::laws();
-    program_header32::laws();
-    program_header64::laws();
 }

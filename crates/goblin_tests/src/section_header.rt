@@ -468,8 +468,6 @@ fn calls_the_laws_of_section_headers() {
     section_header32::constants();
     section_header64::constants();
     section_header::laws();
-    section_header32::laws();
-    section_header64::laws();
 }
 
 // A section whose name lies at a place.
