@@ -2,8 +2,8 @@
 # Times the built program over the files of checks/hostile.py and over a FILE: SHOWN=FILE sh checks/bench.sh. If readelf is
 # installed, it is timed too. Prints a line for each file: the least time of RUNS runs (15 by default) of each program in
 # milliseconds, and readelf's time divided by the strict one. The programs run in turn. readelf is stopped after 10 seconds. A file
-# whose text is endless is timed up to the first 100 MB of the text. Then times calls of the library, by the program of
-# checks/bench.main, which is proved first. Run from the repository's root.
+# whose text is endless is timed up to the first 100 MB of the text. Then times both over real files, and calls of the library by the
+# program of checks/bench.main, which is proved first. Run from the repository's root.
 set -eu
 export LC_ALL=C
 runs=${RUNS:-15}
@@ -48,6 +48,8 @@ for file in "$folder"/*; do
     echo "${file##*/} $s $p $r" | awk '{ printf "%-20s %10.1f %10.1f ", $1, $2 / 1000, $3 / 1000
         if ($4 == 0 || $4 >= 9000000) printf "%10s %8s\n", "-", "-"; else printf "%10.1f %8.2f\n", $4 / 1000, $4 / $2 }'
 done
+
+if command -v readelf > /dev/null; then python3 checks/beside_readelf.py; fi
 
 # Puts the program together over the libraries that stand here. Those that are not proved from these sources are proved.
 cp -R --parents crates.txt HANDLES crates/*/src crates/*/specs crates/*/proofs "$folder"
