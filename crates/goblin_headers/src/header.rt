@@ -219,7 +219,7 @@ impl TryIntoCtx<Endian> for Header {
 /// or 2. The buffer must hold a header of the class.
 impl IntoCtx<Ctx> for Header {
     ghost use Rattle.std.specs.Prelude.{IsSome, IfSome, slice_index};
-    ghost use Rattle.goblin_headers.specs.Header.{header_image};
+    ghost use Rattle.goblin_headers.specs.Header.{header_layout};
 
     ghost can_into = { λ header ctx old.
         (header_size ctx.container ≤ length old)
@@ -227,7 +227,7 @@ impl IntoCtx<Ctx> for Header {
 
     ghost into_gives = { λ header ctx old new.
         IfSome (order_named (slice_index header.e_ident 5)) (λ order.
-        new ≡ header_image ctx.container order header ++ drop (header_size ctx.container) old) };
+        let l = header_layout ctx.container order in new ≡ l.image header ++ drop l.size old) };
 
     fn into_ctx(self, bytes: &mut [u8], ctx: Ctx) {
         let Some(order) = order_of(self.e_ident[EI_DATA]) else {

@@ -2,11 +2,11 @@
 ghost use Rattle.std.specs.Prelude.{◌≡◌, ◌≤◌, ◌↔◌, ◌++◌, IsTrue, length, drop, replicate, [], ◌∷◌};
 ghost use Rattle.goblin_base.specs.Fields.{values_of};
 ghost use Rattle.goblin_headers.specs.Constants.{class_numbers, data_numbers, file_type_numbers, ident_place_numbers, ident_size_numbers, system_numbers, unnamed_machine_numbers};
-ghost use Rattle.goblin_headers.specs.Header.{magic, header32_of, header32_image, header32_size, header32_fields, header32_low, Header32Fits};
+ghost use Rattle.goblin_headers.specs.Header.{magic, headed, header32, low_header};
 ghost use Rattle.goblin_headers.specs.HeaderTrips.{IsOneHeaderImage, IsReadBack, IsWrittenAndReadBack, IsWrittenBack};
 ghost use Rattle.goblin_headers.specs.Machines.{machine_numbers};
-ghost use Rattle.goblin_headers.specs.ReadHeader.{read_header32};
-ghost use Rattle.goblin_headers.specs.WriteHeader.{WritesHeader32};
+ghost use Rattle.goblin_headers.specs.ReadHeader.{read_in_order};
+ghost use Rattle.goblin_headers.specs.WriteHeader.{WritesInOrder};
 
 use crate::header::Header as ElfHeader;
 use crate::ident::{ident_of, order_of, put_ident};
@@ -62,8 +62,8 @@ impl Header {
 
     // Reads the header at the start of the bytes in this byte order.
     fn at(bytes: &[u8], order: Endian) -> Header
-        requires { header32_size ≤ length bytes.now }
-        ensures { result ≡ header32_of order bytes.now }
+        requires { SIZEOF_EHDR ≤ length bytes.now }
+        ensures { result ≡ (headed header32 order).read bytes.now }
     {
         let e_ident = ident_of(bytes);
         Header {
@@ -86,8 +86,8 @@ impl Header {
 
     // Writes the header at the start of the bytes in this byte order.
     pub(crate) fn put(&self, bytes: &mut [u8], order: Endian)
-        requires { header32_size ≤ length bytes.old }
-        ensures { bytes.new ≡ header32_image order self.now ++ drop header32_size bytes.old }
+        requires { SIZEOF_EHDR ≤ length bytes.old }
+        ensures { let l = headed header32 order in bytes.new ≡ l.image self.now ++ drop l.size bytes.old }
     {
         put_ident(bytes, &self.e_ident);
         put_u16(bytes, 16, self.e_type, order);
@@ -107,7 +107,7 @@ impl Header {
 
     /// Reads a header as little endian, whatever its data byte is.
     pub fn from_bytes(bytes: &[u8; SIZEOF_EHDR]) -> Header
-        ensures { result ≡ header32_of endian.Little bytes.now }
+        ensures { result ≡ (headed header32 endian.Little).read bytes.now }
     {
         Header::at(bytes, LE)
     }
@@ -123,7 +123,7 @@ impl Header {
     /// - The fault of `room`: the bytes don't hold the 52 bytes of a header.
     #[tactic(auto, unfolding(crate::specs::ReadHeader::read_in_order))]
     pub fn parse(bytes: &[u8]) -> Result<Header>
-        ensures { result ≡ read_header32 faults.Data bytes.now }
+        ensures { result ≡ read_in_order (headed header32) faults.Data bytes.now }
     {
         room(bytes.len(), 0, SIZEOF_IDENT)?;
         let Some(order) = order_of(bytes[EI_DATA]) else {
@@ -164,7 +164,7 @@ impl From<Header> for ElfHeader {
 impl From<ElfHeader> for Header {
     ghost use Rattle.goblin_headers.specs.Header.{as32};
 
-    ghost from_gives = { λ header raw. raw ≡ header32_low (as32 header) };
+    ghost from_gives = { λ header raw. raw ≡ low_header header32 (as32 header) };
 
     fn from(header: ElfHeader) -> Header {
         let e_ident = header.e_ident;
@@ -198,7 +198,7 @@ impl<'a> TryFromCtx<'a, Endian> for Header {
     ghost use Rattle.goblin_base.specs.Steps.{with_size};
 
     ghost try_from_gives = { λ bytes _ answer.
-        answer ≡ with_size header32_size (read_header32 faults.DataType bytes) };
+        answer ≡ with_size 52 (read_in_order (headed header32) faults.DataType bytes) };
 
     #[tactic(auto, unfolding(crate::specs::ReadHeader::read_in_order))]
     fn try_from_ctx(bytes: &'a [u8], _ctx: Endian) -> Result<(Self, usize)> {
@@ -220,7 +220,8 @@ impl<'a> TryFromCtx<'a, Endian> for Header {
 /// - `Data`: the data byte is neither 1 nor 2.
 /// - The fault of `room`: the buffer doesn't hold the 52 bytes of a header.
 impl TryIntoCtx<Endian> for Header {
-    ghost try_into_gives = { λ header _ old answer new. WritesHeader32 header old answer new };
+    ghost try_into_gives = { λ header _ old answer new.
+        WritesInOrder header.e_ident (headed header32) header old answer new };
 
     #[tactic(auto, using(crate::specs::WriteHeaderLaws::header_answers))]
     fn try_into_ctx(self, bytes: &mut [u8], _ctx: Endian) -> Result<usize> {
@@ -237,18 +238,16 @@ impl TryIntoCtx<Endian> for Header {
 /// header that fits is read back from its image, and from the bytes that it was written to. A
 /// header that was read is written back unchanged.
 pub fn laws()
-    ensures image { IsOneHeaderImage header32_size (λ h. h.e_ident) header32_of header32_image
-        header32_low }
-    ensures reads_back { IsReadBack (λ h. h.e_ident) Header32Fits header32_image read_header32 }
-    ensures written { IsWrittenAndReadBack header32_size (λ h. h.e_ident) Header32Fits WritesHeader32
-        read_header32 }
-    ensures writes_back { IsWrittenBack header32_size read_header32 WritesHeader32 }
+    ensures image { IsOneHeaderImage (λ h. h.e_ident) (headed header32) }
+    ensures reads_back { IsReadBack (λ h. h.e_ident) (headed header32) }
+    ensures written { IsWrittenAndReadBack (λ h. h.e_ident) (headed header32) }
+    ensures writes_back { IsWrittenBack 52 (λ h. h.e_ident) (headed header32) }
 {}
 
 /// A law: every field of the default header is 0. A call returns that header.
 pub fn default_is_zeros() -> Header
     ensures ident { result.e_ident ≡ replicate 16 0 }
-    ensures fields { values_of (header32_fields result) ≡ replicate 13 0 }
+    ensures fields { values_of (header32.fields result) ≡ replicate 13 0 }
 {
     Header::default()
 }
@@ -311,7 +310,7 @@ pub use crate::constants_header::{
 /// Laws: the numbers of this module's own constants and of those that it re-exports, under the
 /// names that they have here. A call does nothing.
 pub fn constants()
-    ensures size { SIZEOF_EHDR ≡ header32_size }
+    ensures size { SIZEOF_EHDR ≡ 52 }
     ensures class { ELFCLASS ≡ 1 }
 
     ensures types { ET_NONE ∷ ET_REL ∷ ET_EXEC ∷ ET_DYN ∷ ET_CORE ∷ ET_NUM ∷ ET_LOOS ∷ ET_HIOS

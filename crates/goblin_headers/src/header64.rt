@@ -2,11 +2,11 @@
 ghost use Rattle.std.specs.Prelude.{◌≡◌, ◌≤◌, ◌↔◌, ◌++◌, IsTrue, length, drop, replicate, [], ◌∷◌};
 ghost use Rattle.goblin_base.specs.Fields.{values_of};
 ghost use Rattle.goblin_headers.specs.Constants.{class_numbers, data_numbers, file_type_numbers, ident_place_numbers, ident_size_numbers, system_numbers, unnamed_machine_numbers};
-ghost use Rattle.goblin_headers.specs.Header.{magic, header64_of, header64_image, header64_size, header64_fields, header64_low, Header64Fits};
+ghost use Rattle.goblin_headers.specs.Header.{magic, headed, header64};
 ghost use Rattle.goblin_headers.specs.HeaderTrips.{IsOneHeaderImage, IsReadBack, IsWrittenAndReadBack, IsWrittenBack};
 ghost use Rattle.goblin_headers.specs.Machines.{machine_numbers};
-ghost use Rattle.goblin_headers.specs.ReadHeader.{read_header64};
-ghost use Rattle.goblin_headers.specs.WriteHeader.{WritesHeader64};
+ghost use Rattle.goblin_headers.specs.ReadHeader.{read_in_order};
+ghost use Rattle.goblin_headers.specs.WriteHeader.{WritesInOrder};
 
 use crate::header::Header as ElfHeader;
 use crate::ident::{ident_of, order_of, put_ident};
@@ -62,8 +62,8 @@ impl Header {
 
     // Reads the header at the start of the bytes in this byte order.
     fn at(bytes: &[u8], order: Endian) -> Header
-        requires { header64_size ≤ length bytes.now }
-        ensures { result ≡ header64_of order bytes.now }
+        requires { SIZEOF_EHDR ≤ length bytes.now }
+        ensures { result ≡ (headed header64 order).read bytes.now }
     {
         let e_ident = ident_of(bytes);
         Header {
@@ -86,8 +86,8 @@ impl Header {
 
     // Writes the header at the start of the bytes in this byte order.
     pub(crate) fn put(&self, bytes: &mut [u8], order: Endian)
-        requires { header64_size ≤ length bytes.old }
-        ensures { bytes.new ≡ header64_image order self.now ++ drop header64_size bytes.old }
+        requires { SIZEOF_EHDR ≤ length bytes.old }
+        ensures { let l = headed header64 order in bytes.new ≡ l.image self.now ++ drop l.size bytes.old }
     {
         put_ident(bytes, &self.e_ident);
         put_u16(bytes, 16, self.e_type, order);
@@ -107,7 +107,7 @@ impl Header {
 
     /// Reads a header as little endian, whatever its data byte is.
     pub fn from_bytes(bytes: &[u8; SIZEOF_EHDR]) -> Header
-        ensures { result ≡ header64_of endian.Little bytes.now }
+        ensures { result ≡ (headed header64 endian.Little).read bytes.now }
     {
         Header::at(bytes, LE)
     }
@@ -123,7 +123,7 @@ impl Header {
     /// - The fault of `room`: the bytes don't hold the 64 bytes of a header.
     #[tactic(auto, unfolding(crate::specs::ReadHeader::read_in_order))]
     pub fn parse(bytes: &[u8]) -> Result<Header>
-        ensures { result ≡ read_header64 faults.Data bytes.now }
+        ensures { result ≡ read_in_order (headed header64) faults.Data bytes.now }
     {
         room(bytes.len(), 0, SIZEOF_IDENT)?;
         let Some(order) = order_of(bytes[EI_DATA]) else {
@@ -197,7 +197,7 @@ impl<'a> TryFromCtx<'a, Endian> for Header {
     ghost use Rattle.goblin_base.specs.Steps.{with_size};
 
     ghost try_from_gives = { λ bytes _ answer.
-        answer ≡ with_size header64_size (read_header64 faults.DataType bytes) };
+        answer ≡ with_size 64 (read_in_order (headed header64) faults.DataType bytes) };
 
     #[tactic(auto, unfolding(crate::specs::ReadHeader::read_in_order))]
     fn try_from_ctx(bytes: &'a [u8], _ctx: Endian) -> Result<(Self, usize)> {
@@ -219,7 +219,8 @@ impl<'a> TryFromCtx<'a, Endian> for Header {
 /// - `Data`: the data byte is neither 1 nor 2.
 /// - The fault of `room`: the buffer doesn't hold the 64 bytes of a header.
 impl TryIntoCtx<Endian> for Header {
-    ghost try_into_gives = { λ header _ old answer new. WritesHeader64 header old answer new };
+    ghost try_into_gives = { λ header _ old answer new.
+        WritesInOrder header.e_ident (headed header64) header old answer new };
 
     #[tactic(auto, using(crate::specs::WriteHeaderLaws::header_answers))]
     fn try_into_ctx(self, bytes: &mut [u8], _ctx: Endian) -> Result<usize> {
@@ -236,18 +237,16 @@ impl TryIntoCtx<Endian> for Header {
 /// header that fits is read back from its image, and from the bytes that it was written to. A
 /// header that was read is written back unchanged.
 pub fn laws()
-    ensures image { IsOneHeaderImage header64_size (λ h. h.e_ident) header64_of header64_image
-        header64_low }
-    ensures reads_back { IsReadBack (λ h. h.e_ident) Header64Fits header64_image read_header64 }
-    ensures written { IsWrittenAndReadBack header64_size (λ h. h.e_ident) Header64Fits WritesHeader64
-        read_header64 }
-    ensures writes_back { IsWrittenBack header64_size read_header64 WritesHeader64 }
+    ensures image { IsOneHeaderImage (λ h. h.e_ident) (headed header64) }
+    ensures reads_back { IsReadBack (λ h. h.e_ident) (headed header64) }
+    ensures written { IsWrittenAndReadBack (λ h. h.e_ident) (headed header64) }
+    ensures writes_back { IsWrittenBack 64 (λ h. h.e_ident) (headed header64) }
 {}
 
 /// A law: every field of the default header is 0. A call returns that header.
 pub fn default_is_zeros() -> Header
     ensures ident { result.e_ident ≡ replicate 16 0 }
-    ensures fields { values_of (header64_fields result) ≡ replicate 13 0 }
+    ensures fields { values_of (header64.fields result) ≡ replicate 13 0 }
 {
     Header::default()
 }
@@ -310,7 +309,7 @@ pub use crate::constants_header::{
 /// Laws: the numbers of this module's own constants and of those that it re-exports, under the
 /// names that they have here. A call does nothing.
 pub fn constants()
-    ensures size { SIZEOF_EHDR ≡ header64_size }
+    ensures size { SIZEOF_EHDR ≡ 64 }
     ensures class { ELFCLASS ≡ 2 }
 
     ensures types { ET_NONE ∷ ET_REL ∷ ET_EXEC ∷ ET_DYN ∷ ET_CORE ∷ ET_NUM ∷ ET_LOOS ∷ ET_HIOS

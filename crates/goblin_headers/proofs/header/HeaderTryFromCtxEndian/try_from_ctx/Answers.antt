@@ -3,7 +3,7 @@
 -- (`Begins`). Only the class differs between the two.
 use Rattle.std.proofs.Common.{refl, sym, ◌∙◌}
 use Rattle.goblin_base.specs.declared.container.Container.TheVariants as class
-use Rattle.goblin_headers.specs.Header.{widened32, widened64, header32_of, header64_of}
+use Rattle.goblin_headers.specs.Header.{headed, header32, header64, widened32, widened64}
 use Rattle.goblin_headers.proofs.ReadHeaderLemmas.{Begins, read_header-raw}
 use Rattle.goblin_headers.proofs.header.HeaderTryFromCtxEndian.try_from_ctx.Goals as goal
 
@@ -16,8 +16,8 @@ returns-in_ok-header-in-1 c =
       named = rw c.in-1.is refl;
     } in
     rw c.from.ensures
-    (read_header-raw class.Little header32_of widened32 c.args.bytes.now c.in_ok-header-in-1.header
-    c.in_ok-header-in-1.size (λ order. refl) begins c.in_ok-header-in-1.ensures)
+    (read_header-raw class.Little (headed header32) widened32 c.args.bytes.now c.in_ok-header-in-1.header
+    c.in_ok-header-in-1.size (λ order. (refl, refl)) begins c.in_ok-header-in-1.ensures)
 
 pub returns-in_ok-header-in-2 : goal.returns-in_ok-header-in-2
 returns-in_ok-header-in-2 c =
@@ -28,6 +28,6 @@ returns-in_ok-header-in-2 c =
       named = rw c.in-2.is refl;
     } in
     rw c.from-in-2.ensures
-    (read_header-raw class.Big header64_of widened64 c.args.bytes.now c.in_ok-header-in-2.header
+    (read_header-raw class.Big (headed header64) widened64 c.args.bytes.now c.in_ok-header-in-2.header
     c.in_ok-header-in-2.size
-    (λ order. refl) begins c.in_ok-header-in-2.ensures)
+    (λ order. (refl, refl)) begins c.in_ok-header-in-2.ensures)

@@ -1,6 +1,6 @@
 use Rattle.std.proofs.Common.{refl, sym, arith}
 use Rattle.goblin_base.specs.declared.error.Fault.TheVariants as faults
-use Rattle.goblin_headers.specs.Header.{header64_size, header64_of}
+use Rattle.goblin_headers.specs.Header.{headed, header64}
 use Rattle.goblin_headers.proofs.RawTrips.{reads_in_order}
 use Rattle.goblin_headers.proofs.header64.HeaderTryFromCtxEndian.try_from_ctx.Goals as goal
 
@@ -8,6 +8,6 @@ pub returns : goal.returns
 returns c =
     rw (
       c.at.ensures,
-      reads_in_order header64_size header64_of faults.DataType c.args.bytes.now c.in-Some.order (omega arith)
+      reads_in_order (headed header64) faults.DataType c.args.bytes.now c.in-Some.order (omega arith)
           (c.in_ok-room-2.ensures.fits.0 refl) (sym c.in-Some.ensures),
     ) refl
