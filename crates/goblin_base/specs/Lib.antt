@@ -1,5 +1,6 @@
 pub mod Alone
 pub mod Ascii
+pub mod Common
 pub mod Container
 pub mod Digited
 pub mod Eager

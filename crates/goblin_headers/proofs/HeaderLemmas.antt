@@ -8,14 +8,13 @@ use Rattle.std.proofs.Common.{◌≡◌, ◌≤◌, ℕ, List, [], ◌++◌, len
 use Rattle.std.proofs.Math.Seq.{take-add}
 use Rattle.std.proofs.lemmas.List.{append_assoc, append-nil, length-append, take_all, take_at}
 use Rattle.goblin_base.specs.declared.container.Container.{Container}
-use Rattle.goblin_base.specs.declared.container.Container.TheVariants as class
 use Rattle.goblin_base.specs.declared.container.Endian.{Endian}
-use Rattle.goblin_base.specs.Fields.{Field, image_of_fields, values_at, fields_at, total, widths_of, values_of, lows_of}
+use Rattle.goblin_base.specs.Common.{Field, image_of_fields, values_at, fields_at, total, widths_of, values_of, lows_of}
+use Rattle.goblin_base.specs.Common.{Layout, widened, IsBytes}
+use Rattle.goblin_base.specs.declared.container.Container.TheVariants as class
 use Rattle.goblin_base.specs.FieldLaws.{values_at-image, lows_of-fits, image-fields_at, length-image_of_fields}
 use Rattle.goblin_base.specs.FieldLaws.{IsBytes-image_of_fields}
-use Rattle.goblin_base.specs.Layout.{Layout, widened}
 use Rattle.goblin_base.specs.LayoutLaws.{size_of_fields-is}
-use Rattle.goblin_base.specs.Number.{IsBytes}
 use Rattle.goblin_base.specs.NumberLaws.{IsBytes-append}
 use Rattle.goblin_headers.specs.Header.{HeaderShape, field_widths, headed, header32, header64, header_layout, as32, as64}
 use Rattle.goblin_headers.specs.Header.{widened32, widened64}
@@ -39,20 +38,20 @@ pub record IsHeader {R : Type 0} (ident : R → List ℕ) (l : Layout R) : Type 
   pub writes_back : (bytes : List ℕ)
       → IsBytes bytes → l.size ≤ length bytes → l.image (l.read bytes) ≡ take l.size bytes
 
--- what the shape of a header must state
-record IsHeaderShape {R : Type 0} (s : HeaderShape R) : Type 0 where
-  has_ident : (i vs : List ℕ) → s.ident (s.of_values i vs) ≡ i
-  has_widths : (h : R) → widths_of (s.fields h) ≡ field_widths s
-  whole : (h : R) → s.of_values (s.ident h) (values_of (s.fields h)) ≡ h
-  fields_read : (order : Endian) (bytes : List ℕ)
-      → s.fields ((headed s order).read bytes) ≡ fields_at order bytes 16 (field_widths s)
-
-module _ {R : Type 0} (s : HeaderShape R) (is : IsHeaderShape s) (order : Endian) where
+-- a shape must state that the fields of all headers have the same widths and make the same header, with its
+-- identification, and that the fields that were read are the numbers in the bytes
+module _ {R : Type 0} (s : HeaderShape R)
+    (has_ident : (ident values : List ℕ) → s.ident (s.of_values ident values) ≡ ident)
+    (has_widths : (h : R) → widths_of (s.fields h) ≡ field_widths s)
+    (whole : (h : R) → s.of_values (s.ident h) (values_of (s.fields h)) ≡ h)
+    (fields_read : (order : Endian) (bytes : List ℕ)
+    → s.fields ((headed s order).read bytes) ≡ fields_at order bytes 16 (field_widths s))
+    (order : Endian) where
   abbrev l : Layout R
   l = headed s order
 
   ident-read : (bytes : List ℕ) → s.ident (l.read bytes) ≡ take 16 bytes
-  ident-read bytes = is.has_ident (take 16 bytes) (values_at order bytes 16 (field_widths s))
+  ident-read bytes = has_ident (take 16 bytes) (values_at order bytes 16 (field_widths s))
 
   length-image : (h : R) → length (s.ident h) ≡ 16 → length (l.image h) ≡ l.size
   length-image h long =
@@ -62,7 +61,7 @@ module _ {R : Type 0} (s : HeaderShape R) (is : IsHeaderShape s) (order : Endian
         length-append (s.ident h) (image_of_fields order (s.fields h)),
         length-image_of_fields order (s.fields h),
         size_of_fields-is (s.fields h),
-        ap total (is.has_widths h),
+        ap total (has_widths h),
       )
 
   read-image : (h : R) (rest : List ℕ) → length (s.ident h) ≡ 16 → l.read (l.image h ++ rest) ≡ l.low h
@@ -70,7 +69,7 @@ module _ {R : Type 0} (s : HeaderShape R) (is : IsHeaderShape s) (order : Endian
       let after = image_of_fields order (s.fields h) in
       let bytes = s.ident h ++ (after ++ rest) in
       let values : values_at order bytes 16 (field_widths s) ≡ lows_of (s.fields h) =
-      ap (values_at order bytes 16) (sym (is.has_widths h))
+      ap (values_at order bytes 16) (sym (has_widths h))
       ∙ values_at-image order (s.fields h) (s.ident h) rest 16 long in
       ap (l.read) (append_assoc (s.ident h) after rest)
       ∙ ap (λ (i : List ℕ). s.of_values i (values_at order bytes 16 (field_widths s)))
@@ -81,7 +80,7 @@ module _ {R : Type 0} (s : HeaderShape R) (is : IsHeaderShape s) (order : Endian
       → IsBytes bytes → l.size ≤ length bytes → l.image (l.read bytes) ≡ take (l.size) bytes
   image-read bytes are room =
       ap (λ (i : List ℕ). i ++ image_of_fields order (s.fields (l.read bytes))) (ident-read bytes)
-      ∙ ap (λ (all : List Field). take 16 bytes ++ image_of_fields order all) (is.fields_read order bytes)
+      ∙ ap (λ (all : List Field). take 16 bytes ++ image_of_fields order all) (fields_read order bytes)
       ∙ ap (λ (rest : List ℕ). take 16 bytes ++ rest) (image-fields_at order bytes 16 (field_widths s) are room)
       ∙ sym (take-add 16 (total (field_widths s)) bytes)
 
@@ -96,26 +95,16 @@ module _ {R : Type 0} (s : HeaderShape R) (is : IsHeaderShape s) (order : Endian
         λ h are.
         IsBytes-append (s.ident h) (image_of_fields order (s.fields h)) are (IsBytes-image_of_fields order (s.fields h));
     reads_low = read-image;
-    low_fits = λ h fits. ap (s.of_values (s.ident h)) (lows_of-fits (s.fields h) fits) ∙ is.whole h;
+    low_fits = λ h fits. ap (s.of_values (s.ident h)) (lows_of-fits (s.fields h) fits) ∙ whole h;
     writes_back = image-read;
   }
 
 -- the fields of the headers of each class
 pub header32_laws : (order : Endian) → IsHeader (λ h. h.e_ident) (headed header32 order)
-header32_laws = headed_laws header32 (record {
-  has_ident = λ i vs. refl;
-  has_widths = λ h. refl;
-  whole = λ h. refl;
-  fields_read = λ order bytes. refl;
-})
+header32_laws = headed_laws header32 (λ ident values. refl) (λ h. refl) (λ h. refl) (λ order bytes. refl)
 
 pub header64_laws : (order : Endian) → IsHeader (λ h. h.e_ident) (headed header64 order)
-header64_laws = headed_laws header64 (record {
-  has_ident = λ i vs. refl;
-  has_widths = λ h. refl;
-  whole = λ h. refl;
-  fields_read = λ order bytes. refl;
-})
+header64_laws = headed_laws header64 (λ ident values. refl) (λ h. refl) (λ h. refl) (λ order bytes. refl)
 
 -- headers that are read and written as other ones: `widen` is applied after reading, `narrow` before writing
 widened_laws : {A B : Type 0} {ident : A → List ℕ} {l : Layout A} (widen : A → B) (narrow : B → A)

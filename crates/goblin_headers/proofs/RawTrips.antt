@@ -4,22 +4,54 @@
 -- The image begins with the identification, whose data byte names the byte order: so what is written in that order is
 -- read in it too (`raw_reads_back`). What was read says in which order and that the bytes were enough
 -- (`was_read_in_order`), so it is written in that order, over the same bytes (`raw_writes_back`).
-use Rattle.std.proofs.Common.{◌≡◌, ◌<◌, ◌≤◌, ℕ, List, ◌++◌, length, take, drop, slice_index, Some, Result, Ok, refl, ap}
-use Rattle.std.proofs.Common.{◌∙◌, arith}
+use Rattle.std.proofs.Common.{◌≡◌, ◌<◌, ◌≤◌, ℕ, List, ◌++◌, length, take, drop, slice_index, Some, Result, Ok, refl}
+use Rattle.std.proofs.Common.{sym, ap, ◌∙◌, arith, Bool, true, false, not, Option, None, Err}
 use Rattle.std.proofs.lemmas.List.{append_assoc, get_or_append_left, get_or-take, length-append, take-append-drop}
 use Rattle.goblin_base.specs.declared.container.Endian.{Endian}
 use Rattle.goblin_base.specs.declared.error.Error.{Error}
 use Rattle.goblin_base.specs.declared.error.Fault.{Fault}
-use Rattle.goblin_base.specs.Layout.{Layout}
-use Rattle.goblin_base.specs.Record.{Writes}
-use Rattle.goblin_base.specs.RecordLaws.{room_of_fits}
+use Rattle.goblin_base.specs.Common.{Layout, Writes, room_of, ◌>>=◌, or_refuse, refuse_if, refuse_as}
+use Rattle.goblin_base.specs.RecordLaws.{room_of_fits, fits-room_of}
 use Rattle.goblin_headers.specs.Header.{order_named, order_of}
 use Rattle.goblin_headers.specs.HeaderTrips.{IsReadBack, IsWrittenAndReadBack, IsWrittenBack}
 use Rattle.goblin_headers.specs.ReadHeader.{needs, read_in_order}
 use Rattle.goblin_headers.specs.WriteHeader.{WritesInOrder}
 use Rattle.goblin_headers.proofs.HeaderLemmas.{IsHeader}
-use Rattle.goblin_headers.proofs.StepLemmas.{step, found, had_room}
+use Rattle.goblin_base.specs.declared.scroll.Error.{Error as Misplaced}
 
+-- ---- what each of several steps returned, if all of them succeeded
+-- the value of the first step, and the success of the steps after it
+pub record Step {X Y : Type 0} (first : Result X Error) (next : X → Result Y Error) (y : Y) : Type 0 where
+  pub value : X
+  pub is : first ≡ Ok value
+  pub rest : next value ≡ Ok y
+
+pub step : {X Y : Type 0} (first : Result X Error) (next : X → Result Y Error) (y : Y)
+    → (first >>= next) ≡ Ok y → Step first next y
+step (Ok x) next y is = record { value = x; is = refl; rest = is }
+step (Err e) next y is = absurd (cc)
+
+-- a test that did not refuse
+pub passed : (test : Bool) (e : Error) (u : Unit {0}) → refuse_if (not test) e ≡ Ok u → test ≡ true
+passed true e u is = refl
+passed false e u is = absurd (cc)
+
+-- a value that was there
+pub found : {X : Type 0} (option : Option X) (e : Error) (x : X) → or_refuse option e ≡ Ok x → option ≡ Some x
+found (Some y) e x is = cc
+found None e x is = absurd (cc)
+
+-- bytes that were enough
+room_was : (room : Result (Unit {0}) Misplaced) (within : Misplaced → Error) (u : Unit {0})
+    → refuse_as within room ≡ Ok u → room ≡ Ok tt
+room_was (Ok _) within u is = refl
+room_was (Err e) within u is = absurd (cc)
+
+pub had_room : (bytes : List ℕ) (size : ℕ) (u : Unit {0}) → needs size bytes ≡ Ok u → size ≤ length bytes
+had_room bytes size u is =
+    let fits = fits-room_of (length bytes) 0 size tt (room_was (room_of (length bytes) 0 size) _ u is) in omega arith
+
+-- ---- reading and writing in the byte order that is named
 -- the result of writing into a buffer that is large enough, and what it leaves there
 pub record Wrote {R : Type 0} (l : Layout R) (h : R) (old new : List ℕ) (answer : Result ℕ Error) : Type 0 where
   pub answers : answer ≡ Ok l.size
@@ -44,6 +76,14 @@ unfolding read_in_order
 reads_in_order layout fault bytes order enough room named =
     let size = (layout order).size in
     rw (room_of_fits (length bytes) 0 16 (omega arith), named, room_of_fits (length bytes) 0 size (omega arith)) refl
+
+-- so it is as the functions that read have found it
+pub reads_found : {R : Type 0} (layout : Endian → Layout R) (fault : ℕ → Fault) (bytes : List ℕ) (order : Endian) (x : R)
+    → Some order ≡ order_named (slice_index bytes 5) → x ≡ (layout order).read bytes → 16 ≤ (layout order).size
+    → (layout order).size ≤ length bytes
+    → Ok x ≡ read_in_order layout fault bytes
+reads_found layout fault bytes order x named is enough room =
+    ap Ok is ∙ sym (reads_in_order layout fault bytes order enough room (sym named))
 
 -- what a header was read from
 pub record WasReadInOrder {R : Type 0} (layout : Endian → Layout R) (bytes : List ℕ) (h : R) : Type 0 where

@@ -5,31 +5,136 @@
 -- the class byte are read as they were written (`reads_back`). A header that was read names the class and the byte
 -- order of its bytes (`was_read`), so it is written as it was read (`writes_back`).
 use Rattle.std.proofs.Common.{◌≡◌, ◌≤◌, ℕ, true, nat_eq, List, [], ◌++◌, length, take, drop, slice_index, Some, Result}
-use Rattle.std.proofs.Common.{Ok, refl, sym, ap, ◌∙◌, arith, rules}
+use Rattle.std.proofs.Common.{Ok, refl, sym, ap, ◌∙◌, arith, rules, false, nat_lt, not, Err}
 use Rattle.std.specs.List.{starts_with}
 use Rattle.std.proofs.lemmas.List.{append_assoc, append-nil, length-append, length-take-le, take-append-drop}
 use Rattle.std.proofs.lemmas.List.{take-append-le}
 use Rattle.std.proofs.lemmas.Slice.Eq.{bytes_eq-Decides}
 use Rattle.goblin_base.specs.declared.container.Container.{Container}
-use Rattle.goblin_base.specs.declared.container.Container.TheVariants as class
 use Rattle.goblin_base.specs.declared.container.Endian.{Endian}
-use Rattle.goblin_base.specs.declared.container.Endian.TheVariants as endian
 use Rattle.goblin_base.specs.declared.error.Error.{Error}
-use Rattle.goblin_base.specs.declared.error.Fault.TheVariants.{DataType}
-use Rattle.goblin_base.specs.Steps.{with_size}
+use Rattle.goblin_base.specs.declared.error.Fault.TheVariants.{DataType, TooSmall, ElfClass}
+use Rattle.goblin_base.specs.Common.{with_size, Layout, number_at, refuse_if}
+use Rattle.goblin_base.specs.declared.container.Container.TheVariants as class
+use Rattle.goblin_base.specs.declared.container.Endian.TheVariants as endian
 use Rattle.goblin_headers.specs.declared.header.Header.{Header}
-use Rattle.goblin_headers.specs.Header.{header_size, header_layout, Identifies, new_header, magic}
-use Rattle.goblin_headers.specs.Header.{class_byte, data_byte}
-use Rattle.goblin_headers.specs.Header.{class_named, order_named}
+use Rattle.goblin_headers.specs.Header.{header_size, header_layout, Identifies, new_header, magic, class_byte}
+use Rattle.goblin_headers.specs.Header.{data_byte, class_named, order_named, class_of}
 use Rattle.goblin_headers.specs.HeaderTrips.{OneImage, ReadsBack, WrittenAndReadBack, ImageOfRead, WritesBack}
 use Rattle.goblin_headers.specs.HeaderTrips.{NewIsOfContext, NewIsReadBack}
-use Rattle.goblin_headers.specs.ReadHeader.{read_header}
+use Rattle.goblin_headers.specs.ReadHeader.{read_header, read_in_order}
 use Rattle.goblin_headers.specs.WriteHeader.{WritesHeader, WritesInOrder}
 use Rattle.goblin_headers.proofs.HeaderLemmas.{header_laws, one_header_image}
-use Rattle.goblin_headers.proofs.RawTrips.{front_byte, ident_byte, raw_reads_back, raw_writes_back, was_read_in_order}
-use Rattle.goblin_headers.proofs.RawTrips.{writes_in_order}
-use Rattle.goblin_headers.proofs.ReadHeaderLemmas.{Begins, read_begun, was_read}
+use Rattle.goblin_headers.proofs.RawTrips.{WasReadInOrder, front_byte, ident_byte, raw_reads_back, raw_writes_back, was_read_in_order}
+use Rattle.goblin_headers.proofs.RawTrips.{writes_in_order, reads_in_order, step, passed, found}
+use Rattle.std.proofs.lemmas.Bool.Decides.{nat_tests}
+use Rattle.goblin_base.specs.declared.error.Error.TheVariants.{Malformed, BadMagic}
 
+-- ---- reading a header of either class is reading a raw one, after the tests of its magic number and its class byte
+-- the bytes begin as a file of a class does
+pub record Begins (class : Container) (bytes : List ℕ) : Type 0 where
+  pub long : 16 ≤ length bytes
+  pub starts : starts_with nat_eq bytes magic ≡ true
+  pub named : class_named (slice_index bytes 4) ≡ Some class
+
+-- then a header of the class is read
+pub read_begun : (class : Container) (bytes : List ℕ)
+    → Begins class bytes
+    → read_header bytes ≡ with_size (header_size class) (read_in_order (header_layout class) DataType bytes)
+unfolding read_header
+read_begun class bytes begins =
+    let enough : nat_lt (length bytes) 16 ≡ false = grind (arith, nat_tests) in
+    rw (enough, begins.starts, begins.named) refl
+
+-- the header and the size that make a result
+record Sized {R : Type 0} (answer : Result R Error) (expected : ℕ) (x : R) (size : ℕ) : Type 0 where
+  read : answer ≡ Ok x
+  size_is : size ≡ expected
+
+sized : {R : Type 0} (answer : Result R Error) (expected : ℕ) (x : R) (size : ℕ)
+    → Ok (x, size) ≡ with_size expected answer → Sized answer expected x size
+sized {R = R} (Ok y) expected x size is =
+    let both : (x, size) ≡ (y, expected) = cc in
+    record { read = ap (λ (both : R × ℕ). Ok both.0) (sym both); size_is = ap (λ (both : R × ℕ). both.1) both }
+sized (Err e) expected x size is = absurd (cc)
+
+-- the raw header of its class that was read is, widened, the header of either class
+pub read_header-raw : {R : Type 0} (class : Container) (layout : Endian → Layout R) (widen : R → Header)
+    (bytes : List ℕ) (raw : R) (size : ℕ)
+    → ((order : Endian) → ((layout order).size ≡ header_size class)
+    × (widen ((layout order).read bytes) ≡ (header_layout class order).read bytes))
+    → 16 ≤ length bytes → starts_with nat_eq bytes magic ≡ true → class_named (slice_index bytes 4) ≡ Some class
+    → Ok (raw, size) ≡ with_size (header_size class) (read_in_order layout DataType bytes)
+    → Ok (widen raw, size) ≡ read_header bytes
+read_header-raw class layout widen bytes raw size same long starts named is =
+    let begins : Begins class bytes = record { long = long; starts = starts; named = named } in
+    let whole = sized (read_in_order layout DataType bytes) (header_size class) raw size is in
+    let from = was_read_in_order layout DataType bytes raw whole.read in
+    let wide = same from.order in
+    let enough = (header_laws class from.order).enough in
+    let room : header_size class ≤ length bytes = omega (arith, wide.0, from.enough) in
+    let header = sym wide.1 ∙ ap widen (sym from.header) in
+    let read = reads_in_order (header_layout class) DataType bytes from.order enough room from.ordered ∙ ap Ok header in
+    let result : read_header bytes ≡ Ok (widen raw, header_size class) =
+    read_begun class bytes begins ∙ ap (with_size (header_size class)) read in
+    ap (λ (n : ℕ). Ok (widen raw, n)) whole.size_is ∙ sym result
+
+-- the class and the byte order that the identification of a header that was read names
+read_names : (class : Container) (order : Endian) (bytes ident : List ℕ)
+    → Begins class bytes → ident ≡ take 16 bytes → order_named (slice_index bytes 5) ≡ Some order
+    → Identifies class order ident
+read_names class order bytes ident begins is ordered =
+    let starts : magic ≡ take 4 bytes = (bytes_eq-Decides magic (take 4 bytes)).0 begins.starts in
+    let front : take 4 ident ≡ take 4 bytes =
+    ap (take 4) is
+    ∙ sym (take-append-le 4 (take 16 bytes) (drop 16 bytes) (omega (arith, length-take-le 16 bytes begins.long)))
+    ∙ ap (take 4) (take-append-drop 16 bytes) in
+    record {
+      begins = front ∙ sym starts;
+      named = ap class_named (ident_byte ident bytes 4 is (omega arith)) ∙ begins.named;
+      names_order = record {
+        long = ap length is ∙ length-take-le 16 bytes begins.long;
+        named = ap order_named (ident_byte ident bytes 5 is (omega arith)) ∙ ordered;
+      };
+    }
+
+-- what holds of a header that was read: as what it was read, in which order, and what its identification names
+pub record WasRead (bytes : List ℕ) (h : Header) (size : ℕ) : Type 0 where
+  pub class : Container
+  pub read : read_in_order (header_layout class) DataType bytes ≡ Ok h
+  pub from : WasReadInOrder (header_layout class) bytes h
+  pub names : Identifies class from.order h.e_ident
+  pub sized : size ≡ header_size class
+
+-- what a header was read from
+pub was_read : (bytes : List ℕ) (h : Header) (size : ℕ) → read_header bytes ≡ Ok (h, size) → WasRead bytes h size
+unfolding read_header
+was_read bytes h size is =
+    let long = step (refuse_if (nat_lt (length bytes) 16) (Malformed TooSmall)) _ (h, size) is in
+    let magical =
+    step (refuse_if (not (starts_with nat_eq bytes magic)) (BadMagic (number_at endian.Little bytes 0 8))) _
+    (h, size) long.rest in
+    let class = step (class_of ElfClass bytes) _ (h, size) magical.rest in
+    let layout = header_layout class.value in
+    let whole = sized (read_in_order layout DataType bytes) (header_size class.value) h size (sym class.rest) in
+    let from = was_read_in_order layout DataType bytes h whole.read in
+    let laws = header_laws class.value from.order in
+    let begins : Begins class.value bytes =
+    record {
+      long = omega (arith, laws.enough, from.enough);
+      starts = passed (starts_with nat_eq bytes magic) _ magical.value magical.is;
+      named = found (class_named (slice_index bytes 4)) _ class.value class.is;
+    } in
+    let ident = ap (λ (g : Header). g.e_ident) from.header ∙ laws.ident_read bytes in
+    record {
+      class = class.value;
+      read = whole.read;
+      from = from;
+      names = read_names class.value from.order bytes h.e_ident begins ident from.ordered;
+      sized = whole.size_is;
+    }
+
+-- ---- the laws
 pub one_image : OneImage
 one_image class = one_header_image (header_laws class)
 
@@ -77,47 +182,27 @@ written_and_read_back class order h old new answer names fits room so =
     let wrote = writes_in_order h.e_ident (header_layout class) h old new answer order named room there in
     (wrote.answers, ap read_header wrote.leaves ∙ reads_back class order h (drop (header_size class) old) names fits)
 
--- the class and the byte order that the identification of a header that was read names
-read_names : (class : Container) (order : Endian) (bytes ident : List ℕ)
-    → Begins class bytes → ident ≡ take 16 bytes → order_named (slice_index bytes 5) ≡ Some order
-    → Identifies class order ident
-read_names class order bytes ident begins is ordered =
-    let starts : magic ≡ take 4 bytes = (bytes_eq-Decides magic (take 4 bytes)).0 begins.starts in
-    let front : take 4 ident ≡ take 4 bytes =
-    ap (take 4) is
-    ∙ sym (take-append-le 4 (take 16 bytes) (drop 16 bytes) (omega (arith, length-take-le 16 bytes begins.long)))
-    ∙ ap (take 4) (take-append-drop 16 bytes) in
-    record {
-      begins = front ∙ sym starts;
-      named = ap class_named (ident_byte ident bytes 4 is (omega arith)) ∙ begins.named;
-      names_order = record {
-        long = ap length is ∙ length-take-le 16 bytes begins.long;
-        named = ap order_named (ident_byte ident bytes 5 is (omega arith)) ∙ ordered;
-      };
-    }
-
 pub image_of_read : ImageOfRead
 image_of_read h bytes size are read =
-    let from = was_read bytes h size read in
-    let ordered = was_read_in_order (header_layout from.class) DataType bytes h from.read in
-    let laws = header_laws from.class ordered.order in (
-      from.class,
-      ordered.order,
-      read_names from.class ordered.order bytes h.e_ident from.begins from.ident ordered.ordered,
-      from.sized,
-      ap ((header_layout from.class ordered.order).image) ordered.header
-          ∙ laws.writes_back bytes are ordered.enough
-          ∙ ap (λ (n : ℕ). take n bytes) (sym from.sized),
+    let was = was_read bytes h size read in
+    let from = was.from in
+    let laws = header_laws was.class from.order in (
+      was.class,
+      from.order,
+      was.names,
+      was.sized,
+      ap ((header_layout was.class from.order).image) from.header
+          ∙ laws.writes_back bytes are from.enough
+          ∙ ap (λ (n : ℕ). take n bytes) (sym was.sized),
     )
 
 pub writes_back : WritesBack
 writes_back h bytes new size answer are read so =
-    let from = was_read bytes h size read in
-    let named = ap class_named (ident_byte h.e_ident bytes 4 from.ident (omega arith)) ∙ from.begins.named in
-    let there = writes_in_class from.class h bytes new answer named so in
-    let back = raw_writes_back (header_laws from.class) (header_size from.class) (λ order. refl) DataType h bytes new
-    answer are from.read there in
-    (back.0 ∙ ap (λ (n : ℕ). Ok n) (sym from.sized), back.1)
+    let was = was_read bytes h size read in
+    let there = writes_in_class was.class h bytes new answer was.names.named so in
+    let back = raw_writes_back (header_laws was.class) (header_size was.class) (λ order. refl) DataType h bytes new
+    answer are was.read there in
+    (back.0 ∙ ap (λ (n : ℕ). Ok n) (sym was.sized), back.1)
 
 -- a new header names its class and its byte order, and fits its class
 class_is_named : (class : Container) → class_named (class_byte class) ≡ Some class

@@ -4,25 +4,55 @@
 -- (`with_header`). A header of either class is written as the raw one of its class: for the 32-bit class that has the
 -- low bits alone, but these have the same image (`image-low32`).
 use Rattle.std.proofs.Common.{◌≡◌, ◌≤◌, ◌+◌, ℕ, List, ◌++◌, length, take, drop, Result, Ok, Err, refl, sym, ap, ◌∙◌}
-use Rattle.std.proofs.Common.{arith, slice_index, subst, Some}
+use Rattle.std.proofs.Common.{arith, slice_index, subst, Some, None}
 use Rattle.std.proofs.lemmas.List.{append_assoc, take_at, drop_at, drop-drop, length-append, length-drop}
 use Rattle.goblin_base.specs.declared.container.Container.TheVariants as class
 use Rattle.goblin_base.specs.declared.container.Endian.{Endian}
 use Rattle.goblin_base.specs.declared.error.Error.{Error}
 use Rattle.goblin_base.specs.declared.error.Fault.TheVariants.{InvalidClass, Data}
+use Rattle.goblin_base.specs.Common.{Field, size_of_fields, image_of_fields, Layout, Writes, room_of}
 use Rattle.goblin_base.specs.FieldLaws.{with_fields, with_fields-image, image-low_fields}
-use Rattle.goblin_base.specs.Fields.{Field, size_of_fields, image_of_fields}
-use Rattle.goblin_base.specs.Layout.{Layout}
-use Rattle.goblin_base.specs.Record.{Writes}
-use Rattle.goblin_base.specs.Room.{room_of}
 use Rattle.goblin_headers.specs.declared.header.Header.{Header}
 use Rattle.goblin_headers.specs.declared.header32.Header.{Header as Raw32}
 use Rattle.goblin_headers.specs.declared.header64.Header.{Header as Raw64}
 use Rattle.goblin_headers.specs.Header.{as32, as64, class_of, headed, header32, header64, low_header, order_named}
 use Rattle.goblin_headers.specs.Header.{order_of}
 use Rattle.goblin_headers.specs.WriteHeader.{WritesBy, WritesInOrder, WritesHeader}
-use Rattle.goblin_headers.specs.WriteHeaderLaws.{in_order}
+use Rattle.goblin_base.specs.declared.error.Error.TheVariants.{Malformed, Scroll}
+use Rattle.goblin_base.specs.declared.scroll.Error.{Error as Misplaced}
+use Rattle.goblin_base.specs.RecordLaws.{Writes-ok, Writes-err}
 
+-- ---- the result of writing a header in its byte order, case by case
+module _ {R : Type 0} (ident : List ℕ) (layout : Endian → Layout R) (h : R) (old : List ℕ) where
+  -- without a byte order nothing changes
+  pub no_order : None ≡ order_named (slice_index ident 5)
+      → WritesInOrder ident layout h old (Err (Malformed (Data (slice_index ident 5)))) old
+  unfolding WritesInOrder
+  no_order none = rw (← none) (refl, refl)
+
+  -- in a buffer that is too small nothing changes
+  pub no_room : (order : Endian) (size : ℕ) (e : Misplaced)
+      → Some order ≡ order_named (slice_index ident 5) → size ≡ (layout order).size
+      → Err e ≡ room_of (length old) 0 size
+      → WritesInOrder ident layout h old (Err (Scroll e)) old
+  unfolding WritesInOrder
+  no_room order size e some same none =
+      rw (← some) (Writes-err (layout order).size size ((layout order).image h) old e same none)
+
+  -- else the image is written at the start, in the order that was found
+  pub in_order : (new : List ℕ) (order used : Endian) (size : ℕ) (u : Unit {0})
+      → Some order ≡ order_named (slice_index ident 5) → size ≡ (layout order).size
+      → Ok u ≡ room_of (length old) 0 size → new ≡ (layout used).image h ++ drop (layout used).size old → used ≡ order
+      → WritesInOrder ident layout h old (Ok size) new
+  unfolding WritesInOrder
+  in_order new order used size u some same room is found =
+      let image = (layout order).image h in
+      rw (← some) (Writes-ok (layout order).size size image old new u same room (rw found at is))
+
+-- the three cases, for the goals of the functions that write
+pub ruleset header_answers = (no_order, no_room, in_order)
+
+-- ---- what is written
 -- the bytes after an identification and the fields that follow it were written
 pub with_header : (order : Endian) (ident old new : List ℕ) (fields : List Field)
     → length ident ≡ 16 → new ≡ ident ++ drop 16 old → 16 + size_of_fields fields ≤ length old
@@ -74,17 +104,7 @@ pub no_class : (h : Header) (old : List ℕ) (e : Error)
 unfolding WritesHeader
 no_class h old e unknown = rw (← unknown) (refl, refl)
 
--- the order that was used is the one that the data byte names
-pub in_used_order : {R : Type 0} (ident : List ℕ) (layout : Endian → Layout R) (h : R) (old new : List ℕ)
-    (order used : Endian) (size : ℕ)
-    → Some order ≡ order_named (slice_index ident 5) → size ≡ (layout order).size → Ok tt ≡ room_of (length old) 0 size
-    → new ≡ (layout used).image h ++ drop (layout used).size old → used ≡ order
-    → WritesInOrder ident layout h old (Ok size) new
-in_used_order ident layout h old new order used size some sized room is same =
-    in_order ident layout h old new order size tt some sized room
-    (subst (λ (o : Endian). new ≡ (layout o).image h ++ drop (layout o).size old) same is)
-
--- so it is where the low bits alone are written
+-- the order that was used is the one that was found, where the low bits alone are written
 pub low_in_used_order : (raw h : Raw32) (new rest : List ℕ) (order used : Endian)
     → raw ≡ low_header header32 h → new ≡ (headed header32 used).image raw ++ rest → used ≡ order
     → new ≡ (headed header32 order).image h ++ rest

@@ -2,18 +2,16 @@
 use Rattle.std.specs.Prelude.{◌≡◌, ◌+◌, ℕ, ◌==◌, if◌then◌else◌, List, [], ◌∷◌, ◌++◌, length, replicate, slice_index, take}
 use Rattle.std.specs.Prelude.{Option, Some, None, Result, Ok}
 use Rattle.goblin_base.specs.declared.container.Container.{Container}
-use Rattle.goblin_base.specs.declared.container.Container.TheVariants as class
-use Rattle.goblin_base.specs.declared.container.Endian.{Endian}
-use Rattle.goblin_base.specs.declared.container.Endian.TheVariants as endian
 use Rattle.goblin_base.specs.declared.container.Ctx.{Ctx}
+use Rattle.goblin_base.specs.declared.container.Endian.{Endian}
 use Rattle.goblin_base.specs.declared.error.Error.{Error}
 use Rattle.goblin_base.specs.declared.error.Error.TheVariants.{Malformed}
 use Rattle.goblin_base.specs.declared.error.Fault.{Fault}
 use Rattle.goblin_base.specs.declared.error.Fault.TheVariants.{InvalidClass, InvalidEndianness}
-use Rattle.goblin_base.specs.Fields.{values_of, Field, field, FieldsFit, image_of_fields, values_at, total, widths_of}
-use Rattle.goblin_base.specs.Fields.{lows_of}
-use Rattle.goblin_base.specs.Layout.{Layout, widened}
-use Rattle.goblin_base.specs.Steps.{◌>>=◌, or_refuse}
+use Rattle.goblin_base.specs.Common.{values_of, Field, field, FieldsFit, image_of_fields, values_at, total, widths_of}
+use Rattle.goblin_base.specs.Common.{lows_of, Layout, widened, ◌>>=◌, or_refuse}
+use Rattle.goblin_base.specs.declared.container.Container.TheVariants as class
+use Rattle.goblin_base.specs.declared.container.Endian.TheVariants as endian
 use Rattle.goblin_headers.specs.declared.header.Header.{Header}
 use Rattle.goblin_headers.specs.declared.header32.Header.{Header as Raw32}
 use Rattle.goblin_headers.specs.declared.header64.Header.{Header as Raw64}

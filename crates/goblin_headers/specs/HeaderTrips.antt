@@ -6,8 +6,7 @@ use Rattle.goblin_base.specs.declared.container.Ctx.{Ctx}
 use Rattle.goblin_base.specs.declared.container.Endian.{Endian}
 use Rattle.goblin_base.specs.declared.error.Error.{Error}
 use Rattle.goblin_base.specs.declared.error.Fault.{Fault}
-use Rattle.goblin_base.specs.Layout.{Layout}
-use Rattle.goblin_base.specs.Number.{IsBytes}
+use Rattle.goblin_base.specs.Common.{Layout, IsBytes}
 use Rattle.goblin_headers.specs.declared.header.Header.{Header}
 use Rattle.goblin_headers.specs.Header.{header_size, header_layout, NamesOrder, Identifies, new_header}
 use Rattle.goblin_headers.specs.ReadHeader.{read_in_order, read_header}

@@ -14,4 +14,3 @@ pub mod SectionHeaders
 pub mod SectionNames
 pub mod SegmentNames
 pub mod WriteHeader
-pub mod WriteHeaderLaws

@@ -1,10 +1,10 @@
 -- Laws of program headers of each class: written headers are read back, and headers that were read are written back.
 use Rattle.std.proofs.Common.{refl, lit<}
-use Rattle.goblin_base.specs.declared.container.Endian.{Endian}
 use Rattle.goblin_base.specs.declared.container.Container.{Container}
+use Rattle.goblin_base.specs.declared.container.Endian.{Endian}
+use Rattle.goblin_base.specs.Common.{IsRecord, IsSameInEachClass, shaped}
 use Rattle.goblin_base.specs.declared.container.Container.TheVariants.{Little, Big}
-use Rattle.goblin_base.specs.Layout.{IsRecord, shaped}
-use Rattle.goblin_base.specs.LayoutLaws.{plain_laws, widened_laws}
+use Rattle.goblin_base.specs.LayoutLaws.{plain_laws, widened_laws, same_in_each_class}
 use Rattle.goblin_headers.specs.ProgramHeader.{program_header32, program_header64, program_header_layout}
 use Rattle.goblin_headers.specs.ProgramHeader.{as32, as64, widened32, widened64}
 
@@ -19,3 +19,6 @@ program_header64_laws = plain_laws program_header64 (lit< tt) (λ h. refl) (λ h
 pub program_header_laws : (class : Container) (order : Endian) → IsRecord (program_header_layout class order)
 program_header_laws Little order = widened_laws widened32 as32 (program_header32_laws order) (λ h. refl) (λ raw. refl)
 program_header_laws Big order = widened_laws widened64 as64 (program_header64_laws order) (λ h. refl) (λ raw. refl)
+
+pub same_program_headers : IsSameInEachClass program_header_layout
+same_program_headers = same_in_each_class program_header_laws

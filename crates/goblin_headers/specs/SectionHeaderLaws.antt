@@ -1,10 +1,10 @@
 -- Laws of section headers of each class: written headers are read back, and headers that were read are written back.
 use Rattle.std.proofs.Common.{refl, lit<}
-use Rattle.goblin_base.specs.declared.container.Endian.{Endian}
 use Rattle.goblin_base.specs.declared.container.Container.{Container}
+use Rattle.goblin_base.specs.declared.container.Endian.{Endian}
+use Rattle.goblin_base.specs.Common.{IsRecord, IsSameInEachClass, shaped}
 use Rattle.goblin_base.specs.declared.container.Container.TheVariants.{Little, Big}
-use Rattle.goblin_base.specs.Layout.{IsRecord, shaped}
-use Rattle.goblin_base.specs.LayoutLaws.{plain_laws, widened_laws}
+use Rattle.goblin_base.specs.LayoutLaws.{plain_laws, widened_laws, same_in_each_class}
 use Rattle.goblin_headers.specs.SectionHeader.{section_header32, section_header64, section_header_layout}
 use Rattle.goblin_headers.specs.SectionHeader.{as32, as64, widened32, widened64}
 
@@ -19,3 +19,6 @@ section_header64_laws = plain_laws section_header64 (lit< tt) (λ h. refl) (λ h
 pub section_header_laws : (class : Container) (order : Endian) → IsRecord (section_header_layout class order)
 section_header_laws Little order = widened_laws widened32 as32 (section_header32_laws order) (λ h. refl) (λ raw. refl)
 section_header_laws Big order = widened_laws widened64 as64 (section_header64_laws order) (λ h. refl) (λ raw. refl)
+
+pub same_section_headers : IsSameInEachClass section_header_layout
+same_section_headers = same_in_each_class section_header_laws

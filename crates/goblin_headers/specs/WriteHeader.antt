@@ -3,8 +3,7 @@ use Rattle.std.specs.Prelude.{◌≡◌, ℕ, List, Result, Ok, Err}
 use Rattle.goblin_base.specs.declared.container.Endian.{Endian}
 use Rattle.goblin_base.specs.declared.error.Error.{Error}
 use Rattle.goblin_base.specs.declared.error.Fault.TheVariants.{InvalidClass, Data}
-use Rattle.goblin_base.specs.Layout.{Layout}
-use Rattle.goblin_base.specs.Record.{Writes}
+use Rattle.goblin_base.specs.Common.{Layout, Writes}
 use Rattle.goblin_headers.specs.declared.header.Header.{Header}
 use Rattle.goblin_headers.specs.Header.{header_layout, class_of, order_of}
 

@@ -10,11 +10,9 @@ use crate::program_header::ProgramHeader;
 use crate::section_header::SectionHeader;
 pub use crate::{header32, header64};
 use goblin_base::container::{Container, Ctx, Endian};
-use goblin_base::error::{Error, Fault, Result};
+use goblin_base::error::{Cloned, Error, Fault, Result};
 use goblin_base::number::get_u64;
 use goblin_base::scroll::{BE, IntoCtx, LE, SizeWith, TryFromCtx, TryIntoCtx};
-use std::alloc::AllocError;
-use std::result;
 
 /// The header of a file of either class.
 ///
@@ -262,7 +260,7 @@ pub fn laws()
 
 /// Laws: `==` is true exactly if all fields of two headers are equal. `clone` returns the header,
 /// and never fails. A call returns both.
-pub fn derived(header: &Header, other: &Header) -> (bool, result::Result<Header, AllocError>)
+pub fn derived(header: &Header, other: &Header) -> (bool, Cloned<Header>)
     ensures equal { IsTrue result.0 ↔ (header.now ≡ other.now) }
     ensures clone { result.1 ≡ Ok header.now }
 {

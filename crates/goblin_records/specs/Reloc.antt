@@ -2,12 +2,11 @@
 use Rattle.std.specs.Prelude.{◌≡◌, ◌<◌, ◌%◌, ◌^◌, ℕ, ℤ, pos, List, Bool, false, true, Option, Some, None, unwrap_or}
 use Rattle.std.specs.Prelude.{IsSomeAnd, [], ◌∷◌, slice_index}
 use Rattle.goblin_base.specs.declared.container.Container.{Container}
-use Rattle.goblin_base.specs.declared.container.Container.TheVariants.{Little, Big}
 use Rattle.goblin_base.specs.declared.container.Endian.{Endian}
+use Rattle.goblin_base.specs.Common.{field, Layout, Shape, shaped, converted, widened, low_bits, IsSameInEachClass}
+use Rattle.goblin_base.specs.declared.container.Container.TheVariants.{Little, Big}
 use Rattle.goblin_base.specs.declared.container.Endian.TheVariants as order
 use Rattle.goblin_base.specs.Container.{word_size}
-use Rattle.goblin_base.specs.Fields.{field}
-use Rattle.goblin_base.specs.Layout.{Layout, Shape, shaped, converted, widened, low_bits, IsSameInEachClass}
 use Rattle.goblin_base.specs.Signed.{FitsSigned, signed_of, complement, signed_low}
 use Rattle.goblin_records.specs.declared.reloc.Reloc.{Reloc}
 use Rattle.goblin_records.specs.declared.reloc.RelocCtx.{RelocCtx}

@@ -1,13 +1,10 @@
 -- Symbols of either class, and lists of them (System V gABI, "Symbol Table").
 use Rattle.std.specs.Prelude.{ℕ, List, codes, Result, [], ◌∷◌, slice_index, Bool, ◌==◌, ◌&&◌, ◌||◌, nat_lt}
 use Rattle.goblin_base.specs.declared.container.Container.{Container}
-use Rattle.goblin_base.specs.declared.container.Container.TheVariants.{Little, Big}
 use Rattle.goblin_base.specs.declared.container.Ctx.{Ctx}
 use Rattle.goblin_base.specs.declared.container.Endian.{Endian}
-use Rattle.goblin_base.specs.Eager.{records_from}
-use Rattle.goblin_base.specs.Refusal.{Refusal}
-use Rattle.goblin_base.specs.Fields.{field, values_of}
-use Rattle.goblin_base.specs.Layout.{Layout, Shape, shaped, widened}
+use Rattle.goblin_base.specs.Common.{records_from, Refusal, field, values_of, Layout, Shape, shaped, widened}
+use Rattle.goblin_base.specs.declared.container.Container.TheVariants.{Little, Big}
 use Rattle.goblin_records.specs.declared.sym.Sym.{Sym}
 use Rattle.goblin_records.specs.declared.sym32.Sym.{Sym as Sym32}
 use Rattle.goblin_records.specs.declared.sym64.Sym.{Sym as Sym64}
