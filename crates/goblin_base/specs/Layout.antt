@@ -58,6 +58,10 @@ converted widen narrow BothFit l = record {
   Fits = BothFit;
 }
 
+-- records that are read and written as others, and fit if these do
+abbrev pub widened : {A B : Type 0} → (A → B) → (B → A) → Layout A → Layout B
+widened widen narrow l = converted widen narrow (λ x. l.Fits (narrow x)) l
+
 -- what a shape must state; `low` keeps the low bits of each field, and `Fits` says that each is in the range of its
 -- width
 pub record IsShape {R : Type 0} (s : Shape R) (low : R → R) (Fits : R → Type 0) : Type 0 where

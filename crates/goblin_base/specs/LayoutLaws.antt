@@ -1,20 +1,21 @@
 -- The laws of records, from their layout; and of records that are read and written as other ones.
-use Rattle.std.proofs.Common.{◌≡◌, ◌≤◌, ◌+◌, ℕ, List, [], ◌∷◌, ◌++◌, length, take, refl, sym, ap, ◌∙◌, arith}
+use Rattle.std.proofs.Common.{◌≡◌, ◌≤◌, ◌<◌, ◌+◌, ℕ, List, [], ◌∷◌, ◌++◌, length, take, refl, sym, ap, ◌∙◌, arith}
 use Rattle.std.proofs.lemmas.List.{take_all}
 use Rattle.goblin_base.specs.declared.container.Container.{Container}
 use Rattle.goblin_base.specs.declared.container.Container.TheVariants.{Little, Big}
 use Rattle.goblin_base.specs.declared.container.Endian.{Endian}
-use Rattle.goblin_base.specs.Fields.{Field, values_at, total, widths_of, size_of_fields, image_of_fields}
+use Rattle.goblin_base.specs.Fields.{Field, values_at, fields_at, total, widths_of, values_of, size_of_fields}
+use Rattle.goblin_base.specs.Fields.{image_of_fields}
 use Rattle.goblin_base.specs.FieldLaws.{values_at-append, values_at-image_low, lows_of-fits, image-fields_at}
 use Rattle.goblin_base.specs.FieldLaws.{length-image_of_fields, IsBytes-image_of_fields}
-use Rattle.goblin_base.specs.Layout.{Shape, shaped, widths, IsShape, Layout, converted, IsRecord, Obeys}
+use Rattle.goblin_base.specs.Layout.{Shape, shaped, widths, IsShape, Layout, converted, widened, IsRecord, Obeys}
 use Rattle.goblin_base.specs.Layout.{IsOneImage, IsSameInEachClass}
 use Rattle.goblin_base.specs.Number.{IsBytes}
 use Rattle.goblin_base.specs.Record.{Writes}
 use Rattle.goblin_base.specs.TableLaws.{records-flat_map}
 
 -- the size of fields is the sum of their widths
-size_of_fields-is : (fields : List Field) → size_of_fields fields ≡ total (widths_of fields)
+pub size_of_fields-is : (fields : List Field) → size_of_fields fields ≡ total (widths_of fields)
 size_of_fields-is [] = refl
 size_of_fields-is (f ∷ fields) = ap (λ (n : ℕ). f.width + n) (size_of_fields-is fields)
 
@@ -61,6 +62,20 @@ module _ {R : Type 0} {low : R → R} {Fits : R → Type 0} (s : Shape R) (is : 
     writes_back = image-read;
   }
 
+-- so do records of a shape whose fields are numbers that make the same record
+pub plain_laws : {R : Type 0} (s : Shape R)
+    → 0 < total (widths s) → ((x : R) → widths_of (s.fields x) ≡ widths s)
+    → ((x : R) → s.of_values (values_of (s.fields x)) ≡ x)
+    → ((order : Endian) (bytes : List ℕ) → s.fields ((shaped s order).read bytes) ≡ fields_at order bytes 0 (widths s))
+    → (order : Endian) → IsRecord (shaped s order)
+plain_laws s positive same whole read = shape_laws s (record {
+  size_positive = positive;
+  has_widths = same;
+  lows = λ x. refl;
+  fitting = λ x fits. (fits, whole x);
+  fields_read = λ order bytes are room. read order bytes;
+})
+
 -- records that are read and written as others obey the laws
 pub converted_laws : {A B : Type 0} {l : Layout A} (widen : A → B) (narrow : B → A) (BothFit : B → Type 0)
     → IsRecord l → ((x : B) → BothFit x → l.Fits (narrow x) × (widen (narrow x) ≡ x))
@@ -75,6 +90,13 @@ converted_laws {l = l} widen narrow BothFit laws there back = record {
   reads_low = λ x. ap widen (laws.reads_low (narrow x));
   writes_back = λ bytes are room. ap (l.image) (back bytes are room) ∙ laws.writes_back bytes are room;
 }
+
+pub widened_laws : {A B : Type 0} {l : Layout A} (widen : A → B) (narrow : B → A)
+    → IsRecord l → ((x : B) → widen (narrow x) ≡ x) → ((raw : A) → narrow (widen raw) ≡ raw)
+    → IsRecord (widened widen narrow l)
+widened_laws {l = l} widen narrow laws back there =
+    converted_laws widen narrow (λ x. l.Fits (narrow x)) laws (λ x fits. (fits, back x))
+    (λ bytes are room. there (l.read bytes))
 
 module _ {R : Type 0} {l : Layout R} (laws : IsRecord l) where
   -- records that are written as their image obey all laws

@@ -1,4 +1,5 @@
 pub mod Ascii
+pub mod Common
 pub mod Container
 pub mod Digited
 pub mod Eager

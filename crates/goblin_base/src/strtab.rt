@@ -1,28 +1,30 @@
 //! String tables, which are indexed by byte offsets: System V gABI, "String Table".
-ghost use Rattle.std.specs.Prelude.{◌≡◌, ℕ, ◌+◌, ◌<◌, ◌≤◌, ◌↔◌, List, [], true, false, drop, length, map, nat_lt, position};
+ghost use Rattle.std.specs.Prelude.{◌≡◌, ◌+◌, ◌<◌, ◌≤◌, ◌↔◌, [], false, drop, length, map, nat_lt, position};
 ghost use Rattle.std.specs.Prelude.{◌==◌, if◌then◌else◌, Some, None, Ok, IfErr, IfOk, IfSome, IsNone, IsOk};
-ghost use Rattle.std.specs.Prelude.{MatchOption, MatchResult, EachIndex, alloc_error, slice_index, slice_range};
+ghost use Rattle.std.specs.Prelude.{MatchOption, EachIndex, alloc_error, slice_index, slice_range};
 ghost use Rattle.std.specs.Option.{option_map};
 ghost use Rattle.std.specs.Str.{IsCharBoundary};
 ghost use Rattle.goblin_base.specs.Entries.{places_of, text_of};
 ghost use Rattle.goblin_base.specs.Pieces.{piece};
-ghost use Rattle.goblin_base.specs.Refusal.{Answers, Gives, malformed};
+ghost use Rattle.goblin_base.specs.Refusal.{Answers, Gives};
 ghost use Rattle.goblin_base.specs.Search.{IsLastUpTo};
-ghost use Rattle.goblin_base.specs.Steps.{refuse_as};
-ghost use Rattle.goblin_base.specs.Strtab.{IsRange, RefusesFirst, has_name, look_up, plain, range_in, strings_of, strtab_of};
-ghost use Rattle.goblin_base.specs.Strtab.{table_of, texts_of};
-ghost use Rattle.goblin_base.specs.Wanted.{begins_at, can_be_string, is_apart, is_piece, stands_at, starts_piece};
+ghost use Rattle.goblin_base.specs.Strtab.{RefusesFirst, has_name, look_up, plain, range_in, strings_of, strtab_of};
+ghost use Rattle.goblin_base.specs.Strtab.{table_of};
+ghost use Rattle.goblin_base.specs.Wanted.{can_be_string, stands_at};
 ghost use Rattle.goblin_base.specs.StrtabLaws.{ClosedForm, DependsOnRange, DigitsCount, JoinsAgain, LookUpHasPlain};
 ghost use Rattle.goblin_base.specs.StrtabLaws.{PermissiveAccepts, StrictIsPermissive, StrictLookUpIsPlain, TextIsUtf8};
 ghost use Rattle.goblin_base.specs.StrtabLaws.{NamesArePlain, TextIsTaken};
 
 use crate::ascii::{ascii_piece, len_before};
 use crate::entries::{Entries, Looked, Probes};
-use crate::error::{Error, Fault, Result};
+use crate::error::{Error, Result};
 use crate::find::find;
 use crate::options::{ParseMode, ParseOptions};
+pub use crate::range::{bytes_in_range, range_of};
 use crate::utf8::read_text;
 use crate::walk::walk;
+use crate::wanted::{can_be_string, stands_at};
+pub use crate::wanted::{WantedName, is_piece, starts_piece};
 use std::alloc::Global;
 use std::marker::Model;
 
@@ -318,56 +320,6 @@ impl<'a> Strtab<'a> {
     }
 }
 
-/// A name to search for, given as bytes. It is tested once: no string is equal to a name that isn't UTF-8 or
-/// that contains the delimiter.
-///
-/// <!-- quoted: crates/goblin/src/elf/sym.rt -->
-/// ```
-/// let wanted = WantedName::new(name, delim);
-/// ```
-#[derive(Debug, Drop)]
-pub struct WantedName<'n> {
-    name: &'n [u8],
-    delim: u8,
-    is_possible: bool,
-}
-
-// In contracts it is the name and the delimiter.
-impl<'n> Model for WantedName<'n> {
-    ghost use Rattle.std.specs.Prelude.{◌≡◌};
-    ghost use Rattle.goblin_base.specs.Wanted.{Name, can_be_string};
-
-    ghost Value = { Name };
-
-    ghost view = { λ w. record { bytes = w.name.now; delim = w.delim } };
-
-    ghost invariant = { λ w. w.is_possible ≡ can_be_string w.delim w.name.now };
-}
-
-impl<'n> WantedName<'n> {
-    /// Makes a search for a name among strings that a delimiter cuts.
-    pub fn new(name: &'n [u8], delim: u8) -> Self
-        ensures { result ≡ record { bytes = name.now; delim = delim } }
-    {
-        WantedName {
-            name,
-            delim,
-            is_possible: can_be_string(delim, name),
-        }
-    }
-
-    /// Reports whether the piece at an offset of these strings is the name, as [`Strtab::has_name`] does for
-    /// their table. The name is read only to compare it.
-    #[tactic(auto, using(crate::proofs::WantedLemmas::name_is_standing))]
-    pub fn is_at(&self, strings: &[u8], offset: usize) -> bool
-        ensures { result ≡ has_name strings.now self.now.delim offset self.now.bytes }
-    {
-        self.is_possible
-            && offset < strings.len()
-            && stands_at(strings, self.delim, offset, self.name)
-    }
-}
-
 /// A search of a string table for a name.
 ///
 /// <!-- quoted: crates/goblin_headers/src/section_search.rt -->
@@ -405,69 +357,6 @@ impl Wanted<'_> {
     }
 }
 
-// Reports whether a string can have these bytes.
-#[tactic(auto, using(crate::proofs::TextTests::utf8_tests), unfolding(crate::specs::Wanted::can_be_string))]
-fn can_be_string(delim: u8, name: &[u8]) -> bool
-    ensures { result ≡ can_be_string delim name.now }
-{
-    std::str::from_utf8(name).is_ok() && !name.contains(&delim)
-}
-
-// Reports whether the bytes at an offset begin with the name, and the delimiter or the end comes after it.
-#[tactic(auto, unfolding(crate::specs::Wanted::stands_at))]
-fn stands_at(bytes: &[u8], delim: u8, offset: usize, name: &[u8]) -> bool
-    requires { offset ≤ length bytes.now }
-    ensures { result ≡ stands_at bytes.now delim offset name.now }
-{
-    let rest = &bytes[offset..];
-    match rest.get(name.len()) {
-        Some(end) => *end == delim && &rest[..name.len()] == name,
-        None => rest == name,
-    }
-}
-
-// Reports whether a text doesn't contain the delimiter.
-#[tactic(auto, unfolding(crate::specs::Wanted::is_apart))]
-fn is_apart(delim: u8, text: &[u8]) -> bool
-    ensures { result ≡ is_apart delim text.now }
-{
-    !text.contains(&delim)
-}
-
-// Reports whether the bytes at an offset begin with a text.
-#[tactic(auto, using(crate::proofs::WantedLemmas::begins), unfolding(crate::specs::Wanted::begins_at))]
-fn begins_at(bytes: &[u8], offset: usize, text: &[u8]) -> bool
-    requires { offset ≤ length bytes.now }
-    ensures { result ≡ begins_at bytes.now offset text.now }
-{
-    match bytes[offset..].get(..text.len()) {
-        Some(start) => start == text,
-        None => false,
-    }
-}
-
-/// Reports whether the piece at an offset of bytes that a delimiter cuts into strings is this text, UTF-8 or not. It
-/// is not if the text contains the delimiter, or if the offset is not below the number of bytes.
-///
-/// It reads at most one byte more of the piece than the text has.
-#[tactic(auto, using(crate::proofs::WantedLemmas::piece_is_standing))]
-pub fn is_piece(bytes: &[u8], delim: u8, offset: usize, text: &[u8]) -> bool
-    ensures { result ≡ is_piece bytes.now delim offset text.now }
-{
-    offset < bytes.len() && stands_at(bytes, delim, offset, text) && is_apart(delim, text)
-}
-
-/// Reports whether the piece at an offset of bytes that a delimiter cuts into strings begins with this text, UTF-8 or
-/// not. It does not if the text contains the delimiter, or if the offset is not below the number of bytes.
-///
-/// It reads no more of the piece than the text has.
-#[tactic(auto, using(crate::proofs::WantedLemmas::piece_begins))]
-pub fn starts_piece(bytes: &[u8], delim: u8, offset: usize, text: &[u8]) -> bool
-    ensures { result ≡ starts_piece bytes.now delim offset text.now }
-{
-    offset < bytes.len() && begins_at(bytes, offset, text) && is_apart(delim, text)
-}
-
 /// Returns the table of no bytes, with the delimiter 0, which isn't parsed.
 impl Default for Strtab<'_> {
     ghost use Rattle.std.specs.Prelude.{◌≡◌, [], false};
@@ -477,68 +366,6 @@ impl Default for Strtab<'_> {
     fn default() -> Self {
         Strtab::new(&[], 0)
     }
-}
-
-/// Returns where the `len` bytes of a string table at an offset of a file of `file_len` bytes begin and end.
-///
-/// Permissive mode cuts the range at the end of the file, and never fails. If the offset is past the end, the range is
-/// empty and lies at the end.
-///
-/// # Errors
-///
-/// Strict mode fails with `StrtabOffset` if the offset is past the end of the file. Otherwise it fails with
-/// `StrtabRange` if the range ends past the end of the file, or past `usize::MAX`.
-#[tactic(auto, unfolding(crate::specs::Strtab::range_in))]
-pub fn range_of(
-    file_len: usize,
-    offset: usize,
-    len: usize,
-    mode: ParseMode,
-) -> Result<(usize, usize)>
-    // What holds of each file of that length.
-    ensures given { (file : List ℕ) → length file ≡ file_len →
-        let expected = refuse_as malformed (range_in mode file offset len) in
-        Answers (λ range. slice_range file range.0 range.1) result expected }
-    ensures refused { (file : List ℕ) → length file ≡ file_len → IfErr (range_in mode file offset len)
-        (λ fault. result ≡ Err (Error.Malformed fault)) }
-    ensures places { (file : List ℕ) → length file ≡ file_len →
-        IfOk result (λ range. IsRange mode file offset len range.0 range.1) }
-{
-    let (end, overflow) = offset.overflowing_add(len);
-    if !overflow && end <= file_len {
-        return Ok((offset, end));
-    }
-    if mode.is_permissive() {
-        return Ok((offset.min(file_len), file_len));
-    }
-    Err(Error::Malformed(if offset > file_len {
-        Fault::StrtabOffset {
-            offset,
-            len: file_len,
-        }
-    } else {
-        Fault::StrtabRange {
-            size: len,
-            offset,
-            len: file_len,
-            overflow,
-        }
-    }))
-}
-
-/// Returns the `len` bytes of a string table at an offset of a file, which lie where [`range_of`] says.
-///
-/// # Errors
-///
-/// Those of [`range_of`].
-pub fn bytes_in_range(bytes: &[u8], offset: usize, len: usize, mode: ParseMode) -> Result<&[u8]>
-    ensures given { let expected = refuse_as malformed (range_in mode bytes.now offset len) in
-        Answers (λ range. range.now) result expected }
-    ensures range { IfErr (range_in mode bytes.now offset len)
-        (λ fault. result ≡ Err (Error.Malformed fault)) }
-{
-    let (start, end) = range_of(bytes.len(), offset, len, mode)?;
-    Ok(&bytes[start..end])
 }
 
 /// Returns the piece at an offset of bytes that a delimiter cuts into strings, or `None` from their length on.

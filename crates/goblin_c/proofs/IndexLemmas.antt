@@ -22,9 +22,7 @@ use Rattle.goblin_c.specs.declared.types.GoblinSection.{GoblinSection}
 use Rattle.goblin.specs.Header.{class_named, order_named}
 use Rattle.goblin.specs.RelocSection.{relocs_of}
 use Rattle.goblin.specs.SectionHeaders.{is_table, link_of, linked, names_index}
-use Rattle.goblin_headers.proofs.HeaderLemmas.{header_laws}
-use Rattle.goblin_headers.proofs.RawTrips.{ident_byte}
-use Rattle.goblin_headers.proofs.ReadHeaderLemmas.{was_read}
+use Rattle.goblin_headers.proofs.WholeTrips.{was_read}
 use Rattle.goblin_c.specs.Expected.{count_of, ctx_of, each_converted, item_of, items_from}
 use Rattle.goblin_c.specs.Expected.{reloc_count_expected, reloc_expected, relocs_expected}
 use Rattle.goblin_c.specs.Expected.{relocs_converted, sections_expected, sections_converted}
@@ -42,14 +40,8 @@ named : (bytes : List ℕ) (h : Header)
     → (class : Container) × (order : Endian) × (class_named (slice_index h.e_ident 4) ≡ Some class)
     × (order_named (slice_index h.e_ident 5) ≡ Some order)
 named bytes h has =
-    let read = was_read bytes h has.0 has.1 in
-    let ident = ap (λ (header : Header). header.e_ident) read.header
-    ∙ (header_laws read.class).ident_read read.order bytes in (
-      read.class,
-      read.order,
-      ap class_named (ident_byte h.e_ident bytes 4 ident (omega arith)) ∙ read.named,
-      ap order_named (ident_byte h.e_ident bytes 5 ident (omega arith)) ∙ read.ordered,
-    )
+    let was = was_read bytes h has.0 has.1 in
+    (was.class, was.from.order, was.names.named, was.names.names_order.named)
 
 -- the context of what C hands back is the one that the header names
 context : (bytes : List ℕ) (h : Header) → HasHeader bytes h → NamesContext h (ctx_of (header_converted h))

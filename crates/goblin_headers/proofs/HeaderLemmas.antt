@@ -1,199 +1,153 @@
 -- Headers of each class and of both: an identification as it is, followed by numbers of given widths.
 --
--- The laws are proved once, for any header that is an identification and then numbers (`layout_laws`): the numbers by
+-- The laws are proved once, for any header that is an identification and then numbers (`headed_laws`): the numbers by
 -- the laws of fields, the identification because it is the first 16 bytes. A header of either class has them because
 -- widening and narrowing undo each other (`widened_laws`). What bytes are read as a header follows from the laws alone
 -- (`one_header_image`).
-use Rattle.std.proofs.Common.{◌≡◌, ◌≤◌, ◌+◌, ℕ, List, [], ◌++◌, length, take, refl, sym, ap, ◌∙◌, arith}
+use Rattle.std.proofs.Common.{◌≡◌, ◌≤◌, ℕ, List, [], ◌++◌, length, take, refl, sym, ap, ◌∙◌, arith}
 use Rattle.std.proofs.Math.Seq.{take-add}
 use Rattle.std.proofs.lemmas.List.{append_assoc, append-nil, length-append, take_all, take_at}
 use Rattle.goblin_base.specs.declared.container.Container.{Container}
-use Rattle.goblin_base.specs.declared.container.Container.TheVariants as class
 use Rattle.goblin_base.specs.declared.container.Endian.{Endian}
-use Rattle.goblin_base.specs.Fields.{Field, FieldsFit, size_of_fields, image_of_fields, values_at, fields_at, total}
-use Rattle.goblin_base.specs.Fields.{widths_of, values_of, lows_of}
+use Rattle.goblin_base.specs.Common.{Field, image_of_fields, values_at, fields_at, total, widths_of, values_of, lows_of}
+use Rattle.goblin_base.specs.Common.{Layout, widened, IsBytes}
+use Rattle.goblin_base.specs.declared.container.Container.TheVariants as class
 use Rattle.goblin_base.specs.FieldLaws.{values_at-image, lows_of-fits, image-fields_at, length-image_of_fields}
 use Rattle.goblin_base.specs.FieldLaws.{IsBytes-image_of_fields}
-use Rattle.goblin_base.specs.Number.{IsBytes}
+use Rattle.goblin_base.specs.LayoutLaws.{size_of_fields-is}
 use Rattle.goblin_base.specs.NumberLaws.{IsBytes-append}
-use Rattle.goblin_headers.specs.Header.{header_size, header_of, header_image, header_low, HeaderFits, as32, as64}
-use Rattle.goblin_headers.specs.Header.{widened32, widened64, header32_size, header32_of, header32_of_values}
-use Rattle.goblin_headers.specs.Header.{header32_widths, header32_fields, header32_image, header32_low, Header32Fits}
-use Rattle.goblin_headers.specs.Header.{header64_size, header64_of, header64_of_values, header64_widths}
-use Rattle.goblin_headers.specs.Header.{header64_fields, header64_image, header64_low, Header64Fits}
+use Rattle.goblin_headers.specs.Header.{HeaderShape, field_widths, headed, header32, header64, header_layout, as32, as64}
+use Rattle.goblin_headers.specs.Header.{widened32, widened64}
 use Rattle.goblin_headers.specs.HeaderTrips.{IsOneHeaderImage}
 
--- headers of a size that begin with an identification, and what holds of reading and writing them
-pub record IsHeader {R : Type 0} (size : ℕ) (ident : R → List ℕ) (read : Endian → List ℕ → R)
-    (image : Endian → R → List ℕ) (low : R → R) (Fits : R → Type 0) : Type 0 where
+-- headers that begin with an identification, and what holds of reading and writing them
+pub record IsHeader {R : Type 0} (ident : R → List ℕ) (l : Layout R) : Type 0 where
   -- a header holds an identification
-  pub enough : 16 ≤ size
+  pub enough : 16 ≤ l.size
   -- its image begins with it
-  pub after_ident : Endian → R → List ℕ
-  pub image_is : (order : Endian) (h : R) → image order h ≡ ident h ++ after_ident order h
-  pub ident_read : (order : Endian) (bytes : List ℕ) → ident (read order bytes) ≡ take 16 bytes
+  pub after_ident : R → List ℕ
+  pub image_is : (h : R) → l.image h ≡ ident h ++ after_ident h
+  pub ident_read : (bytes : List ℕ) → ident (l.read bytes) ≡ take 16 bytes
   -- the image has the size of a header and consists of bytes
-  pub length_image : (order : Endian) (h : R) → length (ident h) ≡ 16 → length (image order h) ≡ size
-  pub image_bytes : (order : Endian) (h : R) → IsBytes (ident h) → IsBytes (image order h)
+  pub length_image : (h : R) → length (ident h) ≡ 16 → length (l.image h) ≡ l.size
+  pub image_bytes : (h : R) → IsBytes (ident h) → IsBytes (l.image h)
   -- the low bits are read back, so a header that fits is read back unchanged, whatever bytes follow
-  pub reads_low : (order : Endian) (h : R) (rest : List ℕ)
-      → length (ident h) ≡ 16 → read order (image order h ++ rest) ≡ low h
-  pub low_fits : (h : R) → Fits h → low h ≡ h
+  pub reads_low : (h : R) (rest : List ℕ) → length (ident h) ≡ 16 → l.read (l.image h ++ rest) ≡ l.low h
+  pub low_fits : (h : R) → l.Fits h → l.low h ≡ h
   -- bytes that were read are written back
-  pub writes_back : (order : Endian) (bytes : List ℕ)
-      → IsBytes bytes → size ≤ length bytes → image order (read order bytes) ≡ take size bytes
+  pub writes_back : (bytes : List ℕ)
+      → IsBytes bytes → l.size ≤ length bytes → l.image (l.read bytes) ≡ take l.size bytes
 
--- how the fields of a header follow its identification
-record IsHeaderLayout {R : Type 0} (widths : List ℕ) (ident : R → List ℕ) (read : Endian → List ℕ → R)
-    (fields : R → List Field) (low : R → R) : Type 0 where
-  -- the header with this identification and these numbers
-  of_values : List ℕ → List ℕ → R
-  reads : (order : Endian) (bytes : List ℕ)
-      → read order bytes ≡ of_values (take 16 bytes) (values_at order bytes 16 widths)
-  has_ident : (i vs : List ℕ) → ident (of_values i vs) ≡ i
-  has_widths : (h : R) → widths_of (fields h) ≡ widths
-  has_size : (h : R) → size_of_fields (fields h) ≡ total widths
-  lows : (h : R) → of_values (ident h) (lows_of (fields h)) ≡ low h
-  whole : (h : R) → of_values (ident h) (values_of (fields h)) ≡ h
-  fields_read : (order : Endian) (bytes : List ℕ) → fields (read order bytes) ≡ fields_at order bytes 16 widths
+-- a shape must state that the fields of all headers have the same widths and make the same header, with its
+-- identification, and that the fields that were read are the numbers in the bytes
+module _ {R : Type 0} (s : HeaderShape R)
+    (has_ident : (ident values : List ℕ) → s.ident (s.of_values ident values) ≡ ident)
+    (has_widths : (h : R) → widths_of (s.fields h) ≡ field_widths s)
+    (whole : (h : R) → s.of_values (s.ident h) (values_of (s.fields h)) ≡ h)
+    (fields_read : (order : Endian) (bytes : List ℕ)
+    → s.fields ((headed s order).read bytes) ≡ fields_at order bytes 16 (field_widths s))
+    (order : Endian) where
+  abbrev l : Layout R
+  l = headed s order
 
-module _ {R : Type 0} {widths : List ℕ} {ident : R → List ℕ} {read : Endian → List ℕ → R} {fields : R → List Field}
-    {low : R → R} (l : IsHeaderLayout widths ident read fields low) where
-  abbrev image : Endian → R → List ℕ
-  image order h = ident h ++ image_of_fields order (fields h)
+  ident-read : (bytes : List ℕ) → s.ident (l.read bytes) ≡ take 16 bytes
+  ident-read bytes = has_ident (take 16 bytes) (values_at order bytes 16 (field_widths s))
 
-  ident-read : (order : Endian) (bytes : List ℕ) → ident (read order bytes) ≡ take 16 bytes
-  ident-read order bytes =
-      ap ident (l.reads order bytes) ∙ l.has_ident (take 16 bytes) (values_at order bytes 16 widths)
-
-  length-image : (order : Endian) (h : R) → length (ident h) ≡ 16 → length (image order h) ≡ 16 + total widths
-  length-image order h long =
+  length-image : (h : R) → length (s.ident h) ≡ 16 → length (l.image h) ≡ l.size
+  length-image h long =
       omega (
         arith,
         long,
-        length-append (ident h) (image_of_fields order (fields h)),
-        length-image_of_fields order (fields h),
-        l.has_size h,
+        length-append (s.ident h) (image_of_fields order (s.fields h)),
+        length-image_of_fields order (s.fields h),
+        size_of_fields-is (s.fields h),
+        ap total (has_widths h),
       )
 
-  read-image : (order : Endian) (h : R) (rest : List ℕ)
-      → length (ident h) ≡ 16 → read order (image order h ++ rest) ≡ low h
-  read-image order h rest long =
-      let after = image_of_fields order (fields h) in
-      let bytes = ident h ++ (after ++ rest) in
-      let grouped : image order h ++ rest ≡ bytes = append_assoc (ident h) after rest in
-      let values : values_at order bytes 16 widths ≡ lows_of (fields h) =
-      ap (values_at order bytes 16) (sym (l.has_widths h)) ∙ values_at-image order (fields h) (ident h) rest 16 long in
-      ap (read order) grouped ∙ l.reads order bytes
-      ∙ ap (λ (i : List ℕ). l.of_values i (values_at order bytes 16 widths)) (take_at (ident h) (after ++ rest) 16 long)
-      ∙ ap (l.of_values (ident h)) values ∙ l.lows h
+  read-image : (h : R) (rest : List ℕ) → length (s.ident h) ≡ 16 → l.read (l.image h ++ rest) ≡ l.low h
+  read-image h rest long =
+      let after = image_of_fields order (s.fields h) in
+      let bytes = s.ident h ++ (after ++ rest) in
+      let values : values_at order bytes 16 (field_widths s) ≡ lows_of (s.fields h) =
+      ap (values_at order bytes 16) (sym (has_widths h))
+      ∙ values_at-image order (s.fields h) (s.ident h) rest 16 long in
+      ap (l.read) (append_assoc (s.ident h) after rest)
+      ∙ ap (λ (i : List ℕ). s.of_values i (values_at order bytes 16 (field_widths s)))
+      (take_at (s.ident h) (after ++ rest) 16 long)
+      ∙ ap (s.of_values (s.ident h)) values
 
-  low-fits : (h : R) → FieldsFit (fields h) → low h ≡ h
-  low-fits h fits = sym (l.lows h) ∙ ap (l.of_values (ident h)) (lows_of-fits (fields h) fits) ∙ l.whole h
+  image-read : (bytes : List ℕ)
+      → IsBytes bytes → l.size ≤ length bytes → l.image (l.read bytes) ≡ take (l.size) bytes
+  image-read bytes are room =
+      ap (λ (i : List ℕ). i ++ image_of_fields order (s.fields (l.read bytes))) (ident-read bytes)
+      ∙ ap (λ (all : List Field). take 16 bytes ++ image_of_fields order all) (fields_read order bytes)
+      ∙ ap (λ (rest : List ℕ). take 16 bytes ++ rest) (image-fields_at order bytes 16 (field_widths s) are room)
+      ∙ sym (take-add 16 (total (field_widths s)) bytes)
 
-  image-read : (order : Endian) (bytes : List ℕ)
-      → IsBytes bytes → 16 + total widths ≤ length bytes
-      → image order (read order bytes) ≡ take (16 + total widths) bytes
-  image-read order bytes are room =
-      ap (λ (i : List ℕ). i ++ image_of_fields order (fields (read order bytes))) (ident-read order bytes)
-      ∙ ap (λ (all : List Field). take 16 bytes ++ image_of_fields order all) (l.fields_read order bytes)
-      ∙ ap (λ (rest : List ℕ). take 16 bytes ++ rest) (image-fields_at order bytes 16 widths are room)
-      ∙ sym (take-add 16 (total widths) bytes)
-
-  layout_laws : IsHeader (16 + total widths) ident read image low (λ h. FieldsFit (fields h))
-  layout_laws = record {
+  headed_laws : IsHeader (s.ident) l
+  headed_laws = record {
     enough = omega arith;
-    after_ident = λ order h. image_of_fields order (fields h);
-    image_is = λ order h. refl;
+    after_ident = λ h. image_of_fields order (s.fields h);
+    image_is = λ h. refl;
     ident_read = ident-read;
     length_image = length-image;
     image_bytes =
-        λ order h are i.
-        IsBytes-append (ident h) (image_of_fields order (fields h)) are (IsBytes-image_of_fields order (fields h)) i;
+        λ h are.
+        IsBytes-append (s.ident h) (image_of_fields order (s.fields h)) are (IsBytes-image_of_fields order (s.fields h));
     reads_low = read-image;
-    low_fits = low-fits;
+    low_fits = λ h fits. ap (s.of_values (s.ident h)) (lows_of-fits (s.fields h) fits) ∙ whole h;
     writes_back = image-read;
   }
 
 -- the fields of the headers of each class
-pub header32_laws : IsHeader header32_size (λ h. h.e_ident) header32_of header32_image header32_low Header32Fits
-header32_laws = layout_laws {widths = header32_widths} {fields = header32_fields} (record {
-  of_values = header32_of_values;
-  reads = λ order bytes. refl;
-  has_ident = λ i vs. refl;
-  has_widths = λ h. refl;
-  has_size = λ h. refl;
-  lows = λ h. refl;
-  whole = λ h. refl;
-  fields_read = λ order bytes. refl;
-})
+pub header32_laws : (order : Endian) → IsHeader (λ h. h.e_ident) (headed header32 order)
+header32_laws = headed_laws header32 (λ ident values. refl) (λ h. refl) (λ h. refl) (λ order bytes. refl)
 
-pub header64_laws : IsHeader header64_size (λ h. h.e_ident) header64_of header64_image header64_low Header64Fits
-header64_laws = layout_laws {widths = header64_widths} {fields = header64_fields} (record {
-  of_values = header64_of_values;
-  reads = λ order bytes. refl;
-  has_ident = λ i vs. refl;
-  has_widths = λ h. refl;
-  has_size = λ h. refl;
-  lows = λ h. refl;
-  whole = λ h. refl;
-  fields_read = λ order bytes. refl;
-})
+pub header64_laws : (order : Endian) → IsHeader (λ h. h.e_ident) (headed header64 order)
+header64_laws = headed_laws header64 (λ ident values. refl) (λ h. refl) (λ h. refl) (λ order bytes. refl)
 
 -- headers that are read and written as other ones: `widen` is applied after reading, `narrow` before writing
-widened_laws : {A B : Type 0} {size : ℕ} {ident : A → List ℕ} {read : Endian → List ℕ → A} {image : Endian → A → List ℕ}
-    {low : A → A} {Fits : A → Type 0} (widen : A → B) (narrow : B → A)
+widened_laws : {A B : Type 0} {ident : A → List ℕ} {l : Layout A} (widen : A → B) (narrow : B → A)
     → ((raw : A) → narrow (widen raw) ≡ raw) → ((h : B) → widen (narrow h) ≡ h)
-    → IsHeader size ident read image low Fits
-    → IsHeader size (λ h. ident (narrow h)) (λ order bytes. widen (read order bytes))
-    (λ order h. image order (narrow h))
-    (λ h. widen (low (narrow h))) (λ h. Fits (narrow h))
-widened_laws {ident = ident} {read = read} {image = image} widen narrow there back raw = record {
+    → IsHeader ident l → IsHeader (λ h. ident (narrow h)) (widened widen narrow l)
+widened_laws {ident = ident} {l = l} widen narrow there back raw = record {
   enough = raw.enough;
-  after_ident = λ order h. raw.after_ident order (narrow h);
-  image_is = λ order h. raw.image_is order (narrow h);
-  ident_read = λ order bytes. ap ident (there (read order bytes)) ∙ raw.ident_read order bytes;
-  length_image = λ order h. raw.length_image order (narrow h);
-  image_bytes = λ order h. raw.image_bytes order (narrow h);
-  reads_low = λ order h rest long. ap widen (raw.reads_low order (narrow h) rest long);
+  after_ident = λ h. raw.after_ident (narrow h);
+  image_is = λ h. raw.image_is (narrow h);
+  ident_read = λ bytes. ap ident (there (l.read bytes)) ∙ raw.ident_read bytes;
+  length_image = λ h. raw.length_image (narrow h);
+  image_bytes = λ h. raw.image_bytes (narrow h);
+  reads_low = λ h rest long. ap widen (raw.reads_low (narrow h) rest long);
   low_fits = λ h fits. ap widen (raw.low_fits (narrow h) fits) ∙ back h;
-  writes_back =
-      λ order bytes are room. ap (image order) (there (read order bytes)) ∙ raw.writes_back order bytes are room;
+  writes_back = λ bytes are room. ap (l.image) (there (l.read bytes)) ∙ raw.writes_back bytes are room;
 }
 
 -- a header of either class is the raw one of its class, widened
-pub header_laws : (class : Container)
-    → IsHeader (header_size class)
-    (λ h. h.e_ident) (header_of class) (header_image class) (header_low class) (HeaderFits class)
-header_laws class.Little = widened_laws widened32 as32 (λ raw. refl) (λ h. refl) header32_laws
-header_laws class.Big = widened_laws widened64 as64 (λ raw. refl) (λ h. refl) header64_laws
+pub header_laws : (class : Container) (order : Endian) → IsHeader (λ h. h.e_ident) (header_layout class order)
+header_laws class.Little order = widened_laws widened32 as32 (λ raw. refl) (λ h. refl) (header32_laws order)
+header_laws class.Big order = widened_laws widened64 as64 (λ raw. refl) (λ h. refl) (header64_laws order)
 
-module _ {R : Type 0} {size : ℕ} {ident : R → List ℕ} {read : Endian → List ℕ → R} {image : Endian → R → List ℕ}
-    {low : R → R} {Fits : R → Type 0} (laws : IsHeader size ident read image low Fits) where
+module _ {R : Type 0} {ident : R → List ℕ} {l : Layout R} (laws : IsHeader ident l) where
   -- bytes of a header's size are the image of the header that is read from them
-  image_of_read : (order : Endian) (bytes : List ℕ)
-      → IsBytes bytes → length bytes ≡ size → bytes ≡ image order (read order bytes)
-  image_of_read order bytes are long =
-      sym (take_all size bytes (omega arith)) ∙ sym (laws.writes_back order bytes are (omega arith))
+  image_of_read : (bytes : List ℕ) → IsBytes bytes → length bytes ≡ l.size → bytes ≡ l.image (l.read bytes)
+  image_of_read bytes are long =
+      sym (take_all (l.size) bytes (omega arith)) ∙ sym (laws.writes_back bytes are (omega arith))
 
-  reads_alone : (order : Endian) (h : R) → length (ident h) ≡ 16 → read order (image order h) ≡ low h
-  reads_alone order h long = ap (read order) (sym (append-nil (image order h))) ∙ laws.reads_low order h [] long
+  reads_alone : (h : R) → length (ident h) ≡ 16 → l.read (l.image h) ≡ l.low h
+  reads_alone h long = ap (l.read) (sym (append-nil (l.image h))) ∙ laws.reads_low h [] long
 
   -- only the low bits are written
-  pub image-low : (order : Endian) (h : R)
-      → length (ident h) ≡ 16 → IsBytes (ident h) → image order (low h) ≡ image order h
-  image-low order h long are =
-      ap (image order) (sym (reads_alone order h long))
-      ∙ sym (image_of_read order (image order h) (laws.image_bytes order h are) (laws.length_image order h long))
+  pub image-low : (h : R) → length (ident h) ≡ 16 → IsBytes (ident h) → l.image (l.low h) ≡ l.image h
+  image-low h long are =
+      ap (l.image) (sym (reads_alone h long))
+      ∙ sym (image_of_read (l.image h) (laws.image_bytes h are) (laws.length_image h long))
 
-  -- the image is the only list of bytes that is read so
-  pub one_header_image : IsOneHeaderImage size ident read image low
-  one_header_image order h bytes long are = (
-    λ is. rw is (laws.image_bytes order h are, laws.length_image order h long, reads_alone order h long),
-    λ so. image_of_read order bytes so.0 so.1 ∙ ap (image order) so.2 ∙ image-low order h long are,
-  )
-
-  -- a header that fits is read back, whatever bytes follow
-  pub reads_fitting : (order : Endian) (h : R) (rest : List ℕ)
-      → length (ident h) ≡ 16 → Fits h → read order (image order h ++ rest) ≡ h
-  reads_fitting order h rest long fits = laws.reads_low order h rest long ∙ laws.low_fits h fits
+-- the image is the only list of bytes that is read so
+pub one_header_image : {R : Type 0} {ident : R → List ℕ} {layout : Endian → Layout R}
+    → ((order : Endian) → IsHeader ident (layout order)) → IsOneHeaderImage ident layout
+one_header_image {layout = layout} all order h bytes long are =
+    let laws = all order in (
+      λ is. rw is (laws.image_bytes h are, laws.length_image h long, reads_alone laws h long),
+      λ so.
+          image_of_read laws bytes so.0 so.1 ∙ ap ((layout order).image) so.2 ∙ image-low laws h long are,
+    )

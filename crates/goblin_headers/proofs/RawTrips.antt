@@ -4,65 +4,101 @@
 -- The image begins with the identification, whose data byte names the byte order: so what is written in that order is
 -- read in it too (`raw_reads_back`). What was read says in which order and that the bytes were enough
 -- (`was_read_in_order`), so it is written in that order, over the same bytes (`raw_writes_back`).
-use Rattle.std.proofs.Common.{◌≡◌, ◌<◌, ◌≤◌, ℕ, List, ◌++◌, length, take, drop, slice_index, Some, Result, Ok, refl, ap}
-use Rattle.std.proofs.Common.{◌∙◌, arith}
+use Rattle.std.proofs.Common.{◌≡◌, ◌<◌, ◌≤◌, ℕ, List, ◌++◌, length, take, drop, slice_index, Some, Result, Ok, refl}
+use Rattle.std.proofs.Common.{sym, ap, ◌∙◌, arith, Bool, true, false, not, Option, None, Err}
 use Rattle.std.proofs.lemmas.List.{append_assoc, get_or_append_left, get_or-take, length-append, take-append-drop}
 use Rattle.goblin_base.specs.declared.container.Endian.{Endian}
 use Rattle.goblin_base.specs.declared.error.Error.{Error}
 use Rattle.goblin_base.specs.declared.error.Fault.{Fault}
-use Rattle.goblin_base.specs.Record.{Writes}
-use Rattle.goblin_base.specs.RecordLaws.{room_of_fits}
+use Rattle.goblin_base.specs.Common.{Layout, Writes, room_of, ◌>>=◌, or_refuse, refuse_if, refuse_as}
+use Rattle.goblin_base.specs.RecordLaws.{room_of_fits, fits-room_of}
 use Rattle.goblin_headers.specs.Header.{order_named, order_of}
 use Rattle.goblin_headers.specs.HeaderTrips.{IsReadBack, IsWrittenAndReadBack, IsWrittenBack}
 use Rattle.goblin_headers.specs.ReadHeader.{needs, read_in_order}
 use Rattle.goblin_headers.specs.WriteHeader.{WritesInOrder}
-use Rattle.goblin_headers.proofs.HeaderLemmas.{IsHeader, reads_fitting}
-use Rattle.goblin_headers.proofs.StepLemmas.{step, found, had_room}
+use Rattle.goblin_headers.proofs.HeaderLemmas.{IsHeader}
+use Rattle.goblin_base.specs.declared.scroll.Error.{Error as Misplaced}
 
+-- ---- what each of several steps returned, if all of them succeeded
+-- the value of the first step, and the success of the steps after it
+pub record Step {X Y : Type 0} (first : Result X Error) (next : X → Result Y Error) (y : Y) : Type 0 where
+  pub value : X
+  pub is : first ≡ Ok value
+  pub rest : next value ≡ Ok y
+
+pub step : {X Y : Type 0} (first : Result X Error) (next : X → Result Y Error) (y : Y)
+    → (first >>= next) ≡ Ok y → Step first next y
+step (Ok x) next y is = record { value = x; is = refl; rest = is }
+step (Err e) next y is = absurd (cc)
+
+-- a test that did not refuse
+pub passed : (test : Bool) (e : Error) (u : Unit {0}) → refuse_if (not test) e ≡ Ok u → test ≡ true
+passed true e u is = refl
+passed false e u is = absurd (cc)
+
+-- a value that was there
+pub found : {X : Type 0} (option : Option X) (e : Error) (x : X) → or_refuse option e ≡ Ok x → option ≡ Some x
+found (Some y) e x is = cc
+found None e x is = absurd (cc)
+
+-- bytes that were enough
+room_was : (room : Result (Unit {0}) Misplaced) (within : Misplaced → Error) (u : Unit {0})
+    → refuse_as within room ≡ Ok u → room ≡ Ok tt
+room_was (Ok _) within u is = refl
+room_was (Err e) within u is = absurd (cc)
+
+pub had_room : (bytes : List ℕ) (size : ℕ) (u : Unit {0}) → needs size bytes ≡ Ok u → size ≤ length bytes
+had_room bytes size u is =
+    let fits = fits-room_of (length bytes) 0 size tt (room_was (room_of (length bytes) 0 size) _ u is) in omega arith
+
+-- ---- reading and writing in the byte order that is named
 -- the result of writing into a buffer that is large enough, and what it leaves there
-pub record Wrote (size : ℕ) (image old new : List ℕ) (answer : Result ℕ Error) : Type 0 where
-  pub answers : answer ≡ Ok size
-  pub leaves : new ≡ image ++ drop size old
-
-writes_there : (size : ℕ) (image old new : List ℕ) (answer : Result ℕ Error)
-    → size ≤ length old → Writes size image old answer new → Wrote size image old new answer
-unfolding Writes
-writes_there size image old new answer enough so =
-    let wrote = rw (room_of_fits (length old) 0 size (omega arith)) at so in
-    record { answers = wrote.0; leaves = wrote.1 }
+pub record Wrote {R : Type 0} (l : Layout R) (h : R) (old new : List ℕ) (answer : Result ℕ Error) : Type 0 where
+  pub answers : answer ≡ Ok l.size
+  pub leaves : new ≡ l.image h ++ drop l.size old
 
 -- with a byte order and a buffer that is large enough, the image in that order is written
-pub writes_in_order : (ident : List ℕ) (size : ℕ) (image : Endian → List ℕ) (old new : List ℕ) (answer : Result ℕ Error)
-    (order : Endian)
-    → order_named (slice_index ident 5) ≡ Some order → size ≤ length old → WritesInOrder ident size image old answer new
-    → Wrote size (image order) old new answer
-unfolding WritesInOrder
-writes_in_order ident size image old new answer order named room so =
-    writes_there size (image order) old new answer room (rw named at so)
+pub writes_in_order : {R : Type 0} (ident : List ℕ) (layout : Endian → Layout R) (h : R) (old new : List ℕ)
+    (answer : Result ℕ Error) (order : Endian)
+    → order_named (slice_index ident 5) ≡ Some order → (layout order).size ≤ length old
+    → WritesInOrder ident layout h old answer new
+    → Wrote (layout order) h old new answer
+unfolding WritesInOrder Writes
+writes_in_order ident layout h old new answer order named room so =
+    let wrote = rw (room_of_fits (length old) 0 (layout order).size (omega arith)) at (rw named at so) in
+    record { answers = wrote.0; leaves = wrote.1 }
 
 -- with a byte order and enough bytes, the header is read in that order
-pub reads_in_order : {R : Type 0} (size : ℕ) (read : Endian → List ℕ → R) (fault : ℕ → Fault) (bytes : List ℕ)
-    (order : Endian)
-    → 16 ≤ size → size ≤ length bytes → order_named (slice_index bytes 5) ≡ Some order
-    → read_in_order size read fault bytes ≡ Ok (read order bytes)
+pub reads_in_order : {R : Type 0} (layout : Endian → Layout R) (fault : ℕ → Fault) (bytes : List ℕ) (order : Endian)
+    → 16 ≤ (layout order).size → (layout order).size ≤ length bytes → order_named (slice_index bytes 5) ≡ Some order
+    → read_in_order layout fault bytes ≡ Ok ((layout order).read bytes)
 unfolding read_in_order
-reads_in_order size read fault bytes order enough room named =
+reads_in_order layout fault bytes order enough room named =
+    let size = (layout order).size in
     rw (room_of_fits (length bytes) 0 16 (omega arith), named, room_of_fits (length bytes) 0 size (omega arith)) refl
 
--- what a header of one class was read from
-pub record WasReadInOrder {R : Type 0} (size : ℕ) (read : Endian → List ℕ → R) (bytes : List ℕ) (h : R) : Type 0 where
+-- so it is as the functions that read have found it
+pub reads_found : {R : Type 0} (layout : Endian → Layout R) (fault : ℕ → Fault) (bytes : List ℕ) (order : Endian) (x : R)
+    → Some order ≡ order_named (slice_index bytes 5) → x ≡ (layout order).read bytes → 16 ≤ (layout order).size
+    → (layout order).size ≤ length bytes
+    → Ok x ≡ read_in_order layout fault bytes
+reads_found layout fault bytes order x named is enough room =
+    ap Ok is ∙ sym (reads_in_order layout fault bytes order enough room (sym named))
+
+-- what a header was read from
+pub record WasReadInOrder {R : Type 0} (layout : Endian → Layout R) (bytes : List ℕ) (h : R) : Type 0 where
   pub order : Endian
   pub ordered : order_named (slice_index bytes 5) ≡ Some order
-  pub enough : size ≤ length bytes
-  pub header : h ≡ read order bytes
+  pub enough : (layout order).size ≤ length bytes
+  pub header : h ≡ (layout order).read bytes
 
-pub was_read_in_order : {R : Type 0} (size : ℕ) (read : Endian → List ℕ → R) (fault : ℕ → Fault) (bytes : List ℕ)
-    (h : R)
-    → read_in_order size read fault bytes ≡ Ok h → WasReadInOrder size read bytes h
+pub was_read_in_order : {R : Type 0} (layout : Endian → Layout R) (fault : ℕ → Fault) (bytes : List ℕ) (h : R)
+    → read_in_order layout fault bytes ≡ Ok h → WasReadInOrder layout bytes h
 unfolding read_in_order
-was_read_in_order size read fault bytes h is =
+was_read_in_order layout fault bytes h is =
     let ident = step (needs 16 bytes) _ h is in
     let order = step (order_of fault bytes) _ h ident.rest in
+    let size = (layout order.value).size in
     let room = step (needs size bytes) _ h order.rest in
     record {
       order = order.value;
@@ -85,39 +121,40 @@ pub ident_byte : (ident bytes : List ℕ) (i : ℕ)
 ident_byte ident bytes i is h = ap (λ (all : List ℕ). slice_index all i) is ∙ rw (get_or-take 16 bytes i 0) refl
 
 -- bytes that are written over themselves don't change
-pub over_itself : (size : ℕ) (image bytes new : List ℕ)
+over_itself : (size : ℕ) (image bytes new : List ℕ)
     → new ≡ image ++ drop size bytes → image ≡ take size bytes → new ≡ bytes
 over_itself size image bytes new is same =
     is ∙ ap (λ (front : List ℕ). front ++ drop size bytes) same ∙ take-append-drop size bytes
 
-module _ {R : Type 0} {size : ℕ} {ident : R → List ℕ} {read : Endian → List ℕ → R} {image : Endian → R → List ℕ}
-    {low : R → R} {Fits : R → Type 0} (laws : IsHeader size ident read image low Fits) where
-  abbrev writes : R → List ℕ → Result ℕ Error → List ℕ → Type 0
-  writes h = WritesInOrder (ident h) size (λ order. image order h)
-
-  pub raw_reads_back : IsReadBack ident Fits image (read_in_order size read)
+module _ {R : Type 0} {ident : R → List ℕ} {layout : Endian → Layout R}
+    (all : (order : Endian) → IsHeader ident (layout order)) where
+  pub raw_reads_back : IsReadBack ident layout
   raw_reads_back fault order h rest names fits =
-      let bytes = image order h ++ rest in
+      let l = layout order in
+      let laws = all order in
+      let bytes = l.image h ++ rest in
       let enough = laws.enough in
       let long = names.long in
-      let room : size ≤ length bytes =
-      omega (arith, length-append (image order h) rest, laws.length_image order h long) in
-      let byte = front_byte (image order h) (ident h) (laws.after_ident order h) rest 5 (laws.image_is order h)
-      (omega arith) in
-      reads_in_order size read fault bytes order enough room (ap order_named byte ∙ names.named)
-      ∙ ap Ok (reads_fitting laws order h rest long fits)
+      let room : l.size ≤ length bytes = omega (arith, length-append (l.image h) rest, laws.length_image h long) in
+      let byte = front_byte (l.image h) (ident h) (laws.after_ident h) rest 5 (laws.image_is h) (omega arith) in
+      reads_in_order layout fault bytes order enough room (ap order_named byte ∙ names.named)
+      ∙ ap Ok (laws.reads_low h rest long ∙ laws.low_fits h fits)
 
-  pub raw_written_and_read_back : IsWrittenAndReadBack size ident Fits writes (read_in_order size read)
+  pub raw_written_and_read_back : IsWrittenAndReadBack ident layout
   raw_written_and_read_back fault order h old new answer names fits room so =
-      let wrote = writes_in_order (ident h) size (λ o. image o h) old new answer order names.named room so in
-      let back = raw_reads_back fault order h (drop size old) names fits in
-      (wrote.answers, ap (read_in_order size read fault) wrote.leaves ∙ back)
+      let wrote = writes_in_order (ident h) layout h old new answer order names.named room so in
+      let back = raw_reads_back fault order h (drop (layout order).size old) names fits in
+      (wrote.answers, ap (read_in_order layout fault) wrote.leaves ∙ back)
 
-  pub raw_writes_back : IsWrittenBack size (read_in_order size read) writes
-  raw_writes_back fault h bytes new answer are is so =
-      let from = was_read_in_order size read fault bytes h is in
-      let front = ap ident from.header ∙ laws.ident_read from.order bytes in
+  pub raw_writes_back : (size : ℕ) → ((order : Endian) → (layout order).size ≡ size) → IsWrittenBack size ident layout
+  raw_writes_back size sized fault h bytes new answer are is so =
+      let from = was_read_in_order layout fault bytes h is in
+      let l = layout from.order in
+      let laws = all from.order in
+      let front = ap ident from.header ∙ laws.ident_read bytes in
       let ordered = ap order_named (ident_byte (ident h) bytes 5 front (omega arith)) ∙ from.ordered in
-      let wrote = writes_in_order (ident h) size (λ o. image o h) bytes new answer from.order ordered from.enough so in
-      let same = ap (image from.order) from.header ∙ laws.writes_back from.order bytes are from.enough in
-      (wrote.answers, over_itself size (image from.order h) bytes new wrote.leaves same)
+      let wrote = writes_in_order (ident h) layout h bytes new answer from.order ordered from.enough so in
+      let same = ap (l.image) from.header ∙ laws.writes_back bytes are from.enough in (
+        wrote.answers ∙ ap (λ (n : ℕ). Ok n) (sized from.order),
+        over_itself (l.size) (l.image h) bytes new wrote.leaves same,
+      )

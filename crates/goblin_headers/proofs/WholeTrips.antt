@@ -3,31 +3,138 @@
 --
 -- They go as those of one class, with two tests more: the image begins with the identification, so the magic number and
 -- the class byte are read as they were written (`reads_back`). A header that was read names the class and the byte
--- order of its bytes (`came_from`), so it is written as it was read (`writes_back`).
+-- order of its bytes (`was_read`), so it is written as it was read (`writes_back`).
 use Rattle.std.proofs.Common.{◌≡◌, ◌≤◌, ℕ, true, nat_eq, List, [], ◌++◌, length, take, drop, slice_index, Some, Result}
-use Rattle.std.proofs.Common.{Ok, refl, sym, ap, ◌∙◌, arith, rules}
+use Rattle.std.proofs.Common.{Ok, refl, sym, ap, ◌∙◌, arith, rules, false, nat_lt, not, Err}
 use Rattle.std.specs.List.{starts_with}
 use Rattle.std.proofs.lemmas.List.{append_assoc, append-nil, length-append, length-take-le, take-append-drop}
 use Rattle.std.proofs.lemmas.List.{take-append-le}
 use Rattle.std.proofs.lemmas.Slice.Eq.{bytes_eq-Decides}
 use Rattle.goblin_base.specs.declared.container.Container.{Container}
-use Rattle.goblin_base.specs.declared.container.Container.TheVariants as class
 use Rattle.goblin_base.specs.declared.container.Endian.{Endian}
-use Rattle.goblin_base.specs.declared.container.Endian.TheVariants as endian
 use Rattle.goblin_base.specs.declared.error.Error.{Error}
-use Rattle.goblin_base.specs.Number.{IsBytes}
+use Rattle.goblin_base.specs.declared.error.Fault.TheVariants.{DataType, TooSmall, ElfClass}
+use Rattle.goblin_base.specs.Common.{with_size, Layout, number_at, refuse_if}
+use Rattle.goblin_base.specs.declared.container.Container.TheVariants as class
+use Rattle.goblin_base.specs.declared.container.Endian.TheVariants as endian
 use Rattle.goblin_headers.specs.declared.header.Header.{Header}
-use Rattle.goblin_headers.specs.Header.{header_size, header_image, HeaderFits, Identifies, new_header, magic}
-use Rattle.goblin_headers.specs.Header.{class_byte, data_byte}
-use Rattle.goblin_headers.specs.Header.{class_named, order_named}
+use Rattle.goblin_headers.specs.Header.{header_size, header_layout, Identifies, new_header, magic, class_byte}
+use Rattle.goblin_headers.specs.Header.{data_byte, class_named, order_named, class_of}
 use Rattle.goblin_headers.specs.HeaderTrips.{OneImage, ReadsBack, WrittenAndReadBack, ImageOfRead, WritesBack}
 use Rattle.goblin_headers.specs.HeaderTrips.{NewIsOfContext, NewIsReadBack}
-use Rattle.goblin_headers.specs.ReadHeader.{read_header}
-use Rattle.goblin_headers.specs.WriteHeader.{WritesHeader}
-use Rattle.goblin_headers.proofs.HeaderLemmas.{header_laws, one_header_image, reads_fitting}
-use Rattle.goblin_headers.proofs.RawTrips.{Wrote, front_byte, ident_byte, over_itself, writes_in_order}
-use Rattle.goblin_headers.proofs.ReadHeaderLemmas.{Begins, read_header-ok, was_read}
+use Rattle.goblin_headers.specs.ReadHeader.{read_header, read_in_order}
+use Rattle.goblin_headers.specs.WriteHeader.{WritesHeader, WritesInOrder}
+use Rattle.goblin_headers.proofs.HeaderLemmas.{header_laws, one_header_image}
+use Rattle.goblin_headers.proofs.RawTrips.{WasReadInOrder, front_byte, ident_byte, raw_reads_back, raw_writes_back, was_read_in_order}
+use Rattle.goblin_headers.proofs.RawTrips.{writes_in_order, reads_in_order, step, passed, found}
+use Rattle.std.proofs.lemmas.Bool.Decides.{nat_tests}
+use Rattle.goblin_base.specs.declared.error.Error.TheVariants.{Malformed, BadMagic}
 
+-- ---- reading a header of either class is reading a raw one, after the tests of its magic number and its class byte
+-- the bytes begin as a file of a class does
+pub record Begins (class : Container) (bytes : List ℕ) : Type 0 where
+  pub long : 16 ≤ length bytes
+  pub starts : starts_with nat_eq bytes magic ≡ true
+  pub named : class_named (slice_index bytes 4) ≡ Some class
+
+-- then a header of the class is read
+pub read_begun : (class : Container) (bytes : List ℕ)
+    → Begins class bytes
+    → read_header bytes ≡ with_size (header_size class) (read_in_order (header_layout class) DataType bytes)
+unfolding read_header
+read_begun class bytes begins =
+    let enough : nat_lt (length bytes) 16 ≡ false = grind (arith, nat_tests) in
+    rw (enough, begins.starts, begins.named) refl
+
+-- the header and the size that make a result
+record Sized {R : Type 0} (answer : Result R Error) (expected : ℕ) (x : R) (size : ℕ) : Type 0 where
+  read : answer ≡ Ok x
+  size_is : size ≡ expected
+
+sized : {R : Type 0} (answer : Result R Error) (expected : ℕ) (x : R) (size : ℕ)
+    → Ok (x, size) ≡ with_size expected answer → Sized answer expected x size
+sized {R = R} (Ok y) expected x size is =
+    let both : (x, size) ≡ (y, expected) = cc in
+    record { read = ap (λ (both : R × ℕ). Ok both.0) (sym both); size_is = ap (λ (both : R × ℕ). both.1) both }
+sized (Err e) expected x size is = absurd (cc)
+
+-- the raw header of its class that was read is, widened, the header of either class
+pub read_header-raw : {R : Type 0} (class : Container) (layout : Endian → Layout R) (widen : R → Header)
+    (bytes : List ℕ) (raw : R) (size : ℕ)
+    → ((order : Endian) → ((layout order).size ≡ header_size class)
+    × (widen ((layout order).read bytes) ≡ (header_layout class order).read bytes))
+    → 16 ≤ length bytes → starts_with nat_eq bytes magic ≡ true → class_named (slice_index bytes 4) ≡ Some class
+    → Ok (raw, size) ≡ with_size (header_size class) (read_in_order layout DataType bytes)
+    → Ok (widen raw, size) ≡ read_header bytes
+read_header-raw class layout widen bytes raw size same long starts named is =
+    let begins : Begins class bytes = record { long = long; starts = starts; named = named } in
+    let whole = sized (read_in_order layout DataType bytes) (header_size class) raw size is in
+    let from = was_read_in_order layout DataType bytes raw whole.read in
+    let wide = same from.order in
+    let enough = (header_laws class from.order).enough in
+    let room : header_size class ≤ length bytes = omega (arith, wide.0, from.enough) in
+    let header = sym wide.1 ∙ ap widen (sym from.header) in
+    let read = reads_in_order (header_layout class) DataType bytes from.order enough room from.ordered ∙ ap Ok header in
+    let result : read_header bytes ≡ Ok (widen raw, header_size class) =
+    read_begun class bytes begins ∙ ap (with_size (header_size class)) read in
+    ap (λ (n : ℕ). Ok (widen raw, n)) whole.size_is ∙ sym result
+
+-- the class and the byte order that the identification of a header that was read names
+read_names : (class : Container) (order : Endian) (bytes ident : List ℕ)
+    → Begins class bytes → ident ≡ take 16 bytes → order_named (slice_index bytes 5) ≡ Some order
+    → Identifies class order ident
+read_names class order bytes ident begins is ordered =
+    let starts : magic ≡ take 4 bytes = (bytes_eq-Decides magic (take 4 bytes)).0 begins.starts in
+    let front : take 4 ident ≡ take 4 bytes =
+    ap (take 4) is
+    ∙ sym (take-append-le 4 (take 16 bytes) (drop 16 bytes) (omega (arith, length-take-le 16 bytes begins.long)))
+    ∙ ap (take 4) (take-append-drop 16 bytes) in
+    record {
+      begins = front ∙ sym starts;
+      named = ap class_named (ident_byte ident bytes 4 is (omega arith)) ∙ begins.named;
+      names_order = record {
+        long = ap length is ∙ length-take-le 16 bytes begins.long;
+        named = ap order_named (ident_byte ident bytes 5 is (omega arith)) ∙ ordered;
+      };
+    }
+
+-- what holds of a header that was read: as what it was read, in which order, and what its identification names
+pub record WasRead (bytes : List ℕ) (h : Header) (size : ℕ) : Type 0 where
+  pub class : Container
+  pub read : read_in_order (header_layout class) DataType bytes ≡ Ok h
+  pub from : WasReadInOrder (header_layout class) bytes h
+  pub names : Identifies class from.order h.e_ident
+  pub sized : size ≡ header_size class
+
+-- what a header was read from
+pub was_read : (bytes : List ℕ) (h : Header) (size : ℕ) → read_header bytes ≡ Ok (h, size) → WasRead bytes h size
+unfolding read_header
+was_read bytes h size is =
+    let long = step (refuse_if (nat_lt (length bytes) 16) (Malformed TooSmall)) _ (h, size) is in
+    let magical =
+    step (refuse_if (not (starts_with nat_eq bytes magic)) (BadMagic (number_at endian.Little bytes 0 8))) _
+    (h, size) long.rest in
+    let class = step (class_of ElfClass bytes) _ (h, size) magical.rest in
+    let layout = header_layout class.value in
+    let whole = sized (read_in_order layout DataType bytes) (header_size class.value) h size (sym class.rest) in
+    let from = was_read_in_order layout DataType bytes h whole.read in
+    let laws = header_laws class.value from.order in
+    let begins : Begins class.value bytes =
+    record {
+      long = omega (arith, laws.enough, from.enough);
+      starts = passed (starts_with nat_eq bytes magic) _ magical.value magical.is;
+      named = found (class_named (slice_index bytes 4)) _ class.value class.is;
+    } in
+    let ident = ap (λ (g : Header). g.e_ident) from.header ∙ laws.ident_read bytes in
+    record {
+      class = class.value;
+      read = whole.read;
+      from = from;
+      names = read_names class.value from.order bytes h.e_ident begins ident from.ordered;
+      sized = whole.size_is;
+    }
+
+-- ---- the laws
 pub one_image : OneImage
 one_image class = one_header_image (header_laws class)
 
@@ -45,99 +152,57 @@ begins_so image ident after rest is long starts =
 
 pub reads_back : ReadsBack
 reads_back class order h rest names fits =
-    let laws = header_laws class in
-    let image = header_image class order h in
-    let bytes = image ++ rest in
-    let is = laws.image_is order h in
-    let after = laws.after_ident order h in
+    let image = (header_layout class order).image h in
+    let laws = header_laws class order in
+    let after = laws.after_ident h in
+    let is = laws.image_is h in
     let long = names.names_order.long in
-    let enough = laws.enough in
-    let room : header_size class ≤ length bytes =
-    omega (arith, length-append image rest, laws.length_image order h long) in
-    let starts = begins_so image h.e_ident after rest is long names.begins in
-    let class_byte = front_byte image h.e_ident after rest 4 is (omega arith) in
-    let data_byte = front_byte image h.e_ident after rest 5 is (omega arith) in
-    let begins : Begins class bytes =
-    record { long = omega arith; starts = starts; named = ap class_named class_byte ∙ names.named } in
-    read_header-ok bytes class order begins (ap order_named data_byte ∙ names.names_order.named) room
-    ∙ ap (λ (g : Header). Ok (g, header_size class)) (reads_fitting laws order h rest long fits)
+    let byte = front_byte image h.e_ident after rest 4 is (omega arith) in
+    let begins : Begins class (image ++ rest) =
+    record {
+      long = omega (arith, length-append image rest, laws.length_image h long, laws.enough);
+      starts = begins_so image h.e_ident after rest is long names.begins;
+      named = ap class_named byte ∙ names.named;
+    } in
+    read_begun class (image ++ rest) begins
+    ∙ ap (with_size (header_size class))
+    (raw_reads_back (header_laws class) DataType order h rest names.names_order fits)
 
--- with a class, a byte order and a buffer that is large enough, the image is written
-writes_there : (class : Container) (order : Endian) (h : Header) (old new : List ℕ) (answer : Result ℕ Error)
-    → class_named (slice_index h.e_ident 4) ≡ Some class → order_named (slice_index h.e_ident 5) ≡ Some order
-    → header_size class ≤ length old → WritesHeader h old answer new
-    → Wrote (header_size class) (header_image class order h) old new answer
+-- a header that names a class is written as one of that class
+writes_in_class : (class : Container) (h : Header) (old new : List ℕ) (answer : Result ℕ Error)
+    → class_named (slice_index h.e_ident 4) ≡ Some class → WritesHeader h old answer new
+    → WritesInOrder h.e_ident (header_layout class) h old answer new
 unfolding WritesHeader
-writes_there class order h old new answer named ordered room so =
-    writes_in_order h.e_ident (header_size class)
-    (λ o. header_image class o h) old new answer order ordered room (rw named at so)
+writes_in_class class h old new answer named so = rw named at so
 
 pub written_and_read_back : WrittenAndReadBack
 written_and_read_back class order h old new answer names fits room so =
-    let wrote = writes_there class order h old new answer names.named names.names_order.named room so in
+    let there = writes_in_class class h old new answer names.named so in
+    let named = names.names_order.named in
+    let wrote = writes_in_order h.e_ident (header_layout class) h old new answer order named room there in
     (wrote.answers, ap read_header wrote.leaves ∙ reads_back class order h (drop (header_size class) old) names fits)
-
--- the class and the byte order that the identification of a header that was read names
-read_names : (class : Container) (order : Endian) (bytes ident : List ℕ)
-    → 16 ≤ length bytes → ident ≡ take 16 bytes → starts_with nat_eq bytes magic ≡ true
-    → class_named (slice_index bytes 4) ≡ Some class → order_named (slice_index bytes 5) ≡ Some order
-    → Identifies class order ident
-read_names class order bytes ident enough is starts named ordered =
-    let begins : magic ≡ take 4 bytes = (bytes_eq-Decides magic (take 4 bytes)).0 starts in
-    let long : length (take 16 bytes) ≡ 16 = length-take-le 16 bytes enough in
-    let front : take 4 ident ≡ take 4 bytes =
-    ap (take 4) is
-    ∙ sym (take-append-le 4 (take 16 bytes) (drop 16 bytes) (omega arith))
-    ∙ ap (take 4) (take-append-drop 16 bytes) in
-    record {
-      begins = front ∙ sym begins;
-      named = ap class_named (ident_byte ident bytes 4 is (omega arith)) ∙ named;
-      names_order = record {
-        long = ap length is ∙ long;
-        named = ap order_named (ident_byte ident bytes 5 is (omega arith)) ∙ ordered;
-      };
-    }
-
--- what a header that was read names, and its image, which is the bytes that it was read from
-record CameFrom (bytes : List ℕ) (h : Header) (size : ℕ) : Type 0 where
-  class : Container
-  order : Endian
-  names : Identifies class order h.e_ident
-  sized : size ≡ header_size class
-  enough : header_size class ≤ length bytes
-  image : header_image class order h ≡ take (header_size class) bytes
-
-came_from : (h : Header) (bytes : List ℕ) (size : ℕ)
-    → IsBytes bytes → read_header bytes ≡ Ok (h, size) → CameFrom bytes h size
-came_from h bytes size are read =
-    let from = was_read bytes h size read in
-    let laws = header_laws from.class in
-    let enough = laws.enough in
-    let ident = ap (λ (g : Header). g.e_ident) from.header ∙ laws.ident_read from.order bytes in
-    let long : 16 ≤ length bytes = omega (arith, enough, from.enough) in
-    record {
-      class = from.class;
-      order = from.order;
-      names = read_names from.class from.order bytes h.e_ident long ident from.starts from.named from.ordered;
-      sized = from.sized;
-      enough = from.enough;
-      image = ap (header_image from.class from.order) from.header ∙ laws.writes_back from.order bytes are from.enough;
-    }
 
 pub image_of_read : ImageOfRead
 image_of_read h bytes size are read =
-    let from = came_from h bytes size are read in
-    (from.class, from.order, from.names, from.sized, from.image ∙ ap (λ (n : ℕ). take n bytes) (sym from.sized))
+    let was = was_read bytes h size read in
+    let from = was.from in
+    let laws = header_laws was.class from.order in (
+      was.class,
+      from.order,
+      was.names,
+      was.sized,
+      ap ((header_layout was.class from.order).image) from.header
+          ∙ laws.writes_back bytes are from.enough
+          ∙ ap (λ (n : ℕ). take n bytes) (sym was.sized),
+    )
 
 pub writes_back : WritesBack
 writes_back h bytes new size answer are read so =
-    let from = came_from h bytes size are read in
-    let names = from.names in
-    let wrote = writes_there from.class from.order h bytes new answer names.named names.names_order.named from.enough
-    so in
-    let same = over_itself (header_size from.class)
-    (header_image from.class from.order h) bytes new wrote.leaves from.image in
-    (wrote.answers ∙ ap (λ (n : ℕ). Ok n) (sym from.sized), same)
+    let was = was_read bytes h size read in
+    let there = writes_in_class was.class h bytes new answer was.names.named so in
+    let back = raw_writes_back (header_laws was.class) (header_size was.class) (λ order. refl) DataType h bytes new
+    answer are was.read there in
+    (back.0 ∙ ap (λ (n : ℕ). Ok n) (sym was.sized), back.1)
 
 -- a new header names its class and its byte order, and fits its class
 class_is_named : (class : Container) → class_named (class_byte class) ≡ Some class
@@ -149,7 +214,7 @@ order_is_named endian.Little = refl
 order_is_named endian.Big = refl
 
 new_fits : (class : Container) (order : Endian)
-    → HeaderFits class (new_header (record { container = class; le = order }))
+    → (header_layout class order).Fits (new_header (record { container = class; le = order }))
 new_fits class.Little order = search (rules, arith)
 new_fits class.Big order = search (rules, arith)
 
@@ -166,5 +231,5 @@ new_is_of_context ctx = (
 pub new_is_read_back : NewIsReadBack
 new_is_read_back ctx =
     let new = new_is_of_context ctx in
-    ap read_header (sym (append-nil (header_image ctx.container ctx.le (new_header ctx))))
+    ap read_header (sym (append-nil ((header_layout ctx.container ctx.le).image (new_header ctx))))
     ∙ reads_back ctx.container ctx.le (new_header ctx) [] new.0 new.1

@@ -1,17 +1,17 @@
 -- The header of a file of either class (System V gABI, "ELF Header" and "ELF Identification").
-use Rattle.std.specs.Prelude.{◌≡◌, ℕ, ◌==◌, if◌then◌else◌, List, [], ◌∷◌, ◌++◌, length, replicate, slice_index, take}
+use Rattle.std.specs.Prelude.{◌≡◌, ◌+◌, ℕ, ◌==◌, if◌then◌else◌, List, [], ◌∷◌, ◌++◌, length, replicate, slice_index, take}
 use Rattle.std.specs.Prelude.{Option, Some, None, Result, Ok}
 use Rattle.goblin_base.specs.declared.container.Container.{Container}
-use Rattle.goblin_base.specs.declared.container.Container.TheVariants as class
-use Rattle.goblin_base.specs.declared.container.Endian.{Endian}
-use Rattle.goblin_base.specs.declared.container.Endian.TheVariants as endian
 use Rattle.goblin_base.specs.declared.container.Ctx.{Ctx}
+use Rattle.goblin_base.specs.declared.container.Endian.{Endian}
 use Rattle.goblin_base.specs.declared.error.Error.{Error}
 use Rattle.goblin_base.specs.declared.error.Error.TheVariants.{Malformed}
 use Rattle.goblin_base.specs.declared.error.Fault.{Fault}
 use Rattle.goblin_base.specs.declared.error.Fault.TheVariants.{InvalidClass, InvalidEndianness}
-use Rattle.goblin_base.specs.Fields.{values_of, Field, field, FieldsFit, image_of_fields, values_at, widths_of, lows_of}
-use Rattle.goblin_base.specs.Steps.{◌>>=◌, or_refuse}
+use Rattle.goblin_base.specs.Common.{values_of, Field, field, FieldsFit, image_of_fields, values_at, total, widths_of}
+use Rattle.goblin_base.specs.Common.{lows_of, Layout, widened, ◌>>=◌, or_refuse}
+use Rattle.goblin_base.specs.declared.container.Container.TheVariants as class
+use Rattle.goblin_base.specs.declared.container.Endian.TheVariants as endian
 use Rattle.goblin_headers.specs.declared.header.Header.{Header}
 use Rattle.goblin_headers.specs.declared.header32.Header.{Header as Raw32}
 use Rattle.goblin_headers.specs.declared.header64.Header.{Header as Raw64}
@@ -20,113 +20,91 @@ use Rattle.goblin_headers.specs.SectionHeader.{section_header_size}
 use Rattle.goblin_headers.specs.SectionHeaders.{names_index}
 use Rattle.goblin_headers.specs.declared.section_header.SectionHeader.{SectionHeader}
 
--- ---- the 32-bit class
--- the size of a 32-bit header in bytes
-abbrev pub header32_size : ℕ
-header32_size = 52
+-- ---- one class
+-- the shape of a header: its identification, the fields that follow it in file order, and the header with this
+-- identification and these values of its other fields; a missing value is 0
+--
+--     bytes | identification | field 0 | field 1 | ..
+--             16               w0        w1        ..
+pub record HeaderShape (R : Type 0) : Type 0 where
+  pub ident : R → List ℕ
+  pub fields : R → List Field
+  pub of_values : List ℕ → List ℕ → R
 
--- the fields of a 32-bit header after its identification, in file order, each with its width in bytes
-abbrev pub header32_fields : Raw32 → List Field
-header32_fields h =
-    field 2 h.e_type ∷ field 2 h.e_machine ∷ field 4 h.e_version ∷ field 4 h.e_entry ∷ field 4 h.e_phoff
-    ∷ field 4 h.e_shoff ∷ field 4 h.e_flags ∷ field 2 h.e_ehsize ∷ field 2 h.e_phentsize ∷ field 2 h.e_phnum
-    ∷ field 2 h.e_shentsize ∷ field 2 h.e_shnum ∷ field 2 h.e_shstrndx ∷ []
+-- the widths of the fields after the identification
+abbrev pub field_widths : {R : Type 0} → HeaderShape R → List ℕ
+field_widths s = widths_of (s.fields (s.of_values [] []))
 
--- the 32-bit header with this identification and these values of its other fields, in file order; a missing value is 0
-abbrev pub header32_of_values : List ℕ → List ℕ → Raw32
-header32_of_values ident values = record {
-  e_ident = ident;
-  e_type = slice_index values 0;
-  e_machine = slice_index values 1;
-  e_version = slice_index values 2;
-  e_entry = slice_index values 3;
-  e_phoff = slice_index values 4;
-  e_shoff = slice_index values 5;
-  e_flags = slice_index values 6;
-  e_ehsize = slice_index values 7;
-  e_phentsize = slice_index values 8;
-  e_phnum = slice_index values 9;
-  e_shentsize = slice_index values 10;
-  e_shnum = slice_index values 11;
-  e_shstrndx = slice_index values 12;
+-- the header with the low bits of each field after its identification, as many as its width holds
+abbrev pub low_header : {R : Type 0} → HeaderShape R → R → R
+low_header s h = s.of_values (s.ident h) (lows_of (s.fields h))
+
+-- headers of a shape in a byte order: the first 16 bytes are as they are, then each field is the number at its offset
+abbrev pub headed : {R : Type 0} → HeaderShape R → Endian → Layout R
+headed s order = record {
+  size = 16 + total (field_widths s);
+  read = λ bytes. s.of_values (take 16 bytes) (values_at order bytes 16 (field_widths s));
+  image = λ h. s.ident h ++ image_of_fields order (s.fields h);
+  low = low_header s;
+  Fits = λ h. FieldsFit (s.fields h);
 }
 
--- the widths of these fields, in the same order
-abbrev pub header32_widths : List ℕ
-header32_widths = widths_of (header32_fields (header32_of_values [] []))
-
--- the 32-bit header read from bytes: the first 16 bytes as they are, then each field as the number at its offset
-abbrev pub header32_of : Endian → List ℕ → Raw32
-header32_of order bytes = header32_of_values (take 16 bytes) (values_at order bytes 16 header32_widths)
-
--- each field after the identification is in the range of its width
-abbrev pub Header32Fits : Raw32 → Type 0
-Header32Fits h = FieldsFit (header32_fields h)
-
--- the bytes that a 32-bit header is written as: its identification as it is, then the other fields
-abbrev pub header32_image : Endian → Raw32 → List ℕ
-header32_image order h = h.e_ident ++ image_of_fields order (header32_fields h)
-
--- the 32-bit header with the low bits of each field after its identification, as many as its width holds
-abbrev pub header32_low : Raw32 → Raw32
-header32_low h = header32_of_values h.e_ident (lows_of (header32_fields h))
-
--- ---- the 64-bit class
--- the size of a 64-bit header in bytes
-abbrev pub header64_size : ℕ
-header64_size = 64
-
--- the fields of a 64-bit header after its identification, in file order, each with its width in bytes
-abbrev pub header64_fields : Raw64 → List Field
-header64_fields h =
-    field 2 h.e_type ∷ field 2 h.e_machine ∷ field 4 h.e_version ∷ field 8 h.e_entry ∷ field 8 h.e_phoff
-    ∷ field 8 h.e_shoff ∷ field 4 h.e_flags ∷ field 2 h.e_ehsize ∷ field 2 h.e_phentsize ∷ field 2 h.e_phnum
-    ∷ field 2 h.e_shentsize ∷ field 2 h.e_shnum ∷ field 2 h.e_shstrndx ∷ []
-
--- the 64-bit header with this identification and these values of its other fields, in file order; a missing value is 0
-abbrev pub header64_of_values : List ℕ → List ℕ → Raw64
-header64_of_values ident values = record {
-  e_ident = ident;
-  e_type = slice_index values 0;
-  e_machine = slice_index values 1;
-  e_version = slice_index values 2;
-  e_entry = slice_index values 3;
-  e_phoff = slice_index values 4;
-  e_shoff = slice_index values 5;
-  e_flags = slice_index values 6;
-  e_ehsize = slice_index values 7;
-  e_phentsize = slice_index values 8;
-  e_phnum = slice_index values 9;
-  e_shentsize = slice_index values 10;
-  e_shnum = slice_index values 11;
-  e_shstrndx = slice_index values 12;
+-- the shape of the headers of each class
+abbrev pub header32 : HeaderShape Raw32
+header32 = record {
+  ident = λ h. h.e_ident;
+  fields = λ h.
+      field 2 h.e_type ∷ field 2 h.e_machine ∷ field 4 h.e_version ∷ field 4 h.e_entry ∷ field 4 h.e_phoff
+      ∷ field 4 h.e_shoff ∷ field 4 h.e_flags ∷ field 2 h.e_ehsize ∷ field 2 h.e_phentsize ∷ field 2 h.e_phnum
+      ∷ field 2 h.e_shentsize ∷ field 2 h.e_shnum ∷ field 2 h.e_shstrndx ∷ [];
+  of_values = λ ident values. record {
+    e_ident = ident;
+    e_type = slice_index values 0;
+    e_machine = slice_index values 1;
+    e_version = slice_index values 2;
+    e_entry = slice_index values 3;
+    e_phoff = slice_index values 4;
+    e_shoff = slice_index values 5;
+    e_flags = slice_index values 6;
+    e_ehsize = slice_index values 7;
+    e_phentsize = slice_index values 8;
+    e_phnum = slice_index values 9;
+    e_shentsize = slice_index values 10;
+    e_shnum = slice_index values 11;
+    e_shstrndx = slice_index values 12;
+  };
 }
 
--- the widths of these fields, in the same order
-abbrev pub header64_widths : List ℕ
-header64_widths = widths_of (header64_fields (header64_of_values [] []))
-
--- the 64-bit header read from bytes: the first 16 bytes as they are, then each field as the number at its offset
-abbrev pub header64_of : Endian → List ℕ → Raw64
-header64_of order bytes = header64_of_values (take 16 bytes) (values_at order bytes 16 header64_widths)
-
--- each field after the identification is in the range of its width
-abbrev pub Header64Fits : Raw64 → Type 0
-Header64Fits h = FieldsFit (header64_fields h)
-
--- the bytes that a 64-bit header is written as: its identification as it is, then the other fields
-abbrev pub header64_image : Endian → Raw64 → List ℕ
-header64_image order h = h.e_ident ++ image_of_fields order (header64_fields h)
-
--- the 64-bit header with the low bits of each field after its identification, as many as its width holds
-abbrev pub header64_low : Raw64 → Raw64
-header64_low h = header64_of_values h.e_ident (lows_of (header64_fields h))
+abbrev pub header64 : HeaderShape Raw64
+header64 = record {
+  ident = λ h. h.e_ident;
+  fields = λ h.
+      field 2 h.e_type ∷ field 2 h.e_machine ∷ field 4 h.e_version ∷ field 8 h.e_entry ∷ field 8 h.e_phoff
+      ∷ field 8 h.e_shoff ∷ field 4 h.e_flags ∷ field 2 h.e_ehsize ∷ field 2 h.e_phentsize ∷ field 2 h.e_phnum
+      ∷ field 2 h.e_shentsize ∷ field 2 h.e_shnum ∷ field 2 h.e_shstrndx ∷ [];
+  of_values = λ ident values. record {
+    e_ident = ident;
+    e_type = slice_index values 0;
+    e_machine = slice_index values 1;
+    e_version = slice_index values 2;
+    e_entry = slice_index values 3;
+    e_phoff = slice_index values 4;
+    e_shoff = slice_index values 5;
+    e_flags = slice_index values 6;
+    e_ehsize = slice_index values 7;
+    e_phentsize = slice_index values 8;
+    e_phnum = slice_index values 9;
+    e_shentsize = slice_index values 10;
+    e_shnum = slice_index values 11;
+    e_shstrndx = slice_index values 12;
+  };
+}
 
 -- ---- either class
 -- the size of a header in bytes
 abbrev pub header_size : Container → ℕ
-header_size class.Little = header32_size
-header_size class.Big = header64_size
+header_size class.Little = 52
+header_size class.Big = 64
 
 -- the four bytes that every ELF file begins with
 abbrev pub magic : List ℕ
@@ -206,37 +184,26 @@ header_of_values ident values = record {
 
 -- the header with the fields of a raw one
 abbrev pub widened32 : Raw32 → Header
-widened32 h = header_of_values h.e_ident (values_of (header32_fields h))
+widened32 h = header_of_values h.e_ident (values_of (header32.fields h))
 
 abbrev pub widened64 : Raw64 → Header
-widened64 h = header_of_values h.e_ident (values_of (header64_fields h))
+widened64 h = header_of_values h.e_ident (values_of (header64.fields h))
 
 -- the raw header with the same fields, whether they fit or not
 abbrev pub as32 : Header → Raw32
-as32 h = header32_of_values h.e_ident (header_values h)
+as32 h = header32.of_values h.e_ident (header_values h)
 
 abbrev pub as64 : Header → Raw64
-as64 h = header64_of_values h.e_ident (header_values h)
+as64 h = header64.of_values h.e_ident (header_values h)
 
--- the header read from bytes in a class and a byte order
-abbrev pub header_of : Container → Endian → List ℕ → Header
-header_of class.Little order bytes = widened32 (header32_of order bytes)
-header_of class.Big order bytes = widened64 (header64_of order bytes)
+-- how the headers of each class lie in bytes: as the raw ones of the class
+abbrev pub raw_layout : Container → Endian → Layout Header
+raw_layout class.Little order = widened widened32 as32 (headed header32 order)
+raw_layout class.Big order = widened widened64 as64 (headed header64 order)
 
--- the bytes that a header is written as in a class and a byte order
-abbrev pub header_image : Container → Endian → Header → List ℕ
-header_image class.Little order h = header32_image order (as32 h)
-header_image class.Big order h = header64_image order (as64 h)
-
--- each field of a header is in the range of its width in a class
-abbrev pub HeaderFits : Container → Header → Type 0
-HeaderFits class.Little h = Header32Fits (as32 h)
-HeaderFits class.Big h = Header64Fits (as64 h)
-
--- the header with the low bits of each field after its identification, as many as its width in a class holds
-abbrev pub header_low : Container → Header → Header
-header_low class.Little h = widened32 (header32_low (as32 h))
-header_low class.Big h = widened64 (header64_low (as64 h))
+-- how headers of a class and a byte order lie in bytes
+abbrev pub header_layout : Container → Endian → Layout Header
+header_layout class order = record (raw_layout class order) { size = header_size class }
 
 -- the identification of a new file in a context, version 1, with all other bytes 0
 abbrev pub new_ident : Ctx → List ℕ

@@ -6,70 +6,65 @@ use Rattle.goblin_base.specs.declared.container.Ctx.{Ctx}
 use Rattle.goblin_base.specs.declared.container.Endian.{Endian}
 use Rattle.goblin_base.specs.declared.error.Error.{Error}
 use Rattle.goblin_base.specs.declared.error.Fault.{Fault}
-use Rattle.goblin_base.specs.Number.{IsBytes}
+use Rattle.goblin_base.specs.Common.{Layout, IsBytes}
 use Rattle.goblin_headers.specs.declared.header.Header.{Header}
-use Rattle.goblin_headers.specs.Header.{header_size, header_of, header_image, header_low, HeaderFits, NamesOrder}
-use Rattle.goblin_headers.specs.Header.{Identifies, new_header}
-use Rattle.goblin_headers.specs.ReadHeader.{read_header}
-use Rattle.goblin_headers.specs.WriteHeader.{WritesHeader}
+use Rattle.goblin_headers.specs.Header.{header_size, header_layout, NamesOrder, Identifies, new_header}
+use Rattle.goblin_headers.specs.ReadHeader.{read_in_order, read_header}
+use Rattle.goblin_headers.specs.WriteHeader.{WritesInOrder, WritesHeader}
 
 -- the image of a header is the only list of bytes of its size that is read as its identification and the low bits of
 -- its other fields
-abbrev pub IsOneHeaderImage : {R : Type 0}
-    → ℕ → (R → List ℕ) → (Endian → List ℕ → R) → (Endian → R → List ℕ) → (R → R) → Type 0
-IsOneHeaderImage {R = R} size ident read image low =
+abbrev pub IsOneHeaderImage : {R : Type 0} → (R → List ℕ) → (Endian → Layout R) → Type 0
+IsOneHeaderImage {R = R} ident layout =
     (order : Endian) (h : R) (bytes : List ℕ)
     → length (ident h) ≡ 16 → IsBytes (ident h)
-    → (bytes ≡ image order h) ↔ (IsBytes bytes × (length bytes ≡ size) × (read order bytes ≡ low h))
+    → let l = layout order in
+    (bytes ≡ l.image h) ↔ (IsBytes bytes × (length bytes ≡ l.size) × (l.read bytes ≡ l.low h))
 
 -- a header that fits is read back from its image in the byte order that it names, whatever bytes follow
-abbrev pub IsReadBack : {R : Type 0}
-    → (R → List ℕ) → (R → Type 0) → (Endian → R → List ℕ) → ((ℕ → Fault) → List ℕ → Result R Error) → Type 0
-IsReadBack {R = R} ident Fits image read =
+abbrev pub IsReadBack : {R : Type 0} → (R → List ℕ) → (Endian → Layout R) → Type 0
+IsReadBack {R = R} ident layout =
     (fault : ℕ → Fault) (order : Endian) (h : R) (rest : List ℕ)
-    → NamesOrder order (ident h) → Fits h
-    → read fault (image order h ++ rest) ≡ Ok h
+    → NamesOrder order (ident h) → (layout order).Fits h
+    → read_in_order layout fault ((layout order).image h ++ rest) ≡ Ok h
 
 -- it is written if the buffer holds it, and then read back
-abbrev pub IsWrittenAndReadBack : {R : Type 0}
-    → ℕ → (R → List ℕ) → (R → Type 0) → (R → List ℕ → Result ℕ Error → List ℕ → Type 0)
-    → ((ℕ → Fault) → List ℕ → Result R Error)
-    → Type 0
-IsWrittenAndReadBack {R = R} size ident Fits Writes read =
+abbrev pub IsWrittenAndReadBack : {R : Type 0} → (R → List ℕ) → (Endian → Layout R) → Type 0
+IsWrittenAndReadBack {R = R} ident layout =
     (fault : ℕ → Fault) (order : Endian) (h : R) (old new : List ℕ) (answer : Result ℕ Error)
-    → NamesOrder order (ident h) → Fits h → size ≤ length old
-    → Writes h old answer new
-    → (answer ≡ Ok size) × (read fault new ≡ Ok h)
+    → NamesOrder order (ident h) → (layout order).Fits h → (layout order).size ≤ length old
+    → WritesInOrder (ident h) layout h old answer new
+    → (answer ≡ Ok (layout order).size) × (read_in_order layout fault new ≡ Ok h)
 
 -- a header that was read is written over the bytes that it was read from, and they don't change
-abbrev pub IsWrittenBack : {R : Type 0}
-    → ℕ → ((ℕ → Fault) → List ℕ → Result R Error) → (R → List ℕ → Result ℕ Error → List ℕ → Type 0) → Type 0
-IsWrittenBack {R = R} size read Writes =
+abbrev pub IsWrittenBack : {R : Type 0} → ℕ → (R → List ℕ) → (Endian → Layout R) → Type 0
+IsWrittenBack {R = R} size ident layout =
     (fault : ℕ → Fault) (h : R) (bytes new : List ℕ) (answer : Result ℕ Error)
     → IsBytes bytes
-    → read fault bytes ≡ Ok h
-    → Writes h bytes answer new
+    → read_in_order layout fault bytes ≡ Ok h
+    → WritesInOrder (ident h) layout h bytes answer new
     → (answer ≡ Ok size) × (new ≡ bytes)
 
 -- the image of a header in a class is the only list of bytes that is read as it
 abbrev pub OneImage : Type 0
-OneImage = (class : Container)
-    → IsOneHeaderImage (header_size class) (λ h. h.e_ident) (header_of class) (header_image class) (header_low class)
+OneImage = (class : Container) → IsOneHeaderImage (λ h. h.e_ident) (header_layout class)
 
 -- a header that fits is read back from its image in the class and the byte order that it names, whatever bytes follow
 abbrev pub ReadsBack : Type 0
 ReadsBack =
     (class : Container) (order : Endian) (h : Header) (rest : List ℕ)
-    → Identifies class order h.e_ident → HeaderFits class h
-    → read_header (header_image class order h ++ rest) ≡ Ok (h, header_size class)
+    → let l = header_layout class order in
+    Identifies class order h.e_ident → l.Fits h
+    → read_header (l.image h ++ rest) ≡ Ok (h, l.size)
 
 -- it is written if the buffer holds it, and then read back
 abbrev pub WrittenAndReadBack : Type 0
 WrittenAndReadBack =
     (class : Container) (order : Endian) (h : Header) (old new : List ℕ) (answer : Result ℕ Error)
-    → Identifies class order h.e_ident → HeaderFits class h → header_size class ≤ length old
+    → let l = header_layout class order in
+    Identifies class order h.e_ident → l.Fits h → l.size ≤ length old
     → WritesHeader h old answer new
-    → (answer ≡ Ok (header_size class)) × (read_header new ≡ Ok (h, header_size class))
+    → (answer ≡ Ok l.size) × (read_header new ≡ Ok (h, l.size))
 
 -- a header that was read names a class and a byte order, and its image in these is the bytes that it was read from
 abbrev pub ImageOfRead : Type 0
@@ -78,7 +73,7 @@ ImageOfRead =
     → IsBytes bytes
     → read_header bytes ≡ Ok (h, size)
     → (class : Container) × (order : Endian) × Identifies class order h.e_ident × (size ≡ header_size class)
-    × (header_image class order h ≡ take size bytes)
+    × ((header_layout class order).image h ≡ take size bytes)
 
 -- it is written over the bytes that it was read from, and they don't change
 abbrev pub WritesBack : Type 0
@@ -93,10 +88,12 @@ WritesBack =
 abbrev pub NewIsOfContext : Type 0
 NewIsOfContext =
     (ctx : Ctx)
-    → Identifies ctx.container ctx.le (new_header ctx).e_ident × HeaderFits ctx.container (new_header ctx)
+    → let new = new_header ctx in
+    Identifies ctx.container ctx.le new.e_ident × (header_layout ctx.container ctx.le).Fits new
 
 -- a new header is read back from its image
 abbrev pub NewIsReadBack : Type 0
 NewIsReadBack =
     (ctx : Ctx)
-    → read_header (header_image ctx.container ctx.le (new_header ctx)) ≡ Ok (new_header ctx, header_size ctx.container)
+    → let l = header_layout ctx.container ctx.le in
+    read_header (l.image (new_header ctx)) ≡ Ok (new_header ctx, l.size)

@@ -15,4 +15,3 @@ pub mod SectionNames
 pub mod SegmentNames
 pub mod WholePart
 pub mod WriteHeader
-pub mod WriteHeaderLaws

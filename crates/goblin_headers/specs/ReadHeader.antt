@@ -2,23 +2,26 @@
 use Rattle.std.specs.Prelude.{ℕ, nat_lt, nat_eq, not, List, length, Result, Ok}
 use Rattle.std.specs.List.{starts_with}
 use Rattle.goblin_base.specs.declared.container.Endian.{Endian}
-use Rattle.goblin_base.specs.declared.container.Endian.TheVariants as endian
 use Rattle.goblin_base.specs.declared.error.Error.{Error}
 use Rattle.goblin_base.specs.declared.error.Error.TheVariants.{Malformed, BadMagic, Scroll}
 use Rattle.goblin_base.specs.declared.error.Fault.{Fault}
 use Rattle.goblin_base.specs.declared.error.Fault.TheVariants.{TooSmall, ElfClass, DataType}
-use Rattle.goblin_base.specs.Number.{number_at}
-use Rattle.goblin_base.specs.Room.{room_of}
-use Rattle.goblin_base.specs.Steps.{◌>>=◌, refuse_if, refuse_as}
+use Rattle.goblin_base.specs.Common.{Layout, number_at, room_of, ◌>>=◌, refuse_if, refuse_as, with_size}
+use Rattle.goblin_base.specs.declared.container.Endian.TheVariants as endian
 use Rattle.goblin_headers.specs.declared.header.Header.{Header}
-use Rattle.goblin_headers.specs.declared.header32.Header.{Header as Raw32}
-use Rattle.goblin_headers.specs.declared.header64.Header.{Header as Raw64}
-use Rattle.goblin_headers.specs.Header.{header_size, magic, class_of, order_of, header_of, header32_size, header32_of}
-use Rattle.goblin_headers.specs.Header.{header64_size, header64_of}
+use Rattle.goblin_headers.specs.Header.{header_size, header_layout, magic, class_of, order_of}
 
 -- the bytes are at least this many
 abbrev pub needs : ℕ → List ℕ → Result (Unit {0}) Error
 needs size bytes = refuse_as Scroll (room_of (length bytes) 0 size)
+
+-- a header in the byte order that its data byte names; a wrong data byte is this fault
+unfoldable pub read_in_order : {R : Type 0} → (Endian → Layout R) → (ℕ → Fault) → List ℕ → Result R Error
+read_in_order layout fault bytes = do
+  _ ← needs 16 bytes
+  order ← order_of fault bytes
+  _ ← needs (layout order).size bytes
+  Ok ((layout order).read bytes)
 
 -- a header of either class, and its size
 unfoldable pub read_header : List ℕ → Result (Header × ℕ) Error
@@ -26,22 +29,4 @@ read_header bytes = do
   _ ← refuse_if (nat_lt (length bytes) 16) (Malformed TooSmall)
   _ ← refuse_if (not (starts_with nat_eq bytes magic)) (BadMagic (number_at endian.Little bytes 0 8))
   class ← class_of ElfClass bytes
-  order ← order_of DataType bytes
-  _ ← needs (header_size class) bytes
-  Ok (header_of class order bytes, header_size class)
-
--- a header of a size, read in the byte order that its data byte names; a wrong data byte is this fault
-unfoldable pub read_in_order : {R : Type 0} → ℕ → (Endian → List ℕ → R) → (ℕ → Fault) → List ℕ → Result R Error
-read_in_order size read fault bytes = do
-  _ ← needs 16 bytes
-  order ← order_of fault bytes
-  _ ← needs size bytes
-  Ok (read order bytes)
-
--- a 32-bit header, where a wrong data byte is this fault
-abbrev pub read_header32 : (ℕ → Fault) → List ℕ → Result Raw32 Error
-read_header32 = read_in_order header32_size header32_of
-
--- a 64-bit header, where a wrong data byte is this fault
-abbrev pub read_header64 : (ℕ → Fault) → List ℕ → Result Raw64 Error
-read_header64 = read_in_order header64_size header64_of
+  with_size (header_size class) (read_in_order (header_layout class) DataType bytes)

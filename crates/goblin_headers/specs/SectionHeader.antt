@@ -1,10 +1,9 @@
 -- Section headers of either class (System V gABI, "Section Header").
 use Rattle.std.specs.Prelude.{ℕ, List, [], ◌∷◌, slice_index}
 use Rattle.goblin_base.specs.declared.container.Container.{Container}
-use Rattle.goblin_base.specs.declared.container.Container.TheVariants.{Little, Big}
 use Rattle.goblin_base.specs.declared.container.Endian.{Endian}
-use Rattle.goblin_base.specs.Fields.{field, FieldsFit, values_of}
-use Rattle.goblin_base.specs.Layout.{Layout, Shape, shaped, low_bits}
+use Rattle.goblin_base.specs.Common.{field, values_of, Layout, Shape, shaped, widened}
+use Rattle.goblin_base.specs.declared.container.Container.TheVariants.{Little, Big}
 use Rattle.goblin_headers.specs.declared.section_header.SectionHeader.{SectionHeader}
 use Rattle.goblin_headers.specs.declared.section_header32.SectionHeader.{SectionHeader as Raw32}
 use Rattle.goblin_headers.specs.declared.section_header64.SectionHeader.{SectionHeader as Raw64}
@@ -57,13 +56,7 @@ abbrev pub section_header_size : Container → ℕ
 section_header_size Little = 40
 section_header_size Big = 64
 
--- the values of the fields of a section header in file order, which is the same in both classes
-abbrev pub section_header_values : SectionHeader → List ℕ
-section_header_values h =
-    h.sh_name ∷ h.sh_type ∷ h.sh_flags ∷ h.sh_addr ∷ h.sh_offset ∷ h.sh_size ∷ h.sh_link ∷ h.sh_info ∷ h.sh_addralign
-    ∷ h.sh_entsize ∷ []
-
--- the section header with these field values
+-- the section header with these field values, in file order, which is the same in both classes
 abbrev pub section_header_of_values : List ℕ → SectionHeader
 section_header_of_values values = record {
   sh_name = slice_index values 0;
@@ -77,6 +70,12 @@ section_header_of_values values = record {
   sh_addralign = slice_index values 8;
   sh_entsize = slice_index values 9;
 }
+
+-- the values of the fields of a section header in file order, which is the same in both classes
+abbrev pub section_header_values : SectionHeader → List ℕ
+section_header_values h =
+    h.sh_name ∷ h.sh_type ∷ h.sh_flags ∷ h.sh_addr ∷ h.sh_offset ∷ h.sh_size ∷ h.sh_link ∷ h.sh_info ∷ h.sh_addralign
+    ∷ h.sh_entsize ∷ []
 
 -- the section header with the fields of a raw one
 abbrev pub widened32 : Raw32 → SectionHeader
@@ -92,32 +91,19 @@ as32 h = section_header32.of_values (section_header_values h)
 abbrev pub as64 : SectionHeader → Raw64
 as64 h = section_header64.of_values (section_header_values h)
 
--- the section header read from bytes in a class
-abbrev pub section_header_of : Container → Endian → List ℕ → SectionHeader
-section_header_of Little order bytes = widened32 ((shaped section_header32 order).read bytes)
-section_header_of Big order bytes = widened64 ((shaped section_header64 order).read bytes)
-
--- each field of a section header is in the range of its width in a class
-abbrev pub SectionHeaderFits : Container → SectionHeader → Type 0
-SectionHeaderFits Little h = FieldsFit (section_header32.fields (as32 h))
-SectionHeaderFits Big h = FieldsFit (section_header64.fields (as64 h))
-
--- the bytes that a section header is written as in a class
-abbrev pub section_header_image : Container → Endian → SectionHeader → List ℕ
-section_header_image Little order h = (shaped section_header32 order).image (as32 h)
-section_header_image Big order h = (shaped section_header64 order).image (as64 h)
-
--- the section header with the low bits of each field, as many as its width in a class holds
-abbrev pub section_header_low : Container → SectionHeader → SectionHeader
-section_header_low Little h = widened32 (low_bits section_header32 (as32 h))
-section_header_low Big h = widened64 (low_bits section_header64 (as64 h))
+-- how the section headers of each class lie in bytes: as the raw ones of the class
+abbrev pub raw_layout : Container → Endian → Layout SectionHeader
+raw_layout Little order = widened widened32 as32 (shaped section_header32 order)
+raw_layout Big order = widened widened64 as64 (shaped section_header64 order)
 
 -- how section headers of a class and a byte order lie in bytes
 abbrev pub section_header_layout : Container → Endian → Layout SectionHeader
-section_header_layout class order = record {
-  size = section_header_size class;
-  read = section_header_of class order;
-  image = section_header_image class order;
-  low = section_header_low class;
-  Fits = SectionHeaderFits class;
-}
+section_header_layout class order = record (raw_layout class order) { size = section_header_size class }
+
+-- the section header read from bytes in a class
+abbrev pub section_header_of : Container → Endian → List ℕ → SectionHeader
+section_header_of class order = (section_header_layout class order).read
+
+-- the bytes that a section header is written as in a class
+abbrev pub section_header_image : Container → Endian → SectionHeader → List ℕ
+section_header_image class order = (section_header_layout class order).image

@@ -10,11 +10,9 @@ use crate::program_header::ProgramHeader;
 use crate::section_header::SectionHeader;
 pub use crate::{header32, header64};
 use goblin_base::container::{Container, Ctx, Endian};
-use goblin_base::error::{Error, Fault, Result};
+use goblin_base::error::{Cloned, Error, Fault, Result};
 use goblin_base::number::get_u64;
 use goblin_base::scroll::{BE, IntoCtx, LE, SizeWith, TryFromCtx, TryIntoCtx};
-use std::alloc::AllocError;
-use std::result;
 
 /// The header of a file of either class.
 ///
@@ -219,7 +217,7 @@ impl TryIntoCtx<Endian> for Header {
 /// or 2. The buffer must hold a header of the class.
 impl IntoCtx<Ctx> for Header {
     ghost use Rattle.std.specs.Prelude.{IsSome, IfSome, slice_index};
-    ghost use Rattle.goblin_headers.specs.Header.{header_image};
+    ghost use Rattle.goblin_headers.specs.Header.{header_layout};
 
     ghost can_into = { λ header ctx old.
         (header_size ctx.container ≤ length old)
@@ -227,7 +225,7 @@ impl IntoCtx<Ctx> for Header {
 
     ghost into_gives = { λ header ctx old new.
         IfSome (order_named (slice_index header.e_ident 5)) (λ order.
-        new ≡ header_image ctx.container order header ++ drop (header_size ctx.container) old) };
+        let l = header_layout ctx.container order in new ≡ l.image header ++ drop l.size old) };
 
     fn into_ctx(self, bytes: &mut [u8], ctx: Ctx) {
         let Some(order) = order_of(self.e_ident[EI_DATA]) else {
@@ -262,7 +260,7 @@ pub fn laws()
 
 /// Laws: `==` is true exactly if all fields of two headers are equal. `clone` returns the header,
 /// and never fails. A call returns both.
-pub fn derived(header: &Header, other: &Header) -> (bool, result::Result<Header, AllocError>)
+pub fn derived(header: &Header, other: &Header) -> (bool, Cloned<Header>)
     ensures equal { IsTrue result.0 ↔ (header.now ≡ other.now) }
     ensures clone { result.1 ≡ Ok header.now }
 {

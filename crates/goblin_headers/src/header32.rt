@@ -1,22 +1,21 @@
 //! The header of a 32-bit ELF file: System V gABI, "ELF Header", `Elf32_Ehdr`.
 ghost use Rattle.std.specs.Prelude.{◌≡◌, ◌≤◌, ◌↔◌, ◌++◌, IsTrue, length, drop, replicate, [], ◌∷◌};
-ghost use Rattle.goblin_base.specs.Fields.{values_of};
+ghost use Rattle.goblin_base.specs.Common.{values_of};
 ghost use Rattle.goblin_headers.specs.Constants.{class_numbers, data_numbers, file_type_numbers, ident_place_numbers, ident_size_numbers, system_numbers, unnamed_machine_numbers};
-ghost use Rattle.goblin_headers.specs.Header.{magic, header32_of, header32_image, header32_size, header32_fields, header32_low, Header32Fits};
+ghost use Rattle.goblin_headers.specs.Header.{magic, headed, header32, low_header, widened32, as32};
 ghost use Rattle.goblin_headers.specs.HeaderTrips.{IsOneHeaderImage, IsReadBack, IsWrittenAndReadBack, IsWrittenBack};
 ghost use Rattle.goblin_headers.specs.Machines.{machine_numbers};
-ghost use Rattle.goblin_headers.specs.ReadHeader.{read_header32};
-ghost use Rattle.goblin_headers.specs.WriteHeader.{WritesHeader32};
+ghost use Rattle.goblin_headers.specs.ReadHeader.{read_in_order};
+ghost use Rattle.goblin_headers.specs.WriteHeader.{WritesInOrder};
+ghost use Rattle.goblin_base.specs.declared.error.Fault.TheVariants as faults;
 
 use crate::header::Header as ElfHeader;
 use crate::ident::{ident_of, order_of, put_ident};
 use goblin_base::container::Endian;
-use goblin_base::error::{Error, Fault, Result};
+use goblin_base::error::{Cloned, Error, Fault, Result};
 use goblin_base::number::{get_u16, get_u32, put_u16, put_u32};
 use goblin_base::room::room;
 use goblin_base::scroll::{LE, TryFromCtx, TryIntoCtx};
-use std::alloc::AllocError;
-use std::result;
 
 /// The size of a header in bytes.
 pub const SIZEOF_EHDR: usize = 52;
@@ -58,12 +57,11 @@ pub struct Header {
 
 impl Header {
     ghost use Rattle.goblin_base.specs.declared.container.Endian.TheVariants as endian;
-    ghost use Rattle.goblin_base.specs.declared.error.Fault.TheVariants as faults;
 
     // Reads the header at the start of the bytes in this byte order.
     fn at(bytes: &[u8], order: Endian) -> Header
-        requires { header32_size ≤ length bytes.now }
-        ensures { result ≡ header32_of order bytes.now }
+        requires { SIZEOF_EHDR ≤ length bytes.now }
+        ensures { result ≡ (headed header32 order).read bytes.now }
     {
         let e_ident = ident_of(bytes);
         Header {
@@ -86,8 +84,8 @@ impl Header {
 
     // Writes the header at the start of the bytes in this byte order.
     pub(crate) fn put(&self, bytes: &mut [u8], order: Endian)
-        requires { header32_size ≤ length bytes.old }
-        ensures { bytes.new ≡ header32_image order self.now ++ drop header32_size bytes.old }
+        requires { SIZEOF_EHDR ≤ length bytes.old }
+        ensures { let l = headed header32 order in bytes.new ≡ l.image self.now ++ drop l.size bytes.old }
     {
         put_ident(bytes, &self.e_ident);
         put_u16(bytes, 16, self.e_type, order);
@@ -107,7 +105,7 @@ impl Header {
 
     /// Reads a header as little endian, whatever its data byte is.
     pub fn from_bytes(bytes: &[u8; SIZEOF_EHDR]) -> Header
-        ensures { result ≡ header32_of endian.Little bytes.now }
+        ensures { result ≡ (headed header32 endian.Little).read bytes.now }
     {
         Header::at(bytes, LE)
     }
@@ -121,9 +119,9 @@ impl Header {
     /// - The fault of `room`: the bytes don't hold the 16 bytes of the identification.
     /// - `Data`: the data byte is neither 1 nor 2.
     /// - The fault of `room`: the bytes don't hold the 52 bytes of a header.
-    #[tactic(auto, unfolding(crate::specs::ReadHeader::read_in_order))]
+    #[tactic(auto, using(crate::proofs::RawTrips::reads_found), unfolding(crate::specs::ReadHeader::read_in_order))]
     pub fn parse(bytes: &[u8]) -> Result<Header>
-        ensures { result ≡ read_header32 faults.Data bytes.now }
+        ensures { result ≡ read_in_order (headed header32) faults.Data bytes.now }
     {
         room(bytes.len(), 0, SIZEOF_IDENT)?;
         let Some(order) = order_of(bytes[EI_DATA]) else {
@@ -135,8 +133,6 @@ impl Header {
 }
 
 impl From<Header> for ElfHeader {
-    ghost use Rattle.goblin_headers.specs.Header.{widened32};
-
     ghost from_gives = { λ raw header. header ≡ widened32 raw };
 
     fn from(header: Header) -> ElfHeader {
@@ -162,9 +158,7 @@ impl From<Header> for ElfHeader {
 
 /// Keeps the low 32 bits of the entry point and of the two offsets.
 impl From<ElfHeader> for Header {
-    ghost use Rattle.goblin_headers.specs.Header.{as32};
-
-    ghost from_gives = { λ header raw. raw ≡ header32_low (as32 header) };
+    ghost from_gives = { λ header raw. raw ≡ low_header header32 (as32 header) };
 
     fn from(header: ElfHeader) -> Header {
         let e_ident = header.e_ident;
@@ -194,13 +188,12 @@ impl From<ElfHeader> for Header {
 ///
 /// Those of [`Header::parse`], with `DataType` in place of `Data`.
 impl<'a> TryFromCtx<'a, Endian> for Header {
-    ghost use Rattle.goblin_base.specs.declared.error.Fault.TheVariants as faults;
     ghost use Rattle.goblin_base.specs.Steps.{with_size};
 
     ghost try_from_gives = { λ bytes _ answer.
-        answer ≡ with_size header32_size (read_header32 faults.DataType bytes) };
+        answer ≡ with_size 52 (read_in_order (headed header32) faults.DataType bytes) };
 
-    #[tactic(auto, unfolding(crate::specs::ReadHeader::read_in_order))]
+    #[tactic(auto, using(crate::proofs::RawTrips::reads_found), unfolding(crate::specs::ReadHeader::read_in_order))]
     fn try_from_ctx(bytes: &'a [u8], _ctx: Endian) -> Result<(Self, usize)> {
         room(bytes.len(), 0, SIZEOF_IDENT)?;
         let Some(order) = order_of(bytes[EI_DATA]) else {
@@ -220,9 +213,10 @@ impl<'a> TryFromCtx<'a, Endian> for Header {
 /// - `Data`: the data byte is neither 1 nor 2.
 /// - The fault of `room`: the buffer doesn't hold the 52 bytes of a header.
 impl TryIntoCtx<Endian> for Header {
-    ghost try_into_gives = { λ header _ old answer new. WritesHeader32 header old answer new };
+    ghost try_into_gives = { λ header _ old answer new.
+        WritesInOrder header.e_ident (headed header32) header old answer new };
 
-    #[tactic(auto, using(crate::specs::WriteHeaderLaws::header_answers))]
+    #[tactic(auto, using(crate::proofs::WriteHeaderLemmas::header_answers))]
     fn try_into_ctx(self, bytes: &mut [u8], _ctx: Endian) -> Result<usize> {
         let Some(order) = order_of(self.e_ident[EI_DATA]) else {
             return Err(Error::Malformed(Fault::Data(self.e_ident[EI_DATA])));
@@ -237,18 +231,16 @@ impl TryIntoCtx<Endian> for Header {
 /// header that fits is read back from its image, and from the bytes that it was written to. A
 /// header that was read is written back unchanged.
 pub fn laws()
-    ensures image { IsOneHeaderImage header32_size (λ h. h.e_ident) header32_of header32_image
-        header32_low }
-    ensures reads_back { IsReadBack (λ h. h.e_ident) Header32Fits header32_image read_header32 }
-    ensures written { IsWrittenAndReadBack header32_size (λ h. h.e_ident) Header32Fits WritesHeader32
-        read_header32 }
-    ensures writes_back { IsWrittenBack header32_size read_header32 WritesHeader32 }
+    ensures image { IsOneHeaderImage (λ h. h.e_ident) (headed header32) }
+    ensures reads_back { IsReadBack (λ h. h.e_ident) (headed header32) }
+    ensures written { IsWrittenAndReadBack (λ h. h.e_ident) (headed header32) }
+    ensures writes_back { IsWrittenBack 52 (λ h. h.e_ident) (headed header32) }
 {}
 
 /// A law: every field of the default header is 0. A call returns that header.
 pub fn default_is_zeros() -> Header
     ensures ident { result.e_ident ≡ replicate 16 0 }
-    ensures fields { values_of (header32_fields result) ≡ replicate 13 0 }
+    ensures fields { values_of (header32.fields result) ≡ replicate 13 0 }
 {
     Header::default()
 }
@@ -311,7 +303,7 @@ pub use crate::constants_header::{
 /// Laws: the numbers of this module's own constants and of those that it re-exports, under the
 /// names that they have here. A call does nothing.
 pub fn constants()
-    ensures size { SIZEOF_EHDR ≡ header32_size }
+    ensures size { SIZEOF_EHDR ≡ 52 }
     ensures class { ELFCLASS ≡ 1 }
 
     ensures types { ET_NONE ∷ ET_REL ∷ ET_EXEC ∷ ET_DYN ∷ ET_CORE ∷ ET_NUM ∷ ET_LOOS ∷ ET_HIOS
@@ -361,7 +353,7 @@ pub fn constants()
 
 /// Laws: `==` is true exactly if all fields of two headers are equal. `clone` returns the header,
 /// and never fails. A call returns both.
-pub fn derived(header: &Header, other: &Header) -> (bool, result::Result<Header, AllocError>)
+pub fn derived(header: &Header, other: &Header) -> (bool, Cloned<Header>)
     ensures equal { IsTrue result.0 ↔ (header.now ≡ other.now) }
     ensures clone { result.1 ≡ Ok header.now }
 {

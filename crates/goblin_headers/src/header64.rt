@@ -1,22 +1,21 @@
 //! The header of a 64-bit ELF file: System V gABI, "ELF Header", `Elf64_Ehdr`.
 ghost use Rattle.std.specs.Prelude.{◌≡◌, ◌≤◌, ◌↔◌, ◌++◌, IsTrue, length, drop, replicate, [], ◌∷◌};
-ghost use Rattle.goblin_base.specs.Fields.{values_of};
+ghost use Rattle.goblin_base.specs.Common.{values_of};
 ghost use Rattle.goblin_headers.specs.Constants.{class_numbers, data_numbers, file_type_numbers, ident_place_numbers, ident_size_numbers, system_numbers, unnamed_machine_numbers};
-ghost use Rattle.goblin_headers.specs.Header.{magic, header64_of, header64_image, header64_size, header64_fields, header64_low, Header64Fits};
+ghost use Rattle.goblin_headers.specs.Header.{magic, headed, header64, widened64, as64};
 ghost use Rattle.goblin_headers.specs.HeaderTrips.{IsOneHeaderImage, IsReadBack, IsWrittenAndReadBack, IsWrittenBack};
 ghost use Rattle.goblin_headers.specs.Machines.{machine_numbers};
-ghost use Rattle.goblin_headers.specs.ReadHeader.{read_header64};
-ghost use Rattle.goblin_headers.specs.WriteHeader.{WritesHeader64};
+ghost use Rattle.goblin_headers.specs.ReadHeader.{read_in_order};
+ghost use Rattle.goblin_headers.specs.WriteHeader.{WritesInOrder};
+ghost use Rattle.goblin_base.specs.declared.error.Fault.TheVariants as faults;
 
 use crate::header::Header as ElfHeader;
 use crate::ident::{ident_of, order_of, put_ident};
 use goblin_base::container::Endian;
-use goblin_base::error::{Error, Fault, Result};
+use goblin_base::error::{Cloned, Error, Fault, Result};
 use goblin_base::number::{get_u16, get_u32, get_u64, put_u16, put_u32, put_u64};
 use goblin_base::room::room;
 use goblin_base::scroll::{LE, TryFromCtx, TryIntoCtx};
-use std::alloc::AllocError;
-use std::result;
 
 /// The size of a header in bytes.
 pub const SIZEOF_EHDR: usize = 64;
@@ -58,12 +57,11 @@ pub struct Header {
 
 impl Header {
     ghost use Rattle.goblin_base.specs.declared.container.Endian.TheVariants as endian;
-    ghost use Rattle.goblin_base.specs.declared.error.Fault.TheVariants as faults;
 
     // Reads the header at the start of the bytes in this byte order.
     fn at(bytes: &[u8], order: Endian) -> Header
-        requires { header64_size ≤ length bytes.now }
-        ensures { result ≡ header64_of order bytes.now }
+        requires { SIZEOF_EHDR ≤ length bytes.now }
+        ensures { result ≡ (headed header64 order).read bytes.now }
     {
         let e_ident = ident_of(bytes);
         Header {
@@ -86,8 +84,8 @@ impl Header {
 
     // Writes the header at the start of the bytes in this byte order.
     pub(crate) fn put(&self, bytes: &mut [u8], order: Endian)
-        requires { header64_size ≤ length bytes.old }
-        ensures { bytes.new ≡ header64_image order self.now ++ drop header64_size bytes.old }
+        requires { SIZEOF_EHDR ≤ length bytes.old }
+        ensures { let l = headed header64 order in bytes.new ≡ l.image self.now ++ drop l.size bytes.old }
     {
         put_ident(bytes, &self.e_ident);
         put_u16(bytes, 16, self.e_type, order);
@@ -107,7 +105,7 @@ impl Header {
 
     /// Reads a header as little endian, whatever its data byte is.
     pub fn from_bytes(bytes: &[u8; SIZEOF_EHDR]) -> Header
-        ensures { result ≡ header64_of endian.Little bytes.now }
+        ensures { result ≡ (headed header64 endian.Little).read bytes.now }
     {
         Header::at(bytes, LE)
     }
@@ -121,9 +119,9 @@ impl Header {
     /// - The fault of `room`: the bytes don't hold the 16 bytes of the identification.
     /// - `Data`: the data byte is neither 1 nor 2.
     /// - The fault of `room`: the bytes don't hold the 64 bytes of a header.
-    #[tactic(auto, unfolding(crate::specs::ReadHeader::read_in_order))]
+    #[tactic(auto, using(crate::proofs::RawTrips::reads_found), unfolding(crate::specs::ReadHeader::read_in_order))]
     pub fn parse(bytes: &[u8]) -> Result<Header>
-        ensures { result ≡ read_header64 faults.Data bytes.now }
+        ensures { result ≡ read_in_order (headed header64) faults.Data bytes.now }
     {
         room(bytes.len(), 0, SIZEOF_IDENT)?;
         let Some(order) = order_of(bytes[EI_DATA]) else {
@@ -135,8 +133,6 @@ impl Header {
 }
 
 impl From<Header> for ElfHeader {
-    ghost use Rattle.goblin_headers.specs.Header.{widened64};
-
     ghost from_gives = { λ raw header. header ≡ widened64 raw };
 
     fn from(header: Header) -> ElfHeader {
@@ -161,8 +157,6 @@ impl From<Header> for ElfHeader {
 }
 
 impl From<ElfHeader> for Header {
-    ghost use Rattle.goblin_headers.specs.Header.{as64};
-
     ghost from_gives = { λ header raw. raw ≡ as64 header };
 
     fn from(header: ElfHeader) -> Header {
@@ -193,13 +187,12 @@ impl From<ElfHeader> for Header {
 ///
 /// Those of [`Header::parse`], with `DataType` in place of `Data`.
 impl<'a> TryFromCtx<'a, Endian> for Header {
-    ghost use Rattle.goblin_base.specs.declared.error.Fault.TheVariants as faults;
     ghost use Rattle.goblin_base.specs.Steps.{with_size};
 
     ghost try_from_gives = { λ bytes _ answer.
-        answer ≡ with_size header64_size (read_header64 faults.DataType bytes) };
+        answer ≡ with_size 64 (read_in_order (headed header64) faults.DataType bytes) };
 
-    #[tactic(auto, unfolding(crate::specs::ReadHeader::read_in_order))]
+    #[tactic(auto, using(crate::proofs::RawTrips::reads_found), unfolding(crate::specs::ReadHeader::read_in_order))]
     fn try_from_ctx(bytes: &'a [u8], _ctx: Endian) -> Result<(Self, usize)> {
         room(bytes.len(), 0, SIZEOF_IDENT)?;
         let Some(order) = order_of(bytes[EI_DATA]) else {
@@ -219,9 +212,10 @@ impl<'a> TryFromCtx<'a, Endian> for Header {
 /// - `Data`: the data byte is neither 1 nor 2.
 /// - The fault of `room`: the buffer doesn't hold the 64 bytes of a header.
 impl TryIntoCtx<Endian> for Header {
-    ghost try_into_gives = { λ header _ old answer new. WritesHeader64 header old answer new };
+    ghost try_into_gives = { λ header _ old answer new.
+        WritesInOrder header.e_ident (headed header64) header old answer new };
 
-    #[tactic(auto, using(crate::specs::WriteHeaderLaws::header_answers))]
+    #[tactic(auto, using(crate::proofs::WriteHeaderLemmas::header_answers))]
     fn try_into_ctx(self, bytes: &mut [u8], _ctx: Endian) -> Result<usize> {
         let Some(order) = order_of(self.e_ident[EI_DATA]) else {
             return Err(Error::Malformed(Fault::Data(self.e_ident[EI_DATA])));
@@ -236,18 +230,16 @@ impl TryIntoCtx<Endian> for Header {
 /// header that fits is read back from its image, and from the bytes that it was written to. A
 /// header that was read is written back unchanged.
 pub fn laws()
-    ensures image { IsOneHeaderImage header64_size (λ h. h.e_ident) header64_of header64_image
-        header64_low }
-    ensures reads_back { IsReadBack (λ h. h.e_ident) Header64Fits header64_image read_header64 }
-    ensures written { IsWrittenAndReadBack header64_size (λ h. h.e_ident) Header64Fits WritesHeader64
-        read_header64 }
-    ensures writes_back { IsWrittenBack header64_size read_header64 WritesHeader64 }
+    ensures image { IsOneHeaderImage (λ h. h.e_ident) (headed header64) }
+    ensures reads_back { IsReadBack (λ h. h.e_ident) (headed header64) }
+    ensures written { IsWrittenAndReadBack (λ h. h.e_ident) (headed header64) }
+    ensures writes_back { IsWrittenBack 64 (λ h. h.e_ident) (headed header64) }
 {}
 
 /// A law: every field of the default header is 0. A call returns that header.
 pub fn default_is_zeros() -> Header
     ensures ident { result.e_ident ≡ replicate 16 0 }
-    ensures fields { values_of (header64_fields result) ≡ replicate 13 0 }
+    ensures fields { values_of (header64.fields result) ≡ replicate 13 0 }
 {
     Header::default()
 }
@@ -310,7 +302,7 @@ pub use crate::constants_header::{
 /// Laws: the numbers of this module's own constants and of those that it re-exports, under the
 /// names that they have here. A call does nothing.
 pub fn constants()
-    ensures size { SIZEOF_EHDR ≡ header64_size }
+    ensures size { SIZEOF_EHDR ≡ 64 }
     ensures class { ELFCLASS ≡ 2 }
 
     ensures types { ET_NONE ∷ ET_REL ∷ ET_EXEC ∷ ET_DYN ∷ ET_CORE ∷ ET_NUM ∷ ET_LOOS ∷ ET_HIOS
@@ -360,7 +352,7 @@ pub fn constants()
 
 /// Laws: `==` is true exactly if all fields of two headers are equal. `clone` returns the header,
 /// and never fails. A call returns both.
-pub fn derived(header: &Header, other: &Header) -> (bool, result::Result<Header, AllocError>)
+pub fn derived(header: &Header, other: &Header) -> (bool, Cloned<Header>)
     ensures equal { IsTrue result.0 ↔ (header.now ≡ other.now) }
     ensures clone { result.1 ≡ Ok header.now }
 {

@@ -194,6 +194,11 @@ impl ProgramHeader {
     }
 }
 
+// The raw forms.
+type Raw32 = program_header32::ProgramHeader;
+
+type Raw64 = program_header64::ProgramHeader;
+
 impl LaidOut<Ctx> for ProgramHeader {
     ghost use Rattle.goblin_headers.specs.ProgramHeaderLaws.{program_header_laws};
 
@@ -210,29 +215,17 @@ impl LaidOut<Ctx> for ProgramHeader {
     fn get(bytes: &[u8], ctx: Ctx) -> ProgramHeader {
         // (asked here, the byte order isn't asked at each field)
         match (ctx.container, ctx.le) {
-            (Container::Little, Endian::Little) => program_header32::ProgramHeader::get(
-                bytes,
-                Endian::Little,
-            ).into(),
-            (Container::Little, Endian::Big) => program_header32::ProgramHeader::get(
-                bytes,
-                Endian::Big,
-            ).into(),
-            (Container::Big, Endian::Little) => program_header64::ProgramHeader::get(
-                bytes,
-                Endian::Little,
-            ).into(),
-            (Container::Big, Endian::Big) => program_header64::ProgramHeader::get(
-                bytes,
-                Endian::Big,
-            ).into(),
+            (Container::Little, Endian::Little) => Raw32::get(bytes, Endian::Little).into(),
+            (Container::Little, Endian::Big) => Raw32::get(bytes, Endian::Big).into(),
+            (Container::Big, Endian::Little) => Raw64::get(bytes, Endian::Little).into(),
+            (Container::Big, Endian::Big) => Raw64::get(bytes, Endian::Big).into(),
         }
     }
 
     fn put(self, bytes: &mut [u8], ctx: Ctx) {
         match ctx.container {
-            Container::Little => program_header32::ProgramHeader::from(self).put(bytes, ctx.le),
-            Container::Big => program_header64::ProgramHeader::from(self).put(bytes, ctx.le),
+            Container::Little => Raw32::from(self).put(bytes, ctx.le),
+            Container::Big => Raw64::from(self).put(bytes, ctx.le),
         }
     }
 
@@ -241,6 +234,7 @@ impl LaidOut<Ctx> for ProgramHeader {
 
 /// A law: a list of program headers that fit both classes is read back the same in each class and byte
 /// order.
+#[tactic(auto, using(crate::specs::ProgramHeaderLaws::same_program_headers))]
 pub fn laws()
     ensures same { IsSameInEachClass program_header_layout }
 {}

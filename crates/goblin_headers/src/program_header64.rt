@@ -1,22 +1,17 @@
 //! Program headers of the 64-bit class: System V gABI, "Program Header" (`Elf64_Phdr`).
 ghost use Rattle.std.specs.Prelude.{◌≡◌, ◌≤◌, ◌*◌, ◌↔◌, IsTrue, length, IfErr, IfOk, IsOk, alloc_error, replicate, [], ◌∷◌};
-ghost use Rattle.goblin_base.specs.Eager.{records_in, room_of_each};
-ghost use Rattle.goblin_base.specs.Fields.{values_of};
-ghost use Rattle.goblin_base.specs.Layout.{shaped};
-ghost use Rattle.goblin_base.specs.Refusal.{Gives};
-ghost use Rattle.goblin_base.specs.Table.{records};
+ghost use Rattle.goblin_base.specs.Common.{records_in, room_of_each, values_of, shaped, Gives, records};
 ghost use Rattle.goblin_headers.specs.Constants.{segment_flag_numbers, segment_type_numbers};
-ghost use Rattle.goblin_headers.specs.ProgramHeader.{program_header64};
+ghost use Rattle.goblin_headers.specs.ProgramHeader.{program_header64, widened64, as64};
 
 use crate::program_header::ProgramHeader as ElfProgramHeader;
 use goblin_base::container::Endian;
-use goblin_base::error::{Error, Result};
+use goblin_base::error::{Cloned, Error, Result};
 use goblin_base::laid_out::LaidOut;
 use goblin_base::number::{get_u32, get_u64, put_u32, put_u64};
 use goblin_base::scroll::LE;
 use goblin_base::table::{Table, read_in_range};
-use std::alloc::{AllocError, Global};
-use std::result;
+use std::alloc::Global;
 
 /// A program header of the 64-bit class.
 #[derive(Clone, Copy, Debug, Default, PartialEq)]
@@ -88,8 +83,6 @@ impl ProgramHeader {
 }
 
 impl From<ProgramHeader> for ElfProgramHeader {
-    ghost use Rattle.goblin_headers.specs.ProgramHeader.{widened64};
-
     ghost from_gives = { λ raw header. header ≡ widened64 raw };
 
     fn from(header: ProgramHeader) -> Self {
@@ -107,8 +100,6 @@ impl From<ProgramHeader> for ElfProgramHeader {
 }
 
 impl From<ElfProgramHeader> for ProgramHeader {
-    ghost use Rattle.goblin_headers.specs.ProgramHeader.{as64};
-
     ghost from_gives = { λ header raw. raw ≡ as64 header };
 
     fn from(header: ElfProgramHeader) -> Self {
@@ -192,10 +183,7 @@ pub fn constants()
 
 /// Laws: `==` is true exactly if all fields of two program headers are equal. `clone` returns the
 /// program header, and never fails. A call returns both.
-pub fn derived(
-    header: &ProgramHeader,
-    other: &ProgramHeader,
-) -> (bool, result::Result<ProgramHeader, AllocError>)
+pub fn derived(header: &ProgramHeader, other: &ProgramHeader) -> (bool, Cloned<ProgramHeader>)
     ensures equal { IsTrue result.0 ↔ (header.now ≡ other.now) }
     ensures clone { result.1 ≡ Ok header.now }
 {

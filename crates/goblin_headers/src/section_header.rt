@@ -291,6 +291,11 @@ impl IntoCtx<Ctx> for SectionHeader {
     }
 }
 
+// The raw forms.
+type Raw32 = section_header32::SectionHeader;
+
+type Raw64 = section_header64::SectionHeader;
+
 impl LaidOut<Ctx> for SectionHeader {
     ghost use Rattle.goblin_headers.specs.SectionHeaderLaws.{section_header_laws};
 
@@ -307,29 +312,17 @@ impl LaidOut<Ctx> for SectionHeader {
     fn get(bytes: &[u8], ctx: Ctx) -> SectionHeader {
         // (asked here, the byte order isn't asked at each field)
         match (ctx.container, ctx.le) {
-            (Container::Little, Endian::Little) => section_header32::SectionHeader::get(
-                bytes,
-                Endian::Little,
-            ).into(),
-            (Container::Little, Endian::Big) => section_header32::SectionHeader::get(
-                bytes,
-                Endian::Big,
-            ).into(),
-            (Container::Big, Endian::Little) => section_header64::SectionHeader::get(
-                bytes,
-                Endian::Little,
-            ).into(),
-            (Container::Big, Endian::Big) => section_header64::SectionHeader::get(
-                bytes,
-                Endian::Big,
-            ).into(),
+            (Container::Little, Endian::Little) => Raw32::get(bytes, Endian::Little).into(),
+            (Container::Little, Endian::Big) => Raw32::get(bytes, Endian::Big).into(),
+            (Container::Big, Endian::Little) => Raw64::get(bytes, Endian::Little).into(),
+            (Container::Big, Endian::Big) => Raw64::get(bytes, Endian::Big).into(),
         }
     }
 
     fn put(self, bytes: &mut [u8], ctx: Ctx) {
         match ctx.container {
-            Container::Little => section_header32::SectionHeader::from(self).put(bytes, ctx.le),
-            Container::Big => section_header64::SectionHeader::from(self).put(bytes, ctx.le),
+            Container::Little => Raw32::from(self).put(bytes, ctx.le),
+            Container::Big => Raw64::from(self).put(bytes, ctx.le),
         }
     }
 
@@ -338,6 +331,7 @@ impl LaidOut<Ctx> for SectionHeader {
 
 /// A law: a list of section headers that fit both classes is read back the same in each class and byte
 /// order.
+#[tactic(auto, using(crate::specs::SectionHeaderLaws::same_section_headers))]
 pub fn laws()
     ensures same { IsSameInEachClass section_header_layout }
 {}

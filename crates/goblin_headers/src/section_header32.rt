@@ -1,21 +1,18 @@
 //! Section headers of the 32-bit class: System V gABI, "Section Header" (`Elf32_Shdr`).
 ghost use Rattle.std.specs.Prelude.{◌≡◌, ◌≤◌, ◌*◌, ◌↔◌, ◌++◌, IsTrue, length, drop, map, IfErr, IfOk, IsOk, alloc_error, replicate, [], ◌∷◌};
-ghost use Rattle.goblin_base.specs.Fields.{values_of};
-ghost use Rattle.goblin_base.specs.Layout.{low_bits, shaped};
-ghost use Rattle.goblin_base.specs.Table.{records};
+ghost use Rattle.goblin_base.specs.Common.{values_of, low_bits, shaped, records};
 ghost use Rattle.goblin_headers.specs.Constants.{section_flag_numbers, section_index_numbers, section_type_numbers};
-ghost use Rattle.goblin_headers.specs.SectionHeader.{section_header32};
+ghost use Rattle.goblin_headers.specs.SectionHeader.{section_header32, widened32, as32};
 ghost use Rattle.goblin_headers.specs.SectionNames.{section_flag_names};
 
 use crate::section_header::SectionHeader as ElfSectionHeader;
 use goblin_base::container::Endian;
-use goblin_base::error::{Error, Result};
+use goblin_base::error::{Cloned, Error, Result};
 use goblin_base::laid_out::LaidOut;
 use goblin_base::number::{get_u32, put_u32};
 use goblin_base::scroll::LE;
 use goblin_base::table::Table;
-use std::alloc::{AllocError, Global};
-use std::result;
+use std::alloc::Global;
 
 /// A section header of the 32-bit class.
 #[derive(Clone, Copy, Debug, Default, Eq, PartialEq)]
@@ -67,8 +64,6 @@ impl SectionHeader {
 }
 
 impl From<SectionHeader> for ElfSectionHeader {
-    ghost use Rattle.goblin_headers.specs.SectionHeader.{widened32};
-
     ghost from_gives = { λ raw header. header ≡ widened32 raw };
 
     fn from(header: SectionHeader) -> Self {
@@ -89,8 +84,6 @@ impl From<SectionHeader> for ElfSectionHeader {
 
 /// Keeps the low bits of each field, as many as its width holds.
 impl From<ElfSectionHeader> for SectionHeader {
-    ghost use Rattle.goblin_headers.specs.SectionHeader.{as32};
-
     ghost from_gives = { λ header raw. raw ≡ low_bits section_header32 (as32 header) };
 
     fn from(header: ElfSectionHeader) -> Self {
@@ -204,10 +197,7 @@ pub fn constants()
 
 /// Laws: `==` is true exactly if all fields of two section headers are equal. `clone` returns the
 /// section header, and never fails. A call returns both.
-pub fn derived(
-    header: &SectionHeader,
-    other: &SectionHeader,
-) -> (bool, result::Result<SectionHeader, AllocError>)
+pub fn derived(header: &SectionHeader, other: &SectionHeader) -> (bool, Cloned<SectionHeader>)
     ensures equal { IsTrue result.0 ↔ (header.now ≡ other.now) }
     ensures clone { result.1 ≡ Ok header.now }
 {

@@ -3,7 +3,7 @@ use Rattle.std.proofs.Common.{◌≡◌, ◌<◌, ◌+◌, ◌*◌, ◌/◌, ◌
 use Rattle.std.specs.Int.{swap_bytes}
 use Rattle.goblin_base.specs.declared.container.Container.TheVariants.{Big}
 use Rattle.goblin_base.specs.declared.container.Endian.TheVariants as order
-use Rattle.goblin_base.specs.Number.{number, spelled}
+use Rattle.goblin_base.specs.Common.{number, spelled}
 use Rattle.goblin_base.specs.NumberLaws.{spelled-mod}
 use Rattle.goblin_records.specs.RelocInfo.{symbol_in, type_in, info_of, reversed, mips64el_info, mips64el_info_inverse}
 use Rattle.goblin_records.specs.RelocInfoLaws.{reversed-lt}

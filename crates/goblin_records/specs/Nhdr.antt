@@ -2,8 +2,7 @@
 -- in the 64-bit form).
 use Rattle.std.specs.Prelude.{ℕ, List, [], ◌∷◌, slice_index}
 use Rattle.goblin_base.specs.declared.container.Endian.{Endian}
-use Rattle.goblin_base.specs.Fields.{field}
-use Rattle.goblin_base.specs.Layout.{Shape, shaped}
+use Rattle.goblin_base.specs.Common.{field, Shape, shaped}
 use Rattle.goblin_records.specs.declared.note.Nhdr32.{Nhdr32}
 use Rattle.goblin_records.specs.declared.note.Nhdr64.{Nhdr64}
 

@@ -2,12 +2,11 @@
 use Rattle.std.specs.Prelude.{◌≡◌, ◌<◌, ◌%◌, ◌^◌, ℕ, ℤ, pos, List, Bool, false, true, Option, Some, None, unwrap_or}
 use Rattle.std.specs.Prelude.{IsSomeAnd, [], ◌∷◌, slice_index}
 use Rattle.goblin_base.specs.declared.container.Container.{Container}
-use Rattle.goblin_base.specs.declared.container.Container.TheVariants.{Little, Big}
 use Rattle.goblin_base.specs.declared.container.Endian.{Endian}
+use Rattle.goblin_base.specs.Common.{field, Layout, Shape, shaped, converted, widened, low_bits, IsSameInEachClass}
+use Rattle.goblin_base.specs.declared.container.Container.TheVariants.{Little, Big}
 use Rattle.goblin_base.specs.declared.container.Endian.TheVariants as order
 use Rattle.goblin_base.specs.Container.{word_size}
-use Rattle.goblin_base.specs.Fields.{Field, image_of_fields, field}
-use Rattle.goblin_base.specs.Layout.{Layout, Shape, shaped, low_bits, IsSameInEachClass}
 use Rattle.goblin_base.specs.Signed.{FitsSigned, signed_of, complement, signed_low}
 use Rattle.goblin_records.specs.declared.reloc.Reloc.{Reloc}
 use Rattle.goblin_records.specs.declared.reloc.RelocCtx.{RelocCtx}
@@ -82,38 +81,27 @@ reloc_size true Little = 12
 reloc_size false Big = 16
 reloc_size true Big = 24
 
--- the relocation with the fields of a raw one, its `r_info` split
-abbrev pub rel_widened32 : Rel32 → Reloc
-rel_widened32 r = record {
-  r_offset = r.r_offset;
-  r_addend = None;
-  r_sym = symbol_in Little r.r_info;
-  r_type = type_in Little r.r_info;
+-- the relocation of a class with this offset, addend and `r_info`, whose symbol and type are split
+abbrev pub split : Container → ℕ → Option ℤ → ℕ → Reloc
+split class offset addend info = record {
+  r_offset = offset;
+  r_addend = addend;
+  r_sym = symbol_in class info;
+  r_type = type_in class info;
 }
+
+-- the relocation with the fields of a raw one
+abbrev pub rel_widened32 : Rel32 → Reloc
+rel_widened32 r = split Little r.r_offset None r.r_info
 
 abbrev pub rela_widened32 : Rela32 → Reloc
-rela_widened32 r = record {
-  r_offset = r.r_offset;
-  r_addend = Some r.r_addend;
-  r_sym = symbol_in Little r.r_info;
-  r_type = type_in Little r.r_info;
-}
+rela_widened32 r = split Little r.r_offset (Some r.r_addend) r.r_info
 
 abbrev pub rel_widened64 : Rel64 → Reloc
-rel_widened64 r = record {
-  r_offset = r.r_offset;
-  r_addend = None;
-  r_sym = symbol_in Big r.r_info;
-  r_type = type_in Big r.r_info;
-}
+rel_widened64 r = split Big r.r_offset None r.r_info
 
 abbrev pub rela_widened64 : Rela64 → Reloc
-rela_widened64 r = record {
-  r_offset = r.r_offset;
-  r_addend = Some r.r_addend;
-  r_sym = symbol_in Big r.r_info;
-  r_type = type_in Big r.r_info;
-}
+rela_widened64 r = split Big r.r_offset (Some r.r_addend) r.r_info
 
 -- the raw relocation with the same offset and addend, whether they fit or not, and the `r_info` of symbol and type; a
 -- missing addend becomes 0
@@ -137,31 +125,6 @@ rela_as64 r = record {
   r_addend = unwrap_or r.r_addend (pos 0);
 }
 
--- the relocation read from bytes, with an addend or without, in a class
-abbrev pub reloc_of : Bool → Container → Endian → List ℕ → Reloc
-reloc_of false Little order bytes = rel_widened32 ((shaped rel32 order).read bytes)
-reloc_of true Little order bytes = rela_widened32 ((shaped rela32 order).read bytes)
-reloc_of false Big order bytes = rel_widened64 ((shaped rel64 order).read bytes)
-reloc_of true Big order bytes = rela_widened64 ((shaped rela64 order).read bytes)
-
--- the fields of a relocation in file order, each with its width in bytes
-abbrev pub reloc_fields : Bool → Container → Reloc → List Field
-reloc_fields false Little r = rel32.fields (rel_as32 r)
-reloc_fields true Little r = rela32.fields (rela_as32 r)
-reloc_fields false Big r = rel64.fields (rel_as64 r)
-reloc_fields true Big r = rela64.fields (rela_as64 r)
-
--- the bytes that a relocation is written as
-abbrev pub reloc_image : Bool → Container → Endian → Reloc → List ℕ
-reloc_image is_rela class order r = image_of_fields order (reloc_fields is_rela class r)
-
--- the relocation with the low bits of each field, as many as its width holds
-abbrev pub reloc_low : Bool → Container → Reloc → Reloc
-reloc_low false Little r = rel_widened32 (low_bits rel32 (rel_as32 r))
-reloc_low true Little r = rela_widened32 (rela32_low (rela_as32 r))
-reloc_low false Big r = rel_widened64 (low_bits rel64 (rel_as64 r))
-reloc_low true Big r = rela_widened64 (rela64_low (rela_as64 r))
-
 -- there is an addend exactly if one is written, and it fits its width
 abbrev pub AddendFits : Bool → ℕ → Option ℤ → Type 0
 AddendFits false width addend = addend ≡ None
@@ -174,15 +137,25 @@ pub record RelocFits (is_rela : Bool) (class : Container) (r : Reloc) : Type 0 w
   pub typ : r.r_type < types class
   pub addend : AddendFits is_rela (word_size class) r.r_addend
 
+-- how the relocations of each class lie in bytes: as the raw ones of the class
+abbrev pub raw_layout : Bool → Container → Endian → Layout Reloc
+raw_layout false Little order = widened rel_widened32 rel_as32 (shaped rel32 order)
+raw_layout true Little order = widened rela_widened32 rela_as32 (rela32_layout order)
+raw_layout false Big order = widened rel_widened64 rel_as64 (shaped rel64 order)
+raw_layout true Big order = widened rela_widened64 rela_as64 (rela64_layout order)
+
 -- how relocations lie in bytes, with an addend or without, in a class
 abbrev pub reloc_layout : Bool → Container → Endian → Layout Reloc
-reloc_layout is_rela class order = record {
-  size = reloc_size is_rela class;
-  read = reloc_of is_rela class order;
-  image = reloc_image is_rela class order;
-  low = reloc_low is_rela class;
-  Fits = RelocFits is_rela class;
-}
+reloc_layout is_rela class order =
+    record (raw_layout is_rela class order) { size = reloc_size is_rela class; Fits = RelocFits is_rela class }
+
+-- the relocation read from bytes, with an addend or without, in a class
+abbrev pub reloc_of : Bool → Container → Endian → List ℕ → Reloc
+reloc_of is_rela class order = (reloc_layout is_rela class order).read
+
+-- the bytes that a relocation is written as
+abbrev pub reloc_image : Bool → Container → Endian → Reloc → List ℕ
+reloc_image is_rela class order = (reloc_layout is_rela class order).image
 
 -- the relocation that a stored one means: in a little-endian MIPS64 file its symbol and type are decoded
 abbrev pub as_meant : Bool → Reloc → Reloc
@@ -210,31 +183,19 @@ context is_rela class order is_mips64el = record {
   is_mips64el = is_mips64el;
 }
 
+-- how relocations lie in bytes in a context
+abbrev pub reloc_layout_in : RelocCtx → Layout Reloc
+reloc_layout_in c =
+    converted (as_meant c.is_mips64el) (as_stored c.is_mips64el) (StoredFits c.is_mips64el c.is_rela c.ctx.container)
+    (reloc_layout c.is_rela c.ctx.container c.ctx.le)
+
 -- the relocation read from bytes in a context
 abbrev pub reloc_in : RelocCtx → List ℕ → Reloc
-reloc_in c bytes = as_meant c.is_mips64el (reloc_of c.is_rela c.ctx.container c.ctx.le bytes)
+reloc_in c = (reloc_layout_in c).read
 
 -- the bytes that a relocation is written as in a context
 abbrev pub reloc_image_in : RelocCtx → Reloc → List ℕ
-reloc_image_in c r = reloc_image c.is_rela c.ctx.container c.ctx.le (as_stored c.is_mips64el r)
-
--- the relocation with the low bits of the one that is stored for it
-abbrev pub reloc_low_in : RelocCtx → Reloc → Reloc
-reloc_low_in c r = as_meant c.is_mips64el (reloc_low c.is_rela c.ctx.container (as_stored c.is_mips64el r))
-
--- the relocation to store fits the context
-abbrev pub RelocFitsIn : RelocCtx → Reloc → Type 0
-RelocFitsIn c r = StoredFits c.is_mips64el c.is_rela c.ctx.container r
-
--- how relocations lie in bytes in a context
-abbrev pub reloc_layout_in : RelocCtx → Layout Reloc
-reloc_layout_in c = record {
-  size = reloc_size c.is_rela c.ctx.container;
-  read = reloc_in c;
-  image = reloc_image_in c;
-  low = reloc_low_in c;
-  Fits = RelocFitsIn c;
-}
+reloc_image_in c = (reloc_layout_in c).image
 
 -- relocations that fit both classes, written one after another in either class and order, are read in that class and
 -- order as the same relocations; with addends and without, of MIPS64 and not

@@ -2,9 +2,9 @@
 -- little-endian MIPS64 files store them.
 use Rattle.std.specs.Prelude.{◌≡◌, ◌<◌, ◌+◌, ◌*◌, ◌/◌, ◌%◌, ◌^◌, ℕ}
 use Rattle.goblin_base.specs.declared.container.Container.{Container}
+use Rattle.goblin_base.specs.Common.{number, spelled}
 use Rattle.goblin_base.specs.declared.container.Container.TheVariants.{Little, Big}
 use Rattle.goblin_base.specs.declared.container.Endian.TheVariants as order
-use Rattle.goblin_base.specs.Number.{number, spelled}
 
 -- how many symbols an `r_info` of a class can name
 abbrev pub symbols : Container → ℕ

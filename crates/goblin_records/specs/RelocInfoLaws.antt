@@ -2,9 +2,9 @@
 use Rattle.std.proofs.Common.{◌≡◌, ◌<◌, ◌+◌, ◌*◌, ◌/◌, ◌%◌, ◌^◌, ℕ, List, reverse, refl, sym, ap, ◌∙◌, arith}
 use Rattle.std.proofs.lemmas.List.{reverse-reverse}
 use Rattle.goblin_base.specs.declared.container.Container.{Container}
+use Rattle.goblin_base.specs.Common.{number, spelled}
 use Rattle.goblin_base.specs.declared.container.Container.TheVariants.{Little, Big}
 use Rattle.goblin_base.specs.declared.container.Endian.TheVariants as order
-use Rattle.goblin_base.specs.Number.{number, spelled}
 use Rattle.goblin_base.specs.NumberLaws.{IsBytes-spelled, number-lt, number-spelled, length-spelled, spelled-number}
 use Rattle.goblin_records.specs.RelocInfo.{symbols, types, symbol_in, type_in, info_of, JoinsItsParts, reversed}
 use Rattle.goblin_records.specs.RelocInfo.{mips64el_info_inverse, Mips64elInverse, Mips64elOneToOne, Mips64elFourTimes}
@@ -92,3 +92,6 @@ mips64el_four_times info h =
       reversed-reversed (info / 2 ^ 32) high,
       reversed-reversed (info % 2 ^ 32) low,
     ) whole
+
+-- for the laws of each class
+pub ruleset info_laws = (joins_its_parts, mips64el_one_to_one, mips64el_four_times)

@@ -4,16 +4,15 @@ use Rattle.std.proofs.Common.{refl, lit<, ◌≡◌, ◌<◌, ◌≤◌, ◌*◌
 use Rattle.std.proofs.Common.{length, ◌∙◌, arith}
 use Rattle.std.specs.Prelude.{ℤ, pos, unwrap_or, IsSomeAnd}
 use Rattle.std.proofs.Math.Nat.{mod-eq_of_lt}
-use Rattle.goblin_base.specs.declared.container.Endian.{Endian}
 use Rattle.goblin_base.specs.declared.container.Container.{Container}
+use Rattle.goblin_base.specs.declared.container.Endian.{Endian}
+use Rattle.goblin_base.specs.Common.{IsRecord, shaped, IsBytes, number_at}
 use Rattle.goblin_base.specs.declared.container.Container.TheVariants.{Little, Big}
-use Rattle.goblin_base.specs.Layout.{IsRecord, shaped}
-use Rattle.goblin_base.specs.LayoutLaws.{shape_laws, converted_laws, same_in_each_class}
+use Rattle.goblin_base.specs.LayoutLaws.{shape_laws, plain_laws, converted_laws, same_in_each_class}
 use Rattle.goblin_base.specs.Signed.{FitsSigned}
 use Rattle.goblin_base.specs.SignedLaws.{signed_of-complement, complement-lt, complement-mod}
 use Rattle.goblin_base.specs.SignedLaws.{complement-signed_number_at}
 use Rattle.goblin_base.specs.FieldLaws.{number_at-lt}
-use Rattle.goblin_base.specs.Number.{IsBytes, number_at}
 use Rattle.goblin_records.specs.declared.reloc.Reloc.{Reloc}
 use Rattle.goblin_records.specs.declared.reloc.RelocCtx.{RelocCtx}
 use Rattle.goblin_records.specs.Reloc.{rel32, rel64, rela32, rela64, rela32_layout, rela64_layout, reloc_size, reloc_of}
@@ -26,22 +25,10 @@ use Rattle.goblin_records.specs.RelocInfoLaws.{info_of-parts, joins_its_parts, r
 
 -- the laws of relocations without an addend follow from the list of fields
 pub rel32_laws : (order : Endian) → IsRecord (shaped rel32 order)
-rel32_laws = shape_laws rel32 (record {
-  size_positive = lit< tt;
-  has_widths = λ r. refl;
-  lows = λ r. refl;
-  fitting = λ r fits. (fits, refl);
-  fields_read = λ order bytes are room. refl;
-})
+rel32_laws = plain_laws rel32 (lit< tt) (λ r. refl) (λ r. refl) (λ order bytes. refl)
 
 pub rel64_laws : (order : Endian) → IsRecord (shaped rel64 order)
-rel64_laws = shape_laws rel64 (record {
-  size_positive = lit< tt;
-  has_widths = λ r. refl;
-  lows = λ r. refl;
-  fitting = λ r fits. (fits, refl);
-  fields_read = λ order bytes are room. refl;
-})
+rel64_laws = plain_laws rel64 (lit< tt) (λ r. refl) (λ r. refl) (λ order bytes. refl)
 
 -- and so do those of relocations with one
 pub rela32_laws : (order : Endian) → IsRecord (rela32_layout order)

@@ -1,13 +1,10 @@
 -- Symbols of either class, and lists of them (System V gABI, "Symbol Table").
 use Rattle.std.specs.Prelude.{ℕ, List, codes, Result, [], ◌∷◌, slice_index, Bool, ◌==◌, ◌&&◌, ◌||◌, nat_lt}
 use Rattle.goblin_base.specs.declared.container.Container.{Container}
-use Rattle.goblin_base.specs.declared.container.Container.TheVariants.{Little, Big}
 use Rattle.goblin_base.specs.declared.container.Ctx.{Ctx}
 use Rattle.goblin_base.specs.declared.container.Endian.{Endian}
-use Rattle.goblin_base.specs.Eager.{records_from}
-use Rattle.goblin_base.specs.Refusal.{Refusal}
-use Rattle.goblin_base.specs.Fields.{field, FieldsFit, values_of}
-use Rattle.goblin_base.specs.Layout.{Layout, Shape, shaped, low_bits}
+use Rattle.goblin_base.specs.Common.{records_from, Refusal, field, values_of, Layout, Shape, shaped, widened}
+use Rattle.goblin_base.specs.declared.container.Container.TheVariants.{Little, Big}
 use Rattle.goblin_records.specs.declared.sym.Sym.{Sym}
 use Rattle.goblin_records.specs.declared.sym32.Sym.{Sym as Sym32}
 use Rattle.goblin_records.specs.declared.sym64.Sym.{Sym as Sym64}
@@ -50,12 +47,7 @@ abbrev pub sym_size : Container → ℕ
 sym_size Little = 16
 sym_size Big = 24
 
--- the values of the fields of a symbol, in the file order of the 64-bit class
-abbrev pub sym_values : Sym → List ℕ
-sym_values s =
-    s.st_name ∷ s.st_info ∷ s.st_other ∷ s.st_shndx ∷ s.st_value ∷ s.st_size ∷ []
-
--- the symbol with these field values
+-- the symbol with these field values, in the file order of the 64-bit class
 abbrev pub sym_of_values : List ℕ → Sym
 sym_of_values values = record {
   st_name = slice_index values 0;
@@ -68,61 +60,34 @@ sym_of_values values = record {
 
 -- the symbol with the fields of a raw one
 abbrev pub widened32 : Sym32 → Sym
-widened32 s = record {
-  st_name = s.st_name;
-  st_info = s.st_info;
-  st_other = s.st_other;
-  st_shndx = s.st_shndx;
-  st_value = s.st_value;
-  st_size = s.st_size;
-}
+widened32 s = sym_of_values (s.st_name ∷ s.st_info ∷ s.st_other ∷ s.st_shndx ∷ s.st_value ∷ s.st_size ∷ [])
 
 abbrev pub widened64 : Sym64 → Sym
 widened64 s = sym_of_values (values_of (sym64.fields s))
 
 -- the raw symbol with the same fields, whether they fit or not
 abbrev pub as32 : Sym → Sym32
-as32 s = record {
-  st_name = s.st_name;
-  st_value = s.st_value;
-  st_size = s.st_size;
-  st_info = s.st_info;
-  st_other = s.st_other;
-  st_shndx = s.st_shndx;
-}
+as32 s = sym32.of_values (s.st_name ∷ s.st_value ∷ s.st_size ∷ s.st_info ∷ s.st_other ∷ s.st_shndx ∷ [])
 
 abbrev pub as64 : Sym → Sym64
-as64 s = sym64.of_values (sym_values s)
+as64 s = sym64.of_values (s.st_name ∷ s.st_info ∷ s.st_other ∷ s.st_shndx ∷ s.st_value ∷ s.st_size ∷ [])
 
--- the symbol read from bytes in a class
-abbrev pub sym_of : Container → Endian → List ℕ → Sym
-sym_of Little order bytes = widened32 ((shaped sym32 order).read bytes)
-sym_of Big order bytes = widened64 ((shaped sym64 order).read bytes)
-
--- each field of a symbol is in the range of its width in a class
-abbrev pub SymFits : Container → Sym → Type 0
-SymFits Little s = FieldsFit (sym32.fields (as32 s))
-SymFits Big s = FieldsFit (sym64.fields (as64 s))
-
--- the bytes that a symbol is written as in a class
-abbrev pub sym_image : Container → Endian → Sym → List ℕ
-sym_image Little order s = (shaped sym32 order).image (as32 s)
-sym_image Big order s = (shaped sym64 order).image (as64 s)
-
--- the symbol with the low bits of each field, as many as its width in a class holds
-abbrev pub sym_low : Container → Sym → Sym
-sym_low Little s = widened32 (low_bits sym32 (as32 s))
-sym_low Big s = widened64 (low_bits sym64 (as64 s))
+-- how the symbols of each class lie in bytes: as the raw ones of the class
+abbrev pub raw_layout : Container → Endian → Layout Sym
+raw_layout Little order = widened widened32 as32 (shaped sym32 order)
+raw_layout Big order = widened widened64 as64 (shaped sym64 order)
 
 -- how symbols of a class and a byte order lie in bytes
 abbrev pub sym_layout : Container → Endian → Layout Sym
-sym_layout class order = record {
-  size = sym_size class;
-  read = sym_of class order;
-  image = sym_image class order;
-  low = sym_low class;
-  Fits = SymFits class;
-}
+sym_layout class order = record (raw_layout class order) { size = sym_size class }
+
+-- the symbol read from bytes in a class
+abbrev pub sym_of : Container → Endian → List ℕ → Sym
+sym_of class order = (sym_layout class order).read
+
+-- the bytes that a symbol is written as in a class
+abbrev pub sym_image : Container → Endian → Sym → List ℕ
+sym_image class order = (sym_layout class order).image
 
 -- a symbol's section index is one of the file's: from 1 on, below 0xff00, or the escape 0xffff
 abbrev pub is_in_section : Sym → Bool

@@ -1,13 +1,13 @@
 //! Note headers of both classes, and the types of notes: System V gABI, "Note Section".
 ghost use Rattle.std.specs.Prelude.{◌≡◌, [], ◌∷◌};
-ghost use Rattle.goblin_base.specs.Layout.{IsOneImage, shaped, zero};
+ghost use Rattle.goblin_base.specs.Common.{IsOneImage, shaped, zero};
 ghost use Rattle.goblin_records.specs.Nhdr.{nhdr32, nhdr64};
+ghost use Rattle.goblin_records.specs.NhdrLaws.{nhdr32_laws, nhdr64_laws};
 
 use goblin_base::container::Endian;
+use goblin_base::error::Cloned;
 use goblin_base::laid_out::LaidOut;
 use goblin_base::number::{get_u32, get_u64, put_u32, put_u64};
-use std::alloc::AllocError;
-use std::result;
 
 /// The header of a note, in words of 4 bytes. Notes of both classes are read with it.
 #[derive(Clone, Copy, Debug)]
@@ -24,8 +24,6 @@ pub struct Nhdr32 {
 const SIZEOF_NHDR32: usize = 4 + 4 + 4;
 
 impl LaidOut<Endian> for Nhdr32 {
-    ghost use Rattle.goblin_records.specs.NhdrLaws.{nhdr32_laws};
-
     ghost layout = { shaped nhdr32 };
 
     fn size_in(_order: Endian) -> usize {
@@ -64,8 +62,6 @@ pub struct Nhdr64 {
 const SIZEOF_NHDR64: usize = 8 + 8 + 8;
 
 impl LaidOut<Endian> for Nhdr64 {
-    ghost use Rattle.goblin_records.specs.NhdrLaws.{nhdr64_laws};
-
     ghost layout = { shaped nhdr64 };
 
     fn size_in(_order: Endian) -> usize {
@@ -96,14 +92,14 @@ pub fn laws()
 {}
 
 /// A law: `clone` returns the note header, and never fails. A call returns the clone.
-pub fn derived32(header: &Nhdr32) -> result::Result<Nhdr32, AllocError>
+pub fn derived32(header: &Nhdr32) -> Cloned<Nhdr32>
     ensures { result ≡ Ok header.now }
 {
     header.clone()
 }
 
 /// A law: `clone` returns the note header, and never fails. A call returns the clone.
-pub fn derived64(header: &Nhdr64) -> result::Result<Nhdr64, AllocError>
+pub fn derived64(header: &Nhdr64) -> Cloned<Nhdr64>
     ensures { result ≡ Ok header.now }
 {
     header.clone()

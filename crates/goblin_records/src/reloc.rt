@@ -1,15 +1,14 @@
 //! Relocations of either class, with an addend or without: System V gABI, "Relocation".
 ghost use Rattle.std.specs.Prelude.{◌≡◌, ◌≤◌, ◌↔◌, ◌++◌, IsTrue, length, drop};
-ghost use Rattle.goblin_base.specs.Record.{Writes};
+ghost use Rattle.goblin_base.specs.Common.{Writes};
 ghost use Rattle.goblin_records.specs.Reloc.{as_meant, as_stored, reloc_ctx_default, reloc_image, reloc_layout, reloc_layout_in, reloc_of, reloc_size, reloc_zero, SameInEachClass};
+ghost use Rattle.goblin_records.specs.RelocLaws.{reloc_laws, reloc_laws_in};
 
 pub use crate::{reloc32, reloc64};
 use goblin_base::container::{Container, Ctx, Endian};
-use goblin_base::error::Result;
+use goblin_base::error::{Cloned, Result};
 use goblin_base::laid_out::LaidOut;
 use goblin_base::scroll::{IntoCtx, TryIntoCtx};
-use std::alloc::AllocError;
-use std::result;
 
 /// A relocation of either class, with an addend or without.
 #[derive(Clone, Copy, Debug, Default, PartialEq)]
@@ -133,8 +132,6 @@ impl IntoCtx<(bool, Ctx)> for Reloc {
 
 /// With addends, a missing one is written as 0; without addends, none is written.
 impl LaidOut<(bool, Ctx)> for Reloc {
-    ghost use Rattle.goblin_records.specs.RelocLaws.{reloc_laws};
-
     ghost layout = { λ c. reloc_layout c.0 c.1.container c.1.le };
 
     fn size_in(ctx: (bool, Ctx)) -> usize {
@@ -167,8 +164,6 @@ impl LaidOut<(bool, Ctx)> for Reloc {
 /// If the context says so, symbol and type are read and written as little-endian MIPS64 files store
 /// them.
 impl LaidOut<RelocCtx> for Reloc {
-    ghost use Rattle.goblin_records.specs.RelocLaws.{reloc_laws_in};
-
     ghost layout = { reloc_layout_in };
 
     fn size_in(ctx: RelocCtx) -> usize {
@@ -192,6 +187,7 @@ impl LaidOut<RelocCtx> for Reloc {
 /// Laws of relocations: a list of relocations that fit both classes is read back the same in each
 /// class and byte order. The default relocation has all fields 0 and no addend. The default context has no addends, isn't
 /// MIPS64, and is of the default class and byte order.
+#[tactic(auto, using(crate::specs::RelocLaws::same_in_classes))]
 pub fn laws()
     ensures same { SameInEachClass }
     ensures zeros { (reloc : Reloc) → ⟦<Reloc as Default>⟧.is_default reloc → reloc ≡ reloc_zero }
@@ -200,7 +196,7 @@ pub fn laws()
 
 /// Laws: `==` is true exactly if all fields of two relocations are equal. `clone` returns the
 /// relocation, and never fails. A call returns both.
-pub fn derived(reloc: &Reloc, other: &Reloc) -> (bool, result::Result<Reloc, AllocError>)
+pub fn derived(reloc: &Reloc, other: &Reloc) -> (bool, Cloned<Reloc>)
     ensures equal { IsTrue result.0 ↔ (reloc.now ≡ other.now) }
     ensures clone { result.1 ≡ Ok reloc.now }
 {
@@ -209,7 +205,7 @@ pub fn derived(reloc: &Reloc, other: &Reloc) -> (bool, result::Result<Reloc, All
 
 /// Laws: `==` is true exactly if all fields of two contexts of relocations are equal. `clone`
 /// returns the context, and never fails. A call returns both.
-pub fn derived_ctx(ctx: &RelocCtx, other: &RelocCtx) -> (bool, result::Result<RelocCtx, AllocError>)
+pub fn derived_ctx(ctx: &RelocCtx, other: &RelocCtx) -> (bool, Cloned<RelocCtx>)
     ensures equal { IsTrue result.0 ↔ (ctx.now ≡ other.now) }
     ensures clone { result.1 ≡ Ok ctx.now }
 {

@@ -1,16 +1,16 @@
 //! Relocations of the 32-bit class: System V gABI, "Relocation" (`Elf32_Rel` and `Elf32_Rela`).
 ghost use Rattle.std.specs.Prelude.{◌≡◌, ◌≤◌, ◌↔◌, ◌++◌, IsTrue, length, drop};
-ghost use Rattle.goblin_base.specs.Layout.{low_bits, shaped, zero};
+ghost use Rattle.goblin_base.specs.Common.{low_bits, shaped, zero};
 ghost use Rattle.goblin_base.specs.declared.container.Container.TheVariants as class;
-ghost use Rattle.goblin_records.specs.Reloc.{rel32, rela32, rela32_layout, rela32_low};
+ghost use Rattle.goblin_records.specs.Reloc.{rel32, rela32, rela32_layout, rela32_low, rela_widened32, rel_widened32, rela_as32, rel_as32};
 ghost use Rattle.goblin_records.specs.RelocInfo.{symbol_in, type_in, info_of, JoinsItsParts};
+ghost use Rattle.goblin_records.specs.RelocLaws.{rela32_laws, rel32_laws};
 
 use crate::reloc::Reloc;
 use goblin_base::container::Endian;
+use goblin_base::error::Cloned;
 use goblin_base::laid_out::LaidOut;
 use goblin_base::number::{get_i32, get_u32, put_i32, put_u32};
-use std::alloc::AllocError;
-use std::result;
 
 /// A relocation with an addend, of the 32-bit class.
 #[derive(Clone, Copy, Debug, Default, PartialEq)]
@@ -61,8 +61,6 @@ pub fn r_info(sym: u32, typ: u32) -> u32
 }
 
 impl From<Rela> for Reloc {
-    ghost use Rattle.goblin_records.specs.Reloc.{rela_widened32};
-
     ghost from_gives = { λ raw reloc. reloc ≡ rela_widened32 raw };
 
     fn from(rela: Rela) -> Self {
@@ -77,8 +75,6 @@ impl From<Rela> for Reloc {
 
 /// The result has no addend.
 impl From<Rel> for Reloc {
-    ghost use Rattle.goblin_records.specs.Reloc.{rel_widened32};
-
     ghost from_gives = { λ raw reloc. reloc ≡ rel_widened32 raw };
 
     fn from(rel: Rel) -> Self {
@@ -93,8 +89,6 @@ impl From<Rel> for Reloc {
 
 /// Keeps the low bits of each field, as many as its width holds. A missing addend becomes 0.
 impl From<Reloc> for Rela {
-    ghost use Rattle.goblin_records.specs.Reloc.{rela_as32};
-
     ghost from_gives = { λ reloc raw. raw ≡ rela32_low (rela_as32 reloc) };
 
     fn from(rela: Reloc) -> Self {
@@ -109,8 +103,6 @@ impl From<Reloc> for Rela {
 
 /// Keeps the low bits of each field, as many as its width holds. Drops the addend.
 impl From<Reloc> for Rel {
-    ghost use Rattle.goblin_records.specs.Reloc.{rel_as32};
-
     ghost from_gives = { λ reloc raw. raw ≡ low_bits rel32 (rel_as32 reloc) };
 
     fn from(rel: Reloc) -> Self {
@@ -122,8 +114,6 @@ impl From<Reloc> for Rel {
 }
 
 impl LaidOut<Endian> for Rela {
-    ghost use Rattle.goblin_records.specs.RelocLaws.{rela32_laws};
-
     ghost layout = { rela32_layout };
 
     fn size_in(_order: Endian) -> usize {
@@ -148,8 +138,6 @@ impl LaidOut<Endian> for Rela {
 }
 
 impl LaidOut<Endian> for Rel {
-    ghost use Rattle.goblin_records.specs.RelocLaws.{rel32_laws};
-
     ghost layout = { shaped rel32 };
 
     fn size_in(_order: Endian) -> usize {
@@ -173,6 +161,7 @@ impl LaidOut<Endian> for Rel {
 
 /// Laws of relocations: the sizes; all fields of the default ones are 0; an `r_info` is the one of its
 /// symbol and its type.
+#[tactic(auto, using(crate::specs::RelocInfoLaws::info_laws))]
 pub fn laws()
     ensures sizes { (SIZEOF_RELA ≡ 12) × (SIZEOF_REL ≡ 8) }
     ensures rela_zeros { (rela : Rela) → ⟦<Rela as Default>⟧.is_default rela → rela ≡ zero rela32 }
@@ -182,7 +171,7 @@ pub fn laws()
 
 /// Laws: `==` is true exactly if all fields of two relocations with addends are equal. `clone`
 /// returns the relocation, and never fails. A call returns both.
-pub fn derived_rela(rela: &Rela, other: &Rela) -> (bool, result::Result<Rela, AllocError>)
+pub fn derived_rela(rela: &Rela, other: &Rela) -> (bool, Cloned<Rela>)
     ensures equal { IsTrue result.0 ↔ (rela.now ≡ other.now) }
     ensures clone { result.1 ≡ Ok rela.now }
 {
@@ -191,7 +180,7 @@ pub fn derived_rela(rela: &Rela, other: &Rela) -> (bool, result::Result<Rela, Al
 
 /// Laws: `==` is true exactly if all fields of two relocations without addends are equal. `clone`
 /// returns the relocation, and never fails. A call returns both.
-pub fn derived_rel(rel: &Rel, other: &Rel) -> (bool, result::Result<Rel, AllocError>)
+pub fn derived_rel(rel: &Rel, other: &Rel) -> (bool, Cloned<Rel>)
     ensures equal { IsTrue result.0 ↔ (rel.now ≡ other.now) }
     ensures clone { result.1 ≡ Ok rel.now }
 {

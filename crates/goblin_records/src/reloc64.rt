@@ -1,16 +1,16 @@
 //! Relocations of the 64-bit class: System V gABI, "Relocation" (`Elf64_Rel` and `Elf64_Rela`).
 ghost use Rattle.std.specs.Prelude.{◌≡◌, ◌<◌, ◌≤◌, ◌^◌, ◌↔◌, ◌++◌, IsTrue, length, drop};
-ghost use Rattle.goblin_base.specs.Layout.{low_bits, shaped, zero};
+ghost use Rattle.goblin_base.specs.Common.{low_bits, shaped, zero};
 ghost use Rattle.goblin_base.specs.declared.container.Container.TheVariants as class;
-ghost use Rattle.goblin_records.specs.Reloc.{rel64, rela64, rela64_layout, rela64_low};
+ghost use Rattle.goblin_records.specs.Reloc.{rel64, rela64, rela64_layout, rela64_low, rela_widened64, rel_widened64, rela_as64, rel_as64};
 ghost use Rattle.goblin_records.specs.RelocInfo.{symbol_in, type_in, info_of, JoinsItsParts, mips64el_info, mips64el_info_inverse, Mips64elInverse, Mips64elOneToOne, Mips64elFourTimes};
+ghost use Rattle.goblin_records.specs.RelocLaws.{rela64_laws, rel64_laws};
 
 use crate::reloc::Reloc;
 use goblin_base::container::Endian;
+use goblin_base::error::Cloned;
 use goblin_base::laid_out::LaidOut;
 use goblin_base::number::{get_i64, get_u64, put_i64, put_u64};
-use std::alloc::AllocError;
-use std::result;
 
 /// A relocation with an addend, of the 64-bit class.
 #[derive(Clone, Copy, Debug, Default, PartialEq)]
@@ -77,8 +77,6 @@ pub fn mips64el_r_info_inverse(info: u64) -> u64
 }
 
 impl From<Rela> for Reloc {
-    ghost use Rattle.goblin_records.specs.Reloc.{rela_widened64};
-
     ghost from_gives = { λ raw reloc. reloc ≡ rela_widened64 raw };
 
     fn from(rela: Rela) -> Self {
@@ -93,8 +91,6 @@ impl From<Rela> for Reloc {
 
 /// The result has no addend.
 impl From<Rel> for Reloc {
-    ghost use Rattle.goblin_records.specs.Reloc.{rel_widened64};
-
     ghost from_gives = { λ raw reloc. reloc ≡ rel_widened64 raw };
 
     fn from(rel: Rel) -> Self {
@@ -109,8 +105,6 @@ impl From<Rel> for Reloc {
 
 /// Keeps the low bits of each field, as many as its width holds. A missing addend becomes 0.
 impl From<Reloc> for Rela {
-    ghost use Rattle.goblin_records.specs.Reloc.{rela_as64};
-
     ghost from_gives = { λ reloc raw. raw ≡ rela64_low (rela_as64 reloc) };
 
     fn from(rela: Reloc) -> Self {
@@ -124,8 +118,6 @@ impl From<Reloc> for Rela {
 
 /// Keeps the low bits of each field, as many as its width holds. Drops the addend.
 impl From<Reloc> for Rel {
-    ghost use Rattle.goblin_records.specs.Reloc.{rel_as64};
-
     ghost from_gives = { λ reloc raw. raw ≡ low_bits rel64 (rel_as64 reloc) };
 
     fn from(rel: Reloc) -> Self {
@@ -137,8 +129,6 @@ impl From<Reloc> for Rel {
 }
 
 impl LaidOut<Endian> for Rela {
-    ghost use Rattle.goblin_records.specs.RelocLaws.{rela64_laws};
-
     ghost layout = { rela64_layout };
 
     fn size_in(_order: Endian) -> usize {
@@ -163,8 +153,6 @@ impl LaidOut<Endian> for Rela {
 }
 
 impl LaidOut<Endian> for Rel {
-    ghost use Rattle.goblin_records.specs.RelocLaws.{rel64_laws};
-
     ghost layout = { shaped rel64 };
 
     fn size_in(_order: Endian) -> usize {
@@ -188,6 +176,7 @@ impl LaidOut<Endian> for Rel {
 
 /// Laws of relocations: the sizes; all fields of the default ones are 0; an `r_info` is the one of its
 /// symbol and its type; `mips64el_r_info` and `mips64el_r_info_inverse` undo each other.
+#[tactic(auto, using(crate::specs::RelocInfoLaws::info_laws))]
 pub fn laws()
     ensures sizes { (SIZEOF_RELA ≡ 24) × (SIZEOF_REL ≡ 16) }
     ensures rela_zeros { (rela : Rela) → ⟦<Rela as Default>⟧.is_default rela → rela ≡ zero rela64 }
@@ -200,7 +189,7 @@ pub fn laws()
 
 /// Laws: `==` is true exactly if all fields of two relocations with addends are equal. `clone`
 /// returns the relocation, and never fails. A call returns both.
-pub fn derived_rela(rela: &Rela, other: &Rela) -> (bool, result::Result<Rela, AllocError>)
+pub fn derived_rela(rela: &Rela, other: &Rela) -> (bool, Cloned<Rela>)
     ensures equal { IsTrue result.0 ↔ (rela.now ≡ other.now) }
     ensures clone { result.1 ≡ Ok rela.now }
 {
@@ -209,7 +198,7 @@ pub fn derived_rela(rela: &Rela, other: &Rela) -> (bool, result::Result<Rela, Al
 
 /// Laws: `==` is true exactly if all fields of two relocations without addends are equal. `clone`
 /// returns the relocation, and never fails. A call returns both.
-pub fn derived_rel(rel: &Rel, other: &Rel) -> (bool, result::Result<Rel, AllocError>)
+pub fn derived_rel(rel: &Rel, other: &Rel) -> (bool, Cloned<Rel>)
     ensures equal { IsTrue result.0 ↔ (rel.now ≡ other.now) }
     ensures clone { result.1 ≡ Ok rel.now }
 {

@@ -1,7 +1,6 @@
 //! Symbols of either class: System V gABI, "Symbol Table".
 ghost use Rattle.std.specs.Prelude.{◌≡◌, ◌≤◌, ◌<◌, ◌/◌, ◌↔◌, ◌++◌, IsTrue, length, drop, codes, IsOk, [], ◌∷◌};
-ghost use Rattle.goblin_base.specs.Layout.{IsSameInEachClass};
-ghost use Rattle.goblin_base.specs.Refusal.{buffer_too_short, Gives, Refuses};
+ghost use Rattle.goblin_base.specs.Common.{IsSameInEachClass, buffer_too_short, Gives, Refuses};
 ghost use Rattle.goblin_records.specs.Constants.{bind_numbers, type_numbers, visibility_numbers};
 ghost use Rattle.goblin_records.specs.Sym.{is_in_section, sym_image, sym_layout, sym_size, sym_zero, symbols_from};
 ghost use Rattle.goblin_records.specs.SymParts.{bind_of, type_of, visibility_of, IsGlobalImport, IsImport, type_name};
@@ -9,12 +8,11 @@ ghost use Rattle.goblin_records.specs.declared.sym.Sym.{Sym};
 
 pub use crate::{sym32, sym64};
 use goblin_base::container::{Container, Ctx, Endian};
-use goblin_base::error::Result;
+use goblin_base::error::{Cloned, Result};
 use goblin_base::laid_out::LaidOut;
 use goblin_base::scroll::IntoCtx;
 use goblin_base::table::read_all;
-use std::alloc::{AllocError, Global};
-use std::result;
+use std::alloc::Global;
 
 /// A symbol of either class.
 #[derive(Clone, Copy, Debug, Default, PartialEq)]
@@ -196,6 +194,7 @@ pub fn get_type(info: u8) -> &'static str
 
 /// Laws of symbols: a list of symbols that fit both classes is read back the same in each class and
 /// byte order. All fields of the default symbol are 0.
+#[tactic(auto, using(crate::specs::SymLaws::same_symbols))]
 pub fn laws()
     ensures same { IsSameInEachClass sym_layout }
     ensures zeros { (sym : Sym) → ⟦<Sym as Default>⟧.is_default sym → sym ≡ sym_zero }
@@ -203,7 +202,7 @@ pub fn laws()
 
 /// Laws: `==` is true exactly if all fields of two symbols are equal. `clone` returns the symbol,
 /// and never fails. A call returns both.
-pub fn derived(sym: &Sym, other: &Sym) -> (bool, result::Result<Sym, AllocError>)
+pub fn derived(sym: &Sym, other: &Sym) -> (bool, Cloned<Sym>)
     ensures equal { IsTrue result.0 ↔ (sym.now ≡ other.now) }
     ensures clone { result.1 ≡ Ok sym.now }
 {

@@ -1,17 +1,16 @@
 //! Symbols of the 64-bit class: System V gABI, "Symbol Table" (`Elf64_Sym`).
 ghost use Rattle.std.specs.Prelude.{◌≡◌, ◌≤◌, ◌↔◌, ◌++◌, IsTrue, length, drop, [], ◌∷◌};
-ghost use Rattle.goblin_base.specs.Layout.{low_bits, shaped, zero};
+ghost use Rattle.goblin_base.specs.Common.{low_bits, shaped, zero};
 ghost use Rattle.goblin_records.specs.Constants.{bind_numbers, type_numbers, visibility_numbers};
-ghost use Rattle.goblin_records.specs.Sym.{sym64};
+ghost use Rattle.goblin_records.specs.Sym.{sym64, widened64, as64};
 ghost use Rattle.goblin_records.specs.SymParts.{type_of, IsImport};
 ghost use Rattle.goblin_records.specs.declared.sym64.Sym.{Sym};
 
 use crate::sym::Sym as ElfSym;
 use goblin_base::container::Endian;
+use goblin_base::error::Cloned;
 use goblin_base::laid_out::LaidOut;
 use goblin_base::number::{get_u8, get_u16, get_u32, get_u64, put_u8, put_u16, put_u32, put_u64};
-use std::alloc::AllocError;
-use std::result;
 
 /// A symbol of the 64-bit class.
 #[derive(Clone, Copy, Debug, Default, PartialEq)]
@@ -52,8 +51,6 @@ impl Sym {
 }
 
 impl From<Sym> for ElfSym {
-    ghost use Rattle.goblin_records.specs.Sym.{widened64};
-
     ghost from_gives = { λ raw sym. sym ≡ widened64 raw };
 
     fn from(sym: Sym) -> Self {
@@ -70,8 +67,6 @@ impl From<Sym> for ElfSym {
 
 /// Keeps the low bits of each field, as many as its width holds.
 impl From<ElfSym> for Sym {
-    ghost use Rattle.goblin_records.specs.Sym.{as64};
-
     ghost from_gives = { λ sym raw. raw ≡ low_bits sym64 (as64 sym) };
 
     fn from(sym: ElfSym) -> Self {
@@ -125,7 +120,7 @@ pub fn laws()
 
 /// Laws: `==` is true exactly if all fields of two symbols are equal. `clone` returns the symbol,
 /// and never fails. A call returns both.
-pub fn derived(sym: &Sym, other: &Sym) -> (bool, result::Result<Sym, AllocError>)
+pub fn derived(sym: &Sym, other: &Sym) -> (bool, Cloned<Sym>)
     ensures equal { IsTrue result.0 ↔ (sym.now ≡ other.now) }
     ensures clone { result.1 ≡ Ok sym.now }
 {

@@ -1,8 +1,8 @@
-use Rattle.goblin_headers.specs.Header.{header64_fields}
+use Rattle.goblin_headers.specs.Header.{header64}
 use Rattle.goblin_headers.proofs.WriteHeaderLemmas.{with_header}
 use Rattle.goblin_headers.proofs.header64.Header.put.Goals as goal
 
 pub returns : goal.returns
 returns c =
     cc (with_header c.args.order c.args.self.now.e_ident c.args.bytes.now c.put_ident.new.bytes
-    (header64_fields c.args.self.now) c.put_ident.ensures.long c.put_ident.ensures.front c.requires)
+    (header64.fields c.args.self.now) c.put_ident.ensures.long c.put_ident.ensures.front c.requires)

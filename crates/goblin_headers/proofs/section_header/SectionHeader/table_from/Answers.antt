@@ -1,5 +1,5 @@
 use Rattle.std.proofs.Common.{rules, sym, subst}
-use Rattle.goblin_base.specs.Refusal.{Answers}
+use Rattle.goblin_base.specs.Common.{Answers}
 use Rattle.goblin_headers.proofs.ReadSections.{first_refused, from_is}
 use Rattle.goblin_headers.proofs.section_header.SectionHeader.table_from.Goals as goal
 
