@@ -59,8 +59,7 @@ check_examples() {
         /All are compiled with these variables:$/ { is_variables = 1; next }
         is_variables { gsub(/^ +/, "static "); is_variables = !sub(/ *\*\/$/, ""); gsub(/; /, ";\nstatic "); print
             if (!is_variables) print "extern int run_examples(void);\nint run_examples(void) {" }
-        /^\/\* ---- the calls of the library ----/ { is_library = 1 }
-        !is_library && /^(GOBLIN_CALL )?(uint(32|64)_t|void) goblin_/ { calls++ }
+        /^(uint(32|64)_t|void) goblin_/ { calls++ }
         sub(/^ *Example: /, "") { examples++; sub(/ \*\/$/, ""); print "    { " $0 " }" }
         END { print "    return range.size + string.size + value + note.n_type + count > 0;\n}"; exit calls == 0 || calls != examples }' \
         faces/c/goblin.h > "$folder/examples.c" || fail "each call in goblin.h must have one example"
@@ -89,8 +88,7 @@ check_constants() {
 
 # Fails unless cost.c makes each call of goblin.h that is passed a file, so that each has a limit on its time.
 check_cost() {
-    awk '/^\/\* ---- the calls of the library ----/ { exit }
-        /^(GOBLIN_CALL )?(uint(32|64)_t|void) goblin_[a-z_]*\(const uint8_t \*bytes/ { sub(/\(.*/, ""); print $NF }' faces/c/goblin.h > "$folder/calls"
+    awk '/^(uint(32|64)_t|void) goblin_[a-z_]*\((const )?uint8_t \*bytes/ { sub(/\(.*/, ""); print $NF }' faces/c/goblin.h > "$folder/calls"
     [ -s "$folder/calls" ] || fail "goblin.h has no calls that are passed a file"
     while read -r call; do
         grep -qF "$call(bytes, len" faces/c/cost.c || fail "$call is passed a file and cost.c does not call it: give it a row there"
