@@ -235,6 +235,15 @@ check_damaged() {
     build damaged -std=c99 "$@"
     "$folder/damaged" 1000 "$files"/* > "$folder/summed" || { echo "failed: damaged.c"; cat "$folder/summed"; exit 1; }
     cat "$folder/summed"
+    # The same over the calls in plain C, and over larger files with both.
+    quietly strictly cc -std=c99 -Ifaces/c -o "$folder/plain" faces/c/damaged.c faces/c/plain.c
+    for file in "$folder/nm" "$folder/made" "$files"; do
+        if [ -d "$file" ]; then set -- "$file"/*; else set -- "$file"; fi
+        "$folder/plain" 1000 "$@" > "$folder/wanted" || { echo "failed: damaged.c over plain.c"; cat "$folder/wanted"; exit 1; }
+        "$folder/damaged" 1000 "$@" > "$folder/listed" || { echo "failed: damaged.c"; cat "$folder/listed"; exit 1; }
+        quietly diff "$folder/wanted" "$folder/listed"
+    done
+    echo "plain.c, a plain reading of goblin.h, has the same results"
 }
 
 check_header
