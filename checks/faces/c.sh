@@ -143,8 +143,8 @@ check_execstack() {
     [ "$(cmp -l "$folder/nm" "$folder/stack" | wc -l)" -eq 1 ] || fail "execstack.c changes more than one byte"
     quietly "$folder/stack" "$folder/nm"
     said=$("$folder/execstack" -c "$1" 2>&1) && fail "execstack.c changes a file without program headers"
-    [ "$said" = "? $1
-execstack: $1: there is no program header of type PT_GNU_STACK" ] || fail "execstack.c prints this of an object file: $said"
+    [ "$said" = "execstack: $1: there is no program header of type PT_GNU_STACK" ] || fail "execstack.c prints this of an object file: $said"
+    [ "$("$folder/execstack" "$1")" = "? $1" ] || fail "execstack.c does not print that $1 has no such program header"
     echo "execstack.c changes one flag"
 }
 
