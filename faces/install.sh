@@ -177,7 +177,7 @@ link_module() {
 # Prints the sums of what a library was made of, and of the library.
 sums() {
     rt version
-    sh checks/sources.sh --sum goblin_c
+    python3 checks/crates.py --sum goblin_c
     sha256sum < "$1"
 }
 
