@@ -54,11 +54,10 @@ margin:
 	$(has_rt)
 	@python3 checks/margin.py $(CRATES)
 
-# Times the program, once it is built, over files that ask for much work, and over a FILE: make bench FILE=/bin/true. Then times
-# calls of the library.
+# Times the program, once it is built, beside readelf over files that ask for much work, over a FILE, and over files of this machine: make
+# bench FILE=/bin/true.
 bench:
-	$(has_rt)
-	@sh checks/bench.sh
+	@python3 checks/bench.py $(if $(value FILE),"$$SHOWN")
 
 # Times the library for C beside libelf, where its header is installed: make bench-faces [FILE=/usr/lib/libx.so] [CPU=x86-64-v2]
 bench-faces:
