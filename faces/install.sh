@@ -93,7 +93,7 @@ install_library() {
     put_all faces/rust/examples share/goblin_c/rust/examples
     # (what compares the crate with its repository stays there)
     put_all faces/rust/tests share/goblin_c/rust/tests ! -name repository.rs
-    put_edited 's|^license-file = .*|license-file = "LICENSE"|' faces/rust/Cargo.toml share/goblin_c/rust/Cargo.toml
+    put faces/rust/Cargo.toml share/goblin_c/rust/Cargo.toml
     if [ "$shared" ]; then
         link_shared
         put "$folder/shared" "$shared"
