@@ -6,12 +6,12 @@
     python3 checks/gate.py edits [CRATE ..] [--edit NAME] [--from FOLDER]     the edits alone, of these crates or of all
 
 The crates are proved in a copy of the repository, which holds nothing that an earlier run left there; `edits` takes over what checks in
-the crates' folders have cached. As many parts run side by side as there are processors. The proofs come first, since the other
-parts wait for them. A part that fails is printed whole, and what waits for it is left out. What each part prints stands in out/log.
+the crates' folders have cached. As many parts run side by side as there are processors. A proof begins as soon as it can and goes
+before the other parts, which wait for it. A part that fails is printed whole, and what waits for it is left out. What each part prints
+stands in out/log.
 """
 import argparse
 import os
-import re
 import shutil
 import subprocess
 import sys
@@ -28,7 +28,7 @@ PYTHON = sys.executable or 'python3'
 
 @dataclass
 class Part:
-    """A command, the parts that must pass before it, and whether it gets a processor before others."""
+    """A command, the parts that must pass before it, and whether it goes before others."""
     name: str
     command: list
     after: tuple = ()
@@ -40,6 +40,14 @@ class Part:
     status: int = None
 
 
+def link(path, to):
+    """Gives a file another name, or where that can't be, as on another disk, copies it."""
+    try:
+        os.link(path, to)
+    except OSError:
+        shutil.copy2(path, to)
+
+
 def copied(folder, with_cached=False):
     """Copies the repository's files, and what checks of its crates have cached if that is asked for."""
     listed = subprocess.run(['git', 'ls-files', '-co', '-z', '--exclude-standard'], stdout=subprocess.PIPE, text=True, check=True).stdout
@@ -49,7 +57,8 @@ def copied(folder, with_cached=False):
     for crate in crates_listed() if with_cached else []:
         for part in ('incremental', 'rlib'):
             if os.path.isdir(f'crates/{crate}/out/{part}'):
-                shutil.copytree(f'crates/{crate}/out/{part}', f'{folder}/crates/{crate}/out/{part}')
+                # (no check writes into a file that is there)
+                shutil.copytree(f'crates/{crate}/out/{part}', f'{folder}/crates/{crate}/out/{part}', copy_function=link)
     return folder
 
 
@@ -58,8 +67,7 @@ def is_tests(crate):
 
 
 def has_tests(crate):
-    text = ''.join(open(file.path, encoding='utf-8').read() for file in os.scandir(f'crates/{crate}/src'))
-    return '#[test]' in text
+    return subprocess.run(['git', 'grep', '-qF', '#[test]', '--', f'crates/{crate}/src']).returncode == 0
 
 
 def quick():
@@ -145,7 +153,7 @@ class Run:
     def begin(self, part):
         part.begun = time.time()
         log = open(f'{LOGS}/{part.name.replace(" ", "-")}', 'w', encoding='utf-8')
-        command = part.command if part.is_first else ['nice', '-n', '3', *part.command]
+        command = part.command if part.is_first else ['nice', '-n', '5', *part.command]
         with log:
             ran = subprocess.Popen(command, cwd=part.where, stdin=subprocess.DEVNULL, stdout=log, stderr=subprocess.STDOUT)
         self.running[ran.pid] = (part, ran)
@@ -168,12 +176,15 @@ class Run:
     def all(self, places):
         """Runs all parts, as many side by side as there are places, and returns the exit status."""
         os.makedirs(LOGS, exist_ok=True)
+        self.say(f'{len(self.parts)} parts, about {places} side by side; what each prints is left in {LOGS}')
         while self.left():
             now = [part for part, _ in self.running.values()]
             waiting = [part for part in self.left() if part not in now]
             ready = [part for part in waiting if all(self.status[name].status == 0 for name in part.after)]
-            for part in sorted(ready, key=lambda part: not part.is_first)[:max(0, places - len(self.running))]:
-                self.begin(part)
+            for part in sorted(ready, key=lambda part: not part.is_first):
+                if len(self.running) < places or part.is_first and sum(other.is_first for other in now) < places:
+                    self.begin(part)
+                    now.append(part)
             pid, status, used = os.wait4(-1, os.WNOHANG) if self.running else (0, 0, None)
             if pid in self.running:
                 self.end(pid, status, used)

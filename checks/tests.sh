@@ -2,7 +2,7 @@
 # Runs all tests of a crate without a proof of their bodies: sh checks/tests.sh CRATE. The library's code runs with checks of its own, such as
 # of bounds and overflows, which make some tests slow. Run from the repository's root.
 set -eu
-count=$(cat "crates/$1"/src/*.rt | grep -c '#\[test\]')
+count=$(grep -rF '#[test]' "crates/$1/src" | wc -l)
 said=$(mktemp)
 trap 'rm -f "$said"' EXIT
 trap 'exit 1' HUP INT TERM
