@@ -110,8 +110,7 @@ def test(room, whole):
     parts += [here('calls from other languages', 'sh checks/faces.sh', 'proof of goblin_c')]
     parts += edits(dict.fromkeys(crates_with([f'crates/{{}}/{kind}' for kind in kinds])), copy, '--kinds', ','.join(kinds))
     parts += [here('refused allocations', 'sh checks/refused.sh')]
-    parts += [here("the program's words", 'sh checks/words.sh', 'proof of goblin_show'),
-              here('real files', f'{PYTHON} checks/files.py', 'proof of goblin_show'),
+    parts += [here('the program', f'{PYTHON} checks/program.py', 'proof of goblin_show'),
               here('hostile files', f'{PYTHON} checks/limits.py', 'proof of goblin_show', 'proof of goblin_refused')]
     if whole:
         parts += [here("the edits' own test", f'{PYTHON} checks/edits/self_test.py')]

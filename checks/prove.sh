@@ -19,4 +19,5 @@ if [ -e src/main.rt ]; then
 else
     rt lib > out/said 2>&1 || fail "$1 is not proved"
 fi
-sed -n "s/^logic=proved functions=\([0-9]*\) .*/$1: \1 functions are proved/p" out/said | tail -n 1
+count=$(sed -n 's/^logic=proved functions=\([0-9]*\) .*/\1/p' out/said | tail -n 1)
+echo "$1: ${count:+$count functions are }proved"
