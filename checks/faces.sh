@@ -7,6 +7,7 @@ set -eu
 folder=$(mktemp -d)
 trap 'rm -rf "$folder"' EXIT
 trap 'exit 1' HUP INT TERM
+start=$(date +%s)
 python3 faces/constants.py --check
 python3 faces/constants.py --made
 echo "the constants in C are the library's, and those in Rust and JavaScript are made of it"
@@ -14,10 +15,12 @@ echo "the constants in C are the library's, and those in Rust and JavaScript are
 try() {
     subject=$1
     shift
-    echo "faces: $subject"
+    echo "faces: $subject, after $(($(date +%s) - start)) seconds"
     sh "checks/faces/$subject.sh" "$folder" "$@"
 }
 
+sh checks/libraries.sh faces goblin_c
+echo "faces: making the library, which takes some minutes if its calls are not proved yet"
 try library
 if ! command -v cc > /dev/null; then
     echo "cc is not installed, so the calls from C, Rust and JavaScript are not tested: install a C compiler"
