@@ -85,9 +85,9 @@ def proofs(crates, copy, after=()):
                  copy, True) for crate in wanted]
 
 
-def edits(crates, copy, *words):
+def edits(crates, copy, *words, what='edits'):
     """The edits of these crates, each once the crate is proved."""
-    return [Part(f'edits of {crate}', [PYTHON, 'checks/edits', '--over', copy, *words, crate], (f'proof of {crate}',), copy) for crate in crates]
+    return [Part(f'{what} of {crate}', [PYTHON, 'checks/edits', '--over', copy, *words, crate], (f'proof of {crate}',), copy) for crate in crates]
 
 
 def crates_with(kinds, name=None):
@@ -108,7 +108,8 @@ def test(room, whole):
     if not whole:
         parts += [here(f'tests of {crate}', f'sh checks/tests.sh {crate}') for crate in crates_listed() if has_tests(crate)]
     parts += [here('calls from other languages', 'sh checks/faces.sh', 'proof of goblin_c')]
-    parts += edits(dict.fromkeys(crates_with([f'crates/{{}}/{kind}' for kind in kinds])), copy, '--kinds', ','.join(kinds))
+    crates = dict.fromkeys(crates_with([f'crates/{{}}/{kind}' for kind in kinds]))
+    parts += edits(crates, copy, '--kinds', ','.join(kinds), what='edits' if whole else 'must-fail')
     parts += [here('refused allocations', 'sh checks/refused.sh')]
     parts += [here('the program', f'{PYTHON} checks/program.py', 'proof of goblin_show'),
               here('hostile files', f'{PYTHON} checks/limits.py', 'proof of goblin_show', 'proof of goblin_refused')]
