@@ -62,19 +62,12 @@ def copied(folder, with_cached=False):
     return folder
 
 
-def is_tests(crate):
-    return crate.endswith('_tests')
-
-
 def has_tests(crate):
     return subprocess.run(['git', 'grep', '-qF', '#[test]', '--', f'crates/{crate}/src']).returncode == 0
 
 
-def quick():
-    """What takes seconds. All else waits for it."""
-    commands = {'quotations': 'sh checks/quotes.sh', 'lint': 'sh checks/lint.sh', 'whether edits fit': f'{PYTHON} checks/edits --fits',
-                'views': 'sh checks/views.sh'}
-    return [Part(name, command.split(), is_first=True) for name, command in commands.items()]
+# What takes seconds. All else waits for it.
+QUICK = {'quotations': 'sh checks/quotes.sh', 'lint': 'sh checks/lint.sh', 'whether edits fit': f'{PYTHON} checks/edits --fits', 'views': 'sh checks/views.sh'}
 
 
 def proofs(crates, copy, after=()):
@@ -99,23 +92,21 @@ def crates_with(kinds, name=None):
 def test(room, whole):
     """The parts of `make test`, or where it is to be whole, of `make gate`."""
     copy = copied(f'{room}/proved')
-    first = quick()
-    waits = tuple(part.name for part in first)
+    waits = tuple(QUICK)
     kinds = ['must-fail', 'controls', *['edits'] * whole]
     here = lambda name, command, *after: Part(name, command.split(), after or waits, copy)
-    parts = [Part('rt ci', ['rt', 'ci'], waits, copied(f'{room}/whole'), True)] if whole else []
-    parts += proofs([crate for crate in crates_listed() if not is_tests(crate)], copy, waits)
+    parts = [Part(name, command.split(), is_first=True) for name, command in QUICK.items()]
+    parts += [Part('rt ci', ['rt', 'ci'], waits, copied(f'{room}/whole'), True)] if whole else []
+    # (a crate whose name ends so holds tests alone)
+    parts += proofs([crate for crate in crates_listed() if not crate.endswith('_tests')], copy, waits)
     if not whole:
         parts += [here(f'tests of {crate}', f'sh checks/tests.sh {crate}') for crate in crates_listed() if has_tests(crate)]
     parts += [here('calls from other languages', 'sh checks/faces.sh', 'proof of goblin_c')]
     crates = dict.fromkeys(crates_with([f'crates/{{}}/{kind}' for kind in kinds]))
     parts += edits(crates, copy, '--kinds', ','.join(kinds), what='edits' if whole else 'must-fail')
-    parts += [here('refused allocations', 'sh checks/refused.sh')]
-    parts += [here('the program', f'{PYTHON} checks/program.py', 'proof of goblin_show'),
+    parts += [here('refused allocations', 'sh checks/refused.sh'), here('the program', f'{PYTHON} checks/program.py', 'proof of goblin_show'),
               here('hostile files', f'{PYTHON} checks/limits.py', 'proof of goblin_show', 'proof of goblin_refused')]
-    if whole:
-        parts += [here("the edits' own test", f'{PYTHON} checks/edits/self_test.py')]
-    return [*first, *parts]
+    return parts + [here("the edits' own test", f'{PYTHON} checks/edits/self_test.py')] * whole
 
 
 def leave(copy):

@@ -135,9 +135,9 @@ MISFIT = ('stands_nowhere', 'file: src/lib.rt\nold:     x + 9\nnew:     x\n',
 # Lines of the prover, and what each says is open of a function.
 OPEN = {
     'note: src/lib.rt:7:1: it is not proved that this holds (`returns-clause-one`); the facts known there allow': 'values',
-    'note: src/lib.rt:7:1: it is not proved that this holds (`returns-then-x-clause-one`)': 'clause one',
-    'note: src/lib.rt:7:1: it is not proved that this holds (`returns`)': 'search',
-    './proofs/third/Answers.antt:5:1: error: `returns`: `omega`: the goal does not follow from what it read': 'search',
+    'note: src/lib.rt:7:1: it is not proved that this holds (`returns-then-x-clause-one`)': 'goal',
+    'note: src/lib.rt:7:1: it is not proved that this holds (`returns`)': 'goal',
+    './proofs/third/Answers.antt:5:1: error: `returns`: `omega`: the goal does not follow from what it read': 'goal',
     './proofs/third/Answers.antt:5:1: error: `returns`: as printed, the two types differ only where one has `c`': '',
 }
 
