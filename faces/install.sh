@@ -48,9 +48,17 @@ folder=$(mktemp -d)
 trap 'rm -rf "$folder"' EXIT
 trap 'exit 1' HUP INT TERM
 
-# Installs a file below the folder, with a mode or 644, and notes it in the list of installed files: put FILE NAME [MODE]
+# Makes a folder below the folder, with those above it, and notes those that were not there in the list of installed files.
+make_folder() {
+    if [ -d "$to/$1" ]; then return 0; fi
+    case $1 in */*) make_folder "${1%/*}" ;; ?*) make_folder '' ;; esac
+    install -d -m 755 "$to/$1"
+    echo "$1/" >> "$folder/files"
+}
+
+# Installs a file below the folder, with a mode or 644, and notes it in that list: put FILE NAME [MODE]
 put() {
-    install -d -m 755 "$to/$(dirname "$2")"
+    make_folder "$(dirname "$2")"
     install -m "${3:-644}" "$1" "$to/$2"
     echo "$2" >> "$folder/files"
 }
@@ -75,6 +83,8 @@ install_below() {
     : > "$folder/files"
     if [ "$target" = wasm64-unknown-unknown ]; then kind=web; else kind=library; fi
     remove_from "$to" "$kind"
+    # (what an earlier installation made and something else keeps is still of this one)
+    while read -r made; do if [ -d "$to/$made" ]; then echo "$made" >> "$folder/files"; fi; done < "$folder/made"
     python3 faces/constants.py --made
     "install_$kind"
     install -m 644 "$folder/files" "$to/share/goblin_c/$kind.files"
@@ -97,7 +107,7 @@ install_library() {
     put_all faces/rust/examples share/goblin_c/rust/examples
     # (what compares the crate with its repository stays there)
     put_all faces/rust/tests share/goblin_c/rust/tests ! -name repository.rs
-    put_edited 's|^license-file = .*|license-file = "LICENSE"|' faces/rust/Cargo.toml share/goblin_c/rust/Cargo.toml
+    put faces/rust/Cargo.toml share/goblin_c/rust/Cargo.toml
     if [ "$shared" ]; then
         link_shared
         put "$folder/shared" "$shared"
@@ -176,19 +186,29 @@ install_web() {
     put "$folder/page" share/goblin_c/web/index.html
 }
 
-# Removes what was installed below a folder, by the list of its files, and the empty folders that are left of its own.
+# Removes what was installed below a folder, by the lists of its files, and the folders that were made for them, if nothing else is in
+# them: remove_from FOLDER KIND ..
 remove_from() {
-    list=$1/share/goblin_c/$2.files
-    [ -e "$list" ] || return 0
-    while read -r file; do rm -f "$1/$file"; done < "$list"
-    rm "$list"
-    find "$1/share/goblin_c" -depth -type d -empty -delete
+    below=$1
+    shift
+    : > "$folder/made"
+    for kind; do
+        list=$below/share/goblin_c/$kind.files
+        [ -e "$list" ] || continue
+        sed -n '/\/$/p' "$list" >> "$folder/made"
+        sed '/\/$/d' "$list" | while read -r file; do rm -f "$below/$file"; done
+        rm "$list"
+    done
+    # (lists of earlier versions name no folders)
+    if [ -d "$below/share/goblin_c" ]; then find "$below/share/goblin_c" -depth -type d -empty -delete; fi
+    LC_ALL=C sort -r "$folder/made" | while read -r made; do
+        if [ -d "$below/$made" ] && [ -z "$(ls -A "$below/$made")" ]; then rmdir "$below/$made"; fi
+    done
 }
 
 if [ "$1" = --uninstall ]; then
     [ -e "$2/share/goblin_c/library.files" ] || [ -e "$2/share/goblin_c/web.files" ] || fail "goblin_c is not installed below $2: nothing is removed"
-    remove_from "$2" library
-    remove_from "$2" web
+    remove_from "$2" library web
     echo "goblin_c is removed from $2"
     exit 0
 fi
@@ -203,7 +223,7 @@ link_module() {
 # Prints the sums of what a library was made of, and of the library.
 sums() {
     rt version
-    sh checks/sources.sh --sum goblin_c
+    python3 checks/crates.py --sum goblin_c
     sha256sum < "$1"
 }
 
@@ -211,6 +231,8 @@ sums() {
 make_library() {
     made=crates/goblin_c/out/libgoblin_c.a
     if [ -e "$made" ]; then cp -p "$made" "$folder/before"; fi
+    sh checks/libraries.sh goblin_c goblin_c
+    echo "goblin_c: proving the calls for C, and compiling them for $target" >&2
     (cd crates/goblin_c && rt lib --target "$target" --cpu "$cpu") > "$folder/said" 2>&1 || { cat "$folder/said"; exit 1; }
     cat "$folder/said"
     mv "$made" "$folder/made"

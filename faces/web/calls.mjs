@@ -133,6 +133,14 @@ const WAYS = {
     filter: (list) => list.filter(() => true),
     'filter by indices': (list) => Array.from({ length: list.length }, (_, wanted) => list.filter((_item, index) => index === wanted)).flat(),
     find: (list) => Array.from({ length: list.length }, (_, wanted) => list.find((_item, index) => index === wanted)),
+    some: (list) => Array.from({ length: list.length }, (_, wanted) => {
+        let found;
+        return list.some((item, index) => { found = item; return index === wanted; }) && found;
+    }),
+    reduce: (list) => list.reduce((items, item, index) => { items[index] = item; return items; }, []),
+    'reduce without a start': (list) => (list.length ? [list.reduce((first) => first), ...[...list].slice(1)] : []),
+    slice: (list) => [...list.slice(0, 1), ...list.slice(1)],
+    'an index in brackets': (list) => Array.from({ length: list.length }, (_, index) => list[index]),
     entries: (list) => [...list.entries()].map(([, item]) => item),
     'entries by indices': (list) => { const items = []; for (const [index, item] of list.entries()) items[index] = item; return items; },
     'at and length': (list) => Array.from({ length: list.length }, (_, index) => list.at(index)),
@@ -158,6 +166,13 @@ function has_each(list, items, what) {
     for (const index of [0, 1, -1, items.length, -items.length - 1, 1.9, -0.5, NaN, Infinity, -Infinity, undefined, '1']) {
         assert.deepEqual(list.at(index), items.at(index), `${what}, at ${index}`);
     }
+    for (const [start, end] of [[], [1], [-1], [0, -1], [1, 2], [2, 1], [-3, -1], [0.5, 1.5], [-Infinity, Infinity], [NaN, 1]]) {
+        assert.deepEqual(list.slice(start, end), items.slice(start, end), `${what}, from ${start} to ${end}`);
+    }
+    for (const name of [items.length, -1, 1.5, '01']) assert.equal(list[name], undefined);
+    if (list instanceof goblin.List) assert.throws(() => { list[0] = items[0]; }, TypeError);
+    if (items.length === 0) assert.throws(() => list.reduce(() => 0), TypeError);
+    assert.equal(list.some(() => false), false);
     assert.equal(list.find(() => false), undefined);
     assert.equal(JSON.stringify(list), JSON.stringify(items), what);
 }
@@ -823,11 +838,15 @@ function check_declarations() {
 
 function check_package() {
     const { types, exports, engines, files: listed } = JSON.parse(readFileSync(join(web, 'package.json')));
-    assert.deepEqual(exports, { types, default: './goblin.js' });
-    for (const name of [types, exports.default, ...listed]) assert.ok(existsSync(join(web, name)), name);
+    assert.deepEqual(exports['.'], { types, default: './goblin.js' });
+    const passed_on = Object.entries(exports).filter(([name]) => name !== '.');
+    for (const [name, path] of passed_on) assert.equal(name, path);
+    for (const name of [types, exports['.'].default, ...passed_on.map(([, path]) => path), ...listed]) assert.ok(existsSync(join(web, name)), name);
     assert.deepEqual(readdirSync(web).filter((name) => !['LICENSE', 'package.json'].includes(name)).sort(), listed.sort());
     const [least] = /\d+/.exec(engines.node);
-    assert.ok(Number(process.versions.node.split('.')[0]) >= Number(least));
+    // (an earlier node needs a flag)
+    const has_flag = process.execArgv.includes('--experimental-wasm-memory64');
+    assert.ok(has_flag || Number(process.versions.node.split('.')[0]) >= Number(least));
 }
 
 await check_missing_memories();

@@ -328,7 +328,7 @@ function check(module) {
 /**
  * Loads the library, which all calls of this file need. Rejects if the engine has no 64-bit memories, if the module can't be loaded, or
  * if it has another interface than this file or lacks a call. If it rejects, a module that was loaded before stays in use.
- * @param {URL | BufferSource | WebAssembly.Module} [source] the module, its bytes or its URL, by default in the folder of this file
+ * @param {object} [source] the module (a `WebAssembly.Module`), its bytes or its `URL`, by default in the folder of this file
  * @returns {Promise<void>}
  */
 export default async function init(source = new URL('goblin_c.wasm', import.meta.url)) {
@@ -1103,8 +1103,9 @@ function may_hold({ p_type }, section) {
 
 /**
  * A list in a file. The call that makes it reads the number of items, and throws if the list can't be read. An iteration reads several
- * items at a time. For other methods of arrays use `[...list]`.
+ * items at a time. An item is read by `list[index]`, as from an array. For other methods of arrays use `[...list]`.
  * @template T
+ * @index {T | undefined}
  */
 export class List {
     #memory; #kind; #args; #range; #convert; #has_many; #length;
@@ -1216,11 +1217,50 @@ export class List {
     }
 
     /**
+     * Returns whether a function returns true for an item. It is called with each item and its index up to there.
+     * @param {(item: T, index: number) => unknown} callback
+     * @returns {boolean}
+     */
+    some(callback) {
+        for (const [index, item] of this.entries()) if (callback(item, index)) return true;
+        return false;
+    }
+
+    /**
+     * Returns what a function makes of all items, like `reduce` of an array: it is called with what it made of the items before, with an
+     * item and its index. Without an initial value it begins with the first item, and throws a `TypeError` if there is none.
+     * @template U
+     * @param {(made: U, item: T, index: number) => U} callback
+     * @param {[U?]} ...initial
+     * @returns {U}
+     */
+    reduce(callback, ...initial) { return Array.from(this).reduce((made, item, index) => callback(made, item, index), ...initial); }
+
+    /**
+     * Returns the items from an index up to another one, like `slice` of an array: a negative index counts from the end.
+     * @param {number} [start]
+     * @param {number} [end]
+     * @returns {T[]}
+     */
+    slice(start = 0, end = this.#length) {
+        const inside = (index) => (index < 0 ? Math.max(index + this.#length, 0) : Math.min(index, this.#length));
+        const [first, last] = [start, end].map((index) => inside(Math.trunc(index) || 0));
+        return [...this.from(first, last - first)];
+    }
+
+    /**
      * Returns the items as an array, for `JSON.stringify`.
      * @returns {T[]}
      */
     toJSON() { return Array.from(this); }
 }
+
+// An index in brackets works as that of an array: `list[0]`. Nothing can be assigned to it, which throws a TypeError.
+const is_index = (name) => typeof name === 'string' && /^(?:0|[1-9]\d{0,15})$/.test(name);
+Object.setPrototypeOf(List.prototype, new Proxy(Object.create(Object.prototype), {
+    get: (target, name, list) => (is_index(name) ? list.get(Number(name)) : Reflect.get(target, name, list)),
+    set: (target, name, value, list) => !is_index(name) && Reflect.set(target, name, value, list),
+}));
 
 /**
  * A symbol table, with the string table of its names.

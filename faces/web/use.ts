@@ -9,6 +9,8 @@ export async function main(bytes: ArrayBuffer, view: Uint16Array): Promise<strin
     const sections: List<SectionHeader> = elf.section_headers();
     const names: (string | undefined)[] = sections.map((section) => elf.section_name(section));
     const loaded: SectionHeader[] = sections.filter(({ sh_flags }) => (sh_flags & SHF_ALLOC) !== 0n);
+    const total: bigint = sections.reduce((sum: bigint, { sh_size }) => sum + sh_size, 0n), second: SectionHeader | undefined = sections[1];
+    lines.push(`${total} ${second?.sh_size} ${sections.slice(1).length} ${sections.some(({ sh_size }) => sh_size === 0n)}`);
     for (const [index, { sh_size }] of sections.entries()) lines.push(`${names[index]} ${sh_size + 1n}`);
     const found = elf.section_by_type(SHT_SYMTAB), index: number | undefined = found?.index, range: Range | undefined = elf.range(loaded[0]);
     lines.push(`${index} ${found?.section.sh_size} ${range?.offset} ${machine_to_str(elf.header.e_machine)}`, JSON.stringify({ ...loaded[0] }, json));

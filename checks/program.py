@@ -1,16 +1,19 @@
 #!/usr/bin/env python3
-"""Checks that the program shows files as readelf lists them. Run it from the repository's root.
+"""Checks the built program, by each compiler: what it shows of files, its arguments, and its exit status. Run it from the repository's root.
 
-    python3 checks/files.py         compares what the program shows of each file; after `rt ci` has built it by both compilers
-    python3 checks/files.py FILE    prints what the program is to show of one of the files
+    python3 checks/program.py         all of that, once checks/prove.sh has built the program
+    python3 checks/program.py FILE    only prints what the program is to show of one of the files
 
-The files of checks/files/made are objects, libraries and a core of both classes and byte orders, which checks/files/make.sh made.
+The files of checks/files/made are objects, libraries and a core of both classes and byte orders. GNU as and ld 2.40 made them on Debian, for
+five machines and of one source of a few symbols and relocations; the core is the first 512 bytes of that of a program that crashes.
 checks/files/symbols was written by hand. Beside each file is the output of readelf -W -h -S -s -r for it, which is converted here to
 the program's words.
 """
+import os
 import re
 import subprocess
 import sys
+import tempfile
 
 MADE = ('i386_library', 'mips64el_object', 'powerpc_object', 's390x_library', 'x86_64_core', 'x86_64_library')
 FILES = ('checks/files/symbols', *(f'checks/files/made/{name}' for name in MADE))
@@ -89,23 +92,63 @@ def wanted_of(path):
         return text_of(listing.read())
 
 
-def compare():
-    """Compares what the program, by each compiler, shows of each file, and returns the exit status."""
-    wrong = lines = 0
+def runs(input, arguments=()):
+    """The exit status and the output of each build for an input."""
+    for program in PROGRAMS:
+        file = os.open(input, os.O_RDONLY)
+        ran = subprocess.run([program, *arguments], stdin=file, stdout=subprocess.PIPE)
+        os.close(file)
+        yield program, ran.returncode, ran.stdout
+
+
+def differing(status, wanted, input, arguments=()):
+    """Prints where a run ends or writes otherwise, and returns how many do."""
+    wrong = 0
+    for program, ended, written in runs(input, arguments):
+        if (ended, written) != (status, wanted):
+            wrong += 1
+            print(f'program: {program} {" ".join(arguments)} < {input}: exit status {ended} (expected {status}). Its output:\n{written.decode()}\n'
+                  f'Expected:\n{wanted.decode()}')
+    return wrong
+
+
+def words(folder):
+    """Tries the arguments, and inputs and outputs that fail: no argument means strict, `permissive` means permissive, and all others print the
+    usage. Returns how many runs there were, and how many were wrong."""
+    file, usage, strict = 'crates/goblin_show/stdin', b'usage: goblin_show [permissive]\n', ()
+    permissive, damaged = ('permissive',), f'{folder}/damaged'
+    with open(file, 'rb') as input, open('crates/goblin_show/stdout', 'rb') as output:
+        whole, shown = input.read(), output.read()
+    # (a byte in its string table that is not UTF-8)
+    with open(damaged, 'wb') as made:
+        made.write(whole[:53] + b'\xff' + whole[54:])
+    rows = [(0, shown, file, strict), (0, shown, file, permissive), (1, b'refused: bad input invalid utf8 (3)\n', damaged, strict),
+            (0, shown.replace(b'name=.s\n', b'name=\n'), damaged, permissive)]
+    rows += [(2, usage, file, arguments) for arguments in [('strict',), ('',), ('Permissive',), permissive * 2, ('permissive', '')]]
+    # (a folder can be opened, and each read of it fails)
+    rows += [(2, b'', folder, strict), (2, b'', folder, permissive)]
+    wrong = sum(differing(*row) for row in rows)
+    full = [f'{program} < {input} > /dev/full' for program in PROGRAMS for input in (file, damaged)]
+    for command in full:
+        if subprocess.run(command, shell=True).returncode != 2:
+            wrong += 1
+            print(f'program: {command}: the exit status is not 2')
+    return len(PROGRAMS) * len(rows) + len(full), wrong
+
+
+def main():
+    with tempfile.TemporaryDirectory(prefix='program-') as folder:
+        count, wrong = words(folder)
+    lines = 0
     for path in FILES:
         wanted = wanted_of(path)
         lines += wanted.count('\n')
-        for program in PROGRAMS:
-            with open(path, 'rb') as file:
-                ran = subprocess.run([program], stdin=file, capture_output=True, text=True)
-            if ran.returncode or ran.stdout != wanted:
-                wrong += 1
-                print(f'files: {program} < {path}: exit status {ran.returncode} (expected 0). Its output:\n{ran.stdout}\nExpected, from readelf:\n{wanted}')
-    print(f'files: {len(FILES)} files, {lines} lines compared with readelf, {wrong} files differ')
+        wrong += differing(0, wanted.encode(), path)
+    print(f'program: {count} runs with arguments or what fails, and {len(FILES)} files, {lines} lines compared with readelf: {wrong} wrong')
     return 1 if wrong else 0
 
 
 if __name__ == '__main__':
     if len(sys.argv) == 1:
-        sys.exit(compare())
+        sys.exit(main())
     print(wanted_of(sys.argv[1]), end='')
