@@ -1,5 +1,3 @@
-pub mod AddressIndexLemmas
-pub mod AloneLemmas
 pub mod FilledBufferLemmas
 pub mod ListedLemmas
 pub mod OffsetLemmas

@@ -1,5 +1,5 @@
 -- Laws of the calls: the items that they store one by one are those that the library reads at once.
-use Rattle.std.specs.Prelude.{◌≡◌, ◌≢◌, ◌↔◌, ◌⊎◌, ◌+◌, ◌-◌, ◌/◌, ◌<◌, ◌≤◌, ℕ, zero, suc, min, Bool, List, [], ◌∷◌}
+use Rattle.std.specs.Prelude.{◌≡◌, ◌≢◌, ◌⊎◌, ◌+◌, ◌-◌, ◌/◌, ◌<◌, ◌≤◌, ℕ, zero, suc, min, Bool, List, [], ◌∷◌}
 use Rattle.std.specs.Prelude.{if◌then◌else◌, length, take, drop, slice_get, Option, Some, None, Result, Ok, Err}
 use Rattle.std.specs.Option.{option_map}
 use Rattle.goblin_base.specs.declared.container.Ctx.{Ctx}
@@ -28,7 +28,6 @@ use Rattle.goblin_c.specs.Expected.{reloc_count_expected, sections_from_expected
 use Rattle.goblin_c.specs.Expected.{relocs_from_expected, section_names_expected, section_by_name_expected}
 use Rattle.goblin_c.specs.Expected.{symbol_by_name_expected, strings_expected, table_expected}
 use Rattle.goblin_c.specs.Bytes.{section_bytes_expected, segment_bytes_expected, string_bytes_expected}
-use Rattle.goblin_c.specs.Bytes.{string_is_expected, string_starts_expected}
 use Rattle.goblin_c.specs.FilledBuffer.{closed, laid}
 use Rattle.goblin_c.specs.Notes.{note_bytes_expected, note_expected}
 use Rattle.goblin_c.specs.Types.{header_converted, refusal_converted, reloc_converted, section_converted}
@@ -261,6 +260,15 @@ FindsFrom {Y} first call IsSo Refuses (Ok None) =
     (k : ℕ) (item : Y) → first ≤ k → call k ≡ Ok (Some item) → ¬ IsSo item
 FindsFrom first call IsSo Refuses (Err refusal) = Refuses refusal
 
+-- a result is such an index with the item there
+abbrev pub FindsItemFrom :
+    {Y : Type 0} → ℕ → (ℕ → Result (Option Y) RefusalAt) → (Y → Type 0) → (RefusalAt → Type 0)
+    → Result (Option (ℕ × Y)) RefusalAt → Type 0
+FindsItemFrom first call IsSo Refuses (Ok (Some found)) =
+    FindsFrom first call IsSo Refuses (Ok (Some found.0)) × (call found.0 ≡ Ok (Some found.1))
+FindsItemFrom first call IsSo Refuses (Ok None) = FindsFrom first call IsSo Refuses (Ok None)
+FindsItemFrom first call IsSo Refuses (Err refusal) = Refuses refusal
+
 -- a refusal is that of all items, or of all strings
 abbrev pub RefusesEither :
     {Y Z : Type 0} → (ℕ → Result (Option Y) RefusalAt) → (ℕ → Result (Option Z) RefusalAt) → RefusalAt → Type 0
@@ -278,7 +286,8 @@ SectionsByName =
     (bytes : List ℕ) (h : GoblinHeader) (names : GoblinRange) (name : List ℕ) (first : ℕ)
     → let HasTheName = λ (section : GoblinSection). IsNameAt bytes names section.sh_name name in
     let Refuses = RefusesEither (section_expected bytes h) (string_expected bytes names) in
-    FindsFrom first (section_expected bytes h) HasTheName Refuses (section_by_name_expected bytes h names name first)
+    FindsItemFrom first (section_expected bytes h) HasTheName Refuses
+    (section_by_name_expected bytes h names name first)
 
 abbrev pub SymbolsByName : Type 0
 SymbolsByName =
@@ -293,7 +302,7 @@ SectionsByType =
     (bytes : List ℕ) (h : GoblinHeader) (sh_type first : ℕ)
     → let IsOfType = λ (section : GoblinSection). section.sh_type ≡ sh_type in
     let found = section_by_type_expected bytes h sh_type first in
-    FindsFrom first (section_expected bytes h) IsOfType (RefusesAll (section_expected bytes h)) found
+    FindsItemFrom first (section_expected bytes h) IsOfType (RefusesAll (section_expected bytes h)) found
 
 -- the ranges that are stored for bytes lie in the file
 pub record BytesLieInFile : Type 0 where
@@ -319,16 +328,6 @@ TextIsClosed =
     (text old : List ℕ) → length text < length old
     → (take (length text) (laid (closed text) old) ≡ text)
     × (slice_get (laid (closed text) old) (length text) ≡ Some 0)
-
--- a call reports that a string is a text, or begins with one, where the bytes of the range that is stored for it are
--- this text, or begin with it
-abbrev pub StringsAreCompared : Type 0
-StringsAreCompared =
-    (bytes : List ℕ) (range : GoblinRange) (offset : ℕ) (text : List ℕ) (found : GoblinRange)
-    → string_bytes_expected bytes range offset ≡ Ok (Some found)
-    → (string_is_expected bytes range offset text ≡ Ok (Some tt) ↔ (bytes_in bytes found ≡ text))
-    × (string_starts_expected bytes range offset text ≡ Ok (Some tt)
-    ↔ (take (length text) (bytes_in bytes found) ≡ text))
 
 -- a note that a call stores, and whose descriptor lies in the range, is the one that is stored as a whole note; only
 -- its name is longer, by the byte that closes it

@@ -1,8 +1,6 @@
-pub mod Alone
 pub mod Bytes
 pub mod Expected
 pub mod FilledBuffer
-pub mod Index
 pub mod Laws
 pub mod Layout
 pub mod Notes

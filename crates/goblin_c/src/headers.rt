@@ -1,7 +1,7 @@
 //! The header, the section headers and the program headers, as the library reads them.
 ghost use Rattle.std.specs.Prelude.{◌≡◌, ◌+◌, ◌<◌, ◌==◌, ◌^◌, IfSome, drop, map, position};
 ghost use Rattle.goblin_c.specs.Refused.{Answers};
-ghost use Rattle.goblin_c.specs.Expected.{ctx_of, header_expected, section_by_type_expected, section_names_expected, sections_expected, segments_expected, table_at, table_expected};
+ghost use Rattle.goblin_c.specs.Expected.{ctx_of, header_expected, section_at, section_by_type_expected, section_names_expected, sections_expected, segments_expected, table_at, table_expected};
 ghost use Rattle.goblin_c.specs.Types.{section_converted, segment_converted};
 
 use crate::lists::Listed;
@@ -81,22 +81,32 @@ fn find_type(sections: &Table<'_, SectionHeader, Ctx>, sh_type: u32, first: usiz
         .position(|section| section.sh_type == sh_type)
 }
 
-/// Returns the index of the first section of a type, from an index on.
+/// Returns a section that was found, and its index.
+pub fn section_at(
+    sections: &Table<'_, SectionHeader, Ctx>,
+    found: Option<usize>,
+) -> Option<(u64, GoblinSection)>
+    ensures { result ≡ section_at sections.now found }
+{
+    let index = found?;
+    let section = sections.get(index)?;
+    Some((index as u64, convert_section(&section)))
+}
+
+/// Returns the first section of a type, from an index on, and its index.
 pub fn section_by_type(
     bytes: &[u8],
     header: &GoblinHeader,
     sh_type: u32,
     first: u64,
-) -> Result<Option<u64>>
+) -> Result<Option<(u64, GoblinSection)>>
     ensures { Answers (λ found. found) result
         (section_by_type_expected bytes.now header.now sh_type first) }
 {
     let sections = sections_of(bytes, header)?;
     let first = first as usize;
-    match find_type(&sections, sh_type, first) {
-        Some(place) => Ok(Some((first + place) as u64)),
-        None => Ok(None),
-    }
+    let found = find_type(&sections, sh_type, first).map(|place| first + place);
+    Ok(section_at(&sections, found))
 }
 
 // Returns the section at an index for C, if it is a table by that index.
