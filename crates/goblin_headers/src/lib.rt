@@ -14,3 +14,5 @@ pub mod program_header64;
 pub mod section_header;
 pub mod section_header32;
 pub mod section_header64;
+mod section_search;
+pub mod whole_part;
