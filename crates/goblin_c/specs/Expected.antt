@@ -20,6 +20,7 @@ use Rattle.goblin.specs.ProgramHeaders.{program_headers_from}
 use Rattle.goblin.specs.declared.elf.reloc.Reloc.{Reloc}
 use Rattle.goblin.specs.RelocSection.{is_mips64el_in, relocs_of}
 use Rattle.goblin.specs.Symtab.{symtab_of}
+use Rattle.goblin.specs.WholePart.{sections_part, segment_count, segments_part}
 use Rattle.goblin_c.specs.Refused.{RefusalAt, refused_at}
 use Rattle.goblin_c.specs.declared.types.GoblinHeader.{GoblinHeader}
 use Rattle.goblin_c.specs.declared.types.GoblinRange.{GoblinRange}
@@ -84,9 +85,20 @@ sections_from_expected bytes h first = items_from (sections_converted bytes h) f
 abbrev pub section_count_expected : List ℕ → GoblinHeader → Result (Option ℕ) RefusalAt
 section_count_expected bytes h = count_of (sections_converted bytes h)
 
--- the program headers of a file, as the library reads them at once
+-- the program headers of a file, as the library reads them at once, as many as are stated; the number may be refused
+-- at section 0, which then states it
 abbrev pub segments_expected : List ℕ → GoblinHeader → Result (List ProgramHeader) RefusalAt
-segments_expected bytes h = refused_at h.e_phoff (program_headers_from bytes h.e_phoff h.e_phnum (ctx_of h))
+segments_expected bytes h = do
+  count ← refused_at h.e_shoff (refuse_as refusal_of (segment_count bytes h.e_phnum h.e_shoff (ctx_of h)))
+  refused_at h.e_phoff (program_headers_from bytes h.e_phoff count (ctx_of h))
+
+-- the header that counts only what lies whole in the file
+abbrev pub whole_header : List ℕ → GoblinHeader → GoblinHeader
+whole_header bytes h = let part = sections_part bytes h.e_shoff h.e_shnum (ctx_of h) in record h {
+  e_shoff = part.offset;
+  e_shnum = part.count;
+  e_phnum = segments_part bytes h.e_phnum h.e_phoff h.e_shoff (ctx_of h);
+}
 
 -- they for C, one by its index, and how many there are
 abbrev pub segments_converted : List ℕ → GoblinHeader → Result (List GoblinSegment) RefusalAt

@@ -11,3 +11,4 @@ pub mod Status
 pub mod TextLaws
 pub mod Texts
 pub mod Types
+pub mod Write

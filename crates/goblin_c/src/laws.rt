@@ -1,6 +1,6 @@
 //! Laws of the calls: the items that they store one by one are those that the library reads at once.
 ghost use Rattle.goblin_c.specs.TextLaws.{RefusalsHaveSameText};
-ghost use Rattle.goblin_c.specs.Laws.{WholeNotesAreNotes, TextIsClosed, NotesAreItems, NotesInARow, NotesLieInFile, ContextIsTheHeaders, SectionsByIndex, SegmentsByIndex, SymbolsByIndex, RelocsByIndex, FilledByIndex, BufferIsFilled, NamesByIndex, StringsAreThere, StringsLieInFile, SectionsByName, SymbolsByName, SectionsByType, BytesLieInFile, StringsAreBytes, TablesByIndex, KindsAreAnswers};
+ghost use Rattle.goblin_c.specs.Laws.{WholeHeaderKeeps, WholeNotesAreNotes, TextIsClosed, NotesAreItems, NotesInARow, NotesLieInFile, ContextIsTheHeaders, SectionsByIndex, SegmentsByIndex, SymbolsByIndex, RelocsByIndex, FilledByIndex, BufferIsFilled, NamesByIndex, StringsAreThere, StringsLieInFile, SectionsByName, SymbolsByName, SectionsByType, BytesLieInFile, StringsAreBytes, TablesByIndex, KindsAreAnswers};
 
 /// Laws: calls of `goblin_note` at a range's start and then at each `next` store exactly the notes of the
 /// library's iterator over the range, in its order, up to the end or the first refusal. The ranges that
@@ -40,6 +40,12 @@ pub fn indices()
     ensures segments { SegmentsByIndex }
     ensures symbols { SymbolsByIndex }
     ensures relocs { RelocsByIndex }
+{}
+
+/// Law: with the header that `goblin_whole_header` stores, `goblin_section`, `goblin_segment` and the calls that count
+/// them are not refused. What they store with the plain header where it is not refused, they store with this one.
+pub fn whole()
+    ensures { WholeHeaderKeeps }
 {}
 
 /// Laws: `goblin_linked_section` stores what `goblin_section` stores at an index, but nothing at index 0 or of a

@@ -3,7 +3,7 @@
 #![tactic(auto)]
 
 ghost use Rattle.std.specs.Prelude.{◌≡◌, length};
-ghost use Rattle.goblin_c.specs.Expected.{header_expected, reloc_count_expected, reloc_expected, section_by_type_expected, section_count_expected, section_expected, segment_count_expected, segment_expected, string_expected, symbol_count_expected, symbol_expected, relocs_from_expected, sections_from_expected, symbols_from_expected, section_by_name_expected, section_names_expected, symbol_by_address_expected, symbol_by_name_expected, symbols_expected, table_expected};
+ghost use Rattle.goblin_c.specs.Expected.{header_expected, reloc_count_expected, reloc_expected, section_by_type_expected, section_count_expected, section_expected, segment_count_expected, segment_expected, string_expected, symbol_count_expected, symbol_expected, relocs_from_expected, sections_from_expected, symbols_from_expected, section_by_name_expected, section_names_expected, symbol_by_address_expected, symbol_by_name_expected, symbols_expected, table_expected, whole_header};
 ghost use Rattle.goblin_c.specs.Bytes.{number_expected, section_bytes_expected, segment_bytes_expected, string_bytes_expected};
 ghost use Rattle.goblin_c.specs.FilledBuffer.{closed, laid};
 ghost use Rattle.goblin_c.specs.Layout.{layout};
@@ -11,6 +11,7 @@ ghost use Rattle.goblin_c.specs.Notes.{StoresNote, note_bytes_expected, note_exp
 ghost use Rattle.goblin_c.specs.Places.{address_to_offset_expected, cut_range, number_in_expected};
 ghost use Rattle.goblin_c.specs.Status.{Fills, Stores, StoresBoth};
 ghost use Rattle.goblin_c.specs.Texts.{converted_text};
+ghost use Rattle.goblin_c.specs.Write.{FitsClass, NumberFits, Puts, RelocFits, SectionFits, SegmentFits, SymbolFits, header_put_expected, number_put_expected, reloc_put_expected, section_put_expected, segment_put_expected, symbol_put_expected};
 ghost use Rattle.goblin.specs.HeaderNames.{class_name, type_name as file_type_name};
 ghost use Rattle.goblin.specs.Machines.{machine_name};
 ghost use Rattle.goblin.specs.NoteType.{note_type_name};
@@ -39,6 +40,9 @@ mod tables;
 mod tests;
 mod texts;
 pub mod types;
+mod write;
+#[cfg(test)]
+mod write_tests;
 mod writer;
 
 use bytes::{number, section_bytes, segment_bytes, string_bytes};
@@ -46,7 +50,10 @@ use goblin::elf::header::{class_to_str, et_to_str, machine_to_str};
 use goblin::elf::program_header::pt_to_str;
 use goblin::elf::section_header::{shf_to_str, sht_to_str};
 use goblin::elf::sym::{bind_to_str, type_to_str, visibility_to_str};
-use headers::{header_at, section_by_type, section_names, sections_of, segments_of, table_section};
+use headers::{
+    header_at, section_by_type, section_names, sections_of, segments_of, table_section,
+    whole_header,
+};
 use layout::{GoblinLayout, marked_layout};
 use lists::{count_of, item_of, store_from};
 use notes::{note_from, note_type, store_note};
@@ -61,6 +68,7 @@ use types::{
     GoblinHeader, GoblinNote, GoblinRange, GoblinRefusal, GoblinReloc, GoblinSection,
     GoblinSegment, GoblinSymbol,
 };
+use write::{put_header, put_number, put_reloc, put_section, put_segment, put_symbol};
 use writer::write_text;
 
 /// The version of these calls and of their structs.
@@ -92,6 +100,18 @@ pub extern "C" fn goblin_header(
     ensures { Stores (header_expected bytes.now) header.old why.old result header.new why.new }
 {
     store(header_at(bytes), header, why)
+}
+
+/// Stores a copy of a header that counts only the section headers and program headers that lie whole in the file.
+#[unsafe(no_mangle)]
+pub extern "C" fn goblin_whole_header(
+    bytes: &[u8],
+    header: &GoblinHeader,
+    whole: &mut GoblinHeader,
+)
+    ensures { whole.new ≡ whole_header bytes.now header.now }
+{
+    *whole = whole_header(bytes, header);
 }
 
 /// Stores the number of section headers.
@@ -622,4 +642,101 @@ pub extern "C" fn goblin_symbol_by_address(
         index.old why.old result index.new why.new }
 {
     store(symbol_by_address(bytes, header, table, address), index, why)
+}
+
+/// Puts the header at the start of the file, in the class and the byte order that it names.
+#[unsafe(no_mangle)]
+pub extern "C" fn goblin_put_header(
+    bytes: &mut [u8],
+    header: &GoblinHeader,
+    why: &mut GoblinRefusal,
+) -> u32
+    ensures { Puts (FitsClass bytes.old header.now) (header_put_expected bytes.old header.now)
+        bytes.old why.old result bytes.new why.new }
+{
+    put_header(bytes, header, why)
+}
+
+/// Puts the section header at an index.
+#[unsafe(no_mangle)]
+pub extern "C" fn goblin_put_section(
+    bytes: &mut [u8],
+    header: &GoblinHeader,
+    index: u64,
+    section: &GoblinSection,
+    why: &mut GoblinRefusal,
+) -> u32
+    ensures { Puts (SectionFits header.now section.now)
+        (section_put_expected bytes.old header.now index section.now)
+        bytes.old why.old result bytes.new why.new }
+{
+    put_section(bytes, header, index, section, why)
+}
+
+/// Puts the program header at an index.
+#[unsafe(no_mangle)]
+pub extern "C" fn goblin_put_segment(
+    bytes: &mut [u8],
+    header: &GoblinHeader,
+    index: u64,
+    segment: &GoblinSegment,
+    why: &mut GoblinRefusal,
+) -> u32
+    ensures { Puts (SegmentFits header.now segment.now)
+        (segment_put_expected bytes.old header.now index segment.now)
+        bytes.old why.old result bytes.new why.new }
+{
+    put_segment(bytes, header, index, segment, why)
+}
+
+/// Puts the symbol at an index of the table that lies in a range.
+#[unsafe(no_mangle)]
+pub extern "C" fn goblin_put_symbol(
+    bytes: &mut [u8],
+    header: &GoblinHeader,
+    table: &GoblinRange,
+    index: u64,
+    symbol: &GoblinSymbol,
+    why: &mut GoblinRefusal,
+) -> u32
+    ensures { Puts (SymbolFits header.now symbol.now)
+        (symbol_put_expected bytes.old header.now table.now index symbol.now)
+        bytes.old why.old result bytes.new why.new }
+{
+    put_symbol(bytes, header, table, index, symbol, why)
+}
+
+/// Puts the relocation at an index of those that lie in a range, with addends or without.
+#[unsafe(no_mangle)]
+pub extern "C" fn goblin_put_reloc(
+    bytes: &mut [u8],
+    header: &GoblinHeader,
+    relocs: &GoblinRange,
+    is_rela: bool,
+    index: u64,
+    reloc: &GoblinReloc,
+    why: &mut GoblinRefusal,
+) -> u32
+    ensures { Puts (RelocFits header.now is_rela reloc.now)
+        (reloc_put_expected bytes.old header.now relocs.now is_rela index reloc.now)
+        bytes.old why.old result bytes.new why.new }
+{
+    put_reloc(bytes, header, relocs, is_rela, index, reloc, why)
+}
+
+/// Puts a number of 1, 2, 4 or 8 bytes at an offset, in the file's byte order.
+#[unsafe(no_mangle)]
+pub extern "C" fn goblin_put_number(
+    bytes: &mut [u8],
+    header: &GoblinHeader,
+    offset: u64,
+    width: u64,
+    value: u64,
+    why: &mut GoblinRefusal,
+) -> u32
+    ensures { Puts (NumberFits width value)
+        (number_put_expected bytes.old header.now offset width value)
+        bytes.old why.old result bytes.new why.new }
+{
+    put_number(bytes, header, offset, width, value, why)
 }
