@@ -38,7 +38,6 @@ pub use Rattle.goblin_records.specs.RelocLaws
 pub use Rattle.goblin_records.specs.Sym
 pub use Rattle.goblin_records.specs.SymLaws
 pub use Rattle.goblin_records.specs.SymParts
-pub mod AddressIndex
 pub mod Addresses
 pub mod Note
 pub mod NoteLaws
