@@ -11,11 +11,7 @@ enum { NONE = -1, BATCH = 64 };
 
 /* A symbol that may contain an address. */
 typedef struct {
-<<<<<<< HEAD
     uint64_t start, last, index; /* its first address, its last one if it has a size, and its index in the table */
-=======
-    uint64_t start, last, index; /* its addresses, the last one if it has a size, and its index in the table */
->>>>>>> d59a1b7b9503e3fcebc15296278bf605670ff6ff
     bool has_size;
 } place_t;
 
