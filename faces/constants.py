@@ -3,12 +3,13 @@
 
     python3 faces/constants.py            writes the end of faces/c/goblin.h, faces/rust/src/constants/*.rs and
                                           faces/web/constants.js
-    python3 faces/constants.py --made     writes only the files for Rust and JavaScript
-    python3 faces/constants.py --check    writes nothing, and fails if goblin.h is not what it would write
+    python3 faces/constants.py --made     writes only the file for JavaScript
+    python3 faces/constants.py --check    writes nothing, and fails if goblin.h or a file for Rust is not what it would write
 
 The names, values, types and comments are those of crates/goblin_headers and crates/goblin_records. So a constant is written by
-hand only there. Git has goblin.h, because it is read as documentation, and ignores the other files. faces/install.sh and
-checks/faces.sh make them; by hand they must be made before cargo or node reads them.
+hand only there. Git has goblin.h, because it is read as documentation, and the files for Rust, so that cargo can take the crate from
+a repository. It ignores the file for JavaScript, which faces/install.sh and checks/faces.sh make; by hand it must be made before
+node reads it.
 
 Flags of sections and indices of sections get the type of the field that holds them: `sh_flags` and `st_shndx`. JavaScript also gets the
 number of the interface, from goblin.h.
@@ -275,15 +276,16 @@ def write(name, text):
 def main(arguments):
     if arguments not in ([], ['--made'], ['--check']):
         sys.exit('usage: python3 faces/constants.py [--made | --check]')
+    of_git = [(HEADER, c_file()), *rust_files()]
     if arguments == ['--check']:
-        if read(HEADER) == c_file():
-            return 0
-        print(f'{HEADER} does not have the constants of the library: run python3 faces/constants.py')
-        return 1
-    for name, text in [*rust_files(), ('faces/web/constants.js', js_file())]:
-        write(name, text)
-    if not arguments and write(HEADER, c_file()):
-        print(f'{HEADER} is written anew')
+        stale = [name for name, text in of_git if not os.path.exists(path_of(name)) or read(name) != text]
+        for name in stale:
+            print(f'{name} does not have the constants of the library: run python3 faces/constants.py')
+        return 1 if stale else 0
+    write('faces/web/constants.js', js_file())
+    for name, text in [] if arguments else of_git:
+        if write(name, text):
+            print(f'{name} is written anew')
     return 0
 
 

@@ -4,6 +4,7 @@
 mod constants_header;
 mod constants_program_header;
 mod constants_section_header;
+mod fits;
 pub mod header;
 pub mod header32;
 pub mod header64;
