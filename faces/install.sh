@@ -19,6 +19,9 @@ fail() {
     echo "$1" >&2
     exit 1
 }
+for name in awk python3; do
+    command -v $name > /dev/null || fail "goblin_c: the command $name was not found. Install it first"
+done
 version=$(awk -F '"' '/^version = / { print $2; exit }' faces/rust/Cargo.toml)
 target=${TARGET:-x86_64-unknown-linux-gnu}
 interface=$(awk '$2 == "GOBLIN_VERSION" { print $3 }' faces/c/goblin.h)
