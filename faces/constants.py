@@ -1,17 +1,17 @@
 #!/usr/bin/env python3
-"""Writes the constants of the library's records for C, Rust and JavaScript.
+"""Writes the constants of the library's records for C, Rust, JavaScript and Python.
 
-    python3 faces/constants.py            writes the end of faces/c/goblin.h, faces/rust/src/constants/*.rs and
-                                          faces/web/constants.js
-    python3 faces/constants.py --made     writes only the files for Rust and JavaScript
+    python3 faces/constants.py            writes the end of faces/c/goblin.h, faces/rust/src/constants/*.rs, faces/web/constants.js and
+                                          faces/python/goblin_elf/constants.py
+    python3 faces/constants.py --made     writes only the files for Rust, JavaScript and Python
     python3 faces/constants.py --check    writes nothing, and fails if goblin.h is not what it would write
 
 The names, values, types and comments are those of crates/goblin_headers and crates/goblin_records. So a constant is written by
 hand only there. Git has goblin.h, because it is read as documentation, and ignores the other files. faces/install.sh and
 checks/faces.sh make them; by hand they must be made before cargo or node reads them.
 
-Flags of sections and indices of sections get the type of the field that holds them: `sh_flags` and `st_shndx`. JavaScript also gets the
-number of the interface, from goblin.h.
+Flags of sections and indices of sections get the type of the field that holds them: `sh_flags` and `st_shndx`. JavaScript and Python also
+get the number of the interface, from goblin.h.
 """
 import os
 import re
@@ -193,6 +193,70 @@ export const VERSION = {interface()};
     return text
 
 
+# ---- Python ----
+
+# The constants that make an enumeration, by the start of their names, and those whose values are flags.
+GROUPS = re.compile(r'(ELFCLASS|ELFDATA|ELFOSABI|ELF_NOTE_OS|NT_GNU|NT|ET|EM|PT|PF|SHN|SHT|SHF|STB|STT|STV)(?=_|NONE|NUM|\d)')
+FLAGS = ('PF', 'SHF')
+# The ends of ranges, which come after all other members, so that a number that also has a name of its own gets that one.
+BOUND = re.compile(r'_(LO|HI)(OS|PROC|SUNW|USER|RESERVE)$|NUM$')
+
+
+def py_group(constant):
+    """The name of the enumeration that a constant is a member of, or an empty name."""
+    match = GROUPS.match(constant.name)
+    return match[1] if match and not constant.is_list() and 'NUM_' not in constant.name else ''
+
+
+def py_value(constant):
+    if constant.is_text():
+        return repr(bytes_of(constant))
+    if constant.is_list():
+        names = textwrap.fill(', '.join(constant.items()) + ',', WIDTH, initial_indent='    ', subsequent_indent='    ')
+        return f'(\n{names}\n)'
+    return re.sub(r'(?<=[\da-f])_(?=[\da-f])', '', constant.value)
+
+
+def py_comment(constant, indent):
+    text = re.sub(r'\[(`\w+`)\]', r'\1', ' '.join(constant.comment))
+    return textwrap.fill(text, WIDTH, initial_indent=f'{indent}# ', subsequent_indent=f'{indent}# ', break_on_hyphens=False) + '\n'
+
+
+def py_enumeration(name, constants):
+    kind = 'IntFlag' if name in FLAGS else 'IntEnum'
+    text = f'\n\nclass {name}(enum.{kind}):\n    """The constants {name}, as Python integers."""\n\n'
+    for constant in sorted(constants, key=lambda constant: bool(BOUND.search(constant.name))):
+        text += py_comment(constant, '    ') + f'    {constant.name} = {py_value(constant)}\n'
+    return text + '\n\n' + ''.join(f'{constant.name} = {name}.{constant.name}\n' for constant in constants)
+
+
+def py_file():
+    groups, others = {}, []
+    for record, crate, _, _ in RECORDS:
+        constants = constants_of(record, crate)
+        known = {constant.name for constant in constants}
+        for constant in constants:
+            group = py_group(constant)
+            (groups.setdefault(group, []) if group else others).append((constant.name, constant))
+        for bits in CLASSES:
+            more = constants_of_class(record, crate, bits)
+            others += [(f'{constant.name}{bits}', constant) for constant in more if f'{constant.name}{bits}' not in known]
+    text = f"""\"\"\"The constants of goblin's ELF layer, by the standard's names.
+
+{MADE}
+\"\"\"
+import enum
+
+# The number of the interface: GOBLIN_VERSION of goblin.h.
+VERSION = {interface()}
+"""
+    for name, members in groups.items():
+        text += py_enumeration(name, [constant for _, constant in members])
+    for name, constant in others:
+        text += '\n' + py_comment(constant, '') + f'{name} = {py_value(constant)}\n'
+    return text
+
+
 # ---- C ----
 
 START = '/* ---- constants ----\n'
@@ -280,7 +344,8 @@ def main(arguments):
             return 0
         print(f'{HEADER} does not have the constants of the library: run python3 faces/constants.py')
         return 1
-    for name, text in [*rust_files(), ('faces/web/constants.js', js_file())]:
+    made = [('faces/web/constants.js', js_file()), ('faces/python/goblin_elf/constants.py', py_file())]
+    for name, text in [*rust_files(), *made]:
         write(name, text)
     if not arguments and write(HEADER, c_file()):
         print(f'{HEADER} is written anew')
