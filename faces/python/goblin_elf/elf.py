@@ -1,5 +1,6 @@
 """A file as a whole."""
 import ctypes
+import itertools
 import mmap
 import os
 import stat
@@ -8,7 +9,7 @@ from typing import Any, Iterator, Optional, Tuple, Union
 from . import _library
 from ._library import FUNCTIONS, HEADER, NUMBER, RANGE, File, call, found, text, unsigned
 from .constants import ELFCLASS64, ELFDATA2MSB, NT_GNU_BUILD_ID, PT_NOTE, SHT_DYNSYM, SHT_NOTE, SHT_SYMTAB
-from .items import Header, Name, Note, Section, Sections, Segments, Strings, Symbol, Symbols, named
+from .items import Header, Name, Note, Section, Sections, Segments, Strings, Symbol, Symbols, named, read_notes
 from .refused import Refused
 
 
@@ -125,18 +126,27 @@ class Elf:
 
     @property
     def notes(self) -> Iterator[Note]:
-        """The notes of all segments of type PT_NOTE, or if there are none, of all sections of type SHT_NOTE. Refused as these are."""
-        segments = [segment for segment in self.segments if segment.p_type == PT_NOTE]
-        for segment in segments:
-            yield from segment.notes
-        for section in () if segments else self.sections:
+        """The notes of all segments of type PT_NOTE, or if there are none, of all sections of type SHT_NOTE, as they are read.
+
+        Refused as the headers are, and then at the first damaged note.
+        """
+        is_found = False
+        for segment in self.segments:
+            if segment.p_type == PT_NOTE:
+                is_found = True
+                yield from read_notes(self, segment.p_offset, segment.p_filesz, segment.p_align)
+        for section in () if is_found else self.sections:
             if section.sh_type == SHT_NOTE:
-                yield from section.notes
+                yield from read_notes(self, section.sh_offset, section.sh_size, section.sh_addralign)
 
     @property
     def build_id(self) -> Optional[memoryview]:
-        """The descriptor of the first note GNU of type NT_GNU_BUILD_ID, or `None`: `elf.build_id.hex()`. Refused as `notes` are."""
-        return next((note.desc for note in self.notes if note.n_type == NT_GNU_BUILD_ID and note.name == 'GNU'), None)
+        """The descriptor of the first note GNU of type NT_GNU_BUILD_ID, or `None`: `elf.build_id.hex()`. Refused as `notes` are.
+
+        It is looked for in the first 65,536 notes.
+        """
+        notes = itertools.islice(self.notes, 65536)
+        return next((note.desc for note in notes if note.n_type == NT_GNU_BUILD_ID and note.name == 'GNU'), None)
 
     def symbol_at(self, address: int) -> Optional[Symbol]:
         """Returns the symbol that contains an address, of the symbols or, if there are none, of the dynamic symbols, or `None`."""

@@ -10,8 +10,8 @@ from .refused import Refused
 
 DT_NEEDED, DT_STRTAB, DT_STRSZ, DT_SONAME, DT_DEBUG, DT_BIND_NOW, DT_FLAGS, DT_FLAGS_1 = 1, 5, 10, 14, 21, 24, 30, 0x6ffffffb
 DF_BIND_NOW, DF_1_NOW, DF_1_PIE = 8, 1, 0x08000000
-# The most that is read of a dynamic section, of a text and of a build id.
-ENTRIES, TEXT, ID = 4096, 4096, 64
+# The most that is read: entries of a dynamic section, bytes of a text and of a build id, segments, and sections for their sizes.
+ENTRIES, TEXT, ID, SEGMENTS, SECTIONS = 4096, 4096, 64, 1 << 17, 1 << 20
 
 
 def dynamic(elf: Elf, segment: Segment) -> Iterator[Tuple[int, int]]:
@@ -49,10 +49,10 @@ def linking(elf: Elf, segments: List[Segment]) -> Dict[str, Any]:
 
 
 def counted(elf: Elf) -> Dict[str, Any]:
-    """Returns the numbers of headers and symbols, and the sizes of sections in bytes by what they are for."""
+    """Returns the numbers of sections and symbols, and the sizes in bytes of sections by what they are for."""
     sizes = {'code': 0, 'data': 0, 'read_only': 0, 'zeros': 0, 'not_loaded': 0}
     sections = elf.sections
-    for section in sections:
+    for section in sections._items(0, min(len(sections), SECTIONS)):
         if section.sh_type == SHT_NOBITS:
             kind = 'zeros'
         elif not section.sh_flags & SHF_ALLOC:
@@ -77,7 +77,7 @@ def kind_of(elf: Elf, pie: bool) -> str:
 
 def facts(elf: Elf) -> Dict[str, Any]:
     """Returns the facts of a file. Refused at the first thing that is."""
-    segments = list(elf.segments)
+    segments = elf.segments[:SEGMENTS]
     found: Dict[str, Any] = {'class': elf.class_name, 'order': 'little' if elf.little_endian else 'big', 'type': elf.type_name,
                              'machine': elf.machine_name, 'entry': elf.header.e_entry}
     build_id = elf.build_id
@@ -88,7 +88,7 @@ def facts(elf: Elf) -> Dict[str, Any]:
     found['nx'] = bool(stacks) and not any(segment.p_flags & PF_X for segment in stacks)
     found.update(linking(elf, segments))
     found['kind'] = kind_of(elf, found['pie'])
-    found['segments'] = len(segments)
+    found['segments'] = len(elf.segments)
     found.update(counted(elf))
     return found
 

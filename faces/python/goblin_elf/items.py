@@ -4,7 +4,7 @@ from array import array
 from typing import TYPE_CHECKING, Any, Generic, Iterable, Iterator, List, NamedTuple, Optional, Sequence, Tuple, TypeVar, Union, overload
 
 from . import _library
-from ._library import RANGE, Record, Finder, call, found, text, unsigned
+from ._library import RANGE, File, Finder, Record, call, found, text, unsigned
 from .constants import SHT_DYNSYM, SHT_REL, SHT_RELA, SHT_SYMTAB
 from .refused import Kind, Refused
 
@@ -321,7 +321,8 @@ class Table(Sequence[T], Generic[T]):
         """Returns all items as a structured array of numpy, which owns its memory. Its fields have the names of goblin.h."""
         import numpy
         items = numpy.empty(self._length, self.record.dtype())
-        return items[:self._fill(0, items.ctypes.data, self._length)]
+        filled = self._fill(0, items.ctypes.data, self._length)
+        return items if filled == self._length else items[:filled].copy()
 
     def _place(self, index: int) -> int:
         """Returns the index of an item from the start."""
@@ -471,6 +472,24 @@ class Relocations(Table[Relocation]):
         return offset, symbol, addend or 0, kind, int(addend is not None)
 
 
+def read_notes(elf: 'Elf', offset: int, size: int, alignment: int, offsets: Optional['array[int]'] = None) -> Iterator[Note]:
+    """Yields the notes in a range of the file as they are read, and appends their offsets to an array."""
+    place, file = RANGE.pack((offset, size)), elf._file
+    while True:
+        fields = found('note', _library.NOTE, file, elf._image, place, alignment, offset)
+        if fields is None:
+            return
+        if offsets is not None:
+            offsets.append(offset)
+        yield note_of(file, fields)
+        offset = fields[4]
+
+
+def note_of(file: File, fields: Tuple[int, ...]) -> Note:
+    """Returns the note of a struct."""
+    return Note(fields[5], str(file.part(*fields[:2]), 'utf-8'), file.part(*fields[2:4]))
+
+
 class Notes(Sequence[Note]):
     """The notes in a range of the file, as a segment or a section of notes has them. Refused at the first damaged note."""
 
@@ -480,15 +499,8 @@ class Notes(Sequence[Note]):
         self.elf, self.alignment = elf, alignment
         self._range: bytes = RANGE.pack((offset, size))
         self._offsets = array('Q')
-        while True:
-            fields = self._found(offset)
-            if fields is None:
-                break
-            self._offsets.append(offset)
-            offset = fields[4]
-
-    def _found(self, offset: int) -> Optional[Tuple[int, ...]]:
-        return found('note', _library.NOTE, self.elf._file, self.elf._image, self._range, self.alignment, offset)
+        for _ in read_notes(elf, offset, size, alignment, self._offsets):
+            pass
 
     def __len__(self) -> int:
         return len(self._offsets)
@@ -501,12 +513,11 @@ class Notes(Sequence[Note]):
     def __getitem__(self, index: Union[int, slice]) -> Union[Note, List[Note]]:
         if isinstance(index, slice):
             return [self[place] for place in range(len(self))[index]]
-        fields = self._found(self._offsets[index])
+        elf, offset = self.elf, self._offsets[index]
+        fields = found('note', _library.NOTE, elf._file, elf._image, self._range, self.alignment, offset)
         if fields is None:
             raise IndexError(f'there is no note {index} any more')
-        name_offset, name_size, desc_offset, desc_size, _, kind = fields
-        file = self.elf._file
-        return Note(kind, str(file.part(name_offset, name_size), 'utf-8'), file.part(desc_offset, desc_size))
+        return note_of(elf._file, fields)
 
     def __repr__(self) -> str:
         return f'<Notes: {len(self)} items>'
