@@ -4,12 +4,12 @@ import itertools
 import mmap
 import os
 import stat
-from typing import Any, Iterator, Optional, Tuple, Union
+from typing import Any, Iterable, Iterator, Optional, Tuple, Union
 
 from . import _library
 from ._library import FUNCTIONS, HEADER, NUMBER, RANGE, File, call, found, text, unsigned
 from .constants import ELFCLASS64, ELFDATA2MSB, NT_GNU_BUILD_ID, PT_NOTE, SHT_DYNSYM, SHT_NOTE, SHT_SYMTAB
-from .items import Header, Name, Note, Section, Sections, Segments, Strings, Symbol, Symbols, named, read_notes
+from .items import Header, Name, Note, Section, Sections, Segment, Segments, Strings, Symbol, Symbols, named, read_notes
 from .refused import Refused
 
 
@@ -130,14 +130,18 @@ class Elf:
 
         Refused as the headers are, and then at the first damaged note.
         """
+        return self._notes(self.segments)
+
+    def _notes(self, segments: Iterable[Segment]) -> Iterator[Note]:
         is_found = False
-        for segment in self.segments:
+        for segment in segments:
             if segment.p_type == PT_NOTE:
                 is_found = True
                 yield from read_notes(self, segment.p_offset, segment.p_filesz, segment.p_align)
-        for section in () if is_found else self.sections:
-            if section.sh_type == SHT_NOTE:
-                yield from read_notes(self, section.sh_offset, section.sh_size, section.sh_addralign)
+        section = None if is_found else self.section_by_type(SHT_NOTE)
+        while section:
+            yield from read_notes(self, section.sh_offset, section.sh_size, section.sh_addralign)
+            section = self.section_by_type(SHT_NOTE, section.index + 1)
 
     @property
     def build_id(self) -> Optional[memoryview]:
@@ -145,7 +149,10 @@ class Elf:
 
         It is looked for in the first 65,536 notes.
         """
-        notes = itertools.islice(self.notes, 65536)
+        return self._build_id(self.segments)
+
+    def _build_id(self, segments: Iterable[Segment]) -> Optional[memoryview]:
+        notes = itertools.islice(self._notes(segments), 65536)
         return next((note.desc for note in notes if note.n_type == NT_GNU_BUILD_ID and note.name == 'GNU'), None)
 
     def symbol_at(self, address: int) -> Optional[Symbol]:

@@ -80,7 +80,7 @@ def facts(elf: Elf) -> Dict[str, Any]:
     segments = elf.segments[:SEGMENTS]
     found: Dict[str, Any] = {'class': elf.class_name, 'order': 'little' if elf.little_endian else 'big', 'type': elf.type_name,
                              'machine': elf.machine_name, 'entry': elf.header.e_entry}
-    build_id = elf.build_id
+    build_id = elf._build_id(segments)
     found['build_id'] = build_id.hex() if build_id is not None and len(build_id) <= ID else None
     paths = [short_text(elf, segment.p_offset, segment.p_filesz) for segment in segments if segment.p_type == PT_INTERP]
     found['interpreter'] = next(iter(paths), None)
