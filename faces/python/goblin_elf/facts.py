@@ -52,19 +52,19 @@ def counted(elf: Elf) -> Dict[str, Any]:
     """Returns the numbers of sections and symbols, and the sizes in bytes of sections by what they are for."""
     sizes = {'code': 0, 'data': 0, 'read_only': 0, 'zeros': 0, 'not_loaded': 0}
     sections = elf.sections
+    # (an operator on plain numbers is much faster than one on flags)
+    nobits, alloc, execinstr, write = map(int, (SHT_NOBITS, SHF_ALLOC, SHF_EXECINSTR, SHF_WRITE))
     for section in sections._items(0, min(len(sections), SECTIONS)):
-        if section.sh_type == SHT_NOBITS:
-            kind = 'zeros'
-        elif not section.sh_flags & SHF_ALLOC:
-            kind = 'not_loaded'
-        elif section.sh_flags & SHF_EXECINSTR:
-            kind = 'code'
+        flags = section.sh_flags
+        if section.sh_type == nobits:
+            sizes['zeros'] += section.sh_size
+        elif not flags & alloc:
+            sizes['not_loaded'] += section.sh_size
         else:
-            kind = 'data' if section.sh_flags & SHF_WRITE else 'read_only'
-        sizes[kind] += section.sh_size
-    has = {kind: elf.section_by_type(kind) is not None for kind in (SHT_SYMTAB, SHT_DYNSYM)}
-    return {'sections': len(sections), 'symbols': len(elf.symbols), 'dynamic_symbols': len(elf.dynamic_symbols),
-            'stripped': not has[SHT_SYMTAB], 'sizes': sizes}
+            sizes['code' if flags & execinstr else 'data' if flags & write else 'read_only'] += section.sh_size
+    tables = [elf.section_by_type(kind) for kind in (SHT_SYMTAB, SHT_DYNSYM)]
+    symbols, dynamic_symbols = (len(table.symbols) if table else 0 for table in tables)
+    return {'sections': len(sections), 'symbols': symbols, 'dynamic_symbols': dynamic_symbols, 'stripped': tables[0] is None, 'sizes': sizes}
 
 
 def kind_of(elf: Elf, pie: bool) -> str:
