@@ -118,7 +118,7 @@ if has "$linker" && has pkg-config; then
     quietly compile -std=c99 -Wall -Wextra -Werror -pedantic -o "$folder/nm" "$folder/nm.c" $flags
     quietly run "$folder/nm" "$folder/nm"
     grep -q ' T [0-9]* main$' "$folder/output" || fail "nm.c lists no main of itself"
-    if grep -q ' goblin_c_note$' "$folder/output"; then fail "nm.c, linked by goblin_c.pc, has a call that it doesn't use"; fi
+    if grep -q ' goblin_note$' "$folder/output"; then fail "nm.c, linked by goblin_c.pc, has a call that it doesn't use"; fi
     for example in "$there"/share/goblin_c/examples/*.c; do
         # shellcheck disable=SC2086
         quietly compile -std=c99 -Wall -Wextra -Werror -pedantic -o "$folder/example" "$example" $flags

@@ -59,8 +59,7 @@ check_examples() {
         /All are compiled with these variables:$/ { is_variables = 1; next }
         is_variables { gsub(/^ +/, "static "); is_variables = !sub(/ *\*\/$/, ""); gsub(/; /, ";\nstatic "); print
             if (!is_variables) print "extern int run_examples(void);\nint run_examples(void) {" }
-        /^\/\* ---- the calls of the library ----/ { is_library = 1 }
-        !is_library && /^(GOBLIN_CALL )?(uint(32|64)_t|void) goblin_/ { calls++ }
+        /^(uint(32|64)_t|void) goblin_/ { calls++ }
         sub(/^ *Example: /, "") { examples++; sub(/ \*\/$/, ""); print "    { " $0 " }" }
         END { print "    return range.size + string.size + value + note.n_type + count > 0;\n}"; exit calls == 0 || calls != examples }' \
         faces/c/goblin.h > "$folder/examples.c" || fail "each call in goblin.h must have one example"
@@ -89,8 +88,7 @@ check_constants() {
 
 # Fails unless cost.c makes each call of goblin.h that is passed a file, so that each has a limit on its time.
 check_cost() {
-    awk '/^\/\* ---- the calls of the library ----/ { exit }
-        /^(GOBLIN_CALL )?(uint(32|64)_t|void) goblin_[a-z_]*\(const uint8_t \*bytes/ { sub(/\(.*/, ""); print $NF }' faces/c/goblin.h > "$folder/calls"
+    awk '/^(uint(32|64)_t|void) goblin_[a-z_]*\((const )?uint8_t \*bytes/ { sub(/\(.*/, ""); print $NF }' faces/c/goblin.h > "$folder/calls"
     [ -s "$folder/calls" ] || fail "goblin.h has no calls that are passed a file"
     while read -r call; do
         grep -qF "$call(bytes, len" faces/c/cost.c || fail "$call is passed a file and cost.c does not call it: give it a row there"
@@ -126,6 +124,54 @@ check_places() {
         || fail "truncated.c does not end with the last whole header of $1"
 }
 
+# Runs execstack.c over a program of this machine: it changes the one flag, as readelf and, if it is here, execstack of prelink show.
+check_execstack() {
+    cp "$folder/nm" "$folder/stack"
+    for flag in c s c; do
+        case $flag in s) shown=X listed=RWE ;; *) shown=- listed=RW ;; esac
+        [ "$("$folder/execstack" -$flag "$folder/stack")" = "$shown $folder/stack" ] || fail "execstack.c -$flag does not print $shown"
+        [ "$("$folder/execstack" "$folder/stack")" = "$shown $folder/stack" ] || fail "execstack.c does not show what it has written"
+        if has readelf; then
+            [ "$(readelf -lW "$folder/stack" | awk '$1 == "GNU_STACK" { print $7 }')" = $listed ] || fail "after execstack.c -$flag readelf lists other flags"
+        fi
+        if has execstack; then
+            [ "$(execstack -q "$folder/stack")" = "$shown $folder/stack" ] || fail "after execstack.c -$flag execstack -q prints something else"
+        fi
+    done
+    quietly cmp "$folder/nm" "$folder/stack"
+    "$folder/execstack" -s "$folder/stack" > "$folder/output"
+    [ "$(cmp -l "$folder/nm" "$folder/stack" | wc -l)" -eq 1 ] || fail "execstack.c changes more than one byte"
+    quietly "$folder/stack" "$folder/nm"
+    said=$("$folder/execstack" -c "$1" 2>&1) && fail "execstack.c changes a file without program headers"
+    [ "$said" = "? $1
+execstack: $1: there is no program header of type PT_GNU_STACK" ] || fail "execstack.c prints this of an object file: $said"
+    echo "execstack.c changes one flag"
+}
+
+# Runs needed.c over a program without section headers: it must list the same by the program headers.
+check_without_sections() {
+    cp "$folder/nm" "$folder/stripped"
+    # (e_shoff, and e_shnum with e_shstrndx, of a 64-bit file)
+    for place in 40 60; do head -c $((place == 40 ? 8 : 4)) /dev/zero | dd of="$folder/stripped" bs=1 seek=$place conv=notrunc 2> "$folder/output"; done
+    "$folder/needed" "$folder/nm" > "$folder/wanted"
+    "$folder/needed" "$folder/stripped" > "$folder/listed"
+    quietly diff "$folder/wanted" "$folder/listed"
+    grep -q '^needed ' "$folder/listed" || fail "needed.c lists no library of a program without section headers"
+    head -c $(($(wc -c < "$folder/nm") - 1)) "$folder/nm" > "$folder/cut"
+    "$folder/needed" "$folder/cut" > "$folder/listed"
+    quietly diff "$folder/wanted" "$folder/listed"
+    echo "needed.c lists the same by the program headers"
+}
+
+# Compiles each example as C++, too.
+check_as_cxx() {
+    if ! has c++; then return; fi
+    for example in execstack flag needed nm size strings symbolize truncated values; do
+        quietly strictly c++ -x c++ -std=c++11 -Ifaces/c -c -o "$folder/example.o" "faces/c/$example.c"
+    done
+    echo "the examples can be compiled as C++"
+}
+
 # Runs the programs over each file that made.c makes, and over its first bytes.
 check_programs() {
     mkdir "$files"
@@ -156,6 +202,22 @@ check_programs() {
         [ "$("$folder/$program" "$short" 2>&1)" = "$program: Malformed entity: Too small" ] \
             || fail "$program.c does not refuse a short file as it should"
     done
+    [ "$("$folder/execstack" "$short" 2>&1)" = "execstack: $short: Malformed entity: Too small" ] || fail "execstack.c does not refuse a short file as it should"
+    for program in execstack nm needed size symbolize truncated values; do
+        "$folder/$program" "$folder/none" > "$folder/output" 2>&1 && fail "$program.c reads a file that isn't there"
+        grep -q 'No such file or directory$' "$folder/output" || fail "$program.c does not print why it can't read a file"
+        "$folder/$program" > "$folder/output" 2>&1 && fail "$program.c runs without a file"
+        grep -q "^usage: $program " "$folder/output" || fail "$program.c does not print how it is used"
+    done
+    for program in flag strings; do
+        "$folder/$program" "$folder/none" .text > "$folder/output" 2>&1 && fail "$program.c reads a file that isn't there"
+        grep -q 'No such file or directory$' "$folder/output" || fail "$program.c does not print why it can't read a file"
+    done
+    [ "$("$folder/strings" "$file" .no 2>&1)" = 'strings: there is no section .no' ] || fail "strings.c finds a section that $file doesn't have"
+    [ "$("$folder/strings" "$file" .bss 2>&1)" = 'strings: the section .bss has no bytes in the file' ] || fail "strings.c finds bytes of .bss"
+    "$folder/strings" "$file" .note 2>&1 | grep -qx 'strings: no zero byte closes the last string' || fail "strings.c does not say that a string is not closed"
+    check_execstack "$file"
+    check_without_sections
     [ "$("$folder/flag" "$short" .text 2>&1)" = 'flag: Malformed entity: Too small' ] || fail "flag.c does not refuse a short file as it should"
     [ "$("$folder/size" "$short" 2>&1 > "$folder/output")" = "size: $short: Malformed entity: Too small" ] || fail "size.c does not refuse a short file as it should"
     [ "$("$folder/strings" "$short" .names 2>&1)" = 'strings: Malformed entity: Too small, at offset 0' ] || fail "strings.c does not refuse a short file as it should"
@@ -178,7 +240,8 @@ check_damaged() {
 check_header
 check_examples
 check_constants
-for program in nm size symbolize values made search cost needed strings flag truncated; do build $program -std=c99; done
+for program in nm size symbolize values made search cost needed strings flag truncated execstack; do build $program -std=c99; done
+check_as_cxx
 quietly "$folder/search"
 echo "c: $(wc -l < "$folder/output") searches among long names take less than their limit (search.c)"
 check_cost

@@ -63,6 +63,11 @@ compare_addresses() {
             | sort -u | head -n 300 > "$folder/addresses" || true
         [ -s "$folder/addresses" ] || continue
         xargs "$folder/symbolize" "$file" < "$folder/addresses" | sed "s|^|$file |" >> "$folder/ours.at"
+        # (these and others one by one, to test the sorted symbols)
+        { cat "$folder/addresses"; awk '{ print substr($1, 1, length($1) - 2) "00"; print $1 "0" }' "$folder/addresses"; } > "$folder/more"
+        xargs "$folder/symbolize" "$file" < "$folder/more" > "$folder/sorted"
+        xargs "$folder/symbolize" -1 "$file" < "$folder/more" > "$folder/one_by_one"
+        quietly diff "$folder/one_by_one" "$folder/sorted"
         xargs addr2line -fs -e "$file" < "$folder/addresses" | sed "s|^|$file |" >> "$folder/theirs.at"
     done < "$folder/some"
     awk 'FNR % 2' "$folder/ours.at" > "$folder/ours"

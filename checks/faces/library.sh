@@ -7,7 +7,7 @@
 check_needs() {
     nm -u "$folder/libgoblin_c.a" | awk 'NF == 2 { print $2 }' > "$folder/needs"
     readelf -SW "$folder/libgoblin_c.a" > "$folder/sections"
-    if [ "$(cat "$folder/needs")" != memcpy ] || ! grep -q '\.text\.goblin_c_header ' "$folder/sections" \
+    if [ "$(cat "$folder/needs")" != memcpy ] || ! grep -q '\.text\.goblin_header ' "$folder/sections" \
         || grep -e '\.eh_frame' -e '\.note\.gnu\.property' "$folder/sections"; then
         echo "the library needs more than memcpy, or has unwind tables or notes; it needs:"
         cat "$folder/needs"

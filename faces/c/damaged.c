@@ -1,9 +1,9 @@
 /* Calls the whole library over damaged copies of files: damaged COUNT FILE..
    It makes COUNT copies of each file, with bytes changed or the end cut off. Each copy is between pages that can't be read, at the
    start or at the end of its own pages, so a call that reads outside the copy ends the program. Each result must be as goblin.h says:
-   unchanged if the call returns none, and inside the file if it is a range. It prints a sum of nearly all results: without names of
-   numbers, and without the last eight bytes of a single struct, which may be padding. The sum is the same on all little-endian
-   machines. */
+   unchanged if the call returns none, and inside the file if it is a range. The counts of headers, the symbol of an address and what fits
+   a record are computed here a second time, as goblin.h says them. It prints a sum of nearly all results: without names of numbers, and
+   without the last eight bytes of a single struct, which may be padding. The sum is the same on all little-endian machines. */
 #define _DEFAULT_SOURCE
 #include "goblin.h"
 #include <stdio.h>
@@ -11,9 +11,9 @@
 #include <string.h>
 #include <sys/mman.h>
 
-enum { PAGE = 0x10000, ROOM = 16 * PAGE, BATCH = 5 };
+enum { PAGE = 0x10000, ROOM = 16 * PAGE, BATCH = 5, SECTION = offsetof(goblin_section_t, sh_info) + 4 /* without padding */ };
 
-static const uint8_t *bytes;
+static uint8_t *bytes, saved[ROOM]; /* the copy, and its bytes before a call that writes */
 static size_t len;
 static unsigned long statuses[3], broken;
 static uint64_t sum = 0xcbf29ce484222325;
@@ -91,9 +91,8 @@ static void begins(uint64_t first, uint64_t second) {
     places[0] = first, places[1] = second;
 }
 
-/* Checks what a call returned and wrote, and that it returned the same number for a null `why`. */
-static bool check(const char *what, uint32_t status, const void *item, size_t size, uint32_t without_why) {
-    if (without_why != status) wrong("a null pointer", status);
+/* Checks what a call returned and wrote. */
+static bool check(const char *what, uint32_t status, const void *item, size_t size) {
     if (status > GOBLIN_END && why.offset != places[0] && why.offset != places[1]) wrong("where it is refused", status);
     statuses[status > GOBLIN_END ? 2 : status]++;
     if (status != GOBLIN_OK && !is_blank(item, size)) wrong(what, status);
@@ -119,10 +118,21 @@ static void names_of_numbers(void) {
     if (!is_blank(text + capacity, sizeof text - capacity)) wrong("a name", number);
 }
 
-/* Makes a call, whose last arguments are the result and `why`, and once more with no `why`. Returns whether it has a result. */
+/* Makes a call, whose last arguments are the result and `why`. Returns whether it has a result. */
 #define READS(call, item, ...) \
-    (blank(&(item), sizeof(item)), check(#call, call(bytes, len, __VA_ARGS__, &(item), &why), &(item), sizeof(item), \
-                                         call(bytes, len, __VA_ARGS__, &(item), NULL)))
+    (blank(&(item), sizeof(item)), check(#call, call(bytes, len, __VA_ARGS__, &(item), &why), &(item), sizeof(item)))
+
+/* Makes a call that finds a section, whose last arguments are its index, the section and `why`. Returns whether it has a result. */
+#define FINDS(call, index, section, ...) \
+    (blank(&(index), sizeof(index)), blank(&(section), sizeof(section)), \
+     check_found(#call, call(bytes, len, __VA_ARGS__, &(index), &(section), &why), &(index), &(section)))
+
+/* Checks what such a call returned and wrote. */
+static bool check_found(const char *what, uint32_t status, const uint64_t *index, const goblin_section_t *section) {
+    if (status != GOBLIN_OK && !is_blank(section, sizeof *section)) wrong(what, status);
+    if (status == GOBLIN_OK) add(section, SECTION);
+    return check(what, status, index, sizeof *index);
+}
 
 static void inside(const char *what, goblin_range_t range) {
     if (range.offset > len || range.size > len - range.offset) wrong(what, GOBLIN_OK);
@@ -158,10 +168,8 @@ static void notes(const goblin_header_t *h, goblin_range_t range) {
         size_t capacity = (size_t)any(BATCH + 1), size = offsetof(type, last) + sizeof single.last; \
         blank(items, sizeof items); \
         uint32_t status = all(bytes, len, __VA_ARGS__, first, items, capacity, &filled, &why); \
-        uint64_t filled_again = filled; \
-        uint32_t again = all(bytes, len, __VA_ARGS__, first, items, capacity, &filled_again, NULL); \
         if (filled > capacity || (status != GOBLIN_OK && filled != 0)) wrong(#all, status), filled = 0; \
-        check(#all, status, items, status == GOBLIN_OK ? 0 : sizeof items, again); \
+        check(#all, status, items, status == GOBLIN_OK ? 0 : sizeof items); \
         if (!is_blank(items + filled, sizeof *items * (BATCH - filled))) wrong(#all ": after the items", status); \
         for (uint64_t i = 0; i < filled; i++) add(items + i, size); \
         for (uint64_t i = 0; i < filled; i++) \
@@ -169,30 +177,31 @@ static void notes(const goblin_header_t *h, goblin_range_t range) {
         if (status == GOBLIN_OK && filled < capacity && READS(one, single, __VA_ARGS__, first + filled)) wrong(#all, status); \
     } while (0)
 
-/* Finds a symbol by an address: among all symbols, in an index, and in an array of other numbers. */
+/* Finds the symbol of an address as goblin.h says it. Returns whether there is one. */
+static bool plain_by_address(const goblin_header_t *h, const goblin_range_t *range, uint64_t address, uint64_t *index) {
+    goblin_symbol_t s;
+    uint64_t highest = 0, label = 0, at = 0;
+    bool is_found = false, has_label = false, is_any = false;
+    for (uint64_t i = 0; goblin_symbol(bytes, len, h, range, i, &s, &why) == GOBLIN_OK; i++) {
+        unsigned type = s.st_info & 15;
+        if (s.st_shndx == 0 || (s.st_shndx >= 0xff00 && s.st_shndx != 0xffff) || !(type <= 2 || type == 10) || s.st_value > address) continue;
+        if (address - s.st_value < s.st_size && (!is_found || s.st_value > at)) is_found = true, *index = i, at = s.st_value;
+        if (!is_any || s.st_value > highest) is_any = true, highest = s.st_value, has_label = false;
+        if (s.st_value == highest && s.st_size == 0 && !has_label) has_label = true, label = i;
+    }
+    if (!is_found && has_label) *index = label;
+    return is_found || has_label;
+}
+
 static void by_address(const goblin_header_t *h, goblin_range_t range) {
-    uint64_t address = any(2) ? any(0x100) : odd(), indices[BATCH], number, same, filled = 0;
-    goblin_symbol_t below;
+    uint64_t number, expected = 0;
+    goblin_symbol_t near;
+    uint64_t address = any(2) ? any(0x100) : odd();
+    if (any(2) && goblin_symbol(bytes, len, h, &range, any(30), &near, &why) == GOBLIN_OK)
+        address = near.st_value + (any(2) ? near.st_size : 0) - any(2);
     bool is_found = READS(goblin_symbol_by_address, number, h, &range, address);
-    if (is_found && (!READS(goblin_symbol, below, h, &range, number) || below.st_value > address))
-        wrong("goblin_symbol_by_address", GOBLIN_OK);
-    size_t capacity = (size_t)any(BATCH + 1);
-    blank(indices, sizeof indices);
-    uint32_t status = goblin_address_index(bytes, len, h, &range, indices, capacity, &filled, &why);
-    uint64_t filled_again = filled;
-    uint32_t again = goblin_address_index(bytes, len, h, &range, indices, capacity, &filled_again, NULL);
-    if (filled > capacity || (status != GOBLIN_OK && filled != 0)) wrong("goblin_address_index", status), filled = 0;
-    check("goblin_address_index", status, indices, status == GOBLIN_OK ? 0 : sizeof indices, again);
-    if (!is_blank(indices + capacity, sizeof *indices * (BATCH - capacity))) wrong("goblin_address_index: after the array", status);
-    add(indices, sizeof *indices * (size_t)filled);
-    if (status == GOBLIN_OK
-        && (READS(goblin_symbol_by_address_in, same, h, &range, indices, (size_t)filled, address) != is_found
-            || (is_found && same != number)))
-        wrong("goblin_symbol_by_address_in", GOBLIN_OK);
-    for (int i = 0; i < BATCH; i++) indices[i] = any(2) ? any(9) : odd();
-    if (READS(goblin_symbol_by_address_in, number, h, &range, indices, capacity, address)
-        && (!READS(goblin_symbol, below, h, &range, number) || below.st_value > address))
-        wrong("goblin_symbol_by_address_in: other numbers", GOBLIN_OK);
+    if (is_found != plain_by_address(h, &range, address, &expected) || (is_found && number != expected))
+        wrong("goblin_symbol_by_address", is_found);
 }
 
 /* Returns the offset of the item with an index, or the greatest number if it is past that. */
@@ -200,51 +209,256 @@ static uint64_t offset_of(uint64_t start, uint64_t size, uint64_t index) {
     return index > (UINT64_MAX - start) / size ? UINT64_MAX : start + index * size;
 }
 
-/* Reads the header at an index alone. It must be one of the whole ones, and that of the call for all of them where that has a result;
-   its range has its bytes. */
-#define ALONE(one, alone, place, type, last, h, at, whole, start, width) \
-    do { \
-        type with_others, by_itself; \
-        goblin_range_t own; \
-        size_t size = offsetof(type, last) + sizeof by_itself.last; \
-        begins(start, start); \
-        bool is_there = READS(one, with_others, h, at), has_place = READS(place, own, h, at); \
-        begins(offset_of(start, width, at), start); \
-        bool is_alone = READS(alone, by_itself, h, at); \
-        if (is_alone != (at < whole)) wrong(#alone, is_alone); \
-        if (is_there && (!is_alone || memcmp(&with_others, &by_itself, size))) wrong(#alone " and " #one, is_alone); \
-        if (has_place != is_there || (has_place && own.offset != offset_of(start, width, at))) wrong(#place, has_place); \
-        if (has_place) inside(#place, own); \
-    } while (0)
+/* Returns how many headers of a size there is room for from an offset of the file on. */
+static uint64_t room(uint64_t start, uint64_t size) {
+    return start > len ? 0 : (len - start) / size;
+}
+
+static uint64_t section_size(const goblin_header_t *h) { return h->ei_class == 2 ? 64 : 40; }
+static uint64_t segment_size(const goblin_header_t *h) { return h->ei_class == 2 ? 56 : 32; }
+
+/* Reads a number of the header of the first section, whose offset in it depends on the class. Returns whether that is in the file. */
+static bool first_number(const goblin_header_t *h, uint64_t at32, uint64_t width32, uint64_t at64, uint64_t width64, uint64_t *number) {
+    bool is_64 = h->ei_class == 2;
+    return room(h->e_shoff, section_size(h)) > 0
+        && goblin_number(bytes, len, h, h->e_shoff + (is_64 ? at64 : at32), is_64 ? width64 : width32, number, &why) == GOBLIN_OK;
+}
+
+/* Finds the stated number of sections or of segments. Returns whether it can be read. */
+static bool stated_sections(const goblin_header_t *h, uint64_t *number) {
+    *number = h->e_shoff == 0 ? 0 : h->e_shnum;
+    if (h->e_shoff == 0 || h->e_shnum != 0) return true;
+    if (!first_number(h, 20, 4, 32, 8, number)) return false;
+    if (*number == 0) *number = 1;
+    return true;
+}
+static bool stated_segments(const goblin_header_t *h, uint64_t *number) {
+    *number = h->e_phnum;
+    return h->e_phnum != 0xffff || h->e_shoff == 0 || first_number(h, 28, 4, 44, 4, number);
+}
+
+/* Makes the header that counts what is whole, as goblin.h says it. */
+static goblin_header_t plain_whole(const goblin_header_t *h) {
+    goblin_header_t whole = *h;
+    uint64_t number, sections = room(h->e_shoff, section_size(h)), segments = room(h->e_phoff, segment_size(h));
+    bool is_stated = stated_sections(h, &number);
+    if ((!is_stated || number > sections) && sections == 0) whole.e_shoff = whole.e_shnum = 0;
+    else if (number > sections) whole.e_shnum = (uint16_t)(sections < 0xffff ? sections : 0xffff);
+    is_stated = stated_segments(h, &number);
+    if (!is_stated) number = 0xffff;
+    if (number < segments) segments = number;
+    if (!is_stated || number > segments) whole.e_phnum = (uint16_t)(segments < 0xfffe ? segments : 0xfffe);
+    return whole;
+}
+
+/* Counts the headers, and makes the header that counts what is whole. With it no list is refused, and those that were not are the same. */
+static void whole(const goblin_header_t *h) {
+    goblin_header_t w, expected = plain_whole(h);
+    goblin_section_t section, same_section;
+    goblin_segment_t segment, same_segment;
+    uint64_t number, same_number, stated, at = any(12);
+    blank(&w, sizeof w);
+    goblin_whole_header(bytes, len, h, &w);
+    size_t size = offsetof(goblin_header_t, ei_abiversion) + 1;
+    if (memcmp(&w, &expected, size)) wrong("goblin_whole_header", GOBLIN_OK);
+    add(&w, size);
+    begins(h->e_shoff, h->e_shoff);
+    bool is_stated = stated_sections(h, &stated), is_read = READS(goblin_section_count, number, h);
+    if (is_read != (is_stated && stated <= room(h->e_shoff, section_size(h))) || (is_read && number != stated))
+        wrong("goblin_section_count", is_read);
+    if (!READS(goblin_section_count, same_number, &w) || (is_read && same_number != number)) wrong("goblin_whole_header: sections", is_read);
+    if (READS(goblin_section, same_section, &w, at) != (at < same_number)) wrong("goblin_whole_header: a section", is_read);
+    if (is_read && at < number && (!READS(goblin_section, section, h, at) || memcmp(&section, &same_section, SECTION)))
+        wrong("goblin_whole_header: the same section", is_read);
+    is_stated = stated_segments(h, &stated);
+    uint64_t segments = room(h->e_phoff, segment_size(h));
+    begins(is_stated ? h->e_phoff : h->e_shoff, is_stated ? h->e_phoff : h->e_shoff);
+    is_read = READS(goblin_segment_count, number, h);
+    if (!is_read && is_stated && (why.kind == GOBLIN_BUFFER_TOO_SHORT) != (stated > len / segment_size(h)))
+        wrong("goblin_segment_count: the kind", why.kind);
+    if (is_read != (is_stated && (stated == 0 || stated <= segments)) || (is_read && number != stated)) wrong("goblin_segment_count", is_read);
+    if (!READS(goblin_segment_count, same_number, &w) || (is_read && same_number != number)) wrong("goblin_whole_header: segments", is_read);
+    if (READS(goblin_segment, same_segment, &w, at) != (at < same_number)) wrong("goblin_whole_header: a segment", is_read);
+    if (is_read && at < number && (!READS(goblin_segment, segment, h, at) || memcmp(&segment, &same_segment, sizeof segment)))
+        wrong("goblin_whole_header: the same segment", is_read);
+}
 
 /* Returns the offset of the byte that is loaded at an address, at most the greatest number, or 0 if there is none. */
 static uint64_t loaded(const goblin_header_t *h, uint64_t address) {
     goblin_segment_t p;
-    for (uint64_t i = 0; goblin_segment(bytes, len, h, i, &p, NULL) == GOBLIN_OK; i++)
+    for (uint64_t i = 0; goblin_segment(bytes, len, h, i, &p, &why) == GOBLIN_OK; i++)
         if (p.p_type == 1 && p.p_vaddr <= address && address - p.p_vaddr < p.file.size)
             return offset_of(p.file.offset, 1, address - p.p_vaddr);
     return 0;
 }
 
-/* Reads headers by themselves, and converts addresses to offsets. */
-static void alone(const goblin_header_t *h) {
-    uint64_t sections = 0, segments = 0, offset, width = h->ei_class == 2 ? 64 : 40, other_width = h->ei_class == 2 ? 56 : 32;
-    begins(h->e_shoff, h->e_shoff);
-    if (!READS(goblin_whole_sections, sections, h)) sections = 0;
-    if (!READS(goblin_whole_segments, segments, h)) wrong("goblin_whole_segments", GOBLIN_END);
+/* Converts addresses to offsets. */
+static void addresses(const goblin_header_t *h) {
     for (int i = 0; i < 8; i++) {
-        uint64_t at = i < 4 ? any(12) : i < 6 ? sections - any(2) : odd(), other = i == 5 ? segments - any(2) : at;
         goblin_segment_t segment;
-        ALONE(goblin_section, goblin_section_alone, goblin_section_place, goblin_section_t, sh_info, h, at, sections, h->e_shoff, width);
-        ALONE(goblin_segment, goblin_segment_alone, goblin_segment_place, goblin_segment_t, p_flags, h, other, segments, h->e_phoff,
-              other_width);
-        begins(offset_of(h->e_phoff, other_width, other), h->e_phoff);
-        uint64_t address = READS(goblin_segment_alone, segment, h, other) ? segment.p_vaddr + any(0x100) : odd();
+        uint64_t offset;
+        begins(h->e_phoff, h->e_shoff);
+        uint64_t address = READS(goblin_segment, segment, h, any(12)) ? segment.p_vaddr + any(0x100) : odd();
         uint64_t expected = loaded(h, address);
-        begins(h->e_phoff, expected);
+        uint64_t number;
+        begins(stated_segments(h, &number) ? h->e_phoff : h->e_shoff, expected);
         if (READS(goblin_address_to_offset, offset, h, address) && (offset >= len || offset != expected))
             wrong("goblin_address_to_offset", GOBLIN_OK);
     }
+}
+
+/* Makes a call that writes, whose last argument is `why`. Returns whether it has written. */
+#define WRITES(call, ...) \
+    (memcpy(saved, bytes, len), memset(&why, 0x5a, sizeof why), check(#call, call(bytes, len, __VA_ARGS__, &why), NULL, 0))
+
+/* Checks that a call has changed no bytes but those of a range, or none if it has not written, and brings back the bytes. */
+static void restore(const char *what, bool is_written, uint64_t start, uint64_t size) {
+    if (!is_written) start = size = 0;
+    if (start > len || size > len - start) wrong(what, is_written), start = size = 0;
+    uint64_t end = start + size;
+    if (memcmp(bytes, saved, (size_t)start) || memcmp(bytes + end, saved + end, len - (size_t)end)) wrong(what, is_written);
+    add(bytes + start, (size_t)size);
+    memcpy(bytes, saved, len);
+}
+
+static bool is_32(uint64_t number) { return number <= 0xffffffff; }
+
+/* Returns a number that mostly has 32 bits. */
+static uint64_t some(void) {
+    uint64_t number = any(UINT64_MAX), shift = any(64);
+    return any(8) ? number >> 32 >> shift % 32 : number >> shift;
+}
+
+/* Checks a call that writes the record at an index, and the one that reads it. They refuse the same. A record that was read is written as it
+   was. Another one is refused if it does not fit, else it is read again, and changes no other byte. `first_counts` says whether the
+   record has the number of the list's items. */
+#define PUTS(put, get, type, last, read, fits, first_counts, start, size, ...) \
+    do { \
+        type before, after, changed = read; \
+        uint64_t from = places[0]; \
+        bool is_read = READS(get, before, __VA_ARGS__); \
+        uint64_t place = is_read ? (start) : from; \
+        begins(place, is_read ? place : places[1]); \
+        if (is_read && (!WRITES(put, __VA_ARGS__, &before) || memcmp(saved, bytes, len))) wrong(#put ": what was read", GOBLIN_OK); \
+        bool is_written = WRITES(put, __VA_ARGS__, &changed); \
+        if (is_read != is_written && !(is_read && why.kind == GOBLIN_INTEGER_FIT)) wrong(#put ": refused", is_written); \
+        if (is_read && is_written != (fits)) wrong(#put ": what fits", is_written); \
+        if (is_written && !(first_counts) \
+            && (get(bytes, len, __VA_ARGS__, &after, &why) != GOBLIN_OK || memcmp(&after, &changed, offsetof(type, last) + sizeof after.last))) \
+            wrong(#put ": what is read", GOBLIN_OK); \
+        restore(#put, is_written, place, size); \
+    } while (0)
+
+static goblin_section_t any_section(void) {
+    goblin_section_t s;
+    memset(&s, 0, sizeof s);
+    s.file.offset = some(), s.file.size = some(), s.sh_name = some(), s.sh_flags = some(), s.sh_addr = some(), s.sh_addralign = some();
+    s.sh_entsize = some(), s.sh_type = (uint32_t)some(), s.sh_link = (uint32_t)some(), s.sh_info = (uint32_t)some();
+    return s;
+}
+static bool fits_section(const goblin_section_t *s, bool is_64) {
+    return is_32(s->sh_name)
+        && (is_64 || (is_32(s->file.offset) && is_32(s->file.size) && is_32(s->sh_flags) && is_32(s->sh_addr) && is_32(s->sh_addralign)
+                      && is_32(s->sh_entsize)));
+}
+
+static goblin_segment_t any_segment(void) {
+    goblin_segment_t p;
+    memset(&p, 0, sizeof p);
+    p.file.offset = some(), p.file.size = some(), p.p_vaddr = some(), p.p_paddr = some(), p.p_memsz = some(), p.p_align = some();
+    p.p_type = (uint32_t)some(), p.p_flags = (uint32_t)some();
+    return p;
+}
+static bool fits_segment(const goblin_segment_t *p, bool is_64) {
+    return is_64 || (is_32(p->file.offset) && is_32(p->file.size) && is_32(p->p_vaddr) && is_32(p->p_paddr) && is_32(p->p_memsz)
+                     && is_32(p->p_align));
+}
+
+static goblin_symbol_t any_symbol(void) {
+    goblin_symbol_t s;
+    memset(&s, 0, sizeof s);
+    s.st_name = some(), s.st_value = some(), s.st_size = some(), s.st_shndx = any(4) ? any(0x10000) : some();
+    s.st_info = (uint8_t)any(256), s.st_other = (uint8_t)any(256);
+    return s;
+}
+static bool fits_symbol(const goblin_symbol_t *s, bool is_64) {
+    return is_32(s->st_name) && s->st_shndx <= 0xffff && (is_64 || (is_32(s->st_value) && is_32(s->st_size)));
+}
+
+static goblin_reloc_t any_reloc(bool is_rela) {
+    goblin_reloc_t r;
+    memset(&r, 0, sizeof r);
+    r.r_offset = some(), r.r_sym = any(2) ? some() : any(0x1000000), r.r_type = any(2) ? (uint32_t)some() : (uint32_t)any(256);
+    r.has_addend = any(8) ? is_rela : !is_rela;
+    if (r.has_addend) r.r_addend = any(2) ? (int64_t)some() : -(int64_t)any(0x80000001);
+    return r;
+}
+static bool fits_reloc(const goblin_reloc_t *r, bool is_rela, bool is_64) {
+    if (r->has_addend != is_rela || !is_32(r->r_sym)) return false;
+    return is_64 || (is_32(r->r_offset) && r->r_sym < 0x1000000 && r->r_type < 0x100 && r->r_addend >= INT32_MIN && r->r_addend <= INT32_MAX);
+}
+
+/* Writes the header: one that was read, and another one. The padding in it is left. */
+static void put_header(const goblin_header_t *h) {
+    goblin_header_t before, changed = *h, after;
+    if (goblin_header(bytes, len, &before, &why) == GOBLIN_OK) {
+        begins(0, 0);
+        if (!WRITES(goblin_put_header, &before) || memcmp(saved, bytes, len)) wrong("goblin_put_header: what was read", GOBLIN_OK);
+    }
+    changed.e_entry = some(), changed.e_phoff = some(), changed.e_shoff = some(), changed.e_flags = (uint32_t)some();
+    changed.e_type = (uint16_t)some(), changed.e_shnum = (uint16_t)some(), changed.ei_osabi = (uint8_t)any(256);
+    if (any(2)) changed.ei_class = (uint8_t)(1 + any(2)), changed.ei_data = (uint8_t)(1 + any(2));
+    if (any(8) == 0) changed.ei_class = (uint8_t)any(4), changed.ei_data = (uint8_t)any(4);
+    bool is_64 = changed.ei_class == 2, has_class = is_64 || changed.ei_class == 1, has_data = changed.ei_data == 1 || changed.ei_data == 2;
+    size_t size = is_64 ? 64 : 52;
+    bool fits = is_64 || (is_32(changed.e_entry) && is_32(changed.e_phoff) && is_32(changed.e_shoff));
+    uint32_t expected = !has_class ? GOBLIN_INVALID_CLASS : !has_data ? GOBLIN_DATA : len == 0 ? GOBLIN_BAD_OFFSET : len < size ? GOBLIN_TOO_BIG
+        : !fits ? GOBLIN_INTEGER_FIT : GOBLIN_OK;
+    begins(0, 0);
+    bool is_written = WRITES(goblin_put_header, &changed);
+    if (is_written != (expected == GOBLIN_OK) || (!is_written && why.kind != expected)) wrong("goblin_put_header", expected);
+    if (is_written && memcmp(saved + 9, bytes + 9, 7)) wrong("goblin_put_header: padding", GOBLIN_OK);
+    if (is_written && (goblin_header(bytes, len, &after, &why) != GOBLIN_OK
+                       || memcmp(&after, &changed, offsetof(goblin_header_t, ei_abiversion) + 1)))
+        wrong("goblin_put_header: what is read", GOBLIN_OK);
+    restore("goblin_put_header", is_written, 0, size);
+}
+
+/* Writes a number, which must fit and is read again. */
+static void put_number(const goblin_header_t *h, uint64_t offset, uint64_t width) {
+    uint64_t before, after, value = some();
+    begins(offset, offset);
+    bool is_read = READS(goblin_number, before, h, offset, width), fits = width >= 8 || value >> 8 * width == 0;
+    if (is_read && (!WRITES(goblin_put_number, h, offset, width, before) || memcmp(saved, bytes, len)))
+        wrong("goblin_put_number: what was read", GOBLIN_OK);
+    bool is_written = WRITES(goblin_put_number, h, offset, width, value);
+    if (is_written != (is_read && fits)) wrong("goblin_put_number", is_written);
+    if (is_read && !fits && why.kind != GOBLIN_INTEGER_FIT) wrong("goblin_put_number: what fits", why.kind);
+    if (is_written && (goblin_number(bytes, len, h, offset, width, &after, &why) != GOBLIN_OK || after != value))
+        wrong("goblin_put_number: what is read", GOBLIN_OK);
+    restore("goblin_put_number", is_written, offset, width);
+}
+
+/* Writes headers, symbols and relocations. */
+static void put_records(const goblin_header_t *h, goblin_range_t range) {
+    bool is_64 = h->ei_class == 2, is_rela = any(2);
+    uint64_t at = any(4) ? any(12) : odd(), number;
+    begins(h->e_shoff, h->e_shoff);
+    PUTS(goblin_put_section, goblin_section, goblin_section_t, sh_info, any_section(), fits_section(&changed, is_64),
+         at == 0 && h->e_shnum == 0, h->e_shoff + at * section_size(h), section_size(h), h, at);
+    begins(stated_segments(h, &number) ? h->e_phoff : h->e_shoff, h->e_phoff);
+    /* (a segment's header may lie over that of the first section) */
+    PUTS(goblin_put_segment, goblin_segment, goblin_segment_t, p_flags, any_segment(), fits_segment(&changed, is_64),
+         h->e_phnum == 0xffff, h->e_phoff + at * segment_size(h), segment_size(h), h, at);
+    begins(range.offset, range.offset);
+    at = any(4) ? any(30) : odd();
+    PUTS(goblin_put_symbol, goblin_symbol, goblin_symbol_t, st_other, any_symbol(), fits_symbol(&changed, is_64), false,
+         range.offset + at * (is_64 ? 24 : 16), is_64 ? 24 : 16, h, &range, at);
+    begins(range.offset, range.offset);
+    uint64_t size = (is_rela ? 3 : 2) * (is_64 ? 8 : 4);
+    PUTS(goblin_put_reloc, goblin_reloc, goblin_reloc_t, has_addend, any_reloc(is_rela), fits_reloc(&changed, is_rela, is_64), false,
+         range.offset + at * size, size, h, &range, is_rela, at);
+    put_number(h, any(2) ? any_offset(len) : odd(), any(10));
 }
 
 /* Cuts a range to the file, and reads a number in it. The number must be the one at its offset in the file. */
@@ -282,35 +496,14 @@ static void table(const goblin_header_t *h, goblin_range_t range, goblin_range_t
         begins(names.offset, names.offset + near);
         goblin_range_t same_bytes;
         bool is_string = READS(goblin_string_bytes, same_bytes, &names, near);
-        if (is_string) {
-            /* The string is its own bytes and begins with its first ones. It is not they with a byte more or less. */
-            const uint8_t *string = bytes + same_bytes.offset;
-            size_t size = (size_t)same_bytes.size, some = (size_t)any(same_bytes.size + 1);
-            inside("bytes of a string", same_bytes);
-            if (goblin_string_is(bytes, len, &names, near, string, size, NULL) != GOBLIN_OK
-                || (some < size && goblin_string_is(bytes, len, &names, near, string, some, &why) != GOBLIN_END)
-                || (same_bytes.offset + size < len && goblin_string_is(bytes, len, &names, near, string, size + 1, &why) != GOBLIN_END))
-                wrong("goblin_string_is", GOBLIN_OK);
-            if (goblin_string_starts(bytes, len, &names, near, string, some, NULL) != GOBLIN_OK
-                || goblin_string_starts(bytes, len, &names, near, "\0", 1, &why) != GOBLIN_END)
-                wrong("goblin_string_starts", GOBLIN_OK);
-        }
-        uint32_t is = goblin_string_is(bytes, len, &names, near, "main", 4, &why);
-        check("goblin_string_is", is, NULL, 0, goblin_string_is(bytes, len, &names, near, "main", 4, NULL));
-        memset(&why, 0x5a, sizeof why);
-        is = goblin_string_starts(bytes, len, &names, near, "ma", 2, &why);
-        check("goblin_string_starts", is, NULL, 0, goblin_string_starts(bytes, len, &names, near, "ma", 2, NULL));
+        if (is_string) inside("bytes of a string", same_bytes);
         if (READS(goblin_string, name, &names, near)) {
             inside("string", name);
             if (!is_string || name.offset != same_bytes.offset || name.size != same_bytes.size)
                 wrong("goblin_string_bytes", GOBLIN_OK);
         }
         begins(range.offset, range.offset);
-        bool is_symbol = READS(goblin_symbol, symbol, h, &range, at);
-        goblin_range_t place;
-        if (READS(goblin_symbol_place, place, h, &range, at) != is_symbol) wrong("goblin_symbol_place", GOBLIN_OK);
-        if (!is_symbol) continue;
-        inside("goblin_symbol_place", place);
+        if (!READS(goblin_symbol, symbol, h, &range, at)) continue;
         begins(names.offset, names.offset + symbol.st_name);
         if (!READS(goblin_string, name, &names, symbol.st_name)) continue;
         inside("string", name);
@@ -341,18 +534,23 @@ static void table(const goblin_header_t *h, goblin_range_t range, goblin_range_t
     SEVERAL(goblin_symbol, goblin_symbols, goblin_symbol_t, st_other, h, &range);
     SEVERAL(goblin_reloc, goblin_relocs, goblin_reloc_t, has_addend, h, &range, is_rela);
     notes(h, range);
+    put_records(h, range);
 }
 
 static void file(void) {
     goblin_header_t h;
     blank(&h, sizeof h);
     begins(0, 0);
-    if (!check("goblin_header", goblin_header(bytes, len, &h, &why), &h, sizeof h, goblin_header(bytes, len, &h, NULL)))
-        memset(&h, (int)any(256), sizeof h);
+    if (!check("goblin_header", goblin_header(bytes, len, &h, &why), &h, sizeof h)) memset(&h, (int)any(256), sizeof h);
     if (any(4) == 0) h.e_shoff = odd(), h.e_phoff = odd(), h.e_phnum = (uint16_t)odd(), h.e_shnum = (uint16_t)odd();
     if (any(4) == 0) { /* headers that end near the end of the file */
         h.e_phnum = (uint16_t)any(5), h.e_phoff = len + any(4) - h.e_phnum * (h.ei_class == 2 ? 56U : 32U);
         h.e_shnum = (uint16_t)any(5), h.e_shoff = len + any(4) - h.e_shnum * (h.ei_class == 2 ? 64U : 40U);
+    }
+    if (any(4) == 0) { /* a number of segments that the first section has */
+        if (any(2)) h.e_phoff = any_offset(len), h.e_shoff = any_offset(len);
+        h.e_phnum = 0xffff;
+        goblin_put_number(bytes, len, &h, h.e_shoff + (h.ei_class == 2 ? 44 : 28), 4, any(4) ? any(6) : odd(), &why);
     }
     uint64_t count = 0;
     goblin_section_t section, names, found;
@@ -366,18 +564,20 @@ static void file(void) {
         if (is_there != (is_counted && at < count)) wrong("goblin_section_count", GOBLIN_OK);
         bool is_table = is_there && at > 0 && section.sh_type != 8;
         if (READS(goblin_linked_section, found, &h, at) != is_table) wrong("goblin_linked_section", GOBLIN_OK);
-        goblin_range_t name;
+        goblin_range_t name, within;
         table(&h, is_there ? section.file : odd_range(), names.file);
         begins(names.file.offset, names.file.offset + section.sh_name);
         if (is_there && READS(goblin_string, name, &names.file, section.sh_name)
             && (begins(h.e_shoff, names.file.offset),
-                !READS(goblin_section_by_name, index, &h, &names.file, bytes + name.offset, (size_t)name.size, 0)
-                || index > at || !READS(goblin_section, found, &h, index)
-                || !READS(goblin_section_by_name, index, &h, &names.file, bytes + name.offset, (size_t)name.size, at) || index != at))
+                !FINDS(goblin_section_by_name, index, found, &h, &names.file, bytes + name.offset, (size_t)name.size, 0) || index > at
+                || (index == at && memcmp(&found, &section, SECTION))
+                || !FINDS(goblin_section_by_name, index, found, &h, &names.file, bytes + name.offset, (size_t)name.size, at) || index != at
+                || memcmp(&found, &section, SECTION)))
             wrong("goblin_section_by_name", GOBLIN_END);
+        begins(h.e_shoff, names.file.offset);
+        if (FINDS(goblin_section_by_name, index, found, &h, &names.file, "none", 4, at)) wrong("goblin_section_by_name: none", GOBLIN_OK);
         goblin_segment_t segment;
-        goblin_range_t within;
-        begins(h.e_phoff, h.e_phoff);
+        begins(h.e_phoff, h.e_shoff);
         if (READS(goblin_segment, segment, &h, at)) {
             notes(&h, segment.file);
             begins(segment.file.offset, segment.file.offset);
@@ -385,21 +585,14 @@ static void file(void) {
         }
         begins(section.file.offset, section.file.offset);
         if (is_there && READS(goblin_section_bytes, within, &section)) inside("section", within);
-        begins(names.file.offset, names.file.offset + section.sh_name);
-        if (is_there && READS(goblin_string, name, &names.file, section.sh_name)
-            && (begins(h.e_shoff, names.file.offset),
-                READS(goblin_section_by_name, index, &h, &names.file, bytes + name.offset, (size_t)name.size, 0))
-            && READS(goblin_section, found, &h, index)
-            && (begins(found.file.offset, found.file.offset),
-                READS(goblin_bytes_by_name, within, &h, &names.file, bytes + name.offset, (size_t)name.size)))
-            inside("goblin_bytes_by_name", within);
         begins(h.e_shoff, h.e_shoff);
-        if (is_there && (!READS(goblin_section_by_type, index, &h, section.sh_type, at) || index != at))
+        if (is_there && (!FINDS(goblin_section_by_type, index, found, &h, section.sh_type, at) || index != at
+                         || memcmp(&found, &section, SECTION)))
             wrong("goblin_section_by_type", GOBLIN_END);
     }
-    begins(h.e_phoff, h.e_phoff);
-    READS(goblin_segment_count, count, &h);
-    alone(&h);
+    whole(&h);
+    addresses(&h);
+    put_header(&h);
     begins(h.e_shoff, h.e_shoff);
     SEVERAL(goblin_section, goblin_sections, goblin_section_t, sh_info, &h);
     names_of_numbers();

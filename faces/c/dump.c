@@ -5,16 +5,16 @@
 #include <inttypes.h>
 #include <stdio.h>
 #include <stdlib.h>
+#include <string.h>
 
-/* How many items are read of sections of another type, how many headers are read alone, and how many bytes are printed of a section. */
-enum { FEW = 3, ALONE = 20, FIRST = 16 };
+/* How many items are read of sections of another type and written of each list, how many headers are read of what is whole, and how many
+   bytes are printed of a section. */
+enum { FEW = 3, WHOLE = 20, FIRST = 16 };
 
-static uint8_t bytes[0x1000000];
+static uint8_t bytes[0x1000000], saved[sizeof bytes];
 static size_t len;
 static goblin_header_t h;
 static goblin_refusal_t why;
-/* The index of the addresses of the table that is read, of which the first part is filled. */
-static uint64_t indices[sizeof bytes / 16], filled;
 
 /* Defines put_NAME(item) for each struct, which prints its fields. */
 #define STRUCT(name) } static void put_##name(const goblin_##name##_t *item) {
@@ -63,6 +63,23 @@ static bool put_status(const char *what, uint32_t status) {
 #define PUT(kind, item) (put_##kind(&(item)), putchar('\n'))
 #define SHOW(call, kind, item, ...) (ASK(call, item, __VA_ARGS__) && (PUT(kind, item), true))
 
+/* Prints the index and the section that a search finds. */
+#define SEARCH(call, ...) \
+    do { \
+        uint64_t at; \
+        goblin_section_t found; \
+        if (put_status(#call, call(bytes, len, __VA_ARGS__, &at, &found, &why))) printf(" %" PRIx64, at), PUT(section, found); \
+    } while (0)
+
+/* Makes a call that writes, prints a sum of the file's bytes, and brings them back. */
+#define WRITE(call, ...) (put_sum(#call, call(bytes, len, __VA_ARGS__, &why)), memcpy(bytes, saved, len))
+static void put_sum(const char *what, uint32_t status) {
+    uint32_t sum = 0x811c9dc5;
+    if (!put_status(what, status)) return;
+    for (size_t i = 0; i < len; i++) sum = (sum ^ bytes[i]) * 0x1000193;
+    printf(" %" PRIx32 "\n", sum);
+}
+
 static goblin_range_t range_of(const goblin_section_t *section) {
     goblin_range_t none = {0, 0};
     return section->sh_type == SHT_NOBITS ? none : section->file;
@@ -102,11 +119,10 @@ static void string(goblin_range_t strings, uint64_t offset) {
     if (ASK(goblin_string, found, &strings, offset)) put_bytes(found), putchar('\n');
     if (!ASK(goblin_string_bytes, found, &strings, offset)) return;
     put_bytes(found), putchar('\n');
-    const uint8_t *text = bytes + found.offset;
-    size_t size = (size_t)found.size;
-    if (put_status("goblin_string_is", goblin_string_is(bytes, len, &strings, offset / 2, text, size, &why))) puts(" yes");
-    if (put_status("goblin_string_starts", goblin_string_starts(bytes, len, &strings, offset, text, size / 2, &why))) puts(" yes");
 }
+
+/* Returns a number that does not fit in 32 bits for the item at index 1, else 0. */
+static uint64_t any_high(uint64_t at) { return at == 1 ? UINT64_C(1) << 32 : 0; }
 
 static void one_symbol(goblin_range_t table, goblin_range_t names, uint64_t at) {
     goblin_symbol_t symbol;
@@ -118,12 +134,14 @@ static void one_symbol(goblin_range_t table, goblin_range_t names, uint64_t at) 
     TEXT(goblin_type_to_str, symbol.st_info & 15);
     TEXT(goblin_visibility_to_str, symbol.st_other & 7);
     putchar('\n');
-    SHOW(goblin_symbol_place, range, name, &h, &table, at);
     string(names, symbol.st_name);
     if (goblin_string(bytes, len, &names, symbol.st_name, &name, &why) == GOBLIN_OK)
         SHOW(goblin_symbol_by_name, number, index, &h, &table, &names, bytes + name.offset, (size_t)name.size);
     SHOW(goblin_symbol_by_address, number, index, &h, &table, symbol.st_value);
-    SHOW(goblin_symbol_by_address_in, number, index, &h, &table, indices, (size_t)filled, symbol.st_value + symbol.st_size);
+    SHOW(goblin_symbol_by_address, number, index, &h, &table, symbol.st_value + symbol.st_size);
+    if (at >= FEW) return;
+    symbol.st_value ^= 1, symbol.st_name += any_high(at);
+    WRITE(goblin_put_symbol, &h, &table, at, &symbol);
 }
 
 static void symbols(const goblin_section_t *section) {
@@ -133,7 +151,6 @@ static void symbols(const goblin_section_t *section) {
     uint32_t status = goblin_linked_section(bytes, len, &h, section->sh_link, &strings, &why);
     if (!put_strings("goblin_linked_section", status, &strings, &names)) return;
     if (!SHOW(goblin_symbol_count, number, count, &h, &table)) return;
-    goblin_address_index(bytes, len, &h, &table, indices, (size_t)count, &filled, &why);
     bool is_table = section->sh_type == SHT_SYMTAB || section->sh_type == SHT_DYNSYM;
     for (uint64_t i = 0; i < count && (is_table || i < FEW); i++) one_symbol(table, names, i);
     one_symbol(table, names, count - (count > 0)), one_symbol(table, names, count);
@@ -144,6 +161,9 @@ static void one_reloc(goblin_range_t range, bool is_rela, uint64_t at) {
     if (!ASK(goblin_reloc, reloc, &h, &range, is_rela, at)) return;
     put_reloc(&reloc);
     printf(" %" PRId64 "\n", reloc.r_addend);
+    if (at >= FEW) return;
+    reloc.r_offset ^= 1, reloc.r_sym += any_high(at);
+    WRITE(goblin_put_reloc, &h, &range, is_rela, at, &reloc);
 }
 
 static void relocs(const goblin_section_t *section) {
@@ -182,7 +202,6 @@ static void segments(void) {
         put_segment(&segment);
         TEXT(goblin_pt_to_str, segment.p_type);
         putchar('\n');
-        SHOW(goblin_segment_place, range, range, &h, i);
         SHOW(goblin_segment_bytes, range, range, &segment);
         uint32_t status = goblin_segment_bytes(bytes, len, &segment, &range, &why);
         part(status, range, segment.file);
@@ -191,11 +210,14 @@ static void segments(void) {
             SHOW(goblin_address_to_offset, number, offset, &h, segment.p_vaddr + k * (segment.file.size / 2));
         notes(segment.file, segment.p_align);
         notes_as_bytes(segment.file, segment.p_align);
+        if (i >= FEW) continue;
+        segment.p_flags ^= GOBLIN_PF_X, segment.p_memsz += any_high(i);
+        WRITE(goblin_put_segment, &h, i, &segment);
     }
 }
 
 static void sections(void) {
-    uint64_t count, index;
+    uint64_t count;
     goblin_section_t names, section;
     goblin_range_t strings, range, name;
     if (!SHOW(goblin_section_count, number, count, &h)) return;
@@ -208,39 +230,58 @@ static void sections(void) {
         for (int bit = 0; bit < 32; bit++)
             if (section.sh_flags >> bit & 1) TEXT(goblin_shf_to_str, 1U << bit);
         putchar('\n');
-        SHOW(goblin_section_place, range, range, &h, i);
         string(strings, section.sh_name);
-        if (goblin_string(bytes, len, &strings, section.sh_name, &name, &why) == GOBLIN_OK) {
+        if (goblin_string(bytes, len, &strings, section.sh_name, &name, &why) == GOBLIN_OK)
             for (uint64_t first = 0; first < 3; first++)
-                SHOW(goblin_section_by_name, number, index, &h, &strings, bytes + name.offset, (size_t)name.size, first * i);
-            if (ASK(goblin_bytes_by_name, range, &h, &strings, bytes + name.offset, (size_t)name.size)) put_data(range);
-        }
-        SHOW(goblin_section_by_type, number, index, &h, section.sh_type, i / 2);
-        SHOW(goblin_section_by_type, number, index, &h, section.sh_type, i + 1);
+                SEARCH(goblin_section_by_name, &h, &strings, bytes + name.offset, (size_t)name.size, first * i);
+        SEARCH(goblin_section_by_type, &h, section.sh_type, i / 2);
+        SEARCH(goblin_section_by_type, &h, section.sh_type, i + 1);
         SHOW(goblin_section_bytes, range, range, &section);
         status = goblin_section_bytes(bytes, len, &section, &range, &why);
         part(status, range, range_of(&section));
         numbers_in(range_of(&section));
         symbols(&section), relocs(&section), notes(range_of(&section), section.sh_addralign);
         notes_as_bytes(range_of(&section), section.sh_addralign);
+        if (i >= FEW) continue;
+        section.sh_flags ^= GOBLIN_SHF_WRITE, section.sh_name += any_high(i);
+        WRITE(goblin_put_section, &h, i, &section);
     }
 }
 
-/* Prints the headers that are inside the file, and then the result for the first one that is not. */
-static void alone(void) {
-    uint64_t count = 0;
+/* Prints the header that counts what is whole, the headers that it counts, and then the result for the first one that it does not. */
+static void whole(void) {
+    uint64_t count;
+    goblin_header_t w;
     goblin_section_t section;
     goblin_segment_t segment;
-    if (goblin_whole_sections(bytes, len, &h, &count, &why) != GOBLIN_OK) count = 0;
-    printf("goblin_whole_sections %" PRIx64 "\n", count);
-    for (uint64_t i = 0; i < count && i < ALONE; i++) SHOW(goblin_section_alone, section, section, &h, i);
-    SHOW(goblin_section_alone, section, section, &h, count);
-    SHOW(goblin_section_alone, section, section, &h, UINT64_MAX);
-    goblin_whole_segments(bytes, len, &h, &count, &why);
-    printf("goblin_whole_segments %" PRIx64 "\n", count);
-    for (uint64_t i = 0; i < count && i < ALONE; i++) SHOW(goblin_segment_alone, segment, segment, &h, i);
-    SHOW(goblin_segment_alone, segment, segment, &h, count);
-    SHOW(goblin_segment_alone, segment, segment, &h, UINT64_MAX);
+    goblin_range_t strings;
+    goblin_whole_header(bytes, len, &h, &w);
+    printf("goblin_whole_header");
+    PUT(header, w);
+    if (!SHOW(goblin_section_count, number, count, &w)) return;
+    for (uint64_t i = 0; i < count && i < WHOLE; i++) SHOW(goblin_section, section, section, &w, i);
+    SHOW(goblin_section, section, section, &w, count);
+    SHOW(goblin_section, section, section, &w, UINT64_MAX);
+    put_strings("goblin_section_names", goblin_section_names(bytes, len, &w, &section, &why), &section, &strings);
+    if (!SHOW(goblin_segment_count, number, count, &w)) return;
+    for (uint64_t i = 0; i < count && i < WHOLE; i++) SHOW(goblin_segment, segment, segment, &w, i);
+    SHOW(goblin_segment, segment, segment, &w, count);
+    SHOW(goblin_segment, segment, segment, &w, UINT64_MAX);
+}
+
+/* Writes the header and numbers. */
+static void writing(void) {
+    goblin_header_t changed = h;
+    changed.e_type ^= 1, changed.e_entry ^= 1;
+    WRITE(goblin_put_header, &changed);
+    changed.e_entry += any_high(1);
+    WRITE(goblin_put_header, &changed);
+    changed.ei_data = 3;
+    WRITE(goblin_put_header, &changed);
+    for (uint64_t width = 1; width <= 8; width *= 2) {
+        WRITE(goblin_put_number, &h, len / 2, width, 0x7f);
+        WRITE(goblin_put_number, &h, len - 4, width, 0x7f00);
+    }
 }
 
 static void numbers(void) {
@@ -267,7 +308,8 @@ int main(int argc, char **argv) {
         TEXT(goblin_et_to_str, h.e_type);
         TEXT(goblin_machine_to_str, h.e_machine);
         putchar('\n');
-        segments(), sections(), alone(), numbers();
+        memcpy(saved, bytes, len);
+        segments(), sections(), whole(), writing(), numbers();
     }
     return argc > 1 ? EXIT_SUCCESS : EXIT_FAILURE;
 }

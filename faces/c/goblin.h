@@ -1,4 +1,4 @@
-/* goblin for C and C++: reads the ELF records of a file in memory. Each call is proved.
+/* goblin for C and C++: reads the ELF records of a file in memory, and writes them back. Each call is proved.
 
    The calls allocate nothing, keep nothing from call to call, and return on every input.
 
@@ -21,9 +21,9 @@
 
    Pointers
      `bytes` points to the `len` bytes of the whole file. `bytes`, an array, a name or a text may be null if its length or capacity
-     is 0. `why` may be null: then the caller has only the returned number. Nothing else may be null. What a call writes must not
-     overlap anything else that it is given. Names and texts are `const void *`, so a string literal and bytes are both passed
-     without a cast.
+     is 0. Nothing else may be null, `why` too. A caller that does not read it passes `&unread` after `goblin_refusal_t unread;`. What
+     a call writes must not overlap anything else that it is given. Names and texts are `const void *`, so a string literal and bytes are
+     both passed without a cast.
 
    Files that change
      Nothing may write the bytes during a call. They may change between two calls, since each call checks all that it reads. But
@@ -31,10 +31,9 @@
      that reads past its new end (SIGBUS). Read a file into a buffer if others may shorten it.
 
    Files that are cut
-     If one section header is not inside the file, each call that reads the section headers is refused, so goblin_section_names,
-     goblin_section_by_name, goblin_section_by_type, goblin_linked_section and goblin_bytes_by_name are, too. If goblin_section_count is
-     refused, use goblin_whole_sections and goblin_section_alone. Calls for segments, and for the notes, strings and symbols of a range,
-     need no section headers. Cut a table's range with goblin_range_in_file first: a range that ends past the file is refused whole.
+     If one section header is not inside the file, each call that reads section headers is refused, searches too; program headers are
+     refused in the same way. goblin_whole_header makes a header that counts only the headers inside the file: with it no list of headers
+     is refused. A table whose range ends past the file is refused, too: cut the range with goblin_range_in_file first.
 
    Units
      Offsets and sizes are in bytes. Offsets start at the file's first byte if nothing else is said. Numbers are in the machine's
@@ -50,9 +49,9 @@
 
    Examples
      Each call has an example. All are compiled with these variables:
-       const uint8_t *bytes; size_t len; goblin_header_t header; goblin_refusal_t why; goblin_range_t range, string;
+       const uint8_t *bytes; uint8_t *own; size_t len; goblin_header_t header, whole; goblin_refusal_t why; goblin_range_t range, string;
        goblin_section_t section, table, names, sections[64]; goblin_segment_t segment; goblin_symbol_t symbol, symbols[64];
-       goblin_reloc_t reloc, relocs[64]; goblin_note_t note; uint64_t count, index, filled, value, indices[64]; char text[160]; */
+       goblin_reloc_t reloc, relocs[64]; goblin_note_t note; uint64_t count, index, filled, value; char text[160]; */
 #ifndef GOBLIN_H
 #define GOBLIN_H
 
@@ -64,18 +63,11 @@
 extern "C" {
 #endif
 
-/* (C before C99 has no `inline`) */
-#if defined(__cplusplus) || (defined(__STDC_VERSION__) && __STDC_VERSION__ >= 199901L)
-#define GOBLIN_CALL static inline
-#else
-#define GOBLIN_CALL static __inline
-#endif
-
 /* The number of the interface. It goes up if a call or a struct changes. goblin_version() returns the library's, which must be the
    same. */
-#define GOBLIN_VERSION 5
+#define GOBLIN_VERSION 6
 /* The version of the package that this file is part of. */
-#define GOBLIN_VERSION_STRING "0.6.0"
+#define GOBLIN_VERSION_STRING "0.7.0"
 
 /* What calls return. The comment of each refusal lists the numbers that goblin_refusal_t has for it, from `first` on. */
 enum {
@@ -96,7 +88,7 @@ enum {
     /* No call returns this, since none allocates. */
     GOBLIN_OUT_OF_MEMORY = 7,
 
-    /* No call returns 10, 11, 15, 18, 22, 23 or 24 so far. They are here since the library has them. */
+    /* No call returns 11, 18, 22 or 23 so far. They are here since the library has them. */
     /* The class byte is neither 1 nor 2, of a header that is queried or written: the byte. */
     GOBLIN_INVALID_CLASS = 10,
     /* The byte of the byte order is neither 1 nor 2, of a header that is queried: the byte. */
@@ -127,7 +119,7 @@ enum {
     GOBLIN_SECTION_OFFSET = 22,
     /* The addresses of a section do not fit in 64 bits: the offset of its name in the section names; its size; its address; 1. */
     GOBLIN_SECTION_ADDR = 23,
-    /* A number does not fit. */
+    /* A number that is to be written does not fit its bytes, or a relocation has an addend where its table has none, or the reverse. */
     GOBLIN_INTEGER_FIT = 24
 };
 
@@ -152,7 +144,7 @@ typedef struct {
     uint64_t fourth;
     uint64_t offset; /* where in the file the thing begins that is refused: 0 for the header; the range's offset for symbols, relocations
                         or strings; the offset of the string, note or bytes; for a list of headers its start, e_shoff or e_phoff, though
-                        the numbers may be about one header in it: goblin_section_alone says which, and where that one begins */
+                        the numbers may be about one header in it */
 } goblin_refusal_t;
 
 /* Some bytes of the file. A range that a call returns lies inside the file, if its struct does not say otherwise. Its size may be above
@@ -173,7 +165,7 @@ typedef struct {
     uint16_t e_machine;   /* the machine, a GOBLIN_EM_ number */
     uint16_t e_ehsize;    /* the size of this header that the file states */
     uint16_t e_phentsize; /* the size of a program header that the file states; the size that is read depends on the class alone */
-    uint16_t e_phnum;     /* the number of program headers; 0xffff (PN_XNUM) is not special here */
+    uint16_t e_phnum;     /* the number of program headers; if it is 0xffff (PN_XNUM), see goblin_segment_count */
     uint16_t e_shentsize; /* the size of a section header that the file states; the size that is read depends on the class alone */
     uint16_t e_shnum;     /* the number of section headers; if it is 0, the first section's sh_size has the number */
     uint16_t e_shstrndx;  /* the index of the section that holds the section names: see goblin_section_names */
@@ -274,7 +266,18 @@ void goblin_layout(goblin_layout_t *layout);
    Returns GOBLIN_TOO_SMALL, GOBLIN_BAD_MAGIC, GOBLIN_ELF_CLASS, GOBLIN_DATA_TYPE or GOBLIN_TOO_BIG, the first of these that
    applies, in this order. Never returns GOBLIN_END.
    Example: if (goblin_header(bytes, len, &header, &why) != GOBLIN_OK) return 1; */
-GOBLIN_CALL uint32_t goblin_header(const uint8_t *bytes, size_t len, goblin_header_t *header, goblin_refusal_t *why);
+uint32_t goblin_header(const uint8_t *bytes, size_t len, goblin_header_t *header, goblin_refusal_t *why);
+
+/* Copies a header, and makes the copy count only the headers that are whole inside the file. With the copy the other calls work on a file
+   that is cut or damaged, searches too.
+   If all section headers are inside the file, e_shoff and e_shnum stay. Else e_shnum is how many of them are, at most 0xffff; if none is,
+   e_shoff and e_shnum are 0. If all program headers are inside the file, e_phnum stays. Else it is how many of them are, at most 0xfffe.
+   If their number can't be read (see goblin_segment_count), it counts as 0xffff. All other fields stay.
+   With the copy no list of headers is refused. Where one is not refused with `header`, the calls return and write the same with the copy.
+   In most files the header of the section names is one of the last, so goblin_section_names returns GOBLIN_END if the end is cut.
+   Cannot fail.
+   Example: goblin_whole_header(bytes, len, &header, &whole); */
+void goblin_whole_header(const uint8_t *bytes, size_t len, const goblin_header_t *header, goblin_header_t *whole);
 
 /* ---- sections and segments ---- */
 
@@ -284,137 +287,88 @@ GOBLIN_CALL uint32_t goblin_header(const uint8_t *bytes, size_t len, goblin_head
    GOBLIN_BUFFER_TOO_SHORT: there are more headers than the file could hold. GOBLIN_BAD_OFFSET or GOBLIN_TOO_BIG: a later header is
    not inside the file. Never returns GOBLIN_END.
    Example: if (goblin_section_count(bytes, len, &header, &count, &why) != GOBLIN_OK) return 1; */
-GOBLIN_CALL uint32_t goblin_section_count(const uint8_t *bytes, size_t len, const goblin_header_t *header, uint64_t *count,
-                                          goblin_refusal_t *why);
+uint32_t goblin_section_count(const uint8_t *bytes, size_t len, const goblin_header_t *header, uint64_t *count,
+                              goblin_refusal_t *why);
 
 /* Reads the section header at an index. GOBLIN_END if the index is not below the number of sections.
    Refused as goblin_section_count is.
    Example: while (goblin_section(bytes, len, &header, index, &section, &why) == GOBLIN_OK) index++; */
-GOBLIN_CALL uint32_t goblin_section(const uint8_t *bytes, size_t len, const goblin_header_t *header, uint64_t index,
-                                    goblin_section_t *section, goblin_refusal_t *why);
-
-/* Reads the section header at an index, wherever the others are. It is for files that are cut or damaged: goblin_section refuses
-   every index if one of the headers is not inside the file. Where goblin_section returns GOBLIN_OK, this call writes the same.
-   GOBLIN_END if the index is not below the number of sections (see goblin_section_count).
-   GOBLIN_BAD_OFFSET or GOBLIN_TOO_BIG: e_shnum is 0 and the first header is not inside the file, or this header is not. `why->offset` is
-   the offset of that header; one that does not fit in 64 bits is reported as UINT64_MAX.
-   Example: if (goblin_section_alone(bytes, len, &header, 3, &section, &why) == GOBLIN_OK) count++; */
-GOBLIN_CALL uint32_t goblin_section_alone(const uint8_t *bytes, size_t len, const goblin_header_t *header, uint64_t index,
-                                          goblin_section_t *section, goblin_refusal_t *why);
-
-/* Counts the section headers that are inside the file: the smaller of the number of sections and how many fit into the file from
-   e_shoff on. These are the indices at which goblin_section_alone returns GOBLIN_OK.
-   GOBLIN_BAD_OFFSET or GOBLIN_TOO_BIG: e_shnum is 0 and the first header is not inside the file. Never returns GOBLIN_END.
-   Example: if (goblin_whole_sections(bytes, len, &header, &count, &why) != GOBLIN_OK) return 1; */
-GOBLIN_CALL uint32_t goblin_whole_sections(const uint8_t *bytes, size_t len, const goblin_header_t *header, uint64_t *count,
-                                           goblin_refusal_t *why);
-
-/* Finds the range of the section header at an index: the bytes that goblin_section reads. With it a caller can change a field in a
-   buffer, in the file's byte order. GOBLIN_END and refusals are those of goblin_section.
-   Example: if (goblin_section_place(bytes, len, &header, 3, &range, &why) != GOBLIN_OK) return 1; */
-GOBLIN_CALL uint32_t goblin_section_place(const uint8_t *bytes, size_t len, const goblin_header_t *header, uint64_t index,
-                                          goblin_range_t *place, goblin_refusal_t *why);
+uint32_t goblin_section(const uint8_t *bytes, size_t len, const goblin_header_t *header, uint64_t index, goblin_section_t *section,
+                        goblin_refusal_t *why);
 
 /* Reads the section headers from the index `first` on into an array of `capacity` items, until the table or the array ends.
    `*filled` is the number of items that are written; those after them are unchanged. GOBLIN_END if `first` is not below the number
    of sections. Refused as goblin_section_count is.
    Example: while (goblin_sections(bytes, len, &header, index, sections, 64, &filled, &why) == GOBLIN_OK) index += filled; */
-GOBLIN_CALL uint32_t goblin_sections(const uint8_t *bytes, size_t len, const goblin_header_t *header, uint64_t first,
-                                     goblin_section_t *sections, size_t capacity, uint64_t *filled, goblin_refusal_t *why);
+uint32_t goblin_sections(const uint8_t *bytes, size_t len, const goblin_header_t *header, uint64_t first,
+                         goblin_section_t *sections, size_t capacity, uint64_t *filled, goblin_refusal_t *why);
 
 /* Reads the section that a section header links to by its sh_link, such as the string table of a symbol table.
    GOBLIN_END if the index is 0, which means no section, if it is not below the number of sections, or if the section is of type
    GOBLIN_SHT_NOBITS, which has no bytes in the file. `*section` is unchanged then. Refused as goblin_section_count is.
    Example: if (goblin_linked_section(bytes, len, &header, table.sh_link, &names, &why) > GOBLIN_END) return 1; */
-GOBLIN_CALL uint32_t goblin_linked_section(const uint8_t *bytes, size_t len, const goblin_header_t *header, uint64_t index,
-                                           goblin_section_t *section, goblin_refusal_t *why);
-/* Its name up to interface 3. */
-#define goblin_table goblin_linked_section
+uint32_t goblin_linked_section(const uint8_t *bytes, size_t len, const goblin_header_t *header, uint64_t index,
+                               goblin_section_t *section, goblin_refusal_t *why);
 
 /* Reads the section that holds the section names. Its index is e_shstrndx, or sh_link of section 0 if e_shstrndx is 0xffff
    (GOBLIN_SHN_XINDEX). GOBLIN_END if goblin_linked_section returns that for this index, or if there is no section 0. Refused as
    goblin_section_count is.
    Example: if (goblin_section_names(bytes, len, &header, &names, &why) > GOBLIN_END) return 1; */
-GOBLIN_CALL uint32_t goblin_section_names(const uint8_t *bytes, size_t len, const goblin_header_t *header,
-                                          goblin_section_t *section, goblin_refusal_t *why);
+uint32_t goblin_section_names(const uint8_t *bytes, size_t len, const goblin_header_t *header, goblin_section_t *section,
+                              goblin_refusal_t *why);
 
-/* Finds the index of the first section with a name, from the index `first` on. `names` is the range of the section names in the file.
-   A section has no name if its name is not UTF-8 or lies past the names. The empty name is a name, which section 0 has in most files.
-   No section has a name with a zero byte in it, so leave out the zero byte at the end of `name`. GOBLIN_END if no section has the
-   name.
+/* Finds the first section with a name, from the index `first` on. Writes its index and its header. `names` is the range of the section
+   names in the file. A section has no name if its name is not UTF-8 or lies past the names. The empty name is a name, which section 0
+   has in most files. No section has a name with a zero byte in it, so leave out the zero byte at the end of `name`. GOBLIN_END if no
+   section has the name.
    Refused as goblin_section_count is, and then as goblin_string is for the range `names`, but never by GOBLIN_BAD_INPUT.
-   Example: goblin_section_by_name(bytes, len, &header, &names.file, ".text", 5, 0, &index, &why); */
-GOBLIN_CALL uint32_t goblin_section_by_name(const uint8_t *bytes, size_t len, const goblin_header_t *header,
-                                            const goblin_range_t *names, const void *name, size_t name_len, uint64_t first,
-                                            uint64_t *index, goblin_refusal_t *why);
+   Example: goblin_section_by_name(bytes, len, &header, &names.file, ".text", 5, 0, &index, &section, &why); */
+uint32_t goblin_section_by_name(const uint8_t *bytes, size_t len, const goblin_header_t *header, const goblin_range_t *names,
+                                const void *name, size_t name_len, uint64_t first, uint64_t *index, goblin_section_t *section,
+                                goblin_refusal_t *why);
 
-/* Finds the range of the bytes of the first section with a name, as goblin_section_bytes does for that section. GOBLIN_END if no
-   section has the name, or if the first that has it has no bytes in the file.
-   Refused as goblin_section_by_name is, and then as goblin_section_bytes is.
-   Example: goblin_bytes_by_name(bytes, len, &header, &names.file, ".comment", 8, &range, &why); */
-GOBLIN_CALL uint32_t goblin_bytes_by_name(const uint8_t *bytes, size_t len, const goblin_header_t *header,
-                                          const goblin_range_t *names, const void *name, size_t name_len, goblin_range_t *range,
-                                          goblin_refusal_t *why);
-
-/* Finds the index of the first section of a type, a GOBLIN_SHT_ number, from the index `first` on. GOBLIN_END if there is none.
-   Refused as goblin_section_count is.
-   Example: goblin_section_by_type(bytes, len, &header, GOBLIN_SHT_SYMTAB, 0, &index, &why); */
-GOBLIN_CALL uint32_t goblin_section_by_type(const uint8_t *bytes, size_t len, const goblin_header_t *header, uint32_t sh_type,
-                                            uint64_t first, uint64_t *index, goblin_refusal_t *why);
+/* Finds the first section of a type, a GOBLIN_SHT_ number, from the index `first` on. Writes its index and its header. GOBLIN_END if there
+   is none. Refused as goblin_section_count is.
+   Example: goblin_section_by_type(bytes, len, &header, GOBLIN_SHT_SYMTAB, 0, &index, &section, &why); */
+uint32_t goblin_section_by_type(const uint8_t *bytes, size_t len, const goblin_header_t *header, uint32_t sh_type, uint64_t first,
+                                uint64_t *index, goblin_section_t *section, goblin_refusal_t *why);
 
 /* Finds the range of a section's bytes, which is its `file`, if it is inside the file. GOBLIN_END if the section has no bytes in
    the file: its type is GOBLIN_SHT_NULL or GOBLIN_SHT_NOBITS, or its size is 0. This is tested before any refusal.
    GOBLIN_BAD_OFFSET or GOBLIN_TOO_BIG: the bytes are not inside the file.
    Example: goblin_section_bytes(bytes, len, &section, &range, &why); */
-GOBLIN_CALL uint32_t goblin_section_bytes(const uint8_t *bytes, size_t len, const goblin_section_t *section,
-                                          goblin_range_t *range, goblin_refusal_t *why);
+uint32_t goblin_section_bytes(const uint8_t *bytes, size_t len, const goblin_section_t *section, goblin_range_t *range,
+                              goblin_refusal_t *why);
 
-/* Counts the program headers, of which there are e_phnum. Refused as goblin_segment is. Never returns GOBLIN_END.
+/* Counts the program headers. Their number is e_phnum, unless that is 0xffff (PN_XNUM). Then it is sh_info of the first section, or 0xffff
+   if e_shoff is 0.
+   The table is checked in this order. GOBLIN_BAD_OFFSET or GOBLIN_TOO_BIG, with e_shoff as `why->offset`: the number is in the header of
+   the first section, which is not inside the file. GOBLIN_BUFFER_TOO_SHORT: there are more headers than the file could hold.
+   GOBLIN_BAD_OFFSET or GOBLIN_TOO_BIG: one of them is not inside the file. Never returns GOBLIN_END.
    Example: if (goblin_segment_count(bytes, len, &header, &count, &why) != GOBLIN_OK) return 1; */
-GOBLIN_CALL uint32_t goblin_segment_count(const uint8_t *bytes, size_t len, const goblin_header_t *header, uint64_t *count,
-                                          goblin_refusal_t *why);
+uint32_t goblin_segment_count(const uint8_t *bytes, size_t len, const goblin_header_t *header, uint64_t *count,
+                              goblin_refusal_t *why);
 
 /* Finds the range of a segment's bytes in the file. GOBLIN_END if it has none: its type is GOBLIN_PT_NULL, or its size in the
    file is 0. This is tested before any refusal. Refused as goblin_section_bytes is.
    Example: goblin_segment_bytes(bytes, len, &segment, &range, &why); */
-GOBLIN_CALL uint32_t goblin_segment_bytes(const uint8_t *bytes, size_t len, const goblin_segment_t *segment,
-                                          goblin_range_t *range, goblin_refusal_t *why);
+uint32_t goblin_segment_bytes(const uint8_t *bytes, size_t len, const goblin_segment_t *segment, goblin_range_t *range,
+                              goblin_refusal_t *why);
 
-/* Reads the program header at an index. GOBLIN_END if the index is not below e_phnum.
-   GOBLIN_BUFFER_TOO_SHORT: there are more headers than the file could hold. GOBLIN_BAD_OFFSET or GOBLIN_TOO_BIG: one of them is not
-   inside the file.
+/* Reads the program header at an index. GOBLIN_END if the index is not below the number of program headers.
+   Refused as goblin_segment_count is.
    Example: while (goblin_segment(bytes, len, &header, index, &segment, &why) == GOBLIN_OK) index++; */
-GOBLIN_CALL uint32_t goblin_segment(const uint8_t *bytes, size_t len, const goblin_header_t *header, uint64_t index,
-                                    goblin_segment_t *segment, goblin_refusal_t *why);
-
-/* Reads the program header at an index, wherever the others are, as goblin_section_alone reads a section header. GOBLIN_END if the
-   index is not below e_phnum. Where goblin_segment returns GOBLIN_OK, this call writes the same.
-   GOBLIN_BAD_OFFSET or GOBLIN_TOO_BIG: this header is not inside the file. `why->offset` is its offset; one that does not fit in 64
-   bits is reported as UINT64_MAX.
-   Example: if (goblin_segment_alone(bytes, len, &header, 3, &segment, &why) == GOBLIN_OK) count++; */
-GOBLIN_CALL uint32_t goblin_segment_alone(const uint8_t *bytes, size_t len, const goblin_header_t *header, uint64_t index,
-                                          goblin_segment_t *segment, goblin_refusal_t *why);
-
-/* Counts the program headers that are inside the file: the smaller of e_phnum and how many fit into the file from e_phoff on. These
-   are the indices at which goblin_segment_alone returns GOBLIN_OK. Always returns GOBLIN_OK.
-   Example: goblin_whole_segments(bytes, len, &header, &count, &why); */
-GOBLIN_CALL uint32_t goblin_whole_segments(const uint8_t *bytes, size_t len, const goblin_header_t *header, uint64_t *count,
-                                           goblin_refusal_t *why);
-
-/* Finds the range of the program header at an index: the bytes that goblin_segment reads. GOBLIN_END and refusals are those of
-   goblin_segment.
-   Example: if (goblin_segment_place(bytes, len, &header, 3, &range, &why) != GOBLIN_OK) return 1; */
-GOBLIN_CALL uint32_t goblin_segment_place(const uint8_t *bytes, size_t len, const goblin_header_t *header, uint64_t index,
-                                          goblin_range_t *place, goblin_refusal_t *why);
+uint32_t goblin_segment(const uint8_t *bytes, size_t len, const goblin_header_t *header, uint64_t index, goblin_segment_t *segment,
+                        goblin_refusal_t *why);
 
 /* Finds the offset in the file of the byte that is loaded at an address: that of the first segment of type GOBLIN_PT_LOAD for which
    p_vaddr <= address < p_vaddr + file.size. These sums do not wrap around. GOBLIN_END if there is no such segment: nothing is loaded
    there, or only zeros that are not in the file.
-   Refused as goblin_segment is. GOBLIN_BAD_OFFSET: the file has no byte at the offset. One that does not fit in 64 bits is reported as
-   UINT64_MAX.
+   Refused as goblin_segment_count is. GOBLIN_BAD_OFFSET: the file has no byte at the offset. One that does not fit in 64 bits is reported
+   as UINT64_MAX.
    Example: if (header.e_entry && goblin_address_to_offset(bytes, len, &header, header.e_entry, &value, &why) != GOBLIN_OK) return 1; */
-GOBLIN_CALL uint32_t goblin_address_to_offset(const uint8_t *bytes, size_t len, const goblin_header_t *header, uint64_t address,
-                                              uint64_t *offset, goblin_refusal_t *why);
+uint32_t goblin_address_to_offset(const uint8_t *bytes, size_t len, const goblin_header_t *header, uint64_t address,
+                                  uint64_t *offset, goblin_refusal_t *why);
 
 /* ---- symbols ---- */
 
@@ -423,65 +377,38 @@ GOBLIN_CALL uint32_t goblin_address_to_offset(const uint8_t *bytes, size_t len, 
    GOBLIN_SYMTAB_OFFSET: the range starts at the end of the file or past it, even if its size is 0. GOBLIN_SYMTAB_PAST: the symbols
    end past the end of the file.
    Example: while (goblin_symbol(bytes, len, &header, &table.file, index, &symbol, &why) == GOBLIN_OK) index++; */
-GOBLIN_CALL uint32_t goblin_symbol(const uint8_t *bytes, size_t len, const goblin_header_t *header, const goblin_range_t *table,
-                                   uint64_t index, goblin_symbol_t *symbol, goblin_refusal_t *why);
-
-/* Finds the range of the symbol at an index of a symbol table: the bytes that goblin_symbol reads. GOBLIN_END and refusals are those
-   of goblin_symbol.
-   Example: if (goblin_symbol_place(bytes, len, &header, &table.file, 3, &range, &why) != GOBLIN_OK) return 1; */
-GOBLIN_CALL uint32_t goblin_symbol_place(const uint8_t *bytes, size_t len, const goblin_header_t *header,
-                                         const goblin_range_t *table, uint64_t index, goblin_range_t *place, goblin_refusal_t *why);
+uint32_t goblin_symbol(const uint8_t *bytes, size_t len, const goblin_header_t *header, const goblin_range_t *table, uint64_t index,
+                       goblin_symbol_t *symbol, goblin_refusal_t *why);
 
 /* Counts the symbols that lie in a range whole. Refused as goblin_symbol is. Never returns GOBLIN_END.
    Example: goblin_symbol_count(bytes, len, &header, &table.file, &count, &why); */
-GOBLIN_CALL uint32_t goblin_symbol_count(const uint8_t *bytes, size_t len, const goblin_header_t *header,
-                                         const goblin_range_t *table, uint64_t *count, goblin_refusal_t *why);
+uint32_t goblin_symbol_count(const uint8_t *bytes, size_t len, const goblin_header_t *header, const goblin_range_t *table,
+                             uint64_t *count, goblin_refusal_t *why);
 
 /* Reads the symbols from the index `first` on, as goblin_sections reads sections. Refused as goblin_symbol is.
    Example: while (!goblin_symbols(bytes, len, &header, &table.file, index, symbols, 64, &filled, &why)) index += filled; */
-GOBLIN_CALL uint32_t goblin_symbols(const uint8_t *bytes, size_t len, const goblin_header_t *header,
-                                    const goblin_range_t *table, uint64_t first, goblin_symbol_t *symbols, size_t capacity,
-                                    uint64_t *filled, goblin_refusal_t *why);
+uint32_t goblin_symbols(const uint8_t *bytes, size_t len, const goblin_header_t *header, const goblin_range_t *table,
+                        uint64_t first, goblin_symbol_t *symbols, size_t capacity, uint64_t *filled, goblin_refusal_t *why);
 
 /* Finds the index of the first symbol with a name. `names` is the range of the table's strings. A symbol has no name if its name
    is not UTF-8 or lies past the strings. The empty name and names with zero bytes are as for goblin_section_by_name; symbol 0 has
    the empty name in most files. GOBLIN_END if no symbol has the name.
    Refused as goblin_symbol is, and then as goblin_string is for the range `names`, but never by GOBLIN_BAD_INPUT.
    Example: goblin_symbol_by_name(bytes, len, &header, &table.file, &names.file, "main", 4, &index, &why); */
-GOBLIN_CALL uint32_t goblin_symbol_by_name(const uint8_t *bytes, size_t len, const goblin_header_t *header,
-                                           const goblin_range_t *table, const goblin_range_t *names, const void *name,
-                                           size_t name_len, uint64_t *index, goblin_refusal_t *why);
+uint32_t goblin_symbol_by_name(const uint8_t *bytes, size_t len, const goblin_header_t *header, const goblin_range_t *table,
+                               const goblin_range_t *names, const void *name, size_t name_len, uint64_t *index,
+                               goblin_refusal_t *why);
 
-/* Finds the index of the symbol for an address: the symbol with the highest st_value that is not above the address. Of those with
-   the same st_value it is the first whose st_size reaches the address, or the first if none does. Only symbols of a section
-   (st_shndx from 1 to 0xfeff, or 0xffff) and of type GOBLIN_STT_NOTYPE, _OBJECT, _FUNC or _GNU_IFUNC count. GOBLIN_END if none is
-   at the address or below it. Each call reads all symbols; for many addresses make an index. Refused as goblin_symbol is.
-   The symbol may end before the address: compare st_value + st_size with it, if st_size is not 0. If a symbol `inner` lies inside a
-   symbol `outer`, an address after the end of `inner` gives `inner`, too. In a file of type GOBLIN_ET_REL an st_value is an offset
-   in a section, so symbols of different sections mix.
+/* Finds the index of the symbol that contains an address. Only symbols of a section (st_shndx from 1 to 0xfeff, or 0xffff) and of type
+   GOBLIN_STT_NOTYPE, _OBJECT, _FUNC or _GNU_IFUNC count. Of those with st_value <= address < st_value + st_size it is the one with the
+   highest st_value, the first of several. These sums do not wrap around.
+   If no symbol contains the address, a label of size 0 may be there, as assembly has. It is the first of size 0 among the symbols with the
+   highest st_value that is not above the address. GOBLIN_END if these all have a size, or if there are none.
+   Each call reads all symbols. For many addresses read them once and sort them, as symbolize.c does. Refused as goblin_symbol is.
+   In a file of type GOBLIN_ET_REL an st_value is an offset in a section, so symbols of different sections mix.
    Example: goblin_symbol_by_address(bytes, len, &header, &table.file, 0x401000, &index, &why); */
-GOBLIN_CALL uint32_t goblin_symbol_by_address(const uint8_t *bytes, size_t len, const goblin_header_t *header,
-                                              const goblin_range_t *table, uint64_t address, uint64_t *index,
-                                              goblin_refusal_t *why);
-
-/* Stores an index of the addresses of a symbol table, for goblin_symbol_by_address_in. The array `indices` has `capacity` elements. It
-   needs one for each symbol that goblin_symbol_by_address considers, so the number that goblin_symbol_count stores is always enough.
-   GOBLIN_END if it has fewer; then nothing is stored. `filled` is the number of entries. They are indices of symbols, from the lowest
-   st_value to the highest. Of symbols with the same st_value there are only those with a greater st_size than each before it in the
-   table, since no other one is ever found. Elements after the entries may have changed.
-   Refused as goblin_symbol is.
-   Example: goblin_address_index(bytes, len, &header, &table.file, indices, 64, &filled, &why); */
-GOBLIN_CALL uint32_t goblin_address_index(const uint8_t *bytes, size_t len, const goblin_header_t *header,
-                                          const goblin_range_t *table, uint64_t *indices, size_t capacity, uint64_t *filled,
-                                          goblin_refusal_t *why);
-
-/* Finds what goblin_symbol_by_address finds, by the entries that goblin_address_index stored for the same table. `indices_len` is their
-   number. Each call halves the entries that are left at each step, so it reads only a few symbols. If the array has other numbers, it
-   is GOBLIN_END, or the index of a symbol that is not above the address. Refused as goblin_symbol is.
-   Example: goblin_symbol_by_address_in(bytes, len, &header, &table.file, indices, filled, 0x401000, &index, &why); */
-GOBLIN_CALL uint32_t goblin_symbol_by_address_in(const uint8_t *bytes, size_t len, const goblin_header_t *header,
-                                                 const goblin_range_t *table, const uint64_t *indices, size_t indices_len,
-                                                 uint64_t address, uint64_t *index, goblin_refusal_t *why);
+uint32_t goblin_symbol_by_address(const uint8_t *bytes, size_t len, const goblin_header_t *header, const goblin_range_t *table,
+                                  uint64_t address, uint64_t *index, goblin_refusal_t *why);
 
 /* ---- relocations ---- */
 
@@ -496,19 +423,18 @@ GOBLIN_CALL uint32_t goblin_symbol_by_address_in(const uint8_t *bytes, size_t le
    GOBLIN_END after that one. In a little-endian MIPS64 file, r_sym and r_type are read in the format of those files.
    GOBLIN_BAD_OFFSET or GOBLIN_TOO_BIG: the range has bytes, and not all of them are inside the file.
    Example: while (goblin_reloc(bytes, len, &header, &table.file, true, index, &reloc, &why) == GOBLIN_OK) index++; */
-GOBLIN_CALL uint32_t goblin_reloc(const uint8_t *bytes, size_t len, const goblin_header_t *header, const goblin_range_t *table,
-                                  bool is_rela, uint64_t index, goblin_reloc_t *reloc, goblin_refusal_t *why);
+uint32_t goblin_reloc(const uint8_t *bytes, size_t len, const goblin_header_t *header, const goblin_range_t *table, bool is_rela,
+                      uint64_t index, goblin_reloc_t *reloc, goblin_refusal_t *why);
 
 /* Counts the relocations that lie in a range whole. Refused as goblin_reloc is. Never returns GOBLIN_END.
    Example: goblin_reloc_count(bytes, len, &header, &table.file, true, &count, &why); */
-GOBLIN_CALL uint32_t goblin_reloc_count(const uint8_t *bytes, size_t len, const goblin_header_t *header,
-                                        const goblin_range_t *table, bool is_rela, uint64_t *count, goblin_refusal_t *why);
+uint32_t goblin_reloc_count(const uint8_t *bytes, size_t len, const goblin_header_t *header, const goblin_range_t *table,
+                            bool is_rela, uint64_t *count, goblin_refusal_t *why);
 
 /* Reads the relocations from the index `first` on, as goblin_sections reads sections. Refused as goblin_reloc is.
    Example: while (!goblin_relocs(bytes, len, &header, &table.file, true, index, relocs, 64, &filled, &why)) index += filled; */
-GOBLIN_CALL uint32_t goblin_relocs(const uint8_t *bytes, size_t len, const goblin_header_t *header, const goblin_range_t *table,
-                                   bool is_rela, uint64_t first, goblin_reloc_t *relocs, size_t capacity, uint64_t *filled,
-                                   goblin_refusal_t *why);
+uint32_t goblin_relocs(const uint8_t *bytes, size_t len, const goblin_header_t *header, const goblin_range_t *table, bool is_rela,
+                       uint64_t first, goblin_reloc_t *relocs, size_t capacity, uint64_t *filled, goblin_refusal_t *why);
 
 #ifdef __clang__
 #pragma clang diagnostic pop
@@ -523,11 +449,11 @@ GOBLIN_CALL uint32_t goblin_relocs(const uint8_t *bytes, size_t len, const gobli
    of the range may end past it. An offset before the range is read as one inside it.
    Then, in this order. GOBLIN_BAD_OFFSET: the offset is the end of the file or past it. GOBLIN_NOTE_ALIGN: the alignment is neither
    4 nor 8. GOBLIN_BAD_OFFSET or GOBLIN_TOO_BIG: the note's header is not inside the file, or then its name. GOBLIN_BAD_INPUT: the
-   name is not UTF-8. GOBLIN_BAD_OFFSET or GOBLIN_TOO_BIG: the descriptor is not inside the file. But for the first, the numbers of
-   these refusals count from the start of the note.
+   name is not UTF-8; goblin_note_bytes reads such a note. GOBLIN_BAD_OFFSET or GOBLIN_TOO_BIG: the descriptor is not inside the file.
+   But for the first, the numbers of these refusals count from the start of the note.
    Example: goblin_note(bytes, len, &header, &section.file, section.sh_addralign, section.file.offset, &note, &why); */
-GOBLIN_CALL uint32_t goblin_note(const uint8_t *bytes, size_t len, const goblin_header_t *header, const goblin_range_t *notes,
-                                 uint64_t alignment, uint64_t offset, goblin_note_t *note, goblin_refusal_t *why);
+uint32_t goblin_note(const uint8_t *bytes, size_t len, const goblin_header_t *header, const goblin_range_t *notes,
+                     uint64_t alignment, uint64_t offset, goblin_note_t *note, goblin_refusal_t *why);
 
 /* Reads the note at an offset of the file as goblin_note does, with two differences. Its name need not be UTF-8, and `name` is all of
    it, as many bytes as the note says: with the zero byte that closes it and any others at its end. And the note must lie in the range:
@@ -537,8 +463,8 @@ GOBLIN_CALL uint32_t goblin_note(const uint8_t *bytes, size_t len, const goblin_
    GOBLIN_NOTE_DESC, and the numbers count from the start of the note up to the end of the range or of the file.
    If goblin_note finds a note whose descriptor is inside the range, this call finds the same one, with its longer name.
    Example: goblin_note_bytes(bytes, len, &header, &section.file, section.sh_addralign, section.file.offset, &note, &why); */
-GOBLIN_CALL uint32_t goblin_note_bytes(const uint8_t *bytes, size_t len, const goblin_header_t *header, const goblin_range_t *notes,
-                                       uint64_t alignment, uint64_t offset, goblin_note_t *note, goblin_refusal_t *why);
+uint32_t goblin_note_bytes(const uint8_t *bytes, size_t len, const goblin_header_t *header, const goblin_range_t *notes,
+                           uint64_t alignment, uint64_t offset, goblin_note_t *note, goblin_refusal_t *why);
 
 /* ---- strings ---- */
 
@@ -548,28 +474,19 @@ GOBLIN_CALL uint32_t goblin_note_bytes(const uint8_t *bytes, size_t len, const g
    GOBLIN_STRTAB_OFFSET: the table starts past the end of the file. GOBLIN_STRTAB_RANGE: it ends past the end of the file.
    GOBLIN_BAD_INPUT: the string is not UTF-8.
    Example: goblin_string(bytes, len, &names.file, symbol.st_name, &string, &why); */
-GOBLIN_CALL uint32_t goblin_string(const uint8_t *bytes, size_t len, const goblin_range_t *strings, uint64_t offset,
-                                   goblin_range_t *string, goblin_refusal_t *why);
+uint32_t goblin_string(const uint8_t *bytes, size_t len, const goblin_range_t *strings, uint64_t offset, goblin_range_t *string,
+                       goblin_refusal_t *why);
 
 /* As goblin_string, for a string that need not be UTF-8: never returns GOBLIN_BAD_INPUT. If goblin_string finds a string, this
    call finds the same range.
+   A zero byte closes the string if its end lies before that of the table: string.offset + string.size < names.file.offset + names.file.size.
+   It is a text, here ".text", if it has its length and its bytes. It begins with the text if it has at least its length and the bytes:
+     uint32_t status = goblin_string_bytes(bytes, len, &names.file, section.sh_name, &string, &why);
+     bool is = status == GOBLIN_OK && string.size == 5 && memcmp(bytes + string.offset, ".text", 5) == 0;
+     bool starts = status == GOBLIN_OK && string.size >= 5 && memcmp(bytes + string.offset, ".text", 5) == 0;
    Example: goblin_string_bytes(bytes, len, &names.file, symbol.st_name, &string, &why); */
-GOBLIN_CALL uint32_t goblin_string_bytes(const uint8_t *bytes, size_t len, const goblin_range_t *strings, uint64_t offset,
-                                         goblin_range_t *string, goblin_refusal_t *why);
-
-/* Tests whether the string at an offset of a string table is a text, UTF-8 or not: GOBLIN_OK if so, and else GOBLIN_END. `strings`
-   and `offset` are as for goblin_string. The text is `text_len` bytes, without a zero byte at its end: no string has a zero byte in it.
-   GOBLIN_END also if the offset is not below the size of the table. Refused as goblin_string_bytes is. At most one byte more of the
-   string is read than the text has.
-   Example: if (goblin_string_is(bytes, len, &names.file, section.sh_name, ".text", 5, &why) == GOBLIN_OK) count++; */
-GOBLIN_CALL uint32_t goblin_string_is(const uint8_t *bytes, size_t len, const goblin_range_t *strings, uint64_t offset,
-                                      const void *text, size_t text_len, goblin_refusal_t *why);
-
-/* Tests whether the string at an offset of a string table begins with a text, as goblin_string_is tests whether it is one. Every
-   string begins with the empty text, and none with a text that has a zero byte in it. No more of the string is read than the text has.
-   Example: if (goblin_string_starts(bytes, len, &names.file, section.sh_name, ".debug_", 7, &why) == GOBLIN_OK) count++; */
-GOBLIN_CALL uint32_t goblin_string_starts(const uint8_t *bytes, size_t len, const goblin_range_t *strings, uint64_t offset,
-                                          const void *text, size_t text_len, goblin_refusal_t *why);
+uint32_t goblin_string_bytes(const uint8_t *bytes, size_t len, const goblin_range_t *strings, uint64_t offset,
+                             goblin_range_t *string, goblin_refusal_t *why);
 
 /* ---- numbers ---- */
 
@@ -577,16 +494,16 @@ GOBLIN_CALL uint32_t goblin_string_starts(const uint8_t *bytes, size_t len, cons
    if it is none of these. This is tested before any refusal.
    GOBLIN_BAD_OFFSET or GOBLIN_TOO_BIG: the bytes are not inside the file.
    Example: goblin_number(bytes, len, &header, section.file.offset, 4, &value, &why); */
-GOBLIN_CALL uint32_t goblin_number(const uint8_t *bytes, size_t len, const goblin_header_t *header, uint64_t offset,
-                                   uint64_t width, uint64_t *value, goblin_refusal_t *why);
+uint32_t goblin_number(const uint8_t *bytes, size_t len, const goblin_header_t *header, uint64_t offset, uint64_t width,
+                       uint64_t *value, goblin_refusal_t *why);
 
 /* Reads the number in `width` bytes at an offset in a range of the file, as goblin_number does. The offset counts from the range's
    start. GOBLIN_END as for goblin_number, before any refusal.
    GOBLIN_BAD_OFFSET or GOBLIN_TOO_BIG: the range is not inside the file, or then the number is not inside the range. The numbers of the
    second refusal count from the range's start, with the range's end in place of the file's; `why->offset` is an offset of the file.
    Example: goblin_number_in(bytes, len, &header, &section.file, 8, 4, &value, &why); */
-GOBLIN_CALL uint32_t goblin_number_in(const uint8_t *bytes, size_t len, const goblin_header_t *header, const goblin_range_t *range,
-                                      uint64_t offset, uint64_t width, uint64_t *value, goblin_refusal_t *why);
+uint32_t goblin_number_in(const uint8_t *bytes, size_t len, const goblin_header_t *header, const goblin_range_t *range,
+                          uint64_t offset, uint64_t width, uint64_t *value, goblin_refusal_t *why);
 
 /* ---- ranges ---- */
 
@@ -594,6 +511,57 @@ GOBLIN_CALL uint32_t goblin_number_in(const uint8_t *bytes, size_t len, const go
    part of a range that starts at `len` or past it has the offset `len` and the size 0; goblin_symbol refuses it. Cannot fail.
    Example: goblin_range_in_file(bytes, len, &section.file, &range); */
 void goblin_range_in_file(const uint8_t *bytes, size_t len, const goblin_range_t *range, goblin_range_t *part);
+
+/* ---- writing ----
+
+   These calls write a record or a number into the caller's own bytes, in the class and byte order of the header. Each changes the bytes
+   that the call without `put_` reads, and no other. That call then reads the same record, unless section 0 has the number of the list's
+   items and the call changes it. A record that was read and is written back leaves the bytes as they are.
+   Each returns what the reading call returns at that index, GOBLIN_END or a refusal, and then GOBLIN_INTEGER_FIT if a number does not fit
+   its bytes: st_shndx has 2, sh_name and st_name have 4, and in a 32-bit file so have addresses, offsets, sizes, alignments and sh_flags.
+   `why->offset` is then the offset of the record. Nothing is written unless the call returns GOBLIN_OK. */
+
+/* Writes the header at the start of the file, in the class and byte order that it names. Writes the magic number, too, and leaves the
+   padding, the bytes 9 to 15.
+   Returns GOBLIN_INVALID_CLASS, GOBLIN_DATA, GOBLIN_BAD_OFFSET or GOBLIN_TOO_BIG (the bytes have no room for a header of the class) or
+   GOBLIN_INTEGER_FIT, the first of these that applies, in this order. Never returns GOBLIN_END.
+   Example: header.e_type = GOBLIN_ET_DYN; goblin_put_header(own, len, &header, &why); */
+uint32_t goblin_put_header(uint8_t *bytes, size_t len, const goblin_header_t *header, goblin_refusal_t *why);
+
+/* Writes the section header at an index.
+   Example: section.sh_flags &= ~GOBLIN_SHF_WRITE; goblin_put_section(own, len, &header, index, &section, &why); */
+uint32_t goblin_put_section(uint8_t *bytes, size_t len, const goblin_header_t *header, uint64_t index, const goblin_section_t *section,
+                            goblin_refusal_t *why);
+
+/* Writes the program header at an index.
+   Example: segment.p_flags &= ~GOBLIN_PF_X; goblin_put_segment(own, len, &header, index, &segment, &why); */
+uint32_t goblin_put_segment(uint8_t *bytes, size_t len, const goblin_header_t *header, uint64_t index, const goblin_segment_t *segment,
+                            goblin_refusal_t *why);
+
+/* Writes the symbol at an index of a symbol table.
+   Example: symbol.st_other = GOBLIN_STV_HIDDEN; goblin_put_symbol(own, len, &header, &table.file, index, &symbol, &why); */
+uint32_t goblin_put_symbol(uint8_t *bytes, size_t len, const goblin_header_t *header, const goblin_range_t *table, uint64_t index,
+                           const goblin_symbol_t *symbol, goblin_refusal_t *why);
+
+#ifdef __clang__
+#pragma clang diagnostic push
+#pragma clang diagnostic ignored "-Wc99-extensions"
+#endif
+
+/* Writes the relocation at an index of a relocation section. GOBLIN_INTEGER_FIT also if `is_rela` and has_addend differ. In a 32-bit file
+   r_sym has 3 bytes and r_type has 1, else each has 4. In a little-endian MIPS64 file they are written in the format of those files.
+   Example: reloc.r_addend += 8; goblin_put_reloc(own, len, &header, &table.file, true, index, &reloc, &why); */
+uint32_t goblin_put_reloc(uint8_t *bytes, size_t len, const goblin_header_t *header, const goblin_range_t *table, bool is_rela,
+                          uint64_t index, const goblin_reloc_t *reloc, goblin_refusal_t *why);
+
+#ifdef __clang__
+#pragma clang diagnostic pop
+#endif
+
+/* Writes a number of `width` bytes at an offset of the file, as goblin_number reads it. It must fit in these bytes.
+   Example: goblin_put_number(own, len, &header, section.file.offset, 4, value, &why); */
+uint32_t goblin_put_number(uint8_t *bytes, size_t len, const goblin_header_t *header, uint64_t offset, uint64_t width, uint64_t value,
+                           goblin_refusal_t *why);
 
 /* ---- texts ----
 
@@ -640,304 +608,6 @@ uint64_t goblin_note_type_to_str(const void *name, size_t name_len, uint32_t n_t
    the like has the empty name; a `kind` that is no refusal has the empty text.
    Example: goblin_refusal_text(&why, text, sizeof text); */
 uint64_t goblin_refusal_text(const goblin_refusal_t *why, void *text, size_t capacity);
-
-/* ---- the calls of the library ----
-
-   The library has each call that takes `why` by a name with goblin_c_, for which `why` must not be null. Other languages call these.
-   The functions of this file, which C and C++ compile inline, let `why` be null. */
-
-#ifdef __clang__
-#pragma clang diagnostic push
-#pragma clang diagnostic ignored "-Wc99-extensions"
-#endif
-
-uint32_t goblin_c_header(const uint8_t *bytes, size_t len, goblin_header_t *header, goblin_refusal_t *why);
-GOBLIN_CALL uint32_t goblin_header(const uint8_t *bytes, size_t len, goblin_header_t *header, goblin_refusal_t *why) {
-    goblin_refusal_t unread;
-    return goblin_c_header(bytes, len, header, why ? why : &unread);
-}
-uint32_t goblin_c_section_count(const uint8_t *bytes, size_t len, const goblin_header_t *header, uint64_t *count,
-                                goblin_refusal_t *why);
-GOBLIN_CALL uint32_t goblin_section_count(const uint8_t *bytes, size_t len, const goblin_header_t *header, uint64_t *count,
-                                          goblin_refusal_t *why) {
-    goblin_refusal_t unread;
-    return goblin_c_section_count(bytes, len, header, count, why ? why : &unread);
-}
-uint32_t goblin_c_section(const uint8_t *bytes, size_t len, const goblin_header_t *header, uint64_t index,
-                          goblin_section_t *section, goblin_refusal_t *why);
-GOBLIN_CALL uint32_t goblin_section(const uint8_t *bytes, size_t len, const goblin_header_t *header, uint64_t index,
-                                    goblin_section_t *section, goblin_refusal_t *why) {
-    goblin_refusal_t unread;
-    return goblin_c_section(bytes, len, header, index, section, why ? why : &unread);
-}
-uint32_t goblin_c_section_alone(const uint8_t *bytes, size_t len, const goblin_header_t *header, uint64_t index,
-                                goblin_section_t *section, goblin_refusal_t *why);
-GOBLIN_CALL uint32_t goblin_section_alone(const uint8_t *bytes, size_t len, const goblin_header_t *header, uint64_t index,
-                                          goblin_section_t *section, goblin_refusal_t *why) {
-    goblin_refusal_t unread;
-    return goblin_c_section_alone(bytes, len, header, index, section, why ? why : &unread);
-}
-uint32_t goblin_c_whole_sections(const uint8_t *bytes, size_t len, const goblin_header_t *header, uint64_t *count,
-                                 goblin_refusal_t *why);
-GOBLIN_CALL uint32_t goblin_whole_sections(const uint8_t *bytes, size_t len, const goblin_header_t *header, uint64_t *count,
-                                           goblin_refusal_t *why) {
-    goblin_refusal_t unread;
-    return goblin_c_whole_sections(bytes, len, header, count, why ? why : &unread);
-}
-uint32_t goblin_c_section_place(const uint8_t *bytes, size_t len, const goblin_header_t *header, uint64_t index,
-                                goblin_range_t *place, goblin_refusal_t *why);
-GOBLIN_CALL uint32_t goblin_section_place(const uint8_t *bytes, size_t len, const goblin_header_t *header, uint64_t index,
-                                          goblin_range_t *place, goblin_refusal_t *why) {
-    goblin_refusal_t unread;
-    return goblin_c_section_place(bytes, len, header, index, place, why ? why : &unread);
-}
-uint32_t goblin_c_sections(const uint8_t *bytes, size_t len, const goblin_header_t *header, uint64_t first,
-                           goblin_section_t *sections, size_t capacity, uint64_t *filled, goblin_refusal_t *why);
-GOBLIN_CALL uint32_t goblin_sections(const uint8_t *bytes, size_t len, const goblin_header_t *header, uint64_t first,
-                                     goblin_section_t *sections, size_t capacity, uint64_t *filled, goblin_refusal_t *why) {
-    goblin_refusal_t unread;
-    return goblin_c_sections(bytes, len, header, first, sections, capacity, filled, why ? why : &unread);
-}
-uint32_t goblin_c_linked_section(const uint8_t *bytes, size_t len, const goblin_header_t *header, uint64_t index,
-                                 goblin_section_t *section, goblin_refusal_t *why);
-GOBLIN_CALL uint32_t goblin_linked_section(const uint8_t *bytes, size_t len, const goblin_header_t *header, uint64_t index,
-                                           goblin_section_t *section, goblin_refusal_t *why) {
-    goblin_refusal_t unread;
-    return goblin_c_linked_section(bytes, len, header, index, section, why ? why : &unread);
-}
-uint32_t goblin_c_section_names(const uint8_t *bytes, size_t len, const goblin_header_t *header, goblin_section_t *section,
-                                goblin_refusal_t *why);
-GOBLIN_CALL uint32_t goblin_section_names(const uint8_t *bytes, size_t len, const goblin_header_t *header,
-                                          goblin_section_t *section, goblin_refusal_t *why) {
-    goblin_refusal_t unread;
-    return goblin_c_section_names(bytes, len, header, section, why ? why : &unread);
-}
-uint32_t goblin_c_section_by_name(const uint8_t *bytes, size_t len, const goblin_header_t *header, const goblin_range_t *names,
-                                  const void *name, size_t name_len, uint64_t first, uint64_t *index, goblin_refusal_t *why);
-GOBLIN_CALL uint32_t goblin_section_by_name(const uint8_t *bytes, size_t len, const goblin_header_t *header,
-                                            const goblin_range_t *names, const void *name, size_t name_len, uint64_t first,
-                                            uint64_t *index, goblin_refusal_t *why) {
-    goblin_refusal_t unread;
-    return goblin_c_section_by_name(bytes, len, header, names, name, name_len, first, index, why ? why : &unread);
-}
-uint32_t goblin_c_bytes_by_name(const uint8_t *bytes, size_t len, const goblin_header_t *header, const goblin_range_t *names,
-                                const void *name, size_t name_len, goblin_range_t *range, goblin_refusal_t *why);
-GOBLIN_CALL uint32_t goblin_bytes_by_name(const uint8_t *bytes, size_t len, const goblin_header_t *header,
-                                          const goblin_range_t *names, const void *name, size_t name_len, goblin_range_t *range,
-                                          goblin_refusal_t *why) {
-    goblin_refusal_t unread;
-    return goblin_c_bytes_by_name(bytes, len, header, names, name, name_len, range, why ? why : &unread);
-}
-uint32_t goblin_c_section_by_type(const uint8_t *bytes, size_t len, const goblin_header_t *header, uint32_t sh_type,
-                                  uint64_t first, uint64_t *index, goblin_refusal_t *why);
-GOBLIN_CALL uint32_t goblin_section_by_type(const uint8_t *bytes, size_t len, const goblin_header_t *header, uint32_t sh_type,
-                                            uint64_t first, uint64_t *index, goblin_refusal_t *why) {
-    goblin_refusal_t unread;
-    return goblin_c_section_by_type(bytes, len, header, sh_type, first, index, why ? why : &unread);
-}
-uint32_t goblin_c_section_bytes(const uint8_t *bytes, size_t len, const goblin_section_t *section, goblin_range_t *range,
-                                goblin_refusal_t *why);
-GOBLIN_CALL uint32_t goblin_section_bytes(const uint8_t *bytes, size_t len, const goblin_section_t *section,
-                                          goblin_range_t *range, goblin_refusal_t *why) {
-    goblin_refusal_t unread;
-    return goblin_c_section_bytes(bytes, len, section, range, why ? why : &unread);
-}
-uint32_t goblin_c_segment_count(const uint8_t *bytes, size_t len, const goblin_header_t *header, uint64_t *count,
-                                goblin_refusal_t *why);
-GOBLIN_CALL uint32_t goblin_segment_count(const uint8_t *bytes, size_t len, const goblin_header_t *header, uint64_t *count,
-                                          goblin_refusal_t *why) {
-    goblin_refusal_t unread;
-    return goblin_c_segment_count(bytes, len, header, count, why ? why : &unread);
-}
-uint32_t goblin_c_segment_bytes(const uint8_t *bytes, size_t len, const goblin_segment_t *segment, goblin_range_t *range,
-                                goblin_refusal_t *why);
-GOBLIN_CALL uint32_t goblin_segment_bytes(const uint8_t *bytes, size_t len, const goblin_segment_t *segment,
-                                          goblin_range_t *range, goblin_refusal_t *why) {
-    goblin_refusal_t unread;
-    return goblin_c_segment_bytes(bytes, len, segment, range, why ? why : &unread);
-}
-uint32_t goblin_c_segment(const uint8_t *bytes, size_t len, const goblin_header_t *header, uint64_t index,
-                          goblin_segment_t *segment, goblin_refusal_t *why);
-GOBLIN_CALL uint32_t goblin_segment(const uint8_t *bytes, size_t len, const goblin_header_t *header, uint64_t index,
-                                    goblin_segment_t *segment, goblin_refusal_t *why) {
-    goblin_refusal_t unread;
-    return goblin_c_segment(bytes, len, header, index, segment, why ? why : &unread);
-}
-uint32_t goblin_c_segment_alone(const uint8_t *bytes, size_t len, const goblin_header_t *header, uint64_t index,
-                                goblin_segment_t *segment, goblin_refusal_t *why);
-GOBLIN_CALL uint32_t goblin_segment_alone(const uint8_t *bytes, size_t len, const goblin_header_t *header, uint64_t index,
-                                          goblin_segment_t *segment, goblin_refusal_t *why) {
-    goblin_refusal_t unread;
-    return goblin_c_segment_alone(bytes, len, header, index, segment, why ? why : &unread);
-}
-uint32_t goblin_c_whole_segments(const uint8_t *bytes, size_t len, const goblin_header_t *header, uint64_t *count,
-                                 goblin_refusal_t *why);
-GOBLIN_CALL uint32_t goblin_whole_segments(const uint8_t *bytes, size_t len, const goblin_header_t *header, uint64_t *count,
-                                           goblin_refusal_t *why) {
-    goblin_refusal_t unread;
-    return goblin_c_whole_segments(bytes, len, header, count, why ? why : &unread);
-}
-uint32_t goblin_c_segment_place(const uint8_t *bytes, size_t len, const goblin_header_t *header, uint64_t index,
-                                goblin_range_t *place, goblin_refusal_t *why);
-GOBLIN_CALL uint32_t goblin_segment_place(const uint8_t *bytes, size_t len, const goblin_header_t *header, uint64_t index,
-                                          goblin_range_t *place, goblin_refusal_t *why) {
-    goblin_refusal_t unread;
-    return goblin_c_segment_place(bytes, len, header, index, place, why ? why : &unread);
-}
-uint32_t goblin_c_address_to_offset(const uint8_t *bytes, size_t len, const goblin_header_t *header, uint64_t address,
-                                    uint64_t *offset, goblin_refusal_t *why);
-GOBLIN_CALL uint32_t goblin_address_to_offset(const uint8_t *bytes, size_t len, const goblin_header_t *header, uint64_t address,
-                                              uint64_t *offset, goblin_refusal_t *why) {
-    goblin_refusal_t unread;
-    return goblin_c_address_to_offset(bytes, len, header, address, offset, why ? why : &unread);
-}
-uint32_t goblin_c_symbol(const uint8_t *bytes, size_t len, const goblin_header_t *header, const goblin_range_t *table,
-                         uint64_t index, goblin_symbol_t *symbol, goblin_refusal_t *why);
-GOBLIN_CALL uint32_t goblin_symbol(const uint8_t *bytes, size_t len, const goblin_header_t *header, const goblin_range_t *table,
-                                   uint64_t index, goblin_symbol_t *symbol, goblin_refusal_t *why) {
-    goblin_refusal_t unread;
-    return goblin_c_symbol(bytes, len, header, table, index, symbol, why ? why : &unread);
-}
-uint32_t goblin_c_symbol_place(const uint8_t *bytes, size_t len, const goblin_header_t *header, const goblin_range_t *table,
-                               uint64_t index, goblin_range_t *place, goblin_refusal_t *why);
-GOBLIN_CALL uint32_t goblin_symbol_place(const uint8_t *bytes, size_t len, const goblin_header_t *header,
-                                         const goblin_range_t *table, uint64_t index, goblin_range_t *place,
-                                         goblin_refusal_t *why) {
-    goblin_refusal_t unread;
-    return goblin_c_symbol_place(bytes, len, header, table, index, place, why ? why : &unread);
-}
-uint32_t goblin_c_symbol_count(const uint8_t *bytes, size_t len, const goblin_header_t *header, const goblin_range_t *table,
-                               uint64_t *count, goblin_refusal_t *why);
-GOBLIN_CALL uint32_t goblin_symbol_count(const uint8_t *bytes, size_t len, const goblin_header_t *header,
-                                         const goblin_range_t *table, uint64_t *count, goblin_refusal_t *why) {
-    goblin_refusal_t unread;
-    return goblin_c_symbol_count(bytes, len, header, table, count, why ? why : &unread);
-}
-uint32_t goblin_c_symbols(const uint8_t *bytes, size_t len, const goblin_header_t *header, const goblin_range_t *table,
-                          uint64_t first, goblin_symbol_t *symbols, size_t capacity, uint64_t *filled, goblin_refusal_t *why);
-GOBLIN_CALL uint32_t goblin_symbols(const uint8_t *bytes, size_t len, const goblin_header_t *header,
-                                    const goblin_range_t *table, uint64_t first, goblin_symbol_t *symbols, size_t capacity,
-                                    uint64_t *filled, goblin_refusal_t *why) {
-    goblin_refusal_t unread;
-    return goblin_c_symbols(bytes, len, header, table, first, symbols, capacity, filled, why ? why : &unread);
-}
-uint32_t goblin_c_symbol_by_name(const uint8_t *bytes, size_t len, const goblin_header_t *header, const goblin_range_t *table,
-                                 const goblin_range_t *names, const void *name, size_t name_len, uint64_t *index,
-                                 goblin_refusal_t *why);
-GOBLIN_CALL uint32_t goblin_symbol_by_name(const uint8_t *bytes, size_t len, const goblin_header_t *header,
-                                           const goblin_range_t *table, const goblin_range_t *names, const void *name,
-                                           size_t name_len, uint64_t *index, goblin_refusal_t *why) {
-    goblin_refusal_t unread;
-    return goblin_c_symbol_by_name(bytes, len, header, table, names, name, name_len, index, why ? why : &unread);
-}
-uint32_t goblin_c_symbol_by_address(const uint8_t *bytes, size_t len, const goblin_header_t *header,
-                                    const goblin_range_t *table, uint64_t address, uint64_t *index, goblin_refusal_t *why);
-GOBLIN_CALL uint32_t goblin_symbol_by_address(const uint8_t *bytes, size_t len, const goblin_header_t *header,
-                                              const goblin_range_t *table, uint64_t address, uint64_t *index,
-                                              goblin_refusal_t *why) {
-    goblin_refusal_t unread;
-    return goblin_c_symbol_by_address(bytes, len, header, table, address, index, why ? why : &unread);
-}
-uint32_t goblin_c_address_index(const uint8_t *bytes, size_t len, const goblin_header_t *header, const goblin_range_t *table,
-                                uint64_t *indices, size_t capacity, uint64_t *filled, goblin_refusal_t *why);
-GOBLIN_CALL uint32_t goblin_address_index(const uint8_t *bytes, size_t len, const goblin_header_t *header,
-                                          const goblin_range_t *table, uint64_t *indices, size_t capacity, uint64_t *filled,
-                                          goblin_refusal_t *why) {
-    goblin_refusal_t unread;
-    return goblin_c_address_index(bytes, len, header, table, indices, capacity, filled, why ? why : &unread);
-}
-uint32_t goblin_c_symbol_by_address_in(const uint8_t *bytes, size_t len, const goblin_header_t *header,
-                                       const goblin_range_t *table, const uint64_t *indices, size_t indices_len,
-                                       uint64_t address, uint64_t *index, goblin_refusal_t *why);
-GOBLIN_CALL uint32_t goblin_symbol_by_address_in(const uint8_t *bytes, size_t len, const goblin_header_t *header,
-                                                 const goblin_range_t *table, const uint64_t *indices, size_t indices_len,
-                                                 uint64_t address, uint64_t *index, goblin_refusal_t *why) {
-    goblin_refusal_t unread;
-    return goblin_c_symbol_by_address_in(bytes, len, header, table, indices, indices_len, address, index, why ? why : &unread);
-}
-uint32_t goblin_c_reloc(const uint8_t *bytes, size_t len, const goblin_header_t *header, const goblin_range_t *table,
-                        bool is_rela, uint64_t index, goblin_reloc_t *reloc, goblin_refusal_t *why);
-GOBLIN_CALL uint32_t goblin_reloc(const uint8_t *bytes, size_t len, const goblin_header_t *header, const goblin_range_t *table,
-                                  bool is_rela, uint64_t index, goblin_reloc_t *reloc, goblin_refusal_t *why) {
-    goblin_refusal_t unread;
-    return goblin_c_reloc(bytes, len, header, table, is_rela, index, reloc, why ? why : &unread);
-}
-uint32_t goblin_c_reloc_count(const uint8_t *bytes, size_t len, const goblin_header_t *header, const goblin_range_t *table,
-                              bool is_rela, uint64_t *count, goblin_refusal_t *why);
-GOBLIN_CALL uint32_t goblin_reloc_count(const uint8_t *bytes, size_t len, const goblin_header_t *header,
-                                        const goblin_range_t *table, bool is_rela, uint64_t *count, goblin_refusal_t *why) {
-    goblin_refusal_t unread;
-    return goblin_c_reloc_count(bytes, len, header, table, is_rela, count, why ? why : &unread);
-}
-uint32_t goblin_c_relocs(const uint8_t *bytes, size_t len, const goblin_header_t *header, const goblin_range_t *table,
-                         bool is_rela, uint64_t first, goblin_reloc_t *relocs, size_t capacity, uint64_t *filled,
-                         goblin_refusal_t *why);
-GOBLIN_CALL uint32_t goblin_relocs(const uint8_t *bytes, size_t len, const goblin_header_t *header, const goblin_range_t *table,
-                                   bool is_rela, uint64_t first, goblin_reloc_t *relocs, size_t capacity, uint64_t *filled,
-                                   goblin_refusal_t *why) {
-    goblin_refusal_t unread;
-    return goblin_c_relocs(bytes, len, header, table, is_rela, first, relocs, capacity, filled, why ? why : &unread);
-}
-uint32_t goblin_c_note(const uint8_t *bytes, size_t len, const goblin_header_t *header, const goblin_range_t *notes,
-                       uint64_t alignment, uint64_t offset, goblin_note_t *note, goblin_refusal_t *why);
-GOBLIN_CALL uint32_t goblin_note(const uint8_t *bytes, size_t len, const goblin_header_t *header, const goblin_range_t *notes,
-                                 uint64_t alignment, uint64_t offset, goblin_note_t *note, goblin_refusal_t *why) {
-    goblin_refusal_t unread;
-    return goblin_c_note(bytes, len, header, notes, alignment, offset, note, why ? why : &unread);
-}
-uint32_t goblin_c_note_bytes(const uint8_t *bytes, size_t len, const goblin_header_t *header, const goblin_range_t *notes,
-                             uint64_t alignment, uint64_t offset, goblin_note_t *note, goblin_refusal_t *why);
-GOBLIN_CALL uint32_t goblin_note_bytes(const uint8_t *bytes, size_t len, const goblin_header_t *header, const goblin_range_t *notes,
-                                       uint64_t alignment, uint64_t offset, goblin_note_t *note, goblin_refusal_t *why) {
-    goblin_refusal_t unread;
-    return goblin_c_note_bytes(bytes, len, header, notes, alignment, offset, note, why ? why : &unread);
-}
-uint32_t goblin_c_string(const uint8_t *bytes, size_t len, const goblin_range_t *strings, uint64_t offset,
-                         goblin_range_t *string, goblin_refusal_t *why);
-GOBLIN_CALL uint32_t goblin_string(const uint8_t *bytes, size_t len, const goblin_range_t *strings, uint64_t offset,
-                                   goblin_range_t *string, goblin_refusal_t *why) {
-    goblin_refusal_t unread;
-    return goblin_c_string(bytes, len, strings, offset, string, why ? why : &unread);
-}
-uint32_t goblin_c_string_bytes(const uint8_t *bytes, size_t len, const goblin_range_t *strings, uint64_t offset,
-                               goblin_range_t *string, goblin_refusal_t *why);
-GOBLIN_CALL uint32_t goblin_string_bytes(const uint8_t *bytes, size_t len, const goblin_range_t *strings, uint64_t offset,
-                                         goblin_range_t *string, goblin_refusal_t *why) {
-    goblin_refusal_t unread;
-    return goblin_c_string_bytes(bytes, len, strings, offset, string, why ? why : &unread);
-}
-uint32_t goblin_c_string_is(const uint8_t *bytes, size_t len, const goblin_range_t *strings, uint64_t offset, const void *text,
-                            size_t text_len, goblin_refusal_t *why);
-GOBLIN_CALL uint32_t goblin_string_is(const uint8_t *bytes, size_t len, const goblin_range_t *strings, uint64_t offset,
-                                      const void *text, size_t text_len, goblin_refusal_t *why) {
-    goblin_refusal_t unread;
-    return goblin_c_string_is(bytes, len, strings, offset, text, text_len, why ? why : &unread);
-}
-uint32_t goblin_c_string_starts(const uint8_t *bytes, size_t len, const goblin_range_t *strings, uint64_t offset, const void *text,
-                                size_t text_len, goblin_refusal_t *why);
-GOBLIN_CALL uint32_t goblin_string_starts(const uint8_t *bytes, size_t len, const goblin_range_t *strings, uint64_t offset,
-                                          const void *text, size_t text_len, goblin_refusal_t *why) {
-    goblin_refusal_t unread;
-    return goblin_c_string_starts(bytes, len, strings, offset, text, text_len, why ? why : &unread);
-}
-uint32_t goblin_c_number(const uint8_t *bytes, size_t len, const goblin_header_t *header, uint64_t offset, uint64_t width,
-                         uint64_t *value, goblin_refusal_t *why);
-GOBLIN_CALL uint32_t goblin_number(const uint8_t *bytes, size_t len, const goblin_header_t *header, uint64_t offset,
-                                   uint64_t width, uint64_t *value, goblin_refusal_t *why) {
-    goblin_refusal_t unread;
-    return goblin_c_number(bytes, len, header, offset, width, value, why ? why : &unread);
-}
-uint32_t goblin_c_number_in(const uint8_t *bytes, size_t len, const goblin_header_t *header, const goblin_range_t *range,
-                            uint64_t offset, uint64_t width, uint64_t *value, goblin_refusal_t *why);
-GOBLIN_CALL uint32_t goblin_number_in(const uint8_t *bytes, size_t len, const goblin_header_t *header, const goblin_range_t *range,
-                                      uint64_t offset, uint64_t width, uint64_t *value, goblin_refusal_t *why) {
-    goblin_refusal_t unread;
-    return goblin_c_number_in(bytes, len, header, range, offset, width, value, why ? why : &unread);
-}
-
-#ifdef __clang__
-#pragma clang diagnostic pop
-#endif
 
 #ifdef __cplusplus
 }

@@ -98,7 +98,7 @@ static void note(goblin_note_t *n) {
 /* Tests the calls for numbers of items and for sections of a type. */
 static void count_all(const goblin_header_t *h, const goblin_range_t *symbols, const goblin_range_t *relocs,
                       goblin_refusal_t *why) {
-    goblin_section_t second;
+    goblin_section_t second, same_section;
     uint64_t number;
     same("goblin_segment_count", goblin_segment_count(file, sizeof file, h, &number, why), GOBLIN_OK);
     same("goblin_segment_count", number, 2);
@@ -107,9 +107,10 @@ static void count_all(const goblin_header_t *h, const goblin_range_t *symbols, c
     same("goblin_reloc_count", goblin_reloc_count(file, sizeof file, h, relocs, true, &number, why), GOBLIN_OK);
     same("goblin_reloc_count", number, 2);
     same("goblin_section", goblin_section(file, sizeof file, h, 1, &second, why), GOBLIN_OK);
-    same("goblin_section_by_type", goblin_section_by_type(file, sizeof file, h, second.sh_type, 0, &number, why), GOBLIN_OK);
+    same("goblin_section_by_type", goblin_section_by_type(file, sizeof file, h, second.sh_type, 0, &number, &same_section, why), GOBLIN_OK);
     same("goblin_section_by_type", number, 1);
-    same("goblin_section_by_type", goblin_section_by_type(file, sizeof file, h, second.sh_type, 2, &number, why), GOBLIN_END);
+    same("goblin_section_by_type, the section", same_section.sh_info, second.sh_info);
+    same("goblin_section_by_type", goblin_section_by_type(file, sizeof file, h, second.sh_type, 2, &number, &same_section, why), GOBLIN_END);
     for (size_t width = 1; width <= 8; width *= 2) {
         uint64_t value = (end = 0xd00, any(width));
         same("goblin_number", goblin_number(file, sizeof file, h, 0xd00, width, &number, why), GOBLIN_OK);
@@ -119,40 +120,121 @@ static void count_all(const goblin_header_t *h, const goblin_range_t *symbols, c
     same("goblin_number outside", goblin_number(file, sizeof file, h, sizeof file - 1, 2, &number, why), GOBLIN_TOO_BIG);
 }
 
-/* Tests the calls for headers alone, for the ranges of records, and for the offset of an address. */
-static void place_all(const goblin_header_t *h, const goblin_layout_t *wanted, const goblin_range_t *symbols, goblin_refusal_t *why) {
+/* Tests the header that counts what is whole in a cut file, a number of segments that the first section has, and calls for ranges. */
+static void whole_all(const goblin_header_t *h, const goblin_layout_t *wanted, goblin_refusal_t *why) {
     size_t cut = 0x456 + 2 * (wide == 8 ? 64 : 40) + 1;
+    goblin_header_t whole, many = *h;
     goblin_section_t s;
     goblin_segment_t p;
-    goblin_range_t place = {0, 0}, all = {0, sizeof file}, past = {sizeof file - 3, 9};
+    goblin_range_t part = {0, 0}, all = {0, sizeof file}, past = {sizeof file - 3, 9};
     uint64_t number = 0;
-    memset(&s, 0, sizeof s);
+    memset(&s, 0, sizeof s), memset(&whole, 0, sizeof whole);
     same("section of a cut file", goblin_section(file, cut, h, 1, &s, why), GOBLIN_TOO_BIG);
-    same("goblin_section_alone", goblin_section_alone(file, cut, h, 1, &s, why), GOBLIN_OK);
-    same("goblin_section_alone", s.file.offset, wanted->section.file.offset);
-    same("goblin_section_alone", goblin_section_alone(file, cut, h, 2, &s, why), GOBLIN_TOO_BIG);
-    same("goblin_section_alone", goblin_section_alone(file, cut, h, 3, &s, why), GOBLIN_END);
-    same("goblin_whole_sections", goblin_whole_sections(file, cut, h, &number, why), GOBLIN_OK);
-    same("goblin_whole_sections", number, 2);
+    goblin_whole_header(file, cut, h, &whole);
+    same("goblin_whole_header", whole.e_shnum, 2), same("goblin_whole_header", whole.e_shoff, h->e_shoff);
+    same("goblin_whole_header", whole.e_phnum, 2), same("goblin_whole_header", whole.e_entry, h->e_entry);
+    same("whole section", goblin_section(file, cut, &whole, 1, &s, why), GOBLIN_OK);
+    same("whole section", s.file.offset, wanted->section.file.offset);
+    same("whole section", goblin_section(file, cut, &whole, 2, &s, why), GOBLIN_END);
     cut = 0x123 + 2 * (wide == 8 ? 56 : 32) - 1;
     same("segment of a cut file", goblin_segment(file, cut, h, 0, &p, why), GOBLIN_TOO_BIG);
-    same("goblin_segment_alone", goblin_segment_alone(file, cut, h, 0, &p, why), GOBLIN_OK);
-    same("goblin_segment_alone", goblin_segment_alone(file, cut, h, 1, &p, why), GOBLIN_TOO_BIG);
-    same("goblin_whole_segments", goblin_whole_segments(file, cut, h, &number, why), GOBLIN_OK);
-    same("goblin_whole_segments", number, 1);
-    same("goblin_section_place", goblin_section_place(file, sizeof file, h, 1, &place, why), GOBLIN_OK);
-    same("goblin_section_place", place.offset << 16 | place.size, wide == 8 ? 0x4960040 : 0x47e0028);
-    same("goblin_segment_place", goblin_segment_place(file, sizeof file, h, 1, &place, why), GOBLIN_OK);
-    same("goblin_segment_place", place.offset << 16 | place.size, wide == 8 ? 0x15b0038 : 0x1430020);
-    same("goblin_symbol_place", goblin_symbol_place(file, sizeof file, h, symbols, 1, &place, why), GOBLIN_OK);
-    same("goblin_symbol_place", place.offset << 16 | place.size, wide == 8 ? 0x7180018 : 0x7100010);
-    same("goblin_symbol_place", goblin_symbol_place(file, sizeof file, h, symbols, 2, &place, why), GOBLIN_END);
+    goblin_whole_header(file, cut, h, &whole);
+    same("goblin_whole_header", whole.e_phnum, 1), same("goblin_whole_header", whole.e_shoff + whole.e_shnum, 0);
+    same("whole segment", goblin_segment(file, cut, &whole, 0, &p, why), GOBLIN_OK);
+    same("whole segment", goblin_segment(file, cut, &whole, 1, &p, why), GOBLIN_END);
+    same("no whole section", goblin_section(file, cut, &whole, 0, &s, why), GOBLIN_END);
+    /* sh_info of the first section is the number of segments if e_phnum is 0xffff. */
+    many.e_phnum = 0xffff;
+    size_t at = 0x456 + (wide == 8 ? 44 : 28);
+    uint64_t before = 0;
+    same("goblin_number", goblin_number(file, sizeof file, h, at, 4, &before, why), GOBLIN_OK);
+    same("goblin_put_number", goblin_put_number(file, sizeof file, h, at, 4, 3, why), GOBLIN_OK);
+    same("PN_XNUM", goblin_segment_count(file, sizeof file, &many, &number, why), GOBLIN_OK), same("PN_XNUM", number, 3);
+    same("PN_XNUM", goblin_segment(file, sizeof file, &many, 2, &p, why), GOBLIN_OK);
+    same("PN_XNUM", goblin_segment(file, sizeof file, &many, 3, &p, why), GOBLIN_END);
+    same("goblin_put_number", goblin_put_number(file, sizeof file, h, at, 4, before, why), GOBLIN_OK);
+    same("PN_XNUM, cut", goblin_segment_count(file, 0x460, &many, &number, why), GOBLIN_TOO_BIG), same("PN_XNUM, cut", why->offset, 0x456);
+    many.e_shoff = 0;
+    same("PN_XNUM, no sections", goblin_segment_count(file, sizeof file, &many, &number, why), GOBLIN_BUFFER_TOO_SHORT);
+    same("PN_XNUM, no sections", why->first, 0xffff);
     same("goblin_number_in", goblin_number_in(file, sizeof file, h, &all, 4, 1, &number, why), GOBLIN_OK);
     same("goblin_number_in", number, wide / 4);
-    same("number past a range", goblin_number_in(file, sizeof file, h, &place, place.size, 1, &number, why), GOBLIN_BAD_OFFSET);
-    goblin_range_in_file(file, sizeof file, &past, &place);
-    same("goblin_range_in_file", place.offset << 16 | place.size, 0xffd0003);
+    part.offset = 0x700, part.size = 9;
+    same("number past a range", goblin_number_in(file, sizeof file, h, &part, part.size, 1, &number, why), GOBLIN_BAD_OFFSET);
+    goblin_range_in_file(file, sizeof file, &past, &part);
+    same("goblin_range_in_file", part.offset << 16 | part.size, 0xffd0003);
     same("goblin_address_to_offset", goblin_address_to_offset(file, sizeof file, h, 0, &number, why), GOBLIN_END);
+}
+
+/* Tests that a call has written `size` bytes at an offset as they were in the first file, and that no other byte of the file is changed
+   from what it was after `before` was made. */
+static uint8_t first[sizeof file], before[sizeof file];
+static void written(const char *what, size_t offset, size_t size) {
+    same(what, (uint64_t)memcmp(file + offset, first + offset, size), 0);
+    same(what, (uint64_t)memcmp(file, before, offset), 0);
+    same(what, (uint64_t)memcmp(file + offset + size, before + offset + size, sizeof file - offset - size), 0);
+}
+
+/* Tests each call that writes: it brings back the bytes of a record that are lost, of a table with two of each. */
+static void write_all(const goblin_layout_t *wanted, const goblin_range_t *symbols, const goblin_range_t *relocs, goblin_refusal_t *why) {
+    const goblin_header_t *h = &wanted->header;
+    size_t header_size = wide == 8 ? 64 : 52, p = 0x123 + (wide == 8 ? 56 : 32), s = 0x456 + (wide == 8 ? 64 : 40);
+    size_t y = 0x700 + (wide == 8 ? 24 : 16), r = 0x800 + 3 * wide;
+    memcpy(first, file, sizeof file);
+#define WRITES(call, offset, size, ...) \
+    (memset(file + (offset), 0xdd, size), memcpy(before, file, sizeof file), \
+     same(#call, call(file, sizeof file, __VA_ARGS__, why), GOBLIN_OK), written(#call, offset, size))
+    WRITES(goblin_put_segment, p, wide == 8 ? 56 : 32, h, 1, &wanted->segment);
+    WRITES(goblin_put_section, s, wide == 8 ? 64 : 40, h, 1, &wanted->section);
+    WRITES(goblin_put_symbol, y, wide == 8 ? 24 : 16, h, symbols, 1, &wanted->symbol);
+    WRITES(goblin_put_reloc, r, 3 * wide, h, relocs, true, 1, &wanted->reloc);
+    WRITES(goblin_put_number, 4, 2, h, 4, 2, is_big ? (uint64_t)(wide / 4 << 8 | 2) : (uint64_t)(wide / 4 | 1 << 8));
+    /* (the padding of the identification stays) */
+    memset(file + 16, 0xdd, header_size - 16), memset(file, 0xdd, 9), memcpy(before, file, sizeof file);
+    same("goblin_put_header", goblin_put_header(file, sizeof file, h, why), GOBLIN_OK);
+    written("goblin_put_header", 0, header_size);
+#undef WRITES
+    same("no segment", goblin_put_segment(file, sizeof file, h, 2, &wanted->segment, why), GOBLIN_END);
+    same("no section", goblin_put_section(file, sizeof file, h, 3, &wanted->section, why), GOBLIN_END);
+    same("no symbol", goblin_put_symbol(file, sizeof file, h, symbols, 2, &wanted->symbol, why), GOBLIN_END);
+    same("no reloc", goblin_put_reloc(file, sizeof file, h, relocs, true, 2, &wanted->reloc, why), GOBLIN_END);
+    same("no width", goblin_put_number(file, sizeof file, h, 0, 3, 0, why), GOBLIN_END);
+    same("nothing written", (uint64_t)memcmp(file, first, sizeof file), 0);
+}
+
+/* Tests what the calls that write refuse: what does not fit, and what is not there. */
+static void refuse_to_write(const goblin_layout_t *wanted, const goblin_range_t *symbols, const goblin_range_t *relocs, goblin_refusal_t *why) {
+    goblin_layout_t items = *wanted;
+    const goblin_header_t *h = &wanted->header;
+    uint32_t wide_status = wide == 8 ? GOBLIN_OK : GOBLIN_INTEGER_FIT;
+    memcpy(first, file, sizeof file);
+    items.section.sh_name = (uint64_t)1 << 32, items.symbol.st_shndx = 0x10000, items.segment.p_align = items.section.sh_name;
+    same("a long name", goblin_put_section(file, sizeof file, h, 1, &items.section, why), GOBLIN_INTEGER_FIT);
+    same("a long name", why->offset, wide == 8 ? 0x496 : 0x47e);
+    same("a high index", goblin_put_symbol(file, sizeof file, h, symbols, 1, &items.symbol, why), GOBLIN_INTEGER_FIT);
+    same("a high index", why->offset, wide == 8 ? 0x718 : 0x710);
+    same("no addends", goblin_put_reloc(file, sizeof file, h, relocs, false, 0, &items.reloc, why), GOBLIN_INTEGER_FIT);
+    same("no addends", why->offset, 0x800);
+    same("a high number", goblin_put_number(file, sizeof file, h, 0x10, 2, 0x10000, why), GOBLIN_INTEGER_FIT);
+    same("a high number", why->offset, 0x10);
+    items.header.ei_class = 3, items.header.ei_data = 3;
+    same("class 3", goblin_put_header(file, sizeof file, &items.header, why), GOBLIN_INVALID_CLASS), same("class 3", why->first, 3);
+    items.header.ei_class = h->ei_class;
+    same("order 3", goblin_put_header(file, sizeof file, &items.header, why), GOBLIN_DATA), same("order 3", why->first, 3);
+    same("no bytes", goblin_put_header(file, 0, h, why), GOBLIN_BAD_OFFSET);
+    same("51 bytes", goblin_put_header(file, 51, h, why), GOBLIN_TOO_BIG);
+    same("sections outside", goblin_put_section(file, 0x456, h, 0, &wanted->section, why), GOBLIN_BAD_OFFSET);
+    same("segments outside", goblin_put_segment(file, 0x123, h, 0, &wanted->segment, why), GOBLIN_BAD_OFFSET);
+    same("symbols outside", goblin_put_symbol(file, 0x6ff, h, symbols, 0, &wanted->symbol, why), GOBLIN_SYMTAB_OFFSET);
+    same("relocs outside", goblin_put_reloc(file, 0x801, h, relocs, true, 0, &wanted->reloc, why), GOBLIN_TOO_BIG);
+    same("number outside", goblin_put_number(file, 7, h, 4, 4, 0, why), GOBLIN_TOO_BIG);
+    same("nothing written", (uint64_t)memcmp(file, first, sizeof file), 0);
+    same("a high alignment", goblin_put_segment(file, sizeof file, h, 1, &items.segment, why), wide_status);
+    items.header = *h, items.header.e_entry = (uint64_t)1 << 32;
+    same("a high entry", goblin_put_header(file, sizeof file, &items.header, why), wide_status);
+    items.reloc.r_sym = 0x1000000;
+    same("a high symbol", goblin_put_reloc(file, sizeof file, h, relocs, true, 1, &items.reloc, why), wide_status);
+    memcpy(file, first, sizeof file);
 }
 
 /* Tests the calls for bytes of sections, segments and strings. */
@@ -193,7 +275,7 @@ static void read_all(void) {
     goblin_range_t symbols = {0x700, wide == 8 ? 48U : 32U}, relocs = {0x800, wide * 6}, notes = {0x900, 28};
     count_all(h, &symbols, &relocs, why);
     range_all(&wanted, why);
-    place_all(h, &wanted, &symbols, why);
+    whole_all(h, &wanted, why);
     same("goblin_symbol", goblin_symbol(file, sizeof file, h, &symbols, 1, &got.symbol, why), GOBLIN_OK);
     same("goblin_symbol", goblin_symbol(file, sizeof file, h, &symbols, 2, &got.symbol, why), GOBLIN_END);
     same("goblin_reloc", goblin_reloc(file, sizeof file, h, &relocs, true, 1, &got.reloc, why), GOBLIN_OK);
@@ -215,6 +297,11 @@ static void read_all(void) {
         same("r_sym for MIPS", pair.r_sym, wanted.reloc.r_type);
         same("r_type for MIPS", pair.r_type, type << 24 | (type & 0xff00) << 8 | (type >> 8 & 0xff00) | type >> 24);
     }
+    memcpy(first, file, sizeof file);
+    same("goblin_put_reloc for MIPS", goblin_put_reloc(file, sizeof file, &mips, &relocs, true, 1, &pair, why), GOBLIN_OK);
+    same("goblin_put_reloc for MIPS", (uint64_t)memcmp(file, first, sizeof file), 0);
+    write_all(&wanted, &symbols, &relocs, why);
+    refuse_to_write(&wanted, &symbols, &relocs, why);
     /* A refusal with four different numbers: its size, its offset, the file's length and 1. Its table begins at the offset. */
     goblin_range_t past = {0x321, UINT64_MAX};
     goblin_refusal_t refusal = {GOBLIN_STRTAB_RANGE, 0, past.size, past.offset, sizeof file, 1, past.offset};
@@ -288,9 +375,9 @@ static void refuse_all(void) {
     refused("magic number", goblin_header(file, sizeof file, &h, &why), GOBLIN_BAD_MAGIC, &why, 0);
 }
 
-/* Tests each call with null pointers for empty files, names and arrays, and with a `why` that may be null. */
+/* Tests each call with null pointers for empty files, names and arrays. */
 static void call_with_nulls(goblin_refusal_t *why) {
-    goblin_header_t h;
+    goblin_header_t h, whole;
     goblin_section_t s;
     goblin_segment_t p;
     goblin_symbol_t y;
@@ -298,7 +385,7 @@ static void call_with_nulls(goblin_refusal_t *why) {
     goblin_note_t n;
     goblin_range_t text, none = {0, 0}, some = {0, 1};
     uint64_t number;
-    memset(&h, 0, sizeof h);
+    memset(&h, 0, sizeof h), memset(&s, 0, sizeof s), memset(&p, 0, sizeof p), memset(&y, 0, sizeof y), memset(&r, 0, sizeof r);
     same("null: header", goblin_header(NULL, 0, &h, why), GOBLIN_TOO_SMALL);
     for (int i = 0; i < 2; i++) {
         uint32_t end = i ? GOBLIN_BAD_OFFSET : GOBLIN_END;
@@ -307,20 +394,20 @@ static void call_with_nulls(goblin_refusal_t *why) {
         same("null: section", goblin_section(NULL, 0, &h, 0, &s, why), end);
         same("null: section names", goblin_section_names(NULL, 0, &h, &s, why), end);
         same("null: table", goblin_linked_section(NULL, 0, &h, 1, &s, why), end);
-        same("null: section by name", goblin_section_by_name(NULL, 0, &h, &none, NULL, 0, 0, &number, why), end);
-        same("null: bytes by name", goblin_bytes_by_name(NULL, 0, &h, &none, NULL, 0, &text, why), end);
-        same("null: section alone", goblin_section_alone(NULL, 0, &h, 0, &s, why), end);
-        same("null: section place", goblin_section_place(NULL, 0, &h, 0, &text, why), end);
-        same("null: whole sections", goblin_whole_sections(NULL, 0, &h, &number, why), i ? GOBLIN_BAD_OFFSET : GOBLIN_OK);
-        same("null: section by type", goblin_section_by_type(NULL, 0, &h, 3, 0, &number, why), end);
+        same("null: section by name", goblin_section_by_name(NULL, 0, &h, &none, NULL, 0, 0, &number, &s, why), end);
+        same("null: section by type", goblin_section_by_type(NULL, 0, &h, 3, 0, &number, &s, why), end);
+        same("null: put section", goblin_put_section(NULL, 0, &h, 0, &s, why), end);
+        goblin_whole_header(NULL, 0, &h, &whole);
+        same("null: whole header", whole.e_shoff, 0);
         same("null: sections", goblin_sections(NULL, 0, &h, 0, NULL, 0, &number, why), end);
     }
     same("null: segment", goblin_segment(NULL, 0, &h, 0, &p, why), GOBLIN_END);
-    same("null: segment alone", goblin_segment_alone(NULL, 0, &h, 0, &p, why), GOBLIN_END);
-    same("null: segment place", goblin_segment_place(NULL, 0, &h, 0, &text, why), GOBLIN_END);
-    same("null: whole segments", goblin_whole_segments(NULL, 0, &h, &number, why), GOBLIN_OK);
     same("null: address", goblin_address_to_offset(NULL, 0, &h, 0, &number, why), GOBLIN_END);
-    same("null: symbol place", goblin_symbol_place(NULL, 0, &h, &none, 0, &text, why), GOBLIN_SYMTAB_OFFSET);
+    same("null: put header", goblin_put_header(NULL, 0, &h, why), GOBLIN_INVALID_CLASS);
+    same("null: put segment", goblin_put_segment(NULL, 0, &h, 0, &p, why), GOBLIN_END);
+    same("null: put symbol", goblin_put_symbol(NULL, 0, &h, &none, 0, &y, why), GOBLIN_SYMTAB_OFFSET);
+    same("null: put reloc", goblin_put_reloc(NULL, 0, &h, &none, true, 0, &r, why), GOBLIN_END);
+    same("null: put number", goblin_put_number(NULL, 0, &h, 0, 8, 0, why), GOBLIN_BAD_OFFSET);
     same("null: number in", goblin_number_in(NULL, 0, &h, &some, 0, 1, &number, why), GOBLIN_BAD_OFFSET);
     goblin_range_in_file(NULL, 0, &some, &text);
     same("null: range in file", text.size, 0);
@@ -329,9 +416,6 @@ static void call_with_nulls(goblin_refusal_t *why) {
     same("null: symbol by name", goblin_symbol_by_name(NULL, 0, &h, &none, &none, NULL, 0, &number, why),
          GOBLIN_SYMTAB_OFFSET);
     same("null: symbol by address", goblin_symbol_by_address(NULL, 0, &h, &none, 0, &number, why), GOBLIN_SYMTAB_OFFSET);
-    same("null: address index", goblin_address_index(NULL, 0, &h, &none, NULL, 0, &number, why), GOBLIN_SYMTAB_OFFSET);
-    same("null: symbol by address in", goblin_symbol_by_address_in(NULL, 0, &h, &none, NULL, 0, 0, &number, why),
-         GOBLIN_SYMTAB_OFFSET);
     same("null: reloc", goblin_reloc(NULL, 0, &h, &none, true, 0, &r, why), GOBLIN_END);
     same("null: reloc", goblin_reloc(NULL, 0, &h, &some, true, 0, &r, why), GOBLIN_BAD_OFFSET);
     same("null: relocs", goblin_relocs(NULL, 0, &h, &none, false, 0, NULL, 0, &number, why), GOBLIN_END);
@@ -343,8 +427,6 @@ static void call_with_nulls(goblin_refusal_t *why) {
     same("null: symbol count", goblin_symbol_count(NULL, 0, &h, &none, &number, why), GOBLIN_SYMTAB_OFFSET);
     same("null: reloc count", goblin_reloc_count(NULL, 0, &h, &none, true, &number, why), GOBLIN_OK);
     same("null: string bytes", goblin_string_bytes(NULL, 0, &none, 0, &text, why), GOBLIN_END);
-    same("null: string is", goblin_string_is(NULL, 0, &none, 0, NULL, 0, why), GOBLIN_END);
-    same("null: string starts", goblin_string_starts(NULL, 0, &some, 0, NULL, 0, why), GOBLIN_STRTAB_RANGE);
     same("null: number", goblin_number(NULL, 0, &h, 0, 8, &number, why), GOBLIN_BAD_OFFSET);
     same("null: string", goblin_string(NULL, 0, &none, 0, &text, why), GOBLIN_END);
     same("null: string", goblin_string(NULL, 0, &some, 0, &text, why), GOBLIN_STRTAB_RANGE);
@@ -358,8 +440,8 @@ static void call_with_nulls(goblin_refusal_t *why) {
     same("null: type", goblin_type_to_str(2, NULL, 0), strlen("FUNC"));
     same("null: visibility", goblin_visibility_to_str(0, NULL, 0), strlen("DEFAULT"));
     same("null: note type", goblin_note_type_to_str(NULL, 0, 3, NULL, 0), strlen("NT_GNU_BUILD_ID"));
-    if (why) same("null: text", goblin_refusal_text(why, NULL, 0),
-                  strlen("Malformed entity: Strtable size (1) + offset (0) is out of bounds for 0 #bytes. Overflowed: false"));
+    same("null: text", goblin_refusal_text(why, NULL, 0),
+         strlen("Malformed entity: Strtable size (1) + offset (0) is out of bounds for 0 #bytes. Overflowed: false"));
     header(&h), symbol(&y), note(&n);
     goblin_range_t symbols = {0x700, wide == 8 ? 48U : 32U}, relocs = {0x800, wide * 6}, empty = {n.name.offset + 7, 1};
     same("header", goblin_header(file, sizeof file, &h, why), GOBLIN_OK);
@@ -393,23 +475,38 @@ static void close_texts(void) {
     same("a closed class", strcmp(text, "ELF64"), 0);
 }
 
-/* Tests the calls that compare a string: here the strings are "", "ab", "abc" and "x", whose end is that of the table. */
-static void compare_strings(void) {
-    static const uint8_t strings[] = "\0ab\0abc\0x";
-    goblin_range_t table = {0, 9}, past = {1, sizeof strings};
+/* The strings "", "ab", "abc" and "x", whose end is that of the table. */
+static const uint8_t strings[] = "\0ab\0abc\0x";
+static const goblin_range_t string_table = {0, 9};
+
+/* Tests whether the string at an offset is a text, or begins with it, by the lines in goblin.h. */
+static bool compares(uint64_t at, const char *text, size_t size, bool is_whole) {
     goblin_refusal_t why;
-#define IS(offset, text, size) goblin_string_is(strings, sizeof strings, &table, offset, text, size, &why)
-#define STARTS(offset, text, size) goblin_string_starts(strings, sizeof strings, &table, offset, text, size, &why)
-    same("is", IS(1, "ab", 2), GOBLIN_OK), same("is", IS(1, "abc", 3), GOBLIN_END), same("is", IS(4, "ab", 2), GOBLIN_END);
-    same("is", IS(5, "bc", 2), GOBLIN_OK), same("is", IS(0, NULL, 0), GOBLIN_OK), same("is", IS(1, NULL, 0), GOBLIN_END);
-    same("is", IS(8, "x", 1), GOBLIN_OK), same("is", IS(8, "x", 2), GOBLIN_END), same("is", IS(1, "ab", 3), GOBLIN_END);
-    same("is", IS(9, "", 0), GOBLIN_END), same("is", IS(UINT64_MAX, "", 0), GOBLIN_END);
-    same("starts", STARTS(4, "ab", 2), GOBLIN_OK), same("starts", STARTS(4, "abc", 3), GOBLIN_OK);
-    same("starts", STARTS(4, "ac", 2), GOBLIN_END), same("starts", STARTS(1, "abc", 3), GOBLIN_END);
-    same("starts", STARTS(1, "ab", 3), GOBLIN_END), same("starts", STARTS(8, "x", 2), GOBLIN_END);
-    same("starts", STARTS(8, NULL, 0), GOBLIN_OK), same("starts", STARTS(9, NULL, 0), GOBLIN_END);
-    table = past;
-    refused("is", IS(0, "ab", 2), GOBLIN_STRTAB_RANGE, &why, 1), refused("starts", STARTS(9, "ab", 2), GOBLIN_STRTAB_RANGE, &why, 1);
+    goblin_range_t string;
+    uint32_t status = goblin_string_bytes(strings, sizeof strings, &string_table, at, &string, &why);
+    return status == GOBLIN_OK && (is_whole ? string.size == size : string.size >= size) && memcmp(strings + string.offset, text, size) == 0;
+}
+
+/* Tests whether a zero byte closes the string at an offset. */
+static bool is_closed(uint64_t at) {
+    goblin_refusal_t why;
+    goblin_range_t string;
+    return goblin_string_bytes(strings, sizeof strings, &string_table, at, &string, &why) == GOBLIN_OK
+        && string.offset + string.size < string_table.offset + string_table.size;
+}
+
+static void compare_strings(void) {
+#define IS(at, text, size) compares(at, text, size, true)
+#define STARTS(at, text, size) compares(at, text, size, false)
+    same("is", IS(1, "ab", 2), true), same("is", IS(1, "abc", 3), false), same("is", IS(4, "ab", 2), false);
+    same("is", IS(5, "bc", 2), true), same("is", IS(0, "", 0), true), same("is", IS(1, "", 0), false);
+    same("is", IS(8, "x", 1), true), same("is", IS(8, "x", 2), false), same("is", IS(1, "ab", 3), false);
+    same("is", IS(9, "", 0), false), same("is", IS(UINT64_MAX, "", 0), false);
+    same("starts", STARTS(4, "ab", 2), true), same("starts", STARTS(4, "abc", 3), true);
+    same("starts", STARTS(4, "ac", 2), false), same("starts", STARTS(1, "abc", 3), false);
+    same("starts", STARTS(1, "ab", 3), false), same("starts", STARTS(8, "x", 2), false);
+    same("starts", STARTS(8, "", 0), true), same("starts", STARTS(9, "", 0), false);
+    same("closed", is_closed(1), true), same("closed", is_closed(4), true), same("closed", is_closed(8), false);
 #undef IS
 #undef STARTS
 }
@@ -461,7 +558,7 @@ int main(int argc, char **argv) {
         wide = kind < 2 ? 8 : 4, is_big = kind % 2;
         read_all();
         refuse_all();
-        call_with_nulls(&why), call_with_nulls(NULL);
+        call_with_nulls(&why);
     }
     if (wrong) return EXIT_FAILURE;
     printf("goblin.h and the library agree in %d comparisons\n", compared);

@@ -9,7 +9,7 @@
 #include <stdlib.h>
 #include <string.h>
 
-static const uint8_t *bytes;
+static uint8_t *bytes;
 static size_t len;
 static goblin_header_t header;
 static goblin_section_t names_of_sections;
@@ -59,15 +59,16 @@ static int letter(const goblin_symbol_t *symbol, const goblin_section_t *section
 
 /* Finds the section of type SHT_SYMTAB_SHNDX that belongs to the symbol table with this index, if there is one. */
 static bool find_indices(uint64_t table, goblin_section_t *indices) {
-    for (uint64_t i = 0; goblin_section_by_type(bytes, len, &header, GOBLIN_SHT_SYMTAB_SHNDX, i, &i, &why) == GOBLIN_OK; i++)
-        if (goblin_section(bytes, len, &header, i, indices, &why) == GOBLIN_OK && indices->sh_link == table) return true;
+    for (uint64_t i = 0; goblin_section_by_type(bytes, len, &header, GOBLIN_SHT_SYMTAB_SHNDX, i, &i, indices, &why) == GOBLIN_OK; i++)
+        if (indices->sh_link == table) return true;
     return false;
 }
 
 static int list(uint64_t index_of_table, const goblin_section_t *table) {
     goblin_section_t indices;
     bool has_indices = find_indices(index_of_table, &indices);
-    goblin_section_t names = {.sh_type = GOBLIN_SHT_NULL};
+    goblin_section_t names;
+    memset(&names, 0, sizeof names);
     if (goblin_linked_section(bytes, len, &header, table->sh_link, &names, &why) > GOBLIN_END) return refused("string table");
     goblin_symbol_t symbol;
     uint32_t status;
@@ -83,24 +84,26 @@ static int list(uint64_t index_of_table, const goblin_section_t *table) {
         uint64_t value = symbol.st_shndx == GOBLIN_SHN_COMMON ? symbol.st_size : symbol.st_value;
         printf("%0*" PRIx64 " %c %" PRIu64 " ", header.ei_class == GOBLIN_ELFCLASS64 ? 16 : 8, value,
                letter(&symbol, has_section ? &section : NULL), index);
-        fwrite(bytes + name.offset, 1, name.size, stdout);
+        fwrite(bytes + name.offset, 1, (size_t)name.size, stdout);
         putchar('\n');
     }
     return status == GOBLIN_END ? 0 : refused("symbols");
 }
 
-static uint8_t *load(const char *path) {
+/* Reads a file, and returns whether all of it is read. */
+static bool load(const char *path) {
     FILE *file = fopen(path, "rb");
-    if (!file || fseek(file, 0, SEEK_END) || ftell(file) < 0) return NULL;
-    len = (size_t)ftell(file);
+    long size = file && fseek(file, 0, SEEK_END) == 0 ? ftell(file) : -1;
+    if (size < 0 || !(bytes = (uint8_t *)malloc((size_t)size + 1))) return false;
     rewind(file);
-    uint8_t *all = malloc(len ? len : 1);
-    return all && fread(all, 1, len, file) == len ? all : NULL;
+    len = fread(bytes, 1, (size_t)size, file);
+    return fclose(file) == 0 && len == (size_t)size;
 }
 
 int main(int argc, char **argv) {
     bool is_dynamic = argc == 3 && strcmp(argv[1], "-D") == 0;
-    if (argc != 2 + is_dynamic || !(bytes = load(argv[argc - 1]))) return fputs("usage: nm [-D] FILE\n", stderr), 2;
+    if (argc != 2 + is_dynamic) return fputs("usage: nm [-D] FILE\n", stderr), 2;
+    if (!load(argv[argc - 1])) return perror(argv[argc - 1]), 2;
     if (goblin_header(bytes, len, &header, &why) != GOBLIN_OK) return refused("header");
     if (goblin_section_names(bytes, len, &header, &names_of_sections, &why) > GOBLIN_END) return refused("sections");
     goblin_section_t section;

@@ -21,11 +21,12 @@ static int search(uint8_t *bytes, size_t len, const char *what, const uint8_t *n
     goblin_header_t header;
     goblin_range_t symbols = {64 + SECTIONS * sizeof(Elf64_Shdr), SYMBOLS * sizeof(Elf64_Sym)};
     goblin_range_t strings = {symbols.offset + symbols.size, STRINGS};
+    goblin_section_t section;
     uint64_t index;
     clock_t start = clock();
     memset(&header, 0, sizeof header);
     header.ei_class = 2, header.ei_data = 1, header.e_shoff = 64, header.e_shnum = SECTIONS;
-    int none = goblin_section_by_name(bytes, len, &header, &strings, name, name_len, 0, &index, &why) == GOBLIN_END
+    int none = goblin_section_by_name(bytes, len, &header, &strings, name, name_len, 0, &index, &section, &why) == GOBLIN_END
         && goblin_symbol_by_name(bytes, len, &header, &symbols, &strings, name, name_len, &index, &why) == GOBLIN_END;
     double took = since(start);
     printf("%d sections and %d symbols over a string of 4 MB, searched for %s: %.0f microseconds\n", SECTIONS, SYMBOLS, what, took);

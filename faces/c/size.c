@@ -7,18 +7,17 @@
 
 enum { BATCH = 64 };
 
-static uint8_t *load(const char *path, size_t *len) {
+static uint8_t *bytes;
+static size_t len;
+
+/* Reads a file, and returns whether all of it is read. */
+static bool load(const char *path) {
     FILE *file = fopen(path, "rb");
-    if (!file) return NULL;
-    uint8_t *all = NULL;
-    if (fseek(file, 0, SEEK_END) == 0 && ftell(file) >= 0) {
-        *len = (size_t)ftell(file);
-        rewind(file);
-        all = malloc(*len ? *len : 1);
-        if (all && fread(all, 1, *len, file) != *len) free(all), all = NULL;
-    }
-    fclose(file);
-    return all;
+    long size = file && fseek(file, 0, SEEK_END) == 0 ? ftell(file) : -1;
+    if (size < 0 || !(bytes = (uint8_t *)malloc((size_t)size + 1))) return false;
+    rewind(file);
+    len = fread(bytes, 1, (size_t)size, file);
+    return fclose(file) == 0 && len == (size_t)size;
 }
 
 static int refused(const char *path, const goblin_refusal_t *why) {
@@ -29,7 +28,7 @@ static int refused(const char *path, const goblin_refusal_t *why) {
 }
 
 /* Prints the line of a file, or its refusal. */
-static int add_up(const char *path, const uint8_t *bytes, size_t len) {
+static int add_up(const char *path) {
     goblin_header_t header;
     goblin_refusal_t why;
     goblin_section_t sections[BATCH];
@@ -52,13 +51,14 @@ static int add_up(const char *path, const uint8_t *bytes, size_t len) {
 
 int main(int argc, char **argv) {
     int failed = 0;
+    if (argc < 2) return fputs("usage: size FILE..\n", stderr), 2;
     puts("   text\t   data\t    bss\t    dec\t    hex\tfilename");
     for (int i = 1; i < argc; i++) {
-        size_t len = 0;
-        uint8_t *bytes = load(argv[i], &len);
-        if (!bytes) fprintf(stderr, "size: %s can't be read\n", argv[i]);
-        failed |= bytes ? add_up(argv[i], bytes, len) : 1;
+        bool is_read = load(argv[i]);
+        if (!is_read) perror(argv[i]);
+        failed |= is_read ? add_up(argv[i]) : 1;
         free(bytes);
+        bytes = NULL;
     }
     return failed;
 }

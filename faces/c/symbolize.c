@@ -1,11 +1,30 @@
 /* Prints the function at each address, as `addr2line -fs` does for a file without line numbers: symbolize FILE ADDRESS..
-   For each address there is a line with the symbol's name, or ?? if there is none, and a line ??:0. */
+   For each address there is a line with the symbol's name, or ?? if there is none, and a line ??:0. It reads and sorts the symbols once,
+   and finds for each address the symbol that goblin_symbol_by_address finds. With the first argument -1 it calls that for each address,
+   which reads all symbols each time. */
 #include "goblin.h"
 #include <stdio.h>
 #include <stdlib.h>
+#include <string.h>
+
+enum { NONE = -1, BATCH = 64 };
+
+/* A symbol that may contain an address. */
+typedef struct {
+    uint64_t start, last, index; /* its addresses, as far as it has a size, and its index in the table */
+    bool has_size;
+} place_t;
+
+/* From an address on, up to the next piece, the symbol for each address: its place, or NONE. */
+typedef struct {
+    uint64_t start;
+    int64_t place;
+} piece_t;
 
 static uint8_t *bytes;
-static size_t len;
+static size_t len, places_len, pieces_len;
+static place_t *places;
+static piece_t *pieces;
 static goblin_header_t header;
 static goblin_refusal_t why;
 
@@ -16,37 +35,119 @@ static int refused(const char *what) {
     return 1;
 }
 
-static uint8_t *load(const char *path) {
+static int compare_places(const void *one, const void *other) {
+    const place_t *a = (const place_t *)one, *b = (const place_t *)other;
+    if (a->start != b->start) return a->start < b->start ? -1 : 1;
+    return a->index < b->index ? -1 : a->index > b->index;
+}
+
+static int compare_addresses(const void *one, const void *other) {
+    uint64_t a = *(const uint64_t *)one, b = *(const uint64_t *)other;
+    return a < b ? -1 : a > b;
+}
+
+/* Adds a symbol to the places, if it is of a section and has one of the types that can contain an address. */
+static void add(const goblin_symbol_t *symbol, uint64_t index) {
+    unsigned type = symbol->st_info & 15;
+    bool is_placed = (symbol->st_shndx != GOBLIN_SHN_UNDEF && symbol->st_shndx < GOBLIN_SHN_LORESERVE)
+        || symbol->st_shndx == GOBLIN_SHN_XINDEX;
+    if (!is_placed || (type > GOBLIN_STT_FUNC && type != GOBLIN_STT_GNU_IFUNC)) return;
+    uint64_t more = symbol->st_size > 0 ? symbol->st_size - 1 : 0, most = UINT64_MAX - symbol->st_value;
+    place_t place = {symbol->st_value, symbol->st_value + (more < most ? more : most), index, symbol->st_size > 0};
+    places[places_len++] = place;
+}
+
+/* Makes the pieces of the sorted places. A piece begins at each start of a symbol and after each end. The symbols that contain an address
+   lie on a stack, the one with the highest start and of these the first one on top. */
+static bool make_pieces(void) {
+    uint64_t *starts = (uint64_t *)malloc((2 * places_len + 1) * sizeof *starts);
+    size_t *open = (size_t *)malloc((places_len + 1) * sizeof *open), starts_len = 0, depth = 0, next = 0;
+    pieces = (piece_t *)malloc((2 * places_len + 1) * sizeof *pieces);
+    if (!starts || !open || !pieces) return false;
+    for (size_t i = 0; i < places_len; i++) {
+        starts[starts_len++] = places[i].start;
+        if (places[i].has_size && places[i].last < UINT64_MAX) starts[starts_len++] = places[i].last + 1;
+    }
+    qsort(starts, starts_len, sizeof *starts, compare_addresses);
+    int64_t label = NONE;
+    for (size_t i = 0; i < starts_len; i++) {
+        if (i > 0 && starts[i] == starts[i - 1]) continue;
+        size_t first = next;
+        while (next < places_len && places[next].start == starts[i]) next++;
+        if (next > first) label = NONE;
+        for (size_t k = next; k-- > first;) {
+            if (places[k].has_size) open[depth++] = k;
+            else label = (int64_t)k;
+        }
+        while (depth > 0 && places[open[depth - 1]].last < starts[i]) depth--;
+        piece_t piece = {starts[i], depth > 0 ? (int64_t)open[depth - 1] : label};
+        pieces[pieces_len++] = piece;
+    }
+    free(starts), free(open);
+    return true;
+}
+
+/* Reads all symbols of a table, and sorts them. */
+static uint32_t sort_symbols(const goblin_range_t *table) {
+    goblin_symbol_t symbols[BATCH];
+    uint64_t count, filled = 0;
+    uint32_t status = goblin_symbol_count(bytes, len, &header, table, &count, &why);
+    if (status != GOBLIN_OK) return status;
+    if (!(places = (place_t *)malloc((size_t)(count + 1) * sizeof *places))) exit(2);
+    for (uint64_t first = 0; goblin_symbols(bytes, len, &header, table, first, symbols, BATCH, &filled, &why) == GOBLIN_OK; first += filled)
+        for (uint64_t i = 0; i < filled; i++) add(&symbols[i], first + i);
+    qsort(places, places_len, sizeof *places, compare_places);
+    if (!make_pieces()) exit(2);
+    return GOBLIN_OK;
+}
+
+/* Finds the symbol for an address in the last piece that is not above it. */
+static uint32_t find(uint64_t address, uint64_t *index) {
+    size_t low = 0, high = pieces_len;
+    while (low < high) {
+        size_t middle = low + (high - low) / 2;
+        if (pieces[middle].start <= address) low = middle + 1;
+        else high = middle;
+    }
+    if (low == 0 || pieces[low - 1].place == NONE) return GOBLIN_END;
+    *index = places[pieces[low - 1].place].index;
+    return GOBLIN_OK;
+}
+
+/* Reads a file, and returns whether all of it is read. */
+static bool load(const char *path) {
     FILE *file = fopen(path, "rb");
-    if (!file || fseek(file, 0, SEEK_END) || ftell(file) < 0) return NULL;
-    len = (size_t)ftell(file);
+    long size = file && fseek(file, 0, SEEK_END) == 0 ? ftell(file) : -1;
+    if (size < 0 || !(bytes = (uint8_t *)malloc((size_t)size + 1))) return false;
     rewind(file);
-    uint8_t *all = malloc(len ? len : 1);
-    return all && fread(all, 1, len, file) == len ? all : NULL;
+    len = fread(bytes, 1, (size_t)size, file);
+    return fclose(file) == 0 && len == (size_t)size;
 }
 
 /* Finds the symbol table, or the dynamic one if there is none, and its strings. */
 static uint32_t find_table(goblin_section_t *table, goblin_section_t *names) {
     uint64_t index;
-    uint32_t status = goblin_section_by_type(bytes, len, &header, GOBLIN_SHT_SYMTAB, 0, &index, &why);
-    if (status == GOBLIN_END) status = goblin_section_by_type(bytes, len, &header, GOBLIN_SHT_DYNSYM, 0, &index, &why);
-    if (status == GOBLIN_OK) status = goblin_section(bytes, len, &header, index, table, &why);
+    uint32_t status = goblin_section_by_type(bytes, len, &header, GOBLIN_SHT_SYMTAB, 0, &index, table, &why);
+    if (status == GOBLIN_END) status = goblin_section_by_type(bytes, len, &header, GOBLIN_SHT_DYNSYM, 0, &index, table, &why);
     return status == GOBLIN_OK ? goblin_linked_section(bytes, len, &header, table->sh_link, names, &why) : status;
 }
 
 int main(int argc, char **argv) {
-    if (argc < 2 || !(bytes = load(argv[1]))) return fputs("usage: symbolize FILE ADDRESS..\n", stderr), 2;
+    bool one_by_one = argc > 2 && strcmp(argv[1], "-1") == 0;
+    if (argc < 2 + one_by_one) return fputs("usage: symbolize [-1] FILE ADDRESS..\n", stderr), 2;
+    if (!load(argv[1 + one_by_one])) return perror(argv[1 + one_by_one]), 2;
     if (goblin_header(bytes, len, &header, &why) != GOBLIN_OK) return refused("header");
     goblin_section_t table, names;
     uint32_t found = find_table(&table, &names);
+    if (found == GOBLIN_OK && !one_by_one) found = sort_symbols(&table.file);
     if (found > GOBLIN_END) return refused("symbols");
-    for (int i = 2; i < argc; i++) {
+    for (int i = 2 + one_by_one; i < argc; i++) {
         uint64_t address = strtoull(argv[i], NULL, 16), index;
         uint32_t status = found;
         goblin_symbol_t symbol;
         goblin_range_t name;
         if (status == GOBLIN_OK)
-            status = goblin_symbol_by_address(bytes, len, &header, &table.file, address, &index, &why);
+            status = one_by_one ? goblin_symbol_by_address(bytes, len, &header, &table.file, address, &index, &why) : find(address, &index);
         if (status == GOBLIN_OK) status = goblin_symbol(bytes, len, &header, &table.file, index, &symbol, &why);
         if (status == GOBLIN_OK) status = goblin_string_bytes(bytes, len, &names.file, symbol.st_name, &name, &why);
         if (status > GOBLIN_END) return refused("symbols");

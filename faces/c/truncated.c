@@ -1,11 +1,13 @@
 /* Shows what is left of a file that ends in its last section header: truncated FILE
-   It reads the file, and then only as many bytes of it. goblin_section refuses each index of such a file, since one header is not
-   inside it. goblin_section_alone reads the others. */
+   It reads the file, and then only as many bytes of it. Then one section header is not inside the file, so all of them are refused. The
+   header that goblin_whole_header makes counts only the others. */
 #include "goblin.h"
 #include <inttypes.h>
 #include <stdio.h>
 #include <stdlib.h>
 
+static uint8_t *bytes;
+static size_t len;
 static goblin_refusal_t why;
 
 /* Prints the text of the last refusal after its subject. */
@@ -16,41 +18,49 @@ static int refused(FILE *to, const char *subject) {
     return 1;
 }
 
-/* Prints the type of a section, and how many of its bytes are left. */
-static void show(const uint8_t *bytes, size_t len, uint64_t index, const goblin_section_t *section) {
+/* Prints the type of a section, and how many of its bytes are left in the first `end` bytes. */
+static void show(size_t end, uint64_t index, const goblin_section_t *section) {
     char type[64];
     goblin_range_t left;
     goblin_sht_to_str(section->sh_type, type, sizeof type);
     printf("%" PRIu64 " %s: ", index, type);
-    if (goblin_section_bytes(bytes, len, section, &left, &why) == GOBLIN_END) {
+    if (goblin_section_bytes(bytes, end, section, &left, &why) == GOBLIN_END) {
         puts("no bytes");
         return;
     }
-    goblin_range_in_file(bytes, len, &section->file, &left);
+    goblin_range_in_file(bytes, end, &section->file, &left);
     printf("%" PRIu64 " of %" PRIu64 " bytes\n", left.size, section->file.size);
 }
 
-static int list(const uint8_t *bytes, size_t len) {
-    goblin_header_t header;
+static int list(void) {
+    goblin_header_t header, whole;
     goblin_section_t section;
-    goblin_range_t last;
-    uint64_t count = 0, whole = 0;
+    uint64_t count = 0, left = 0;
     if (goblin_header(bytes, len, &header, &why) || goblin_section_count(bytes, len, &header, &count, &why))
         return refused(stderr, "truncated");
-    if (goblin_section_place(bytes, len, &header, count - 1, &last, &why) != GOBLIN_OK) return puts("no section headers") < 0;
-    size_t end = (size_t)(last.offset + last.size / 2);
-    if (goblin_section(bytes, end, &header, 0, &section, &why) > GOBLIN_END) refused(stdout, "all headers");
-    if (goblin_whole_sections(bytes, end, &header, &whole, &why)) return refused(stdout, "the first header");
-    printf("%" PRIu64 " of %" PRIu64 " headers are whole\n", whole, count);
-    for (uint64_t i = 0; goblin_section_alone(bytes, end, &header, i, &section, &why) == GOBLIN_OK; i++) show(bytes, end, i, &section);
+    if (count == 0) return puts("no section headers") < 0;
+    uint64_t size = header.ei_class == GOBLIN_ELFCLASS64 ? GOBLIN_SIZEOF_SHDR64 : GOBLIN_SIZEOF_SHDR32;
+    size_t end = (size_t)(header.e_shoff + count * size - size / 2);
+    if (goblin_section_count(bytes, end, &header, &left, &why) > GOBLIN_END) refused(stdout, "all headers");
+    goblin_whole_header(bytes, end, &header, &whole);
+    if (goblin_section_count(bytes, end, &whole, &left, &why)) return refused(stderr, "truncated");
+    printf("%" PRIu64 " of %" PRIu64 " headers are whole\n", left, count);
+    for (uint64_t i = 0; goblin_section(bytes, end, &whole, i, &section, &why) == GOBLIN_OK; i++) show(end, i, &section);
     return 0;
 }
 
-int main(int argc, char **argv) {
-    FILE *file = argc == 2 ? fopen(argv[1], "rb") : NULL;
-    if (!file || fseek(file, 0, SEEK_END) != 0) return 2;
-    size_t len = (size_t)ftell(file);
-    uint8_t *bytes = malloc(len ? len : 1);
+/* Reads a file, and returns whether all of it is read. */
+static bool load(const char *path) {
+    FILE *file = fopen(path, "rb");
+    long size = file && fseek(file, 0, SEEK_END) == 0 ? ftell(file) : -1;
+    if (size < 0 || !(bytes = (uint8_t *)malloc((size_t)size + 1))) return false;
     rewind(file);
-    return bytes && fread(bytes, 1, len, file) == len ? list(bytes, len) : 2;
+    len = fread(bytes, 1, (size_t)size, file);
+    return fclose(file) == 0 && len == (size_t)size;
+}
+
+int main(int argc, char **argv) {
+    if (argc != 2) return fputs("usage: truncated FILE\n", stderr), 2;
+    if (!load(argv[1])) return perror(argv[1]), 2;
+    return list();
 }

@@ -2,7 +2,11 @@
 #include "goblin.h"
 #include <inttypes.h>
 #include <stdio.h>
+#include <stdlib.h>
+#include <string.h>
 
+static uint8_t *bytes;
+static size_t len;
 static goblin_refusal_t why;
 
 static int refused(void) {
@@ -12,7 +16,7 @@ static int refused(void) {
     return 1;
 }
 
-static int list(const uint8_t *bytes, size_t len) {
+static int list(void) {
     goblin_header_t header;
     goblin_section_t table;
     goblin_symbol_t symbol;
@@ -20,7 +24,8 @@ static int list(const uint8_t *bytes, size_t len) {
     if (goblin_header(bytes, len, &header, &why) != GOBLIN_OK) return refused();
     for (uint64_t i = 0; (status = goblin_section(bytes, len, &header, i, &table, &why)) == GOBLIN_OK; i++) {
         if (table.sh_type != GOBLIN_SHT_SYMTAB && table.sh_type != GOBLIN_SHT_DYNSYM) continue;
-        goblin_section_t strings = {.sh_type = GOBLIN_SHT_NULL};
+        goblin_section_t strings;
+        memset(&strings, 0, sizeof strings);
         if (goblin_linked_section(bytes, len, &header, table.sh_link, &strings, &why) > GOBLIN_END) return refused();
         for (uint64_t k = 0; (status = goblin_symbol(bytes, len, &header, &table.file, k, &symbol, &why)) == GOBLIN_OK; k++) {
             goblin_range_t name = {0, 0};
@@ -32,8 +37,18 @@ static int list(const uint8_t *bytes, size_t len) {
     return status == GOBLIN_END ? 0 : refused();
 }
 
+/* Reads a file, and returns whether all of it is read. */
+static bool load(const char *path) {
+    FILE *file = fopen(path, "rb");
+    long size = file && fseek(file, 0, SEEK_END) == 0 ? ftell(file) : -1;
+    if (size < 0 || !(bytes = (uint8_t *)malloc((size_t)size + 1))) return false;
+    rewind(file);
+    len = fread(bytes, 1, (size_t)size, file);
+    return fclose(file) == 0 && len == (size_t)size;
+}
+
 int main(int argc, char **argv) {
-    static uint8_t bytes[0x1000000];
-    FILE *file = argc == 2 ? fopen(argv[1], "rb") : NULL;
-    return file ? list(bytes, fread(bytes, 1, sizeof bytes, file)) : 2;
+    if (argc != 2) return fputs("usage: values FILE\n", stderr), 2;
+    if (!load(argv[1])) return perror(argv[1]), 2;
+    return list();
 }

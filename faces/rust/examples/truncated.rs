@@ -1,8 +1,8 @@
 //! Shows what is left of an ELF file that ends in its last section header: truncated FILE
 //!
 //! It reads the file, and then only as many bytes of it. One section header of such a file is not inside it, so `section_headers` fails.
-//! `readable_section_headers` returns the others.
-use goblin_rs::section_header::sht_to_str;
+//! `whole` returns a file with the others.
+use goblin_rs::section_header::{section_header32, section_header64, sht_to_str};
 use goblin_rs::Elf;
 use std::process::ExitCode;
 use std::{env, error, ffi, fs};
@@ -11,21 +11,19 @@ fn list(path: &ffi::OsStr) -> Result<(), Box<dyn error::Error>> {
     let bytes = fs::read(path)?;
     let elf = Elf::parse(&bytes)?;
     let count = elf.section_headers()?.len();
-    let last = match elf.section_header_place(count.saturating_sub(1))? {
-        Some(last) => last,
-        None => {
-            println!("no section headers");
-            return Ok(());
-        }
-    };
-    let cut = Elf::parse(&bytes[..last.start + last.len() / 2])?;
-    let (sections, refusal) = cut.readable_section_headers();
-    if let Some(why) = refusal {
+    if count == 0 {
+        println!("no section headers");
+        return Ok(());
+    }
+    let size = if elf.is_64() { section_header64::SIZEOF_SHDR } else { section_header32::SIZEOF_SHDR };
+    let cut = Elf::parse(&bytes[..elf.header.e_shoff as usize + count * size - size / 2])?;
+    if let Err(why) = cut.section_headers() {
         println!("all headers: {why}");
     }
+    let sections = cut.whole().section_headers()?;
     println!("{} of {count} headers are whole", sections.len());
     for (index, section) in sections.iter().enumerate() {
-        let left = match cut.readable_section_data(&section) {
+        let left = match cut.readable_data(&section) {
             Some(left) => format!("{} of {} bytes", left.len(), section.sh_size),
             None => "no bytes".to_string(),
         };

@@ -144,7 +144,7 @@ pub enum Kind {
         /// True.
         overflow: bool,
     },
-    /// A number does not fit.
+    /// A number that is to be written does not fit its bytes, or a relocation has an addend where its section has none, or the reverse.
     IntegerFit,
     /// A section was read as symbols or relocations, and has another type.
     SectionType {
@@ -206,9 +206,8 @@ impl Error {
     }
 
     /// Returns where in the file the thing begins that is refused: 0 for the header, the offset of a list of headers, of a table or of
-    /// a string table, or that of the string, the note or the bytes. For a header in a list it is the list's offset. Only
-    /// [`section_header_alone`](crate::Elf::section_header_alone) and
-    /// [`program_header_alone`](crate::Elf::program_header_alone) fail with the offset of the header that is not inside the file.
+    /// a string table, or that of the string, the note, the bytes, or the record that is to be written. For a header that is read of a list
+    /// it is the list's offset.
     pub fn offset(&self) -> u64 {
         self.0.offset
     }

@@ -1,7 +1,12 @@
 //! The header of a file, its constants, and the names of its numbers.
 pub use crate::constants::header::*;
+use crate::error::{Error, Result, RELOCATIONS, SYMBOLS};
 use crate::names::Name;
+use crate::program_header::ProgramHeader;
 pub use crate::raw::Header;
+use crate::reloc::{holds_relocs, Reloc};
+use crate::section_header::{SectionHeader, SHT_DYNSYM, SHT_RELA, SHT_SYMTAB};
+use crate::sym::Sym;
 use crate::sys;
 
 impl Header {
@@ -13,6 +18,83 @@ impl Header {
     /// Reports whether the file is little endian. Any byte order but 2 counts as little endian.
     pub fn little_endian(&self) -> bool {
         self.ei_data != ELFDATA2MSB
+    }
+}
+
+/// The calls that write. Each changes the bytes of its record in a file's bytes, in the class and byte order of this header, and no others.
+/// What is written is read again as the same record, unless section 0 has the number of headers and the call changes it.
+///
+/// ```
+/// use goblin_rs::section_header::SHF_WRITE;
+/// use goblin_rs::Elf;
+///
+/// # fn main() -> Result<(), Box<dyn std::error::Error>> {
+/// # let mut bytes = std::fs::read(std::env::current_exe()?)?;
+/// let elf = Elf::parse(&bytes)?;
+/// let (header, found) = (elf.header, elf.section_by_name(".text", 0)?);
+/// let (index, mut section) = found.ok_or("no .text")?;
+/// section.sh_flags |= SHF_WRITE;
+/// header.put_section_header(&mut bytes, index, &section)?;
+/// assert_eq!(Elf::parse(&bytes)?.section_header(index)?, Some(section));
+/// # Ok(())
+/// # }
+/// ```
+impl Header {
+    /// Writes this header at the start of a file's bytes, in the class and byte order that it names. Writes the magic number, too, and leaves
+    /// the padding, the bytes 9 to 15.
+    ///
+    /// # Errors
+    /// If the class or the byte order is neither 1 nor 2, if there are too few bytes, or if a number does not fit the class.
+    pub fn put(&self, bytes: &mut [u8]) -> Result<()> {
+        sys::goblin_put_header(bytes, self).map(|_| ())
+    }
+
+    /// Writes the section header at an index. Returns `false`, and writes nothing, past the end.
+    ///
+    /// # Errors
+    /// If the section headers are not inside the bytes, or if a number does not fit the class.
+    pub fn put_section_header(&self, bytes: &mut [u8], index: usize, section: &SectionHeader) -> Result<bool> {
+        sys::goblin_put_section(bytes, self, index as u64, section)
+    }
+
+    /// Writes the program header at an index. Returns `false`, and writes nothing, past the end.
+    ///
+    /// # Errors
+    /// If the program headers are not inside the bytes, or if a number does not fit the class.
+    pub fn put_program_header(&self, bytes: &mut [u8], index: usize, segment: &ProgramHeader) -> Result<bool> {
+        sys::goblin_put_segment(bytes, self, index as u64, segment)
+    }
+
+    /// Writes the symbol at an index of a section of type `SHT_SYMTAB` or `SHT_DYNSYM`. Returns `false`, and writes nothing, past the end.
+    ///
+    /// # Errors
+    /// If the section has another type, if the symbols are not inside the bytes, or if a number does not fit the class.
+    pub fn put_symbol(&self, bytes: &mut [u8], section: &SectionHeader, index: usize, symbol: &Sym) -> Result<bool> {
+        if ![SHT_SYMTAB, SHT_DYNSYM].contains(&section.sh_type) {
+            return Err(Error::section_type(section, SYMBOLS));
+        }
+        sys::goblin_put_symbol(bytes, self, &section.range(), index as u64, symbol)
+    }
+
+    /// Writes the relocation at an index of a section of type `SHT_RELA` or `SHT_REL`. Returns `false`, and writes nothing, past the end.
+    ///
+    /// # Errors
+    /// If the section has another type, if the relocations are not inside the bytes, if a number does not fit the class, or if the relocation
+    /// has an addend and those of the section have none, or the reverse.
+    pub fn put_reloc(&self, bytes: &mut [u8], section: &SectionHeader, index: usize, reloc: &Reloc) -> Result<bool> {
+        if !holds_relocs(section) {
+            return Err(Error::section_type(section, RELOCATIONS));
+        }
+        sys::goblin_put_reloc(bytes, self, &section.range(), section.sh_type == SHT_RELA, index as u64, &(*reloc).into())
+    }
+
+    /// Writes a number of `width` bytes at an offset, in the file's byte order. Returns `false`, and writes nothing, if the width is not 1, 2,
+    /// 4 or 8.
+    ///
+    /// # Errors
+    /// If the bytes at the offset are not inside the file, or if the number does not fit.
+    pub fn put_number(&self, bytes: &mut [u8], offset: u64, width: usize, value: u64) -> Result<bool> {
+        sys::goblin_put_number(bytes, self, offset, width as u64, value)
     }
 }
 

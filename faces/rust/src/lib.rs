@@ -22,16 +22,18 @@
 //!
 //! # Files that are cut
 //! The call for a whole fails if a part of it is not inside the file. [`Error::offset`] is where the whole begins, such as the list of
-//! headers. Of notes it is where the damaged note begins. The calls whose names begin with `readable_` never fail: they return what is
-//! left of headers, notes, or the bytes of a section or a segment. The example `truncated` shows them.
-//!
-//! `readable_section_headers().0.len()` is the index of the first header that is cut, if one is. [`Elf::section_header_alone`] of that
-//! index fails, and [`Error::offset`] is then where this header begins.
+//! headers. Of notes it is where the damaged note begins. [`Elf::whole`] returns the same file with only the headers that are whole inside
+//! it: its lists of headers, and searches in them, never fail for the list. The calls whose names begin with `readable_` never fail: they
+//! return what is left of notes, or of the bytes of a section or a segment. The example `truncated` shows them.
 //!
 //! # Headers that a program makes
-//! A header that a call takes need not be one of the file. [`Elf::strtab`], [`Elf::section_data`], [`Elf::section_number`] and
+//! A header that a call takes need not be one of the file. [`Elf::strtab`], [`Elf::section_data`], [`Elf::number_in`] and
 //! [`Elf::relocs`] read only `sh_type`, `sh_offset` and `sh_size`. [`Elf::symtab`] also reads `sh_link`, and the calls for notes
 //! `sh_addralign`. So a string table can be read at any offset: `elf.strtab(&SectionHeader { sh_offset, sh_size, ..section })`.
+//!
+//! # Writing
+//! The calls of [`header::Header`] whose names begin with `put` change a record in a `&mut [u8]`. What they write reads as the same record,
+//! and no other byte changes, which is proved.
 //!
 //! # Coming from goblin
 //! Here each part of the file is read on demand, which can fail, and a list is not a slice. So some lines that work with goblin don't
@@ -107,6 +109,7 @@
 #![deny(missing_docs, unsafe_code)]
 #![warn(clippy::missing_errors_doc)]
 
+mod address_map;
 mod constants;
 pub mod elf;
 pub mod error;
@@ -115,6 +118,7 @@ pub mod header;
 pub mod items;
 pub mod names;
 pub mod note;
+mod part;
 pub mod program_header;
 mod raw;
 pub mod reloc;
@@ -127,3 +131,4 @@ mod sys;
 pub use elf::Elf;
 pub use error::{Error, Kind, Result};
 pub use names::Name;
+pub use part::Part;

@@ -86,7 +86,7 @@ pub trait AnyNote<'a>: Copy {
 
 impl<'a> AnyNote<'a> for Note<'a> {
     fn read(notes: &Notes<'a, Self>, offset: u64) -> Result<Option<raw::Note>> {
-        sys::goblin_c_note(&notes.file, &notes.header, &notes.range, notes.alignment, offset)
+        sys::goblin_note(&notes.file, &notes.header, &notes.range, notes.alignment, offset)
     }
 
     fn new(file: File<'a>, note: raw::Note) -> Self {
@@ -96,7 +96,7 @@ impl<'a> AnyNote<'a> for Note<'a> {
 
 impl<'a> AnyNote<'a> for NoteBytes<'a> {
     fn read(notes: &Notes<'a, Self>, offset: u64) -> Result<Option<raw::Note>> {
-        sys::goblin_c_note_bytes(&notes.file, &notes.header, &notes.range, notes.alignment, offset)
+        sys::goblin_note_bytes(&notes.file, &notes.header, &notes.range, notes.alignment, offset)
     }
 
     fn new(file: File<'a>, note: raw::Note) -> Self {
@@ -247,7 +247,7 @@ impl<'a> NoteIterator<'a> {
         loop {
             let (elf, index) = (&self.elf, self.next);
             let notes = match &self.holders {
-                Holders::Segments(all) => all.get(index).map(|h| (h.p_type == PT_NOTE).then(|| elf.segment_notes(&h))),
+                Holders::Segments(all) => all.get(index).map(|h| (h.p_type == PT_NOTE).then(|| elf.notes(&h))),
                 Holders::Sections(all) => all.get(index).map(|h| (h.sh_type == SHT_NOTE).then(|| elf.notes(&h))),
             }?;
             self.next += 1;

@@ -1,8 +1,8 @@
 //! Program headers, their constants, and the names of their numbers.
 pub use crate::constants::program_header::*;
 use crate::elf::Elf;
-use crate::error::{Error, Result};
-use crate::items::{fill_each, made, table, Items, List};
+use crate::error::Result;
+use crate::items::{fill_each, table, Items, List};
 use crate::names::Name;
 pub use crate::raw::ProgramHeader;
 use crate::section_header::{SectionHeader, SHF_TLS, SHT_NOBITS};
@@ -94,8 +94,6 @@ impl ProgramHeader {
 pub struct ProgramHeaders<'a> {
     elf: Elf<'a>,
     count: u64,
-    // Whether these are only the headers that are inside the file.
-    is_part: bool,
 }
 
 /// An iterator over program headers.
@@ -103,14 +101,8 @@ pub type ProgramHeaderIterator<'a> = Items<ProgramHeaders<'a>>;
 
 impl<'a> ProgramHeaders<'a> {
     pub(crate) fn of(elf: Elf<'a>) -> Result<Self> {
-        let count = sys::goblin_c_segment_count(&elf.file, &elf.header)?;
-        Ok(ProgramHeaders { elf, count: count.expect("headers that are not refused have a count"), is_part: false })
-    }
-
-    /// Returns the headers that are inside the file, and the error if these are not all.
-    pub(crate) fn readable(elf: Elf<'a>) -> (Self, Option<Error>) {
-        let part = || made(sys::goblin_c_whole_segments(&elf.file, &elf.header)).unwrap_or(0);
-        Self::of(elf).map_or_else(|e| (ProgramHeaders { elf, count: part(), is_part: true }, Some(e)), |all| (all, None))
+        let count = sys::goblin_segment_count(&elf.file, &elf.header)?;
+        Ok(ProgramHeaders { elf, count: count.expect("headers that are not refused have a count") })
     }
 }
 
@@ -131,11 +123,7 @@ impl List for ProgramHeaders<'_> {
 
     #[inline]
     fn read(&self, index: u64) -> Result<Option<ProgramHeader>> {
-        match self.is_part {
-            false => sys::goblin_c_segment(&self.elf.file, &self.elf.header, index),
-            true if index < self.count => sys::goblin_c_segment_alone(&self.elf.file, &self.elf.header, index),
-            true => Ok(None),
-        }
+        sys::goblin_segment(&self.elf.file, &self.elf.header, index)
     }
 
     fn fill(&self, first: u64, items: &mut [ProgramHeader]) -> Result<Option<u64>> {

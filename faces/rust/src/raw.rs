@@ -56,7 +56,7 @@ records! {
         e_ehsize: u16,
         /// The size of a program header that the file states. The size that is read depends on the class alone.
         e_phentsize: u16,
-        /// The number of program headers.
+        /// The number of program headers. If it is 0xffff, the first section's `sh_info` has the number.
         e_phnum: u16,
         /// The size of a section header that the file states. The size that is read depends on the class alone.
         e_shentsize: u16,

@@ -39,6 +39,18 @@ impl From<raw::Reloc> for Reloc {
     }
 }
 
+impl From<Reloc> for raw::Reloc {
+    fn from(r: Reloc) -> Self {
+        raw::Reloc {
+            r_offset: r.r_offset,
+            r_sym: r.r_sym as u64,
+            r_addend: r.r_addend.unwrap_or(0),
+            r_type: r.r_type,
+            has_addend: r.r_addend.is_some().into(),
+        }
+    }
+}
+
 /// The relocations of a section.
 ///
 /// ```
@@ -69,7 +81,7 @@ pub type RelocIterator<'a> = Items<RelocSection<'a>>;
 impl<'a> RelocSection<'a> {
     pub(crate) fn of(elf: &Elf<'a>, range: raw::Range, is_rela: bool) -> Result<Self> {
         let Elf { file, header } = *elf;
-        let count = sys::goblin_c_reloc_count(&file, &header, &range, is_rela)?;
+        let count = sys::goblin_reloc_count(&file, &header, &range, is_rela)?;
         Ok(RelocSection { file, header, range, is_rela, count: count.expect("a section that is not refused has a count") })
     }
 }
@@ -91,11 +103,11 @@ impl List for RelocSection<'_> {
 
     #[inline]
     fn read(&self, index: u64) -> Result<Option<raw::Reloc>> {
-        sys::goblin_c_reloc(&self.file, &self.header, &self.range, self.is_rela, index)
+        sys::goblin_reloc(&self.file, &self.header, &self.range, self.is_rela, index)
     }
 
     fn fill(&self, first: u64, items: &mut [raw::Reloc]) -> Result<Option<u64>> {
-        sys::goblin_c_relocs(&self.file, &self.header, &self.range, self.is_rela, first, items)
+        sys::goblin_relocs(&self.file, &self.header, &self.range, self.is_rela, first, items)
     }
 }
 

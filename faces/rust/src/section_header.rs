@@ -1,8 +1,8 @@
 //! Section headers, their constants, and the names of their numbers.
 pub use crate::constants::section_header::*;
 use crate::elf::Elf;
-use crate::error::{Error, Result};
-use crate::items::{fill_each, table, Items, List};
+use crate::error::Result;
+use crate::items::{table, Items, List};
 use crate::names::Name;
 pub use crate::raw::SectionHeader;
 use crate::{raw, sys};
@@ -71,8 +71,6 @@ impl SectionHeader {
 pub struct SectionHeaders<'a> {
     elf: Elf<'a>,
     count: u64,
-    // Whether these are only the headers that are inside the file.
-    is_part: bool,
 }
 
 /// An iterator over section headers.
@@ -80,15 +78,8 @@ pub type SectionHeaderIterator<'a> = Items<SectionHeaders<'a>>;
 
 impl<'a> SectionHeaders<'a> {
     pub(crate) fn of(elf: Elf<'a>) -> Result<Self> {
-        let count = sys::goblin_c_section_count(&elf.file, &elf.header)?;
-        Ok(SectionHeaders { elf, count: count.expect("headers that are not refused have a count"), is_part: false })
-    }
-
-    /// Returns the headers that are inside the file, and the error if these are not all.
-    pub(crate) fn readable(elf: Elf<'a>) -> (Self, Option<Error>) {
-        // (if the first header has the number of headers, and is not inside the file, then none is)
-        let part = || sys::goblin_c_whole_sections(&elf.file, &elf.header).ok().flatten().unwrap_or(0);
-        Self::of(elf).map_or_else(|e| (SectionHeaders { elf, count: part(), is_part: true }, Some(e)), |all| (all, None))
+        let count = sys::goblin_section_count(&elf.file, &elf.header)?;
+        Ok(SectionHeaders { elf, count: count.expect("headers that are not refused have a count") })
     }
 }
 
@@ -109,18 +100,11 @@ impl List for SectionHeaders<'_> {
 
     #[inline]
     fn read(&self, index: u64) -> Result<Option<SectionHeader>> {
-        match self.is_part {
-            false => sys::goblin_c_section(&self.elf.file, &self.elf.header, index),
-            true if index < self.count => sys::goblin_c_section_alone(&self.elf.file, &self.elf.header, index),
-            true => Ok(None),
-        }
+        sys::goblin_section(&self.elf.file, &self.elf.header, index)
     }
 
     fn fill(&self, first: u64, items: &mut [SectionHeader]) -> Result<Option<u64>> {
-        match self.is_part {
-            false => sys::goblin_c_sections(&self.elf.file, &self.elf.header, first, items),
-            true => fill_each(self, first, items),
-        }
+        sys::goblin_sections(&self.elf.file, &self.elf.header, first, items)
     }
 }
 

@@ -1,4 +1,5 @@
 //! Symbols, their constants, and the names of their numbers.
+pub use crate::address_map::AddressMap;
 pub use crate::constants::sym::*;
 use crate::elf::Elf;
 use crate::error::Result;
@@ -8,7 +9,6 @@ use crate::names::Name;
 pub use crate::raw::Sym;
 use crate::strtab::Strtab;
 use crate::{raw, sys};
-use std::ops::Range;
 
 impl Sym {
     /// Returns the binding.
@@ -93,7 +93,7 @@ pub type SymIterator<'a> = Items<Symtab<'a>>;
 impl<'a> Symtab<'a> {
     pub(crate) fn of(elf: &Elf<'a>, range: raw::Range, strtab: Strtab<'a>) -> Result<Self> {
         let Elf { file, header } = *elf;
-        let count = sys::goblin_c_symbol_count(&file, &header, &range)?;
+        let count = sys::goblin_symbol_count(&file, &header, &range)?;
         Ok(Symtab { file, header, range, count: count.expect("a table that is not refused has a count"), strtab })
     }
 
@@ -120,71 +120,23 @@ impl<'a> Symtab<'a> {
         self.strtab.get_bytes(symbol.st_name)
     }
 
-    /// Reports whether the name of a symbol is a text, such as a `str` or bytes, as [`Strtab::is`] does.
-    ///
-    /// ```
-    /// # fn main() -> Result<(), Box<dyn std::error::Error>> {
-    /// # let bytes = std::fs::read(std::env::current_exe()?)?;
-    /// let elf = goblin_rs::Elf::parse(&bytes)?;
-    /// if let Some(symbols) = elf.syms()? {
-    ///     for symbol in symbols {
-    ///         if symbols.name_is(&symbol, "main")? {
-    ///             println!("{:x}", symbol.st_value);
-    ///         }
-    ///     }
-    /// }
-    /// # Ok(())
-    /// # }
-    /// ```
-    ///
-    /// # Errors
-    /// If the string table is not inside the file.
-    #[inline]
-    pub fn name_is(&self, symbol: &Sym, text: impl AsRef<[u8]>) -> Result<bool> {
-        self.strtab.is(symbol.st_name, text)
-    }
-
-    /// Returns the range of the symbol at an index, or `None` past the end. See [`Elf::section_header_place`].
-    ///
-    /// ```
-    /// # fn main() -> Result<(), Box<dyn std::error::Error>> {
-    /// # let bytes = std::fs::read(std::env::current_exe()?)?;
-    /// let elf = goblin_rs::Elf::parse(&bytes)?;
-    /// if let Some(symbols) = elf.syms()? {
-    ///     let (first, second) = (symbols.place(0).ok_or("no symbol")?, symbols.place(1).ok_or("no symbol")?);
-    ///     assert_eq!((first.end, first.len()), (second.start, if elf.is_64() { 24 } else { 16 }));
-    ///     assert_eq!(symbols.place(symbols.len()), None);
-    /// }
-    /// # Ok(())
-    /// # }
-    /// ```
-    pub fn place(&self, index: usize) -> Option<Range<usize>> {
-        let place = sys::goblin_c_symbol_place(&self.file, &self.header, &self.range, index as u64);
-        made(place).map(Range::from)
-    }
-
-    /// Returns the index of the symbol for an address: the one with the highest `st_value` that is not above the address. Of those with
-    /// the same `st_value` it is the first for which `address < st_value + st_size`, or the first if there is no such symbol.
+    /// Returns the index of the symbol that contains an address: of those with `st_value <= address < st_value + st_size` the one with the
+    /// highest `st_value`, the first of several. These sums do not wrap around. If there is none, it is the first of size 0, as labels of
+    /// assembly have, among the symbols with the highest `st_value` that is not above the address.
     ///
     /// Only symbols of a section count, whose `st_shndx` is from 1 to 0xfeff, or 0xffff (`SHN_XINDEX`). And only those of type
-    /// `STT_NOTYPE`, `STT_OBJECT`, `STT_FUNC` or `STT_GNU_IFUNC` count.
+    /// `STT_NOTYPE`, `STT_OBJECT`, `STT_FUNC` or `STT_GNU_IFUNC` count. In a file of type `ET_REL` an `st_value` is an offset in a section,
+    /// so symbols of different sections mix.
     ///
-    /// The symbol may end before the address: compare `st_value + st_size` with it, if `st_size` is not 0. If a symbol lies inside
-    /// another one, an address after the end of the inner symbol gives the inner one, too. In a file of type `ET_REL` an `st_value` is
-    /// an offset in a section, so symbols of different sections mix.
-    ///
-    /// Each call reads all symbols: for many addresses use [`Symtab::address_index`].
+    /// Each call reads all symbols: for many addresses use [`Symtab::address_map`].
     pub fn at(&self, address: u64) -> Option<usize> {
-        let index = sys::goblin_c_symbol_by_address(&self.file, &self.header, &self.range, address);
+        let index = sys::goblin_symbol_by_address(&self.file, &self.header, &self.range, address);
         made(index).map(|index| index as usize)
     }
 
-    /// Returns an index of the addresses, for many searches.
-    pub fn address_index(&self) -> AddressIndex<'a> {
-        let mut indices = vec![0; self.len()];
-        let filled = made(sys::goblin_c_address_index(&self.file, &self.header, &self.range, &mut indices));
-        indices.truncate(filled.expect("an array with an entry for each symbol is not too short") as usize);
-        AddressIndex { symbols: *self, indices }
+    /// Returns a sorted map of the addresses, for many searches. It is not proved.
+    pub fn address_map(&self) -> AddressMap<'a> {
+        AddressMap::of(*self)
     }
 
     /// Returns the index of the first symbol with a name.
@@ -193,7 +145,7 @@ impl<'a> Symtab<'a> {
     /// If the string table is not inside the file.
     pub fn find(&self, name: &str) -> Result<Option<usize>> {
         let names = &self.strtab.range;
-        let index = sys::goblin_c_symbol_by_name(&self.file, &self.header, &self.range, names, name.as_bytes())?;
+        let index = sys::goblin_symbol_by_name(&self.file, &self.header, &self.range, names, name.as_bytes())?;
         Ok(index.map(|index| index as usize))
     }
 }
@@ -215,50 +167,11 @@ impl List for Symtab<'_> {
 
     #[inline]
     fn read(&self, index: u64) -> Result<Option<Sym>> {
-        sys::goblin_c_symbol(&self.file, &self.header, &self.range, index)
+        sys::goblin_symbol(&self.file, &self.header, &self.range, index)
     }
 
     fn fill(&self, first: u64, items: &mut [Sym]) -> Result<Option<u64>> {
-        sys::goblin_c_symbols(&self.file, &self.header, &self.range, first, items)
-    }
-}
-
-/// An index of the addresses of a symbol table, for many searches. It finds what [`Symtab::at`] finds, and reads a few symbols for each
-/// binary digit of their number, where `at` reads all of them.
-///
-/// ```
-/// # fn main() -> Result<(), Box<dyn std::error::Error>> {
-/// # let bytes = std::fs::read(std::env::current_exe()?)?;
-/// let elf = goblin_rs::Elf::parse(&bytes)?;
-/// if let Some(symbols) = elf.syms()? {
-///     let index = symbols.address_index();
-///     for address in [elf.entry(), elf.entry() + 4] {
-///         if let Some(symbol) = index.symbol(address) {
-///             println!("{address:x} {}+{:#x}", symbols.name(&symbol)?.unwrap_or("?"), address - symbol.st_value);
-///         }
-///         assert_eq!(index.at(address), symbols.at(address));
-///     }
-/// }
-/// # Ok(())
-/// # }
-/// ```
-#[derive(Clone, Debug)]
-pub struct AddressIndex<'a> {
-    symbols: Symtab<'a>,
-    // The indices of symbols, as the library has put them in order.
-    indices: Vec<u64>,
-}
-
-impl AddressIndex<'_> {
-    /// Returns the index of the symbol for an address, as [`Symtab::at`] does.
-    pub fn at(&self, address: u64) -> Option<usize> {
-        let Symtab { file, header, range, .. } = &self.symbols;
-        made(sys::goblin_c_symbol_by_address_in(file, header, range, &self.indices, address)).map(|index| index as usize)
-    }
-
-    /// Returns the symbol for an address, whose index [`AddressIndex::at`] returns.
-    pub fn symbol(&self, address: u64) -> Option<Sym> {
-        self.symbols.get(self.at(address)?)
+        sys::goblin_symbols(&self.file, &self.header, &self.range, first, items)
     }
 }
 

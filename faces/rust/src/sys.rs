@@ -7,96 +7,121 @@ use crate::file::File;
 use crate::raw::{Header, Note, ProgramHeader, Range, Refusal, Reloc, SectionHeader, Sym};
 use std::str;
 
-// A call takes the file's bytes and further arguments: after `by` a slice to read, after `from` one more number, after `into` an array to
-// fill. It returns an item (the number of items that were filled, for an array), `None` for GOBLIN_END, or the error for a refusal.
+// A call takes the file's bytes and further arguments: after `by` a slice to read, after `into` an array to fill. It returns an item (the
+// number of items that were filled, for an array), `None` for GOBLIN_END, or the error for a refusal.
 macro_rules! calls {
-    ($(fn $name:ident($($given:ident: $type:ty),*) $(by $by:ident: [$part:ty])? $(from $from:ident)? $(into [$each:ty])? -> $item:ty;)*) => {$(
+    ($(fn $name:ident($($given:ident: $type:ty),*) $(by $by:ident)? $(into [$each:ty])? -> $item:ty;)*) => {$(
         #[inline]
-        pub fn $name(bytes: &[u8] $(, $given: $type)* $(, $by: &[$part])? $(, $from: u64)? $(, items: &mut [$each])?)
-            -> Result<Option<$item>> {
+        pub fn $name(bytes: &[u8] $(, $given: $type)* $(, $by: &[u8])? $(, items: &mut [$each])?) -> Result<Option<$item>> {
             extern "C" {
-                fn $name(bytes: *const u8, len: usize $(, $given: $type)* $(, $by: *const $part, _: usize)? $(, $from: u64)?
+                fn $name(bytes: *const u8, len: usize $(, $given: $type)* $(, $by: *const u8, _: usize)?
                     $(, items: *mut $each, _: usize)?, item: *mut $item, why: *mut Refusal) -> u32;
             }
             let (mut item, mut why) = <($item, Refusal)>::default();
             // SAFETY: each pointer of a slice is passed with the slice's length. `item` and `why` are this function's own, and all
             // references and slices outlive the call. It writes only numbers.
             let status = unsafe {
-                $name(bytes.as_ptr(), bytes.len() $(, $given)* $(, $by.as_ptr(), $by.len())? $(, $from)?
+                $name(bytes.as_ptr(), bytes.len() $(, $given)* $(, $by.as_ptr(), $by.len())?
                     $(, items.as_mut_ptr() as *mut $each, items.len())?, &mut item, &mut why)
             };
-            match status {
-                0 => Ok(Some(item)),
-                1 => Ok(None),
-                _ => Err(Error::new(why)),
-            }
+            result(status, item, why)
         }
     )*};
+}
+
+// Returns what a call has written.
+#[inline]
+fn result<T>(status: u32, item: T, why: Refusal) -> Result<Option<T>> {
+    match status {
+        0 => Ok(Some(item)),
+        1 => Ok(None),
+        _ => Err(Error::new(why)),
+    }
 }
 
 calls! {
-    fn goblin_c_header() -> Header;
-    fn goblin_c_section_count(header: &Header) -> u64;
-    fn goblin_c_section(header: &Header, index: u64) -> SectionHeader;
-    fn goblin_c_section_alone(header: &Header, index: u64) -> SectionHeader;
-    fn goblin_c_section_place(header: &Header, index: u64) -> Range;
-    fn goblin_c_whole_sections(header: &Header) -> u64;
-    fn goblin_c_sections(header: &Header, first: u64) into [SectionHeader] -> u64;
-    fn goblin_c_linked_section(header: &Header, index: u64) -> SectionHeader;
-    fn goblin_c_section_names(header: &Header) -> SectionHeader;
-    fn goblin_c_section_by_name(header: &Header, names: &Range) by name: [u8] from first -> u64;
-    fn goblin_c_bytes_by_name(header: &Header, names: &Range) by name: [u8] -> Range;
-    fn goblin_c_segment(header: &Header, index: u64) -> ProgramHeader;
-    fn goblin_c_section_by_type(header: &Header, sh_type: u32, first: u64) -> u64;
-    fn goblin_c_section_bytes(section: &SectionHeader) -> Range;
-    fn goblin_c_segment_alone(header: &Header, index: u64) -> ProgramHeader;
-    fn goblin_c_segment_place(header: &Header, index: u64) -> Range;
-    fn goblin_c_whole_segments(header: &Header) -> u64;
-    fn goblin_c_segment_count(header: &Header) -> u64;
-    fn goblin_c_segment_bytes(segment: &ProgramHeader) -> Range;
-    fn goblin_c_address_to_offset(header: &Header, address: u64) -> u64;
-    fn goblin_c_symbol_count(header: &Header, table: &Range) -> u64;
-    fn goblin_c_symbol_place(header: &Header, table: &Range, index: u64) -> Range;
-    fn goblin_c_reloc_count(header: &Header, relocs: &Range, is_rela: bool) -> u64;
-    fn goblin_c_string_bytes(strings: &Range, offset: u64) -> Range;
-    fn goblin_c_number(header: &Header, offset: u64, width: u64) -> u64;
-    fn goblin_c_number_in(header: &Header, range: &Range, offset: u64, width: u64) -> u64;
-    fn goblin_c_symbol(header: &Header, table: &Range, index: u64) -> Sym;
-    fn goblin_c_symbols(header: &Header, table: &Range, first: u64) into [Sym] -> u64;
-    fn goblin_c_symbol_by_name(header: &Header, table: &Range, names: &Range) by name: [u8] -> u64;
-    fn goblin_c_symbol_by_address(header: &Header, table: &Range, address: u64) -> u64;
-    fn goblin_c_address_index(header: &Header, table: &Range) into [u64] -> u64;
-    fn goblin_c_symbol_by_address_in(header: &Header, table: &Range) by index: [u64] from address -> u64;
-    fn goblin_c_reloc(header: &Header, relocs: &Range, is_rela: bool, index: u64) -> Reloc;
-    fn goblin_c_relocs(header: &Header, relocs: &Range, is_rela: bool, first: u64) into [Reloc] -> u64;
-    fn goblin_c_note(header: &Header, notes: &Range, alignment: u64, offset: u64) -> Note;
-    fn goblin_c_note_bytes(header: &Header, notes: &Range, alignment: u64, offset: u64) -> Note;
-    fn goblin_c_string(strings: &Range, offset: u64) -> Range;
+    fn goblin_header() -> Header;
+    fn goblin_section_count(header: &Header) -> u64;
+    fn goblin_section(header: &Header, index: u64) -> SectionHeader;
+    fn goblin_sections(header: &Header, first: u64) into [SectionHeader] -> u64;
+    fn goblin_linked_section(header: &Header, index: u64) -> SectionHeader;
+    fn goblin_section_names(header: &Header) -> SectionHeader;
+    fn goblin_segment(header: &Header, index: u64) -> ProgramHeader;
+    fn goblin_section_bytes(section: &SectionHeader) -> Range;
+    fn goblin_segment_count(header: &Header) -> u64;
+    fn goblin_segment_bytes(segment: &ProgramHeader) -> Range;
+    fn goblin_address_to_offset(header: &Header, address: u64) -> u64;
+    fn goblin_symbol_count(header: &Header, table: &Range) -> u64;
+    fn goblin_reloc_count(header: &Header, relocs: &Range, is_rela: bool) -> u64;
+    fn goblin_string_bytes(strings: &Range, offset: u64) -> Range;
+    fn goblin_number(header: &Header, offset: u64, width: u64) -> u64;
+    fn goblin_number_in(header: &Header, range: &Range, offset: u64, width: u64) -> u64;
+    fn goblin_symbol(header: &Header, table: &Range, index: u64) -> Sym;
+    fn goblin_symbols(header: &Header, table: &Range, first: u64) into [Sym] -> u64;
+    fn goblin_symbol_by_name(header: &Header, table: &Range, names: &Range) by name -> u64;
+    fn goblin_symbol_by_address(header: &Header, table: &Range, address: u64) -> u64;
+    fn goblin_reloc(header: &Header, relocs: &Range, is_rela: bool, index: u64) -> Reloc;
+    fn goblin_relocs(header: &Header, relocs: &Range, is_rela: bool, first: u64) into [Reloc] -> u64;
+    fn goblin_note(header: &Header, notes: &Range, alignment: u64, offset: u64) -> Note;
+    fn goblin_note_bytes(header: &Header, notes: &Range, alignment: u64, offset: u64) -> Note;
+    fn goblin_string(strings: &Range, offset: u64) -> Range;
 }
 
-// A call reports whether the string at an offset of a string table is a text, or begins with it.
-macro_rules! tests_of_strings {
-    ($(fn $name:ident;)*) => {$(
+// A call finds the first section of some kind from an index on. It returns the index and the header.
+macro_rules! searches {
+    ($(fn $name:ident($given:ident: $type:ty $(, by $by:ident)?);)*) => {$(
         #[inline]
-        pub fn $name(bytes: &[u8], strings: &Range, offset: u64, text: &[u8]) -> Result<bool> {
+        pub fn $name(bytes: &[u8], header: &Header, $given: $type $(, $by: &[u8])?, first: u64) -> Result<Option<(u64, SectionHeader)>> {
             extern "C" {
-                fn $name(bytes: *const u8, len: usize, strings: &Range, offset: u64, text: *const u8, text_len: usize, why: *mut Refusal) -> u32;
+                fn $name(bytes: *const u8, len: usize, header: &Header, $given: $type $(, $by: *const u8, _: usize)?, first: u64,
+                    index: *mut u64, section: *mut SectionHeader, why: *mut Refusal) -> u32;
             }
-            let mut why = Refusal::default();
-            // SAFETY: each pointer of a slice is passed with the slice's length. `why` is this function's own, and all outlive the call.
-            let status = unsafe { $name(bytes.as_ptr(), bytes.len(), strings, offset, text.as_ptr(), text.len(), &mut why) };
-            match status {
-                0 => Ok(true),
-                1 => Ok(false),
-                _ => Err(Error::new(why)),
-            }
+            let (mut index, mut section, mut why) = <(u64, SectionHeader, Refusal)>::default();
+            // SAFETY: each pointer of a slice is passed with the slice's length. The results are this function's own, and all references
+            // and slices outlive the call. It writes only numbers.
+            let status = unsafe {
+                $name(bytes.as_ptr(), bytes.len(), header, $given $(, $by.as_ptr(), $by.len())?, first, &mut index, &mut section, &mut why)
+            };
+            result(status, (index, section), why)
         }
     )*};
 }
 
-tests_of_strings! {
-    fn goblin_c_string_is;
-    fn goblin_c_string_starts;
+searches! {
+    fn goblin_section_by_name(names: &Range, by name);
+    fn goblin_section_by_type(sh_type: u32);
+}
+
+// A call writes a record into a file's bytes. It returns whether there is one.
+macro_rules! writes {
+    ($(fn $name:ident($($given:ident: $type:ty),*);)*) => {$(
+        pub fn $name(bytes: &mut [u8], header: &Header $(, $given: $type)*) -> Result<bool> {
+            extern "C" { fn $name(bytes: *mut u8, len: usize, header: &Header $(, $given: $type)*, why: *mut Refusal) -> u32; }
+            let mut why = Refusal::default();
+            // SAFETY: the pointer of the slice is passed with the slice's length. `why` is this function's own, and all references and
+            // slices outlive the call. It writes only numbers.
+            let status = unsafe { $name(bytes.as_mut_ptr(), bytes.len(), header $(, $given)*, &mut why) };
+            result(status, (), why).map(|written| written.is_some())
+        }
+    )*};
+}
+
+writes! {
+    fn goblin_put_header();
+    fn goblin_put_section(index: u64, section: &SectionHeader);
+    fn goblin_put_segment(index: u64, segment: &ProgramHeader);
+    fn goblin_put_symbol(table: &Range, index: u64, symbol: &Sym);
+    fn goblin_put_reloc(table: &Range, is_rela: bool, index: u64, reloc: &Reloc);
+    fn goblin_put_number(offset: u64, width: u64, value: u64);
+}
+
+/// Returns a header that counts only the headers that are whole inside the file.
+pub fn goblin_whole_header(bytes: &[u8], header: &Header) -> Header {
+    extern "C" { fn goblin_whole_header(bytes: *const u8, len: usize, header: &Header, whole: *mut Header); }
+    let mut whole = Header::default();
+    // SAFETY: the pointer of the slice is passed with the slice's length, and `whole` is this function's own.
+    unsafe { goblin_whole_header(bytes.as_ptr(), bytes.len(), header, &mut whole) };
+    whole
 }
 
 /// Returns the part of a range that is inside the file.
@@ -111,7 +136,7 @@ pub fn goblin_range_in_file(bytes: &[u8], range: &Range) -> Range {
 /// Returns the string whose range `goblin_string` returns. It is not checked once more for being UTF-8.
 #[inline]
 pub fn string<'a>(bytes: &'a [u8], strings: &Range, offset: u64) -> Result<Option<&'a str>> {
-    let string = goblin_c_string(bytes, strings, offset)?.map(|range| File(bytes).slice(range));
+    let string = goblin_string(bytes, strings, offset)?.map(|range| File(bytes).slice(range));
     debug_assert!(string.map_or(true, |string| str::from_utf8(string).is_ok()));
     // SAFETY: a string that the library returns is UTF-8, which is proved.
     Ok(string.map(|string| unsafe { str::from_utf8_unchecked(string) }))

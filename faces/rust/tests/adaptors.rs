@@ -1,5 +1,6 @@
 //! Tests iterator adaptors over lists, of whole and damaged files: none drops an error or an item.
 use goblin_rs::error::{Item, Kind};
+use goblin_rs::header::Header;
 use goblin_rs::program_header::ProgramHeader;
 use goblin_rs::section_header::{SectionHeader, SHT_DYNSYM, SHT_NOTE, SHT_REL, SHT_RELA, SHT_SYMTAB};
 use goblin_rs::{Elf, Error};
@@ -124,59 +125,40 @@ fn headers_are_refused_or_all_there() {
     }
 }
 
-/// Returns the kind of the refusal of a header at an offset of the first `end` bytes of a file, if it is not inside them.
-fn outside(offset: u64, size: u64, end: u64) -> Option<Kind> {
-    match end.checked_sub(offset) {
-        None | Some(0) => Some(Kind::BadOffset(offset)),
-        Some(len) => (len < size).then_some(Kind::TooBig { size, len }),
-    }
-}
-
-/// Asserts that a list which is cut off has these headers, and that each header is read alone if it is inside the first `end` bytes.
-fn has_those_inside<L>(
-    (list, why): (L, Option<Error>),
-    alone: impl Fn(usize) -> Result<Option<L::Item>, Error>,
-    (start, size, end): (u64, u64, u64),
-    all: &[L::Item],
-) where
+/// Asserts that the list of whole headers of a file that is cut has those that are inside the first `end` bytes.
+fn has_those_inside<L>(list: L, (start, size, end): (u64, u64, u64), all: &[L::Item])
+where
     L: IntoIterator + Copy,
     L::IntoIter: ExactSizeIterator + DoubleEndedIterator + Clone,
     L::Item: Debug + Clone + PartialEq,
 {
-    let inside = end.saturating_sub(start) / size;
-    let inside = all.len().min(inside as usize);
-    assert_eq!((list.into_iter().len(), why.is_some()), (inside, inside < all.len()));
-    for (index, item) in all.iter().enumerate() {
-        let wanted = outside(start + index as u64 * size, size, end).map_or(Ok(Some(item.clone())), Err);
-        assert_eq!(alone(index).map_err(|e| e.kind()), wanted);
-        assert_eq!(wanted.is_ok(), index < inside);
-    }
-    for index in [all.len(), usize::MAX] {
-        assert_eq!(alone(index), Ok(None));
-    }
+    let inside = all.len().min((end.saturating_sub(start) / size) as usize);
+    assert_eq!(list.into_iter().len(), inside);
     if end.saturating_sub(start) % size < 2 {
         has_each(list, all[..inside].to_vec());
     }
 }
 
 #[test]
-fn readable_headers_are_all_that_are_inside_the_file() {
+fn whole_headers_are_all_that_are_inside_the_file() {
     for form in FORMS {
         let file = made(form, 0);
-        let whole = Elf::parse(&file).unwrap();
-        let sections: Vec<_> = whole.section_headers().unwrap().iter().collect();
-        let segments: Vec<_> = whole.program_headers().unwrap().iter().collect();
+        let all = Elf::parse(&file).unwrap();
+        let sections: Vec<_> = all.section_headers().unwrap().iter().collect();
+        let segments: Vec<_> = all.program_headers().unwrap().iter().collect();
         let (of_section, of_segment) = if form.is_64 { (64, 56) } else { (40, 32) };
         for end in form.header_size()..=file.len() {
             let elf = Elf::parse(&file[..end]).unwrap();
-            let (readable, why) = elf.readable_section_headers();
-            assert_eq!((why, readable.get(readable.len())), (elf.section_headers().err(), None));
-            let range = (elf.header.e_shoff, of_section, end as u64);
-            has_those_inside((readable, why), |index| elf.section_header_alone(index), range, &sections);
-            let (readable, why) = elf.readable_program_headers();
-            assert_eq!((why, readable.get(readable.len())), (elf.program_headers().err(), None));
-            let range = (elf.header.e_phoff, of_segment, end as u64);
-            has_those_inside((readable, why), |index| elf.program_header_alone(index), range, &segments);
+            let whole = elf.whole();
+            has_those_inside(whole.section_headers().unwrap(), (elf.header.e_shoff, of_section, end as u64), &sections);
+            has_those_inside(whole.program_headers().unwrap(), (elf.header.e_phoff, of_segment, end as u64), &segments);
+            let (e_shoff, e_shnum, e_phnum) = (whole.header.e_shoff, whole.header.e_shnum, whole.header.e_phnum);
+            assert_eq!((e_shoff != 0, e_shnum as usize, e_phnum as usize), {
+                let lists = (whole.section_headers().unwrap(), whole.program_headers().unwrap());
+                (!lists.0.is_empty(), lists.0.len(), lists.1.len())
+            });
+            assert_eq!(whole.header, Header { e_shoff, e_shnum, e_phnum, ..elf.header });
+            assert_eq!(whole.whole().header, whole.header);
         }
     }
 }
@@ -192,16 +174,14 @@ fn the_first_section_header_has_the_number_of_headers() {
         file[at + sh_size..][..form.wide()].copy_from_slice(&form.numbers(&[(form.wide(), 7)]));
         let elf = Elf::parse(&file).unwrap();
         assert_eq!(elf.section_headers().unwrap().len(), 7);
-        assert_eq!(elf.section_header_alone(6), elf.section_header(6));
+        assert_eq!(elf.whole().header, elf.header);
         let cut = Elf::parse(&file[..at + 3 * size + 1]).unwrap();
-        let (readable, why) = cut.readable_section_headers();
-        assert_eq!((readable.len(), readable.get(2)), (3, elf.section_header(2).unwrap()));
-        assert_eq!(why, cut.section_headers().err());
+        let whole = cut.whole();
+        assert_eq!((whole.header.e_shnum, whole.section_header(2), whole.section_header(3)), (3, elf.section_header(2), Ok(None)));
         let without = Elf::parse(&file[..at + size - 1]).unwrap();
         let refused = Kind::TooBig { size: size as u64, len: size as u64 - 1 };
-        assert_eq!(without.section_header_alone(6).map_err(|e| e.kind()), Err(refused));
-        let (readable, why) = without.readable_section_headers();
-        assert_eq!((readable.len(), readable.get(0), why.map(|e| e.kind())), (0, None, Some(refused)));
+        assert_eq!(without.section_header(6).map_err(|e| e.kind()), Err(refused));
+        assert_eq!((without.whole().header.e_shoff, without.whole().section_headers().unwrap().len()), (0, 0));
     }
 }
 
@@ -278,7 +258,7 @@ fn notes_are_refused_or_all_there() {
         let notes: Vec<_> = elf.notes(&section).unwrap().iter().collect();
         assert_eq!(notes.iter().map(|note| note.name).collect::<Vec<_>>(), ["GNU", "goblin"]);
         let wanted = forwards(|| notes.clone().into_iter());
-        assert_eq!(forwards(|| elf.segment_notes(&segment).unwrap().into_iter()), wanted);
+        assert_eq!(forwards(|| elf.notes(&segment).unwrap().into_iter()), wanted);
         assert_eq!(forwards(|| elf.iter_note_sections().unwrap()), wanted);
         assert_eq!(forwards(|| elf.iter_note_headers().unwrap()), wanted);
         // the first byte of each name is not UTF-8
@@ -287,10 +267,10 @@ fn notes_are_refused_or_all_there() {
             let elf = Elf::parse(&damaged).unwrap();
             let refused = elf.notes(&section).unwrap_err();
             assert!(matches!(refused.kind(), Kind::BadInput { msg: "invalid utf8", .. }));
-            assert_eq!(elf.segment_notes(&segment).unwrap_err(), refused);
+            assert_eq!(elf.notes(&segment).unwrap_err(), refused);
             assert_eq!(elf.iter_note_sections().unwrap_err(), refused);
             assert_eq!(elf.iter_note_headers().unwrap_err(), refused);
-            for (before, why) in [elf.readable_notes(&section), elf.readable_segment_notes(&segment)] {
+            for (before, why) in [elf.readable_notes(&section), elf.readable_notes(&segment)] {
                 assert_eq!((forwards(|| before.iter()), why), (forwards(|| notes[..readable].iter().copied()), Some(refused)));
             }
         }
@@ -312,7 +292,7 @@ fn notes_as_bytes_are_refused_or_all_there() {
         let fields: Vec<_> = notes.iter().map(|note| (note.n_type, note.name, note.desc)).collect();
         assert_eq!(fields, [(3, &b"GNU\0"[..], &b"abcd"[..]), (0x1234, b"goblin\0", b"hello")]);
         let wanted = forwards(|| notes.clone().into_iter());
-        assert_eq!(forwards(|| elf.segment_notes_bytes(&segment).unwrap().into_iter()), wanted);
+        assert_eq!(forwards(|| elf.notes_bytes(&segment).unwrap().into_iter()), wanted);
         // the first byte of the second name is not UTF-8
         let damaged = with_byte(&file, 1, 32, 0xff);
         let read: Vec<_> = Elf::parse(&damaged).unwrap().notes_bytes(&section).unwrap().iter().map(|note| note.name).collect();
@@ -326,8 +306,8 @@ fn notes_as_bytes_are_refused_or_all_there() {
             let segment = ProgramHeader { p_filesz: size, ..segment };
             let refused = elf.notes_bytes(&section).unwrap_err();
             assert_eq!((refused.item(), refused.offset()), (Some(item), section.sh_offset + 20 * readable as u64));
-            assert_eq!(elf.segment_notes_bytes(&segment).unwrap_err(), refused);
-            for (before, why) in [elf.readable_notes_bytes(&section), elf.readable_segment_notes_bytes(&segment)] {
+            assert_eq!(elf.notes_bytes(&segment).unwrap_err(), refused);
+            for (before, why) in [elf.readable_notes_bytes(&section), elf.readable_notes_bytes(&segment)] {
                 assert_eq!((forwards(|| before.iter()), why), (forwards(|| notes[..readable].iter().copied()), Some(refused)));
             }
         }

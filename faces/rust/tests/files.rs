@@ -63,7 +63,7 @@ fn sections() {
         let found: Vec<_> = sections.iter().map(|s| names.get(s.sh_name).unwrap().unwrap()).collect();
         assert_eq!(found, ["", ".note", ".symtab", ".strtab", ".rela", ".rel", ".names"]);
         for (index, name) in found.iter().enumerate() {
-            assert_eq!(elf.section_by_name(name, 0), Ok(Some(index)));
+            assert_eq!(elf.section_by_name(name, 0), Ok(Some((index, sections[index]))));
             assert_eq!(elf.section_header(index), Ok(Some(sections[index])));
         }
         assert_eq!(elf.section_by_name(".no", 0), Ok(None));
@@ -209,7 +209,8 @@ type Named = (Result<Option<String>>, Result<Option<usize>>);
 
 fn first_section(file: &[u8]) -> Named {
     let elf = Elf::parse(file).unwrap();
-    (elf.shdr_strtab().unwrap().get(1).map(|name| name.map(String::from)), elf.section_by_name(".note", 0))
+    let found = elf.section_by_name(".note", 0).map(|found| found.map(|(index, _)| index));
+    (elf.shdr_strtab().unwrap().get(1).map(|name| name.map(String::from)), found)
 }
 
 /// Returns the type of the section that the symbol table links to, and its name.
@@ -269,12 +270,13 @@ fn counts_and_bytes() {
         let symbols = elf.syms().unwrap().unwrap();
         assert_eq!((symbols.len(), symbols.is_empty()), (7, false));
         assert_eq!((symbols.at(0), symbols.at(0x101f)), (Some(5), Some(6)));
-        assert_eq!(symbols.at(0x1020), Some(1));
-        assert_eq!(symbols.at(u64::MAX >> 32), Some(1));
+        assert_eq!((symbols.at(0x1020), symbols.at(0x104f)), (Some(1), Some(1)));
+        assert_eq!((symbols.at(0x1050), symbols.at(u64::MAX >> 32)), (None, None));
         let counts: Vec<_> = elf.shdr_relocs().unwrap().iter().map(|(_, relocs)| relocs.len()).collect();
         assert_eq!(counts, [2, 1]);
-        assert_eq!(elf.section_by_type(3, 0), Ok(Some(3)));
-        assert_eq!(elf.section_by_type(3, 4), Ok(Some(6)));
+        let sections = elf.section_headers().unwrap();
+        let found = |index| sections.get(index).map(|section| (index, section));
+        assert_eq!((elf.section_by_type(3, 0), elf.section_by_type(3, 4)), (Ok(found(3)), Ok(found(6))));
         assert_eq!(elf.section_by_type(3, 7), Ok(None));
         let strings = elf.section_header(3).unwrap().unwrap();
         assert_eq!(elf.section_data(&strings), Ok(Some(STRINGS)));
@@ -291,37 +293,116 @@ fn counts_and_bytes() {
     }
 }
 
+/// Returns the bytes that differ in two files, as the range from the first to the last.
+fn changed(before: &[u8], after: &[u8]) -> Option<std::ops::Range<usize>> {
+    let differs = |index: &usize| before[*index] != after[*index];
+    Some((0..before.len()).find(differs)?..(0..before.len()).rfind(differs)? + 1)
+}
+
+/// Asserts that a call has changed bytes of a record alone, and brings back the file.
+fn has_written(file: &mut [u8], before: &[u8], place: (u64, usize), written: Result<bool>) {
+    let range = changed(before, file).unwrap();
+    assert!(range.start as u64 >= place.0 && range.end as u64 <= place.0 + place.1 as u64, "{range:?} {place:?}");
+    assert_eq!(written, Ok(true));
+    file.copy_from_slice(before);
+}
+
 #[test]
-fn places_of_records() {
+fn headers_are_written() {
     for form in FORMS {
-        let file = made(form, 0);
+        let before = made(form, 0);
+        let (elf, mut file) = (Elf::parse(&before).unwrap(), before.clone());
+        let (header, of_section, of_segment) = (elf.header, if form.is_64 { 64 } else { 40 }, if form.is_64 { 56 } else { 32 });
+        let found = (elf.section_header(3).unwrap().unwrap(), elf.program_header(1).unwrap().unwrap());
+        header.put(&mut file).unwrap();
+        let written = (header.put_section_header(&mut file, 3, &found.0), header.put_program_header(&mut file, 1, &found.1));
+        assert_eq!((written, changed(&before, &file)), ((Ok(true), Ok(true)), None));
+        let (section, segment) = (SectionHeader { sh_info: 5, sh_type: 0x1234, ..found.0 }, ProgramHeader { p_flags: 7, p_align: 2, ..found.1 });
+        let written = header.put_section_header(&mut file, 3, &section);
+        assert_eq!(Elf::parse(&file).unwrap().section_header(3), Ok(Some(section)));
+        has_written(&mut file, &before, (header.e_shoff + 3 * of_section as u64, of_section), written);
+        let written = header.put_program_header(&mut file, 1, &segment);
+        assert_eq!(Elf::parse(&file).unwrap().program_header(1), Ok(Some(segment)));
+        has_written(&mut file, &before, (header.e_phoff + of_segment as u64, of_segment), written);
+        let other = header::Header { e_entry: 0x4321, e_shstrndx: 3, ei_osabi: 9, ..header };
+        let written = other.put(&mut file).map(|_| true);
+        assert_eq!(Elf::parse(&file).unwrap().header, other);
+        has_written(&mut file, &before, (0, form.header_size()), written);
+        let past = (header.put_section_header(&mut file, 7, &section), header.put_program_header(&mut file, 2, &segment));
+        assert_eq!(past, (Ok(false), Ok(false)));
+        assert_eq!(why(header.put_section_header(&mut file[..200], 0, &section)), (Kind::BadOffset(header.e_shoff), header.e_shoff));
+        assert_eq!(why(header::Header { ei_class: 3, ..header }.put(&mut file)), (Kind::InvalidClass(3), 0));
+        assert_eq!(why(header::Header { ei_data: 0, ..header }.put(&mut file)), (Kind::Data(0), 0));
+        let long_name = SectionHeader { sh_name: 1 << 32, ..section };
+        let place = header.e_shoff + 3 * of_section as u64;
+        assert_eq!(why(header.put_section_header(&mut file, 3, &long_name)), (Kind::IntegerFit, place));
+        assert_eq!(changed(&before, &file), None);
+        let high = header::Header { e_entry: 1 << 32, ..header }.put(&mut file).map_err(|e| e.kind());
+        assert_eq!(high, if form.is_64 { Ok(()) } else { Err(Kind::IntegerFit) });
+    }
+}
+
+#[test]
+fn symbols_relocations_and_numbers_are_written() {
+    for form in FORMS {
+        let before = made(form, 0);
+        let (elf, mut file) = (Elf::parse(&before).unwrap(), before.clone());
+        let (header, of_symbol, of_rela) = (elf.header, if form.is_64 { 24 } else { 16 }, 3 * form.wide());
+        let at = |index| elf.section_header(index).unwrap().unwrap();
+        let (table, rela, rel) = (at(2), at(4), at(5));
+        let (symbol, reloc) = (elf.symtab(&table).unwrap().get(2).unwrap(), elf.relocs(&rela).unwrap().get(1).unwrap());
+        let written = (header.put_symbol(&mut file, &table, 2, &symbol), header.put_reloc(&mut file, &rela, 1, &reloc));
+        assert_eq!((written, changed(&before, &file)), ((Ok(true), Ok(true)), None));
+        let hidden = Sym { st_other: 2, st_size: 9, st_shndx: 0xfffe, ..symbol };
+        let written = header.put_symbol(&mut file, &table, 2, &hidden);
+        assert_eq!(Elf::parse(&file).unwrap().symtab(&table).unwrap().get(2), Some(hidden));
+        has_written(&mut file, &before, (table.sh_offset + 2 * of_symbol as u64, of_symbol), written);
+        let moved = Reloc { r_addend: Some(-9), r_type: 3, r_sym: 0xffffff, ..reloc };
+        let written = header.put_reloc(&mut file, &rela, 1, &moved);
+        assert_eq!(Elf::parse(&file).unwrap().relocs(&rela).unwrap().get(1), Some(moved));
+        has_written(&mut file, &before, (rela.sh_offset + of_rela as u64, of_rela), written);
+        let without = Reloc { r_addend: None, ..moved };
+        let written = header.put_reloc(&mut file, &rel, 0, &without);
+        assert_eq!(Elf::parse(&file).unwrap().relocs(&rel).unwrap().get(0), Some(without));
+        has_written(&mut file, &before, (rel.sh_offset, 2 * form.wide()), written);
+        let written = header.put_number(&mut file, 18, 2, 0xf3);
+        assert_eq!(Elf::parse(&file).unwrap().header.e_machine, 0xf3);
+        has_written(&mut file, &before, (18, 2), written);
+        // none of these is written
+        let past = (header.put_symbol(&mut file, &table, 5, &symbol), header.put_reloc(&mut file, &rel, 1, &without));
+        assert_eq!((past, header.put_number(&mut file, 0, 3, 0)), ((Ok(false), Ok(false)), Ok(false)));
+        assert_eq!(why(header.put_reloc(&mut file, &rel, 0, &moved)), (Kind::IntegerFit, rel.sh_offset));
+        assert_eq!(why(header.put_reloc(&mut file, &rela, 0, &without)), (Kind::IntegerFit, rela.sh_offset));
+        let high = Sym { st_shndx: 0x10000, ..symbol };
+        assert_eq!(why(header.put_symbol(&mut file, &table, 0, &high)), (Kind::IntegerFit, table.sh_offset));
+        assert_eq!(why(header.put_number(&mut file, 18, 2, 0x10000)), (Kind::IntegerFit, 18));
+        let of_type = (header.put_symbol(&mut file, &rel, 0, &symbol), header.put_reloc(&mut file, &table, 0, &reloc));
+        let refused = (Kind::SectionType { sh_type: SHT_REL, expected: "symbols" }, Kind::SectionType { sh_type: SHT_SYMTAB, expected: "relocations" });
+        assert_eq!((of_type.0.unwrap_err().kind(), of_type.1.unwrap_err().kind()), refused);
+        assert_eq!(changed(&before, &file), None);
+    }
+}
+
+#[test]
+fn the_first_section_header_has_the_number_of_segments() {
+    for form in FORMS {
+        let mut file = made(form, 0);
+        let header = Elf::parse(&file).unwrap().header;
+        let (sections, count) = (header.e_shoff, header::Header { e_phnum: 0xffff, ..header });
+        header.put_number(&mut file, sections + if form.is_64 { 44 } else { 28 }, 4, 1).unwrap();
+        count.put(&mut file).unwrap();
         let elf = Elf::parse(&file).unwrap();
-        let (of_section, of_segment, of_symbol) = if form.is_64 { (64, 56, 24) } else { (40, 32, 16) };
-        let range = |start: u64, index: usize, size: usize| start as usize + index * size..start as usize + (index + 1) * size;
-        for index in 0..7 {
-            let place = elf.section_header_place(index).unwrap().unwrap();
-            assert_eq!(place, range(elf.header.e_shoff, index, of_section));
-            // the type of this section is the second number of its header
-            let mut changed = file.clone();
-            changed[place][4..8].copy_from_slice(&form.numbers(&[(4, 0x1234_5678)]));
-            let sections = Elf::parse(&changed).unwrap().section_headers().unwrap();
-            for (other, section) in elf.section_headers().unwrap().iter().enumerate() {
-                let wanted = if other == index { SectionHeader { sh_type: 0x1234_5678, ..section } } else { section };
-                assert_eq!(sections.get(other), Some(wanted));
-            }
-        }
-        for index in 0..2 {
-            assert_eq!(elf.program_header_place(index), Ok(Some(range(elf.header.e_phoff, index, of_segment))));
-        }
-        let symbols = elf.syms().unwrap().unwrap();
-        let start = elf.section_header(2).unwrap().unwrap().sh_offset;
-        for index in 0..5 {
-            assert_eq!(symbols.place(index), Some(range(start, index, of_symbol)));
-        }
-        assert_eq!((elf.section_header_place(7), elf.program_header_place(2), symbols.place(5)), (Ok(None), Ok(None), None));
-        let cut = Elf::parse(&file[..200]).unwrap();
-        assert_eq!(cut.section_header_place(7).map_err(|e| e.kind()), Err(Kind::BadOffset(elf.header.e_shoff)));
-        assert_eq!(cut.program_header_place(2).map_err(|e| e.kind()), Err(Kind::BadOffset(elf.header.e_phoff)));
+        assert_eq!((elf.program_headers().unwrap().len(), elf.program_header(1)), (1, Ok(None)));
+        assert_eq!(elf.whole().header, count);
+        // (the file ends in that header, so the number can't be read, and then of the segments none is inside)
+        let cut = Elf::parse(&file[..sections as usize + 3]).unwrap();
+        assert_eq!(why(cut.program_headers()), (Kind::TooBig { size: if form.is_64 { 64 } else { 40 }, len: 3 }, sections));
+        assert_eq!(cut.whole().header, header::Header { e_phnum: 0, e_shoff: 0, e_shnum: 0, ..count });
+        let without = header::Header { e_shoff: 0, ..count };
+        without.put(&mut file).unwrap();
+        let elf = Elf::parse(&file).unwrap();
+        assert_eq!(elf.program_headers().unwrap_err().kind(), Kind::BufferTooShort(0xffff, "program headers"));
+        assert_eq!(elf.whole().program_headers().unwrap().len(), 2);
     }
 }
 
@@ -333,16 +414,16 @@ fn numbers_in_sections_and_segments() {
         let strings = elf.section(".strtab").unwrap().unwrap();
         // "firs" is the first name but its last letter
         let letters = if form.is_big { 0x6669_7273 } else { 0x7372_6966 };
-        assert_eq!(elf.section_number(&strings, 1, 4), Ok(Some(letters)));
-        assert_eq!(elf.section_number(&strings, 1, 1), Ok(Some(0x66)));
-        assert_eq!((elf.section_number(&strings, 1, 3), elf.section_number(&strings, u64::MAX, 16)), (Ok(None), Ok(None)));
+        assert_eq!(elf.number_in(&strings, 1, 4), Ok(Some(letters)));
+        assert_eq!(elf.number_in(&strings, 1, 1), Ok(Some(0x66)));
+        assert_eq!((elf.number_in(&strings, 1, 3), elf.number_in(&strings, u64::MAX, 16)), (Ok(None), Ok(None)));
         let load = elf.program_header(1).unwrap().unwrap();
-        assert_eq!(elf.segment_number(&load, 18, 2), Ok(Some(0x3e)));
+        assert_eq!(elf.number_in(&load, 18, 2), Ok(Some(0x3e)));
         let whole = ProgramHeader { p_offset: strings.sh_offset, p_filesz: strings.sh_size, ..load };
-        assert_eq!(elf.segment_number(&whole, 1, 4), Ok(Some(letters)));
+        assert_eq!(elf.number_in(&whole, 1, 4), Ok(Some(letters)));
         let kinds = |offset, width| {
-            let of_section = elf.section_number(&strings, offset, width).map_err(|e| e.kind());
-            assert_eq!(elf.segment_number(&whole, offset, width).map_err(|e| e.kind()), of_section);
+            let of_section = elf.number_in(&strings, offset, width).map_err(|e| e.kind());
+            assert_eq!(elf.number_in(&whole, offset, width).map_err(|e| e.kind()), of_section);
             of_section
         };
         let size = STRINGS.len() as u64;
@@ -350,9 +431,9 @@ fn numbers_in_sections_and_segments() {
         assert_eq!(kinds(size, 1), Err(Kind::BadOffset(size)));
         assert_eq!(kinds(u64::MAX, 1), Err(Kind::BadOffset(u64::MAX)));
         let past = SectionHeader { sh_offset: file.len() as u64 - 8, sh_size: 9, ..strings };
-        assert_eq!(elf.section_number(&past, 0, 1).map_err(|e| e.kind()), Err(Kind::TooBig { size: 9, len: 8 }));
+        assert_eq!(elf.number_in(&past, 0, 1).map_err(|e| e.kind()), Err(Kind::TooBig { size: 9, len: 8 }));
         let without = SectionHeader { sh_type: SHT_NOBITS, ..strings };
-        assert_eq!(elf.section_number(&without, 0, 1).map_err(|e| e.kind()), Err(Kind::BadOffset(0)));
+        assert_eq!(elf.number_in(&without, 0, 1).map_err(|e| e.kind()), Err(Kind::BadOffset(0)));
     }
 }
 
@@ -374,12 +455,14 @@ fn errors_of_lists_begin_where_the_list_does() {
             let cut = Elf::parse(&file[..len as usize]).unwrap();
             assert_eq!(why(cut.section_headers()), (kind, list));
             assert_eq!(why(cut.section_header(1)), (kind, list));
-            assert_eq!(cut.readable_section_headers().0.len(), 5);
-            assert_eq!(why(cut.section_header_alone(5)), (kind, header_5));
-            // the names of sections are read by the header that is left
-            let names = cut.section_header_alone(cut.header.e_shstrndx.into()).unwrap().unwrap();
+            let whole = cut.whole();
+            assert_eq!(whole.section_headers().unwrap().len(), 5);
+            // the names of sections are read by the header that is left, and searches find them
+            let names = whole.section_header(3).unwrap().unwrap();
             assert_eq!(why(cut.section_name(&names)), (kind, list));
-            assert_eq!(cut.strtab(&names).get(1), Ok(Some("first")));
+            assert_eq!(whole.shdr_strtab().unwrap().get(1), Ok(Some("first")));
+            assert_eq!(whole.section_by_name("first", 0), Ok(Some((1, whole.section_header(1).unwrap().unwrap()))));
+            assert_eq!(whole.syms().unwrap().map(|symbols| symbols.len()), Some(5));
         }
     }
 }
@@ -390,9 +473,9 @@ fn offsets_of_errors_count_from_the_start_of_their_whole() {
         let file = made(form, 0);
         let elf = Elf::parse(&file).unwrap();
         let (strings, size) = (elf.section(".strtab").unwrap().unwrap(), STRINGS.len() as u64);
-        assert_eq!(why(elf.section_number(&strings, size + 5, 1)), (Kind::BadOffset(size + 5), strings.sh_offset + size + 5));
+        assert_eq!(why(elf.number_in(&strings, size + 5, 1)), (Kind::BadOffset(size + 5), strings.sh_offset + size + 5));
         let past = SectionHeader { sh_offset: file.len() as u64 + 7, ..strings };
-        assert_eq!(why(elf.section_number(&past, 3, 1)), (Kind::BadOffset(past.sh_offset), past.sh_offset));
+        assert_eq!(why(elf.number_in(&past, 3, 1)), (Kind::BadOffset(past.sh_offset), past.sh_offset));
         // the second note begins 20 bytes after the first, its name 12 bytes after that, and its descriptor 8 bytes later
         let section = elf.section_header(1).unwrap().unwrap();
         let (first, second) = (section.sh_offset, section.sh_offset + 20);
@@ -434,8 +517,8 @@ fn offsets_of_addresses() {
         let cut = Elf::parse(&file[..200]).unwrap();
         assert_eq!(cut.address_to_offset(0).map_err(|e| e.kind()), Err(Kind::BadOffset(elf.header.e_phoff)));
         // with another p_offset the file has 2 bytes of the segment
-        let (len, at) = (file.len() as u64, elf.program_header_place(1).unwrap().unwrap().start + if form.is_64 { 8 } else { 4 });
-        file[at..at + form.wide()].copy_from_slice(&form.numbers(&[(form.wide(), len - 2)]));
+        let (len, header) = (file.len() as u64, elf.header);
+        assert_eq!(header.put_program_header(&mut file, 1, &ProgramHeader { p_offset: len - 2, ..load }), Ok(true));
         let elf = Elf::parse(&file).unwrap();
         assert_eq!(elf.address_to_offset(0x4001), Ok(Some(len - 1)));
         assert_eq!(elf.address_to_offset(0x4002).map_err(|e| e.kind()), Err(Kind::BadOffset(len)));
@@ -449,10 +532,10 @@ fn parts_of_sections_and_segments() {
         let elf = Elf::parse(&file).unwrap();
         let len = file.len() as u64;
         for section in elf.section_headers().unwrap() {
-            assert_eq!(elf.readable_section_data(&section), elf.section_data(&section).unwrap());
+            assert_eq!(elf.readable_data(&section), elf.section_data(&section).unwrap());
         }
         for segment in elf.program_headers().unwrap() {
-            assert_eq!(elf.readable_segment_data(&segment), elf.segment_data(&segment).unwrap());
+            assert_eq!(elf.readable_data(&segment), elf.segment_data(&segment).unwrap());
         }
         let (section, segment) = (elf.section_header(3).unwrap().unwrap(), elf.program_header(1).unwrap().unwrap());
         for (offset, size, left) in [(len - 3, 4, 3), (len - 3, u64::MAX, 3), (len, 1, 0), (len + 1, 5, 0), (u64::MAX, u64::MAX, 0)] {
@@ -460,12 +543,12 @@ fn parts_of_sections_and_segments() {
             let segment = ProgramHeader { p_offset: offset, p_filesz: size, ..segment };
             assert!(elf.section_data(&section).is_err() && elf.segment_data(&segment).is_err());
             let wanted = &file[file.len() - left..];
-            assert_eq!((elf.readable_section_data(&section), elf.readable_segment_data(&segment)), (Some(wanted), Some(wanted)));
+            assert_eq!((elf.readable_data(&section), elf.readable_data(&segment)), (Some(wanted), Some(wanted)));
         }
         let past = SectionHeader { sh_offset: len - 1, sh_size: 2, ..section };
-        assert_eq!(elf.readable_section_data(&SectionHeader { sh_type: SHT_NOBITS, ..past }), None);
-        assert_eq!(elf.readable_section_data(&SectionHeader { sh_size: 0, ..past }), None);
-        assert_eq!(elf.readable_segment_data(&ProgramHeader { p_filesz: 0, p_offset: len, ..segment }), None);
+        assert_eq!(elf.readable_data(&SectionHeader { sh_type: SHT_NOBITS, ..past }), None);
+        assert_eq!(elf.readable_data(&SectionHeader { sh_size: 0, ..past }), None);
+        assert_eq!(elf.readable_data(&ProgramHeader { p_filesz: 0, p_offset: len, ..segment }), None);
     }
 }
 
@@ -475,70 +558,74 @@ fn sections_of_one_name() {
         // the sections at 4 and 5 have the name ".rela"
         let file = with_section(form, 5, SH_NAME, 23);
         let elf = Elf::parse(&file).unwrap();
-        let found: Vec<_> = (0..9).map(|first| elf.section_by_name(".rela", first).unwrap()).collect();
+        let found: Vec<_> = (0..9).map(|first| elf.section_by_name(".rela", first).unwrap().map(|(index, _)| index)).collect();
         assert_eq!(found, [&[Some(4); 5][..], &[Some(5)], &[None; 3]].concat());
         assert_eq!(elf.section_by_name(".rela", usize::MAX), Ok(None));
         assert_eq!(elf.section(".rela"), elf.section_header(4));
-        let data = elf.section_data_by_name(".rela").unwrap().unwrap();
-        assert_eq!(data.as_ptr(), file[elf.section_header(4).unwrap().unwrap().sh_offset as usize..].as_ptr());
-        assert_eq!(data.len(), 6 * form.wide());
-        assert_eq!(elf.section_data_by_name(".strtab"), Ok(Some(STRINGS)));
-        assert_eq!((elf.section_data_by_name(".rel"), elf.section_data_by_name("")), (Ok(None), Ok(None)));
-        let without = with_section(form, 4, SH_TYPE, SHT_NOBITS.into());
-        assert_eq!(Elf::parse(&without).unwrap().section_data_by_name(".rela"), Ok(None));
         let cut = Elf::parse(&file[..200]).unwrap();
-        assert_eq!(cut.section_data_by_name(".strtab").map_err(|e| e.kind()), Err(Kind::BadOffset(elf.header.e_shoff)));
+        assert_eq!(cut.section_by_name(".strtab", 0).map_err(|e| e.kind()), Err(Kind::BadOffset(elf.header.e_shoff)));
     }
 }
 
 #[test]
-fn symbols_by_an_index_of_their_addresses() {
+fn symbols_by_a_map_of_their_addresses() {
     for (form, more) in FORMS.into_iter().flat_map(|form| [(form, 0), (form, 3), (form, 100)]) {
         let file = made(form, more);
         let symbols = Elf::parse(&file).unwrap().syms().unwrap().unwrap();
-        let index = symbols.address_index();
-        // symbol 1 has the value 0x1020, and each symbol from 5 on the number before which it was added; others are of no section
+        let map = symbols.address_map();
+        // symbol 1 has the value 0x1020 and the size 0x30, and each symbol from 5 on the number before which it was added and no size; others
+        // are of no section
         for address in (0..0x1100).chain([u64::MAX]) {
             let wanted = match address {
-                0x1020.. => Some(1),
+                0x1020..=0x104f => Some(1),
+                0x1050.. => None,
                 _ if more == 0 => None,
                 _ => Some(5 + (address as usize).min(more - 1)),
             };
-            assert_eq!((index.at(address), symbols.at(address)), (wanted, wanted), "{address:#x}");
-            assert_eq!(index.symbol(address), wanted.and_then(|index| symbols.get(index)));
+            assert_eq!((map.at(address), symbols.at(address)), (wanted, wanted), "{address:#x}");
+            assert_eq!(map.symbol(address), wanted.and_then(|index| symbols.get(index)));
         }
-        assert_eq!(index.clone().at(0x1020), Some(1));
+        assert_eq!(map.clone().at(0x1020), Some(1));
     }
 }
 
+/// Returns the symbol of an address, by trying all symbols.
+fn expected_at(symbols: &[Sym], address: u64) -> Option<usize> {
+    let counts = |s: &Sym| ((1..0xff00).contains(&s.st_shndx) || s.st_shndx == 0xffff) && [0, 1, 2, 10].contains(&s.st_type());
+    let below = || symbols.iter().enumerate().filter(|(_, s)| counts(s) && s.st_value <= address);
+    let containing = || below().filter(|(_, s)| address - s.st_value < s.st_size);
+    let highest = |value: Option<u64>| move |(_, s): &(usize, &Sym)| Some(s.st_value) == value;
+    let first = containing().find(highest(containing().map(|(_, s)| s.st_value).max()));
+    let label = || below().filter(highest(below().map(|(_, s)| s.st_value).max())).find(|(_, s)| s.st_size == 0);
+    first.or_else(label).map(|(index, _)| index)
+}
+
 #[test]
-fn strings_are_texts() {
-    for form in FORMS {
-        let file = made(form, 0);
+fn maps_of_nested_symbols() {
+    for (form, seed) in FORMS.into_iter().flat_map(|form| (1..150u64).map(move |seed| (form, seed))) {
+        // each symbol has a value below 24 and a size below 12, mostly, and is mostly of a section and a function
+        let mut state = seed.wrapping_mul(0x9e37_79b9_7f4a_7c15);
+        let mut any = |below: u64| {
+            state = state.wrapping_mul(6_364_136_223_846_793_005).wrapping_add(1_442_695_040_888_963_407);
+            (state >> 33) % below
+        };
+        let mut file = made(form, 0);
+        let start = file.len() as u64;
+        for _ in 0..any(14) {
+            let (value, size) = (any(24), if any(9) == 0 { u64::MAX } else { any(12) });
+            let (value, section) = (if any(9) == 0 { u64::MAX - value } else { value }, [1, 1, 1, 2, 0xffff, 0, 0xfff1][any(7) as usize]);
+            let info = [2, 2, 0, 1, 10, 3, 0x12][any(7) as usize];
+            file.extend(form.symbol(0, value, size, info, 0, section));
+        }
+        file.push(0);
         let elf = Elf::parse(&file).unwrap();
-        let symbols = elf.syms().unwrap().unwrap();
-        let strings = symbols.strtab();
-        for (start, string) in [(0, ""), (1, "first"), (3, "rst"), (7, "second"), (14, "été")] {
-            for text in ["", "first", "firs", "first\0", "firsts", "rst", "second", "été", "\0"] {
-                assert_eq!(strings.is(start, text), Ok(string == text), "{start} {text:?}");
-                assert_eq!(strings.starts_with(start, text), Ok(string.starts_with(text)), "{start} {text:?}");
-            }
+        let section = SectionHeader { sh_type: SHT_SYMTAB, sh_offset: start, sh_size: file.len() as u64 - start, ..Default::default() };
+        let symbols = elf.symtab(&section).unwrap();
+        let (map, all) = (symbols.address_map(), symbols.iter().collect::<Vec<_>>());
+        for address in (0..40).chain((0..40).map(|less| u64::MAX - less)).chain((0..40).map(|less| u64::from(u32::MAX) - less)) {
+            let wanted = expected_at(&all, address);
+            assert_eq!((map.at(address), symbols.at(address)), (wanted, wanted), "{address:#x} {all:?}");
         }
-        // a string that is not UTF-8
-        assert_eq!((strings.is(20, b"\xff"), strings.is(20, [0xfe])), (Ok(true), Ok(false)));
-        assert_eq!((strings.starts_with(20, "".as_bytes()), strings.starts_with(20, vec![0xff])), (Ok(true), Ok(true)));
-        // past the end there is no string
-        for offset in [STRINGS.len(), usize::MAX] {
-            assert_eq!((strings.is(offset, ""), strings.starts_with(offset, "")), (Ok(false), Ok(false)));
-        }
-        let named: Vec<_> = symbols.iter().map(|symbol| symbols.name_is(&symbol, "second").unwrap()).collect();
-        assert_eq!(named, [false, false, true, false, false]);
-        assert_eq!(symbols.name_is(&symbols.get(4).unwrap(), b"\xff"), Ok(true));
-        let section = elf.section_header(3).unwrap().unwrap();
-        let past = elf.strtab(&SectionHeader { sh_offset: file.len() as u64 + 1, ..section });
-        let refused = Kind::StrtabOffset { offset: file.len() as u64 + 1, len: file.len() as u64 };
-        assert_eq!(past.is(0, "").map_err(|e| e.kind()), Err(refused));
-        assert_eq!(past.starts_with(0, "").map_err(|e| e.kind()), Err(refused));
     }
 }
 

@@ -143,11 +143,11 @@ fn notes_and_names_as_bytes() {
     for form in FORMS {
         let file = made(form, 0);
         let elf = Elf::parse(&file).unwrap();
-        let of_segment: Vec<_> = elf.segment_notes(&elf.program_header(0).unwrap().unwrap()).unwrap().iter().collect();
+        let of_segment: Vec<_> = elf.notes(&elf.program_header(0).unwrap().unwrap()).unwrap().iter().collect();
         assert_eq!(of_segment.iter().map(|note| note.name).collect::<Vec<_>>(), ["GNU", "goblin"]);
         let segment = ProgramHeader { p_align: 16, ..elf.program_header(0).unwrap().unwrap() };
         let section = SectionHeader { sh_addralign: 16, ..elf.section_header(1).unwrap().unwrap() };
-        for notes in [elf.segment_notes(&segment), elf.notes(&section)] {
+        for notes in [elf.notes(&segment), elf.notes(&section)] {
             assert_eq!(notes.unwrap_err().kind(), Kind::NoteAlign(16));
         }
         let notes: HashSet<_> = elf.iter_note_headers().unwrap().collect();

@@ -59,12 +59,12 @@ fn of_sections() -> Tried {
     let strings = elf.section(".strtab")?.ok_or("no .strtab")?;
     assert_eq!(elf.section_data(&strings)?, Some(STRINGS));
     assert_eq!(elf.section_data(&strings)?.unwrap_or(&[]).len() as u64, strings.sh_size);
-    assert_eq!(elf.section_data_by_name(".strtab")?.map(|data| data.len()), Some(STRINGS.len()));
-    assert_eq!(elf.section_number(&strings, 1, 1)?, Some(u64::from(b'f')));
-    let all_named: Vec<usize> = std::iter::successors(elf.section_by_name(".rel", 0)?, |last| elf.section_by_name(".rel", last + 1).unwrap()).collect();
+    assert_eq!(elf.number_in(&strings, 1, 1)?, Some(u64::from(b'f')));
+    let next = |last: &(usize, _)| elf.section_by_name(".rel", last.0 + 1).unwrap();
+    let all_named: Vec<usize> = std::iter::successors(elf.section_by_name(".rel", 0)?, next).map(|found| found.0).collect();
     assert_eq!(all_named, [5]);
     let mut changed = bytes.clone();
-    changed[elf.section_header_place(3)?.ok_or("no section")?][8] |= SHF_WRITE as u8;
+    elf.header.put_section_header(&mut changed, 3, &SectionHeader { sh_flags: strings.sh_flags | SHF_WRITE, ..strings })?;
     assert!(Elf::parse(&changed)?.section(".strtab")?.map_or(false, |s| s.is_writable()));
     assert_eq!(strings.file_range().and_then(|range| bytes.get(range)), Some(STRINGS));
     assert!(elf.section(".debug_info")?.is_none());
@@ -72,7 +72,7 @@ fn of_sections() -> Tried {
     assert_eq!(elf.section_headers()?.iter().filter(|s| s.sh_type == SHT_NOTE).count(), 1);
     assert!(elf.section_headers()?.iter().any(|s| s.sh_type == SHT_SYMTAB));
     assert!(elf.section_headers()?.iter().all(|s| s.sh_type != SHT_NOBITS));
-    assert_eq!(elf.section_headers()?.iter().position(|s| s.sh_type == SHT_SYMTAB), elf.section_by_name(".symtab", 0)?);
+    assert_eq!(elf.section_headers()?.iter().position(|s| s.sh_type == SHT_SYMTAB), elf.section_by_name(".symtab", 0)?.map(|found| found.0));
     assert_eq!(elf.section_headers()?.iter().find(|s| s.is_relocation()).map(|s| s.sh_type), Some(SHT_RELA));
     assert_eq!(elf.section_headers()?.get(1), elf.section(".note")?);
     assert_eq!(elf.section_headers()?.iter().last(), elf.section(".names")?);
@@ -102,7 +102,7 @@ fn of_segments() -> Tried {
     assert!(code.vm_range().contains(&0x4010) && code.is_executable());
     assert_eq!(elf.segment_data(&code)?.map(|data| data.len()), Some(code.p_filesz as usize));
     assert_eq!(elf.address_to_offset(code.p_vaddr + 2)?.and_then(|offset| bytes.get(offset as usize)), Some(&b'L'));
-    assert_eq!(elf.segment_number(&code, 18, 2)?, elf.number(18, 2)?);
+    assert_eq!(elf.number_in(&code, 18, 2)?, elf.number(18, 2)?);
     assert_eq!(elf.segment_data(&code)?.and_then(|data| data.get(..4)), Some(&header::ELFMAG[..]));
     let held: Vec<SectionHeader> = elf.segment_sections(&loaded[0])?.collect();
     assert_eq!(held, []);
@@ -182,11 +182,11 @@ fn of_relocations_and_notes() -> Tried {
 fn of_refusals() {
     let bytes = made(FORMS[0], 0);
     let cut = Elf::parse(&bytes[..bytes.len() / 3]).unwrap();
-    let (left, why) = cut.readable_section_headers();
-    assert_eq!((left.len(), why.map(|e| e.offset())), (0, Some(cut.header.e_shoff)));
+    assert_eq!(cut.section_headers().map_err(|e| e.offset()).err(), Some(cut.header.e_shoff));
+    assert!(cut.whole().section_headers().unwrap().is_empty());
     let symbols = Elf::parse(&bytes).unwrap().section(".symtab").unwrap().unwrap();
     let part = symbols.sh_offset as usize..symbols.sh_offset as usize + 30;
-    assert_eq!(Elf::parse(&bytes[..part.end]).unwrap().readable_section_data(&symbols), Some(&bytes[part]));
+    assert_eq!(Elf::parse(&bytes[..part.end]).unwrap().readable_data(&symbols), Some(&bytes[part]));
     let skipped: Result<Vec<_>, Error> = cut.section_headers().map(|sections| sections.iter().skip(1).collect());
     assert_eq!(skipped.map_err(|e| e.kind()), Err(Kind::BadOffset(cut.header.e_shoff)));
     let of_input: io::Result<usize> = cut.section_headers().map(|sections| sections.len()).map_err(io::Error::from);

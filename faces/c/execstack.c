@@ -1,0 +1,70 @@
+/* Shows or changes whether the stack of a program may be executed: execstack [-c | -s] FILE
+   This is the flag GOBLIN_PF_X of the program header of type GOBLIN_PT_GNU_STACK. -c clears it in the file, and -s sets it. Prints X if it
+   is set, - if it is not, and ? if there is no such program header. Then -c and -s fail. */
+#include "goblin.h"
+#include <stdio.h>
+#include <stdlib.h>
+#include <string.h>
+
+static uint8_t *bytes;
+static size_t len;
+static goblin_header_t header;
+static goblin_segment_t stack;
+static goblin_refusal_t why;
+
+static int refused(const char *path) {
+    char text[160];
+    goblin_refusal_text(&why, text, sizeof text);
+    fprintf(stderr, "execstack: %s: %s\n", path, text);
+    return 1;
+}
+
+/* Finds the program header of the stack, and its index. */
+static uint32_t find_stack(uint64_t *index) {
+    uint32_t status = goblin_header(bytes, len, &header, &why);
+    for (*index = 0; status == GOBLIN_OK; ++*index) {
+        status = goblin_segment(bytes, len, &header, *index, &stack, &why);
+        if (status != GOBLIN_OK || stack.p_type == GOBLIN_PT_GNU_STACK) break;
+    }
+    return status;
+}
+
+/* Reads a file, and returns whether all of it is read. */
+static bool load(const char *path) {
+    FILE *file = fopen(path, "rb");
+    long size = file && fseek(file, 0, SEEK_END) == 0 ? ftell(file) : -1;
+    if (size < 0 || !(bytes = (uint8_t *)malloc((size_t)size + 1))) return false;
+    rewind(file);
+    len = fread(bytes, 1, (size_t)size, file);
+    return fclose(file) == 0 && len == (size_t)size;
+}
+
+static bool store(const char *path) {
+    FILE *file = fopen(path, "r+b");
+    if (!file) return false;
+    bool is_written = fwrite(bytes, 1, len, file) == len;
+    return fclose(file) == 0 && is_written;
+}
+
+int main(int argc, char **argv) {
+    bool clears = argc == 3 && strcmp(argv[1], "-c") == 0, sets = argc == 3 && strcmp(argv[1], "-s") == 0;
+    if (argc != 2 + (clears || sets)) return fputs("usage: execstack [-c | -s] FILE\n", stderr), 2;
+    const char *path = argv[argc - 1];
+    if (!load(path)) return perror(path), 2;
+    uint64_t index;
+    uint32_t status = find_stack(&index);
+    if (status > GOBLIN_END) return refused(path);
+    if (status == GOBLIN_END) {
+        printf("? %s\n", path);
+        if (clears || sets) fprintf(stderr, "execstack: %s: there is no program header of type PT_GNU_STACK\n", path);
+        return clears || sets;
+    }
+    uint32_t flags = clears ? stack.p_flags & ~GOBLIN_PF_X : sets ? stack.p_flags | GOBLIN_PF_X : stack.p_flags;
+    if (flags != stack.p_flags) {
+        stack.p_flags = flags;
+        if (goblin_put_segment(bytes, len, &header, index, &stack, &why) != GOBLIN_OK) return refused(path);
+        if (!store(path)) return perror(path), 2;
+    }
+    printf("%c %s\n", flags & GOBLIN_PF_X ? 'X' : '-', path);
+    return 0;
+}

@@ -1,0 +1,66 @@
+//! What has bytes in a file: sections and segments.
+use crate::error::Result;
+use crate::file::File;
+use crate::program_header::ProgramHeader;
+use crate::raw::Range;
+use crate::section_header::SectionHeader;
+use crate::sys;
+
+/// What has bytes in a file: a [`SectionHeader`] or a [`ProgramHeader`]. Calls that take either take a reference to this.
+///
+/// ```
+/// # fn main() -> Result<(), Box<dyn std::error::Error>> {
+/// # let bytes = std::fs::read(std::env::current_exe()?)?;
+/// use goblin_rs::{Elf, Part};
+///
+/// /// Returns the first 4 bytes of a section or a segment as a number.
+/// fn first_word(elf: &Elf, part: &impl Part) -> goblin_rs::Result<Option<u64>> {
+///     elf.number_in(part, 0, 4)
+/// }
+/// let elf = Elf::parse(&bytes)?;
+/// let text = elf.section(".text")?.ok_or("no .text")?;
+/// assert_eq!(first_word(&elf, &text)?, elf.number(text.sh_offset, 4)?);
+/// # Ok(())
+/// # }
+/// ```
+pub trait Part {
+    /// Returns its range in the file, inside the file or not.
+    #[doc(hidden)]
+    fn range(&self) -> Range;
+
+    /// Returns the alignment of its notes.
+    #[doc(hidden)]
+    fn alignment(&self) -> u64;
+
+    /// Returns the range of its bytes, if it has some.
+    #[doc(hidden)]
+    fn found(&self, file: File<'_>) -> Result<Option<Range>>;
+}
+
+impl Part for SectionHeader {
+    fn range(&self) -> Range {
+        SectionHeader::range(self)
+    }
+
+    fn alignment(&self) -> u64 {
+        self.sh_addralign
+    }
+
+    fn found(&self, file: File<'_>) -> Result<Option<Range>> {
+        sys::goblin_section_bytes(&file, self)
+    }
+}
+
+impl Part for ProgramHeader {
+    fn range(&self) -> Range {
+        ProgramHeader::range(self)
+    }
+
+    fn alignment(&self) -> u64 {
+        self.p_align
+    }
+
+    fn found(&self, file: File<'_>) -> Result<Option<Range>> {
+        sys::goblin_segment_bytes(&file, self)
+    }
+}
