@@ -1,7 +1,7 @@
 #!/usr/bin/env python3
 """Makes a wheel of the package with the shared library: python3 faces/python/wheel.py LIBRARY MACHINE FOLDER, from the repository's root.
 
-LIBRARY is the shared library as it is installed, and MACHINE is x86_64 or aarch64. It prints the path of the wheel, whose bytes depend on
+LIBRARY is the shared library, and MACHINE is x86_64 or aarch64. It prints the path of the wheel, whose bytes depend on
 the sources and on LIBRARY alone. `pip install --no-index WHEEL` takes it on a machine with Linux, Python 3.8 or later, and the version of
 glibc that it states.
 """
@@ -32,7 +32,9 @@ def content_of(library_path, machine):
         if name.endswith('.py') or name == 'py.typed':
             with open(os.path.join(package, name), 'rb') as file:
                 yield version, f'goblin_elf/{name}', file.read()
-    yield version, f'goblin_elf/{os.path.basename(os.path.realpath(library_path))}', library
+    with open(os.path.join(package, 'constants.py'), encoding='utf-8') as file:
+        interface = re.search(r'^VERSION = (\d+)$', file.read(), re.M)[1]
+    yield version, f'goblin_elf/libgoblin_c.so.{interface}', library
     info = f'goblin_elf-{version}.dist-info'
     with open(os.path.join(HERE, '..', '..', 'LICENSE'), 'rb') as file:
         yield version, f'{info}/LICENSE', file.read()

@@ -298,14 +298,15 @@ def connected(options: argparse.Namespace) -> Any:
     if options.workers == 0 and not options.scheduler:
         return None
     try:
-        from distributed import Client
+        import distributed
     except ImportError:
         print('scan: distributed is not installed, so this is one process', file=sys.stderr)
         return None
+    client: Any = distributed.Client
     if options.scheduler:
-        return Client(options.scheduler)
+        return client(options.scheduler)
     workers = options.workers or os.cpu_count()
-    return Client(n_workers=workers, threads_per_worker=1, dashboard_address=None, memory_limit=options.memory)
+    return client(n_workers=workers, threads_per_worker=1, dashboard_address=None, memory_limit=options.memory)
 
 
 def scan(options: argparse.Namespace) -> int:

@@ -53,7 +53,7 @@ def counted(elf: Elf) -> Dict[str, Any]:
     sizes = {'code': 0, 'data': 0, 'read_only': 0, 'zeros': 0, 'not_loaded': 0}
     sections = elf.sections
     # (an operator on plain numbers is much faster than one on flags)
-    nobits, alloc, execinstr, write = map(int, (SHT_NOBITS, SHF_ALLOC, SHF_EXECINSTR, SHF_WRITE))
+    nobits, alloc, execinstr, write = int(SHT_NOBITS), int(SHF_ALLOC), int(SHF_EXECINSTR), int(SHF_WRITE)
     for section in sections._items(0, min(len(sections), SECTIONS)):
         flags = section.sh_flags
         if section.sh_type == nobits:

@@ -2,8 +2,8 @@
 """Compares goblin_elf with pyelftools: beside_pyelftools.py [--files N] [--damaged N] [DIR ..]
 
 It reads N whole ELF files of the folders (default: 40 of this machine's) by both and compares headers, sections, segments, symbols with
-their names, relocations and notes. Each difference is counted by what it is about, and those that are not known fail. Then it reads N
-damaged or cut files by both: goblin_elf must return records or raise Refused. What pyelftools does is counted.
+their names, relocations and notes. A difference fails. Then it reads N damaged or cut files by both: goblin_elf
+must return records or raise Refused. What pyelftools does is counted.
 """
 import argparse
 import collections
@@ -23,15 +23,6 @@ from goblin_elf import SHT_DYNSYM, SHT_NOTE, SHT_REL, SHT_RELA, SHT_SYMTAB, Elf,
 from goblin_elf.facts import facts
 
 import made
-
-# The differences that are not ours, each with its reason.
-KNOWN = {
-    'symbol names that pyelftools cuts': 'a name that is not UTF-8, which it decodes in another way',
-    'relocations of little-endian MIPS64': 'it has no format of these files',
-    'relocations of a type that it does not make sections of': 'of RELR and packed ones',
-    'notes in a section with an alignment of 8': 'it pads to 4 whatever the alignment is',
-    'notes past a damaged one': 'it goes on after it',
-}
 
 
 def number(value, names):
