@@ -493,6 +493,23 @@ class Program(unittest.TestCase):
             found = json.loads(said)[0]
             self.assertEqual((status, found['type'], found['entry'], found['needed'], found['sizes']['code']), (0, 'REL', 0x1004, [], 128))
 
+    def test_the_page(self):
+        """Our column of the lines of the page for those who come from pyelftools."""
+        with open(os.path.join(FOLDER, '..', 'README.md'), encoding='utf-8') as file:
+            rows = re.findall(r'^\|`([^|]*)`\|`([^|]*)`\|$', file.read(), re.M)
+        self.assertEqual(len(rows), 10)
+        with tempfile.NamedTemporaryFile() as file:
+            file.write(MADE.bytes)
+            file.flush()
+            names = {**vars(goblin_elf), 'path': file.name}
+            elf = names['elf'] = Elf.open(file.name)
+            names.update(section=elf.section('.rela.text'), symbol=elf.symbols[1], relocation=elf.section('.rela.text').relocations[0],
+                         segment=elf.segments[1])
+            for _, ours in rows:
+                for line in ours.split('`, `'):
+                    (exec if line.startswith('for ') else eval)(line, names)
+        self.assertEqual([eval(rows[index][1], names) for index in (1, 4, 6, 9)], [True, False, True, made.BUILD_ID.hex()])
+
     def test_this_python(self):
         found = program.described(sys.executable)
         self.assertIn('libc.so.6', found['needed'])
