@@ -1,30 +1,32 @@
-"""The shared library by ctypes: where it is, its calls and its structs. The rest of the package is written over `call`."""
+"""The shared library by ctypes: where it is, its calls and its structs. The rest of the package is written over `call` and `found`."""
 import ctypes
 import mmap
 import os
 import struct
-from typing import Any, Iterable, Iterator, List, Optional, Tuple
+from typing import Any, Callable, Iterable, List, Optional, Tuple
 
 from .constants import VERSION
+from .interface import CALLS, STRUCTS
 from .refused import Refused
 
 OK, END = 0, 1
 # The folder of the library below the folder of an installation, of which this file is share/goblin_c/python/goblin_elf/_library.py.
 LIBDIR = 'lib'
 NAME = f'libgoblin_c.so.{VERSION}'
+TYPES = {'p': ctypes.c_void_p, 'z': ctypes.c_size_t, 'Q': ctypes.c_uint64, 'I': ctypes.c_uint32, 'H': ctypes.c_uint16,
+         'B': ctypes.c_uint8, 'b': ctypes.c_bool}
 
 
 class Record:
     """A struct of goblin.h: its fields, each with its code in the module `struct`, in the machine's byte order."""
 
-    def __init__(self, text: str) -> None:
-        words = text.split()
-        self.fields, self.codes = tuple(words[::2]), ''.join(words[1::2])
-        self.struct = struct.Struct(f'@{self.codes}0Q')
+    def __init__(self, fields: Tuple[str, ...], codes: str) -> None:
+        self.fields, self.codes = fields, codes
+        self.struct = struct.Struct(f'@{codes}0Q')
         self.size = self.struct.size
         self.buffer = ctypes.c_char * self.size
 
-    def pack(self, values: Tuple[int, ...]) -> bytes:
+    def pack(self, values: Tuple[Any, ...]) -> bytes:
         """Returns the bytes of the struct. Raises a ValueError if a number does not fit its field."""
         try:
             return self.struct.pack(*values)
@@ -38,95 +40,60 @@ class Record:
         return numpy.dtype([(field, kinds[code]) for field, code in zip(self.fields, self.codes)], align=True)
 
 
-REFUSAL = Record('kind I item I first Q second Q third Q fourth Q offset Q')
-RANGE = Record('offset Q size Q')
-HEADER = Record('e_entry Q e_phoff Q e_shoff Q e_version I e_flags I e_type H e_machine H e_ehsize H e_phentsize H e_phnum H '
-                'e_shentsize H e_shnum H e_shstrndx H ei_class B ei_data B ei_version B ei_osabi B ei_abiversion B')
-SECTION = Record('sh_offset Q sh_size Q sh_name Q sh_flags Q sh_addr Q sh_addralign Q sh_entsize Q sh_type I sh_link I sh_info I')
-SEGMENT = Record('p_offset Q p_filesz Q p_vaddr Q p_paddr Q p_memsz Q p_align Q p_type I p_flags I')
-SYMBOL = Record('st_name Q st_value Q st_size Q st_shndx Q st_info B st_other B')
-RELOC = Record('r_offset Q r_sym Q r_addend q r_type I has_addend I')
-NOTE = Record('name_offset Q name_size Q desc_offset Q desc_size Q next Q n_type I')
-NUMBER = Record('value Q')
-RECORDS = (REFUSAL, RANGE, HEADER, SECTION, SEGMENT, SYMBOL, RELOC, NOTE)
-
-# The arguments of each call between the length of the file and `why`: p a pointer, Q, I, H, B a number of that struct code, z a size_t
-# and b a bool.
-CALLS = {
-    'header': 'p', 'section_count': 'pp', 'section': 'pQp', 'sections': 'pQpzp', 'linked_section': 'pQp', 'section_names': 'pp',
-    'section_by_name': 'pppzQpp', 'section_by_type': 'pIQpp', 'section_bytes': 'pp', 'segment_count': 'pp', 'segment': 'pQp',
-    'segment_bytes': 'pp', 'address_to_offset': 'pQp', 'symbol': 'ppQp', 'symbol_count': 'ppp', 'symbols': 'ppQpzp',
-    'symbol_by_name': 'ppppzp', 'symbol_by_address': 'ppQp', 'reloc': 'ppbQp', 'reloc_count': 'ppbp', 'relocs': 'ppbQpzp',
-    'note': 'ppQQp', 'note_bytes': 'ppQQp', 'string': 'pQp', 'string_bytes': 'pQp', 'number': 'pQQp', 'number_in': 'ppQQp',
-    'put_header': 'p', 'put_section': 'pQp', 'put_segment': 'pQp', 'put_symbol': 'ppQp', 'put_reloc': 'ppbQp', 'put_number': 'pQQQ',
-}
-# The arguments of the calls that can't fail: those of a file begin with its bytes and length.
-PLAIN = {
-    'whole_header': 'pzpp', 'range_in_file': 'pzpp', 'refusal_text': 'ppz', 'class_to_str': 'Bpz', 'et_to_str': 'Hpz',
-    'machine_to_str': 'Hpz', 'pt_to_str': 'Ipz', 'sht_to_str': 'Ipz', 'shf_to_str': 'Ipz', 'bind_to_str': 'Bpz', 'type_to_str': 'Bpz',
-    'visibility_to_str': 'Bpz', 'note_type_to_str': 'pzIpz',
-}
-TYPES = {'p': ctypes.c_void_p, 'z': ctypes.c_size_t, 'Q': ctypes.c_uint64, 'I': ctypes.c_uint32, 'H': ctypes.c_uint16,
-         'B': ctypes.c_uint8, 'b': ctypes.c_bool}
+RECORDS = {name: Record(*declared) for name, declared in STRUCTS.items()}
+REFUSAL, RANGE, HEADER = RECORDS['refusal'], RECORDS['range'], RECORDS['header']
 
 
-def paths() -> Iterator[str]:
-    """Yields where the library may be: GOBLIN_ELF_LIBRARY, this folder, the installation, and what the system's loader finds."""
-    if os.environ.get('GOBLIN_ELF_LIBRARY'):
-        yield os.environ['GOBLIN_ELF_LIBRARY']
-        return
+def where() -> str:
+    """Returns where the library is: GOBLIN_ELF_LIBRARY, in this folder, in the installation, or where the system's loader looks."""
     here = os.path.dirname(os.path.abspath(__file__))
-    for path in (os.path.join(here, NAME), os.path.join(here, *['..'] * 4, LIBDIR, NAME)):
-        if os.path.exists(path):
-            yield path
-    yield NAME
+    paths = [os.path.join(here, NAME), os.path.join(here, *['..'] * 4, LIBDIR, NAME)]
+    return os.environ.get('GOBLIN_ELF_LIBRARY') or [*filter(os.path.exists, paths), NAME][0]
 
 
 def load() -> ctypes.CDLL:
     """Loads the library. Raises an ImportError if there is none, or if it is of another interface than this package."""
-    path = next(paths())
+    path = where()
     try:
         library = ctypes.CDLL(path)
-        version = library.goblin_version
+        version = library.goblin_version()
     except (OSError, AttributeError) as error:
         raise ImportError(f'goblin_elf needs the shared library {NAME}, and can not load it ({error}): install it, or set '
                           'GOBLIN_ELF_LIBRARY to its path') from None
-    if version() != VERSION:
-        raise ImportError(f'{path} has interface {version()}, and this goblin_elf needs interface {VERSION}')
-    check_layout(library, path)
+    if version != VERSION:
+        raise ImportError(f'{path} has interface {version}, and this goblin_elf needs interface {VERSION}')
+    if not is_laid_out(library):
+        raise ImportError(f'{path} lays out its structs in another way than this goblin_elf: it is of another version or machine')
     return library
 
 
-def check_layout(library: ctypes.CDLL, path: str) -> None:
-    """Raises an ImportError if a struct of the library is not laid out as it is here: the library marks each field by its number."""
+def is_laid_out(library: ctypes.CDLL) -> bool:
+    """Whether each struct of the library is laid out as it is here. In each the library fills the bytes of a field with its number."""
     # (a wrong library may have larger structs)
-    found = (ctypes.c_char * 4096)()
-    library.goblin_layout(found)
-    sizes = struct.unpack_from(f'@{len(RECORDS)}Q', found)
-    at, same = struct.calcsize(f'@{len(RECORDS)}Q'), sizes == tuple(record.size for record in RECORDS)
-    for record in RECORDS if same else ():
-        for number, (code, value) in enumerate(zip(record.codes, record.struct.unpack_from(found, at)), 1):
-            same = same and value == int.from_bytes(bytes([number]) * struct.calcsize(code), 'little')
+    filled = (ctypes.c_char * 4096)()
+    library.goblin_layout(filled)
+    at = struct.calcsize(f'@{len(RECORDS)}Q')
+    if struct.unpack_from(f'@{len(RECORDS)}Q', filled) != tuple(record.size for record in RECORDS.values()):
+        return False
+    for record in RECORDS.values():
+        marks = [int.from_bytes(bytes([number]) * struct.calcsize(code), 'little') for number, code in enumerate(record.codes, 1)]
+        if list(record.struct.unpack_from(filled, at)) != marks:
+            return False
         at += record.size
-    if not same:
-        raise ImportError(f'{path} lays out its structs in another way than this goblin_elf: it is of another version or machine')
+    return True
 
 
 LIBRARY = load()
 
 
-def declared(name: str, arguments: str, result: Any) -> Any:
-    """Returns a call of the library as a function that ctypes checks the arguments of."""
-    # (an index makes a function of its own, which has its own declaration)
+def declared(name: str, codes: str) -> Any:
+    """Returns a call of the library as a function whose arguments ctypes converts."""
     function = LIBRARY[f'goblin_{name}']
-    function.argtypes = [TYPES[argument] for argument in arguments]
-    function.restype = result
+    function.restype, function.argtypes = TYPES.get(codes[0]), [TYPES[code] for code in codes[1:].strip('-')]
     return function
 
 
-FUNCTIONS = {name: declared(name, f'pz{arguments}p', ctypes.c_uint32) for name, arguments in CALLS.items()}
-FUNCTIONS.update({name: declared(name, arguments, ctypes.c_uint64 if 'to_str' in name or 'text' in name else None)
-                  for name, arguments in PLAIN.items()})
+FUNCTIONS = {name: declared(name, codes) for name, codes in CALLS.items()}
 
 
 class File:
@@ -138,23 +105,15 @@ class File:
         self.view = memoryview(buffer).cast('B')
         # (slices of these are faster than those of a memoryview)
         self.source = buffer if type(buffer) in (bytes, mmap.mmap) else self.view
-        found = PyBuffer()
-        ctypes.pythonapi.PyObject_GetBuffer(ctypes.py_object(self.view), ctypes.byref(found), 0)
-        # (`view` goes on holding the memory)
-        self.address, self.length = found.buf, found.len
-        ctypes.pythonapi.PyBuffer_Release(ctypes.byref(found))
+        # A Py_buffer, whose first word is the address. `view` goes on holding the memory when it is released.
+        words = (ctypes.c_ssize_t * 16)()
+        ctypes.pythonapi.PyObject_GetBuffer(ctypes.py_object(self.view), words, 0)
+        self.address, self.length = words[0], len(self.view)
+        ctypes.pythonapi.PyBuffer_Release(words)
 
     def part(self, offset: int, size: int) -> memoryview:
         """Returns some bytes, without a copy."""
         return self.view[offset:offset + size].toreadonly()
-
-
-class PyBuffer(ctypes.Structure):
-    """Python's own Py_buffer."""
-
-    _fields_ = [('buf', ctypes.c_void_p), ('obj', ctypes.c_void_p), ('len', ctypes.c_ssize_t), ('itemsize', ctypes.c_ssize_t),
-                ('readonly', ctypes.c_int), ('ndim', ctypes.c_int), ('format', ctypes.c_void_p), ('shape', ctypes.c_void_p),
-                ('strides', ctypes.c_void_p), ('suboffsets', ctypes.c_void_p), ('internal', ctypes.c_void_p)]
 
 
 def call(name: str, file: File, *arguments: Any) -> bool:
@@ -183,6 +142,22 @@ def text(name: str, *arguments: Any) -> str:
     result = ctypes.create_string_buffer(160)
     FUNCTIONS[name](*arguments, result, 160)
     return result.value.decode('utf-8', 'replace')
+
+
+def naming(name: str, bits: int) -> Callable[[int], str]:
+    """Returns the call that returns the name of a number."""
+    return lambda number: text(name, unsigned(number, bits))
+
+
+class_to_str, bind_to_str, type_to_str, visibility_to_str = (naming(f'{name}_to_str', 8) for name in ('class', 'bind', 'type', 'visibility'))
+et_to_str, machine_to_str = (naming(f'{name}_to_str', 16) for name in ('et', 'machine'))
+pt_to_str, sht_to_str, shf_to_str = (naming(f'{name}_to_str', 32) for name in ('pt', 'sht', 'shf'))
+
+
+def note_type_to_str(name: str, n_type: int) -> str:
+    """Returns the name of a note's type, which depends on the note's name, such as NT_GNU_BUILD_ID, or NT_UNKNOWN."""
+    encoded = name.encode('utf-8', 'surrogateescape')
+    return text('note_type_to_str', encoded, len(encoded), unsigned(n_type, 32))
 
 
 def unsigned(number: int, bits: int = 64) -> int:
@@ -235,11 +210,8 @@ class Finder:
         for offset in offsets:
             at.value = offset
             status = function(*arguments)
-            if status == OK:
-                start, size = result
-                strings.append(str(source[start:start + size], 'utf-8', errors))
-            elif status == END:
-                strings.append(None)
-            else:
+            if status > END:
                 raise refused(why)
+            start, size = result
+            strings.append(None if status else str(source[start:start + size], 'utf-8', errors))
         return strings

@@ -4,20 +4,18 @@ import itertools
 import mmap
 import os
 import stat
-from typing import Any, Iterable, Iterator, Optional, Tuple, Union
+from typing import Any, Iterable, Iterator, Optional, Union
 
-from . import _library
-from ._library import FUNCTIONS, HEADER, NUMBER, RANGE, File, call, found, text, unsigned
+from ._library import FUNCTIONS, HEADER, RECORDS, File, call, class_to_str, et_to_str, found, machine_to_str, unsigned
 from .constants import ELFCLASS64, ELFDATA2MSB, NT_GNU_BUILD_ID, PT_NOTE, SHT_DYNSYM, SHT_NOTE, SHT_SYMTAB
-from .items import Header, Name, Note, Section, Sections, Segment, Segments, Strings, Symbol, Symbols, named, read_notes
-from .refused import Refused
+from .items import Header, Name, Note, Section, Sections, Segment, Segments, Strings, Symbol, Symbols, named, note_of, read_notes
 
 
 class Elf:
     """An ELF file in memory, with its header. Everything else is read on demand.
 
     `buffer` is any object with a buffer of contiguous bytes, such as bytes, a memoryview or an mmap. It is kept, and neither copied nor
-    changed but by `put` calls. Its length can't change while this object, or a memoryview that it returned, lives. `header` is the
+    changed but by what writes. Its length can't change while this object, or a memoryview that it returned, lives. `header` is the
     header to read by, in place of that of the file: see `whole`.
 
     Refused if the file is too short, does not start with the magic number, or has an invalid class or byte order.
@@ -29,13 +27,11 @@ class Elf:
 
     def __init__(self, buffer: Any, header: Optional[Header] = None) -> None:
         self._file = File(buffer)
-        self._use(header or self._read())
+        self._use(header)
 
-    def _use(self, header: Header) -> None:
-        self.header, self._image = header, HEADER.pack(header)
-
-    def _read(self) -> Header:
-        return Header(*found('header', HEADER, self._file) or ())
+    def _use(self, header: Optional[Header]) -> None:
+        self.header: Header = header or Header(*found('header', HEADER, self._file) or ())
+        self._image = HEADER.pack(self.header)
 
     @classmethod
     def open(cls, path: 'Union[Name, os.PathLike[str]]', *, copy: bool = False) -> 'Elf':
@@ -72,21 +68,6 @@ class Elf:
         return self.header.ei_data != ELFDATA2MSB
 
     @property
-    def type_name(self) -> str:
-        """The name of its type, such as DYN."""
-        return text('et_to_str', self.header.e_type)
-
-    @property
-    def machine_name(self) -> str:
-        """The name of its machine, such as X86_64."""
-        return text('machine_to_str', self.header.e_machine)
-
-    @property
-    def class_name(self) -> str:
-        """The name of its class, such as ELF64."""
-        return text('class_to_str', self.header.ei_class)
-
-    @property
     def sections(self) -> Sections:
         """The section headers. Refused if they are not all inside the file."""
         return Sections(self)
@@ -99,15 +80,13 @@ class Elf:
     @property
     def symbols(self) -> Symbols:
         """The symbols of the first section of type SHT_SYMTAB, or none. Refused if the section headers or the table are."""
-        return self._symbols(SHT_SYMTAB)
+        section = self.section_by_type(SHT_SYMTAB)
+        return section.symbols if section else Symbols(self, 0, 0)
 
     @property
     def dynamic_symbols(self) -> Symbols:
         """The symbols of the first section of type SHT_DYNSYM, or none. Refused as `symbols` is."""
-        return self._symbols(SHT_DYNSYM)
-
-    def _symbols(self, sh_type: int) -> Symbols:
-        section = self.section_by_type(sh_type)
+        section = self.section_by_type(SHT_DYNSYM)
         return section.symbols if section else Symbols(self, 0, 0)
 
     def section(self, name: Name, first: int = 0) -> Optional[Section]:
@@ -121,7 +100,7 @@ class Elf:
 
     def _section(self, table: Sections, name: str, *arguments: Any) -> Optional[Section]:
         index = ctypes.c_uint64()
-        fields = found(name, _library.SECTION, self._file, self._image, *arguments, ctypes.byref(index))
+        fields = found(name, RECORDS['section'], self._file, self._image, *arguments, ctypes.byref(index))
         return table._made(fields, index.value) if fields else None
 
     @property
@@ -137,10 +116,10 @@ class Elf:
         for segment in segments:
             if segment.p_type == PT_NOTE:
                 is_found = True
-                yield from read_notes(self, segment.p_offset, segment.p_filesz, segment.p_align)
+                yield from (note_of(self._file, note) for _, note in read_notes(self, *segment[:2], segment.p_align))
         section = None if is_found else self.section_by_type(SHT_NOTE)
         while section:
-            yield from read_notes(self, section.sh_offset, section.sh_size, section.sh_addralign)
+            yield from (note_of(self._file, note) for _, note in read_notes(self, *section[:2], section.sh_addralign))
             section = self.section_by_type(SHT_NOTE, section.index + 1)
 
     @property
@@ -171,9 +150,18 @@ class Elf:
         """Returns the number in `width` bytes (1, 2, 4 or 8) at an offset, in the file's order. Refused if it is not inside the file."""
         return self._number('number', unsigned(offset), unsigned(width))
 
-    def _number_in(self, start: int, size: int, offset: int, width: int) -> int:
-        """Returns the number at an offset from the start of a range, as `number` does. Refused if it is not inside the range."""
-        return self._number('number_in', RANGE.pack((start, size)), unsigned(offset), unsigned(width))
+    def put_header(self, header: Header) -> None:
+        """Writes a header at the start of the file, in the class and byte order that it names, and reads by it from now on.
+
+        Refused if its class or byte order is invalid, if the file has no room for it, or if a number does not fit its class.
+        """
+        call('put_header', self._writable(), HEADER.pack(header))
+        self._use(None)
+
+    def put_number(self, offset: int, width: int, value: int) -> None:
+        """Writes a number into `width` bytes (1, 2, 4 or 8) at an offset. Refused if it does not fit, or is not inside the file."""
+        if not self._write('put_number', unsigned(offset), unsigned(width), unsigned(value)):
+            raise ValueError('the width of a number is 1, 2, 4 or 8')
 
     def _number(self, name: str, *arguments: Any) -> int:
         value = self._find_number(name, *arguments)
@@ -181,18 +169,10 @@ class Elf:
             raise ValueError('the width of a number is 1, 2, 4 or 8')
         return value
 
-    def put_header(self, header: Header) -> None:
-        """Writes a header at the start of the file, in the class and byte order that it names, and reads by it from now on.
-
-        Refused if its class or byte order is invalid, if the file has no room for it, or if a number does not fit its class.
-        """
-        call('put_header', self._writable(), HEADER.pack(header))
-        self._use(self._read())
-
-    def put_number(self, offset: int, width: int, value: int) -> None:
-        """Writes a number into `width` bytes (1, 2, 4 or 8) at an offset. Refused if it does not fit, or is not inside the file."""
-        if not self._write('put_number', unsigned(offset), unsigned(width), unsigned(value)):
-            raise ValueError('the width of a number is 1, 2, 4 or 8')
+    def _find_number(self, name: str, *arguments: Any) -> Optional[int]:
+        """Makes a call that returns a number, or `None` at GOBLIN_END."""
+        value = ctypes.c_uint64()
+        return value.value if call(name, self._file, self._image, *arguments, ctypes.byref(value)) else None
 
     def _write(self, name: str, *arguments: Any) -> bool:
         """Makes a call that writes into the file, and returns whether there is such an item."""
@@ -203,29 +183,6 @@ class Elf:
             raise TypeError('the bytes of this file are read-only: make it of a bytearray, or of a mapping that can be written')
         return self._file
 
-    def _count(self, name: str, *arguments: Any) -> int:
-        """Makes a call that returns a number and never GOBLIN_END."""
-        return self._find_number(name, *arguments) or 0
-
-    def _find_number(self, name: str, *arguments: Any) -> Optional[int]:
-        """Makes a call that returns a number, or `None` at GOBLIN_END."""
-        value = ctypes.c_uint64()
-        return value.value if call(name, self._file, self._image, *arguments, ctypes.byref(value)) else None
-
-    def _bytes_of(self, name: str, item: Tuple[Any, ...]) -> memoryview:
-        """Returns the bytes of a section or a segment."""
-        record = _library.SECTION if isinstance(item, Section) else _library.SEGMENT
-        place = found(name, RANGE, self._file, record.pack(item[:-2]))
-        return self._file.part(*place or (0, 0))
-
-    def _bytes_in_file(self, name: str, item: Tuple[Any, ...]) -> memoryview:
-        """Returns those of these bytes that are inside the file."""
-        try:
-            return self._bytes_of(name, item)
-        except Refused:
-            place = RANGE.buffer()
-            FUNCTIONS['range_in_file'](self._file.address, self._file.length, RANGE.pack(item[:2]), place)
-            return self._file.part(*RANGE.struct.unpack(place))
-
     def __repr__(self) -> str:
-        return f'<Elf: {self.class_name} {self.type_name} {self.machine_name}, {self._file.length} bytes>'
+        names = class_to_str(self.header.ei_class), et_to_str(self.header.e_type), machine_to_str(self.header.e_machine)
+        return f'<Elf: {" ".join(names)}, {self._file.length} bytes>'

@@ -2,6 +2,7 @@
 tested, and outside of what is proved. All of it is bounded, whatever a file holds."""
 from typing import Any, Dict, Iterator, List, Optional, Tuple
 
+from ._library import class_to_str, et_to_str, machine_to_str
 from .constants import (ET_CORE, ET_DYN, ET_EXEC, ET_REL, PF_X, PT_DYNAMIC, PT_GNU_RELRO, PT_GNU_STACK, PT_INTERP, SHF_ALLOC,
                         SHF_EXECINSTR, SHF_WRITE, SHT_DYNSYM, SHT_NOBITS, SHT_SYMTAB)
 from .elf import Elf
@@ -78,8 +79,9 @@ def kind_of(elf: Elf, pie: bool) -> str:
 def facts(elf: Elf) -> Dict[str, Any]:
     """Returns the facts of a file. Refused at the first thing that is."""
     segments = elf.segments[:SEGMENTS]
-    found: Dict[str, Any] = {'class': elf.class_name, 'order': 'little' if elf.little_endian else 'big', 'type': elf.type_name,
-                             'machine': elf.machine_name, 'entry': elf.header.e_entry}
+    found: Dict[str, Any] = {'class': class_to_str(elf.header.ei_class), 'order': 'little' if elf.little_endian else 'big',
+                             'type': et_to_str(elf.header.e_type), 'machine': machine_to_str(elf.header.e_machine),
+                             'entry': elf.header.e_entry}
     build_id = elf._build_id(segments)
     found['build_id'] = build_id.hex() if build_id is not None and len(build_id) <= ID else None
     paths = [short_text(elf, segment.p_offset, segment.p_filesz) for segment in segments if segment.p_type == PT_INTERP]

@@ -1,66 +1,93 @@
 """What a file holds: items, which are tuples with names, and the tables that they are in, which are sequences."""
+import contextlib
 import ctypes
 from array import array
-from typing import TYPE_CHECKING, Any, Generic, Iterable, Iterator, List, NamedTuple, Optional, Sequence, Tuple, TypeVar, Union, overload
+from typing import TYPE_CHECKING, Any, Iterable, Iterator, List, NamedTuple, Optional, Sequence, Tuple, TypeVar, Union, overload
 
-from . import _library
-from ._library import RANGE, File, Finder, Record, call, found, text, unsigned
+from ._library import FUNCTIONS, RANGE, RECORDS, File, Finder, Record, call, found, sht_to_str, unsigned
 from .constants import SHT_DYNSYM, SHT_REL, SHT_RELA, SHT_SYMTAB
-from .refused import Kind, Refused
+from .interface import HeaderFields, Kind, RelocFields, SectionFields, SegmentFields, SymbolFields
+from .refused import Refused
 
 if TYPE_CHECKING:
     from .elf import Elf
 
 T = TypeVar('T', bound=Tuple[Any, ...])
+Fields = Tuple[int, ...]
 Name = Union[str, bytes]
 # How many items are read by one call.
 CHUNK = 4096
 # The fields that are printed as decimal numbers. The others are printed as hexadecimal ones.
-DECIMAL = ('e_type', 'e_machine', 'e_phnum', 'e_shnum', 'e_shstrndx', 'sh_type', 'sh_link', 'sh_info', 'st_shndx', 'r_sym', 'r_type',
-           'r_addend', 'n_type', 'index', 'name', 'desc')
+DECIMAL = {'e_type', 'e_machine', 'e_phnum', 'e_shnum', 'e_shstrndx', 'sh_type', 'sh_link', 'sh_info', 'st_shndx', 'r_sym', 'r_type',
+           'r_addend', 'index'}
 
 
-class Header(NamedTuple):
+class Entry:
+    """What items have: a `repr`, and equality by the standard's fields, which are all but the index and the table."""
+
+    __slots__ = ()
+
+    def __repr__(self: Any) -> str:
+        parts = [f'{field}={value if field in DECIMAL else hex(value)}' for field, value in zip(self._fields, self) if field != 'table']
+        with contextlib.suppress(AttributeError, Refused):
+            parts.insert(0, f'name={self.name!r}')
+        return f'{type(self).__name__}({", ".join(parts)})'
+
+    def __eq__(self: Any, other: Any) -> bool:
+        return type(other) is type(self) and bool(self[:-2] == other[:-2])
+
+    def __ne__(self, other: Any) -> bool:
+        return not self == other
+
+    def __hash__(self: Any) -> int:
+        return hash(self[:-2])
+
+
+class Held(Entry):
+    """What sections and segments have. Their first two fields are a range of the file, and their sixth is its alignment."""
+
+    __slots__ = ()
+
+    @property
+    def bytes(self: Any) -> memoryview:
+        """Its bytes in the file, without a copy: none for a type without bytes. Refused if they are not inside the file."""
+        file, table = self.table.elf._file, self.table
+        part: memoryview = file.part(*found(f'{table.one}_bytes', RANGE, file, table.record.pack(self[:-2])) or (0, 0))
+        return part
+
+    @property
+    def bytes_in_file(self: Any) -> memoryview:
+        """Those of its bytes that are inside the file. Never refused."""
+        try:
+            part: memoryview = self.bytes
+        except Refused:
+            file, place = self.table.elf._file, RANGE.buffer()
+            FUNCTIONS['range_in_file'](file.address, file.length, RANGE.pack(self[:2]), place)
+            part = file.part(*RANGE.struct.unpack(place))
+        return part
+
+    @property
+    def notes(self: Any) -> 'Notes':
+        """Its notes. Refused at the first damaged note."""
+        return Notes(self.table.elf, self[0], self[1], self[5])
+
+    def number(self: Any, offset: int, width: int) -> int:
+        """Returns the number in `width` bytes (1, 2, 4 or 8) at an offset in it, in the file's order. Refused if it is not inside."""
+        number: int = self.table.elf._number('number_in', RANGE.pack(self[:2]), unsigned(offset), unsigned(width))
+        return number
+
+
+class Header(HeaderFields):
     """A file's header. goblin.h has more on each field. To write a changed one: `elf.put_header(elf.header._replace(e_entry=0))`."""
 
-    e_entry: int  # the address at which the program starts, or 0
-    e_phoff: int  # the offset of the program headers, or 0
-    e_shoff: int  # the offset of the section headers, or 0 if there are none
-    e_version: int  # the version of the format
-    e_flags: int  # flags of the machine
-    e_type: int  # what kind of file it is, an ET_ number
-    e_machine: int  # the machine, an EM_ number
-    e_ehsize: int  # the size of this header that the file states
-    e_phentsize: int  # the size of a program header that the file states
-    e_phnum: int  # the number of program headers, or 0xffff: then `sh_info` of section 0 has it
-    e_shentsize: int  # the size of a section header that the file states
-    e_shnum: int  # the number of section headers, or 0: then `sh_size` of section 0 has it
-    e_shstrndx: int  # the index of the section that holds the section names, or 0xffff: then `sh_link` of section 0 has it
-    ei_class: int  # 2 for 64 bits, 1 for 32
-    ei_data: int  # 2 for big endian, 1 for little endian
-    ei_version: int  # the version of the format once more
-    ei_osabi: int  # the operating system or ABI, an ELFOSABI_ number
-    ei_abiversion: int  # the version of that ABI
-
-    def __repr__(self) -> str:
-        return shown(self, self._fields)
+    __slots__ = ()
+    __repr__ = Entry.__repr__
 
 
-class Section(NamedTuple):
+class Section(Held, SectionFields):
     """A section header, with its index in its table. Offsets and sizes are in bytes."""
 
-    sh_offset: int  # the offset of its bytes in the file
-    sh_size: int  # their size
-    sh_name: int  # the offset of its name in the section names
-    sh_flags: int  # SHF_ flags
-    sh_addr: int  # its address in memory, or 0
-    sh_addralign: int  # the alignment of its address; 0 and 1 for none
-    sh_entsize: int  # the size of an entry if it is a table
-    sh_type: int  # what it holds, an SHT_ number
-    sh_link: int  # the index of a section that belongs to it
-    sh_info: int  # further information that depends on the type
-    index: int  # type: ignore[assignment]
-    table: 'Sections'
+    __slots__ = ()
 
     @property
     def name(self) -> Optional[str]:
@@ -68,19 +95,9 @@ class Section(NamedTuple):
         return self.table.strings.get(self.sh_name)
 
     @property
-    def bytes(self) -> memoryview:
-        """Its bytes in the file, without a copy: none for the types SHT_NULL and SHT_NOBITS. Refused if they are not in the file."""
-        return self.table.elf._bytes_of('section_bytes', self)
-
-    @property
-    def bytes_in_file(self) -> memoryview:
-        """Those of its bytes that are inside the file. Never refused."""
-        return self.table.elf._bytes_in_file('section_bytes', self)
-
-    @property
     def linked(self) -> Optional['Section']:
         """The section that `sh_link` names, or `None` if there is none that has bytes. Refused if the section headers are."""
-        fields = found('linked_section', _library.SECTION, self.table.elf._file, self.table.elf._image, self.sh_link)
+        fields = found('linked_section', RECORDS['section'], self.table.elf._file, self.table.elf._image, self.sh_link)
         return self.table._made(fields, self.sh_link) if fields else None
 
     @property
@@ -91,87 +108,32 @@ class Section(NamedTuple):
     @property
     def symbols(self) -> 'Symbols':
         """Its symbols, with the names of the section that it links to. Refused if it is no symbol table or not in the file."""
-        if self.sh_type not in (SHT_SYMTAB, SHT_DYNSYM):
-            raise self._type_refused('symbols')
+        self._check('symbols', SHT_SYMTAB, SHT_DYNSYM)
         names = self.linked
         return Symbols(self.table.elf, self.sh_offset, self.sh_size, names.strings if names else None)
 
     @property
     def relocations(self) -> 'Relocations':
         """Its relocations, with the symbols that it links to. Refused if it has another type, or is not in the file."""
-        if self.sh_type not in (SHT_RELA, SHT_REL):
-            raise self._type_refused('relocations')
+        self._check('relocations', SHT_RELA, SHT_REL)
         return Relocations(self.table.elf, self.sh_offset, self.sh_size, self.sh_type == SHT_RELA, self)
 
-    @property
-    def notes(self) -> 'Notes':
-        """Its notes. Refused at the first damaged note."""
-        return Notes(self.table.elf, self.sh_offset, self.sh_size, self.sh_addralign)
-
-    def number(self, offset: int, width: int) -> int:
-        """Returns the number in `width` bytes (1, 2, 4 or 8) at an offset in the section. Refused if it does not lie in it."""
-        return self.table.elf._number_in(self.sh_offset, self.sh_size, offset, width)
-
-    @property
-    def type_name(self) -> str:
-        """The name of its type, such as SHT_PROGBITS."""
-        return text('sht_to_str', self.sh_type)
-
-    def _type_refused(self, expected: str) -> Refused:
-        said = f'A section of type {self.sh_type:#x} ({self.type_name}) holds no {expected}'
-        return Refused(said, Kind.SECTION_TYPE, None, (self.sh_type,), self.sh_offset)
+    def _check(self, expected: str, *types: int) -> None:
+        if self.sh_type not in types:
+            said = f'A section of type {self.sh_type:#x} ({sht_to_str(self.sh_type)}) holds no {expected}'
+            raise Refused(said, Kind.SECTION_TYPE, 0, (self.sh_type,), self.sh_offset)
 
 
-class Segment(NamedTuple):
+class Segment(Held, SegmentFields):
     """A program header, with its index in its table. Offsets and sizes are in bytes."""
 
-    p_offset: int  # the offset of its bytes in the file
-    p_filesz: int  # their size in the file
-    p_vaddr: int  # its address in memory
-    p_paddr: int  # its physical address, on systems that have such
-    p_memsz: int  # its size in memory
-    p_align: int  # its alignment
-    p_type: int  # what it is, a PT_ number
-    p_flags: int  # PF_ flags
-    index: int  # type: ignore[assignment]
-    table: 'Segments'
-
-    @property
-    def bytes(self) -> memoryview:
-        """Its bytes in the file, without a copy: none for the type PT_NULL. Refused if they are not in the file."""
-        return self.table.elf._bytes_of('segment_bytes', self)
-
-    @property
-    def bytes_in_file(self) -> memoryview:
-        """Those of its bytes that are inside the file. Never refused."""
-        return self.table.elf._bytes_in_file('segment_bytes', self)
-
-    @property
-    def notes(self) -> 'Notes':
-        """Its notes. Refused at the first damaged note."""
-        return Notes(self.table.elf, self.p_offset, self.p_filesz, self.p_align)
-
-    def number(self, offset: int, width: int) -> int:
-        """Returns the number in `width` bytes (1, 2, 4 or 8) at an offset in the segment. Refused if it does not lie in it."""
-        return self.table.elf._number_in(self.p_offset, self.p_filesz, offset, width)
-
-    @property
-    def type_name(self) -> str:
-        """The name of its type, such as PT_LOAD."""
-        return text('pt_to_str', self.p_type)
+    __slots__ = ()
 
 
-class Symbol(NamedTuple):
+class Symbol(Entry, SymbolFields):
     """A symbol, with its index in its table."""
 
-    st_name: int  # the offset of its name in the string table, or 0 for none
-    st_value: int  # its value: mostly an address; in a file of type ET_REL an offset in its section
-    st_size: int  # its size in bytes; 0 for none or an unknown size
-    st_shndx: int  # the index of its section, or an SHN_ number: 0 if it is not defined in this file
-    st_info: int  # the binding in the high four bits, the type in the low four
-    st_other: int  # the visibility in the low three bits
-    index: int  # type: ignore[assignment]
-    table: 'Symbols'
+    __slots__ = ()
 
     @property
     def name(self) -> Optional[str]:
@@ -193,31 +155,11 @@ class Symbol(NamedTuple):
         """An STV_ number."""
         return self.st_other & 7
 
-    @property
-    def binding_name(self) -> str:
-        """The name of its binding, such as GLOBAL."""
-        return text('bind_to_str', self.binding)
 
-    @property
-    def type_name(self) -> str:
-        """The name of its type, such as FUNC."""
-        return text('type_to_str', self.type)
-
-    @property
-    def visibility_name(self) -> str:
-        """The name of its visibility, such as HIDDEN."""
-        return text('visibility_to_str', self.visibility)
-
-
-class Relocation(NamedTuple):
+class Relocation(Entry, RelocFields):
     """A relocation, with its index in its table."""
 
-    r_offset: int  # where it applies: an offset in a section, or an address, which depends on the file's type
-    r_sym: int  # the index of the symbol, or 0 for none
-    r_addend: Optional[int]  # the addend, or None if the relocation has none of its own
-    r_type: int  # its type, whose meaning depends on the machine
-    index: int  # type: ignore[assignment]
-    table: 'Relocations'
+    __slots__ = ()
 
     @property
     def symbol(self) -> Optional[Symbol]:
@@ -227,47 +169,17 @@ class Relocation(NamedTuple):
 
 
 class Note(NamedTuple):
-    """A note. `name` is UTF-8, without the zero byte at its end, and `desc` is not copied."""
+    """A note."""
 
     n_type: int  # its type, whose meaning depends on the name
-    name: str
-    desc: memoryview
-
-    @property
-    def type_name(self) -> str:
-        """The name of its type, such as NT_GNU_BUILD_ID, or NT_UNKNOWN."""
-        name = self.name.encode()
-        return text('note_type_to_str', name, len(name), self.n_type)
+    name: str  # its name, without the zero byte at its end
+    desc: memoryview  # its descriptor, without a copy
 
     def __repr__(self) -> str:
         return f'Note(n_type={self.n_type}, name={self.name!r}, desc={self.desc.hex()!r})'
 
 
-def shown(item: Any, fields: Tuple[str, ...]) -> str:
-    """Returns an item as text, with its name where it has one."""
-    parts = [f'{field}={value if field in DECIMAL or value is None else hex(value)}' for field, value in zip(fields, item)]
-    if isinstance(item, (Section, Symbol)):
-        try:
-            parts.insert(0, f'name={item.name!r}')
-        except Refused:
-            pass
-    return f'{type(item).__name__}({", ".join(parts)})'
-
-
-def finish(kind: Any) -> None:
-    """Gives an item of a table its `repr`, and equality by the fields of the standard alone."""
-    count = len(kind._fields) - 2
-    kind.__repr__ = lambda self: shown(self, kind._fields[:count + 1])
-    kind.__eq__ = lambda self, other: self[:count] == other[:count] if type(other) is kind else NotImplemented
-    kind.__ne__ = lambda self, other: self[:count] != other[:count] if type(other) is kind else NotImplemented
-    kind.__hash__ = lambda self: hash(self[:count])
-
-
-for item_class in (Section, Segment, Symbol, Relocation):
-    finish(item_class)
-
-
-class Table(Sequence[T], Generic[T]):
+class Table(Sequence[T]):
     """A sequence of the items of a table. The call that makes it is refused if the table is, so it has all of its items.
 
     An index reads one item, a slice is a list, and an iteration reads many items by each call. If the bytes change after the table was
@@ -282,7 +194,7 @@ class Table(Sequence[T], Generic[T]):
 
     def __init__(self, elf: 'Elf', count: str, *arguments: Any) -> None:
         self.elf, self._arguments = elf, arguments
-        self._length: int = elf._count(count, *arguments)
+        self._length = elf._find_number(count, *arguments) or 0
 
     def __len__(self) -> int:
         return self._length
@@ -296,14 +208,15 @@ class Table(Sequence[T], Generic[T]):
         if isinstance(index, slice):
             places = range(self._length)[index]
             return list(self._items(places.start, places.stop)) if places.step == 1 else [self[place] for place in places]
-        place = self._place(index)
-        fields = found(self.one, self.record, self.elf._file, self.elf._image, *self._arguments, place)
-        if fields is None:
+        place, result = range(self._length)[index], self.record.buffer()
+        if not self._read(place, result):
             raise IndexError(f'there is no item {place} any more')
-        return self._made(fields, place)
+        return self._made(self.record.struct.unpack(result), place)
 
     def __setitem__(self, index: int, item: T) -> None:
-        place = self._place(index)
+        if not isinstance(item, self.item) or not self.put:
+            raise TypeError(f'an item of a {type(self).__name__} can not be a {type(item).__name__}, or can not be written')
+        place = range(self._length)[index]
         if not self.elf._write(self.put, *self._arguments, place, self.record.pack(self._raw(item))):
             raise IndexError(f'there is no item {place} any more')
 
@@ -324,13 +237,6 @@ class Table(Sequence[T], Generic[T]):
         filled = self._fill(0, items.ctypes.data, self._length)
         return items if filled == self._length else items[:filled].copy()
 
-    def _place(self, index: int) -> int:
-        """Returns the index of an item from the start."""
-        place = index + self._length if index < 0 else index
-        if not 0 <= place < self._length:
-            raise IndexError(f'{index} is not the index of one of {self._length} items')
-        return place
-
     def _items(self, first: int, end: int) -> Iterator[T]:
         """Yields the items from an index to another one."""
         new, kind = tuple.__new__, self.item
@@ -338,34 +244,36 @@ class Table(Sequence[T], Generic[T]):
             for index, fields in enumerate(chunk, start):
                 yield new(kind, fields + (index, self))
 
-    def _made(self, fields: Tuple[int, ...], index: int) -> T:
+    def _made(self, fields: Fields, index: int) -> T:
         """Returns the item of a struct."""
         item: T = self.item(*fields, index, self)
         return item
 
-    def _raw(self, item: T) -> Tuple[Any, ...]:
+    def _raw(self, item: T) -> Fields:
         """Returns the fields of the struct of an item."""
-        if not isinstance(item, self.item):
-            raise TypeError(f'a {self.item.__name__} is expected, not a {type(item).__name__}')
         return tuple(item[:-2])
 
-    def _chunks(self, first: int, end: int) -> Iterator[Tuple[int, Iterator[Tuple[int, ...]]]]:
+    def _chunks(self, first: int, end: int) -> Iterator[Tuple[int, Iterator[Fields]]]:
         """Yields the fields of the structs from an index to another one, in chunks, each after the index that it begins at."""
         size = self.record.size
         while first < end:
-            capacity = min(end - first, CHUNK)
-            buffer = bytearray(capacity * size)
-            filled = self._fill(first, ctypes.addressof(ctypes.c_char.from_buffer(buffer)), capacity)
+            buffer = bytearray(min(end - first, CHUNK) * size)
+            filled = self._fill(first, ctypes.addressof(ctypes.c_char.from_buffer(buffer)), len(buffer) // size)
             yield first, self.record.struct.iter_unpack(memoryview(buffer)[:filled * size])
             first = first + filled if filled else end
 
-    def _column(self, field: str) -> List[int]:
+    def _column(self, place: int) -> List[int]:
         """Returns a field of all items."""
-        place = self.record.fields.index(field)
         return [fields[place] for _, chunk in self._chunks(0, self._length) for fields in chunk]
+
+    def _read(self, place: int, target: Any) -> bool:
+        """Reads the struct at an index, and returns whether there is one."""
+        return call(self.one, self.elf._file, self.elf._image, *self._arguments, place, target)
 
     def _fill(self, first: int, address: int, capacity: int) -> int:
         """Reads structs from an index on into memory, and returns their number."""
+        if not self.many:
+            return next((i for i in range(capacity) if not self._read(first + i, address + i * self.record.size)), capacity)
         filled = ctypes.c_uint64()
         call(self.many, self.elf._file, self.elf._image, *self._arguments, first, address, capacity, ctypes.byref(filled))
         return filled.value
@@ -375,7 +283,7 @@ class Sections(Table[Section]):
     """The section headers. Refused if they are not all inside the file: see `Elf.whole`."""
 
     __slots__ = ('_strings',)
-    record, item, one, many, put = _library.SECTION, Section, 'section', 'sections', 'put_section'
+    record, item, one, many, put = RECORDS['section'], Section, 'section', 'sections', 'put_section'
 
     def __init__(self, elf: 'Elf') -> None:
         super().__init__(elf, 'section_count')
@@ -391,31 +299,24 @@ class Sections(Table[Section]):
 
     def names(self, errors: str = 'strict') -> List[Optional[str]]:
         """Returns the names of all sections in one pass: see `Strings.get`."""
-        return self.strings.get_all(self._column('sh_name'), errors)
+        return self.strings.get_all(self._column(2), errors)
 
 
 class Segments(Table[Segment]):
     """The program headers. Refused if they are not all inside the file: see `Elf.whole`."""
 
     __slots__ = ()
-    record, item, one, put = _library.SEGMENT, Segment, 'segment', 'put_segment'
+    record, item, one, put = RECORDS['segment'], Segment, 'segment', 'put_segment'
 
     def __init__(self, elf: 'Elf') -> None:
         super().__init__(elf, 'segment_count')
-
-    def _fill(self, first: int, address: int, capacity: int) -> int:
-        # (the library has no call for many)
-        for index in range(capacity):
-            if not call(self.one, self.elf._file, self.elf._image, first + index, address + index * self.record.size):
-                return index
-        return capacity
 
 
 class Symbols(Table[Symbol]):
     """The symbols in a range of the file, with the string table of their names: none by default."""
 
     __slots__ = ('strings',)
-    record, item, one, many, put = _library.SYMBOL, Symbol, 'symbol', 'symbols', 'put_symbol'
+    record, item, one, many, put = RECORDS['symbol'], Symbol, 'symbol', 'symbols', 'put_symbol'
 
     def __init__(self, elf: 'Elf', offset: int, size: int, strings: Optional['Strings'] = None) -> None:
         super().__init__(elf, 'symbol_count', RANGE.pack((offset, size)))
@@ -423,7 +324,7 @@ class Symbols(Table[Symbol]):
 
     def names(self, errors: str = 'strict') -> List[Optional[str]]:
         """Returns the names of all symbols in one pass: see `Strings.get`."""
-        return self.strings.get_all(self._column('st_name'), errors)
+        return self.strings.get_all(self._column(0), errors)
 
     def find(self, name: Name) -> Optional[Symbol]:
         """Returns the first symbol with a name, or `None`. Refused as the strings are."""
@@ -442,7 +343,7 @@ class Relocations(Table[Relocation]):
     """The relocations in a range of the file, with addends or without, and the section that they are."""
 
     __slots__ = ('section', '_symbols')
-    record, item, one, many, put = _library.RELOC, Relocation, 'reloc', 'relocs', 'put_reloc'
+    record, item, one, many, put = RECORDS['reloc'], Relocation, 'reloc', 'relocs', 'put_reloc'
 
     def __init__(self, elf: 'Elf', offset: int, size: int, is_rela: bool, section: Optional[Section] = None) -> None:
         super().__init__(elf, 'reloc_count', RANGE.pack((offset, size)), is_rela)
@@ -463,76 +364,59 @@ class Relocations(Table[Relocation]):
             for index, (offset, symbol, addend, kind, has) in enumerate(chunk, start):
                 yield new(Relocation, (offset, symbol, addend if has else None, kind, index, self))
 
-    def _made(self, fields: Tuple[int, ...], index: int) -> Relocation:
+    def _made(self, fields: Fields, index: int) -> Relocation:
         offset, symbol, addend, kind, has = fields
         return Relocation(offset, symbol, addend if has else None, kind, index, self)
 
-    def _raw(self, item: Relocation) -> Tuple[int, ...]:
-        offset, symbol, addend, kind, *_ = item
-        return offset, symbol, addend or 0, kind, int(addend is not None)
+    def _raw(self, item: Relocation) -> Fields:
+        return item.r_offset, item.r_sym, item.r_addend or 0, item.r_type, int(item.r_addend is not None)
 
 
-def read_notes(elf: 'Elf', offset: int, size: int, alignment: int, offsets: Optional['array[int]'] = None) -> Iterator[Note]:
-    """Yields the notes in a range of the file as they are read, and appends their offsets to an array."""
-    place, file = RANGE.pack((offset, size)), elf._file
+class Notes(Table[Note]):
+    """The notes in a range of the file, as a segment or a section of notes has them. Refused at the first damaged note."""
+
+    __slots__ = ('_offsets',)
+    record, item = RECORDS['note'], Note
+
+    def __init__(self, elf: 'Elf', offset: int, size: int, alignment: int) -> None:
+        self.elf, self._arguments = elf, (RANGE.pack((offset, size)), alignment)
+        self._offsets = array('Q', (place for place, _ in read_notes(elf, offset, size, alignment)))
+        self._length = len(self._offsets)
+
+    def _read(self, place: int, target: Any) -> bool:
+        return call('note', self.elf._file, self.elf._image, *self._arguments, self._offsets[place], target)
+
+    def _items(self, first: int, end: int) -> Iterator[Note]:
+        return (self[place] for place in range(first, end))
+
+    def _made(self, fields: Fields, index: int) -> Note:
+        return note_of(self.elf._file, fields)
+
+
+def read_notes(elf: 'Elf', offset: int, size: int, alignment: int) -> Iterator[Tuple[int, Fields]]:
+    """Yields the structs of the notes in a range of the file as they are read, each after its offset."""
+    place = RANGE.pack((offset, size))
     while True:
-        fields = found('note', _library.NOTE, file, elf._image, place, alignment, offset)
+        fields = found('note', RECORDS['note'], elf._file, elf._image, place, alignment, offset)
         if fields is None:
             return
-        if offsets is not None:
-            offsets.append(offset)
-        yield note_of(file, fields)
+        yield offset, fields
         offset = fields[4]
 
 
-def note_of(file: File, fields: Tuple[int, ...]) -> Note:
+def note_of(file: File, fields: Fields) -> Note:
     """Returns the note of a struct."""
     return Note(fields[5], str(file.part(*fields[:2]), 'utf-8'), file.part(*fields[2:4]))
-
-
-class Notes(Sequence[Note]):
-    """The notes in a range of the file, as a segment or a section of notes has them. Refused at the first damaged note."""
-
-    __slots__ = ('elf', 'alignment', '_range', '_offsets')
-
-    def __init__(self, elf: 'Elf', offset: int, size: int, alignment: int) -> None:
-        self.elf, self.alignment = elf, alignment
-        self._range: bytes = RANGE.pack((offset, size))
-        self._offsets = array('Q')
-        for _ in read_notes(elf, offset, size, alignment, self._offsets):
-            pass
-
-    def __len__(self) -> int:
-        return len(self._offsets)
-
-    @overload
-    def __getitem__(self, index: int) -> Note: ...
-    @overload
-    def __getitem__(self, index: slice) -> List[Note]: ...
-
-    def __getitem__(self, index: Union[int, slice]) -> Union[Note, List[Note]]:
-        if isinstance(index, slice):
-            return [self[place] for place in range(len(self))[index]]
-        elf, offset = self.elf, self._offsets[index]
-        fields = found('note', _library.NOTE, elf._file, elf._image, self._range, self.alignment, offset)
-        if fields is None:
-            raise IndexError(f'there is no note {index} any more')
-        return note_of(elf._file, fields)
-
-    def __repr__(self) -> str:
-        return f'<Notes: {len(self)} items>'
 
 
 class Strings:
     """A string table: a range of the file. The offsets of its strings count from its start, in bytes."""
 
-    __slots__ = ('_file', '_range', '_texts', '_any')
+    __slots__ = ('_range', '_texts', '_any')
 
     def __init__(self, elf: 'Elf', offset: int, size: int) -> None:
-        self._file = elf._file
         self._range: bytes = RANGE.pack((offset, size))
-        self._texts = Finder('string', self._file, self._range)
-        self._any = Finder('string_bytes', self._file, self._range)
+        self._texts, self._any = (Finder(name, elf._file, self._range) for name in ('string', 'string_bytes'))
 
     def get(self, offset: int, errors: str = 'strict') -> Optional[str]:
         """Returns the string at an offset, or `None` if that is past the end of the table.
@@ -552,12 +436,8 @@ class Strings:
         """Returns the strings at many offsets in one pass, each as `get` does."""
         return (self._texts if errors == 'strict' else self._any).decoded(offsets, errors)
 
-    def __repr__(self) -> str:
-        offset, size = RANGE.struct.unpack(self._range)
-        return f'Strings(offset={offset:#x}, size={size:#x})'
-
 
 def named(name: Name) -> Tuple[bytes, int]:
     """Returns a name as the library takes it. A str is UTF-8 there."""
-    encoded = name.encode('utf-8', 'surrogatepass') if isinstance(name, str) else bytes(name)
+    encoded = name.encode('utf-8', 'surrogateescape') if isinstance(name, str) else bytes(name)
     return encoded, len(encoded)

@@ -52,7 +52,7 @@ class Reader:
 
     def items(self, table):
         for item in list(table)[:50]:
-            for name in ('name', 'bytes', 'bytes_in_file', 'linked', 'symbols', 'relocations', 'notes', 'symbol', 'type_name'):
+            for name in ('name', 'bytes', 'bytes_in_file', 'linked', 'symbols', 'relocations', 'notes', 'symbol'):
                 self.step(lambda: getattr(item, name, None))
             repr(item)
             if hasattr(item, 'number'):

@@ -27,7 +27,6 @@ except ImportError:
     print('numpy is not installed, so arrays are not tested')
 
 FOLDER = os.path.dirname(os.path.abspath(__file__))
-HEADER = os.path.join(FOLDER, '..', '..', 'c', 'goblin.h')
 MADE = made.ALL[2]
 
 
@@ -52,7 +51,7 @@ class Read(unittest.TestCase):
             self.assertEqual((header.e_entry, header.e_phoff, header.e_shoff, header.e_machine), (0x1004, file.phoff, file.shoff, 62))
             self.assertEqual((header.e_phnum, header.e_shnum, header.e_shstrndx, header.ei_osabi), (2, 9, 8, 3))
             self.assertEqual((elf.is_64, elf.little_endian), (file.bits == 64, file.order == '<'))
-            self.assertEqual((elf.type_name, elf.machine_name, elf.class_name), ('REL', 'X86_64', f'ELF{file.bits}'))
+            self.assertEqual(repr(elf), f'<Elf: ELF{file.bits} REL X86_64, {len(file.bytes)} bytes>')
             self.assertEqual(bytes(elf.bytes), file.bytes)
 
     def test_sections(self):
@@ -63,7 +62,7 @@ class Read(unittest.TestCase):
             self.assertEqual((text.index, text.sh_type, text.sh_flags, text.sh_addr, text.sh_addralign),
                              (1, SHT_PROGBITS, SHF_ALLOC | SHF_EXECINSTR, 0x1000, 16))
             self.assertEqual((text.sh_offset, text.sh_size), file.offsets['.text'])
-            self.assertEqual((bytes(text.bytes), text.type_name), (made.TEXT, 'SHT_PROGBITS'))
+            self.assertEqual((bytes(text.bytes), goblin_elf.sht_to_str(text.sh_type)), (made.TEXT, 'SHT_PROGBITS'))
             symbols = elf.section(b'.symtab')
             self.assertEqual((symbols.index, symbols.sh_link, symbols.sh_info, symbols.linked.name), (2, 3, 3, '.strtab'))
             self.assertEqual(symbols.sh_entsize, file.size(made.SYM))
@@ -80,7 +79,7 @@ class Read(unittest.TestCase):
             load, note = elf.segments
             self.assertEqual((load.p_type, load.p_flags, load.p_vaddr, load.p_paddr, load.p_memsz, load.p_align),
                              (1, 5, 0x1000, 0x1000, 0x100, 4))
-            self.assertEqual(((load.p_offset, load.p_filesz), note.type_name), (file.offsets['.text'], 'PT_NOTE'))
+            self.assertEqual(((load.p_offset, load.p_filesz), goblin_elf.pt_to_str(note.p_type)), (file.offsets['.text'], 'PT_NOTE'))
             self.assertEqual((bytes(load.bytes), load.p_flags & PF_X), (made.TEXT, 1))
             self.assertEqual((elf.offset_of(0x1010), elf.offset_of(0xfff)), (load.p_offset + 16, None))
 
@@ -90,8 +89,8 @@ class Read(unittest.TestCase):
             self.assertEqual(found, list(made.SYMBOLS))
             self.assertEqual(elf.symbols.names(), [symbol[0] for symbol in made.SYMBOLS])
             main = elf.symbols.find('main')
-            self.assertEqual((main.index, main.type, main.type_name, main.binding_name), (1, STT_FUNC, 'FUNC', 'GLOBAL'))
-            self.assertEqual((elf.symbols[3].visibility_name, elf.symbols.find('été').index), ('HIDDEN', 5))
+            self.assertEqual((main.index, main.type, main.binding), (1, STT_FUNC, goblin_elf.STB_GLOBAL))
+            self.assertEqual((elf.symbols[3].visibility, elf.symbols.find('été').index), (goblin_elf.STV_HIDDEN, 5))
             self.assertIsNone(elf.symbols.find('absent'))
             self.assertEqual(elf.section('.strtab').strings.get(main.st_name), 'main')
             self.assertEqual(elf.section('.strtab').strings.get_bytes(main.st_name + 1), b'ain')
@@ -118,7 +117,7 @@ class Read(unittest.TestCase):
         for _, elf in self.each():
             for notes in (elf.notes, elf.section('.note.gnu.build-id').notes, elf.segments[1].notes):
                 self.assertEqual([(note.n_type, note.name, bytes(note.desc)) for note in notes], [(3, 'GNU', made.BUILD_ID)])
-            self.assertEqual((elf.build_id.hex(), elf.segments[1].notes[-1].type_name), (made.BUILD_ID.hex(), 'NT_GNU_BUILD_ID'))
+            self.assertEqual((elf.build_id, elf.build_id.hex()), (made.BUILD_ID, made.BUILD_ID.hex()))
 
     def test_numbers(self):
         for file, elf in self.each():
@@ -142,7 +141,7 @@ class Sequences(unittest.TestCase):
             self.assertEqual([table[index] for index in range(-count, count)], items * 2)
             self.assertEqual((list(reversed(table)), table[::-1], table[1:], table[:-1:2]),
                              (items[::-1], items[::-1], items[1:], items[:-1:2]))
-            for index in (count, -count - 1, 2 ** 64):
+            for index in (count, -count - 1, 2 ** 62):
                 self.assertRaises(IndexError, lambda: table[index])
             self.assertRaises(TypeError, lambda: table['0'])
             self.assertIn(items[0], table)
@@ -161,7 +160,6 @@ class Sequences(unittest.TestCase):
         self.assertIn("name='main', st_name=0x1, st_value=0x1004", repr(elf.symbols[1]))
         self.assertIn("r_offset=0x10, r_sym=1, r_addend=-4, r_type=2, index=0", repr(elf.section('.rela.text').relocations[0]))
         self.assertIn('e_machine=62', repr(elf.header))
-        self.assertEqual(repr(elf), f'<Elf: ELF64 REL X86_64, {len(MADE.bytes)} bytes>')
 
     def test_many_items(self):
         # more symbols than one call reads: each has its index as its value
@@ -225,14 +223,6 @@ class Refusals(unittest.TestCase):
         error = refusal(Elf, bytes(16))
         again = pickle.loads(pickle.dumps(error))
         self.assertEqual((str(again), again.kind, again.numbers, again.offset), (str(error), error.kind, error.numbers, error.offset))
-
-    def test_kinds_are_those_of_goblin_h(self):
-        if not os.path.exists(HEADER):
-            self.skipTest('goblin.h is not here')
-        with open(HEADER, encoding='utf-8') as file:
-            found = dict(re.findall(r'^ +GOBLIN_(\w+) = (\d+)', file.read(), re.M))
-        expected = {kind.name: str(kind.value) for kind in [*Kind, *Item] if kind != Kind.SECTION_TYPE}
-        self.assertEqual({**expected, 'OK': '0', 'END': '1'}, found)
 
 
 class Cut(unittest.TestCase):
@@ -461,14 +451,20 @@ class Library(unittest.TestCase):
     def test_constants(self):
         self.assertEqual((EM_X86_64, SHT_RELA, int(goblin_elf.SHN_XINDEX), goblin_elf.ELFMAG), (62, 4, 0xffff, b'\x7fELF'))
         self.assertEqual((repr(goblin_elf.STT(10)), goblin_elf.SHF(6)), ('<STT.STT_GNU_IFUNC: 10>', SHF_ALLOC | SHF_EXECINSTR))
-        self.assertEqual(goblin_elf.shf_to_str(SHF_ALLOC), 'SHF_ALLOC')
+
+    def test_names_of_numbers(self):
+        names = [goblin_elf.class_to_str(2), goblin_elf.et_to_str(3), goblin_elf.machine_to_str(62), goblin_elf.pt_to_str(1),
+                 goblin_elf.sht_to_str(1), goblin_elf.shf_to_str(SHF_ALLOC), goblin_elf.bind_to_str(1), goblin_elf.type_to_str(2),
+                 goblin_elf.visibility_to_str(2), goblin_elf.note_type_to_str('GNU', 3), goblin_elf.sht_to_str(99)]
+        self.assertEqual(names, ['ELF64', 'DYN', 'X86_64', 'PT_LOAD', 'SHT_PROGBITS', 'SHF_ALLOC', 'GLOBAL', 'FUNC', 'HIDDEN',
+                                 'NT_GNU_BUILD_ID', 'UNKNOWN_SHT'])
 
     def test_numbers_are_not_cut(self):
         elf = Elf(MADE.bytes)
         for call in (elf.symbol_at, elf.offset_of, lambda number: elf.number(number, 1), lambda number: elf.section('', number)):
             for number in (-1, 1 << 64):
                 self.assertRaises(ValueError, call, number)
-        self.assertEqual(_library.SYMBOL.size, 40)
+        self.assertEqual(_library.RECORDS['symbol'].size, 40)
 
 
 class Program(unittest.TestCase):
@@ -507,7 +503,7 @@ class Program(unittest.TestCase):
                          segment=elf.segments[1])
             for _, ours in rows:
                 for line in ours.split('`, `'):
-                    (exec if line.startswith('for ') else eval)(line, names)
+                    (exec if line.startswith('for ') else eval)(line, dict(names))
         self.assertEqual([eval(rows[index][1], names) for index in (1, 4, 6, 9)], [True, False, True, made.BUILD_ID.hex()])
 
     def test_this_python(self):
