@@ -64,6 +64,11 @@ bench-faces:
 	$(has_rt)
 	@sh checks/bench_faces.sh
 
+# Times the Python package beside pyelftools and readelf, where these are installed: make bench-python [FILE=/usr/lib/libx.so]
+bench-python:
+	$(has_rt)
+	@sh checks/bench_python.sh
+
 # Installs the library with its header, pkg-config file, examples and Rust crate, and the program if it is proved and built: make install
 # PREFIX=/usr/local [DESTDIR=/tmp/root] [LIBDIR=lib/x86_64-linux-gnu] [CPU=x86-64-v2] [SHARED=1] [TARGET=aarch64-unknown-linux-gnu];
 # or puts the same into an archive, whose name has the version and the target: make dist [TARGET=aarch64-unknown-linux-gnu].
@@ -81,4 +86,4 @@ uninstall:
 dist:
 	@sh faces/install.sh --archive
 
-.PHONY: help try show test gate faces edits margin bench bench-faces install uninstall dist
+.PHONY: help try show test gate faces edits margin bench bench-faces bench-python install uninstall dist

@@ -1,5 +1,5 @@
 #!/bin/sh
-# Tests the library's calls from C, Rust and JavaScript: sh checks/faces.sh [FILE ..]
+# Tests the library's calls from C, Rust, JavaScript and Python: sh checks/faces.sh [FILE ..]
 # It runs the scripts of checks/faces, one for each subject, in a folder of this run. If the machine lacks a compiler, an emulator or
 # binutils, a line says what is skipped, and the test passes. The FILEs are compared with binutils, by default files of this machine.
 # Run it from the repository's root.
@@ -10,7 +10,7 @@ trap 'exit 1' HUP INT TERM
 start=$(date +%s)
 python3 faces/constants.py --check
 python3 faces/constants.py --made
-echo "the constants in C are the library's, and those in Rust and JavaScript are made of it"
+echo "the constants in C are the library's, and those in Rust, JavaScript and Python are made of it"
 # Runs the script of a subject: try SUBJECT [FILE ..]
 try() {
     subject=$1
@@ -26,6 +26,6 @@ if ! command -v cc > /dev/null; then
     echo "cc is not installed, so the calls from C, Rust and JavaScript are not tested: install a C compiler"
     exit 0
 fi
-for subject in c rust archive aarch64 webassembly; do try $subject; done
+for subject in c rust python archive aarch64 webassembly; do try $subject; done
 try comparison "$@"
 echo "faces: the calls from C, Rust and JavaScript are as expected"

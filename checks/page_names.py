@@ -7,13 +7,15 @@ Of the code between backquotes on each page, outside quoted blocks:
 - a file or a folder is there;
 - in a CALLING.md a module in parentheses, as (`Strtab`), is one of specs/, and the name before it stands there;
 - in docs/PROVED.md a name after a function or module and a colon, as in `walk`: `looks`, is a clause in its file or a definition.
-Columns of a table with the head goblin, libelf or object hold names of others, which may stand anywhere.
+Columns of a table with the head goblin, libelf, object, pyelftools or lief hold names of others, which may stand anywhere.
 """
 import os
 import re
 import subprocess
 import sys
 
+# The heads of such columns.
+HEADS = ('goblin', 'libelf', 'object', 'pyelftools', 'lief')
 # Names of others that stand in no such column: of libelf and of CMake.
 OTHERS = {'elf_getshdrnum', 'PkgConfig', 'GOBLIN'}
 READ = ('crates/*/src/*', 'crates/*/specs/*', 'faces', 'checks', 'Makefile', 'crates.txt', ':!*.md')
@@ -104,7 +106,7 @@ def others_in(lines):
     for line, below in zip(lines, lines[1:] + ['']):
         cells = line.split('|')
         if re.fullmatch('[|-]+', below):
-            columns = [i for i, cell in enumerate(cells) if cell.strip('`') in ('goblin', 'libelf', 'object') or cell.startswith('goblin ')]
+            columns = [i for i, cell in enumerate(cells) if cell.strip('`') in HEADS or cell.startswith('goblin ')]
         words.update(*(words_in(cells[i]) for i in columns if line.startswith('|')))
     return words
 

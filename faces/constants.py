@@ -1,18 +1,18 @@
 #!/usr/bin/env python3
-"""Writes the constants of the library's records for C, Rust and JavaScript.
+"""Writes the constants of the library's records for C, Rust, JavaScript and Python.
 
-    python3 faces/constants.py            writes the end of faces/c/goblin.h, faces/rust/src/constants/*.rs and
-                                          faces/web/constants.js
-    python3 faces/constants.py --made     writes only the file for JavaScript
+    python3 faces/constants.py            writes the end of faces/c/goblin.h, faces/rust/src/constants/*.rs, faces/web/constants.js, and
+                                          constants.py and interface.py of faces/python/goblin_elf
+    python3 faces/constants.py --made     writes only the files for JavaScript and Python
     python3 faces/constants.py --check    writes nothing, and fails if goblin.h or a file for Rust is not what it would write
 
 The names, values, types and comments are those of crates/goblin_headers and crates/goblin_records. So a constant is written by
 hand only there. Git has goblin.h, because it is read as documentation, and the files for Rust, so that cargo can take the crate from
-a repository. It ignores the file for JavaScript, which faces/install.sh and checks/faces.sh make; by hand it must be made before
-node reads it.
+a repository. It ignores the files for JavaScript and Python, which faces/install.sh and checks/faces.sh make; by hand they must be
+made before node or Python reads them.
 
-Flags of sections and indices of sections get the type of the field that holds them: `sh_flags` and `st_shndx`. JavaScript also gets the
-number of the interface, from goblin.h.
+Flags of sections and indices of sections get the type of the field that holds them: `sh_flags` and `st_shndx`. JavaScript and Python also
+get the number of the interface, from goblin.h, and Python all that it declares.
 """
 import os
 import re
@@ -194,6 +194,158 @@ export const VERSION = {interface()};
     return text
 
 
+# ---- Python ----
+
+# The constants that make an enumeration, by the start of their names, and those whose values are flags.
+GROUPS = re.compile(r'(ELFCLASS|ELFDATA|ELFOSABI|ELF_NOTE_OS|NT_GNU|NT|ET|EM|PT|PF|SHN|SHT|SHF|STB|STT|STV)(?=_|NONE|NUM|\d)')
+FLAGS = ('PF', 'SHF')
+# The ends of ranges, which come after all other members, so that a number that also has a name of its own gets that one.
+BOUND = re.compile(r'_(LO|HI)(OS|PROC|SUNW|USER|RESERVE)$|NUM$')
+
+
+def py_group(constant):
+    """The name of the enumeration that a constant is a member of, or an empty name."""
+    match = GROUPS.match(constant.name)
+    return match[1] if match and not constant.is_list() and 'NUM_' not in constant.name else ''
+
+
+def py_value(constant):
+    if constant.is_text():
+        return repr(bytes_of(constant))
+    if constant.is_list():
+        names = textwrap.fill(', '.join(constant.items()) + ',', WIDTH, initial_indent='    ', subsequent_indent='    ')
+        return f'(\n{names}\n)'
+    return re.sub(r'(?<=[\da-f])_(?=[\da-f])', '', constant.value)
+
+
+def py_comment(constant, indent):
+    text = re.sub(r'\[(`\w+`)\]', r'\1', ' '.join(constant.comment))
+    return textwrap.fill(text, WIDTH, initial_indent=f'{indent}# ', subsequent_indent=f'{indent}# ', break_on_hyphens=False) + '\n'
+
+
+def py_enumeration(name, constants):
+    kind = 'IntFlag' if name in FLAGS else 'IntEnum'
+    text = f'\n\nclass {name}(enum.{kind}):\n    """The constants {name}, as Python integers."""\n\n'
+    for constant in sorted(constants, key=lambda constant: bool(BOUND.search(constant.name))):
+        text += py_comment(constant, '    ') + f'    {constant.name} = {py_value(constant)}\n'
+    return text + '\n\n' + ''.join(f'{constant.name} = {name}.{constant.name}\n' for constant in constants)
+
+
+def py_file():
+    groups, others = {}, []
+    for record, crate, _, _ in RECORDS:
+        constants = constants_of(record, crate)
+        known = {constant.name for constant in constants}
+        for constant in constants:
+            group = py_group(constant)
+            (groups.setdefault(group, []) if group else others).append((constant.name, constant))
+        for bits in CLASSES:
+            more = constants_of_class(record, crate, bits)
+            others += [(f'{constant.name}{bits}', constant) for constant in more if f'{constant.name}{bits}' not in known]
+    text = f"""\"\"\"The constants of goblin's ELF layer, by the standard's names.
+
+{MADE}
+\"\"\"
+import enum
+
+# The number of the interface: GOBLIN_VERSION of goblin.h.
+VERSION = {interface()}
+"""
+    for name, members in groups.items():
+        text += py_enumeration(name, [constant for _, constant in members])
+    for name, constant in others:
+        text += '\n' + py_comment(constant, '') + f'{name} = {py_value(constant)}\n'
+    return text
+
+
+# What goblin.h declares, for the module interface.py: the structs that are items, with the class of their tables, and the types of C as
+# codes of Python's module struct. `z` is a size_t, `b` a bool, and `p` any pointer.
+ITEMS = {'header': '', 'section': 'Sections', 'segment': 'Segments', 'symbol': 'Symbols', 'reloc': 'Relocations'}
+CODES = {'uint64_t': 'Q', 'int64_t': 'q', 'uint32_t': 'I', 'uint16_t': 'H', 'uint8_t': 'B', 'size_t': 'z', 'bool': 'b', 'void': '-'}
+
+
+def words_of(comment):
+    """A comment of C as one line, with the names of Python."""
+    return re.sub(r'\ba (?=[ES]\w*_ )', 'an ', re.sub(r'\bGOBLIN_', '', ' '.join(comment.split())))
+
+
+def structs():
+    """Yields each struct of goblin.h: its name, its comment, and its fields, each with its code and comment. A range is two fields."""
+    pattern = r'/\* ([^/]*?) \*/\ntypedef struct \{\n(.*?)^\} goblin_(\w+)_t;'
+    for comment, body, name in re.findall(pattern, read(HEADER), re.M | re.S):
+        fields = []
+        for kind, field, text in re.findall(r'^ +(\w+) (\w+);(?: +/\*(.*?)\*/)?', body, re.M | re.S):
+            if kind != 'goblin_range_t':
+                fields.append((field, CODES.get(kind), words_of(text)))
+                continue
+            # (the standard's names of its two numbers)
+            names = {'section': ('sh_offset', 'sh_size'), 'segment': ('p_offset', 'p_filesz')}.get(name, (f'{field}_offset', f'{field}_size'))
+            fields += [(names[0], 'Q', words_of(text)), (names[1], 'Q', '')]
+        if name != 'layout':
+            yield name, words_of(comment), fields
+
+
+def numbers_in(comment):
+    """How many numbers a refusal has, by its comment."""
+    return len(comment.split(': ')[1].split('. ')[0].split(';')) if ': ' in comment else 0
+
+
+def py_members(name, comment, members):
+    text = f'\n\nclass {name}(enum.IntEnum):\n    """{comment}"""\n\n'
+    return text + ''.join(textwrap.indent(textwrap.fill(words, WIDTH, initial_indent='# ', subsequent_indent='# '), '    ') + '\n'
+                          + f'    {member} = {value}\n' for words, member, value in members)
+
+
+def py_item(name, comment, fields):
+    text = f'\n\nclass {name.capitalize()}Fields(NamedTuple):\n    """{comment}"""\n\n'
+    for field, _, words in fields:
+        if field == 'r_addend':
+            text += '    # the addend, or `None` if the relocation has none of its own\n    r_addend: Optional[int]\n'
+        elif field != 'has_addend':
+            if words:
+                text += textwrap.indent(textwrap.fill(words, WIDTH, initial_indent='# ', subsequent_indent='# '), '    ') + '\n'
+            text += f'    {field}: int\n'
+    if ITEMS[name]:
+        text += f"    # the index in its table\n    index: int  # type: ignore[assignment]\n    table: '{ITEMS[name]}'\n"
+    return text
+
+
+def py_interface():
+    header = read(HEADER)
+    refusals, items = re.findall(r'^enum \{\n(.*?)^\};', header, re.M | re.S)[:2]
+    pattern = r'/\* ((?:(?!\*/).)*) \*/\n +GOBLIN_(\w+) = (\d+)'
+    kinds = [(words_of(comment.split('*/')[-1]), name, value) for comment, name, value in re.findall(pattern, refusals, re.S)]
+    # (not each item has a comment)
+    parts = re.findall(r'GOBLIN_(\w+) = (\d+)', items)
+    calls = [(name, CODES[result] + ''.join('p' if '*' in argument else CODES[argument.split()[0]] for argument in arguments.split(',')))
+             for result, name, arguments in re.findall(r'^(\w+) goblin_(\w+)\(([^)]*)\);', header, re.M)]
+    all_structs = list(structs())
+    text = f"""\"\"\"What goblin.h declares: its refusals, its structs and its calls.
+
+{MADE.replace("the library's constants", HEADER)}
+\"\"\"
+import enum
+from typing import TYPE_CHECKING, NamedTuple, Optional
+
+if TYPE_CHECKING:
+    from .items import {', '.join(sorted(filter(None, ITEMS.values())))}
+"""
+    own = ('A section was read as symbols or relocations, and has another type: its type. This kind is the package\'s own.', 'SECTION_TYPE',
+           '0xffffffff')
+    text += py_members('Kind', 'The kinds of refusals. After the colon are the numbers that belong to a kind, in order.', [*kinds, own])
+    text += '\n\nclass Item(enum.IntEnum):\n    """What a refusal is about, if its kind alone does not say it."""\n\n'
+    text += ''.join(f'    {name} = {value}\n' for name, value in parts)
+    for name, comment, fields in all_structs:
+        text += py_item(name, comment, fields) if name in ITEMS else ''
+    text += '\n\n# How many numbers belong to each kind.\nNUMBERS = {\n'
+    text += ''.join(f'    Kind.{name}: {numbers_in(words)},\n' for words, name, _ in [*kinds, own])
+    text += '}\n\n# The fields of each struct, and their codes in the module struct.\nSTRUCTS = {\n'
+    text += ''.join(f"    '{name}': ({tuple(field for field, _, _ in fields)!r}, '{''.join(code for _, code, _ in fields)}'),\n"
+                    for name, _, fields in all_structs)
+    text += '}\n\n# The result of each call, and then its arguments: p a pointer, z a size_t, b a bool, - nothing, else as in the module struct.\n'
+    return text + 'CALLS = {\n' + ''.join(f"    '{name}': '{codes}',\n" for name, codes in calls) + '}\n'
+
+
 # ---- C ----
 
 START = '/* ---- constants ----\n'
@@ -283,6 +435,8 @@ def main(arguments):
             print(f'{name} does not have the constants of the library: run python3 faces/constants.py')
         return 1 if stale else 0
     write('faces/web/constants.js', js_file())
+    write('faces/python/goblin_elf/constants.py', py_file())
+    write('faces/python/goblin_elf/interface.py', py_interface())
     for name, text in [] if arguments else of_git:
         if write(name, text):
             print(f'{name} is written anew')

@@ -111,6 +111,7 @@ install_library() {
     # (what compares the crate with its repository stays there)
     put_all faces/rust/tests share/goblin_c/rust/tests ! -name repository.rs
     put faces/rust/Cargo.toml share/goblin_c/rust/Cargo.toml
+    install_python
     if [ "$shared" ]; then
         link_shared
         put "$folder/shared" "$shared"
@@ -130,12 +131,30 @@ install_library() {
     put "$folder/page" share/goblin_c/README.md
 }
 
+# The Python package, which finds the shared library in LIBDIR.
+install_python() {
+    put_all faces/python/goblin_elf share/goblin_c/python/goblin_elf '(' -name '*.py' -o -name py.typed ')' ! -name _library.py
+    put_edited "s|^LIBDIR = 'lib'|LIBDIR = '$libdir'|" faces/python/goblin_elf/_library.py share/goblin_c/python/goblin_elf/_library.py
+    put faces/python/examples/scan.py share/goblin_c/python/examples/scan.py
+    put faces/python/README.md share/goblin_c/python/README.md
+}
+
+# Makes the wheel of the Python package into a folder, where there is a compiler for the shared library in it.
+make_wheel() {
+    if ! command -v "$compiler" > /dev/null; then
+        echo "the wheel is left out: its shared library needs a C compiler, and there is no $compiler"
+        return
+    fi
+    link_shared
+    echo "wrote $(python3 faces/python/wheel.py "$folder/shared" "${target%%-*}" "$1")"
+}
+
 # Links the shared library, which exports the calls alone.
 link_shared() {
     echo '{ global: goblin_*; local: *; };' > "$folder/exports"
     # (the compiler may have arguments)
     # shellcheck disable=SC2086
-    $compiler -shared -o "$folder/shared" -Wl,-soname,"${shared##*/}" -Wl,--version-script="$folder/exports" -Wl,-z,defs,-z,relro,-z,now \
+    $compiler -shared -o "$folder/shared" -Wl,-soname,libgoblin_c.so.$interface -Wl,--version-script="$folder/exports" -Wl,-z,defs,-z,relro,-z,now \
         -Wl,--whole-archive "$library" -Wl,--no-whole-archive > "$folder/said" 2>&1 \
         || { cat "$folder/said"; fail "the shared library can't be linked by $compiler, for the reason above"; }
 }
@@ -202,6 +221,8 @@ remove_from() {
         sed '/\/$/d' "$list" | while read -r file; do rm -f "$below/$file"; done
         rm "$list"
     done
+    # (Python leaves what it compiled beside the package)
+    rm -rf "$below/share/goblin_c/python/goblin_elf/__pycache__"
     # (lists of earlier versions name no folders)
     if [ -d "$below/share/goblin_c" ]; then find "$below/share/goblin_c" -depth -type d -empty -delete; fi
     LC_ALL=C sort -r "$folder/made" | while read -r made; do
@@ -282,3 +303,4 @@ mkdir -p "$(dirname "$archive")"
 tar -C "$folder" --sort=name --owner=0 --group=0 --numeric-owner --mode=u=rwX,go=rX --mtime=@0 -cf "$folder/tar" "$name"
 gzip -9n < "$folder/tar" > "$archive"
 echo "wrote goblin_c $version for $target to $archive"
+if [ "$target" != wasm64-unknown-unknown ]; then make_wheel "$(dirname "$archive")"; fi

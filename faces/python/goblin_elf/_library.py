@@ -1,0 +1,217 @@
+"""The shared library by ctypes: where it is, its calls and its structs. The rest of the package is written over `call` and `found`."""
+import ctypes
+import mmap
+import os
+import struct
+from typing import Any, Callable, Iterable, List, Optional, Tuple
+
+from .constants import VERSION
+from .interface import CALLS, STRUCTS
+from .refused import Refused
+
+OK, END = 0, 1
+# The folder of the library below the folder of an installation, of which this file is share/goblin_c/python/goblin_elf/_library.py.
+LIBDIR = 'lib'
+NAME = f'libgoblin_c.so.{VERSION}'
+TYPES = {'p': ctypes.c_void_p, 'z': ctypes.c_size_t, 'Q': ctypes.c_uint64, 'I': ctypes.c_uint32, 'H': ctypes.c_uint16,
+         'B': ctypes.c_uint8, 'b': ctypes.c_bool}
+
+
+class Record:
+    """A struct of goblin.h: its fields, each with its code in the module `struct`, in the machine's byte order."""
+
+    def __init__(self, fields: Tuple[str, ...], codes: str) -> None:
+        self.fields, self.codes = fields, codes
+        self.struct = struct.Struct(f'@{codes}0Q')
+        self.size = self.struct.size
+        self.buffer = ctypes.c_char * self.size
+
+    def pack(self, values: Tuple[Any, ...]) -> bytes:
+        """Returns the bytes of the struct. Raises a ValueError if a number does not fit its field."""
+        try:
+            return self.struct.pack(*values)
+        except struct.error as error:
+            raise ValueError(f'a field does not fit its number of bits: {error}') from None
+
+    def dtype(self) -> Any:
+        """Returns the struct as a dtype of numpy."""
+        import numpy
+        kinds = {'Q': 'u8', 'q': 'i8', 'I': 'u4', 'H': 'u2', 'B': 'u1'}
+        return numpy.dtype([(field, kinds[code]) for field, code in zip(self.fields, self.codes)], align=True)
+
+
+RECORDS = {name: Record(*declared) for name, declared in STRUCTS.items()}
+REFUSAL, RANGE, HEADER = RECORDS['refusal'], RECORDS['range'], RECORDS['header']
+
+
+def where() -> str:
+    """Returns where the library is: GOBLIN_ELF_LIBRARY, in this folder, in the installation, or where the system's loader looks."""
+    here = os.path.dirname(os.path.abspath(__file__))
+    paths = [os.path.join(here, NAME), os.path.join(here, *['..'] * 4, LIBDIR, NAME)]
+    return os.environ.get('GOBLIN_ELF_LIBRARY') or [*filter(os.path.exists, paths), NAME][0]
+
+
+def load() -> ctypes.CDLL:
+    """Loads the library. Raises an ImportError if there is none, or if it is of another interface than this package."""
+    path = where()
+    try:
+        library = ctypes.CDLL(path)
+        version = library.goblin_version()
+    except (OSError, AttributeError) as error:
+        raise ImportError(f'goblin_elf needs the shared library {NAME}, and can not load it ({error}): install it, or set '
+                          'GOBLIN_ELF_LIBRARY to its path') from None
+    if version != VERSION:
+        raise ImportError(f'{path} has interface {version}, and this goblin_elf needs interface {VERSION}')
+    if not is_laid_out(library):
+        raise ImportError(f'{path} lays out its structs in another way than this goblin_elf: it is of another version or machine')
+    return library
+
+
+def is_laid_out(library: ctypes.CDLL) -> bool:
+    """Whether each struct of the library is laid out as it is here. In each the library fills the bytes of a field with its number."""
+    # (a wrong library may have larger structs)
+    filled = (ctypes.c_char * 4096)()
+    library.goblin_layout(filled)
+    at = struct.calcsize(f'@{len(RECORDS)}Q')
+    if struct.unpack_from(f'@{len(RECORDS)}Q', filled) != tuple(record.size for record in RECORDS.values()):
+        return False
+    for record in RECORDS.values():
+        marks = [int.from_bytes(bytes([number]) * struct.calcsize(code), 'little') for number, code in enumerate(record.codes, 1)]
+        if list(record.struct.unpack_from(filled, at)) != marks:
+            return False
+        at += record.size
+    return True
+
+
+LIBRARY = load()
+
+
+def declared(name: str, codes: str) -> Any:
+    """Returns a call of the library as a function whose arguments ctypes converts."""
+    function = LIBRARY[f'goblin_{name}']
+    function.restype, function.argtypes = TYPES.get(codes[0]), [TYPES[code] for code in codes[1:].strip('-')]
+    return function
+
+
+FUNCTIONS = {name: declared(name, codes) for name, codes in CALLS.items()}
+
+
+class File:
+    """The bytes of a file: any object with a buffer, which is kept and whose memory can't move while this or a part of it lives."""
+
+    __slots__ = ('view', 'source', 'address', 'length')
+
+    def __init__(self, buffer: Any) -> None:
+        self.view = memoryview(buffer).cast('B')
+        # (slices of these are faster than those of a memoryview)
+        self.source = buffer if type(buffer) in (bytes, mmap.mmap) else self.view
+        # A Py_buffer, whose first word is the address. `view` goes on holding the memory when it is released.
+        words = (ctypes.c_ssize_t * 16)()
+        ctypes.pythonapi.PyObject_GetBuffer(ctypes.py_object(self.view), words, 0)
+        self.address, self.length = words[0], len(self.view)
+        ctypes.pythonapi.PyBuffer_Release(words)
+
+    def part(self, offset: int, size: int) -> memoryview:
+        """Returns some bytes, without a copy."""
+        return self.view[offset:offset + size].toreadonly()
+
+
+def call(name: str, file: File, *arguments: Any) -> bool:
+    """Makes a call on a file, and returns whether its status is GOBLIN_OK: else it is GOBLIN_END. Raises Refused at a refusal."""
+    why = REFUSAL.buffer()
+    status = FUNCTIONS[name](file.address, file.length, *arguments, why)
+    if status > END:
+        raise refused(why)
+    return bool(status == OK)
+
+
+def refused(why: Any) -> Refused:
+    """Returns the exception of a struct of the library."""
+    kind, item, *numbers, offset = REFUSAL.struct.unpack(why)
+    return Refused(text('refusal_text', why), kind, item, tuple(numbers), offset)
+
+
+def found(name: str, record: Record, file: File, *arguments: Any) -> Optional[Tuple[int, ...]]:
+    """Makes a call whose result is one struct, and returns its fields, or `None` at GOBLIN_END."""
+    result = record.buffer()
+    return record.struct.unpack(result) if call(name, file, *arguments, result) else None
+
+
+def text(name: str, *arguments: Any) -> str:
+    """Makes a call that writes a text, for which 160 bytes are enough."""
+    result = ctypes.create_string_buffer(160)
+    FUNCTIONS[name](*arguments, result, 160)
+    return result.value.decode('utf-8', 'replace')
+
+
+def naming(name: str, bits: int) -> Callable[[int], str]:
+    """Returns the call that returns the name of a number."""
+    return lambda number: text(name, unsigned(number, bits))
+
+
+class_to_str, bind_to_str, type_to_str, visibility_to_str = (naming(f'{name}_to_str', 8) for name in ('class', 'bind', 'type', 'visibility'))
+et_to_str, machine_to_str = (naming(f'{name}_to_str', 16) for name in ('et', 'machine'))
+pt_to_str, sht_to_str, shf_to_str = (naming(f'{name}_to_str', 32) for name in ('pt', 'sht', 'shf'))
+
+
+def note_type_to_str(name: str, n_type: int) -> str:
+    """Returns the name of a note's type, which depends on the note's name, such as NT_GNU_BUILD_ID, or NT_UNKNOWN."""
+    encoded = name.encode('utf-8', 'surrogateescape')
+    return text('note_type_to_str', encoded, len(encoded), unsigned(n_type, 32))
+
+
+def unsigned(number: int, bits: int = 64) -> int:
+    """Returns a number that the library takes. Raises a ValueError if it does not fit, since ctypes would cut it."""
+    if not 0 <= number < 1 << bits:
+        raise ValueError(f'{number} is not an unsigned number of {bits} bits')
+    return number
+
+
+class Finder:
+    """A call that finds the range of a string at an offset, with prepared arguments, for many calls.
+
+    ctypes passes prepared arguments on without a look, which takes half the time. Threads take them from `free`, so that no two use the
+    same at once.
+    """
+
+    __slots__ = ('function', 'fixed', 'source', 'free')
+
+    def __init__(self, name: str, file: File, strings: bytes) -> None:
+        self.function = LIBRARY[f'goblin_{name}']
+        self.fixed = (ctypes.c_void_p(file.address), ctypes.c_size_t(file.length), ctypes.c_char_p(strings))
+        self.source = file.source
+        self.free: List[Tuple[Any, Any, Any, Any]] = []
+
+    def prepared(self) -> Tuple[Any, Any, Any, Any]:
+        """Returns the offset, the result, the refusal, and the arguments that point to them."""
+        at, result, why = ctypes.c_uint64(), RANGE.buffer(), REFUSAL.buffer()
+        return at, memoryview(result).cast('B').cast('Q'), why, (*self.fixed, at, ctypes.byref(result), ctypes.byref(why))
+
+    def get(self, offset: int) -> Any:
+        """Returns the bytes of the string at an offset below 2**64, or `None` at GOBLIN_END. Raises Refused at a refusal."""
+        try:
+            taken = self.free.pop()
+        except IndexError:
+            taken = self.prepared()
+        at, result, why, arguments = taken
+        at.value = offset
+        status = self.function(*arguments)
+        if status > END:
+            raise refused(why)
+        start, size = result
+        self.free.append(taken)
+        return None if status else self.source[start:start + size]
+
+    def decoded(self, offsets: Iterable[int], errors: str) -> List[Optional[str]]:
+        """Returns the strings at many offsets in one pass, as `get` returns the bytes of one."""
+        at, result, why, arguments = self.prepared()
+        function, source = self.function, self.source
+        strings: List[Optional[str]] = []
+        for offset in offsets:
+            at.value = offset
+            status = function(*arguments)
+            if status > END:
+                raise refused(why)
+            start, size = result
+            strings.append(None if status else str(source[start:start + size], 'utf-8', errors))
+        return strings

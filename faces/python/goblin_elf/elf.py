@@ -1,0 +1,188 @@
+"""A file as a whole."""
+import ctypes
+import itertools
+import mmap
+import os
+import stat
+from typing import Any, Iterable, Iterator, Optional, Union
+
+from ._library import FUNCTIONS, HEADER, RECORDS, File, call, class_to_str, et_to_str, found, machine_to_str, unsigned
+from .constants import ELFCLASS64, ELFDATA2MSB, NT_GNU_BUILD_ID, PT_NOTE, SHT_DYNSYM, SHT_NOTE, SHT_SYMTAB
+from .items import Header, Name, Note, Section, Sections, Segment, Segments, Strings, Symbol, Symbols, named, note_of, read_notes
+
+
+class Elf:
+    """An ELF file in memory, with its header. Everything else is read on demand.
+
+    `buffer` is any object with a buffer of contiguous bytes, such as bytes, a memoryview or an mmap. It is kept, and neither copied nor
+    changed but by what writes. Its length can't change while this object, or a memoryview that it returned, lives. `header` is the
+    header to read by, in place of that of the file: see `whole`.
+
+    Refused if the file is too short, does not start with the magic number, or has an invalid class or byte order.
+
+    Threads may read a file at once: each call lets go of Python's lock. Nothing may write the bytes during a call.
+    """
+
+    __slots__ = ('_file', 'header', '_image', '__weakref__')
+
+    def __init__(self, buffer: Any, header: Optional[Header] = None) -> None:
+        self._file = File(buffer)
+        self._use(header)
+
+    def _use(self, header: Optional[Header]) -> None:
+        self.header: Header = header or Header(*found('header', HEADER, self._file) or ())
+        self._image = HEADER.pack(self.header)
+
+    @classmethod
+    def open(cls, path: 'Union[Name, os.PathLike[str]]', *, copy: bool = False) -> 'Elf':
+        """Maps a file into memory, or reads it if `copy` is true. The mapping lives as long as what needs it, without a call to close it.
+
+        If another program makes a mapped file shorter, the operating system ends this one when it reads past the new end (SIGBUS).
+        Use `copy` if that may be. What is no regular file is always read. Raises OSError if the file can not be read.
+        """
+        with open(path, 'rb') as file:
+            status = os.fstat(file.fileno())
+            if copy or not stat.S_ISREG(status.st_mode) or status.st_size == 0:
+                return cls(file.read())
+            return cls(mmap.mmap(file.fileno(), 0, access=mmap.ACCESS_READ))
+
+    def whole(self) -> 'Elf':
+        """Returns the same file by a header that counts only what lies in it whole: the headers of a file that is cut. Never refused."""
+        header = HEADER.buffer()
+        FUNCTIONS['whole_header'](self._file.address, self._file.length, self._image, header)
+        return Elf(self._file.view, Header(*HEADER.struct.unpack(header)))
+
+    @property
+    def bytes(self) -> memoryview:
+        """The bytes of the file, without a copy."""
+        return self._file.part(0, self._file.length)
+
+    @property
+    def is_64(self) -> bool:
+        """Whether the file is of the 64-bit class."""
+        return self.header.ei_class == ELFCLASS64
+
+    @property
+    def little_endian(self) -> bool:
+        """Whether the file is little endian."""
+        return self.header.ei_data != ELFDATA2MSB
+
+    @property
+    def sections(self) -> Sections:
+        """The section headers. Refused if they are not all inside the file."""
+        return Sections(self)
+
+    @property
+    def segments(self) -> Segments:
+        """The program headers. Refused if they are not all inside the file."""
+        return Segments(self)
+
+    @property
+    def symbols(self) -> Symbols:
+        """The symbols of the first section of type SHT_SYMTAB, or none. Refused if the section headers or the table are."""
+        section = self.section_by_type(SHT_SYMTAB)
+        return section.symbols if section else Symbols(self, 0, 0)
+
+    @property
+    def dynamic_symbols(self) -> Symbols:
+        """The symbols of the first section of type SHT_DYNSYM, or none. Refused as `symbols` is."""
+        section = self.section_by_type(SHT_DYNSYM)
+        return section.symbols if section else Symbols(self, 0, 0)
+
+    def section(self, name: Name, first: int = 0) -> Optional[Section]:
+        """Returns the first section with a name, from an index on, or `None`. Refused if the section headers or their names are."""
+        table = Sections(self)
+        return self._section(table, 'section_by_name', table.strings._range, *named(name), unsigned(first))
+
+    def section_by_type(self, sh_type: int, first: int = 0) -> Optional[Section]:
+        """Returns the first section of a type, from an index on, or `None`. Refused if the section headers are."""
+        return self._section(Sections(self), 'section_by_type', unsigned(sh_type, 32), unsigned(first))
+
+    def _section(self, table: Sections, name: str, *arguments: Any) -> Optional[Section]:
+        index = ctypes.c_uint64()
+        fields = found(name, RECORDS['section'], self._file, self._image, *arguments, ctypes.byref(index))
+        return table._made(fields, index.value) if fields else None
+
+    @property
+    def notes(self) -> Iterator[Note]:
+        """The notes of all segments of type PT_NOTE, or if there are none, of all sections of type SHT_NOTE, as they are read.
+
+        Refused as the headers are, and then at the first damaged note.
+        """
+        return self._notes(self.segments)
+
+    def _notes(self, segments: Iterable[Segment]) -> Iterator[Note]:
+        is_found = False
+        for segment in segments:
+            if segment.p_type == PT_NOTE:
+                is_found = True
+                yield from (note_of(self._file, note) for _, note in read_notes(self, *segment[:2], segment.p_align))
+        section = None if is_found else self.section_by_type(SHT_NOTE)
+        while section:
+            yield from (note_of(self._file, note) for _, note in read_notes(self, *section[:2], section.sh_addralign))
+            section = self.section_by_type(SHT_NOTE, section.index + 1)
+
+    @property
+    def build_id(self) -> Optional[memoryview]:
+        """The descriptor of the first note GNU of type NT_GNU_BUILD_ID, or `None`: `elf.build_id.hex()`. Refused as `notes` are.
+
+        It is looked for in the first 65,536 notes.
+        """
+        return self._build_id(self.segments)
+
+    def _build_id(self, segments: Iterable[Segment]) -> Optional[memoryview]:
+        notes = itertools.islice(self._notes(segments), 65536)
+        return next((note.desc for note in notes if note.n_type == NT_GNU_BUILD_ID and note.name == 'GNU'), None)
+
+    def symbol_at(self, address: int) -> Optional[Symbol]:
+        """Returns the symbol that contains an address, of the symbols or, if there are none, of the dynamic symbols, or `None`."""
+        return (self.symbols or self.dynamic_symbols).at(address)
+
+    def offset_of(self, address: int) -> Optional[int]:
+        """Returns the offset in the file of the byte that is loaded at an address, or `None` if there is none."""
+        return self._find_number('address_to_offset', unsigned(address))
+
+    def strings(self, offset: int, size: int) -> Strings:
+        """Returns a range of the file as a string table. Never refused: a string of it may be."""
+        return Strings(self, unsigned(offset), unsigned(size))
+
+    def number(self, offset: int, width: int) -> int:
+        """Returns the number in `width` bytes (1, 2, 4 or 8) at an offset, in the file's order. Refused if it is not inside the file."""
+        return self._number('number', unsigned(offset), unsigned(width))
+
+    def put_header(self, header: Header) -> None:
+        """Writes a header at the start of the file, in the class and byte order that it names, and reads by it from now on.
+
+        Refused if its class or byte order is invalid, if the file has no room for it, or if a number does not fit its class.
+        """
+        call('put_header', self._writable(), HEADER.pack(header))
+        self._use(None)
+
+    def put_number(self, offset: int, width: int, value: int) -> None:
+        """Writes a number into `width` bytes (1, 2, 4 or 8) at an offset. Refused if it does not fit, or is not inside the file."""
+        if not self._write('put_number', unsigned(offset), unsigned(width), unsigned(value)):
+            raise ValueError('the width of a number is 1, 2, 4 or 8')
+
+    def _number(self, name: str, *arguments: Any) -> int:
+        value = self._find_number(name, *arguments)
+        if value is None:
+            raise ValueError('the width of a number is 1, 2, 4 or 8')
+        return value
+
+    def _find_number(self, name: str, *arguments: Any) -> Optional[int]:
+        """Makes a call that returns a number, or `None` at GOBLIN_END."""
+        value = ctypes.c_uint64()
+        return value.value if call(name, self._file, self._image, *arguments, ctypes.byref(value)) else None
+
+    def _write(self, name: str, *arguments: Any) -> bool:
+        """Makes a call that writes into the file, and returns whether there is such an item."""
+        return call(name, self._writable(), self._image, *arguments)
+
+    def _writable(self) -> File:
+        if self._file.view.readonly:
+            raise TypeError('the bytes of this file are read-only: make it of a bytearray, or of a mapping that can be written')
+        return self._file
+
+    def __repr__(self) -> str:
+        names = class_to_str(self.header.ei_class), et_to_str(self.header.e_type), machine_to_str(self.header.e_machine)
+        return f'<Elf: {" ".join(names)}, {self._file.length} bytes>'

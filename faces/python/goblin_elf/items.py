@@ -1,0 +1,443 @@
+"""What a file holds: items, which are tuples with names, and the tables that they are in, which are sequences."""
+import contextlib
+import ctypes
+from array import array
+from typing import TYPE_CHECKING, Any, Iterable, Iterator, List, NamedTuple, Optional, Sequence, Tuple, TypeVar, Union, overload
+
+from ._library import FUNCTIONS, RANGE, RECORDS, File, Finder, Record, call, found, sht_to_str, unsigned
+from .constants import SHT_DYNSYM, SHT_REL, SHT_RELA, SHT_SYMTAB
+from .interface import HeaderFields, Kind, RelocFields, SectionFields, SegmentFields, SymbolFields
+from .refused import Refused
+
+if TYPE_CHECKING:
+    from .elf import Elf
+
+T = TypeVar('T', bound=Tuple[Any, ...])
+Fields = Tuple[int, ...]
+Name = Union[str, bytes]
+# How many items are read by one call.
+CHUNK = 4096
+# The fields that are printed as decimal numbers. The others are printed as hexadecimal ones.
+DECIMAL = {'e_type', 'e_machine', 'e_phnum', 'e_shnum', 'e_shstrndx', 'sh_type', 'sh_link', 'sh_info', 'st_shndx', 'r_sym', 'r_type',
+           'r_addend', 'index'}
+
+
+class Entry:
+    """What items have: a `repr`, and equality by the standard's fields, which are all but the index and the table."""
+
+    __slots__ = ()
+
+    def __repr__(self: Any) -> str:
+        parts = [f'{field}={value if field in DECIMAL else hex(value)}' for field, value in zip(self._fields, self) if field != 'table']
+        with contextlib.suppress(AttributeError, Refused):
+            parts.insert(0, f'name={self.name!r}')
+        return f'{type(self).__name__}({", ".join(parts)})'
+
+    def __eq__(self: Any, other: Any) -> bool:
+        return type(other) is type(self) and bool(self[:-2] == other[:-2])
+
+    def __ne__(self, other: Any) -> bool:
+        return not self == other
+
+    def __hash__(self: Any) -> int:
+        return hash(self[:-2])
+
+
+class Held(Entry):
+    """What sections and segments have. Their first two fields are a range of the file, and their sixth is its alignment."""
+
+    __slots__ = ()
+
+    @property
+    def bytes(self: Any) -> memoryview:
+        """Its bytes in the file, without a copy: none for a type without bytes. Refused if they are not inside the file."""
+        file, table = self.table.elf._file, self.table
+        part: memoryview = file.part(*found(f'{table.one}_bytes', RANGE, file, table.record.pack(self[:-2])) or (0, 0))
+        return part
+
+    @property
+    def bytes_in_file(self: Any) -> memoryview:
+        """Those of its bytes that are inside the file. Never refused."""
+        try:
+            part: memoryview = self.bytes
+        except Refused:
+            file, place = self.table.elf._file, RANGE.buffer()
+            FUNCTIONS['range_in_file'](file.address, file.length, RANGE.pack(self[:2]), place)
+            part = file.part(*RANGE.struct.unpack(place))
+        return part
+
+    @property
+    def notes(self: Any) -> 'Notes':
+        """Its notes. Refused at the first damaged note."""
+        return Notes(self.table.elf, self[0], self[1], self[5])
+
+    def number(self: Any, offset: int, width: int) -> int:
+        """Returns the number in `width` bytes (1, 2, 4 or 8) at an offset in it, in the file's order. Refused if it is not inside."""
+        number: int = self.table.elf._number('number_in', RANGE.pack(self[:2]), unsigned(offset), unsigned(width))
+        return number
+
+
+class Header(HeaderFields):
+    """A file's header. goblin.h has more on each field. To write a changed one: `elf.put_header(elf.header._replace(e_entry=0))`."""
+
+    __slots__ = ()
+    __repr__ = Entry.__repr__
+
+
+class Section(Held, SectionFields):
+    """A section header, with its index in its table. Offsets and sizes are in bytes."""
+
+    __slots__ = ()
+
+    @property
+    def name(self) -> Optional[str]:
+        """Its name, or `None` if that is past the end of the section names. Refused if it is not UTF-8, or as the names are."""
+        return self.table.strings.get(self.sh_name)
+
+    @property
+    def linked(self) -> Optional['Section']:
+        """The section that `sh_link` names, or `None` if there is none that has bytes. Refused if the section headers are."""
+        fields = found('linked_section', RECORDS['section'], self.table.elf._file, self.table.elf._image, self.sh_link)
+        return self.table._made(fields, self.sh_link) if fields else None
+
+    @property
+    def strings(self) -> 'Strings':
+        """Its bytes as a string table. Never refused: a string of it may be."""
+        return Strings(self.table.elf, self.sh_offset, self.sh_size)
+
+    @property
+    def symbols(self) -> 'Symbols':
+        """Its symbols, with the names of the section that it links to. Refused if it is no symbol table or not in the file."""
+        self._check('symbols', SHT_SYMTAB, SHT_DYNSYM)
+        names = self.linked
+        return Symbols(self.table.elf, self.sh_offset, self.sh_size, names.strings if names else None)
+
+    @property
+    def relocations(self) -> 'Relocations':
+        """Its relocations, with the symbols that it links to. Refused if it has another type, or is not in the file."""
+        self._check('relocations', SHT_RELA, SHT_REL)
+        return Relocations(self.table.elf, self.sh_offset, self.sh_size, self.sh_type == SHT_RELA, self)
+
+    def _check(self, expected: str, *types: int) -> None:
+        if self.sh_type not in types:
+            said = f'A section of type {self.sh_type:#x} ({sht_to_str(self.sh_type)}) holds no {expected}'
+            raise Refused(said, Kind.SECTION_TYPE, 0, (self.sh_type,), self.sh_offset)
+
+
+class Segment(Held, SegmentFields):
+    """A program header, with its index in its table. Offsets and sizes are in bytes."""
+
+    __slots__ = ()
+
+
+class Symbol(Entry, SymbolFields):
+    """A symbol, with its index in its table."""
+
+    __slots__ = ()
+
+    @property
+    def name(self) -> Optional[str]:
+        """Its name, or `None` if that is past the end of the string table. Refused if it is not UTF-8, or if the table is."""
+        return self.table.strings.get(self.st_name)
+
+    @property
+    def binding(self) -> int:
+        """An STB_ number."""
+        return self.st_info >> 4
+
+    @property
+    def type(self) -> int:
+        """An STT_ number."""
+        return self.st_info & 15
+
+    @property
+    def visibility(self) -> int:
+        """An STV_ number."""
+        return self.st_other & 7
+
+
+class Relocation(Entry, RelocFields):
+    """A relocation, with its index in its table."""
+
+    __slots__ = ()
+
+    @property
+    def symbol(self) -> Optional[Symbol]:
+        """The symbol that it refers to, or `None` for none or one past the end. Refused as the symbols are."""
+        symbols = self.table.symbols if self.r_sym else ()
+        return symbols[self.r_sym] if self.r_sym < len(symbols) else None
+
+
+class Note(NamedTuple):
+    """A note."""
+
+    n_type: int  # its type, whose meaning depends on the name
+    name: str  # its name, without the zero byte at its end
+    desc: memoryview  # its descriptor, without a copy
+
+    def __repr__(self) -> str:
+        return f'Note(n_type={self.n_type}, name={self.name!r}, desc={self.desc.hex()!r})'
+
+
+class Table(Sequence[T]):
+    """A sequence of the items of a table. The call that makes it is refused if the table is, so it has all of its items.
+
+    An index reads one item, a slice is a list, and an iteration reads many items by each call. If the bytes change after the table was
+    made, an item may be refused, or raise an IndexError if it is gone. `table[index] = item` writes an item into a buffer that can be
+    written: it raises Refused with `Kind.INTEGER_FIT` if a number does not fit the file's class, and then changes nothing.
+    """
+
+    __slots__ = ('elf', '_arguments', '_length')
+    record: Record
+    item: Any
+    one, many, put = '', '', ''
+
+    def __init__(self, elf: 'Elf', count: str, *arguments: Any) -> None:
+        self.elf, self._arguments = elf, arguments
+        self._length = elf._find_number(count, *arguments) or 0
+
+    def __len__(self) -> int:
+        return self._length
+
+    @overload
+    def __getitem__(self, index: int) -> T: ...
+    @overload
+    def __getitem__(self, index: slice) -> List[T]: ...
+
+    def __getitem__(self, index: Union[int, slice]) -> Union[T, List[T]]:
+        if isinstance(index, slice):
+            places = range(self._length)[index]
+            return list(self._items(places.start, places.stop)) if places.step == 1 else [self[place] for place in places]
+        place, result = range(self._length)[index], self.record.buffer()
+        if not self._read(place, result):
+            raise IndexError(f'there is no item {place} any more')
+        return self._made(self.record.struct.unpack(result), place)
+
+    def __setitem__(self, index: int, item: T) -> None:
+        if not isinstance(item, self.item) or not self.put:
+            raise TypeError(f'an item of a {type(self).__name__} can not be a {type(item).__name__}, or can not be written')
+        place = range(self._length)[index]
+        if not self.elf._write(self.put, *self._arguments, place, self.record.pack(self._raw(item))):
+            raise IndexError(f'there is no item {place} any more')
+
+    def __iter__(self) -> Iterator[T]:
+        return self._items(0, self._length)
+
+    def __reversed__(self) -> Iterator[T]:
+        for end in range(self._length, 0, -CHUNK):
+            yield from reversed(list(self._items(max(end - CHUNK, 0), end)))
+
+    def __repr__(self) -> str:
+        return f'<{type(self).__name__}: {self._length} items>'
+
+    def array(self) -> Any:
+        """Returns all items as a structured array of numpy, which owns its memory. Its fields have the names of goblin.h."""
+        import numpy
+        items = numpy.empty(self._length, self.record.dtype())
+        filled = self._fill(0, items.ctypes.data, self._length)
+        return items if filled == self._length else items[:filled].copy()
+
+    def _items(self, first: int, end: int) -> Iterator[T]:
+        """Yields the items from an index to another one."""
+        new, kind = tuple.__new__, self.item
+        for start, chunk in self._chunks(first, end):
+            for index, fields in enumerate(chunk, start):
+                yield new(kind, fields + (index, self))
+
+    def _made(self, fields: Fields, index: int) -> T:
+        """Returns the item of a struct."""
+        item: T = self.item(*fields, index, self)
+        return item
+
+    def _raw(self, item: T) -> Fields:
+        """Returns the fields of the struct of an item."""
+        return tuple(item[:-2])
+
+    def _chunks(self, first: int, end: int) -> Iterator[Tuple[int, Iterator[Fields]]]:
+        """Yields the fields of the structs from an index to another one, in chunks, each after the index that it begins at."""
+        size = self.record.size
+        while first < end:
+            buffer = bytearray(min(end - first, CHUNK) * size)
+            filled = self._fill(first, ctypes.addressof(ctypes.c_char.from_buffer(buffer)), len(buffer) // size)
+            yield first, self.record.struct.iter_unpack(memoryview(buffer)[:filled * size])
+            first = first + filled if filled else end
+
+    def _column(self, place: int) -> List[int]:
+        """Returns a field of all items."""
+        return [fields[place] for _, chunk in self._chunks(0, self._length) for fields in chunk]
+
+    def _read(self, place: int, target: Any) -> bool:
+        """Reads the struct at an index, and returns whether there is one."""
+        return call(self.one, self.elf._file, self.elf._image, *self._arguments, place, target)
+
+    def _fill(self, first: int, address: int, capacity: int) -> int:
+        """Reads structs from an index on into memory, and returns their number."""
+        if not self.many:
+            return next((i for i in range(capacity) if not self._read(first + i, address + i * self.record.size)), capacity)
+        filled = ctypes.c_uint64()
+        call(self.many, self.elf._file, self.elf._image, *self._arguments, first, address, capacity, ctypes.byref(filled))
+        return filled.value
+
+
+class Sections(Table[Section]):
+    """The section headers. Refused if they are not all inside the file: see `Elf.whole`."""
+
+    __slots__ = ('_strings',)
+    record, item, one, many, put = RECORDS['section'], Section, 'section', 'sections', 'put_section'
+
+    def __init__(self, elf: 'Elf') -> None:
+        super().__init__(elf, 'section_count')
+        self._strings: Optional[Strings] = None
+
+    @property
+    def strings(self) -> 'Strings':
+        """The section names: an empty table if the file has none. Refused if the section headers are."""
+        if self._strings is None:
+            fields = found('section_names', self.record, self.elf._file, self.elf._image)
+            self._strings = Strings(self.elf, *(fields or (0, 0))[:2])
+        return self._strings
+
+    def names(self, errors: str = 'strict') -> List[Optional[str]]:
+        """Returns the names of all sections in one pass: see `Strings.get`."""
+        return self.strings.get_all(self._column(2), errors)
+
+
+class Segments(Table[Segment]):
+    """The program headers. Refused if they are not all inside the file: see `Elf.whole`."""
+
+    __slots__ = ()
+    record, item, one, put = RECORDS['segment'], Segment, 'segment', 'put_segment'
+
+    def __init__(self, elf: 'Elf') -> None:
+        super().__init__(elf, 'segment_count')
+
+
+class Symbols(Table[Symbol]):
+    """The symbols in a range of the file, with the string table of their names: none by default."""
+
+    __slots__ = ('strings',)
+    record, item, one, many, put = RECORDS['symbol'], Symbol, 'symbol', 'symbols', 'put_symbol'
+
+    def __init__(self, elf: 'Elf', offset: int, size: int, strings: Optional['Strings'] = None) -> None:
+        super().__init__(elf, 'symbol_count', RANGE.pack((offset, size)))
+        self.strings = strings or Strings(elf, 0, 0)
+
+    def names(self, errors: str = 'strict') -> List[Optional[str]]:
+        """Returns the names of all symbols in one pass: see `Strings.get`."""
+        return self.strings.get_all(self._column(0), errors)
+
+    def find(self, name: Name) -> Optional[Symbol]:
+        """Returns the first symbol with a name, or `None`. Refused as the strings are."""
+        return self._at('symbol_by_name', self.strings._range, *named(name))
+
+    def at(self, address: int) -> Optional[Symbol]:
+        """Returns the symbol that contains an address, or `None`: see `goblin_symbol_by_address`. Each call reads all symbols."""
+        return self._at('symbol_by_address', unsigned(address))
+
+    def _at(self, name: str, *arguments: Any) -> Optional[Symbol]:
+        index = self.elf._find_number(name, *self._arguments, *arguments)
+        return None if index is None else self[index]
+
+
+class Relocations(Table[Relocation]):
+    """The relocations in a range of the file, with addends or without, and the section that they are."""
+
+    __slots__ = ('section', '_symbols')
+    record, item, one, many, put = RECORDS['reloc'], Relocation, 'reloc', 'relocs', 'put_reloc'
+
+    def __init__(self, elf: 'Elf', offset: int, size: int, is_rela: bool, section: Optional[Section] = None) -> None:
+        super().__init__(elf, 'reloc_count', RANGE.pack((offset, size)), is_rela)
+        self.section = section
+        self._symbols: Optional[Symbols] = None
+
+    @property
+    def symbols(self) -> Symbols:
+        """The symbols that they refer to: none if their section links to none. Refused as `Section.symbols` is."""
+        if self._symbols is None:
+            linked = self.section.linked if self.section else None
+            self._symbols = linked.symbols if linked else Symbols(self.elf, 0, 0)
+        return self._symbols
+
+    def _items(self, first: int, end: int) -> Iterator[Relocation]:
+        new = tuple.__new__
+        for start, chunk in self._chunks(first, end):
+            for index, (offset, symbol, addend, kind, has) in enumerate(chunk, start):
+                yield new(Relocation, (offset, symbol, addend if has else None, kind, index, self))
+
+    def _made(self, fields: Fields, index: int) -> Relocation:
+        offset, symbol, addend, kind, has = fields
+        return Relocation(offset, symbol, addend if has else None, kind, index, self)
+
+    def _raw(self, item: Relocation) -> Fields:
+        return item.r_offset, item.r_sym, item.r_addend or 0, item.r_type, int(item.r_addend is not None)
+
+
+class Notes(Table[Note]):
+    """The notes in a range of the file, as a segment or a section of notes has them. Refused at the first damaged note."""
+
+    __slots__ = ('_offsets',)
+    record, item = RECORDS['note'], Note
+
+    def __init__(self, elf: 'Elf', offset: int, size: int, alignment: int) -> None:
+        self.elf, self._arguments = elf, (RANGE.pack((offset, size)), alignment)
+        self._offsets = array('Q', (place for place, _ in read_notes(elf, offset, size, alignment)))
+        self._length = len(self._offsets)
+
+    def _read(self, place: int, target: Any) -> bool:
+        return call('note', self.elf._file, self.elf._image, *self._arguments, self._offsets[place], target)
+
+    def _items(self, first: int, end: int) -> Iterator[Note]:
+        return (self[place] for place in range(first, end))
+
+    def _made(self, fields: Fields, index: int) -> Note:
+        return note_of(self.elf._file, fields)
+
+
+def read_notes(elf: 'Elf', offset: int, size: int, alignment: int) -> Iterator[Tuple[int, Fields]]:
+    """Yields the structs of the notes in a range of the file as they are read, each after its offset."""
+    place = RANGE.pack((offset, size))
+    while True:
+        fields = found('note', RECORDS['note'], elf._file, elf._image, place, alignment, offset)
+        if fields is None:
+            return
+        yield offset, fields
+        offset = fields[4]
+
+
+def note_of(file: File, fields: Fields) -> Note:
+    """Returns the note of a struct."""
+    return Note(fields[5], str(file.part(*fields[:2]), 'utf-8'), file.part(*fields[2:4]))
+
+
+class Strings:
+    """A string table: a range of the file. The offsets of its strings count from its start, in bytes."""
+
+    __slots__ = ('_range', '_texts', '_any')
+
+    def __init__(self, elf: 'Elf', offset: int, size: int) -> None:
+        self._range: bytes = RANGE.pack((offset, size))
+        self._texts, self._any = (Finder(name, elf._file, self._range) for name in ('string', 'string_bytes'))
+
+    def get(self, offset: int, errors: str = 'strict') -> Optional[str]:
+        """Returns the string at an offset, or `None` if that is past the end of the table.
+
+        Refused if the table is not inside the file, or if the string is not UTF-8. With other `errors` than 'strict', such as 'replace'
+        or 'surrogateescape', a string that is not UTF-8 is decoded as they mean.
+        """
+        found = (self._texts if errors == 'strict' else self._any).get(offset)
+        return None if found is None else str(found, 'utf-8', errors)
+
+    def get_bytes(self, offset: int) -> Optional[bytes]:
+        """Returns the bytes of the string at an offset, which need not be UTF-8, as `get` does."""
+        found = self._any.get(unsigned(offset))
+        return None if found is None else bytes(found)
+
+    def get_all(self, offsets: Iterable[int], errors: str = 'strict') -> List[Optional[str]]:
+        """Returns the strings at many offsets in one pass, each as `get` does."""
+        return (self._texts if errors == 'strict' else self._any).decoded(offsets, errors)
+
+
+def named(name: Name) -> Tuple[bytes, int]:
+    """Returns a name as the library takes it. A str is UTF-8 there."""
+    encoded = name.encode('utf-8', 'surrogateescape') if isinstance(name, str) else bytes(name)
+    return encoded, len(encoded)

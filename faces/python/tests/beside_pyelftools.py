@@ -1,0 +1,256 @@
+#!/usr/bin/env python3
+"""Compares goblin_elf with pyelftools: beside_pyelftools.py [--files N] [--damaged N] [DIR ..]
+
+It reads N whole ELF files of the folders (default: 40 of this machine's) by both and compares headers, sections, segments, symbols with
+their names, relocations and notes. A difference fails. Then it reads N damaged or cut files by both: goblin_elf
+must return records or raise Refused. What pyelftools does is counted.
+"""
+import argparse
+import collections
+import os
+import random
+import signal
+import sys
+import time
+
+from elftools.elf import enums
+from elftools.elf.elffile import ELFFile
+from elftools.elf.relocation import RelocationSection
+from elftools.elf.sections import NoteSection, SymbolTableSection
+from elftools.elf.segments import NoteSegment
+
+from goblin_elf import SHT_DYNSYM, SHT_NOTE, SHT_REL, SHT_RELA, SHT_SYMTAB, Elf, Refused
+from goblin_elf.facts import facts
+
+import made
+
+
+def number(value, names):
+    """Returns a number that pyelftools may have turned into a name."""
+    return names[value] if isinstance(value, str) else value
+
+
+def all_of(*tables):
+    """Returns the numbers of the names in tables of pyelftools, of which a later one wins."""
+    return {name: value for table in tables for name, value in table.items() if name != '_default_'}
+
+
+SHT = all_of(*(getattr(enums, name) for name in dir(enums) if name.startswith('ENUM_SH_TYPE')))
+PT = all_of(*(getattr(enums, name) for name in dir(enums) if name.startswith('ENUM_P_TYPE')))
+SHN = all_of(enums.ENUM_ST_SHNDX)
+NT = all_of(*(getattr(enums, name) for name in dir(enums) if name.startswith('ENUM_NOTE')))
+
+
+class Theirs:
+    """What pyelftools reads of a file, as plain values like those of `Ours`."""
+
+    def __init__(self, stream):
+        self.elf = ELFFile(stream)
+
+    def header(self):
+        h = self.elf.header
+        return (number(h['e_type'], all_of(enums.ENUM_E_TYPE)), number(h['e_machine'], all_of(enums.ENUM_E_MACHINE)), h['e_entry'],
+                h['e_phoff'], h['e_shoff'], h['e_flags'], h['e_ehsize'], h['e_phentsize'], h['e_phnum'], h['e_shentsize'], h['e_shnum'],
+                h['e_shstrndx'], self.elf.elfclass, self.elf.little_endian)
+
+    def sections(self):
+        return [(s.name, s['sh_name'], number(s['sh_type'], SHT), s['sh_flags'], s['sh_addr'], s['sh_offset'], s['sh_size'], s['sh_link'],
+                 s['sh_info'], s['sh_addralign'], s['sh_entsize']) for s in self.elf.iter_sections()]
+
+    def segments(self):
+        return [(number(s['p_type'], PT), s['p_flags'], s['p_offset'], s['p_vaddr'], s['p_paddr'], s['p_filesz'], s['p_memsz'], s['p_align'])
+                for s in self.elf.iter_segments()]
+
+    def symbols(self):
+        return [[(s.name, s['st_name'], s['st_value'], s['st_size'], number(s['st_shndx'], SHN),
+                  number(s['st_info']['bind'], all_of(enums.ENUM_ST_INFO_BIND)), number(s['st_info']['type'], all_of(enums.ENUM_ST_INFO_TYPE)),
+                  number(s['st_other']['visibility'], all_of(enums.ENUM_ST_VISIBILITY))) for s in table.iter_symbols()]
+                for table in self.elf.iter_sections() if isinstance(table, SymbolTableSection)]
+
+    def relocations(self):
+        return [[(r['r_offset'], r['r_info_sym'], r['r_info_type'], r['r_addend'] if r.is_RELA() else None) for r in table.iter_relocations()]
+                for table in self.elf.iter_sections() if isinstance(table, RelocationSection)]
+
+    def notes(self):
+        holders = [s for s in self.elf.iter_segments() if isinstance(s, NoteSegment)]
+        holders += [s for s in self.elf.iter_sections() if isinstance(s, NoteSection)]
+        return [[(number(n['n_type'], NT), n['n_name'], bytes(n['n_descdata'])) for n in holder.iter_notes()] for holder in holders]
+
+
+class Ours:
+    """What goblin_elf reads of a file."""
+
+    def __init__(self, buffer):
+        self.elf = Elf(buffer)
+
+    def header(self):
+        h = self.elf.header
+        return (h.e_type, h.e_machine, h.e_entry, h.e_phoff, h.e_shoff, h.e_flags, h.e_ehsize, h.e_phentsize, h.e_phnum, h.e_shentsize,
+                h.e_shnum, h.e_shstrndx, 64 if self.elf.is_64 else 32, self.elf.little_endian)
+
+    def sections(self):
+        table = self.elf.sections
+        return [(name, s.sh_name, s.sh_type, s.sh_flags, s.sh_addr, s.sh_offset, s.sh_size, s.sh_link, s.sh_info, s.sh_addralign, s.sh_entsize)
+                for s, name in zip(table, table.names('replace'))]
+
+    def segments(self):
+        return [(s.p_type, s.p_flags, s.p_offset, s.p_vaddr, s.p_paddr, s.p_filesz, s.p_memsz, s.p_align) for s in self.elf.segments]
+
+    def symbols(self):
+        tables = [s.symbols for s in self.elf.sections if s.sh_type in (SHT_SYMTAB, SHT_DYNSYM)]
+        return [[(name, s.st_name, s.st_value, s.st_size, s.st_shndx, s.binding, s.type, s.visibility)
+                 for s, name in zip(table, table.names('replace'))] for table in tables]
+
+    def relocations(self):
+        return [[relocation[:2] + (relocation.r_type, relocation.r_addend) for relocation in s.relocations]
+                for s in self.elf.sections if s.sh_type in (SHT_RELA, SHT_REL)]
+
+    def notes(self):
+        holders = [s for s in self.elf.segments if s.p_type == 4] + [s for s in self.elf.sections if s.sh_type == SHT_NOTE]
+        return [[(note.n_type, note.name, bytes(note.desc)) for note in holder.notes] for holder in holders]
+
+
+class OursWhole(Ours):
+    """What goblin_elf reads by the header that counts only what lies in the file whole."""
+
+    def whole_sections(self):
+        return list(self.elf.whole().sections)
+
+    def whole_segments(self):
+        return list(self.elf.whole().segments)
+
+
+PARTS = ('header', 'sections', 'segments', 'symbols', 'relocations', 'notes')
+
+
+def read_by(kind, source, part):
+    """Returns a part of a file, or the exception that it raises."""
+    try:
+        return getattr(kind(source), part)()
+    except Exception as error:
+        return error
+
+
+def elf_files(folders, count):
+    """Returns some ELF files, spread over those below the folders."""
+    found = []
+    for folder in folders:
+        for root, _, names in os.walk(folder):
+            for name in names:
+                path = os.path.join(root, name)
+                if os.path.isfile(path) and not os.path.islink(path) and os.path.getsize(path) < 3 << 20:
+                    with open(path, 'rb') as file:
+                        if file.read(4) == b'\x7fELF':
+                            found.append(path)
+    found.sort()
+    return [found[index * len(found) // count] for index in range(min(count, len(found)))]
+
+
+def first_difference(ours, theirs):
+    """Returns the first items that differ, and where."""
+    if isinstance(ours, Exception) or isinstance(theirs, Exception):
+        return repr(ours)[:300], repr(theirs)[:300]
+    if isinstance(ours, list) and isinstance(theirs, list):
+        if len(ours) != len(theirs):
+            return f'{len(ours)} items', f'{len(theirs)} items'
+        return next(first_difference(a, b) for a, b in zip(ours, theirs) if a != b)
+    return ours, theirs
+
+
+def compare(paths):
+    """Compares whole files, and returns how many differ in each part."""
+    items, different = collections.Counter(), collections.Counter()
+    for path in paths:
+        with open(path, 'rb') as file:
+            content = file.read()
+            for part in PARTS:
+                file.seek(0)
+                ours, theirs = read_by(Ours, content, part), read_by(Theirs, file, part)
+                if ours == theirs:
+                    items[part] += sum(map(len, ours)) if part in PARTS[3:] else len(ours) if part != 'header' else 1
+                else:
+                    different[part] += 1
+                    print(f'{path}: {part}: ours {first_difference(ours, theirs)[0]}, theirs {first_difference(ours, theirs)[1]}')
+    print(f'{len(paths)} files: the same', ', '.join(f'{count} {part}' for part, count in items.items()))
+    return different
+
+
+class TooLong(Exception):
+    """pyelftools takes more than a second."""
+
+
+def damaged(count, sources, seed):
+    """Yields damaged and cut files."""
+    chance = random.Random(seed)
+    for _ in range(count):
+        content = bytearray(chance.choice(sources))
+        for _ in range(chance.choice((0, 1, 1, 2, 8))):
+            # (a number somewhere, mostly in a header)
+            place = chance.choice((chance.randrange(len(content)), chance.randrange(16, 64), chance.randrange(max(0, len(content) - 2048), len(content))))
+            width = chance.choice((1, 2, 4, 8))
+            value = chance.choice((0, 1, 255, 1 << 31, (1 << 64) - 1, len(content), chance.getrandbits(64)))
+            content[place:place + width] = (value & (1 << 8 * width) - 1).to_bytes(width, chance.choice(('little', 'big')))
+        if chance.random() < 0.4:
+            del content[chance.randrange(len(content)):]
+        yield bytes(content)
+
+
+def stopped(*_):
+    raise TooLong
+
+
+def compare_damaged(count, sources, seed):
+    """Reads damaged files by both."""
+    import io
+    ours, theirs, taken = collections.Counter(), collections.Counter(), [0.0, 0.0]
+    signal.signal(signal.SIGALRM, stopped)
+    for content in damaged(count, sources, seed):
+        start = time.perf_counter()
+        found = [read_by(Ours, content, part) for part in PARTS]
+        found += [read_by(OursWhole, content, part) for part in ('whole_sections', 'whole_segments')]
+        try:
+            facts(Elf(content))
+        except Refused:
+            pass
+        taken[0] += time.perf_counter() - start
+        wrong = [result for result in found if isinstance(result, Exception) and not isinstance(result, Refused)]
+        if wrong:
+            print('not refused:', repr(wrong[0]))
+            with open(os.path.join(os.environ.get('TMPDIR', '/tmp'), 'not_refused'), 'wb') as file:
+                file.write(content)
+        ours['other exceptions' if wrong else 'refused' if any(isinstance(result, Refused) for result in found) else 'read'] += 1
+        start = time.perf_counter()
+        signal.setitimer(signal.ITIMER_REAL, 1)
+        try:
+            results = [read_by(Theirs, io.BytesIO(content), part) for part in PARTS]
+            signal.setitimer(signal.ITIMER_REAL, 0)
+            kinds = {type(result).__name__ for result in results if isinstance(result, Exception)} or {'read'}
+        except TooLong:
+            kinds = {'TooLong'}
+        signal.setitimer(signal.ITIMER_REAL, 0)
+        theirs.update(kinds)
+        taken[1] += time.perf_counter() - start
+    print(f'{count} damaged files: goblin_elf {dict(ours)} in {taken[0]:.1f} s; pyelftools {dict(theirs)} in {taken[1]:.1f} s')
+    return ours['other exceptions']
+
+
+def main():
+    parser = argparse.ArgumentParser(description=__doc__.split('\n')[0])
+    parser.add_argument('--files', type=int, default=40)
+    parser.add_argument('--damaged', type=int, default=60)
+    parser.add_argument('--seed', type=int, default=1)
+    parser.add_argument('folders', nargs='*', default=['/usr/lib/x86_64-linux-gnu', '/usr/bin'])
+    options = parser.parse_args()
+    paths = elf_files(options.folders, options.files)
+    different = compare(paths)
+    sources = [file.bytes for file in made.ALL]
+    for path in paths:
+        if os.path.getsize(path) < 100000 and len(sources) < 24:
+            with open(path, 'rb') as file:
+                sources.append(file.read())
+    wrong = compare_damaged(options.damaged, sources, options.seed)
+    return int(bool(different or wrong))
+
+
+if __name__ == '__main__':
+    sys.exit(main())

@@ -1,0 +1,516 @@
+"""Tests of goblin_elf over made files, whose values are those that the System V gABI gives their bytes, and over files of this machine."""
+import gc
+import json
+import mmap
+import os
+import pickle
+import re
+import signal
+import subprocess
+import sys
+import tempfile
+import threading
+import unittest
+
+import goblin_elf
+from goblin_elf import (EM_X86_64, PF_X, SHF_ALLOC, SHF_EXECINSTR, SHT_PROGBITS, SHT_RELA, SHT_SYMTAB, STT_FUNC, Elf, Item, Kind, Refused,
+                        Symbols)
+from goblin_elf import __main__ as program
+from goblin_elf import _library, constants
+
+import made
+
+try:
+    import numpy
+except ImportError:
+    numpy = None
+    print('numpy is not installed, so arrays are not tested')
+
+FOLDER = os.path.dirname(os.path.abspath(__file__))
+MADE = made.ALL[2]
+
+
+def refusal(function, *arguments):
+    """Returns the refusal that a call raises."""
+    try:
+        function(*arguments)
+    except Refused as error:
+        return error
+    raise AssertionError('it is not refused')
+
+
+class Read(unittest.TestCase):
+    """Each kind of item of the made files, of both classes and byte orders."""
+
+    def each(self):
+        return [(file, Elf(file.bytes)) for file in made.ALL]
+
+    def test_header(self):
+        for file, elf in self.each():
+            header = elf.header
+            self.assertEqual((header.e_entry, header.e_phoff, header.e_shoff, header.e_machine), (0x1004, file.phoff, file.shoff, 62))
+            self.assertEqual((header.e_phnum, header.e_shnum, header.e_shstrndx, header.ei_osabi), (2, 9, 8, 3))
+            self.assertEqual((elf.is_64, elf.little_endian), (file.bits == 64, file.order == '<'))
+            self.assertEqual(repr(elf), f'<Elf: ELF{file.bits} REL X86_64, {len(file.bytes)} bytes>')
+            self.assertEqual(bytes(elf.bytes), file.bytes)
+
+    def test_sections(self):
+        for file, elf in self.each():
+            self.assertEqual([section.name for section in elf.sections], list(made.NAMES))
+            self.assertEqual(elf.sections.names(), list(made.NAMES))
+            text = elf.section('.text')
+            self.assertEqual((text.index, text.sh_type, text.sh_flags, text.sh_addr, text.sh_addralign),
+                             (1, SHT_PROGBITS, SHF_ALLOC | SHF_EXECINSTR, 0x1000, 16))
+            self.assertEqual((text.sh_offset, text.sh_size), file.offsets['.text'])
+            self.assertEqual((bytes(text.bytes), goblin_elf.sht_to_str(text.sh_type)), (made.TEXT, 'SHT_PROGBITS'))
+            symbols = elf.section(b'.symtab')
+            self.assertEqual((symbols.index, symbols.sh_link, symbols.sh_info, symbols.linked.name), (2, 3, 3, '.strtab'))
+            self.assertEqual(symbols.sh_entsize, file.size(made.SYM))
+            zeros = elf.sections[-2]
+            self.assertEqual((zeros.name, len(zeros.bytes), zeros.sh_size, zeros.linked), ('.bss', 0, 0x100, None))
+            self.assertIsNone(elf.section('.debug'))
+            self.assertIsNone(elf.section('.text', 2))
+            self.assertEqual(elf.section_by_type(SHT_SYMTAB).name, '.symtab')
+            self.assertEqual([elf.section_by_type(3, first).index for first in (0, 3, 4, 8)], [3, 3, 8, 8])
+            self.assertIsNone(elf.section_by_type(3, 9))
+
+    def test_segments(self):
+        for file, elf in self.each():
+            load, note = elf.segments
+            self.assertEqual((load.p_type, load.p_flags, load.p_vaddr, load.p_paddr, load.p_memsz, load.p_align),
+                             (1, 5, 0x1000, 0x1000, 0x100, 4))
+            self.assertEqual(((load.p_offset, load.p_filesz), goblin_elf.pt_to_str(note.p_type)), (file.offsets['.text'], 'PT_NOTE'))
+            self.assertEqual((bytes(load.bytes), load.p_flags & PF_X), (made.TEXT, 1))
+            self.assertEqual((elf.offset_of(0x1010), elf.offset_of(0xfff)), (load.p_offset + 16, None))
+
+    def test_symbols(self):
+        for _, elf in self.each():
+            found = [(s.name, s.st_value, s.st_size, s.st_shndx, s.binding, s.type, s.visibility) for s in elf.symbols]
+            self.assertEqual(found, list(made.SYMBOLS))
+            self.assertEqual(elf.symbols.names(), [symbol[0] for symbol in made.SYMBOLS])
+            main = elf.symbols.find('main')
+            self.assertEqual((main.index, main.type, main.binding), (1, STT_FUNC, goblin_elf.STB_GLOBAL))
+            self.assertEqual((elf.symbols[3].visibility, elf.symbols.find('été').index), (goblin_elf.STV_HIDDEN, 5))
+            self.assertIsNone(elf.symbols.find('absent'))
+            self.assertEqual(elf.section('.strtab').strings.get(main.st_name), 'main')
+            self.assertEqual(elf.section('.strtab').strings.get_bytes(main.st_name + 1), b'ain')
+            self.assertEqual((len(elf.dynamic_symbols), elf.dynamic_symbols.find('main')), (0, None))
+
+    def test_symbol_of_an_address(self):
+        # the address, and the symbol that contains it: after inner it is outer, which goes on, and after main the label
+        for address, name in [(0x1003, None), (0x1004, 'main'), (0x100b, 'main'), (0x100c, None), (0x1010, 'label'), (0x101f, 'label'),
+                              (0x1020, 'outer'), (0x1028, 'inner'), (0x102c, 'outer'), (0x1040, None), (0x400f, 'été')]:
+            for _, elf in self.each():
+                found = elf.symbol_at(address)
+                self.assertEqual(found and found.name, name, hex(address))
+
+    def test_relocations(self):
+        for _, elf in self.each():
+            for name, has in [('.rela.text', True), ('.rel.text', False)]:
+                table = elf.section(name).relocations
+                expected = [(offset, symbol, addend if has else None, kind) for offset, symbol, kind, addend in made.RELOCATIONS]
+                self.assertEqual([relocation[:4] for relocation in table], expected)
+                self.assertEqual([table[index][:4] for index in range(2)], expected)
+                self.assertEqual([relocation.symbol.name for relocation in table], ['main', 'outer'])
+
+    def test_notes(self):
+        for _, elf in self.each():
+            for notes in (elf.notes, elf.section('.note.gnu.build-id').notes, elf.segments[1].notes):
+                self.assertEqual([(note.n_type, note.name, bytes(note.desc)) for note in notes], [(3, 'GNU', made.BUILD_ID)])
+            self.assertEqual((elf.build_id, elf.build_id.hex()), (made.BUILD_ID, made.BUILD_ID.hex()))
+
+    def test_numbers(self):
+        for file, elf in self.each():
+            size = file.bits // 8
+            self.assertEqual((elf.number(18, 2), elf.number(24, size), elf.number(4, 1)), (62, 0x1004, file.bits // 32))
+            expected = 0x13121110 if file.order == '<' else 0x10111213
+            self.assertEqual((elf.section('.text').number(16, 4), elf.segments[0].number(16, 4)), (expected, expected))
+            self.assertEqual(refusal(elf.section('.text').number, 126, 4).kind, Kind.TOO_BIG)
+            self.assertEqual(refusal(elf.number, len(file.bytes), 1).kind, Kind.BAD_OFFSET)
+            for width in (0, 3, 16):
+                self.assertRaises(ValueError, elf.number, 0, width)
+
+
+class Sequences(unittest.TestCase):
+    def test_indices_and_slices(self):
+        elf = Elf(MADE.bytes)
+        for table, count in [(elf.sections, 9), (elf.segments, 2), (elf.symbols, 7), (elf.section('.rela.text').relocations, 2),
+                             (elf.section('.note.gnu.build-id').notes, 1)]:
+            items = list(table)
+            self.assertEqual((len(table), len(items)), (count, count))
+            self.assertEqual([table[index] for index in range(-count, count)], items * 2)
+            self.assertEqual((list(reversed(table)), table[::-1], table[1:], table[:-1:2]),
+                             (items[::-1], items[::-1], items[1:], items[:-1:2]))
+            for index in (count, -count - 1, 2 ** 62):
+                self.assertRaises(IndexError, lambda: table[index])
+            self.assertRaises(TypeError, lambda: table['0'])
+            self.assertIn(items[0], table)
+            self.assertEqual((table.index(items[-1]), table.count(items[0])), (count - 1, 1))
+            self.assertRegex(repr(table), rf'{count} items')
+
+    def test_items(self):
+        elf, again = Elf(MADE.bytes), Elf(bytearray(MADE.bytes))
+        for item, same in [(elf.sections[1], again.sections[1]), (elf.symbols[1], again.symbols[1]), (elf.segments[0], again.segments[0])]:
+            self.assertEqual((item, hash(item)), (same, hash(same)))
+            self.assertFalse(item != same)
+            self.assertRaises(AttributeError, setattr, item, item._fields[0], 1)
+        self.assertNotEqual(elf.symbols[1], elf.symbols[2])
+        self.assertNotEqual(elf.symbols[1], elf.symbols[1]._replace(st_other=1))
+        self.assertFalse(elf.segments[0] == elf.sections[1])
+        self.assertIn("name='main', st_name=0x1, st_value=0x1004", repr(elf.symbols[1]))
+        self.assertIn("r_offset=0x10, r_sym=1, r_addend=-4, r_type=2, index=0", repr(elf.section('.rela.text').relocations[0]))
+        self.assertIn('e_machine=62', repr(elf.header))
+
+    def test_many_items(self):
+        # more symbols than one call reads: each has its index as its value
+        count = 3 * 4096 + 5
+        entries = b''.join(MADE.pack(made.SYM[64], 0, 0, 0, 1, index, 0) for index in range(count))
+        symbols = Symbols(Elf(MADE.bytes + entries), len(MADE.bytes), len(entries) + 23)
+        self.assertEqual([symbol.st_value for symbol in symbols], list(range(count)))
+        self.assertEqual([symbol.st_value for symbol in reversed(symbols)], list(range(count))[::-1])
+        self.assertEqual([(symbol.index, symbol.st_value) for symbol in symbols[4090:8200]], [(i, i) for i in range(4090, 8200)])
+
+
+class Refusals(unittest.TestCase):
+    def test_of_headers(self):
+        # the bytes, the kind, its numbers and the text of the library
+        magic = MADE.bytes[:4]
+        for content, kind, numbers in [
+                (b'', Kind.TOO_SMALL, ()), (magic + bytes(11), Kind.TOO_SMALL, ()), (bytes(16), Kind.BAD_MAGIC, (0,)),
+                (magic + bytes([3, 1]) + bytes(10), Kind.ELF_CLASS, (3,)), (magic + bytes([2, 3]) + bytes(10), Kind.DATA_TYPE, (3,)),
+                (MADE.bytes[:63], Kind.TOO_BIG, (64, 63))]:
+            error = refusal(Elf, content)
+            self.assertEqual((error.kind, error.numbers, error.offset, error.item), (kind, numbers, 0, None))
+            self.assertIsInstance(error, ValueError)
+        self.assertEqual(str(refusal(Elf, bytes(16))), 'Invalid magic number: 0x0')
+
+    def test_of_lists(self):
+        cut = Elf(MADE.bytes[:-1])
+        for read in (lambda: cut.sections, lambda: cut.symbols, lambda: cut.section('.text')):
+            error = refusal(read)
+            self.assertEqual((error.kind, error.numbers, error.offset), (Kind.TOO_BIG, (64, 63), cut.header.e_shoff))
+        many = Elf(MADE.bytes, Elf(MADE.bytes).header._replace(e_shnum=60000))
+        error = refusal(lambda: many.sections)
+        self.assertEqual((error.kind, error.item, error.numbers), (Kind.BUFFER_TOO_SHORT, Item.SECTION_HEADERS, (60000,)))
+        self.assertEqual(str(error), 'Buffer is too short for 60000 section headers')
+        self.assertEqual(refusal(lambda: Symbols(cut, len(MADE.bytes), 24)).kind, Kind.SYMTAB_OFFSET)
+        self.assertEqual(refusal(lambda: Symbols(cut, 0, 1 << 20)).kind, Kind.SYMTAB_PAST)
+
+    def test_of_types_and_strings(self):
+        elf = Elf(MADE.bytes)
+        for expected in ('symbols', 'relocations'):
+            error = refusal(getattr, elf.section('.text'), expected)
+            self.assertEqual((error.kind, error.numbers, str(error)),
+                             (Kind.SECTION_TYPE, (1,), f'A section of type 0x1 (SHT_PROGBITS) holds no {expected}'))
+        self.assertEqual(refusal(elf.strings(1 << 40, 1).get, 0).kind, Kind.STRTAB_OFFSET)
+        self.assertEqual(refusal(elf.strings(64, 1 << 40).get, 0).kind, Kind.STRTAB_RANGE)
+        odd = Elf(MADE.bytes + b'caf\xe9\0').strings(len(MADE.bytes), 5)
+        error = refusal(odd.get, 0)
+        self.assertEqual((error.kind, error.item, error.offset), (Kind.BAD_INPUT, Item.INVALID_UTF8, len(MADE.bytes)))
+        self.assertEqual((odd.get_bytes(0), odd.get(0, 'replace'), odd.get(0, 'surrogateescape')), (b'caf\xe9', 'caf\ufffd', 'caf\udce9'))
+        self.assertEqual((odd.get(1, 'ignore'), odd.get(5), odd.get_all([4, 5, 9])), ('af', None, ['', None, None]))
+        self.assertEqual(refusal(odd.get_all, [4, 0]).kind, Kind.BAD_INPUT)
+
+    def test_of_notes(self):
+        offset, size = MADE.offsets['.note.gnu.build-id']
+        changed = bytearray(MADE.bytes)
+        changed[offset + 4:offset + 8] = b'\xff\xff\xff\x7f'
+        error = refusal(lambda: Elf(changed).section('.note.gnu.build-id').notes)
+        self.assertEqual((error.kind, error.offset), (Kind.TOO_BIG, offset))
+        self.assertEqual(refusal(lambda: Elf(changed).build_id).kind, Kind.TOO_BIG)
+
+    def test_it_can_be_pickled(self):
+        error = refusal(Elf, bytes(16))
+        again = pickle.loads(pickle.dumps(error))
+        self.assertEqual((str(again), again.kind, again.numbers, again.offset), (str(error), error.kind, error.numbers, error.offset))
+
+
+class Cut(unittest.TestCase):
+    """The whole part of a cut file."""
+
+    def test_headers(self):
+        for file in made.ALL:
+            size = file.size(made.SHDR)
+            for length, count in [(0, 9), (1, 8), (size, 8), (size + 1, 7), (8 * size, 1), (9 * size, 0)]:
+                cut = Elf(file.bytes[:len(file.bytes) - length])
+                whole = cut.whole()
+                self.assertEqual([section[:10] for section in whole.sections],
+                                 [section[:10] for section in Elf(file.bytes).sections[:count]])
+                self.assertEqual(len(whole.segments), 2)
+                if count == 9:
+                    self.assertEqual(whole.header, cut.header)
+
+    def test_bytes(self):
+        offset = MADE.offsets['.text'][0]
+        elf = Elf(MADE.bytes)
+        cut = Elf(MADE.bytes[:offset + 20], elf.header)
+        for item in (elf.section('.text'), elf.segments[0]):
+            part = type(item)(*item[:-1], type(item.table).__new__(type(item.table)))
+            part.table.elf = cut
+            self.assertEqual(bytes(part.bytes_in_file), made.TEXT[:20])
+            self.assertEqual(refusal(lambda: part.bytes).kind, Kind.TOO_BIG)
+            self.assertEqual(bytes(item.bytes_in_file), made.TEXT)
+
+
+class Written(unittest.TestCase):
+    """What is written back, and what is not."""
+
+    def check(self, file, changed, offset, size):
+        """Whether only the bytes of a record changed."""
+        self.assertNotEqual(changed[offset:offset + size], file.bytes[offset:offset + size])
+        self.assertEqual(changed[:offset] + changed[offset + size:], file.bytes[:offset] + file.bytes[offset + size:])
+
+    def test_items(self):
+        # the table, the index, a field, its new value, and where the record is
+        for file in made.ALL:
+            cases = [(lambda elf: elf.sections, 1, 'sh_flags', 7, file.shoff, made.SHDR),
+                     (lambda elf: elf.segments, 1, 'p_flags', 6, file.phoff, made.PHDR),
+                     (lambda elf: elf.symbols, 3, 'st_value', 0x2000, file.offsets['.symtab'][0], made.SYM),
+                     (lambda elf: elf.section('.rela.text').relocations, 1, 'r_addend', -8, file.offsets['.rela.text'][0], made.RELA),
+                     (lambda elf: elf.section('.rel.text').relocations, 1, 'r_sym', 4, file.offsets['.rel.text'][0], made.REL)]
+            for table_of, index, field, value, start, form in cases:
+                changed = bytearray(file.bytes)
+                table = table_of(Elf(changed))
+                same = table[index]
+                table[index] = same
+                self.assertEqual(changed, file.bytes)
+                table[index] = same._replace(**{field: value})
+                self.assertEqual(getattr(table[index], field), value)
+                self.check(file, changed, start + index * file.size(form), file.size(form))
+
+    def test_what_does_not_fit(self):
+        file = made.ALL[0]
+        changed = bytearray(file.bytes)
+        symbols = Elf(changed).symbols
+        error = refusal(symbols.__setitem__, 1, symbols[1]._replace(st_value=1 << 32))
+        self.assertEqual((error.kind, error.offset), (Kind.INTEGER_FIT, file.offsets['.symtab'][0] + file.size(made.SYM)))
+        relocations = Elf(changed).section('.rel.text').relocations
+        self.assertEqual(refusal(relocations.__setitem__, 0, relocations[0]._replace(r_addend=1)).kind, Kind.INTEGER_FIT)
+        for value in (1 << 64, -1, 'text'):
+            self.assertRaises(ValueError, symbols.__setitem__, 1, symbols[1]._replace(st_value=value))
+        self.assertRaises(IndexError, symbols.__setitem__, 7, symbols[1])
+        self.assertRaises(TypeError, symbols.__setitem__, 1, relocations[1])
+        self.assertEqual(changed, file.bytes)
+
+    def test_header_and_numbers(self):
+        for file in made.ALL:
+            changed = bytearray(file.bytes)
+            elf = Elf(changed)
+            elf.put_header(elf.header)
+            self.assertEqual(changed, file.bytes)
+            elf.put_header(elf.header._replace(e_entry=0x2000))
+            self.assertEqual((elf.header.e_entry, Elf(changed).header.e_entry), (0x2000, 0x2000))
+            self.check(file, changed, 24, file.bits // 8)
+            elf.put_number(24, 4 if file.bits == 32 else 8, 0x1004)
+            self.assertEqual(changed, file.bytes)
+            self.assertEqual(refusal(elf.put_number, 24, 2, 1 << 16).kind, Kind.INTEGER_FIT)
+            self.assertEqual(refusal(elf.put_header, elf.header._replace(ei_class=3)).kind, Kind.INVALID_CLASS)
+            self.assertEqual(refusal(elf.put_header, elf.header._replace(ei_data=0)).kind, Kind.DATA)
+            self.assertRaises(ValueError, elf.put_number, 24, 3, 1)
+            self.assertEqual(changed, file.bytes)
+
+    def test_read_only_bytes_stay(self):
+        for buffer in (MADE.bytes, memoryview(MADE.bytes), memoryview(bytearray(MADE.bytes)).toreadonly()):
+            elf = Elf(buffer)
+            symbols = elf.symbols
+            self.assertRaises(TypeError, symbols.__setitem__, 1, symbols[2])
+            self.assertRaises(TypeError, elf.put_header, elf.header)
+            self.assertRaises(TypeError, elf.put_number, 0, 1, 0)
+            self.assertEqual(bytes(buffer), MADE.bytes)
+        self.assertRaises(TypeError, lambda: elf.bytes.__setitem__(0, 1))
+
+    def test_mapped_file(self):
+        with tempfile.NamedTemporaryFile() as file:
+            file.write(MADE.bytes)
+            file.flush()
+            symbols = Elf(mmap.mmap(file.fileno(), 0)).symbols
+            symbols[1] = symbols[1]._replace(st_size=9)
+            with open(file.name, 'rb') as again:
+                self.assertEqual(Elf(again.read()).symbols[1].st_size, 9)
+
+
+class Memory(unittest.TestCase):
+    """What lives as long as something needs it."""
+
+    def test_views_hold_the_file(self):
+        with tempfile.NamedTemporaryFile() as file:
+            file.write(MADE.bytes)
+            file.flush()
+            elf = Elf.open(file.name)
+            text, build_id, symbol, strings = elf.section('.text').bytes, elf.build_id, elf.symbols[1], elf.section('.strtab').strings
+            del elf
+            gc.collect()
+        self.assertEqual((bytes(text), bytes(build_id)), (made.TEXT, made.BUILD_ID))
+        self.assertEqual((symbol.name, strings.get(1)), ('main', 'main'))
+
+    def test_buffers_can_not_go(self):
+        with tempfile.NamedTemporaryFile() as file:
+            file.write(MADE.bytes)
+            file.flush()
+            mapped = mmap.mmap(file.fileno(), 0, access=mmap.ACCESS_READ)
+            elf = Elf(mapped)
+            self.assertRaises(BufferError, mapped.close)
+            self.assertEqual(elf.symbols[1].name, 'main')
+            del elf
+            gc.collect()
+            mapped.close()
+        buffer = bytearray(MADE.bytes)
+        elf = Elf(buffer)
+        self.assertRaises(BufferError, buffer.append, 0)
+        self.assertEqual(len(elf.sections), 9)
+
+    def test_a_file_that_is_cut(self):
+        with tempfile.NamedTemporaryFile() as file:
+            file.write(MADE.bytes)
+            file.flush()
+            elf = Elf.open(file.name, copy=True)
+            array = Elf.open(file.name).symbols.array() if numpy else None
+            os.truncate(file.name, 0)
+            self.assertEqual((len(elf.sections), elf.symbols[1].name), (9, 'main'))
+            if numpy:
+                self.assertEqual(list(array['st_value']), [symbol[1] for symbol in made.SYMBOLS])
+            self.assertEqual(refusal(Elf.open, file.name).kind, Kind.TOO_SMALL)
+
+    def test_a_mapped_file_that_is_cut_ends_the_process(self):
+        with tempfile.NamedTemporaryFile() as file:
+            file.write(MADE.bytes)
+            file.flush()
+            script = f'import os; from goblin_elf import Elf; e = Elf.open({file.name!r}); os.truncate({file.name!r}, 0); e.sections'
+            self.assertEqual(subprocess.run([sys.executable, '-c', script]).returncode, -signal.SIGBUS)
+
+    def test_what_is_no_regular_file(self):
+        ends = os.pipe()
+        os.write(ends[1], MADE.bytes)
+        os.close(ends[1])
+        self.assertEqual(Elf.open(f'/dev/fd/{ends[0]}').symbols[1].name, 'main')
+        os.close(ends[0])
+        self.assertRaises(OSError, Elf.open, FOLDER)
+        self.assertRaises(TypeError, Elf, 'text')
+
+    def test_threads(self):
+        elf = Elf(MADE.bytes)
+        symbols, strings = elf.symbols, elf.section('.strtab').strings
+        expected, wrong = [symbol[0] for symbol in made.SYMBOLS], []
+
+        def read():
+            for _ in range(150):
+                if symbols.names() != expected or [symbol.name for symbol in symbols] != expected or strings.get(1) != 'main':
+                    wrong.append(1)
+                if refusal(Elf, bytes(16)).kind != Kind.BAD_MAGIC or elf.sections[1].name != '.text':
+                    wrong.append(1)
+
+        threads = [threading.Thread(target=read) for _ in range(8)]
+        for thread in threads:
+            thread.start()
+        for thread in threads:
+            thread.join()
+        self.assertEqual(wrong, [])
+
+
+@unittest.skipUnless(numpy, 'numpy is not installed')
+class Arrays(unittest.TestCase):
+    def test_fields(self):
+        for file in made.ALL:
+            elf = Elf(file.bytes)
+            for table in (elf.sections, elf.segments, elf.symbols):
+                array = table.array()
+                for field in table.record.fields:
+                    self.assertEqual(array[field].tolist(), [getattr(item, field) for item in table])
+            array = elf.section('.rela.text').relocations.array()
+            self.assertEqual(array['r_addend'].tolist(), [relocation[3] for relocation in made.RELOCATIONS])
+            self.assertEqual(array['has_addend'].tolist(), [1, 1])
+            self.assertTrue(elf.symbols.array().flags.owndata)
+            self.assertEqual(elf.dynamic_symbols.array().shape, (0,))
+
+
+class Library(unittest.TestCase):
+    """The library itself: a wrong one is refused, and its constants and names are those of the standard."""
+
+    def load(self, path):
+        found = subprocess.run([sys.executable, '-c', 'import goblin_elf'], env={**os.environ, 'GOBLIN_ELF_LIBRARY': path},
+                               stderr=subprocess.PIPE, universal_newlines=True)
+        return found.returncode, found.stderr.strip().split('\n')[-1]
+
+    def test_a_wrong_library(self):
+        status, said = self.load('/nonexistent')
+        self.assertTrue(status == 1 and 'ImportError: goblin_elf needs the shared library' in said, said)
+        with tempfile.TemporaryDirectory() as folder:
+            for version, layout, expected in [(4, '', 'has interface 4, and this goblin_elf needs interface'),
+                                              (constants.VERSION, '((char *)layout)[0] = 1;', 'lays out its structs in another way')]:
+                source, path = os.path.join(folder, 'wrong.c'), os.path.join(folder, 'wrong.so')
+                with open(source, 'w') as file:
+                    file.write(f'unsigned goblin_version(void) {{ return {version}; }}\n'
+                               f'void goblin_layout(void *layout) {{ (void)layout; {layout} }}\n')
+                try:
+                    subprocess.run(['cc', '-shared', '-fPIC', '-o', path, source], check=True)
+                except FileNotFoundError:
+                    self.skipTest('cc is not installed')
+                status, said = self.load(path)
+                self.assertTrue(status == 1 and expected in said, said)
+
+    def test_constants(self):
+        self.assertEqual((EM_X86_64, SHT_RELA, int(goblin_elf.SHN_XINDEX), goblin_elf.ELFMAG), (62, 4, 0xffff, b'\x7fELF'))
+        self.assertEqual((repr(goblin_elf.STT(10)), goblin_elf.SHF(6)), ('<STT.STT_GNU_IFUNC: 10>', SHF_ALLOC | SHF_EXECINSTR))
+
+    def test_names_of_numbers(self):
+        names = [goblin_elf.class_to_str(2), goblin_elf.et_to_str(3), goblin_elf.machine_to_str(62), goblin_elf.pt_to_str(1),
+                 goblin_elf.sht_to_str(1), goblin_elf.shf_to_str(SHF_ALLOC), goblin_elf.bind_to_str(1), goblin_elf.type_to_str(2),
+                 goblin_elf.visibility_to_str(2), goblin_elf.note_type_to_str('GNU', 3), goblin_elf.sht_to_str(99)]
+        self.assertEqual(names, ['ELF64', 'DYN', 'X86_64', 'PT_LOAD', 'SHT_PROGBITS', 'SHF_ALLOC', 'GLOBAL', 'FUNC', 'HIDDEN',
+                                 'NT_GNU_BUILD_ID', 'UNKNOWN_SHT'])
+
+    def test_numbers_are_not_cut(self):
+        elf = Elf(MADE.bytes)
+        for call in (elf.symbol_at, elf.offset_of, lambda number: elf.number(number, 1), lambda number: elf.section('', number)):
+            for number in (-1, 1 << 64):
+                self.assertRaises(ValueError, call, number)
+        self.assertEqual(_library.RECORDS['symbol'].size, 40)
+
+
+class Program(unittest.TestCase):
+    def run_it(self, *arguments):
+        found = subprocess.run([sys.executable, '-m', 'goblin_elf', *arguments], stdout=subprocess.PIPE, universal_newlines=True)
+        return found.returncode, found.stdout
+
+    def test_files(self):
+        with tempfile.TemporaryDirectory() as folder:
+            paths = [os.path.join(folder, name) for name in ('made.o', 'odd\n', 'absent')]
+            for path, content in zip(paths, (MADE.bytes, bytes(16))):
+                with open(path, 'wb') as file:
+                    file.write(content)
+            status, said = self.run_it(*paths)
+            for line in ('  kind         object (REL)', '  class        ELF64, little endian, X86_64', f'  build id     {made.BUILD_ID.hex()}',
+                         '  counts       9 sections, 2 segments, 7 symbols, 0 dynamic symbols',
+                         '  refused      Invalid magic number: 0x0 (BAD_MAGIC, at offset 0x0)', '  error        No such file or directory',
+                         f'{folder}/odd\ufffd'):
+                self.assertIn(line, said.split('\n'))
+            self.assertEqual(status, 1)
+            status, said = self.run_it('--json', *paths[:1])
+            found = json.loads(said)[0]
+            self.assertEqual((status, found['type'], found['entry'], found['needed'], found['sizes']['code']), (0, 'REL', 0x1004, [], 128))
+
+    def test_the_page(self):
+        """Our column of the lines of the page for those who come from pyelftools."""
+        with open(os.path.join(FOLDER, '..', 'README.md'), encoding='utf-8') as file:
+            rows = re.findall(r'^\|`([^|]*)`\|`([^|]*)`\|$', file.read(), re.M)
+        self.assertEqual(len(rows), 10)
+        with tempfile.NamedTemporaryFile() as file:
+            file.write(MADE.bytes)
+            file.flush()
+            names = {**vars(goblin_elf), 'path': file.name}
+            elf = names['elf'] = Elf.open(file.name)
+            names.update(section=elf.section('.rela.text'), symbol=elf.symbols[1], relocation=elf.section('.rela.text').relocations[0],
+                         segment=elf.segments[1])
+            for _, ours in rows:
+                for line in ours.split('`, `'):
+                    (exec if line.startswith('for ') else eval)(line, dict(names))
+        self.assertEqual([eval(rows[index][1], names) for index in (1, 4, 6, 9)], [True, False, True, made.BUILD_ID.hex()])
+
+    def test_this_python(self):
+        found = program.described(sys.executable)
+        self.assertIn('libc.so.6', found['needed'])
+        self.assertEqual((found['kind'], os.path.basename(found['interpreter'])[:3]), ('program', 'ld-'))
+
+
+if __name__ == '__main__':
+    unittest.main()
