@@ -17,18 +17,18 @@ pub struct Digits {
 impl Digits {
     /// Returns the digits of a number in decimal.
     pub fn decimal(number: u64) -> Self
-        ensures text { digits_text result ≡ decimal number }
+        ensures value { digits_text result ≡ decimal number }
         ensures ascii { IsAscii (digits_text result) }
-        ensures start { result.start < 20 }
+        ensures bound { result.start < 20 }
     {
         Self::by_base(10, number)
     }
 
     /// Returns the digits of a number in lower-case hexadecimal.
     pub fn hexadecimal(number: u64) -> Self
-        ensures text { digits_text result ≡ hexadecimal number }
+        ensures value { digits_text result ≡ hexadecimal number }
         ensures ascii { IsAscii (digits_text result) }
-        ensures start { result.start < 20 }
+        ensures bound { result.start < 20 }
     {
         Self::by_base(16, number)
     }
@@ -39,9 +39,9 @@ impl Digits {
         requires short { 2 ^ 64 ≤ base ^ 20 }
         requires some { 0 < base }
         requires most { base ≤ 16 }
-        ensures text { digits_text result ≡ digits base false number }
+        ensures value { digits_text result ≡ digits base false number }
         ensures ascii { IsAscii (digits_text result) }
-        ensures start { result.start < 20 }
+        ensures bound { result.start < 20 }
     {
         let mut bytes = [0; DIGITS];
         let mut start = DIGITS - 1;

@@ -27,7 +27,7 @@ pub fn range_of(
     ensures given { (file : List ℕ) → length file ≡ file_len →
         let expected = refuse_as malformed (range_in mode file offset len) in
         Answers (λ range. slice_range file range.0 range.1) result expected }
-    ensures refused { (file : List ℕ) → length file ≡ file_len → IfErr (range_in mode file offset len)
+    ensures range { (file : List ℕ) → length file ≡ file_len → IfErr (range_in mode file offset len)
         (λ fault. result ≡ Err (Error.Malformed fault)) }
     ensures places { (file : List ℕ) → length file ≡ file_len →
         IfOk result (λ range. IsRange mode file offset len range.0 range.1) }

@@ -1,6 +1,6 @@
 //! Note headers of both classes, and the types of notes: System V gABI, "Note Section".
 ghost use Rattle.std.specs.Prelude.{◌≡◌, [], ◌∷◌};
-ghost use Rattle.goblin_base.specs.Common.{IsOneImage, shaped, zero};
+ghost use Rattle.goblin_base.specs.Common.{shaped};
 ghost use Rattle.goblin_records.specs.Nhdr.{nhdr32, nhdr64};
 ghost use Rattle.goblin_records.specs.NhdrLaws.{nhdr32_laws, nhdr64_laws};
 
@@ -87,8 +87,7 @@ impl LaidOut<Endian> for Nhdr64 {
 
 /// Laws of note headers: their sizes.
 pub fn laws()
-    ensures size32 { SIZEOF_NHDR32 ≡ 12 }
-    ensures size64 { SIZEOF_NHDR64 ≡ 24 }
+    ensures sizes { (SIZEOF_NHDR32 ≡ 12) × (SIZEOF_NHDR64 ≡ 24) }
 {}
 
 /// A law: `clone` returns the note header, and never fails. A call returns the clone.

@@ -42,7 +42,7 @@ loop-left-preserved c =
           ∙ l.invariant.digits;
     }
 
-text : goal.returns-clause-text
+text : goal.returns-clause-value
 text c =
     let l = c.loop-left in
     let base = c.args.base in
@@ -56,8 +56,8 @@ text c =
     rw (drop-set l.bytes l.start c.digit-2.result here, c.digit-2.ensures)
     (sym (digits-last base (l.start + 44) l.left (drop (l.start + 1) l.bytes) last) ∙ l.invariant.digits)
 
-pub returns-clause-text : goal.returns-clause-text
-returns-clause-text c = text c
+pub returns-clause-value : goal.returns-clause-value
+returns-clause-value c = text c
 
 pub returns-clause-ascii : goal.returns-clause-ascii
 returns-clause-ascii c =
