@@ -98,8 +98,12 @@ install_library() {
     put faces/c/goblin.h include/goblin.h
     up=$(echo "$libdir/pkgconfig" | sed 's|[^/][^/]*|..|g')
     put_edited "s|@VERSION@|$version|; s|@UP@|$up|; s|@LIBDIR@|$libdir|" faces/goblin_c.pc.in "$libdir/pkgconfig/goblin_c.pc"
+    for file in config config-version; do
+        put_edited "s|@VERSION@|$version|; s|@INTERFACE@|$interface|; s|@UP@|$up/..|; s|@LIBDIR@|$libdir|" "faces/goblin_c-$file.cmake.in" \
+            "$libdir/cmake/goblin_c/goblin_c-$file.cmake"
+    done
     put LICENSE share/goblin_c/LICENSE
-    for example in flag needed nm size strings symbolize truncated values; do put "faces/c/$example.c" "share/goblin_c/examples/$example.c"; done
+    for example in execstack flag needed nm size strings symbolize truncated values; do put "faces/c/$example.c" "share/goblin_c/examples/$example.c"; done
     put LICENSE share/goblin_c/rust/LICENSE
     put_edited "s|join(\"lib\")|join(\"$libdir\")|" faces/rust/build.rs share/goblin_c/rust/build.rs
     put_all faces/rust/src share/goblin_c/rust/src
@@ -117,8 +121,13 @@ install_library() {
         put "$program" bin/goblin_show 755
         put faces/goblin_show.1 share/man/man1/goblin_show.1
     fi
-    { cat crates/goblin_c/CALLING.md; list_installed; } > "$folder/page"
-    put "$folder/page" share/goblin_c/CALLING.md
+    {
+        sed "s|@VERSION@|$version|; s|@INTERFACE@|$interface|; s|@TARGET@|$target|" faces/installed.md
+        printf '\n## Installed files\n\nBelow the folder of the installation:\n\n'
+        # shellcheck disable=SC2016 # (they are markdown's)
+        each_installed | while read -r start content; do printf -- '- `%s`: %s\n' "$start" "$content"; done
+    } > "$folder/page"
+    put "$folder/page" share/goblin_c/README.md
 }
 
 # Links the shared library, which exports the calls alone.
@@ -131,22 +140,39 @@ link_shared() {
         || { cat "$folder/said"; fail "the shared library can't be linked by $compiler, for the reason above"; }
 }
 
-# Prints the last section of the installed page: the installed files and folders, each by the start of its name.
-list_installed() {
-    printf '\n## Installed files\n\nBelow the folder of the installation:\n\n'
+# Prints the installed files and folders, each by the start of its name, and what they are.
+each_installed() {
     while read -r start content; do
-        # shellcheck disable=SC2016 # (they are markdown's)
-        if grep -qF "$start" "$folder/files"; then printf -- '- `%s`: %s\n' "$start" "$content"; fi
+        if grep -qF "$start" "$folder/files"; then echo "$start $content"; fi
     done << END
 $libdir/libgoblin_c.a the static library
 $libdir/libgoblin_c.so.$interface the shared library of interface $interface, to which \`libgoblin_c.so\` links
 $libdir/pkgconfig/goblin_c.pc the file for pkg-config
+$libdir/cmake/goblin_c/ the package for CMake
 include/goblin.h the header for C and C++
 bin/goblin_show the program that shows a file
 share/man/man1/goblin_show.1 its manual page
+share/goblin_c/README.md how to use the library
 share/goblin_c/examples/ the examples in C
 share/goblin_c/rust/ the Rust crate
+share/goblin_c/web/ the npm package: the library for WebAssembly, its JavaScript, and its types
+share/goblin_c/web/index.html the page that shows files in a browser
 END
+}
+
+# Prints the archive's first page: its files and folders, and their sizes.
+print_contents() {
+    printf '# goblin_c %s for %s\n\nA proved library that reads and writes the ELF records of a file in memory. ' "$version" "$target"
+    # shellcheck disable=SC2016 # (they are markdown's)
+    case $target in
+    wasm64-*) printf 'Install it by `npm install` and the folder `share/goblin_c/web`.\n' ;;
+    *) printf '[share/goblin_c/README.md](share/goblin_c/README.md) says how to use it.\n' ;;
+    esac
+    printf 'Nothing needs to be compiled, and all can be moved together.\n\n|file or folder|what|bytes|\n|---|---|---|\n'
+    # shellcheck disable=SC2016
+    each_installed | while read -r start content; do
+        printf '|`%s`|%s|%s|\n' "$start" "$content" "$(grep -F "$start" "$folder/files" | grep -v '/$' | sed "s|^|$to/|" | tr '\n' '\0' | xargs -0 cat | wc -c)"
+    done
 }
 
 # The module, the JavaScript over it, and the page, which holds both.
@@ -245,11 +271,13 @@ fi
 if [ "$1" != --archive ]; then
     install_below "$1"
     echo "goblin_c $version for $target is installed below $1"
+    if [ "$shared" ]; then echo "programs find ${shared##*/} after ldconfig, or if they are linked with -Wl,-rpath,$1/$libdir"; fi
     exit 0
 fi
 name=goblin_c-$version-$target
 archive=${2:-out/$name.tar.gz}
 install_below "$folder/$name"
+print_contents > "$folder/$name/README.md"
 mkdir -p "$(dirname "$archive")"
 tar -C "$folder" --sort=name --owner=0 --group=0 --numeric-owner --mode=u=rwX,go=rX --mtime=@0 -cf "$folder/tar" "$name"
 gzip -9n < "$folder/tar" > "$archive"

@@ -27,6 +27,8 @@ for mask in 077 022; do
     (umask $mask && quietly sh faces/install.sh --archive "$folder/goblin_c.$mask.tar.gz")
 done
 quietly cmp "$folder/goblin_c.077.tar.gz" "$folder/goblin_c.022.tar.gz"
+tar -tzf "$folder/goblin_c.022.tar.gz" > "$folder/output"
+grep -qx 'goblin_c-[^/]*/README\.md' "$folder/output" || { echo "the archive has no README.md"; exit 1; }
 sh checks/installed.sh "$folder/goblin_c.022.tar.gz"
 
 # With another LIBDIR, a shared library where there is a compiler, and a program in place of goblin_show.

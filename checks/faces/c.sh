@@ -143,8 +143,8 @@ check_execstack() {
     [ "$(cmp -l "$folder/nm" "$folder/stack" | wc -l)" -eq 1 ] || fail "execstack.c changes more than one byte"
     quietly "$folder/stack" "$folder/nm"
     said=$("$folder/execstack" -c "$1" 2>&1) && fail "execstack.c changes a file without program headers"
-    [ "$said" = "? $1
-execstack: $1: there is no program header of type PT_GNU_STACK" ] || fail "execstack.c prints this of an object file: $said"
+    [ "$said" = "execstack: $1: there is no program header of type PT_GNU_STACK" ] || fail "execstack.c prints this of an object file: $said"
+    [ "$("$folder/execstack" "$1")" = "? $1" ] || fail "execstack.c does not print that $1 has no such program header"
     echo "execstack.c changes one flag"
 }
 
@@ -235,6 +235,15 @@ check_damaged() {
     build damaged -std=c99 "$@"
     "$folder/damaged" 1000 "$files"/* > "$folder/summed" || { echo "failed: damaged.c"; cat "$folder/summed"; exit 1; }
     cat "$folder/summed"
+    # The same over the calls in plain C, and over larger files with both.
+    quietly strictly cc -std=c99 -Ifaces/c -o "$folder/plain" faces/c/damaged.c faces/c/plain.c
+    for file in "$folder/nm" "$folder/made" "$files"; do
+        if [ -d "$file" ]; then set -- "$file"/*; else set -- "$file"; fi
+        "$folder/plain" 1000 "$@" > "$folder/wanted" || { echo "failed: damaged.c over plain.c"; cat "$folder/wanted"; exit 1; }
+        "$folder/damaged" 1000 "$@" > "$folder/listed" || { echo "failed: damaged.c"; cat "$folder/listed"; exit 1; }
+        quietly diff "$folder/wanted" "$folder/listed"
+    done
+    echo "plain.c, a plain reading of goblin.h, has the same results"
 }
 
 check_header

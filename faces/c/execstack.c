@@ -54,11 +54,8 @@ int main(int argc, char **argv) {
     uint64_t index;
     uint32_t status = find_stack(&index);
     if (status > GOBLIN_END) return refused(path);
-    if (status == GOBLIN_END) {
-        printf("? %s\n", path);
-        if (clears || sets) fprintf(stderr, "execstack: %s: there is no program header of type PT_GNU_STACK\n", path);
-        return clears || sets;
-    }
+    if (status == GOBLIN_END && !(clears || sets)) return printf("? %s\n", path) < 0;
+    if (status == GOBLIN_END) return fprintf(stderr, "execstack: %s: there is no program header of type PT_GNU_STACK\n", path), 1;
     uint32_t flags = clears ? stack.p_flags & ~GOBLIN_PF_X : sets ? stack.p_flags | GOBLIN_PF_X : stack.p_flags;
     if (flags != stack.p_flags) {
         stack.p_flags = flags;

@@ -11,7 +11,7 @@ enum { NONE = -1, BATCH = 64 };
 
 /* A symbol that may contain an address. */
 typedef struct {
-    uint64_t start, last, index; /* its addresses, the last one if it has a size, and its index in the table */
+    uint64_t start, last, index; /* its first address, its last one if it has a size, and its index in the table */
     bool has_size;
 } place_t;
 

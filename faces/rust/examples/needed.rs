@@ -29,8 +29,11 @@ fn interpreter<'a>(elf: &Elf<'a>) -> Result<Option<&'a [u8]>> {
     Ok(bytes.and_then(|bytes| bytes.split(|byte| *byte == 0).next()))
 }
 
-/// Returns the entries of a dynamic section of some size: tags and values.
-fn entries(elf: &Elf, dynamic: &impl Part, size: u64) -> Result<Vec<(u64, u64)>> {
+/// The entries of a dynamic section: tags and values.
+type Entries = Vec<(u64, u64)>;
+
+/// Returns the entries of a dynamic section of some size.
+fn entries(elf: &Elf, dynamic: &impl Part, size: u64) -> Result<Entries> {
     let mut all = Vec::new();
     let width = if elf.is_64() { 8 } else { 4 };
     for entry in 0..size / (2 * width) {
@@ -45,7 +48,7 @@ fn entries(elf: &Elf, dynamic: &impl Part, size: u64) -> Result<Vec<(u64, u64)>>
 }
 
 /// Returns the entries of the dynamic section and its strings.
-fn dynamic<'a>(elf: &Elf<'a>) -> Result<Option<(Vec<(u64, u64)>, Strtab<'a>)>> {
+fn dynamic<'a>(elf: &Elf<'a>) -> Result<Option<(Entries, Strtab<'a>)>> {
     if elf.section_headers().map_or(false, |sections| !sections.is_empty()) {
         let section = match elf.section_by_type(SHT_DYNAMIC, 0)? {
             Some((_, section)) => section,
