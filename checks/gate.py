@@ -4,6 +4,7 @@
     python3 checks/gate.py test            every proof but those of the tests' own bodies, every test and program, must-fail/ and controls/
     python3 checks/gate.py gate            `rt ci`, which proves the tests too, and every edit
     python3 checks/gate.py edits [CRATE ..] [--edit NAME] [--from FOLDER]     the edits alone, of these crates or of all
+    python3 checks/gate.py prove CRATE     in a copy of the repository in which the crates below are proved: a part of each of these
 
 The crates are proved in a copy of the repository, which holds nothing that an earlier run left there; `edits` takes over what checks in
 the crates' folders have cached. As many parts run side by side as there are processors. A proof begins as soon as it can and goes
@@ -55,11 +56,39 @@ def copied(folder, with_cached=False):
         os.makedirs(os.path.dirname(f'{folder}/{path}'), exist_ok=True)
         shutil.copy(path, f'{folder}/{path}')
     for crate in crates_listed() if with_cached else []:
-        for part in ('incremental', 'rlib'):
-            if os.path.isdir(f'crates/{crate}/out/{part}'):
-                # (no check writes into a file that is there)
-                shutil.copytree(f'crates/{crate}/out/{part}', f'{folder}/crates/{crate}/out/{part}', copy_function=link)
+        take(crate, '.', folder, 'incremental', 'rlib')
     return folder
+
+
+def take(crate, source, to, *parts):
+    """Takes what checks of a crate have cached in one copy, and its library, to another one. (No check writes into a file that is there.)"""
+    for part in parts:
+        if os.path.isdir(f'{source}/crates/{crate}/out/{part}'):
+            shutil.copytree(f'{source}/crates/{crate}/out/{part}', f'{to}/crates/{crate}/out/{part}', copy_function=link)
+
+
+def alone(crate, source, room):
+    """Copies the crates for one crate, with what its checks have cached and the libraries below it as they were proved, and returns its
+    folder there. The toolchain lets one check at a time into a crate's folder and those below it, so each proof has folders of its own."""
+    ignored = shutil.ignore_patterns('target', 'out')
+    shutil.copytree(f'{source}/crates', f'{room}/crates', ignore=ignored, symlinks=True)
+    for name in ('HANDLES', 'crates.txt'):
+        shutil.copy(f'{source}/{name}', room)
+    for name in crates_listed()[crate]:
+        take(name, source, room, 'rlib')
+    take(crate, source, room, 'incremental', 'rlib')
+    return f'{room}/crates/{crate}'
+
+
+def prove(crate):
+    """Proves a crate over those below it that are proved here."""
+    with tempfile.TemporaryDirectory(prefix='proof-', dir='..') as room:
+        folder = alone(crate, '.', room)
+        status = subprocess.run(['sh', os.path.abspath('checks/prove.sh'), crate], cwd=room).returncode
+        if not status:
+            shutil.rmtree(f'crates/{crate}/out', ignore_errors=True)
+            os.rename(f'{folder}/out', f'crates/{crate}/out')
+    return status
 
 
 def has_tests(crate):
@@ -74,7 +103,7 @@ def proofs(crates, copy, after=()):
     """The proofs of these crates and of those below them."""
     listed = crates_listed()
     wanted = [crate for crate in listed if any(crate in {one, *listed[one]} for one in crates)]
-    return [Part(f'proof of {crate}', ['sh', 'checks/prove.sh', crate], (*after, *(f'proof of {name}' for name in listed if name in listed[crate])),
+    return [Part(f'proof of {crate}', [PYTHON, 'checks/gate.py', 'prove', crate], (*after, *(f'proof of {name}' for name in listed if name in listed[crate])),
                  copy, True) for crate in wanted]
 
 
@@ -207,11 +236,13 @@ def parts_of(options, room):
 
 def main():
     parser = argparse.ArgumentParser(prog='python3 checks/gate.py', description=__doc__.split('\n')[0])
-    parser.add_argument('goal', choices=('test', 'gate', 'edits'))
+    parser.add_argument('goal', choices=('test', 'gate', 'edits', 'prove'))
     parser.add_argument('crates', nargs='*')
     parser.add_argument('--edit')
     parser.add_argument('--from', dest='folder')
     options = parser.parse_args()
+    if options.goal == 'prove':
+        return prove(*options.crates)
     with tempfile.TemporaryDirectory(prefix='gate-') as room:
         parts = parts_of(options, room)
         if not parts:
