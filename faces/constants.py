@@ -1,8 +1,8 @@
 #!/usr/bin/env python3
 """Writes the constants of the library's records for C, Rust, JavaScript and Python.
 
-    python3 faces/constants.py            writes the end of faces/c/goblin.h, faces/rust/src/constants/*.rs, faces/web/constants.js, and constants.py
-                                          and interface.py of faces/python/goblin_elf
+    python3 faces/constants.py            writes the end of faces/c/goblin.h, faces/rust/src/constants/*.rs, faces/web/constants.js, and constants.py,
+                                          interface.py and names.py of faces/python/goblin_elf
     python3 faces/constants.py --made     writes only the files for Rust, JavaScript and Python
     python3 faces/constants.py --check    writes nothing, and fails if goblin.h is not what it would write
 
@@ -345,6 +345,26 @@ if TYPE_CHECKING:
     return text + 'CALLS = {\n' + ''.join(f"    '{name}': '{codes}',\n" for name, codes in calls) + '}\n'
 
 
+def py_names():
+    text = f'''"""The names of numbers, as the library has them.
+
+{MADE.replace("the library's constants", HEADER)}
+"""
+from ._library import text, unsigned
+'''
+    pattern = r'/\* Writes the name of ((?:(?!\*/).)*)\n +Example: (?:(?!\*/).)* \*/\nuint64_t goblin_(\w+_to_str)\(([^)]*)\);'
+    for comment, name, arguments in re.findall(pattern, read(HEADER), re.S):
+        kind, number = arguments.split(', ')[-3].split()
+        lines = textwrap.fill(f'"""Returns the name of {words_of(comment)}"""', WIDTH - 4)
+        value = f'unsigned({number}, {kind[4:-2]})'
+        if 'name_len' not in arguments:
+            text += f'\n\ndef {name}({number}: int) -> str:\n{textwrap.indent(lines, "    ")}\n    return text({name!r}, {value})\n'
+            continue
+        text += f'\n\ndef {name}(name: str, {number}: int) -> str:\n{textwrap.indent(lines, "    ")}\n'
+        text += f"    encoded = name.encode('utf-8', 'surrogateescape')\n    return text({name!r}, encoded, len(encoded), {value})\n"
+    return text
+
+
 # ---- C ----
 
 START = '/* ---- constants ----\n'
@@ -433,7 +453,7 @@ def main(arguments):
         print(f'{HEADER} does not have the constants of the library: run python3 faces/constants.py')
         return 1
     made = [('faces/web/constants.js', js_file()), ('faces/python/goblin_elf/constants.py', py_file()),
-            ('faces/python/goblin_elf/interface.py', py_interface())]
+            ('faces/python/goblin_elf/interface.py', py_interface()), ('faces/python/goblin_elf/names.py', py_names())]
     for name, text in [*rust_files(), *made]:
         write(name, text)
     if not arguments and write(HEADER, c_file()):
