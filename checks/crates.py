@@ -1,7 +1,9 @@
 #!/usr/bin/env python3
 """Prints the crates that a crate of crates.txt stands on and the crate itself, the lowest first, a name a line: python3
-checks/crates.py CRATE, from the repository's root.
+checks/crates.py CRATE; or a sum of all that is proved of them: python3 checks/crates.py --sum CRATE. Run from the repository's root.
 """
+import hashlib
+import os
 import sys
 
 
@@ -17,14 +19,24 @@ def crates_listed():
     return {crate: below(crate) for crate in stands_on}
 
 
-def main(crate):
+def sum_of(crates):
+    """A sum of the files that the proofs of these crates rest on, with their names."""
+    parts = [f'crates/{crate}/{part}' for crate in crates for part in ('src', 'specs', 'proofs')]
+    files = [f'{at}/{name}' for part in parts for at, _, names in os.walk(part) for name in names]
+    whole = hashlib.sha256()
+    for path in sorted(['crates.txt', 'HANDLES', *files]):
+        with open(path, 'rb') as file:
+            whole.update(f'{path} {hashlib.sha256(file.read()).hexdigest()}\n'.encode())
+    return whole.hexdigest()
+
+
+def main(crate, wants_sum):
     listed = crates_listed()
     if crate not in listed:
         sys.exit(f'crates: crates.txt has no crate {crate}')
-    for name in listed:
-        if name in {crate, *listed[crate]}:
-            print(name)
+    crates = [name for name in listed if name in {crate, *listed[crate]}]
+    print(sum_of(crates) if wants_sum else '\n'.join(crates))
 
 
 if __name__ == '__main__':
-    main(*sys.argv[1:])
+    main(sys.argv[-1], sys.argv[1] == '--sum')

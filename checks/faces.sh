@@ -7,17 +7,20 @@ set -eu
 folder=$(mktemp -d)
 trap 'rm -rf "$folder"' EXIT
 trap 'exit 1' HUP INT TERM
-
-# Runs the script of a subject, as a part of the run.
-try() {
-    subject=$1
-    shift
-    python3 checks/part_times.py part "$subject" sh "checks/faces/$subject.sh" "$folder" "$@"
-}
-
+start=$(date +%s)
 python3 faces/constants.py --check
 python3 faces/constants.py --made
 echo "the constants in C are the library's, and those in Rust, JavaScript and Python are made of it"
+# Runs the script of a subject: try SUBJECT [FILE ..]
+try() {
+    subject=$1
+    shift
+    echo "faces: $subject, after $(($(date +%s) - start)) seconds"
+    sh "checks/faces/$subject.sh" "$folder" "$@"
+}
+
+sh checks/libraries.sh faces goblin_c
+echo "faces: making the library, which takes some minutes if its calls are not proved yet"
 try library
 if ! command -v cc > /dev/null; then
     echo "cc is not installed, so the calls from C, Rust and JavaScript are not tested: install a C compiler"
@@ -25,3 +28,4 @@ if ! command -v cc > /dev/null; then
 fi
 for subject in c rust python archive aarch64 webassembly; do try $subject; done
 try comparison "$@"
+echo "faces: the calls from C, Rust and JavaScript are as expected"

@@ -1,9 +1,9 @@
 #!/usr/bin/env python3
 """Makes ELF files that ask for much work, in a folder: python3 checks/hostile.py FOLDER
 
-There is a function for each file, of the file's name, that says what the file asks for. All are 64-bit little-endian files of at
-most the 16,777,216 bytes that the program takes. Where a name begins with text_ every byte of the file is below 128, in its
-headers too: whoever tests the whole file for text reads all of it there, and in the others stops early.
+MAKERS says of each file what it asks for. All are 64-bit little-endian files of at most the 16,777,216 bytes that the program takes.
+Where a name begins with text_ every byte of the file is below 128, in its headers too: whoever tests the whole file for text reads
+all of it there, and in the others stops early.
 """
 import itertools
 import os
@@ -63,26 +63,6 @@ def by_turns(tables, count, start):
     return [section(SHT_SYMTAB, start, 1, link=1 + i % tables) for i in range(1 + tables, 1 + tables + count)]
 
 
-# ---- string tables ----
-
-def one():
-    """65,000 symbol sections of a byte, linked to one string table of 12 MB."""
-    start = body_start(65_001)
-    return elf([section(SHT_STRTAB, start, 12_000_000)] + by_turns(1, 65_000, start), b'a' * 12_000_000)
-
-
-def turns():
-    """64,999 symbol sections of a byte, linked in turn to two string tables of 12 MB."""
-    start = body_start(65_001)
-    tables = [section(SHT_STRTAB, start + i, 12_000_000 - i) for i in range(2)]
-    return elf(tables + by_turns(2, 64_999, start), b'a' * 12_000_000)
-
-
-def damaged():
-    """As `one`, but the string table ends in a byte that is not UTF-8."""
-    return one()[:-1] + BAD
-
-
 def overlapping(step, text):
     """32,000 symbol sections of a byte, each linked to a string table of its own that begins `step` bytes after the one before."""
     start = body_start(64_000)
@@ -90,67 +70,34 @@ def overlapping(step, text):
     return elf(tables + by_turns(32_000, 32_000, start), text)
 
 
-def narrow():
-    """32,000 overlapping string tables, of characters of one byte."""
-    return overlapping(1, b'a' * 12_000_000)
+def in_turn(tables, count, text):
+    """Symbol sections of a byte, linked in turn to so many string tables, each of which begins a byte after the one before."""
+    start = body_start(tables + count)
+    return elf([section(SHT_STRTAB, start + i, len(text) - i) for i in range(tables)] + by_turns(tables, count, start), text)
 
 
-def wide():
-    """32,000 overlapping string tables, of characters of four bytes."""
-    return overlapping(len(WIDE), WIDE * 3_000_000)
-
-
-def strings():
-    """60,000 symbol sections linked in turn to two tables of 6 MB, of 3,000,000 strings and a byte that is not UTF-8."""
-    start = body_start(60_002)
-    tables = [section(SHT_STRTAB, start + i, 6_000_000 - i) for i in range(2)]
-    return elf(tables + by_turns(2, 60_000, start), b'a\0' * 2_999_999 + b'a' + BAD)
-
-
-# ---- names ----
-
-def inside():
-    """200,000 names that begin inside a character of four bytes, in a string table of 11 MB."""
-    return symbols_file(b''.join(symbol(5, i) for i in range(200_000)), WIDE * 2_750_000)
+def named(places, strings):
+    """Symbols with names at these places of a string table."""
+    return symbols_file(b''.join(symbol(place, i) for i, place in enumerate(places)), strings)
 
 
 NAMES = b''.join(b'symbol_%06d\0' % i for i in range(300_000))
 NAMED = b''.join(symbol(14 * i, i) for i in range(300_000))
 
 
-def symbols():
-    """300,000 symbols with names."""
-    return symbols_file(NAMED, NAMES)
-
-
-def failing():
-    """300,000 names in one string of 9 MB, of characters of one byte, that ends in a byte that is not UTF-8."""
-    return symbols_file(b''.join(symbol(1 + 29 * i, i) for i in range(300_000)), b'a' * 8_999_999 + BAD)
-
-
-def failing_wide():
-    """300,000 names in one string of 9 MB, of characters of four bytes, that ends in a byte that is not UTF-8."""
-    return symbols_file(b''.join(symbol(4 + 28 * i, i) for i in range(300_000)), WIDE * 2_249_999 + b'abc' + BAD)
-
-
 def endless():
-    """60,000 symbol sections over the same 300,000 symbols with names."""
     start = body_start(60_001)
     table = section(SHT_STRTAB, start + len(NAMED), len(NAMES))
     return elf([table] + [section(SHT_SYMTAB, start, len(NAMED), link=1)] * 60_000, NAMED + NAMES)
 
 
-# ---- relocations ----
-
 def relocs():
-    """65,000 relocation sections of one entry each, at the end of a file of 16 MB."""
     start = body_start(65_000)
     places = range(LONGEST - RELA_SIZE - 65_000, LONGEST - RELA_SIZE)
     return elf([section(SHT_RELA, place, RELA_SIZE) for place in places], bytes(LONGEST - start))
 
 
 def relocations():
-    """One section of 690,000 relocations."""
     entries = b''.join(struct.pack('<QQq', i, i, i) for i in range(690_000))
     return elf([section(SHT_RELA, body_start(1), len(entries))], entries)
 
@@ -177,21 +124,20 @@ def text_file(sections, body=b'', names=0):
     return (elf(sections, b'', names).ljust(TEXT_BODY, b'a') + body).ljust(LONGEST, b'a')
 
 
-def text_symbols_file(count, strings):
+def text_symbols(count, strings):
     """A file of so many symbols, whose names lie 6 MB and more after the start of these strings."""
     table = b''.join(symbol(name, 0) for name in low_numbers(FIRST_NAME, count))
     headers = [section(SHT_STRTAB, TEXT_BODY + len(table), TEXT_SIZE), section(SHT_SYMTAB, TEXT_BODY, len(table), link=1)]
     return text_file(headers, table + strings)
 
 
-def text_relocs_file(start, size):
+def text_relocs(start, size):
     """A file of 32,638 relocation sections of a size, from an offset on, in turn without addends and with them."""
     places = enumerate(low_numbers(start, TEXT_SECTIONS - 1))
     return text_file([section(SHT_RELA if i % 2 else SHT_REL, place, size) for i, place in places])
 
 
 def text_tables():
-    """16,256 symbol sections of a byte, each linked to one of as many overlapping string tables."""
     places = low_numbers(TEXT_BODY, TEXT_SECTIONS)
     # An index that a section is linked to has bytes below 128.
     return text_file([section(SHT_SYMTAB, TEXT_BODY, 1, link=i - 128) if i & 128 else section(SHT_STRTAB, next(places), TEXT_SIZE)
@@ -199,46 +145,52 @@ def text_tables():
 
 
 def text_sections():
-    """32,637 sections with names, which lie 6 MB and more after the start of a string table of 8 MB."""
     headers = [section(SHT_PROGBITS, 0, 0, name=name) for name in low_numbers(FIRST_NAME, TEXT_SECTIONS - 2)]
     return text_file([section(SHT_STRTAB, TEXT_BODY, TEXT_SIZE)] + headers, SHORT_STRINGS, names=1)
 
 
-def text_symbols():
-    """253,952 symbols with names of at most 15 bytes."""
-    return text_symbols_file(253_952, SHORT_STRINGS)
-
-
-def text_long_names():
-    """24,576 symbols with names of at most 4,095 bytes."""
-    return text_symbols_file(24_576, LONG_STRINGS)
-
-
-def text_relocs():
-    """32,638 overlapping relocation sections of one entry each."""
-    return text_relocs_file(TEXT_SIZE - 0x10000, RELA_SIZE)
-
-
-def text_relocs_cut():
-    """32,638 relocation sections that are a byte too short for an entry."""
-    return text_relocs_file(TEXT_SIZE - 0x10000, REL_SIZE - 1)
-
-
-def text_relocs_endless():
-    """32,638 overlapping relocation sections of 8 MB."""
-    return text_relocs_file(TEXT_BODY, TEXT_SIZE)
-
-
-MAKERS = [one, turns, damaged, narrow, wide, strings, inside, symbols, failing, failing_wide, endless, relocs, relocations,
-          text_tables, text_sections, text_symbols, text_long_names, text_relocs, text_relocs_cut, text_relocs_endless]
+MAKERS = {
+    # 65,000 symbol sections of a byte, linked to one string table of 12 MB; 64,999 to two in turn; and to one that ends in a bad byte
+    'one': lambda: in_turn(1, 65_000, b'a' * 12_000_000),
+    'turns': lambda: in_turn(2, 64_999, b'a' * 12_000_000),
+    'damaged': lambda: in_turn(1, 65_000, b'a' * 11_999_999 + BAD),
+    # 32,000 overlapping string tables, of characters of one byte and of four
+    'narrow': lambda: overlapping(1, b'a' * 12_000_000),
+    'wide': lambda: overlapping(len(WIDE), WIDE * 3_000_000),
+    # 60,000 symbol sections linked in turn to two tables of 6 MB, of 3,000,000 strings and a byte that is not UTF-8
+    'strings': lambda: in_turn(2, 60_000, b'a\0' * 2_999_999 + b'a' + BAD),
+    # 200,000 names that begin inside a character of four bytes, in a string table of 11 MB
+    'inside': lambda: named([5] * 200_000, WIDE * 2_750_000),
+    # 300,000 symbols with names
+    'symbols': lambda: symbols_file(NAMED, NAMES),
+    # 300,000 names in one string of 9 MB that ends in a byte that is not UTF-8, of characters of one byte and of four
+    'failing': lambda: named(range(1, 29 * 300_000, 29), b'a' * 8_999_999 + BAD),
+    'failing_wide': lambda: named(range(4, 28 * 300_000, 28), WIDE * 2_249_999 + b'abc' + BAD),
+    # 60,000 symbol sections over the same 300,000 symbols with names
+    'endless': endless,
+    # 65,000 relocation sections of one entry each, at the end of a file of 16 MB; and one section of 690,000
+    'relocs': relocs,
+    'relocations': relocations,
+    # 16,256 symbol sections of a byte, each linked to one of as many overlapping string tables
+    'text_tables': text_tables,
+    # 32,637 sections with names, which lie 6 MB and more after the start of a string table of 8 MB
+    'text_sections': text_sections,
+    # symbols with names of at most 15 bytes, and of at most 4,095
+    'text_symbols': lambda: text_symbols(253_952, SHORT_STRINGS),
+    'text_long_names': lambda: text_symbols(24_576, LONG_STRINGS),
+    # 32,638 overlapping relocation sections of one entry each, of a byte less than an entry, and of 8 MB
+    'text_relocs': lambda: text_relocs(TEXT_SIZE - 0x10000, RELA_SIZE),
+    'text_relocs_cut': lambda: text_relocs(TEXT_SIZE - 0x10000, REL_SIZE - 1),
+    'text_relocs_endless': lambda: text_relocs(TEXT_BODY, TEXT_SIZE),
+}
 
 
 def main(folder):
-    for maker in MAKERS:
+    for name, maker in MAKERS.items():
         made = maker()
-        if maker.__name__.startswith('text_') and not made.isascii():
-            sys.exit(f'hostile: a byte of {maker.__name__} is above 127')
-        with open(os.path.join(folder, maker.__name__), 'wb') as file:
+        if name.startswith('text_') and not made.isascii():
+            sys.exit(f'hostile: a byte of {name} is above 127')
+        with open(os.path.join(folder, name), 'wb') as file:
             file.write(made)
 
 

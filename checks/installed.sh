@@ -1,7 +1,7 @@
 #!/bin/sh
 # Whether an archive of faces/install.sh can be used without the toolchain: installed.sh ARCHIVE [COMPILER RUNNER]
-# It is unpacked elsewhere, and used in an environment that has only the compilers. C finds it by pkg-config, CMake by its module for
-# that, and Rust by a path. The examples are compiled, and a shared library and the program are tried if the archive has them. What the
+# It is unpacked elsewhere, and used in an environment that has only the compilers. C finds it by pkg-config, CMake by its package, and
+# Rust by a path. The examples are compiled, and a shared library and the program are tried if the archive has them. What the
 # machine lacks is left out. COMPILER and RUNNER are for an archive of another target: the compiler makes static programs, which the
 # runner runs. Run it from the repository's root.
 set -eu
@@ -44,16 +44,29 @@ fail() {
     exit 1
 }
 
-# Checks that the installed page lists each installed file, or a folder that has it, but for the licences and the page itself.
+# Checks that the installed page lists each installed file, or a folder that has it, but for the licences, and that what it links to is there.
+# The archive's first page, if there is one, lists the same, with the size of each.
 check_page() {
-    sed -n '/^## Installed files$/,$s/^- `\([^`]*\)`.*/\1/p' "$there/share/goblin_c/CALLING.md" > "$folder/listed"
+    page=$there/share/goblin_c/README.md
+    sed -n '/^## Installed files$/,$s/^- `\([^`]*\)`.*/\1/p' "$page" > "$folder/listed"
     while read -r file; do
-        case $file in */LICENSE | */CALLING.md | */libgoblin_c.so) continue ;; esac
+        case $file in */LICENSE | */README.md | */libgoblin_c.so) continue ;; esac
         while read -r name; do
             case $file in "$name"*) continue 2 ;; esac
         done < "$folder/listed"
-        fail "the installed CALLING.md doesn't list $file"
+        fail "the installed README.md doesn't list $file"
     done < "$there/share/goblin_c/library.files"
+    grep -o '](\([^)]*\))' "$page" | sed 's/](\(.*\))/\1/' > "$folder/linked"
+    while read -r file; do
+        [ -e "$there/share/goblin_c/$file" ] || fail "the installed README.md links to $file, which isn't there"
+    done < "$folder/linked"
+    if grep -q '@[A-Z]*@' "$page" "$libdir"/cmake/goblin_c/*; then fail "an installed file has a name that is not replaced"; fi
+    if [ ! -e "$there/README.md" ]; then return; fi
+    # shellcheck disable=SC2016 # (they are markdown's)
+    sed -n 's/^|`\([^`]*\)`|.*/\1/p' "$there/README.md" | grep -vx share/goblin_c/README.md > "$folder/first"
+    quietly diff "$folder/listed" "$folder/first"
+    grep -qxF "|\`include/goblin.h\`|the header for C and C++|$(wc -c < "$there/include/goblin.h")|" "$there/README.md" \
+        || fail "the archive's README.md has another size of goblin.h"
 }
 
 # Prints the names that a shared object exports.
@@ -125,19 +138,31 @@ if has "$linker" && has pkg-config; then
     done
     tried="$tried, C by pkg-config"
 fi
-if has "$linker" && has pkg-config && has cmake; then
-    mkdir "$folder/cmake"
-    cat > "$folder/cmake/CMakeLists.txt" << END
-cmake_minimum_required(VERSION 3.10)
-project(listing C)
-find_package(PkgConfig REQUIRED)
-pkg_check_modules(GOBLIN REQUIRED IMPORTED_TARGET goblin_c=$version)
-add_executable(listing ../nm.c)
-target_link_libraries(listing PkgConfig::GOBLIN)
-END
-    quietly bare CC="$compiler" cmake -S "$folder/cmake" -B "$folder/built"
-    quietly bare cmake --build "$folder/built"
-    quietly run "$folder/built/listing" "$folder/built/listing"
+# Builds nm.c by CMake with some lines that find and link the library, and runs it: by_cmake NAME LINE ..
+by_cmake() {
+    name=$1
+    shift
+    mkdir "$folder/$name"
+    printf '%s\n' 'cmake_minimum_required(VERSION 3.10)' 'project(listing C)' 'add_executable(listing ../nm.c)' "$@" > "$folder/$name/CMakeLists.txt"
+    quietly bare CC="$compiler" CMAKE_PREFIX_PATH="$there" cmake -S "$folder/$name" -B "$folder/$name/built"
+    quietly bare cmake --build "$folder/$name/built"
+    quietly run "$folder/$name/built/listing" "$folder/$name/built/listing"
+}
+if has "$linker" && has cmake; then
+    by_cmake package "find_package(goblin_c ${version%.*} REQUIRED)" 'target_link_libraries(listing goblin_c::goblin_c)'
+    grep -q ' T [0-9]* main$' "$folder/output" || fail "nm.c, built by CMake, lists no main of itself"
+    if grep -q ' goblin_note$' "$folder/output"; then fail "nm.c, linked by the package for CMake, has a call that it doesn't use"; fi
+    if has pkg-config; then
+        by_cmake module 'find_package(PkgConfig REQUIRED)' "pkg_check_modules(GOBLIN REQUIRED IMPORTED_TARGET goblin_c=$version)" \
+            'target_link_libraries(listing PkgConfig::GOBLIN)'
+    fi
+    if [ -z "$runner" ] && [ -e "$libdir/libgoblin_c.so" ]; then
+        by_cmake shared 'find_package(goblin_c REQUIRED)' 'target_link_libraries(listing goblin_c::shared)'
+    fi
+    mkdir "$folder/other"
+    printf '%s\n' 'cmake_minimum_required(VERSION 3.10)' 'project(listing C)' 'find_package(goblin_c 99 QUIET)' \
+        'if(goblin_c_FOUND)' 'message(FATAL_ERROR "version 99 is found")' 'endif()' > "$folder/other/CMakeLists.txt"
+    quietly bare CC="$compiler" CMAKE_PREFIX_PATH="$there" cmake -S "$folder/other" -B "$folder/other/built"
     tried="$tried, CMake"
 fi
 # (if Rust's own library for the target is there)

@@ -22,49 +22,17 @@ READ = 100_000_000
 OUT_OF_MEMORY = b'refused: Out of memory'
 # file: strict, permissive
 LIMITS = {
-    'damaged': (1, 1),
-    'endless': (7, 7),
-    'failing': (1, 6),
-    'failing_wide': (2, 11),
-    'inside': (2, 2),
-    'narrow': (1, 1),
-    'one': (1, 1),
-    'relocations': (2, 2),
-    'relocs': (1, 1),
-    'strings': (1, 1),
-    'symbols': (2, 2),
-    'text_long_names': (2, 2),
-    'text_relocs': (1, 1),
-    'text_relocs_cut': (1, 1),
-    'text_relocs_endless': (5, 5),
-    'text_sections': (1, 1),
-    'text_symbols': (2, 2),
-    'text_tables': (1, 1),
-    'turns': (1, 1),
-    'wide': (3, 1),
+    'damaged': (1, 1), 'endless': (7, 7), 'failing': (1, 6), 'failing_wide': (2, 11), 'inside': (2, 2), 'narrow': (1, 1), 'one': (1, 1),
+    'relocations': (2, 2), 'relocs': (1, 1), 'strings': (1, 1), 'symbols': (2, 2), 'text_long_names': (2, 2), 'text_relocs': (1, 1),
+    'text_relocs_cut': (1, 1), 'text_relocs_endless': (5, 5), 'text_sections': (1, 1), 'text_symbols': (2, 2), 'text_tables': (1, 1),
+    'turns': (1, 1), 'wide': (3, 1),
 }
 # What goblin_refused holds: the most MB of address space, which are 2 to 3 MB more than its 4 MB of bytes, its lists and the program
 # itself took when this was set.
 HELD = {
-    'entries': 9,
-    'lines': 9,
-    'parsed': 9,
-    'permissive': 9,
-    'relocs': 12,
-    'sections': 14,
-    'sections_bytes32': 12,
-    'sections_bytes64': 13,
-    'sections_from': 14,
-    'segments': 13,
-    'segments32': 11,
-    'segments64': 13,
-    'segments_bytes32': 11,
-    'segments_bytes64': 13,
-    'strings': 9,
-    'symbols': 12,
-    'symtab': 12,
-    'table': 12,
-    'unparsed': 9,
+    'entries': 9, 'lines': 9, 'parsed': 9, 'permissive': 9, 'relocs': 12, 'sections': 14, 'sections_bytes32': 12, 'sections_bytes64': 13,
+    'sections_from': 14, 'segments': 13, 'segments32': 11, 'segments64': 13, 'segments_bytes32': 11, 'segments_bytes64': 13, 'strings': 9,
+    'symbols': 12, 'symtab': 12, 'table': 12, 'unparsed': 9,
 }
 
 

@@ -97,7 +97,7 @@ names=crates/goblin_show/stdin
 { head -c 53 "$names"; printf '\377'; tail -c +55 "$names"; } > "$folder/damaged"
 printf 0123456789abcdef > "$folder/magic"
 symbols=checks/files/symbols
-python3 checks/files.py $symbols > "$folder/wanted"
+python3 checks/program.py $symbols > "$folder/wanted"
 add_run symbols 20 'strict 0' $symbols < "$folder/wanted"
 add_run relocations 20 'strict 0' checks/files/relocations < checks/files/relocations.shown
 add_run names 20 'strict 0' "$names" < crates/goblin_show/stdout

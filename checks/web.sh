@@ -50,7 +50,7 @@ if flag=$(sh checks/node_flag.sh); then
     [ "$counted" = "${wanted:-$counted}" ] || { echo "imported by the package's name, goblin.js reads $counted sections, not $wanted"; exit 1; }
     if command -v tsc > "$folder/output" 2>&1; then
         cp faces/web/use.ts "$folder/app/"
-        tsc --noEmit --strict --target es2020 --module es2022 --moduleResolution node --lib es2020,dom "$folder/app/use.ts"
+        tsc --noEmit --strict --target es2020 --module es2022 --moduleResolution node --lib es2020 "$folder/app/use.ts"
         echo "TypeScript accepts a program over goblin.d.ts"
     else
         echo "tsc is not installed, so goblin.d.ts is not compiled: install TypeScript"

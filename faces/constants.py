@@ -1,14 +1,15 @@
 #!/usr/bin/env python3
 """Writes the constants of the library's records for C, Rust, JavaScript and Python.
 
-    python3 faces/constants.py            writes the end of faces/c/goblin.h, faces/rust/src/constants/*.rs, faces/web/constants.js, and constants.py,
-                                          interface.py and names.py of faces/python/goblin_elf
-    python3 faces/constants.py --made     writes only the files for Rust, JavaScript and Python
-    python3 faces/constants.py --check    writes nothing, and fails if goblin.h is not what it would write
+    python3 faces/constants.py            writes the end of faces/c/goblin.h, faces/rust/src/constants/*.rs, faces/web/constants.js, and
+                                          constants.py, interface.py and names.py of faces/python/goblin_elf
+    python3 faces/constants.py --made     writes only the files for JavaScript and Python
+    python3 faces/constants.py --check    writes nothing, and fails if goblin.h or a file for Rust is not what it would write
 
 The names, values, types and comments are those of crates/goblin_headers and crates/goblin_records. So a constant is written by
-hand only there. Git has goblin.h, because it is read as documentation, and ignores the other files. faces/install.sh and
-checks/faces.sh make them; by hand they must be made before cargo or node reads them.
+hand only there. Git has goblin.h, because it is read as documentation, and the files for Rust, so that cargo can take the crate from
+a repository. It ignores the files for JavaScript and Python, which faces/install.sh and checks/faces.sh make; by hand they must be made
+before node or Python reads them.
 
 Flags of sections and indices of sections get the type of the field that holds them: `sh_flags` and `st_shndx`. JavaScript and Python also
 get the number of the interface, from goblin.h, and Python all that it declares.
@@ -447,17 +448,18 @@ def write(name, text):
 def main(arguments):
     if arguments not in ([], ['--made'], ['--check']):
         sys.exit('usage: python3 faces/constants.py [--made | --check]')
+    of_git = [(HEADER, c_file()), *rust_files()]
     if arguments == ['--check']:
-        if read(HEADER) == c_file():
-            return 0
-        print(f'{HEADER} does not have the constants of the library: run python3 faces/constants.py')
-        return 1
-    made = [('faces/web/constants.js', js_file()), ('faces/python/goblin_elf/constants.py', py_file()),
-            ('faces/python/goblin_elf/interface.py', py_interface()), ('faces/python/goblin_elf/names.py', py_names())]
-    for name, text in [*rust_files(), *made]:
-        write(name, text)
-    if not arguments and write(HEADER, c_file()):
-        print(f'{HEADER} is written anew')
+        stale = [name for name, text in of_git if not os.path.exists(path_of(name)) or read(name) != text]
+        for name in stale:
+            print(f'{name} does not have the constants of the library: run python3 faces/constants.py')
+        return 1 if stale else 0
+    write('faces/web/constants.js', js_file())
+    for name, text in [('constants', py_file()), ('interface', py_interface()), ('names', py_names())]:
+        write(f'faces/python/goblin_elf/{name}.py', text)
+    for name, text in [] if arguments else of_git:
+        if write(name, text):
+            print(f'{name} is written anew')
     return 0
 
 

@@ -48,9 +48,17 @@ folder=$(mktemp -d)
 trap 'rm -rf "$folder"' EXIT
 trap 'exit 1' HUP INT TERM
 
-# Installs a file below the folder, with a mode or 644, and notes it in the list of installed files: put FILE NAME [MODE]
+# Makes a folder below the folder, with those above it, and notes those that were not there in the list of installed files.
+make_folder() {
+    if [ -d "$to/$1" ]; then return 0; fi
+    case $1 in */*) make_folder "${1%/*}" ;; ?*) make_folder '' ;; esac
+    install -d -m 755 "$to/$1"
+    echo "$1/" >> "$folder/files"
+}
+
+# Installs a file below the folder, with a mode or 644, and notes it in that list: put FILE NAME [MODE]
 put() {
-    install -d -m 755 "$to/$(dirname "$2")"
+    make_folder "$(dirname "$2")"
     install -m "${3:-644}" "$1" "$to/$2"
     echo "$2" >> "$folder/files"
 }
@@ -75,6 +83,8 @@ install_below() {
     : > "$folder/files"
     if [ "$target" = wasm64-unknown-unknown ]; then kind=web; else kind=library; fi
     remove_from "$to" "$kind"
+    # (what an earlier installation made and something else keeps is still of this one)
+    while read -r made; do if [ -d "$to/$made" ]; then echo "$made" >> "$folder/files"; fi; done < "$folder/made"
     python3 faces/constants.py --made
     "install_$kind"
     install -m 644 "$folder/files" "$to/share/goblin_c/$kind.files"
@@ -85,15 +95,19 @@ install_library() {
     put faces/c/goblin.h include/goblin.h
     up=$(echo "$libdir/pkgconfig" | sed 's|[^/][^/]*|..|g')
     put_edited "s|@VERSION@|$version|; s|@UP@|$up|; s|@LIBDIR@|$libdir|" faces/goblin_c.pc.in "$libdir/pkgconfig/goblin_c.pc"
+    for file in config config-version; do
+        put_edited "s|@VERSION@|$version|; s|@INTERFACE@|$interface|; s|@UP@|$up/..|; s|@LIBDIR@|$libdir|" "faces/goblin_c-$file.cmake.in" \
+            "$libdir/cmake/goblin_c/goblin_c-$file.cmake"
+    done
     put LICENSE share/goblin_c/LICENSE
-    for example in flag needed nm size strings symbolize truncated values; do put "faces/c/$example.c" "share/goblin_c/examples/$example.c"; done
+    for example in execstack flag needed nm size strings symbolize truncated values; do put "faces/c/$example.c" "share/goblin_c/examples/$example.c"; done
     put LICENSE share/goblin_c/rust/LICENSE
     put_edited "s|join(\"lib\")|join(\"$libdir\")|" faces/rust/build.rs share/goblin_c/rust/build.rs
     put_all faces/rust/src share/goblin_c/rust/src
     put_all faces/rust/examples share/goblin_c/rust/examples
     # (what compares the crate with its repository stays there)
     put_all faces/rust/tests share/goblin_c/rust/tests ! -name repository.rs
-    put_edited 's|^license-file = .*|license-file = "LICENSE"|' faces/rust/Cargo.toml share/goblin_c/rust/Cargo.toml
+    put faces/rust/Cargo.toml share/goblin_c/rust/Cargo.toml
     install_python
     if [ "$shared" ]; then
         link_shared
@@ -105,8 +119,13 @@ install_library() {
         put "$program" bin/goblin_show 755
         put faces/goblin_show.1 share/man/man1/goblin_show.1
     fi
-    { cat crates/goblin_c/CALLING.md; list_installed; } > "$folder/page"
-    put "$folder/page" share/goblin_c/CALLING.md
+    {
+        sed "s|@VERSION@|$version|; s|@INTERFACE@|$interface|; s|@TARGET@|$target|" faces/installed.md
+        printf '\n## Installed files\n\nBelow the folder of the installation:\n\n'
+        # shellcheck disable=SC2016 # (they are markdown's)
+        each_installed | while read -r start content; do printf -- '- `%s`: %s\n' "$start" "$content"; done
+    } > "$folder/page"
+    put "$folder/page" share/goblin_c/README.md
 }
 
 # The Python package, which finds the shared library in LIBDIR.
@@ -137,23 +156,40 @@ link_shared() {
         || { cat "$folder/said"; fail "the shared library can't be linked by $compiler, for the reason above"; }
 }
 
-# Prints the last section of the installed page: the installed files and folders, each by the start of its name.
-list_installed() {
-    printf '\n## Installed files\n\nBelow the folder of the installation:\n\n'
+# Prints the installed files and folders, each by the start of its name, and what they are.
+each_installed() {
     while read -r start content; do
-        # shellcheck disable=SC2016 # (they are markdown's)
-        if grep -qF "$start" "$folder/files"; then printf -- '- `%s`: %s\n' "$start" "$content"; fi
+        if grep -qF "$start" "$folder/files"; then echo "$start $content"; fi
     done << END
 $libdir/libgoblin_c.a the static library
 $libdir/libgoblin_c.so.$interface the shared library of interface $interface, to which \`libgoblin_c.so\` links
 $libdir/pkgconfig/goblin_c.pc the file for pkg-config
+$libdir/cmake/goblin_c/ the package for CMake
 include/goblin.h the header for C and C++
 bin/goblin_show the program that shows a file
 share/man/man1/goblin_show.1 its manual page
+share/goblin_c/README.md how to use the library
 share/goblin_c/examples/ the examples in C
 share/goblin_c/rust/ the Rust crate
 share/goblin_c/python/ the Python package, which needs the shared library
+share/goblin_c/web/ the npm package: the library for WebAssembly, its JavaScript, and its types
+share/goblin_c/web/index.html the page that shows files in a browser
 END
+}
+
+# Prints the archive's first page: its files and folders, and their sizes.
+print_contents() {
+    printf '# goblin_c %s for %s\n\nA proved library that reads and writes the ELF records of a file in memory. ' "$version" "$target"
+    # shellcheck disable=SC2016 # (they are markdown's)
+    case $target in
+    wasm64-*) printf 'Install it by `npm install` and the folder `share/goblin_c/web`.\n' ;;
+    *) printf '[share/goblin_c/README.md](share/goblin_c/README.md) says how to use it.\n' ;;
+    esac
+    printf 'Nothing needs to be compiled, and all can be moved together.\n\n|file or folder|what|bytes|\n|---|---|---|\n'
+    # shellcheck disable=SC2016
+    each_installed | while read -r start content; do
+        printf '|`%s`|%s|%s|\n' "$start" "$content" "$(grep -F "$start" "$folder/files" | sed "s|^|$to/|" | tr '\n' '\0' | xargs -0 cat | wc -c)"
+    done
 }
 
 # The module, the JavaScript over it, and the page, which holds both.
@@ -170,19 +206,31 @@ install_web() {
     put "$folder/page" share/goblin_c/web/index.html
 }
 
-# Removes what was installed below a folder, by the list of its files, and the empty folders that are left of its own.
+# Removes what was installed below a folder, by the lists of its files, and the folders that were made for them, if nothing else is in
+# them: remove_from FOLDER KIND ..
 remove_from() {
-    list=$1/share/goblin_c/$2.files
-    [ -e "$list" ] || return 0
-    while read -r file; do rm -f "$1/$file"; done < "$list"
-    rm -rf "$list" "$1/share/goblin_c/python/goblin_elf/__pycache__"
-    find "$1/share/goblin_c" -depth -type d -empty -delete
+    below=$1
+    shift
+    : > "$folder/made"
+    for kind; do
+        list=$below/share/goblin_c/$kind.files
+        [ -e "$list" ] || continue
+        sed -n '/\/$/p' "$list" >> "$folder/made"
+        sed '/\/$/d' "$list" | while read -r file; do rm -f "$below/$file"; done
+        rm "$list"
+    done
+    # (Python makes it when the package is first imported)
+    rm -rf "$below/share/goblin_c/python/goblin_elf/__pycache__"
+    # (lists of earlier versions name no folders)
+    if [ -d "$below/share/goblin_c" ]; then find "$below/share/goblin_c" -depth -type d -empty -delete; fi
+    LC_ALL=C sort -r "$folder/made" | while read -r made; do
+        if [ -d "$below/$made" ] && [ -z "$(ls -A "$below/$made")" ]; then rmdir "$below/$made"; fi
+    done
 }
 
 if [ "$1" = --uninstall ]; then
     [ -e "$2/share/goblin_c/library.files" ] || [ -e "$2/share/goblin_c/web.files" ] || fail "goblin_c is not installed below $2: nothing is removed"
-    remove_from "$2" library
-    remove_from "$2" web
+    remove_from "$2" library web
     echo "goblin_c is removed from $2"
     exit 0
 fi
@@ -197,7 +245,7 @@ link_module() {
 # Prints the sums of what a library was made of, and of the library.
 sums() {
     rt version
-    sh checks/sources.sh --sum goblin_c
+    python3 checks/crates.py --sum goblin_c
     sha256sum < "$1"
 }
 
@@ -205,6 +253,8 @@ sums() {
 make_library() {
     made=crates/goblin_c/out/libgoblin_c.a
     if [ -e "$made" ]; then cp -p "$made" "$folder/before"; fi
+    sh checks/libraries.sh goblin_c goblin_c
+    echo "goblin_c: proving the calls for C, and compiling them for $target" >&2
     (cd crates/goblin_c && rt lib --target "$target" --cpu "$cpu") > "$folder/said" 2>&1 || { cat "$folder/said"; exit 1; }
     cat "$folder/said"
     mv "$made" "$folder/made"
@@ -240,11 +290,13 @@ fi
 if [ "$1" != --archive ]; then
     install_below "$1"
     echo "goblin_c $version for $target is installed below $1"
+    if [ "$shared" ]; then echo "programs find ${shared##*/} after ldconfig, or if they are linked with -Wl,-rpath,$1/$libdir"; fi
     exit 0
 fi
 name=goblin_c-$version-$target
 archive=${2:-out/$name.tar.gz}
 install_below "$folder/$name"
+print_contents > "$folder/$name/README.md"
 mkdir -p "$(dirname "$archive")"
 tar -C "$folder" --sort=name --owner=0 --group=0 --numeric-owner --mode=u=rwX,go=rX --mtime=@0 -cf "$folder/tar" "$name"
 gzip -9n < "$folder/tar" > "$archive"

@@ -1,4 +1,4 @@
-"""Edits, each of which plants a wrong body, and where their changes are.
+"""Edits, each of which plants a wrong body, or as a control a right one in the same form, and where their changes are.
 
 An edit is a file. It has a line 'file: src/lib.rt', or with a file of specs/ or proofs/, and after it pairs of lines 'old: TEXT'
 and 'new: TEXT'. Each old text occurs exactly once in that file as it is committed.
@@ -25,6 +25,8 @@ class Change:
 BODY, HEAD, LIST, ELSEWHERE = 'body', 'head', 'list', 'elsewhere'
 # The function of a module that says what number each of its constants is.
 LAW = 'constants'
+# The folders of a crate that hold edits: wrong bodies; those that break a promise outright; and for each of these a right body.
+EDITS, MUST_FAIL, CONTROLS = 'edits', 'must-fail', 'controls'
 
 
 @dataclass(frozen=True)
@@ -39,7 +41,8 @@ class Place:
 
 @dataclass(frozen=True)
 class Edit:
-    """A wrong body, or another wrong text: its name, its changes, and where they stand."""
+    """A wrong body, or another wrong text, or a right one: its folder and name, its changes, and where they stand."""
+    kind: str
     name: str
     changes: tuple
     places: tuple
@@ -52,6 +55,10 @@ class Edit:
         """The functions that its changes write outside of any other."""
         return {place.written for place in self.places if place.written}
 
+    def refused_by(self, function):
+        """How a check refuses a function for this edit, if it does. What must fail leaves a goal open, of a clause or at values."""
+        return function.refused if function and (function.open or self.kind != MUST_FAIL) else ''
+
     def stands_in(self, *kinds):
         return all(place.kind in kinds for place in self.places)
 
@@ -63,21 +70,21 @@ class Edit:
         return replace(self, places=tuple(places))
 
 
-def edits_of(folder, crate, source):
+def edits_of(folder, kind, crate, source):
     """The edits in a folder, by name, of the crate whose files stand in `source`, and what is wrong with those that don't fit."""
     edits, misfits = [], []
-    for file in sorted(os.listdir(folder)):
+    for file in sorted(os.listdir(folder) if os.path.isdir(folder) else []):
         try:
             name, is_edit, rest = file.rpartition('.edit')
             if not is_edit or rest:
-                raise Misfit(f'{crate}/{file}: it is no edit')
-            edits.append(read_edit(f'{folder}/{file}', name, crate, source))
+                raise Misfit(f'{crate}/{kind}/{file}: it is no edit')
+            edits.append(read_edit(f'{folder}/{file}', kind, f'{kind}/{name}', crate, source))
         except Misfit as misfit:
             misfits.append(str(misfit))
     return edits, misfits
 
 
-def read_edit(path, name, crate, source):
+def read_edit(path, kind, name, crate, source):
     """The edit that a file holds."""
     changes, file, old = [], None, None
     with open(path, encoding='utf-8') as lines:
@@ -94,7 +101,7 @@ def read_edit(path, name, crate, source):
                 old = None
     if not changes or old:
         raise Misfit(f'{crate}/{name}: an old text without a new one, or no pair at all')
-    return Edit(name, tuple(changes), tuple(place_in(crate, source, change) for change in changes))
+    return Edit(kind, name, tuple(changes), tuple(place_in(crate, source, change) for change in changes))
 
 
 def start_of(old, path, label):

@@ -5,26 +5,29 @@ bodies of different functions are applied at once, and one check judges them all
 function's is: one that only waits for another function, or that fails by names alone, is judged in a later group, without
 what it waits for, and in the end alone. So are edits of lists of constants that different modules pass on, each by its module's
 law, which says what number each name is there. An edit that changes more, as a constant or a definition, stands alone, and
-whatever cites that may refuse it. Each check goes by what the crate's own proof left, so that none proves anew what an edit before it had changed.
+whatever cites that may refuse it, unless it must fail: then its own function must. A control is a right body, which must be accepted.
+Each check goes by what the crate's own proof left, so that none proves anew what an edit before it had changed.
 """
 import os
 import shutil
 import subprocess
 from collections import Counter
 
-from edit import BODY, HEAD, LIST, apply, path_among
+from edit import BODY, CONTROLS, HEAD, LIST, MUST_FAIL, apply, path_among
 from verdict import Said
 
 
 # From this status on a check was killed.
 KILLED = 128
+# What comes of a right body.
+ACCEPTED = 'accepted'
 
 
 class Trial:
     """A copy of a crate, with what checks have cached of it and what its proof reported, and its edits."""
 
-    def __init__(self, crate, folder, edits, before, say):
-        self.crate, self.folder, self.edits, self.before, self.say = crate, folder, edits, before, say
+    def __init__(self, crate, folder, edits, before):
+        self.crate, self.folder, self.edits, self.before = crate, folder, edits, before
         self.ways, self.groups, self.wrong = Counter(), [], []
         self.waits, self.functions = {}, {}
         self.cached, self.proved = f'{folder}/out/incremental', f'{folder}/out/proved'
@@ -45,8 +48,6 @@ class Trial:
         for edit in edits:
             if not edit.stands_in(BODY) and not edit.stands_in(LIST):
                 self.try_alone(edit)
-        if self.edits and not self.ways:
-            self.fail('no edit was refused')
 
     def fail(self, why):
         self.wrong.append(f'{self.crate}: {why}')
@@ -54,7 +55,9 @@ class Trial:
     def place(self, edit, said):
         """Finds the functions of an edit among those that the prover names."""
         paths = {path_among(name, said.functions) for name in edit.functions()}
-        self.functions[edit.name] = frozenset(paths - {None})
+        # (what it writes besides may be new)
+        written = {path_among(name, said.functions) for name in edit.written()}
+        self.functions[edit.name] = frozenset((paths | written) - {None})
         if None in paths:
             self.report_wrong(edit, 'the prover names no function of this name')
         return None not in paths
@@ -137,35 +140,41 @@ class Trial:
     def judge(self, edit, said):
         """Reports what a check says of an edit's functions, if it judges them."""
         own = [said.functions.get(path) for path in sorted(self.functions[edit.name])]
-        if None in own:
+        by = next(filter(None, map(edit.refused_by, own)), '')
+        is_proved = all(function and function.is_proved() for function in own)
+        if None in own or not (by or is_proved):
             return False
-        by = next((function.refused for function in own if function.refused), '')
-        if by:
-            self.report_refused(edit, by, ' and '.join(sorted(self.functions[edit.name])))
-            return True
-        if all(function.is_proved() for function in own):
-            # a survivor: alone it shows what the rest of the crate says of it
+        if is_proved == (edit.kind == CONTROLS):
+            self.report_right(edit, by, ' and '.join(sorted(self.functions[edit.name])))
+        else:
+            # alone it shows what the rest of the crate says of it
             self.try_alone(edit)
-            return True
-        return False
+        return True
 
     def try_alone(self, edit):
         """Judges an edit by a check of its own."""
         said = self.check([edit])
         own = {path: said.functions.get(path) for path in self.functions[edit.name]}
+        is_proved = own and all(function and function.is_proved() for function in own.values())
+        by = {path: edit.refused_by(function) for path, function in own.items() if edit.refused_by(function)}
         refused = said.refused()
         self.groups.append(1)
         if not said.is_whole():
             self.report_wrong(edit, 'the edited code is no valid Rattle, so no contract was tried')
+        elif edit.kind == CONTROLS:
+            if is_proved:
+                self.report_right(edit, '', ' and '.join(own))
+            else:
+                self.report_wrong(edit, f'its function is not proved with it\n{said.text[-2000:]}')
         elif said.is_proved():
             self.report_wrong(edit, 'the crate is still proved with it')
-        elif any(function and function.refused for function in own.values()):
-            path = next(path for path, function in own.items() if function and function.refused)
-            self.report_refused(edit, own[path].refused, path)
-        elif refused and not edit.stands_in(BODY, HEAD, LIST):
+        elif by:
+            path = next(iter(by))
+            self.report_right(edit, by[path], path)
+        elif refused and edit.kind != MUST_FAIL and not edit.stands_in(BODY, HEAD, LIST):
             # it changes a definition, a constant or a type: whatever cites it may refuse it
-            self.report_refused(edit, self.way(said, refused[0]), ' and '.join(refused[:3]))
-        elif own and all(function and function.is_proved() for function in own.values()):
+            self.report_right(edit, self.way(said, refused[0]), ' and '.join(refused[:3]))
+        elif is_proved:
             others = f', though {refused[0]} is not' if refused else ''
             self.report_wrong(edit, f'its own function is still proved with it{others}')
         else:
@@ -174,10 +183,10 @@ class Trial:
     def way(self, said, path):
         return said.functions[path].refused if path in said.functions else 'by an answer'
 
-    def report_refused(self, edit, by, where):
-        self.ways[by] += 1
-        self.say(f'{self.crate}/{edit.name}: refused {by}: {where}')
+    def report_right(self, edit, by, where):
+        self.ways[by or ACCEPTED] += 1
+        print(f'{self.crate}/{edit.name}: {f"refused {by}" if by else ACCEPTED}: {where}', flush=True)
 
     def report_wrong(self, edit, why):
-        self.wrong.append(f'{self.crate}/{edit.name}: NOT REFUSED: {why}')
-        self.say(self.wrong[-1])
+        self.wrong.append(f'{self.crate}/{edit.name}: NOT {"ACCEPTED" if edit.kind == CONTROLS else "REFUSED"}: {why}')
+        print(self.wrong[-1], flush=True)

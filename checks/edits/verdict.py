@@ -8,13 +8,9 @@ NOT_PROVED = ('not proved', 'no proof')
 # what a function's own goal is refused by
 SEARCH = '`search` did not prove'
 VALUES = 'the facts known there allow'
-# (a line of `rt ci` may be cut off)
-OPEN = re.compile(r'is not proved that .*\(`([^`]+)(?:`\)|$)|error: `([^`]+)`: `(?:search|omega|grind)`')
-CLAUSE = re.compile(r'-clause-(\w+)')
+OPEN = re.compile(r'is not proved that .*\(`[^`]+`\)|error: `[^`]+`: `(?:search|omega|grind)`')
 ANSWER = re.compile(r'(?:\./)?(proofs/\S+?):\d+:\d+: error: (.*)')
 NAMES_ALONE = re.compile(r'has no field|is not in scope|has no `|was not admitted')
-# what `rt ci` says of an edit of must-fail/ that is refused
-TRIED = re.compile(r'.*must-fail (\S+)\.edit: refused, as it must be(.*)')
 # what it waits for
 WAITS = re.compile(r'it (?:calls|passes|waits for) .*')
 END = re.compile(r'^logic=(proved|not-proved)', re.M)
@@ -23,7 +19,6 @@ CHECKED = re.compile(r'checked (\S+), \d+ of \d+')
 
 VALUES_WORD, SEARCH_WORD, ANSWER_WORD = 'with values', 'by search', 'by an answer'
 VALUES_OPEN = 'values'
-WAYS = (VALUES_WORD, SEARCH_WORD, ANSWER_WORD)
 
 
 @dataclass
@@ -95,15 +90,6 @@ def answers_refused(text, crate):
 
 
 def open_of(lines):
-    """Returns what these lines leave open of a function: `values`, at which a goal of its is false; `clause NAME`, a goal of this clause;
-    `search`, another goal; or nothing, as where only an answer's type no longer fits."""
-    goals = [found[1] or found[2] for found in map(OPEN.search, lines) if found]
-    clauses = [found[1] for found in map(CLAUSE.search, goals) if found]
-    if any(VALUES in line for line in lines):
-        return VALUES_OPEN
-    return f'clause {clauses[0]}' if clauses else 'search' if goals else ''
-
-
-def tried_in(text):
-    """Returns what each edit of must-fail/ leaves open, by its crate and its name, of those that `rt ci` says are refused."""
-    return {found[1]: open_of([found[2]]) for found in map(TRIED.match, text.split('\n')) if found}
+    """Returns what these lines leave open of a function: `values`, at which a goal of its is false; another `goal`; or nothing, as where only
+    an answer's type no longer fits."""
+    return VALUES_OPEN if any(VALUES in line for line in lines) else 'goal' if any(map(OPEN.search, lines)) else ''

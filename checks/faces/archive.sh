@@ -1,7 +1,7 @@
 #!/bin/sh
 # Whether the library can be installed and used without the toolchain: sh checks/faces/archive.sh FOLDER, after library.sh
 # The archive has the same bytes whatever the umask, and all users can read what is installed. Another LIBDIR and a shared library can be
-# used too. A new installation and an uninstallation leave no old file.
+# used too. A new installation leaves no old file, and an uninstallation neither a file nor a folder that was made.
 . checks/faces/shared.sh
 root=$folder/root
 export LIBRARY="$folder/libgoblin_c.a" TARGET='' CPU=''
@@ -27,6 +27,8 @@ for mask in 077 022; do
     (umask $mask && quietly sh faces/install.sh --archive "$folder/goblin_c.$mask.tar.gz")
 done
 quietly cmp "$folder/goblin_c.077.tar.gz" "$folder/goblin_c.022.tar.gz"
+tar -tzf "$folder/goblin_c.022.tar.gz" > "$folder/output"
+grep -qx 'goblin_c-[^/]*/README\.md' "$folder/output" || { echo "the archive has no README.md"; exit 1; }
 sh checks/installed.sh "$folder/goblin_c.022.tar.gz"
 
 # With another LIBDIR, a shared library where there is a compiler, and a program in place of goblin_show.
@@ -47,5 +49,10 @@ touch "$root/share/goblin_c/rust/src/earlier.rs"
 install_as 022 lib
 none_of "$root" -path '*/x86_64-linux-gnu/*' ! -type d -o -name earlier.rs
 quietly sh faces/install.sh --uninstall "$root"
-none_of "$root" ! -type d -o -name goblin_c
+[ ! -e "$root" ] || none_of "$root"
+mkdir -p "$root/share/man"
+install_as 022 lib
+quietly sh faces/install.sh --uninstall "$root"
+[ -d "$root/share/man" ] || { echo "an uninstallation removes a folder that the installation didn't make"; exit 1; }
+none_of "$root/share/man" "$root" -mindepth 1 ! -path "$root/share" ! -path "$root/share/man"
 echo "all users can read what is installed, and it can be removed"

@@ -71,17 +71,7 @@ fn warn(folders: &[PathBuf], processors: &str) {
     println!("cargo:warning=in the repository of goblin_c, `make dist TARGET={}` makes that archive", target);
 }
 
-/// Fails if the constants of a checkout have not been made, and says how to make them.
-fn test_constants() {
-    println!("cargo:rerun-if-changed=src/constants");
-    if !Path::new(env!("CARGO_MANIFEST_DIR")).join("src/constants").exists() {
-        eprintln!("src/constants is missing: in the root of the repository, run `python3 faces/constants.py` to make it");
-        std::process::exit(1);
-    }
-}
-
 fn main() {
-    test_constants();
     println!("cargo:rerun-if-env-changed=GOBLIN_C_LIB");
     println!("cargo:rerun-if-env-changed=PKG_CONFIG_PATH");
     let processors = env::var("CARGO_CFG_TARGET_ARCH").unwrap_or_default();

@@ -6,7 +6,7 @@ import { existsSync, readdirSync, readFileSync } from 'node:fs';
 import { join, resolve } from 'node:path';
 import { fileURLToPath, pathToFileURL } from 'node:url';
 import { runInNewContext } from 'node:vm';
-import { elf_file, note } from './elves.mjs';
+import { elf_file, note, symbol } from './elves.mjs';
 import { import_goblin } from './tested.mjs';
 
 const [, , web, ...paths] = process.argv;
@@ -133,6 +133,14 @@ const WAYS = {
     filter: (list) => list.filter(() => true),
     'filter by indices': (list) => Array.from({ length: list.length }, (_, wanted) => list.filter((_item, index) => index === wanted)).flat(),
     find: (list) => Array.from({ length: list.length }, (_, wanted) => list.find((_item, index) => index === wanted)),
+    some: (list) => Array.from({ length: list.length }, (_, wanted) => {
+        let found;
+        return list.some((item, index) => { found = item; return index === wanted; }) && found;
+    }),
+    reduce: (list) => list.reduce((items, item, index) => { items[index] = item; return items; }, []),
+    'reduce without a start': (list) => (list.length ? [list.reduce((first) => first), ...[...list].slice(1)] : []),
+    slice: (list) => [...list.slice(0, 1), ...list.slice(1)],
+    'an index in brackets': (list) => Array.from({ length: list.length }, (_, index) => list[index]),
     entries: (list) => [...list.entries()].map(([, item]) => item),
     'entries by indices': (list) => { const items = []; for (const [index, item] of list.entries()) items[index] = item; return items; },
     'at and length': (list) => Array.from({ length: list.length }, (_, index) => list.at(index)),
@@ -158,6 +166,13 @@ function has_each(list, items, what) {
     for (const index of [0, 1, -1, items.length, -items.length - 1, 1.9, -0.5, NaN, Infinity, -Infinity, undefined, '1']) {
         assert.deepEqual(list.at(index), items.at(index), `${what}, at ${index}`);
     }
+    for (const [start, end] of [[], [1], [-1], [0, -1], [1, 2], [2, 1], [-3, -1], [0.5, 1.5], [-Infinity, Infinity], [NaN, 1]]) {
+        assert.deepEqual(list.slice(start, end), items.slice(start, end), `${what}, from ${start} to ${end}`);
+    }
+    for (const name of [items.length, -1, 1.5, '01']) assert.equal(list[name], undefined);
+    if (list instanceof goblin.List) assert.throws(() => { list[0] = items[0]; }, TypeError);
+    if (items.length === 0) assert.throws(() => list.reduce(() => 0), TypeError);
+    assert.equal(list.some(() => false), false);
     assert.equal(list.find(() => false), undefined);
     assert.equal(JSON.stringify(list), JSON.stringify(items), what);
 }
@@ -210,8 +225,8 @@ function lists_of(whole) {
         section_notes.push(...notes);
     }
     for (const segment of segments.filter(({ p_type }) => p_type === goblin.PT_NOTE)) {
-        const notes = whole.segment_notes(segment);
-        made.push(['notes of a segment', (elf) => elf.segment_notes(segment), end_of_notes(notes), notes]);
+        const notes = whole.notes(segment);
+        made.push(['notes of a segment', (elf) => elf.notes(segment), end_of_notes(notes), notes]);
         segment_notes.push(...notes);
     }
     made.push(['notes of all sections', (elf) => elf.iter_note_sections(), latest(of_sections, end_of_notes(section_notes)), section_notes]);
@@ -245,72 +260,111 @@ function check_lists() {
     return `${made} lists that have each item, ${refused} that are refused where they are made`;
 }
 
-// Headers that are inside a file are read alone, and are all that the readable lists have.
-function check_readable_headers() {
+// The headers that are inside a file are all that `whole` has.
+function check_whole() {
     let cut = 0;
     for (const content of files) {
-        const whole = Elf.parse(content), { e_shoff, e_phoff } = whole.header, [of_segment, of_section] = whole.is_64() ? [56, 64] : [32, 40];
-        const lists = [
-            ['section_headers', 'sections', 'section_header_alone', Number(e_shoff), of_section],
-            ['program_headers', 'segments', 'program_header_alone', Number(e_phoff), of_segment],
-        ];
-        for (const [name, field, alone, start, size] of lists) {
-            const all = [...whole[name]()];
+        const elf = Elf.parse(content), { e_shoff, e_phoff } = elf.header, [of_segment, of_section] = elf.is_64() ? [56, 64] : [32, 40];
+        assert.deepEqual(elf.whole().header, elf.header);
+        for (const [name, start, size] of [['section_header', Number(e_shoff), of_section], ['program_header', Number(e_phoff), of_segment]]) {
+            const all = [...elf[`${name}s`]()];
             const ends = all.slice(0, 40).flatMap((_, index) => [-1, 0, 1].map((more) => start + index * size + more));
             for (const end of [...ends, start + all.length * size, content.length].filter((end) => end >= 64 && end <= content.length)) {
-                const elf = Elf.parse(content.subarray(0, end)), { [field]: list, refusal } = elf[`readable_${name}`]();
+                const part = Elf.parse(content.subarray(0, end)), whole = part.whole(), list = whole[`${name}s`]();
                 const inside = Math.min(all.length, Math.max(0, Math.floor((end - start) / size)));
-                has_each(list, all.slice(0, inside), `readable ${name} of the first ${end} bytes`);
-                assert.equal(list.get(inside), undefined);
-                if (inside === all.length) assert.equal(refusal, undefined);
-                else assert.throws(() => elf[name](), ({ message, kind }) => message === refusal.message && kind === refusal.kind);
-                for (const index of [0, inside - 1, inside, all.length - 1].filter((index) => index >= 0 && index < all.length)) {
-                    if (index < inside) assert.deepEqual(elf[alone](index), all[index]);
-                    else assert.throws(() => elf[alone](index), is_refusal(start + index * size < end ? Kind.TOO_BIG : Kind.BAD_OFFSET));
-                }
-                assert.equal(elf[alone](all.length), undefined);
-                if (refusal) cut++;
+                has_each(list, all.slice(0, inside), `whole ${name}s of the first ${end} bytes`);
+                assert.deepEqual([list.get(inside), whole[name](inside), whole.whole().header], [undefined, undefined, whole.header]);
+                if (inside === all.length) assert.equal(part[`${name}s`]().length, inside);
+                else assert.throws(() => part[`${name}s`](), is_refusal());
+                if (inside < all.length) cut++;
             }
         }
     }
     // the first section header has the number of headers, and is not inside the file
     const without = Buffer.from(own), { e_shoff } = Elf.parse(own).header;
     without.writeUInt16LE(0, 60);
-    const { sections, refusal } = Elf.parse(without.subarray(0, Number(e_shoff) + 63)).readable_section_headers();
-    assert.deepEqual([sections.length, [...sections], sections.get(0), refusal.kind], [0, [], undefined, Kind.TOO_BIG]);
+    const whole = Elf.parse(without.subarray(0, Number(e_shoff) + 63)).whole();
+    assert.deepEqual([whole.section_headers().length, whole.header.e_shoff, whole.section('.text')], [0, 0n, undefined]);
     assert.ok(cut > 100, `${cut} lists are cut`);
     return `${cut} lists that are cut`;
 }
 
-// The ranges of records have their bytes: what is written there is read as part of that record, and no other record changes.
-function check_places() {
-    let places = 0;
+// If e_phnum is 0xffff, the first section has the number of segments.
+function check_number_of_segments() {
+    const bytes = new Uint8Array(own), elf = Elf.parse(bytes), segments = [...elf.program_headers()], first = elf.section_header(0);
+    const writer = elf.writer(bytes);
+    assert.equal(writer.put_section_header(0, { ...first, sh_info: 70000 }), true);
+    writer.put_header({ ...elf.header, e_phnum: 0xffff });
+    assert.throws(() => Elf.parse(bytes).program_headers(), ({ kind, numbers }) => kind === Kind.BUFFER_TOO_SHORT && numbers[0] === 70000n);
+    writer.put_section_header(0, { ...first, sh_info: segments.length - 1 });
+    assert.deepEqual([...Elf.parse(bytes).program_headers()], segments.slice(0, -1));
+    const cut = Elf.parse(bytes.subarray(0, Number(elf.header.e_shoff)));
+    assert.throws(() => cut.program_headers(), (error) => is_refusal(Kind.BAD_OFFSET)(error) && error.offset === elf.header.e_shoff);
+    const room = Math.floor((Number(elf.header.e_shoff) - 64) / 56);
+    assert.deepEqual([cut.whole().program_headers().length, cut.whole().header.e_phnum], [room, room]);
+    // a core of 70,000 segments
+    const core = new Uint8Array(128 + 56 * 70000);
+    core.set(elf_file({ type: 4 }));
+    const { header } = Elf.parse(core), of_core = Elf.parse(core).writer(core);
+    of_core.put_header({ ...header, e_phnum: 0xffff, e_phoff: 128n, e_shoff: 64n, e_shnum: 1 });
+    of_core.put_number(64 + 44, 4, 70000);
+    const list = Elf.parse(core).program_headers();
+    assert.deepEqual([list.length, list.get(69999)?.p_type, list.get(70000)], [70000, 0, undefined]);
+}
+
+// A writer changes the bytes of one record, which is read as it was written, and no others.
+function check_writer() {
+    let written = 0;
     for (const content of files) {
-        const elf = Elf.parse(content), symbols = elf.syms() ?? elf.dynsyms(), [sh_type, st_value] = [4, elf.is_64() ? 8 : 4];
-        const with_byte = (place, offset) => {
-            const copy = Buffer.from(content);
-            copy[Number(place.offset) + offset] ^= 1;
-            return Elf.parse(copy);
+        const elf = Elf.parse(content), symbols = elf.syms() ?? elf.dynsyms();
+        const writes = (put, read, wanted, start, size) => {
+            const bytes = new Uint8Array(content), writer = elf.writer(bytes), at = Number(start);
+            assert.equal(put(writer), true);
+            assert.deepEqual(read(Elf.parse(bytes)), wanted);
+            assert.deepEqual([bytes.slice(0, at), bytes.slice(at + size)], [content.subarray(0, at), content.subarray(at + size)].map((part) => new Uint8Array(part)));
+            written++;
         };
-        const changes = (before, after, index) => {
-            assert.notDeepEqual(after[index], before[index]);
-            assert.deepEqual(after.filter((_, i) => i !== index), before.filter((_, i) => i !== index));
-            places++;
-        };
-        const sections = [...elf.section_headers()], segments = [...elf.program_headers()];
-        sections.slice(0, 20).forEach((_, index) => {
-            changes(sections, [...with_byte(elf.section_header_place(index), sh_type).section_headers()], index);
-        });
-        segments.forEach((_, index) => changes(segments, [...with_byte(elf.program_header_place(index), 0).program_headers()], index));
-        assert.deepEqual([elf.section_header_place(sections.length), elf.program_header_place(segments.length)], [undefined, undefined]);
-        if (!symbols) continue;
-        const all = [...symbols], range = sections.find(({ sh_type }) => sh_type === (elf.syms() ? goblin.SHT_SYMTAB : goblin.SHT_DYNSYM));
-        for (const index of [0, 1, all.length - 1]) {
-            changes(all, [...with_byte(symbols.place(index), st_value).symtab(range)], index);
+        const [of_segment, of_section, of_symbol, of_rela] = elf.is_64() ? [56, 64, 24, 24] : [32, 40, 16, 12];
+        elf.section_headers().map((section, index) => [{ ...section, sh_info: section.sh_info ^ 5, sh_addr: section.sh_addr ^ 9n }, index]).slice(1, 20)
+            .forEach(([section, index]) => writes((writer) => writer.put_section_header(index, section), (read) => ({ ...read.section_header(index) }),
+                section, elf.header.e_shoff + BigInt(of_section * index), of_section));
+        elf.program_headers().map((segment, index) => [{ ...segment, p_flags: segment.p_flags ^ 1 }, index])
+            .forEach(([segment, index]) => writes((writer) => writer.put_program_header(index, segment), (read) => ({ ...read.program_header(index) }),
+                segment, elf.header.e_phoff + BigInt(of_segment * index), of_segment));
+        const header = { ...elf.header, e_entry: 5n, ei_osabi: 9 };
+        writes((writer) => writer.put_header(header) === undefined, (read) => ({ ...read.header }), header, 0, elf.is_64() ? 64 : 52);
+        writes((writer) => writer.put_number(16, 2, 0x1234) === undefined, (read) => read.number(16, 2), 0x1234n, 16, 2);
+        if (symbols) {
+            const table = elf.section_headers().find(({ sh_type }) => sh_type === (elf.syms() ? goblin.SHT_SYMTAB : goblin.SHT_DYNSYM));
+            const symbol = { ...symbols.get(1), st_size: 7n, st_other: 2 };
+            writes((writer) => writer.put_symbol(table, 1, symbol), (read) => ({ ...read.symtab(table).get(1) }), symbol,
+                table.sh_offset + BigInt(of_symbol), of_symbol);
+            assert.equal(elf.writer(new Uint8Array(content)).put_symbol(table, symbols.length, symbol), false);
+            assert.throws(() => elf.writer(new Uint8Array(content)).put_symbol({ ...table, sh_type: 1 }, 0, symbol), is_refusal(Kind.SECTION_TYPE));
         }
-        assert.equal(symbols.place(all.length), undefined);
+        const rela = elf.section_headers().find(({ sh_type }) => sh_type === goblin.SHT_RELA);
+        if (rela) {
+            const reloc = { ...elf.relocs(rela).get(1), r_addend: -3n, r_type: 4 }, writer = elf.writer(new Uint8Array(content));
+            writes((other) => other.put_reloc(rela, 1, reloc), (read) => ({ ...read.relocs(rela).get(1) }), reloc, rela.sh_offset + BigInt(of_rela), of_rela);
+            assert.throws(() => writer.put_reloc(rela, 1, { ...reloc, r_addend: undefined }), is_refusal(Kind.INTEGER_FIT));
+            assert.throws(() => writer.put_reloc({ ...rela, sh_type: 1 }, 1, reloc), is_refusal(Kind.SECTION_TYPE));
+        }
     }
-    return `${places} places of records`;
+    // what is refused is not written
+    const bytes = new Uint8Array(own), elf = Elf.parse(bytes), writer = elf.writer(bytes), section = elf.section_header(1);
+    const at = (kind, offset) => (error) => is_refusal(kind)(error) && error.offset === offset;
+    assert.equal(writer.put_section_header(elf.header.e_shnum, section), false);
+    assert.equal(writer.put_program_header(elf.header.e_phnum, elf.program_header(0)), false);
+    assert.throws(() => writer.put_section_header(1, { ...section, sh_name: 1n << 32n }), at(Kind.INTEGER_FIT, elf.header.e_shoff + 64n));
+    assert.throws(() => writer.put_header({ ...elf.header, ei_class: 3 }), at(Kind.INVALID_CLASS, 0n));
+    assert.throws(() => writer.put_header({ ...elf.header, ei_data: 0 }), at(Kind.DATA, 0n));
+    assert.throws(() => writer.put_number(3, 1, 256), at(Kind.INTEGER_FIT, 3n));
+    assert.throws(() => writer.put_number(own.length, 1, 0), is_refusal(Kind.BAD_OFFSET));
+    for (const width of [0, 3, 16, '4', 4n, undefined]) assert.throws(() => writer.put_number(0, width, 0), RangeError);
+    for (const wrong of [undefined, own.buffer, [...own], new DataView(own.buffer)]) assert.throws(() => elf.writer(wrong), TypeError);
+    assert.deepEqual(bytes, new Uint8Array(own));
+    assert.ok(written > 50, `${written} records`);
+    return `${written} records that are written`;
 }
 
 // Returns a copy of a file in which the bytes of a section start at the file's last byte.
@@ -387,7 +441,7 @@ function check_notes() {
     const elf = Elf.parse(noted), said = (notes) => notes.map(({ name, n_type, desc }) => [name, n_type, Buffer.from(desc).toString()]);
     const calls = [
         [elf.section('.note'), 'notes', 'readable_notes', 'iter_note_sections'],
-        [elf.program_header(0), 'segment_notes', 'readable_segment_notes', 'iter_note_headers'],
+        [elf.program_header(0), 'notes', 'readable_notes', 'iter_note_headers'],
     ];
     for (const [holder, of_one, readable, of_all] of calls) {
         const notes = elf[of_one](holder);
@@ -413,7 +467,7 @@ function check_notes_as_bytes() {
     const elf = Elf.parse(noted), section = elf.section('.note'), segment = elf.program_header(0), start = Number(section.sh_offset);
     const fields_of = (notes) => notes.map(({ name, n_type, desc }) => [Buffer.from(name).toString('latin1'), n_type, Buffer.from(desc).toString()]);
     const wanted = NOTES.map(([name, n_type, desc]) => [`${name}\0`, n_type, desc]);
-    assert.deepEqual([fields_of(elf.notes_bytes(section)), fields_of(elf.segment_notes_bytes(segment))], [wanted, wanted]);
+    assert.deepEqual([fields_of(elf.notes_bytes(section)), fields_of(elf.notes_bytes(segment))], [wanted, wanted]);
     const copy = Buffer.from(noted);
     copy[start + 32] = 0xff; // (which is not UTF-8)
     assert.deepEqual(Elf.parse(copy).notes_bytes(section).map(({ name }) => name[0]), [0x47, 0xff]);
@@ -423,11 +477,11 @@ function check_notes_as_bytes() {
         [44, 1, NOTE_DESC]]) {
         const refused = (error) => is_refusal(Kind.TOO_BIG)(error) && error.item === item && error.offset === BigInt(start + 20 * before);
         const cut = { ...section, sh_size: BigInt(size) }, cut_segment = { ...segment, p_offset: BigInt(start), p_filesz: BigInt(size) };
-        for (const { notes, refusal } of [elf.readable_notes_bytes(cut), elf.readable_segment_notes_bytes(cut_segment)]) {
+        for (const { notes, refusal } of [elf.readable_notes_bytes(cut), elf.readable_notes_bytes(cut_segment)]) {
             assert.deepEqual([fields_of(notes), refused(refusal)], [wanted.slice(0, before), true]);
         }
         assert.throws(() => elf.notes_bytes(cut), refused);
-        assert.throws(() => elf.segment_notes_bytes(cut_segment), refused);
+        assert.throws(() => elf.notes_bytes(cut_segment), refused);
     }
     assert.equal(elf.readable_notes_bytes(section, 1).notes.length, 1);
     assert.throws(() => elf.notes_bytes({ ...section, sh_addralign: 16n }), ({ kind, item }) => kind === Kind.NOTE_ALIGN && item === 0);
@@ -448,7 +502,7 @@ function some_items() {
     return {
         Header: elf.header, SectionHeader: sections.at(1), ProgramHeader: elf.program_headers().at(0), Sym: elf.syms().at(-1),
         Reloc: relocs.at(0), Note: Elf.parse(noted).iter_note_headers()[0],
-        NoteBytes: Elf.parse(noted).segment_notes_bytes(Elf.parse(noted).program_header(0))[0], Range: elf.section_range(sections.at(1)),
+        NoteBytes: Elf.parse(noted).notes_bytes(Elf.parse(noted).program_header(0))[0], Range: elf.range(sections.at(1)),
     };
 }
 
@@ -495,7 +549,7 @@ function check_arguments() {
     assert.equal(goblin.shf_to_str(goblin.SHF_ALLOC), 'SHF_ALLOC');
     assert.equal(goblin.shf_to_str(goblin.SHF_ALLOC | 1n << 32n), 'SHF_UNKNOWN');
     const text = elf.section('.text');
-    assert.deepEqual(text, elf.section_header(elf.section_by_name('.text')));
+    assert.deepEqual(text, elf.section_header(elf.section_by_name('.text').index));
     assert.equal(elf.section_name(text), '.text');
     assert.equal(elf.section('.none'), undefined);
     const symbols = elf.syms(), main = symbols.by_name('main'), { st_value } = symbols.get(main);
@@ -508,30 +562,30 @@ const END = (1n << 64n) - 1n;
 
 function check_readable_data() {
     const elf = Elf.parse(own), length = BigInt(own.length), text = elf.section('.text'), code = elf.program_header(0);
-    for (const section of elf.section_headers()) assert.deepEqual(elf.readable_section_data(section), elf.section_data(section));
-    for (const segment of elf.program_headers()) assert.deepEqual(elf.readable_segment_data(segment), elf.segment_data(segment));
+    for (const section of elf.section_headers()) assert.deepEqual(elf.readable_data(section), elf.section_data(section));
+    for (const segment of elf.program_headers()) assert.deepEqual(elf.readable_data(segment), elf.segment_data(segment));
     for (const [offset, size, left] of [[length - 3n, 4n, 3], [length, 1n, 0], [length + 1n, 5n, 0], [END, 1n, 0]]) {
         const section = { ...text, sh_offset: offset, sh_size: size }, segment = { ...code, p_offset: offset, p_filesz: size };
         const wanted = new Uint8Array(own.subarray(own.length - left));
         assert.throws(() => elf.section_data(section), is_refusal());
-        assert.deepEqual([elf.readable_section_data(section), elf.readable_segment_data(segment)], [wanted, wanted]);
-        assert.equal(elf.readable_section_data({ ...section, sh_type: goblin.SHT_NOBITS }), undefined);
-        assert.equal(elf.readable_segment_data({ ...segment, p_filesz: 0n }), undefined);
+        assert.deepEqual([elf.readable_data(section), elf.readable_data(segment)], [wanted, wanted]);
+        assert.equal(elf.readable_data({ ...section, sh_type: goblin.SHT_NOBITS }), undefined);
+        assert.equal(elf.readable_data({ ...segment, p_filesz: 0n }), undefined);
     }
 }
 
 function check_numbers_in() {
     const elf = Elf.parse(own), text = elf.section('.text'), code = elf.program_headers().find(({ p_offset }) => p_offset > 0n);
     const little = (at, size) => BigInt(own.readUIntLE(Number(at), size));
-    assert.equal(elf.section_number(text, 3, 4), little(text.sh_offset + 3n, 4));
-    assert.throws(() => elf.section_number(text, text.sh_size, 1), is_refusal(Kind.BAD_OFFSET));
-    assert.throws(() => elf.section_number(text, text.sh_size - 3n, 4), is_refusal(Kind.TOO_BIG));
-    assert.throws(() => elf.section_number({ ...text, sh_type: goblin.SHT_NOBITS }, 0, 1), is_refusal(Kind.BAD_OFFSET));
-    assert.equal(elf.segment_number(code, 2, 2), little(code.p_offset + 2n, 2));
-    assert.throws(() => elf.segment_number(code, code.p_filesz, 1), is_refusal(Kind.BAD_OFFSET));
+    assert.equal(elf.number_in(text, 3, 4), little(text.sh_offset + 3n, 4));
+    assert.throws(() => elf.number_in(text, text.sh_size, 1), is_refusal(Kind.BAD_OFFSET));
+    assert.throws(() => elf.number_in(text, text.sh_size - 3n, 4), is_refusal(Kind.TOO_BIG));
+    assert.throws(() => elf.number_in({ ...text, sh_type: goblin.SHT_NOBITS }, 0, 1), is_refusal(Kind.BAD_OFFSET));
+    assert.equal(elf.number_in(code, 2, 2), little(code.p_offset + 2n, 2));
+    assert.throws(() => elf.number_in(code, code.p_filesz, 1), is_refusal(Kind.BAD_OFFSET));
     for (const width of [0, 3, 16, '4', 4n, undefined]) {
-        assert.throws(() => elf.section_number(text, 0, width), RangeError);
-        assert.throws(() => elf.segment_number(code, 0, width), RangeError);
+        assert.throws(() => elf.number_in(text, 0, width), RangeError);
+        assert.throws(() => elf.number_in(code, 0, width), RangeError);
     }
 }
 
@@ -560,13 +614,15 @@ function check_header() {
 function check_names() {
     const content = elf_file({ sections: ['a', 'b', 'a', 'a'].map((name, index) => ({ name, type: 1, bytes: Buffer.from([index]) })) });
     const elf = Elf.parse(content);
-    assert.deepEqual([0, 1, 2, 3, 4, 5, 99].map((first) => elf.section_by_name('a', first)), [1, 1, 3, 3, 4, undefined, undefined]);
-    assert.deepEqual([elf.section_by_name('a'), elf.section_by_name('b'), elf.section_by_name('c')], [1, 2, undefined]);
-    assert.deepEqual([elf.section_data_by_name('a'), elf.section_data_by_name('b')], [Uint8Array.of(0), Uint8Array.of(1)]);
-    assert.deepEqual([elf.section_data_by_name('c'), elf.section_data_by_name('')], [undefined, undefined]);
+    const found = (name, first) => elf.section_by_name(name, first)?.index;
+    assert.deepEqual([0, 1, 2, 3, 4, 5, 99].map((first) => found('a', first)), [1, 1, 3, 3, 4, undefined, undefined]);
+    assert.deepEqual([found('a'), found('b'), found('c')], [1, 2, undefined]);
+    for (const index of [1, 3, 4]) assert.deepEqual(elf.section_by_name('a', index), { index, section: elf.section_header(index) });
+    assert.deepEqual(elf.section_by_type(1, 2), { index: 2, section: elf.section_header(2) });
+    assert.deepEqual([elf.section_by_type(3)?.index, elf.section_by_type(3, 6)], [5, undefined]);
     assert.throws(() => elf.section_by_name('a', -1), RangeError);
     const cut = Elf.parse(content.subarray(0, content.length - 1));
-    assert.throws(() => cut.section_data_by_name('a'), is_refusal(Kind.TOO_BIG));
+    assert.throws(() => cut.section_by_name('a'), is_refusal(Kind.TOO_BIG));
 }
 
 // Where errors begin in the file, and where their numbers count from, as the comments of `offset` and `Kind` say.
@@ -582,13 +638,12 @@ function check_offsets_of_errors() {
     for (const [length, ...refusal] of [[header_5 + 10n, TOO_BIG, 64n, 10n], [header_5, BAD_OFFSET, header_5, 0n]]) {
         const cut = Elf.parse(own.subarray(0, Number(length)));
         assert.deepEqual([why(() => cut.section_headers()), why(() => cut.section_name(whole.section_header(1)))], Array(2).fill([...refusal, list]));
-        assert.equal(cut.readable_section_headers().sections.length, 5);
-        assert.deepEqual(why(() => cut.section_header_alone(5)), [...refusal, header_5]);
+        assert.equal(cut.whole().section_headers().length, 5);
         const names = whole.section_header(whole.header.e_shstrndx);
         assert.equal(cut.strtab(names).get(whole.section('.text').sh_name), '.text');
     }
     const text = whole.section('.text'), past = text.sh_size + 5n;
-    assert.deepEqual(why(() => whole.section_number(text, past, 1)), [BAD_OFFSET, past, 0n, text.sh_offset + past]);
+    assert.deepEqual(why(() => whole.number_in(text, past, 1)), [BAD_OFFSET, past, 0n, text.sh_offset + past]);
     // the second note begins 20 bytes after the first, its name 12 bytes after that, and its descriptor 8 bytes later
     const elf = Elf.parse(noted), section = elf.section('.note'), first = section.sh_offset, second = first + 20n;
     for (const [length, start, of_text, of_bytes = of_text] of [
@@ -605,55 +660,50 @@ function check_offsets_of_errors() {
     }
 }
 
-// ---- texts ----
+// ---- a map of addresses ----
 
-function check_texts() {
-    const elf = Elf.parse(own), names = elf.shdr_strtab(), { sh_name } = elf.section('.text'), symbols = elf.syms();
-    const texts = ['', '.', '.tex', '.text', '.text\0', '.texts', 'text', '\0'];
-    const tested = (test) => texts.map((text) => [names[test](sh_name, text), names[test](sh_name, Buffer.from(text))]);
-    assert.deepEqual(tested('is'), texts.map((text) => Array(2).fill(text === '.text')));
-    assert.deepEqual(tested('starts_with'), texts.map((text) => Array(2).fill('.text'.startsWith(text))));
-    for (const offset of [names.range.size, (1n << 64n) - 1n]) {
-        assert.deepEqual([names.is(offset, ''), names.starts_with(offset, '')], [false, false]);
-    }
-    assert.equal(names.is(sh_name, new Uint8Array(1000000)), false);
-    assert.deepEqual(symbols.filter((symbol) => symbols.name_is(symbol, 'main')), [symbols.get(symbols.by_name('main'))]);
-    for (const wrong of [undefined, null, 5, ['.text'], new Uint16Array(1)]) assert.throws(() => names.is(0, wrong), TypeError);
-    assert.throws(() => names.starts_with(-1, ''), RangeError);
-    const past = elf.strtab({ ...elf.section('.strtab'), sh_offset: BigInt(own.length) + 1n });
-    assert.throws(() => past.is(0, ''), is_refusal(Kind.STRTAB_OFFSET));
-    assert.throws(() => past.starts_with(0, ''), is_refusal(Kind.STRTAB_OFFSET));
-}
-
-// ---- an index of addresses ----
-
-// An index finds what `by_address` finds, also after other calls have written after the file.
-function check_address_index() {
+// A map finds what `by_address` finds.
+function check_address_map() {
     let found = 0;
+    const symbols_of = (made) => {
+        const elf = Elf.parse(elf_file({ sections: [{ name: '.symtab', type: 2, bytes: Buffer.concat(made.map(symbol)) }] }));
+        return elf.symtab(elf.section_header(1));
+    };
+    const agrees = (symbols, addresses) => {
+        const map = symbols.address_map();
+        for (const address of addresses) {
+            const wanted = symbols.by_address(address);
+            assert.deepEqual([map.at(address), map.symbol(address)], [wanted, wanted === undefined ? undefined : symbols.get(wanted)]);
+            if (wanted !== undefined) found++;
+        }
+        assert.throws(() => map.at(-1), RangeError);
+        assert.throws(() => map.at('1'), TypeError);
+        return map;
+    };
     for (const content of files) {
         const elf = Elf.parse(content), symbols = elf.syms() ?? elf.dynsyms();
         if (!symbols) continue;
-        const index = symbols.address_index(), again = elf.syms()?.address_index();
-        assert.equal(elf.section_by_name('x'.repeat(100000)), undefined);
         const values = [...symbols].slice(0, 300).map(({ st_value }) => st_value);
-        for (const address of values.flatMap((value) => [value, value + 1n, value + 0x40n]).concat(0, (1n << 64n) - 1n)) {
-            const wanted = symbols.by_address(address);
-            assert.deepEqual([index.at(address), again?.at(address)], [wanted, again && wanted]);
-            assert.deepEqual(index.symbol(address), wanted === undefined ? undefined : symbols.get(wanted));
-            if (wanted !== undefined) found++;
-        }
-        assert.throws(() => index.at(-1), RangeError);
-        assert.throws(() => index.at('1'), TypeError);
-        // (the indices of two tables are kept, and the file is as it was)
-        const dynamic = elf.dynsyms(), other = dynamic?.address_index(), at = dynamic && [...dynamic].at(-1).st_value;
-        if (dynamic) assert.equal(other.at(at), dynamic.by_address(at));
-        assert.equal(index.at(values.at(-1)), symbols.by_address(values.at(-1)));
-        assert.equal(elf.section_name(elf.section_header(1)), Elf.parse(content).section_name(elf.section_header(1)));
+        agrees(symbols, values.flatMap((value) => [value, value + 1n, value + 0x40n]).concat(0, END));
     }
-    const main = Elf.parse(own).syms(), by_index = main.address_index().symbol(main.get(main.by_name('main')).st_value);
-    assert.equal(main.name(by_index), 'main');
-    assert.ok(found > 100, `${found} addresses`);
-    return `${found} addresses in indices`;
+    const main = Elf.parse(own).syms();
+    assert.equal(main.name(main.address_map().symbol(main.get(main.by_name('main')).st_value)), 'main');
+    // a symbol around others, one that ends before, two at one address, a label, and one that ends with the addresses
+    const shndx = 1, info = 2, made = [{}, { value: 0x10, size: 0x40 }, { value: 0x20, size: 4 }, { value: 0x30, size: 4 }, { value: 0x30, size: 8 },
+        { value: 0x60 }, { value: 0x70, size: 0x10 }, { value: 0x70 }, { value: END - 3n, size: END }].map((fields) => ({ ...fields, shndx, info }));
+    const map = agrees(symbols_of(made), [...Array(0x90).keys()].concat([END - 4n, END - 3n, END]));
+    const wanted = [[0, 0], [0x10, 1], [0x22, 2], [0x24, 1], [0x33, 3], [0x34, 4], [0x38, 1], [0x50, undefined], [0x60, 5], [0x6f, 5], [0x7f, 6],
+        [0x80, 7], [END, 8]];
+    for (const [address, index] of wanted) assert.equal(map.at(address), index, `address ${address}`);
+    let state = 1;
+    const any = (below) => { state = (Math.imul(state, 1103515245) + 12345) >>> 0; return (state >>> 8) % below; };
+    for (let round = 0; round < 300; round++) {
+        const some = Array.from({ length: any(14) }, () => ({ value: any(24), size: any(9) ? any(12) : END, shndx: [1, 1, 1, 2, 0xffff, 0, 0xfff1][any(7)],
+            info: [2, 2, 0, 1, 10, 3][any(6)] }));
+        agrees(symbols_of([...some, {}]), [...Array(40).keys()].concat(END));
+    }
+    assert.ok(found > 5000, `${found} addresses`);
+    return `${found} addresses in maps`;
 }
 
 // ---- sections of segments ----
@@ -774,7 +824,7 @@ function check_declarations() {
     }
     const elf = Elf.parse(own), refused = (() => { try { return elf.number(own.length, 1); } catch (error) { return error; } })();
     const made = { GoblinError: refused, Elf: elf, List: elf.section_headers(), Symtab: elf.syms(), Strtab: elf.shdr_strtab(),
-        AddressIndex: elf.syms().address_index() };
+        AddressMap: elf.syms().address_map(), Writer: elf.writer(new Uint8Array(own)) };
     const classes = declared_members(declared, 'class');
     assert.deepEqual(Object.keys(classes).sort(), Object.keys(made).sort());
     for (const [name, members] of Object.entries(classes)) {
@@ -788,11 +838,15 @@ function check_declarations() {
 
 function check_package() {
     const { types, exports, engines, files: listed } = JSON.parse(readFileSync(join(web, 'package.json')));
-    assert.deepEqual(exports, { types, default: './goblin.js' });
-    for (const name of [types, exports.default, ...listed]) assert.ok(existsSync(join(web, name)), name);
+    assert.deepEqual(exports['.'], { types, default: './goblin.js' });
+    const passed_on = Object.entries(exports).filter(([name]) => name !== '.');
+    for (const [name, path] of passed_on) assert.equal(name, path);
+    for (const name of [types, exports['.'].default, ...passed_on.map(([, path]) => path), ...listed]) assert.ok(existsSync(join(web, name)), name);
     assert.deepEqual(readdirSync(web).filter((name) => !['LICENSE', 'package.json'].includes(name)).sort(), listed.sort());
     const [least] = /\d+/.exec(engines.node);
-    assert.ok(Number(process.versions.node.split('.')[0]) >= Number(least));
+    // (an earlier node needs a flag)
+    const has_flag = process.execArgv.includes('--experimental-wasm-memory64');
+    assert.ok(has_flag || Number(process.versions.node.split('.')[0]) >= Number(least));
 }
 
 await check_missing_memories();
@@ -800,8 +854,8 @@ const modules = await check_modules();
 await goblin.default();
 const tested = [
     modules,
-    check_bytes(), check_lists(), check_readable_headers(), check_places(), check_moved_sections(), check_linked_sections(), check_types_of_sections(), check_notes(), check_json(), await check_constants(),
-    check_address_index(), check_declarations(),
+    check_bytes(), check_lists(), check_whole(), check_writer(), check_moved_sections(), check_linked_sections(), check_types_of_sections(), check_notes(), check_json(), await check_constants(),
+    check_address_map(), check_declarations(),
 ];
 check_arguments();
 check_header();
@@ -810,7 +864,7 @@ check_numbers_in();
 check_addresses();
 check_names();
 check_offsets_of_errors();
-check_texts();
+check_number_of_segments();
 check_notes_as_bytes();
 check_segments();
 check_package();

@@ -10,7 +10,7 @@ import sys
 
 HERE = os.path.dirname(os.path.abspath(__file__))
 COMMENT = re.compile(r'^(?P<indent> *)/\*\*(?P<text>(?:(?!\*/).)*)\*/\n(?P<code>[^\n]*)', re.M | re.S)
-TAG = re.compile(r'(?:^|\s)@(typedef|property|param|returns|type|template|extends)\b')
+TAG = re.compile(r'(?:^|\s)@(typedef|property|param|returns|type|template|extends|index)\b')
 CLASS = re.compile(r'export class (?P<name>\w+)(?: extends (?P<base>\w+))? {')
 FUNCTION = re.compile(r'export (?:default )?(?:async )?function (?P<name>\w+)\((?P<parameters>.*)\) {$')
 ARROW = re.compile(r'export const (?P<name>\w+) = \((?P<parameters>[^()]*)\) =>')
@@ -128,6 +128,7 @@ def declarations(name):
             base = comment.first('extends')[0] or of_class['base']
             declared += f'{comment.printed("")}export class {of_class["name"]}{comment.templates()}{f" extends {base}" if base else ""} {{\n'
             declared += '    protected constructor();\n'
+            declared += f'    readonly [index: number]: {comment.first("index")[0]};\n' if 'index' in comment.tags else ''
             is_open = True
         elif is_open:
             declared += member(comment, code)

@@ -102,7 +102,7 @@ function section_details(item, index) {
             field('sh_info', sh_info, INFO_WORDS[sh_type] ?? '', info_link(item)),
             field('sh_addralign', sh_addralign), field('sh_entsize', sh_entsize),
         ],
-        blocks: [block('bytes', () => file.elf.section_range(item), (error) => section_refusal(error, 'the bytes', index)), header],
+        blocks: [block('bytes', () => file.elf.range(item), (error) => section_refusal(error, 'the bytes', index)), header],
     };
 }
 
@@ -121,7 +121,7 @@ function segment_details(item, index) {
     const inside = sections_in(item), is_cut = inside.length > MOST_SECTIONS;
     const header = record('program header', 'segment', Number(file.elf.header.e_phoff) + index * size_of('segment'));
     return {
-        title: title_of_segment(index, item), what: `segment ${count(index)} of ${count(file.elf.header.e_phnum)}`,
+        title: title_of_segment(index, item), what: `segment ${count(index)} of ${count(file.elf.program_headers().length)}`,
         kind: kind_of_segment(item),
         fields: [
             field('p_type', hex(p_type), prefixed('PT_', labels.segment_type(p_type))),
@@ -132,7 +132,7 @@ function segment_details(item, index) {
             ...(inside.length
                 ? [field('sections', '', is_cut ? `the first ${MOST_SECTIONS}` : '', ...inside.slice(0, MOST_SECTIONS))] : []),
         ],
-        blocks: [block('bytes', () => file.elf.segment_range(item), (error) => segment_refusal(error, index)), header],
+        blocks: [block('bytes', () => file.elf.range(item), (error) => segment_refusal(error, index)), header],
     };
 }
 
@@ -284,12 +284,12 @@ const WORDS = {
 };
 
 // The names of the header's numbers that have one.
-function header_meanings({ ei_class, ei_data, ei_osabi, e_type, e_machine }) {
+function header_meanings({ ei_class, ei_data, ei_osabi, e_type, e_machine, e_phnum }) {
     const known = (name, prefix) => (/^(0x|\d+$)/.test(name) ? '' : prefixed(prefix, name));
     return {
         ei_class: known(labels.file_class(ei_class), ''), ei_data: ei_data === 2 ? 'big endian' : 'little endian',
         ei_osabi: known(labels.osabi(ei_osabi), 'ELFOSABI_'), e_type: known(labels.file_type(e_type), 'ET_'),
-        e_machine: known(labels.machine(e_machine), 'EM_'),
+        e_machine: known(labels.machine(e_machine), 'EM_'), e_phnum: e_phnum === 0xffff ? 'sh_info of section 0 has it' : '',
     };
 }
 

@@ -8,7 +8,8 @@
  * Names are goblin's for what goblin has, and most others are those of the crate `goblin_rs`. Other names than in Rust:
  * - `by_name(name)` of a symbol table is `find` in Rust. Here `find` of a list takes a function, as that of an array does.
  * - `by_address(address)` of a symbol table is `at` in Rust. Here `at` of a list takes an index, as that of an array does. `at` of an
- *   `AddressIndex` takes an address in both.
+ *   `AddressMap` takes an address in both.
+ * - The calls of a `Writer` are methods of `Header` in Rust, which take a `&mut [u8]`.
  * - `segment_holds(segment, section)` is `ProgramHeader::holds` in Rust, `note_type_to_str(note)` is `Note::type_to_str`, and
  *   `GoblinError` is `Error`.
  *
@@ -33,8 +34,9 @@
  * ```
  */
 import {
-    ET_DYN, PT_DYNAMIC, PT_GNU_EH_FRAME, PT_GNU_RELRO, PT_GNU_STACK, PT_LOAD, PT_NOTE, PT_PHDR, PT_TLS, SHF_ALLOC, SHF_TLS, SHT_DYNSYM,
-    SHT_NOBITS, SHT_NOTE, SHT_REL, SHT_RELA, SHT_SYMTAB, VERSION,
+    ET_DYN, PT_DYNAMIC, PT_GNU_EH_FRAME, PT_GNU_RELRO, PT_GNU_STACK, PT_LOAD, PT_NOTE, PT_PHDR, PT_TLS, SHF_ALLOC, SHF_TLS, SHN_LORESERVE,
+    SHN_UNDEF, SHN_XINDEX, SHT_DYNSYM, SHT_NOBITS, SHT_NOTE, SHT_REL, SHT_RELA, SHT_SYMTAB, STT_FUNC, STT_GNU_IFUNC, STT_NOTYPE, STT_OBJECT,
+    VERSION,
 } from './constants.js';
 
 export * from './constants.js';
@@ -60,6 +62,9 @@ export * from './constants.js';
  * - `STRTAB_OFFSET`: a string table starts past the end of the file. `[its offset, the file's length]`
  * - `STRTAB_RANGE`: a string table ends past the end of the file. `[its size, its offset, the file's length, 1 if its end does not fit
  *   in 64 bits, else 0]`
+ * - `INVALID_CLASS`, `DATA`: the class or the byte of the byte order is neither 1 nor 2, of a header that is written. `[the byte]`
+ * - `INTEGER_FIT`: a number that is written does not fit its bytes, or a relocation has an addend where its section has none, or the
+ *   reverse. `[]`
  * - `SECTION_TYPE`: a section was read as symbols or relocations, and has another type. `[its type]`. This kind is this file's own.
  *
  * No call throws one of the others so far.
@@ -93,7 +98,7 @@ export const Item = Object.freeze({
  * @property {number} e_machine the machine, an EM_ number: see `machine_to_str`
  * @property {number} e_ehsize the size of this header that the file states
  * @property {number} e_phentsize the size of a program header that the file states
- * @property {number} e_phnum the number of program headers
+ * @property {number} e_phnum the number of program headers; if it is 0xffff, the first section's `sh_info` has the number
  * @property {number} e_shentsize the size of a section header that the file states
  * @property {number} e_shnum the number of section headers; if it is 0, the first section's `sh_size` has the number
  * @property {number} e_shstrndx the index of the section that holds the section names, or 0xffff if the first section's `sh_link` has the
@@ -275,9 +280,10 @@ const PAGE = 0x10000;
 // How many items are read at once.
 const BATCH = 64;
 
-// The offsets of what this file puts after the library's own data: the header, a refusal, a result, an argument, a second argument, a
-// buffer for items or a text, and the file.
-const HEADER = 0, WHY = 0x80, ITEM = 0x100, ARGUMENT = 0x180, NAMES = 0x1d0, BUFFER = 0x200, BUFFER_SIZE = 0x1800;
+// The offsets of what this file puts after the library's own data: the header, one that counts what is whole, a refusal, a result, an
+// argument, a second argument, an index, a buffer for items or a text, and the file.
+const HEADER = 0, WHOLE = 0x40, WHY = 0x80, ITEM = 0x100, ARGUMENT = 0x180, NAMES = 0x1d0, INDEX = 0x1e0, BUFFER = 0x200;
+const BUFFER_SIZE = 0x1800;
 const FILE = BUFFER + BUFFER_SIZE;
 
 // A module with only a 64-bit memory, and the message if an engine can't compile it.
@@ -301,13 +307,12 @@ function ready(made) {
 
 // What this file uses of the module: its memory, where its own data ends, and the calls of `goblin.h`, all of which begin with `goblin_`.
 const EXPORTS = ['memory', '__heap_base', ...`
-    version layout range_in_file refusal_text class_to_str et_to_str machine_to_str pt_to_str sht_to_str shf_to_str bind_to_str
-    type_to_str visibility_to_str note_type_to_str c_header c_number c_number_in c_string c_string_bytes c_string_is c_string_starts
-    c_section_count c_section c_section_alone c_whole_sections c_section_place c_sections c_linked_section c_section_names
-    c_section_by_name c_section_by_type c_section_bytes c_bytes_by_name
-    c_segment_count c_segment c_segment_alone c_whole_segments c_segment_place c_segment_bytes c_address_to_offset
-    c_symbol_count c_symbol c_symbol_place c_symbols c_symbol_by_name c_symbol_by_address c_address_index c_symbol_by_address_in
-    c_reloc_count c_reloc c_relocs c_note c_note_bytes
+    version layout header whole_header section_count section sections linked_section section_names section_by_name section_by_type
+    section_bytes segment_count segment segment_bytes address_to_offset symbol_count symbol symbols symbol_by_name symbol_by_address
+    reloc_count reloc relocs note note_bytes string string_bytes number number_in range_in_file
+    put_header put_section put_segment put_symbol put_reloc put_number
+    class_to_str et_to_str machine_to_str pt_to_str sht_to_str shf_to_str bind_to_str type_to_str visibility_to_str note_type_to_str
+    refusal_text
 `.trim().split(/\s+/).map((name) => `goblin_${name}`)];
 
 // Throws if a module is not one for this file.
@@ -323,7 +328,7 @@ function check(module) {
 /**
  * Loads the library, which all calls of this file need. Rejects if the engine has no 64-bit memories, if the module can't be loaded, or
  * if it has another interface than this file or lacks a call. If it rejects, a module that was loaded before stays in use.
- * @param {URL | BufferSource | WebAssembly.Module} [source] the module, its bytes or its URL, by default in the folder of this file
+ * @param {object} [source] the module (a `WebAssembly.Module`), its bytes or its `URL`, by default in the folder of this file
  * @returns {Promise<void>}
  */
 export default async function init(source = new URL('goblin_c.wasm', import.meta.url)) {
@@ -373,13 +378,6 @@ function bytes_of(value) {
     throw new TypeError(`a file's bytes must be an ArrayBuffer or a view of one, such as a Uint8Array, not ${describe(value)}`);
 }
 
-// Returns the bytes of a text: a string's as UTF-8.
-function text_bytes(text) {
-    if (typeof text === 'string') return encoder.encode(text);
-    if (text instanceof Uint8Array) return text;
-    throw new TypeError(`a text must be a string or a Uint8Array, not ${describe(text)}`);
-}
-
 // An instance of the library, whose memory holds a file's bytes.
 class Memory {
     constructor(bytes) {
@@ -387,12 +385,14 @@ class Memory {
         this.base = Math.ceil(Number(this.calls.__heap_base.value) / 16) * 16;
         this.reserve(FILE + bytes.length);
         this.part(FILE, bytes.length).set(bytes);
-        // The first arguments of every call: the file's address and its length.
+        // The first arguments of every call: the file's address and its length. And the address of the header, for most.
         this.file = [this.address(FILE), BigInt(bytes.length)];
-        // The end of the file and of what is kept after it, and the address indices among that, by the ranges of their tables.
+        this.header = this.address(HEADER);
         this.end = FILE + bytes.length;
-        this.indices = new Map();
     }
+
+    // Returns the same memory with another header.
+    with_header(offset) { return Object.create(this, { header: { value: this.address(offset) } }); }
 
     // Grows the memory if this file's part of it has fewer bytes.
     reserve(size) {
@@ -416,21 +416,11 @@ class Memory {
         return this.address(offset);
     }
 
-    // Writes bytes after the file and what is kept, and returns their address and length.
+    // Writes bytes after the file, and returns their address and length.
     pass_bytes(bytes) {
         this.reserve(this.end + bytes.length);
         this.part(this.end, bytes.length).set(bytes);
         return [this.address(this.end), BigInt(bytes.length)];
-    }
-
-    // Keeps an array of numbers that a function fills, at most `most`. The function takes the array's address and length, and returns how
-    // many numbers it has filled. Returns their address and number.
-    keep(most, fill) {
-        const start = Math.ceil(this.end / 8) * 8;
-        this.reserve(start + 8 * most);
-        const filled = fill(this.address(start), BigInt(most));
-        this.end = start + 8 * Number(filled);
-        return [this.address(start), filled];
     }
 
     // Calls the library, and reports whether it returned GOBLIN_OK and not GOBLIN_END.
@@ -443,6 +433,13 @@ class Memory {
     // Calls the library, and returns an item of a kind, or `undefined` for GOBLIN_END.
     call(name, kind, ...args) {
         return this.test(name, ...args, this.address(ITEM)) ? read(this.view, this.base + ITEM, records[kind]) : undefined;
+    }
+
+    // Calls the library to find a section, and returns its index and its header, or `undefined` for GOBLIN_END.
+    find(name, ...args) {
+        if (!this.test(name, this.header, ...args, this.address(INDEX), this.address(ITEM))) return undefined;
+        const [{ value }, section] = [read(this.view, this.base + INDEX, records.number), read(this.view, this.base + ITEM, records.section)];
+        return { index: Number(value), section };
     }
 
     // Calls the library to fill an array with the items from an index on, at most `most`, and returns them.
@@ -483,8 +480,8 @@ export class GoblinError extends Error {
         this.numbers = [first, second, third, fourth];
         /**
          * @type {bigint} where in the file the thing begins that is refused: 0 for the header; the offset of a list of headers, even if one
-         *   header in it is refused; that header's own for `section_header_alone` and `program_header_alone`; the offset of a table, of a
-         *   string table, or of the string, the note or the bytes
+         *   header in it is refused; the offset of a table, of a string table, or of the string, the note or the bytes; or of the record
+         *   that is written
          */
         this.offset = offset;
     }
@@ -524,25 +521,44 @@ export class Elf {
      * @param {ArrayBufferLike | ArrayBufferView} bytes
      * @returns {Elf}
      */
-    static parse(bytes) { return new Elf(bytes); }
+    static parse(bytes) {
+        const memory = new Memory(bytes_of(bytes)), header = memory.call('goblin_header', 'header');
+        memory.pass(HEADER, 'header', header);
+        return new Elf(memory, header);
+    }
 
-    constructor(bytes) {
-        this.#memory = new Memory(bytes_of(bytes));
-        const header = this.#memory.call('goblin_c_header', 'header');
-        this.#memory.pass(HEADER, 'header', header);
+    constructor(memory, header) {
+        this.#memory = memory;
         /** @type {Readonly<Header>} the header */
         this.header = Object.freeze(header);
     }
 
-    // Calls the library with the header.
-    #call(name, kind, ...args) { return this.#memory.call(name, kind, this.#memory.address(HEADER), ...args); }
-
-    // Calls the library with the header, the range of the section names, and a name.
-    #by_name(call, kind, name, ...args) {
-        const bytes = this.#memory.pass_bytes(encoder.encode(name));
-        const names = this.#memory.pass(NAMES, 'range', this.shdr_strtab().range);
-        return this.#call(call, kind, names, ...bytes, ...args);
+    /**
+     * Returns the same file with a header that counts only the headers that are whole inside it. With it no list of headers is refused, of
+     * a file that is cut or damaged, and lists that were not refused are the same. In most files the header of the section names is one of
+     * the last: if it is cut off, sections have no names.
+     *
+     * ```js
+     * const left = Elf.parse(cut).whole();
+     * console.log(`${left.section_headers().length} section headers are left`);
+     * ```
+     * @returns {Elf}
+     */
+    whole() {
+        const memory = this.#memory.with_header(WHOLE);
+        if (this.#memory.header !== memory.header) memory.calls.goblin_whole_header(...memory.file, this.#memory.header, memory.header);
+        return new Elf(memory, read(memory.view, memory.base + WHOLE, records.header));
     }
+
+    /**
+     * Returns a writer of records of this file into its bytes. It reads the bytes once.
+     * @param {Uint8Array} bytes
+     * @returns {Writer}
+     */
+    writer(bytes) { return new Writer(this.header, bytes); }
+
+    // Calls the library with the header.
+    #call(name, kind, ...args) { return this.#memory.call(name, kind, this.#memory.header, ...args); }
 
     /**
      * Reports whether the file is of the 64-bit class.
@@ -573,128 +589,60 @@ export class Elf {
      * @param {number | bigint} index
      * @returns {ProgramHeader | undefined}
      */
-    program_header(index) { return this.#call('goblin_c_segment', 'segment', unsigned(index, 64)); }
+    program_header(index) { return this.#call('goblin_segment', 'segment', unsigned(index, 64)); }
 
     /**
-     * Returns the program header at an index, wherever the others are, or `undefined` past the end. Where `program_header` finds one, this
-     * finds the same. Throws only if this program header is not inside the file.
-     * @param {number | bigint} index
-     * @returns {ProgramHeader | undefined}
-     */
-    program_header_alone(index) { return this.#call('goblin_c_segment_alone', 'segment', unsigned(index, 64)); }
-
-    /**
-     * Returns the range of the program header at an index, or `undefined` past the end. With it a field can be changed in a buffer, in the
-     * file's byte order. Throws as `program_header` does.
-     * @param {number | bigint} index
-     * @returns {Range | undefined}
-     */
-    program_header_place(index) { return this.#call('goblin_c_segment_place', 'range', unsigned(index, 64)); }
-
-    /**
-     * Returns all program headers. Throws if they are not inside the file. If they end past its end, `readable_program_headers` returns
-     * those inside it.
+     * Returns all program headers. Throws if they are not inside the file, or if `e_phnum` is 0xffff and the first section header, which has
+     * their number, is not. Those of `whole()` are inside it.
      * @returns {List<ProgramHeader>}
      */
     program_headers() { return new List(this.#memory, 'segment', [], { has_many: false }); }
-
-    /**
-     * Returns the program headers that are inside the file, and the error of `program_headers` if that throws.
-     * @returns {{ segments: List<ProgramHeader>, refusal: GoblinError | undefined }}
-     */
-    readable_program_headers() {
-        const { item, refusal } = attempt(() => this.program_headers());
-        return { segments: item ?? new List(this.#memory, 'segment', [], { is_part: true }), refusal };
-    }
 
     /**
      * Returns the section header at an index, or `undefined` past the end. Throws if the section headers are not inside the file.
      * @param {number | bigint} index
      * @returns {SectionHeader | undefined}
      */
-    section_header(index) { return this.#call('goblin_c_section', 'section', unsigned(index, 64)); }
+    section_header(index) { return this.#call('goblin_section', 'section', unsigned(index, 64)); }
 
     /**
-     * Returns the section header at an index, wherever the others are, or `undefined` past the end. Where `section_header` finds one, this
-     * finds the same. Throws only if this section header is not inside the file, or if `e_shnum` is 0 and the first one is not.
-     * @param {number | bigint} index
-     * @returns {SectionHeader | undefined}
-     */
-    section_header_alone(index) { return this.#call('goblin_c_section_alone', 'section', unsigned(index, 64)); }
-
-    /**
-     * Returns the range of the section header at an index, or `undefined` past the end. Throws as `section_header` does. With the range a
-     * field can be changed in a buffer, in the file's byte order:
-     *
-     * ```js
-     * const { offset } = elf.section_header_place(1), view = new DataView(buffer);
-     * // (sh_type is the second field)
-     * view.setUint32(Number(offset) + 4, SHT_NOBITS, elf.little_endian());
-     * ```
-     * @param {number | bigint} index
-     * @returns {Range | undefined}
-     */
-    section_header_place(index) { return this.#call('goblin_c_section_place', 'range', unsigned(index, 64)); }
-
-    /**
-     * Returns all section headers. Throws if they are not inside the file. If they end past its end, `readable_section_headers` returns
-     * those inside it.
+     * Returns all section headers. Throws if they are not inside the file. Those of `whole()` are inside it.
      * @returns {List<SectionHeader>}
      */
     section_headers() { return new List(this.#memory, 'section', []); }
-
-    /**
-     * Returns the section headers that are inside the file, and the error of `section_headers` if that throws. Then `sections.length` is
-     * the index of the first header that is cut, and `section_header_alone` of that index throws an error with the header's own offset.
-     *
-     * If `section_headers` throws, so does `section_name`. The names can be read if the header of their section is left:
-     * `section_header_alone` of `e_shstrndx`, if that is not 0xffff, returns this header, and `strtab` of it the names. In most files it is
-     * one of the last headers, so it is lost with the end of the list.
-     *
-     * ```js
-     * const { sections, refusal } = Elf.parse(cut).readable_section_headers();
-     * if (refusal) console.log(`${sections.length} section headers are left: ${refusal.message}`);
-     * ```
-     * @returns {{ sections: List<SectionHeader>, refusal: GoblinError | undefined }}
-     */
-    readable_section_headers() {
-        const { item, refusal } = attempt(() => this.section_headers());
-        return { sections: item ?? new List(this.#memory, 'section', [], { is_part: true }), refusal };
-    }
 
     /**
      * Returns the first section with a name, if there is one. Throws if the section headers or their names are not inside the file.
      * @param {string} name
      * @returns {SectionHeader | undefined}
      */
-    section(name) { return this.#section_at(this.section_by_name(name)); }
+    section(name) { return this.section_by_name(name)?.section; }
 
     /**
-     * Returns the index of the first section with a name, from an index on, if there is one. Throws as `section` does.
+     * Returns the index and the header of the first section with a name, from an index on, if there is one. Throws as `section` does.
      *
      * ```js
-     * for (let i = elf.section_by_name('.group'); i !== undefined; i = elf.section_by_name('.group', i + 1)) console.log(i);
+     * for (let at = elf.section_by_name('.group'); at; at = elf.section_by_name('.group', at.index + 1)) console.log(at.section.sh_size);
      * ```
      * @param {string} name
      * @param {number | bigint} [first]
-     * @returns {number | undefined}
+     * @returns {{ index: number, section: SectionHeader } | undefined}
      */
     section_by_name(name, first = 0) {
-        return as_index(this.#by_name('goblin_c_section_by_name', 'number', name, unsigned(first, 64)));
+        const bytes = this.#memory.pass_bytes(encoder.encode(name)), names = this.#memory.pass(NAMES, 'range', this.shdr_strtab().range);
+        return this.#memory.find('goblin_section_by_name', names, ...bytes, unsigned(first, 64));
     }
 
     /**
-     * Returns the index of the first section of a type, an SHT_ number, from an index on, if there is one. Throws if the section headers
-     * are not inside the file.
+     * Returns the index and the header of the first section of a type, an SHT_ number, from an index on, if there is one. Throws if the
+     * section headers are not inside the file.
      * @param {number} sh_type
      * @param {number | bigint} [first]
-     * @returns {number | undefined}
+     * @returns {{ index: number, section: SectionHeader } | undefined}
      */
     section_by_type(sh_type, first = 0) {
-        return as_index(this.#call('goblin_c_section_by_type', 'number', unsigned(sh_type, 32), unsigned(first, 64)));
+        return this.#memory.find('goblin_section_by_type', unsigned(sh_type, 32), unsigned(first, 64));
     }
-
-    #section_at(index) { return index === undefined ? undefined : this.section_header(index); }
 
     /**
      * Returns the name of a section, or `undefined` if its offset is past the end of the section names. Throws if the section headers or
@@ -705,23 +653,14 @@ export class Elf {
     section_name(section) { return this.shdr_strtab().get(section.sh_name); }
 
     /**
-     * Returns the range of a section's bytes, or `undefined` if it has none in the file: its type is SHT_NULL or SHT_NOBITS, or its size
-     * is 0. Throws if the bytes are not inside the file. It needs all fields of a header that a program makes.
-     * @param {SectionHeader} section
+     * Returns the range of the bytes of a section or a segment, or `undefined` if it has none in the file: its type is SHT_NULL, SHT_NOBITS or
+     * PT_NULL, or its size is 0. Throws if the bytes are not inside the file. It needs all fields of a header that a program makes.
+     * @param {SectionHeader | ProgramHeader} part
      * @returns {Range | undefined}
      */
-    section_range(section) {
-        return this.#memory.call('goblin_c_section_bytes', 'range', this.#memory.pass(ARGUMENT, 'section', section));
-    }
-
-    /**
-     * Returns the range of a segment's bytes, or `undefined` if it has none in the file: its type is PT_NULL, or `p_filesz` is 0. Throws if
-     * the bytes are not inside the file. It needs all fields of a header that a program makes.
-     * @param {ProgramHeader} segment
-     * @returns {Range | undefined}
-     */
-    segment_range(segment) {
-        return this.#memory.call('goblin_c_segment_bytes', 'range', this.#memory.pass(ARGUMENT, 'segment', segment));
+    range(part) {
+        const kind = is_segment(part) ? 'segment' : 'section';
+        return this.#memory.call(`goblin_${kind}_bytes`, 'range', this.#memory.pass(ARGUMENT, kind, part));
     }
 
     /**
@@ -731,22 +670,7 @@ export class Elf {
      * @returns {Uint8Array | undefined}
      */
     section_data(section) {
-        const range = this.section_range(section);
-        return range && this.#memory.bytes(range);
-    }
-
-    /**
-     * Returns the bytes of the first section with a name, or `undefined` if there is none, or if `section_data` returns `undefined` for
-     * it. Throws if the section headers, their names or the bytes are not inside the file.
-     *
-     * ```js
-     * const comment = elf.section_data_by_name('.comment');
-     * ```
-     * @param {string} name
-     * @returns {Uint8Array | undefined}
-     */
-    section_data_by_name(name) {
-        const range = this.#by_name('goblin_c_bytes_by_name', 'range', name);
+        const range = this.range(section);
         return range && this.#memory.bytes(range);
     }
 
@@ -757,36 +681,23 @@ export class Elf {
      * @returns {Uint8Array | undefined}
      */
     segment_data(segment) {
-        const range = this.segment_range(segment);
+        const range = this.range(segment);
         return range && this.#memory.bytes(range);
     }
 
     /**
-     * Returns those bytes of a section that are inside the file. Their number is 0 if the section starts at the end of the file or past it.
-     * Returns `undefined` only where `section_data` does: the type is SHT_NULL or SHT_NOBITS, or the size is 0. If `section_data` throws a
-     * `GoblinError`, there are fewer bytes than `sh_size`:
+     * Returns those bytes of a section or a segment that are inside the file. Their number is 0 if they start at the end of the file or past
+     * it. Returns `undefined` only where `range` does. If `range` throws a `GoblinError`, there are fewer bytes than `sh_size` or `p_filesz`:
      *
      * ```js
-     * const left = elf.readable_section_data(section);
+     * const left = elf.readable_data(section);
      * if (left && BigInt(left.length) < section.sh_size) console.log(`only ${left.length} bytes are left`);
      * ```
-     * @param {SectionHeader} section
+     * @param {SectionHeader | ProgramHeader} part
      * @returns {Uint8Array | undefined}
      */
-    readable_section_data(section) { return this.#readable_data(() => this.section_range(section), range_of(section)); }
-
-    /**
-     * Returns those bytes of a segment that are inside the file. Their number is 0 if the segment's bytes start at the end of the file or
-     * past it. Returns `undefined` only where `segment_data` does: the type is PT_NULL, or `p_filesz` is 0. If `segment_data` throws a
-     * `GoblinError`, there are fewer bytes than `p_filesz`.
-     * @param {ProgramHeader} segment
-     * @returns {Uint8Array | undefined}
-     */
-    readable_segment_data(segment) { return this.#readable_data(() => this.segment_range(segment), segment_range_of(segment)); }
-
-    // Returns the bytes of the range that is found, or those of another one that are inside the file if the first is refused.
-    #readable_data(find, other) {
-        const { item, refusal } = attempt(find), range = refusal ? this.#memory.in_file(other) : item;
+    readable_data(part) {
+        const { item, refusal } = attempt(() => this.range(part)), range = refusal ? this.#memory.in_file(range_of(part)) : item;
         return range && this.#memory.bytes(range);
     }
 
@@ -805,38 +716,25 @@ export class Elf {
      * @param {1 | 2 | 4 | 8} width
      * @returns {bigint}
      */
-    number(offset, width) { return this.#call('goblin_c_number', 'number', unsigned(offset, 64), as_width(width)).value; }
+    number(offset, width) { return this.#call('goblin_number', 'number', unsigned(offset, 64), as_width(width)).value; }
 
     /**
-     * Returns the number in `width` bytes at an offset of a section, in the file's byte order. The offset counts from the section's start.
-     * Throws if the section is not inside the file, or the number is not inside the section. A section of type SHT_NOBITS has no bytes in
-     * the file, so no number is inside it. Throws a `RangeError` if the width is not 1, 2, 4 or 8. Of the header only `sh_type`,
-     * `sh_offset` and `sh_size` are read.
+     * Returns the number in `width` bytes at an offset of a section or of a segment's bytes in the file, in the file's byte order. The offset
+     * counts from their start. Throws if they are not inside the file, or the number is not inside them. A section of type SHT_NOBITS has no
+     * bytes in the file, so no number is inside it. Throws a `RangeError` if the width is not 1, 2, 4 or 8. Of a section header only
+     * `sh_type`, `sh_offset` and `sh_size` are read, and of a program header only `p_offset` and `p_filesz`.
      *
      * ```js
-     * const first_word = elf.section_number(section, 0, 4);
+     * const first_word = elf.number_in(section, 0, 4);
      * ```
-     * @param {SectionHeader} section
+     * @param {SectionHeader | ProgramHeader} part
      * @param {number | bigint} offset
      * @param {1 | 2 | 4 | 8} width
      * @returns {bigint}
      */
-    section_number(section, offset, width) { return this.#number_in(range_of(section), offset, width); }
-
-    /**
-     * Returns the number in `width` bytes at an offset of a segment's bytes in the file, in the file's byte order. The offset counts from
-     * the segment's start. Throws if the segment's bytes are not inside the file, or the number is not inside them, and a `RangeError` if
-     * the width is not 1, 2, 4 or 8. Of the header only `p_offset` and `p_filesz` are read.
-     * @param {ProgramHeader} segment
-     * @param {number | bigint} offset
-     * @param {1 | 2 | 4 | 8} width
-     * @returns {bigint}
-     */
-    segment_number(segment, offset, width) { return this.#number_in(segment_range_of(segment), offset, width); }
-
-    #number_in(range, offset, width) {
-        const argument = this.#memory.pass(ARGUMENT, 'range', range);
-        return this.#call('goblin_c_number_in', 'number', argument, unsigned(offset, 64), as_width(width)).value;
+    number_in(part, offset, width) {
+        const argument = this.#memory.pass(ARGUMENT, 'range', range_of(part));
+        return this.#call('goblin_number_in', 'number', argument, unsigned(offset, 64), as_width(width)).value;
     }
 
     /**
@@ -850,14 +748,14 @@ export class Elf {
      * @param {number | bigint} address
      * @returns {bigint | undefined}
      */
-    address_to_offset(address) { return this.#call('goblin_c_address_to_offset', 'number', unsigned(address, 64))?.value; }
+    address_to_offset(address) { return this.#call('goblin_address_to_offset', 'number', unsigned(address, 64))?.value; }
 
     /**
      * Returns the string table of the section names. It is empty if the file has none: the index of its section is 0 or past the end, or
      * that section has no bytes in the file. Throws if the section headers are not inside the file.
      * @returns {Strtab}
      */
-    shdr_strtab() { return new Strtab(this.#memory, range_of(this.#call('goblin_c_section_names', 'section'))); }
+    shdr_strtab() { return new Strtab(this.#memory, range_of(this.#call('goblin_section_names', 'section'))); }
 
     /**
      * Returns a section as a string table. It is empty if there is no section, if its type is SHT_NOBITS, or if its size is 0. Of the
@@ -874,7 +772,7 @@ export class Elf {
      * @param {SectionHeader} section
      * @returns {SectionHeader | undefined}
      */
-    linked_section(section) { return this.#call('goblin_c_linked_section', 'section', unsigned(section.sh_link, 64)); }
+    linked_section(section) { return this.#call('goblin_linked_section', 'section', unsigned(section.sh_link, 64)); }
 
     /**
      * Returns the symbols of a section of type SHT_SYMTAB or SHT_DYNSYM. Their names are in the linked section (`linked_section`). If there
@@ -884,7 +782,7 @@ export class Elf {
      * @returns {Symtab}
      */
     symtab(section) {
-        if (![SHT_SYMTAB, SHT_DYNSYM].includes(section.sh_type)) throw GoblinError.of_type(section, 'symbols');
+        if (!holds_symbols(section)) throw GoblinError.of_type(section, 'symbols');
         return new Symtab(this.#memory, range_of(section), this.strtab(this.linked_section(section)));
     }
 
@@ -901,8 +799,8 @@ export class Elf {
     dynsyms() { return this.#first_symtab(SHT_DYNSYM); }
 
     #first_symtab(sh_type) {
-        const section = this.#section_at(this.section_by_type(sh_type));
-        return section && this.symtab(section);
+        const found = this.section_by_type(sh_type);
+        return found && this.symtab(found.section);
     }
 
     /**
@@ -924,81 +822,45 @@ export class Elf {
     shdr_relocs() { return this.section_headers().filter(holds_relocs).map((section) => [section, this.relocs(section)]); }
 
     /**
-     * Returns the notes of a section. Throws if the alignment is neither 4 nor 8, a note is not inside the file, or a name is not UTF-8. An
-     * alignment below 4 counts as 4. If a note is damaged, `readable_notes` returns those before it.
-     * @param {SectionHeader} section
+     * Returns the notes of a section or a segment. Throws if the alignment is neither 4 nor 8, a note is not inside the file, or a name is not
+     * UTF-8, which `notes_bytes` reads. An alignment below 4 counts as 4. If a note is damaged, `readable_notes` returns those before it.
+     * @param {SectionHeader | ProgramHeader} part
      * @returns {Note[]}
      */
-    notes(section) { return all_notes(this.readable_notes(section)); }
+    notes(part) { return all_notes(this.readable_notes(part)); }
 
     /**
-     * Returns the notes of a segment. Throws as `notes` does. If a note is damaged, `readable_segment_notes` returns those before it.
-     * @param {ProgramHeader} segment
-     * @returns {Note[]}
-     */
-    segment_notes(segment) { return all_notes(this.readable_segment_notes(segment)); }
-
-    /**
-     * Returns the notes of a section up to the first damaged one, at most `most`, and the error of that one.
-     * @param {SectionHeader} section
+     * Returns the notes of a section or a segment up to the first damaged one, at most `most`, and the error of that one.
+     * @param {SectionHeader | ProgramHeader} part
      * @param {number} [most]
      * @returns {{ notes: Note[], refusal: GoblinError | undefined }}
      */
-    readable_notes(section, most = Infinity) { return this.#read_notes(range_of(section), section.sh_addralign, most); }
+    readable_notes(part, most = Infinity) { return this.#read_notes(part, most, 'goblin_note', note); }
 
     /**
-     * Returns the notes of a segment up to the first damaged one, at most `most`, and the error of that one.
-     * @param {ProgramHeader} segment
-     * @param {number} [most]
-     * @returns {{ notes: Note[], refusal: GoblinError | undefined }}
-     */
-    readable_segment_notes(segment, most = Infinity) {
-        return this.#read_notes(segment_range_of(segment), segment.p_align, most);
-    }
-
-    /**
-     * Returns the notes of a section as bytes, so that names need not be UTF-8. Throws if the alignment is neither 4 nor 8, or a note is not
-     * inside the section and the file: `item` of the error is the part of it that is not. An alignment below 4 counts as 4. If a note is
-     * damaged, `readable_notes_bytes` returns those before it:
+     * Returns the notes of a section or a segment as bytes, so that names need not be UTF-8. Throws if the alignment is neither 4 nor 8, or a
+     * note is not inside the section or the segment and the file: `item` of the error is the part of it that is not. An alignment below 4
+     * counts as 4. If a note is damaged, `readable_notes_bytes` returns those before it:
      *
      * ```js
      * const decoder = new TextDecoder('latin1');
      * for (const { name, desc } of elf.notes_bytes(section)) console.log(decoder.decode(name), desc.length);
      * ```
-     * @param {SectionHeader} section
+     * @param {SectionHeader | ProgramHeader} part
      * @returns {NoteBytes[]}
      */
-    notes_bytes(section) { return all_notes(this.readable_notes_bytes(section)); }
+    notes_bytes(part) { return all_notes(this.readable_notes_bytes(part)); }
 
     /**
-     * Returns the notes of a segment as bytes, as `notes_bytes` does for a section, and throws as that does.
-     * @param {ProgramHeader} segment
-     * @returns {NoteBytes[]}
-     */
-    segment_notes_bytes(segment) { return all_notes(this.readable_segment_notes_bytes(segment)); }
-
-    /**
-     * Returns the notes of a section as bytes up to the first damaged one, at most `most`, and the error of that one.
-     * @param {SectionHeader} section
+     * Returns the notes of a section or a segment as bytes up to the first damaged one, at most `most`, and the error of that one.
+     * @param {SectionHeader | ProgramHeader} part
      * @param {number} [most]
      * @returns {{ notes: NoteBytes[], refusal: GoblinError | undefined }}
      */
-    readable_notes_bytes(section, most = Infinity) {
-        return this.#read_notes(range_of(section), section.sh_addralign, most, 'goblin_c_note_bytes', note_bytes);
-    }
+    readable_notes_bytes(part, most = Infinity) { return this.#read_notes(part, most, 'goblin_note_bytes', note_bytes); }
 
-    /**
-     * Returns the notes of a segment as bytes up to the first damaged one, at most `most`, and the error of that one.
-     * @param {ProgramHeader} segment
-     * @param {number} [most]
-     * @returns {{ notes: NoteBytes[], refusal: GoblinError | undefined }}
-     */
-    readable_segment_notes_bytes(segment, most = Infinity) {
-        return this.#read_notes(segment_range_of(segment), segment.p_align, most, 'goblin_c_note_bytes', note_bytes);
-    }
-
-    #read_notes(range, alignment, most, call = 'goblin_c_note', convert = note) {
-        const notes = [];
+    #read_notes(part, most, call, convert) {
+        const notes = [], range = range_of(part), alignment = is_segment(part) ? part.p_align : part.sh_addralign;
         const { refusal } = attempt(() => {
             for (let next = range.offset; notes.length < most; next = notes.at(-1).next) {
                 const argument = this.#memory.pass(ARGUMENT, 'range', range);
@@ -1016,7 +878,7 @@ export class Elf {
      * @returns {Note[]}
      */
     iter_note_headers() {
-        return this.program_headers().filter(({ p_type }) => p_type === PT_NOTE).flatMap((segment) => this.segment_notes(segment));
+        return this.program_headers().filter(({ p_type }) => p_type === PT_NOTE).flatMap((segment) => this.notes(segment));
     }
 
     /**
@@ -1045,18 +907,20 @@ function as_width(width) {
     return BigInt(width);
 }
 
+const holds_symbols = ({ sh_type }) => sh_type === SHT_SYMTAB || sh_type === SHT_DYNSYM;
+
 const as_index = (number) => (number ? Number(number.value) : undefined);
 
 const holds_relocs = ({ sh_type }) => sh_type === SHT_RELA || sh_type === SHT_REL;
 
-// Returns a section's range in the file, which is empty for no section and for SHT_NOBITS, whatever its size.
-function range_of(section) {
-    if (!section || section.sh_type === SHT_NOBITS) return plain({ offset: 0n, size: 0n });
-    return plain({ offset: section.sh_offset, size: section.sh_size });
-}
+// Reports whether a header is a program header, and not a section header.
+const is_segment = (part) => part.p_offset !== undefined;
 
-// Returns a segment's range in the file.
-const segment_range_of = ({ p_offset, p_filesz }) => plain({ offset: p_offset, size: p_filesz });
+// Returns the range of a section or a segment in the file, which is empty for no section and for SHT_NOBITS, whatever its size.
+function range_of(part) {
+    if (!part || part.sh_type === SHT_NOBITS) return plain({ offset: 0n, size: 0n });
+    return plain(is_segment(part) ? { offset: part.p_offset, size: part.p_filesz } : { offset: part.sh_offset, size: part.sh_size });
+}
 
 function reloc({ r_offset, r_sym, r_addend, r_type, has_addend }) {
     return plain({ r_offset, r_sym, r_addend: has_addend ? r_addend : undefined, r_type });
@@ -1086,6 +950,116 @@ function note_bytes(memory, fields) {
 function all_notes({ notes, refusal }) {
     if (refusal) throw refusal;
     return notes;
+}
+
+// The sizes of records of 32-bit and 64-bit files.
+const SIZES = { header: [52, 64], section: [40, 64], segment: [32, 56], symbol: [16, 24], rel: [8, 16], rela: [12, 24] };
+
+/**
+ * Writes records of a file into its bytes, in the class and byte order of its header. Each call changes the bytes of one record, and no
+ * others. What it writes is read as the same record, unless section 0 has the number of headers and the call changes it. Each call throws if
+ * the record is not inside the bytes or does not fit the class, and then writes nothing.
+ *
+ * ```js
+ * const elf = Elf.parse(bytes), { index, section } = elf.section_by_name('.text');
+ * elf.writer(bytes).put_section_header(index, { ...section, sh_flags: section.sh_flags | SHF_WRITE });
+ * ```
+ */
+export class Writer {
+    #memory; #bytes; #header;
+
+    constructor(header, bytes) {
+        if (!(bytes instanceof Uint8Array)) throw new TypeError(`a writer needs a Uint8Array, not ${describe(bytes)}`);
+        this.#memory = new Memory(bytes);
+        this.#memory.pass(HEADER, 'header', header);
+        this.#header = header;
+        this.#bytes = bytes;
+    }
+
+    #size(record) { return SIZES[record][Number(this.#header.ei_class === 2)]; }
+
+    // Calls the library to write a number of bytes at an offset, and copies them. Returns whether it has written.
+    #put(name, offset, size, ...args) {
+        if (!this.#memory.test(name, ...args)) return false;
+        this.#bytes.set(this.#memory.part(FILE + Number(offset), size), Number(offset));
+        return true;
+    }
+
+    /**
+     * Writes a header at the start of the bytes, in the class and byte order that it names. Writes the magic number, too, and leaves the
+     * padding, the bytes 9 to 15. The writer uses the header that it was made with as before.
+     * @param {Readonly<Header>} header
+     * @returns {void}
+     */
+    put_header(header) {
+        this.#put('goblin_put_header', 0, SIZES.header[Number(header.ei_class === 2)], this.#memory.pass(ITEM, 'header', header));
+    }
+
+    /**
+     * Writes the section header at an index. Returns false, and writes nothing, past the end.
+     * @param {number | bigint} index
+     * @param {SectionHeader} section
+     * @returns {boolean}
+     */
+    put_section_header(index, section) {
+        const at = unsigned(index, 64), size = this.#size('section'), item = this.#memory.pass(ITEM, 'section', section);
+        return this.#put('goblin_put_section', this.#header.e_shoff + at * BigInt(size), size, this.#memory.header, at, item);
+    }
+
+    /**
+     * Writes the program header at an index. Returns false, and writes nothing, past the end.
+     * @param {number | bigint} index
+     * @param {ProgramHeader} segment
+     * @returns {boolean}
+     */
+    put_program_header(index, segment) {
+        const at = unsigned(index, 64), size = this.#size('segment'), item = this.#memory.pass(ITEM, 'segment', segment);
+        return this.#put('goblin_put_segment', this.#header.e_phoff + at * BigInt(size), size, this.#memory.header, at, item);
+    }
+
+    /**
+     * Writes the symbol at an index of a section of type SHT_SYMTAB or SHT_DYNSYM. Returns false, and writes nothing, past the end. Throws if
+     * the section has another type.
+     * @param {SectionHeader} section
+     * @param {number | bigint} index
+     * @param {Sym} symbol
+     * @returns {boolean}
+     */
+    put_symbol(section, index, symbol) {
+        if (!holds_symbols(section)) throw GoblinError.of_type(section, 'symbols');
+        const at = unsigned(index, 64), size = this.#size('symbol'), item = this.#memory.pass(ITEM, 'symbol', symbol);
+        const table = this.#memory.pass(ARGUMENT, 'range', range_of(section));
+        return this.#put('goblin_put_symbol', section.sh_offset + at * BigInt(size), size, this.#memory.header, table, at, item);
+    }
+
+    /**
+     * Writes the relocation at an index of a section of type SHT_RELA or SHT_REL. Returns false, and writes nothing, past the end. Throws if
+     * the section has another type, or if the relocation has an addend and those of the section have none, or the reverse.
+     * @param {SectionHeader} section
+     * @param {number | bigint} index
+     * @param {Reloc} reloc
+     * @returns {boolean}
+     */
+    put_reloc(section, index, reloc) {
+        if (!holds_relocs(section)) throw GoblinError.of_type(section, 'relocations');
+        const is_rela = section.sh_type === SHT_RELA, at = unsigned(index, 64), size = this.#size(is_rela ? 'rela' : 'rel');
+        const fields = { ...reloc, r_addend: reloc.r_addend ?? 0n, has_addend: Number(reloc.r_addend !== undefined) };
+        const item = this.#memory.pass(ITEM, 'reloc', fields), table = this.#memory.pass(ARGUMENT, 'range', range_of(section));
+        const offset = section.sh_offset + at * BigInt(size);
+        return this.#put('goblin_put_reloc', offset, size, this.#memory.header, table, Number(is_rela), at, item);
+    }
+
+    /**
+     * Writes a number of `width` bytes at an offset. Throws a `RangeError` if the width is not 1, 2, 4 or 8.
+     * @param {number | bigint} offset
+     * @param {1 | 2 | 4 | 8} width
+     * @param {number | bigint} value
+     * @returns {void}
+     */
+    put_number(offset, width, value) {
+        const at = unsigned(offset, 64);
+        this.#put('goblin_put_number', at, width, this.#memory.header, at, as_width(width), unsigned(value, 64));
+    }
 }
 
 /**
@@ -1129,32 +1103,26 @@ function may_hold({ p_type }, section) {
 
 /**
  * A list in a file. The call that makes it reads the number of items, and throws if the list can't be read. An iteration reads several
- * items at a time. For other methods of arrays use `[...list]`.
+ * items at a time. An item is read by `list[index]`, as from an array. For other methods of arrays use `[...list]`.
  * @template T
+ * @index {T | undefined}
  */
 export class List {
-    #memory; #kind; #args; #range; #convert; #has_many; #is_part; #length;
+    #memory; #kind; #args; #range; #convert; #has_many; #length;
 
-    // (a list with `is_part` has only the headers that are inside the file)
-    constructor(memory, kind, args, { range = undefined, convert = (item) => item, has_many = true, is_part = false } = {}) {
+    constructor(memory, kind, args, { range = undefined, convert = (item) => item, has_many = true } = {}) {
         this.#memory = memory;
         this.#kind = kind;
         this.#args = args;
         this.#range = range;
         this.#convert = convert;
-        this.#has_many = has_many && !is_part;
-        this.#is_part = is_part;
-        this.#length = is_part ? this.#whole() : this.#count(`goblin_c_${kind}_count`);
+        this.#has_many = has_many;
+        this.#length = Number(memory.call(`goblin_${kind}_count`, 'number', ...this.#arguments()).value);
     }
-
-    #count(call) { return Number(this.#memory.call(call, 'number', ...this.#arguments()).value); }
-
-    // Returns the number of headers that are inside the file. (If the first one has the number, and is not inside the file, none is.)
-    #whole() { return attempt(() => this.#count(`goblin_c_whole_${this.#kind}s`)).item ?? 0; }
 
     #arguments() {
         const range = this.#range ? [this.#memory.pass(ARGUMENT, 'range', this.#range)] : [];
-        return [this.#memory.address(HEADER), ...range, ...this.#args];
+        return [this.#memory.header, ...range, ...this.#args];
     }
 
     /**
@@ -1169,9 +1137,7 @@ export class List {
      * @returns {T | undefined}
      */
     get(index) {
-        const at = unsigned(index, 64), call = `goblin_c_${this.#kind}${this.#is_part ? '_alone' : ''}`;
-        if (this.#is_part && at >= this.#length) return undefined;
-        const item = this.#memory.call(call, this.#kind, ...this.#arguments(), at);
+        const item = this.#memory.call(`goblin_${this.#kind}`, this.#kind, ...this.#arguments(), unsigned(index, 64));
         return item && this.#convert(item);
     }
 
@@ -1194,7 +1160,7 @@ export class List {
     *from(first = 0, most = Infinity) {
         for (let next = unsigned(first, 64), left = most; left > 0;) {
             const items = this.#has_many
-                ? this.#memory.call_many(`goblin_c_${this.#kind}s`, this.#kind, left, next, ...this.#arguments())
+                ? this.#memory.call_many(`goblin_${this.#kind}s`, this.#kind, left, next, ...this.#arguments())
                 : [this.get(next)].filter((item) => item);
             if (items.length === 0) return;
             for (const item of items) yield this.#has_many ? this.#convert(item) : item;
@@ -1251,11 +1217,50 @@ export class List {
     }
 
     /**
+     * Returns whether a function returns true for an item. It is called with each item and its index up to there.
+     * @param {(item: T, index: number) => unknown} callback
+     * @returns {boolean}
+     */
+    some(callback) {
+        for (const [index, item] of this.entries()) if (callback(item, index)) return true;
+        return false;
+    }
+
+    /**
+     * Returns what a function makes of all items, like `reduce` of an array: it is called with what it made of the items before, with an
+     * item and its index. Without an initial value it begins with the first item, and throws a `TypeError` if there is none.
+     * @template U
+     * @param {(made: U, item: T, index: number) => U} callback
+     * @param {[U?]} ...initial
+     * @returns {U}
+     */
+    reduce(callback, ...initial) { return Array.from(this).reduce((made, item, index) => callback(made, item, index), ...initial); }
+
+    /**
+     * Returns the items from an index up to another one, like `slice` of an array: a negative index counts from the end.
+     * @param {number} [start]
+     * @param {number} [end]
+     * @returns {T[]}
+     */
+    slice(start = 0, end = this.#length) {
+        const inside = (index) => (index < 0 ? Math.max(index + this.#length, 0) : Math.min(index, this.#length));
+        const [first, last] = [start, end].map((index) => inside(Math.trunc(index) || 0));
+        return [...this.from(first, last - first)];
+    }
+
+    /**
      * Returns the items as an array, for `JSON.stringify`.
      * @returns {T[]}
      */
     toJSON() { return Array.from(this); }
 }
+
+// An index in brackets works as that of an array: `list[0]`. Nothing can be assigned to it, which throws a TypeError.
+const is_index = (name) => typeof name === 'string' && /^(?:0|[1-9]\d{0,15})$/.test(name);
+Object.setPrototypeOf(List.prototype, new Proxy(Object.create(Object.prototype), {
+    get: (target, name, list) => (is_index(name) ? list.get(Number(name)) : Reflect.get(target, name, list)),
+    set: (target, name, value, list) => !is_index(name) && Reflect.set(target, name, value, list),
+}));
 
 /**
  * A symbol table, with the string table of its names.
@@ -1289,61 +1294,34 @@ export class Symtab extends List {
     name_bytes(symbol) { return this.strtab.get_bytes(symbol.st_name); }
 
     /**
-     * Reports whether the name of a symbol is a text, a string or bytes, as `is` of the string table does. Throws as that does.
-     *
-     * ```js
-     * const main = symbols.find((symbol) => symbols.name_is(symbol, 'main'));
-     * ```
-     * @param {Sym} symbol
-     * @param {string | Uint8Array} text
-     * @returns {boolean}
-     */
-    name_is(symbol, text) { return this.strtab.is(symbol.st_name, text); }
-
-    /**
-     * Returns the range of the symbol at an index, or `undefined` past the end. With it a field can be changed in a buffer, in the file's
-     * byte order.
-     * @param {number | bigint} index
-     * @returns {Range | undefined}
-     */
-    place(index) {
-        const memory = this.#memory, table = memory.pass(ARGUMENT, 'range', this.#range);
-        return memory.call('goblin_c_symbol_place', 'range', memory.address(HEADER), table, unsigned(index, 64));
-    }
-
-    /**
-     * Returns the index of the symbol for an address, if there is one: the one with the highest `st_value` that is not above the
-     * address. Of those with the same `st_value` it is the first for which `address < st_value + st_size`, or the first if there is no
-     * such symbol.
+     * Returns the index of the symbol that contains an address, if there is one: of those with `st_value <= address < st_value + st_size` the
+     * one with the highest `st_value`, the first of several. These sums do not wrap around. If there is none, it is the first of size 0, as
+     * labels of assembly have, among the symbols with the highest `st_value` that is not above the address.
      *
      * Only symbols of a section count, whose `st_shndx` is from 1 to 0xfeff, or 0xffff (SHN_XINDEX). And only those of type STT_NOTYPE,
-     * STT_OBJECT, STT_FUNC or STT_GNU_IFUNC count.
+     * STT_OBJECT, STT_FUNC or STT_GNU_IFUNC count. In a file of type ET_REL an `st_value` is an offset in a section, so symbols of different
+     * sections mix.
      *
-     * The symbol may end before the address: compare `st_value + st_size` with it, if `st_size` is not 0. If a symbol lies inside another
-     * one, an address after the end of the inner symbol gives the inner one, too. In a file of type ET_REL an `st_value` is an offset in a
-     * section, so symbols of different sections mix.
-     *
-     * Each call reads all symbols: for many addresses use `address_index`.
+     * Each call reads all symbols: for many addresses use `address_map`.
      * @param {number | bigint} address
      * @returns {number | undefined}
      */
     by_address(address) {
         const memory = this.#memory;
         const table = memory.pass(ARGUMENT, 'range', this.#range);
-        return as_index(memory.call('goblin_c_symbol_by_address', 'number', memory.address(HEADER), table, unsigned(address, 64)));
+        return as_index(memory.call('goblin_symbol_by_address', 'number', memory.header, table, unsigned(address, 64)));
     }
 
     /**
-     * Returns an index of the addresses, for many searches. The first call for a table sorts its symbols. Each further call on the same
-     * `Elf` returns another object, which uses what the first call has sorted.
+     * Returns a sorted map of the addresses, for many searches. It is not proved.
      *
      * ```js
-     * const symbols = elf.syms(), index = symbols.address_index();
-     * for (const address of addresses) console.log(index.symbol(address)?.st_value);
+     * const map = elf.syms().address_map();
+     * for (const address of addresses) console.log(map.symbol(address)?.st_value);
      * ```
-     * @returns {AddressIndex}
+     * @returns {AddressMap}
      */
-    address_index() { return new AddressIndex(this.#memory, this.#range, this); }
+    address_map() { return new AddressMap(this); }
 
     /**
      * Returns the index of the first symbol with a name, if there is one. Throws if the string table is not inside the file.
@@ -1355,43 +1333,76 @@ export class Symtab extends List {
         const bytes = memory.pass_bytes(encoder.encode(name));
         const table = memory.pass(ARGUMENT, 'range', this.#range);
         const names = memory.pass(NAMES, 'range', this.strtab.range);
-        return as_index(memory.call('goblin_c_symbol_by_name', 'number', memory.address(HEADER), table, names, ...bytes));
+        return as_index(memory.call('goblin_symbol_by_name', 'number', memory.header, table, names, ...bytes));
     }
 }
 
-/**
- * An index of the addresses of a symbol table, for many searches. It finds what `by_address` finds, and reads a few symbols for each
- * binary digit of their number, where `by_address` reads all of them.
- */
-export class AddressIndex {
-    #memory; #range; #symtab; #indices;
+// Reports whether a symbol counts for its address: it is of a section, and has a type whose value is an address.
+const may_contain = ({ st_info, st_shndx }) => (st_shndx === SHN_XINDEX || (st_shndx !== SHN_UNDEF && st_shndx < SHN_LORESERVE))
+    && [STT_NOTYPE, STT_OBJECT, STT_FUNC, STT_GNU_IFUNC].includes(st_type(st_info));
 
-    constructor(memory, range, symtab) {
-        this.#memory = memory;
-        this.#range = range;
+const LAST = (1n << 64n) - 1n;
+
+/**
+ * A sorted map of the addresses of a symbol table, for many searches. It finds what `by_address` finds in a time that grows with the
+ * logarithm of the number of symbols. It is sorted by JavaScript's own sort, and is not part of the library: it is compared with
+ * `by_address`, but not proved.
+ */
+export class AddressMap {
+    #symtab; #starts; #indices = [];
+
+    constructor(symtab) {
         this.#symtab = symtab;
-        const key = `${range.offset} ${range.size}`;
-        if (!memory.indices.has(key)) {
-            const fill = (...array) => this.#call('goblin_c_address_index', ...array).value;
-            memory.indices.set(key, memory.keep(symtab.length, fill));
+        // the symbols that count, by their first address and then by their index, each with its last address if it has a size
+        const places = [];
+        let number = 0;
+        for (const symbol of symtab) {
+            const { st_value: start, st_size } = symbol, end = start + st_size - 1n, index = number++;
+            if (may_contain(symbol)) places.push({ start, index, last: st_size ? (end < LAST ? end : LAST) : undefined });
         }
-        this.#indices = memory.indices.get(key);
+        places.sort((a, b) => (a.start < b.start ? -1 : a.start > b.start ? 1 : a.index - b.index));
+        const ends = places.filter(({ last }) => last !== undefined && last < LAST).map(({ last }) => last + 1n);
+        const starts = BigUint64Array.from(places.map(({ start }) => start).concat(ends)).sort();
+        this.#starts = starts.filter((start, i) => i === 0 || start !== starts[i - 1]);
+        this.#fill(places);
     }
 
-    #call(name, ...args) {
-        const table = this.#memory.pass(ARGUMENT, 'range', this.#range);
-        return this.#memory.call(name, 'number', this.#memory.address(HEADER), table, ...args);
+    // Finds the symbol from each start on. The symbols that contain an address are on a stack, below others that have ended. The topmost one
+    // has the highest value, and is the first of those with the same one.
+    #fill(places) {
+        const open = [];
+        let label, next = 0;
+        for (const start of this.#starts) {
+            const first = next;
+            while (next < places.length && places[next].start <= start) next++;
+            if (next > first) label = undefined;
+            for (let i = next - 1; i >= first; i--) {
+                if (places[i].last === undefined) label = places[i].index;
+                else open.push(places[i]);
+            }
+            while (open.length && open.at(-1).last < start) open.pop();
+            this.#indices.push(open.length ? open.at(-1).index : label);
+        }
     }
 
     /**
-     * Returns the index of the symbol for an address, if there is one, as `by_address` of the table does.
+     * Returns the index of the symbol that contains an address, if there is one, as `by_address` of the table does.
      * @param {number | bigint} address
      * @returns {number | undefined}
      */
-    at(address) { return as_index(this.#call('goblin_c_symbol_by_address_in', ...this.#indices, unsigned(address, 64))); }
+    at(address) {
+        const wanted = unsigned(address, 64);
+        let low = 0, high = this.#starts.length;
+        while (low < high) {
+            const middle = (low + high) >> 1;
+            if (this.#starts[middle] <= wanted) low = middle + 1;
+            else high = middle;
+        }
+        return this.#indices[low - 1];
+    }
 
     /**
-     * Returns the symbol for an address, if there is one.
+     * Returns the symbol that contains an address, if there is one.
      * @param {number | bigint} address
      * @returns {Sym | undefined}
      */
@@ -1423,7 +1434,7 @@ export class Strtab {
      * @returns {string | undefined}
      */
     get(offset) {
-        const range = this.#read('goblin_c_string', this.range, offset);
+        const range = this.#read('goblin_string', this.range, offset);
         return range && this.#memory.string(range);
     }
 
@@ -1434,40 +1445,8 @@ export class Strtab {
      * @returns {Uint8Array | undefined}
      */
     get_bytes(offset) {
-        const range = this.#read('goblin_c_string_bytes', this.range, offset);
+        const range = this.#read('goblin_string_bytes', this.range, offset);
         return range && this.#memory.bytes(range);
-    }
-
-    /**
-     * Reports whether the string at an offset is a text, a string or bytes, which need not be UTF-8. It is false past the end of the
-     * table, and for a text with a zero byte in it. This reads at most one byte more of the string than the text has. Throws if the table
-     * is not inside the file.
-     *
-     * ```js
-     * const is_text = elf.shdr_strtab().is(section.sh_name, '.text');
-     * ```
-     * @param {number | bigint} offset
-     * @param {string | Uint8Array} text
-     * @returns {boolean}
-     */
-    is(offset, text) { return this.#test('goblin_c_string_is', offset, text); }
-
-    /**
-     * Reports whether the string at an offset begins with a text. It is false past the end of the table, and for a text with a zero byte
-     * in it. This reads no more of the string than the text has. Throws if the table is not inside the file.
-     *
-     * ```js
-     * const names = elf.shdr_strtab(), debug = elf.section_headers().filter(({ sh_name }) => names.starts_with(sh_name, '.debug_'));
-     * ```
-     * @param {number | bigint} offset
-     * @param {string | Uint8Array} text
-     * @returns {boolean}
-     */
-    starts_with(offset, text) { return this.#test('goblin_c_string_starts', offset, text); }
-
-    #test(call, offset, text) {
-        const bytes = this.#memory.pass_bytes(text_bytes(text)), strings = this.#memory.pass(NAMES, 'range', this.range);
-        return this.#memory.test(call, strings, unsigned(offset, 64), ...bytes);
     }
 
     /**
@@ -1478,12 +1457,12 @@ export class Strtab {
      */
     get_start(offset, most) {
         const { offset: start, size } = this.range;
-        if (!this.#is_accepted) this.#read('goblin_c_string_bytes', this.range, size);
+        if (!this.#is_accepted) this.#read('goblin_string_bytes', this.range, size);
         this.#is_accepted = true;
         const skipped = unsigned(offset, 64);
         if (skipped >= size) return undefined;
         const length = size - skipped < BigInt(most) ? size - skipped : BigInt(most);
-        const range = this.#read('goblin_c_string_bytes', { offset: start + skipped, size: length }, 0);
+        const range = this.#read('goblin_string_bytes', { offset: start + skipped, size: length }, 0);
         return range && this.#memory.bytes(range);
     }
 }

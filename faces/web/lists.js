@@ -58,7 +58,7 @@ const sources = {
             number('sh_size'), text(({ sh_flags }) => labels.section_flags(sh_flags)), number('sh_link', String),
             number('sh_info', String), number('sh_addralign', String), number('sh_entsize', String),
         ],
-        mark: (item) => is_refused(() => file.elf.section_range(item)),
+        mark: (item) => is_refused(() => file.elf.range(item)),
         holds: ({ sh_addr, sh_offset, sh_size, sh_type, sh_flags }, value) => (sh_flags & 2n && within(sh_addr, sh_size, value))
             || (sh_type !== goblin.SHT_NOBITS && within(sh_offset, sh_size, value)),
     }),
@@ -70,7 +70,7 @@ const sources = {
             { text: ({ p_flags }) => labels.segment_flags(p_flags), plain: ({ p_flags }) => hex(p_flags) },
             number('p_offset'), number('p_filesz'), number('p_vaddr'), number('p_memsz'), number('p_paddr'), number('p_align'),
         ],
-        mark: (item) => is_refused(() => file.elf.segment_range(item)),
+        mark: (item) => is_refused(() => file.elf.range(item)),
         holds: ({ p_offset, p_filesz, p_vaddr, p_memsz }, value) => within(p_offset, p_filesz, value) || within(p_vaddr, p_memsz, value),
     }),
 

@@ -15,8 +15,7 @@ function* holders(by) {
     } else {
         for (const { index, segment } of segments()) {
             if (segment.p_type !== goblin.PT_NOTE) continue;
-            const notes = (most) => file.elf.readable_segment_notes_bytes(segment, most);
-            yield { index, title: `segment ${index}`, start: segment.p_offset, notes };
+            yield { index, title: `segment ${index}`, start: segment.p_offset, notes: (most) => file.elf.readable_notes_bytes(segment, most) };
         }
     }
 }

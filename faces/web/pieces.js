@@ -40,11 +40,12 @@ function pieces_of_sections() {
     const { found, cut, add } = collector();
     const { e_phoff, e_phnum, e_shoff, e_shnum } = file.elf.header;
     add(0, size_of('header'), { title: 'ELF header', kind: 'header', to: 'header' });
-    if (e_phnum) add(Number(e_phoff), e_phnum * size_of('segment'), { title: 'Program headers', kind: 'tables', to: 'segments' });
+    const segments = read_or(e_phnum, () => file.elf.program_headers().length);
+    if (segments) add(Number(e_phoff), segments * size_of('segment'), { title: 'Program headers', kind: 'tables', to: 'segments' });
     const length = read_or(e_shnum, () => file.elf.section_headers().length);
     if (length) add(Number(e_shoff), length * size_of('section'), { title: 'Section headers', kind: 'tables', to: 'sections' });
     for (const { index, section } of sections()) {
-        const range = read_or({ offset: section.sh_offset, size: section.sh_size }, () => file.elf.section_range(section));
+        const range = read_or({ offset: section.sh_offset, size: section.sh_size }, () => file.elf.range(section));
         if (range) add(Number(range.offset), Number(range.size), { section: index, kind: kind_of(section), to: `sections/${index}` });
     }
     return { found, cut };

@@ -8,7 +8,7 @@ import { tmpdir } from 'node:os';
 import { join } from 'node:path';
 import { import_goblin } from './tested.mjs';
 
-const COPIES = 150, FEW = 3, ALONE = 20, FIRST = 16;
+const COPIES = 150, FEW = 3, WHOLE = 20, FIRST = 16;
 const [, , web, dump, ...files] = process.argv;
 const goblin = await import_goblin(web);
 
@@ -56,7 +56,7 @@ function check_arguments() {
     assert.throws(() => goblin.machine_to_str(0x10000), RangeError);
     const long = 'x'.repeat(1 << 20); // (the memory must grow for it, with the file in it)
     assert.equal(elf.section_by_name(long), undefined);
-    assert.equal(elf.section_by_name('.text'), 1);
+    assert.deepEqual(elf.section_by_name('.text'), { index: 1, section: elf.section_header(1) });
     const [first, ...rest] = [...elf.syms()].map((symbol) => elf.syms().name(symbol));
     assert.equal(first, '');
     assert.deepEqual([...elf.syms().from(1)].map((symbol) => elf.syms().name(symbol)), rest);
@@ -77,6 +77,8 @@ const length = ({ length }) => ` ${hex(length)}`;
 // Returns a section with another type and the same bytes in the file.
 const as_type = (section, sh_type) =>
     ({ ...section, ...(section.sh_type === goblin.SHT_NOBITS ? { sh_offset: 0n, sh_size: 0n } : {}), sh_type });
+// Returns a number that does not fit in 32 bits for the item at index 1, else 0.
+const any_high = (index) => (index === 1 ? 1n << 32n : 0n);
 const hex = (number) => BigInt.asUintN(64, BigInt(number)).toString(16);
 const fields = (item) => Object.entries(item).map(([name, value]) => ` ${IN_C[name] ?? name}=${hex(value)}`).join('');
 const bytes = (array) => ` ${Buffer.from(array).toString('hex')}`;
@@ -110,25 +112,29 @@ class Dump {
 
     string(strtab, offset) {
         const text = this.ask('goblin_string', () => strtab.get(offset), (string) => bytes(Buffer.from(string)));
-        const string = this.ask('goblin_string_bytes', () => strtab.get_bytes(offset), bytes), yes = () => ' yes';
-        if (string) {
-            this.ask('goblin_string_is', () => strtab.is(offset / 2n, string) || undefined, yes);
-            this.ask('goblin_string_starts', () => strtab.starts_with(offset, string.subarray(0, string.length / 2)) || undefined, yes);
-        }
+        this.ask('goblin_string_bytes', () => strtab.get_bytes(offset), bytes);
         return text;
     }
 
-    symbol(symtab, index, read = () => symtab.get(index)) {
+    // Adds the line of a call that writes into a copy of the file: a sum of its bytes.
+    write(what, put) {
+        const copy = new Uint8Array(this.content);
+        this.ask(what, () => { put(this.elf.writer(copy)); return copy; }, (written) =>
+            ` ${hex(written.reduce((sum, byte) => Math.imul(sum ^ byte, 0x1000193), 0x811c9dc5) >>> 0)}`);
+    }
+
+    symbol(section, symtab, index, read = () => symtab.get(index)) {
         const names = ({ st_info, st_other }) => ` ${goblin.bind_to_str(goblin.st_bind(st_info))} `
             + `${goblin.type_to_str(goblin.st_type(st_info))} ${goblin.visibility_to_str(goblin.st_visibility(st_other))}`;
         const symbol = this.ask('goblin_symbol', read, (item) => fields(item) + names(item));
         if (!symbol) return;
-        this.ask('goblin_symbol_place', () => symtab.place(index));
         const name = this.string(symtab.strtab, symbol.st_name);
         if (name !== undefined) this.ask('goblin_symbol_by_name', () => symtab.by_name(name));
         this.ask('goblin_symbol_by_address', () => symtab.by_address(symbol.st_value));
-        const end = BigInt.asUintN(64, symbol.st_value + symbol.st_size);
-        this.ask('goblin_symbol_by_address_in', () => symtab.address_index().at(end));
+        this.ask('goblin_symbol_by_address', () => symtab.by_address(BigInt.asUintN(64, symbol.st_value + symbol.st_size)));
+        if (index >= FEW) return;
+        const changed = { ...symbol, st_value: symbol.st_value ^ 1n, st_name: symbol.st_name + any_high(index) };
+        this.write('goblin_put_symbol', (writer) => writer.put_symbol(section, index, changed));
     }
 
     symbols(elf, section) {
@@ -141,9 +147,9 @@ class Dump {
         if (!symtab) return;
         const count = symtab.length;
         let index = 0;
-        for (const symbol of symtab.from(0, is_table ? count : FEW)) this.symbol(symtab, index++, () => symbol);
-        this.symbol(symtab, Math.max(count - 1, 0));
-        this.symbol(symtab, count);
+        for (const symbol of symtab.from(0, is_table ? count : FEW)) this.symbol(table, symtab, index++, () => symbol);
+        this.symbol(table, symtab, Math.max(count - 1, 0));
+        this.symbol(table, symtab, count);
     }
 
     relocs(elf, section) {
@@ -151,10 +157,16 @@ class Dump {
         const put = ({ r_offset, r_sym, r_addend, r_type }) =>
             fields({ r_offset, r_sym, r_addend: r_addend ?? 0, r_type, has_addend: Number(r_addend !== undefined) })
                 + ` ${r_addend ?? 0}`;
-        const relocs = this.ask('goblin_reloc_count', () => elf.relocs(is_list ? section : as_type(section, goblin.SHT_REL)), length);
+        const table = is_list ? section : as_type(section, goblin.SHT_REL);
+        const relocs = this.ask('goblin_reloc_count', () => elf.relocs(table), length);
         if (!relocs) return;
         const count = relocs.length;
-        for (const reloc of relocs.from(0, is_list ? count : FEW)) this.ask('goblin_reloc', () => reloc, put);
+        let index = 0;
+        for (const reloc of relocs.from(0, is_list ? count : FEW)) {
+            this.ask('goblin_reloc', () => reloc, put);
+            const at = index++, changed = { ...reloc, r_offset: reloc.r_offset ^ 1n, r_sym: reloc.r_sym + any_high(at) };
+            if (at < FEW) this.write('goblin_put_reloc', (writer) => writer.put_reloc(table, at, changed));
+        }
         this.ask('goblin_reloc', () => relocs.get(count), put);
     }
 
@@ -182,15 +194,16 @@ class Dump {
         for (const [index, segment] of list.entries()) {
             const { p_vaddr, p_filesz } = segment, half = p_filesz / 2n;
             this.ask('goblin_segment', () => segment, (item) => `${fields(item)} ${goblin.pt_to_str(item.p_type)}`);
-            this.ask('goblin_segment_place', () => elf.program_header_place(index));
-            this.ask('goblin_segment_bytes', () => elf.segment_range(segment));
-            this.ask('goblin_range_in_file', () => elf.readable_segment_data(segment), size_and_first);
-            this.numbers_in(p_filesz, (offset, width) => elf.segment_number(segment, offset, width));
+            this.ask('goblin_segment_bytes', () => elf.range(segment));
+            this.ask('goblin_range_in_file', () => elf.readable_data(segment), size_and_first);
+            this.numbers_in(p_filesz, (offset, width) => elf.number_in(segment, offset, width));
             for (const before of [0n, half, 2n * half]) {
                 this.ask('goblin_address_to_offset', () => elf.address_to_offset(BigInt.asUintN(64, p_vaddr + before)));
             }
-            this.notes(elf.readable_segment_notes(segment));
-            this.notes_bytes(elf.readable_segment_notes_bytes(segment));
+            this.notes(elf.readable_notes(segment));
+            this.notes_bytes(elf.readable_notes_bytes(segment));
+            const changed = { ...segment, p_flags: segment.p_flags ^ goblin.PF_X, p_memsz: segment.p_memsz + any_high(index) };
+            if (index < FEW) this.write('goblin_put_segment', (writer) => writer.put_program_header(index, changed));
         }
         this.ask('goblin_segment', () => list.get(list.length));
     }
@@ -205,36 +218,48 @@ class Dump {
             const flags = Array.from({ length: 32 }, (_, bit) => 2 ** bit).filter((flag) => section.sh_flags & BigInt(flag));
             this.ask('goblin_section', () => section, (item) =>
                 fields(item) + [goblin.sht_to_str(item.sh_type), ...flags.map(goblin.shf_to_str)].map((name) => ` ${name}`).join(''));
-            this.ask('goblin_section_place', () => elf.section_header_place(index));
-            const name = this.string(names, section.sh_name);
+            const name = this.string(names, section.sh_name), found = ({ index: at, section: it }) => ` ${hex(at)}${fields(it)}`;
             if (name !== undefined) {
-                for (const first of [0, index, 2 * index]) this.ask('goblin_section_by_name', () => elf.section_by_name(name, first));
-                this.ask('goblin_bytes_by_name', () => elf.section_data_by_name(name), size_and_first);
+                for (const first of [0, index, 2 * index]) this.ask('goblin_section_by_name', () => elf.section_by_name(name, first), found);
             }
-            this.ask('goblin_section_by_type', () => elf.section_by_type(section.sh_type, Math.floor(index / 2)));
-            this.ask('goblin_section_by_type', () => elf.section_by_type(section.sh_type, index + 1));
-            this.ask('goblin_section_bytes', () => elf.section_range(section));
-            this.ask('goblin_range_in_file', () => elf.readable_section_data(section), size_and_first);
+            this.ask('goblin_section_by_type', () => elf.section_by_type(section.sh_type, Math.floor(index / 2)), found);
+            this.ask('goblin_section_by_type', () => elf.section_by_type(section.sh_type, index + 1), found);
+            this.ask('goblin_section_bytes', () => elf.range(section));
+            this.ask('goblin_range_in_file', () => elf.readable_data(section), size_and_first);
             const { sh_size } = as_type(section, section.sh_type);
-            this.numbers_in(sh_size, (offset, width) => elf.section_number(section, offset, width));
+            this.numbers_in(sh_size, (offset, width) => elf.number_in(section, offset, width));
             this.symbols(elf, section);
             this.relocs(elf, section);
             this.notes(elf.readable_notes(section));
             this.notes_bytes(elf.readable_notes_bytes(section));
-            index++;
+            const at = index++, changed = { ...section, sh_flags: section.sh_flags ^ goblin.SHF_WRITE, sh_name: section.sh_name + any_high(at) };
+            if (at < FEW) this.write('goblin_put_section', (writer) => writer.put_section_header(at, changed));
         }
         this.ask('goblin_section', () => list.get(index));
     }
 
-    alone(elf) {
-        const { sections } = elf.readable_section_headers(), { segments } = elf.readable_program_headers();
-        const far = (1n << 64n) - 1n;
-        this.lines.push(`goblin_whole_sections${length(sections)}`);
-        for (const section of sections.from(0, ALONE)) this.ask('goblin_section_alone', () => section);
-        for (const index of [sections.length, far]) this.ask('goblin_section_alone', () => elf.section_header_alone(index));
-        this.lines.push(`goblin_whole_segments${length(segments)}`);
-        for (const segment of segments.from(0, ALONE)) this.ask('goblin_segment_alone', () => segment);
-        for (const index of [segments.length, far]) this.ask('goblin_segment_alone', () => elf.program_header_alone(index));
+    whole(elf) {
+        const whole = elf.whole(), far = (1n << 64n) - 1n;
+        this.lines.push(`goblin_whole_header${fields(whole.header)}`);
+        const sections = this.ask('goblin_section_count', () => whole.section_headers(), length);
+        if (!sections) return;
+        for (const section of sections.from(0, WHOLE)) this.ask('goblin_section', () => section);
+        for (const index of [sections.length, far]) this.ask('goblin_section', () => whole.section_header(index));
+        this.ask('goblin_section_names', () => whole.shdr_strtab(), ({ range }) => fields(range));
+        const segments = this.ask('goblin_segment_count', () => whole.program_headers(), length);
+        if (!segments) return;
+        for (const segment of segments.from(0, WHOLE)) this.ask('goblin_segment', () => segment);
+        for (const index of [segments.length, far]) this.ask('goblin_segment', () => whole.program_header(index));
+    }
+
+    writing({ header }, length) {
+        const { e_type, e_entry } = header, changed = { ...header, e_type: e_type ^ 1, e_entry: e_entry ^ 1n };
+        const high = { ...changed, e_entry: BigInt.asUintN(64, changed.e_entry + any_high(1)) };
+        for (const given of [changed, high, { ...high, ei_data: 3 }]) this.write('goblin_put_header', (writer) => writer.put_header(given));
+        for (const width of [1, 2, 4, 8]) {
+            this.write('goblin_put_number', (writer) => writer.put_number(Math.floor(length / 2), width, 0x7f));
+            this.write('goblin_put_number', (writer) => writer.put_number(length - 4, width, 0x7f00));
+        }
     }
 
     numbers(elf, length) {
@@ -253,9 +278,12 @@ class Dump {
         const elf = this.ask('goblin_header', () => goblin.Elf.parse(content), ({ header }) => fields(header)
             + ` ${goblin.class_to_str(header.ei_class)} ${goblin.et_to_str(header.e_type)} ${goblin.machine_to_str(header.e_machine)}`);
         if (!elf) return;
+        this.elf = elf;
+        this.content = content;
         this.segments(elf);
         this.sections(elf);
-        this.alone(elf);
+        this.whole(elf);
+        this.writing(elf, content.length);
         this.numbers(elf, content.length);
     }
 }

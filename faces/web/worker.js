@@ -196,7 +196,7 @@ const calls = {
     // Returns the location of the section or symbol with a name. Of symbols the first one that is defined is preferred.
     named([kind, name]) {
         const found = (of) => read_or(undefined, of), section = kind === 'section' && found(() => file.elf.section_by_name(name));
-        if (kind === 'section') return section && `sections/${section}`;
+        if (kind === 'section') return section && `sections/${section.index}`;
         const tables = symbol_tables().map((table) => ({ table, index: found(() => symtab_at(table).by_name(name)) }));
         const all = tables.filter(({ index }) => index !== undefined);
         const best = all.find(({ table, index }) => symtab_at(table).get(index).st_shndx) ?? all[0];

@@ -1,46 +1,59 @@
--- The symbol that is found for an address comes first of all that are at it or below it.
+-- The symbol that is found for an address is the one of the law, and so is that of the definition.
 --
 -- How near a symbol is makes one number (`rank_of`). A search keeps the first symbol with the highest such number
--- (`IsSoFar`, `one_more`). The definition has the same one, as no symbol is nearer and none before it is as near
--- (`found_is`); and so has the law, in its own words (`found_comes_first`, `first_is_found`).
-use Rattle.std.proofs.Common.{◌≡◌, ◌≤◌, ◌<◌, ◌+◌, ◌*◌, ◌&&◌, ◌||◌, not, ℕ, zero, suc, Bool, true, false, ltb, eqb, cond}
+-- (`IsSoFar`, `one_more`), and that one is what the law says (`found_comes_first`). The definition has what the law
+-- says, too (`at_is`), since no symbol before it passes its test.
+use Rattle.std.proofs.Common.{◌≡◌, ◌≤◌, ◌<◌, ◌+◌, ◌*◌, ◌&&◌, ◌||◌, not, ℕ, zero, suc, Bool, true, false, ltb, leb, eqb, ◌==◌}
 use Rattle.std.proofs.Common.{if◌then◌else◌, List, [], ◌∷◌, length, get_or, slice_get, Option, Some, None, inl, inr}
-use Rattle.std.proofs.Common.{refl, sym, ap, subst, ◌∙◌, arith}
-use Rattle.std.proofs.lemmas.Bool.{and_parts, and_from, cases_lt, lt-ltb, le-ltb, ltb-true, ltb-false, false≢true}
+use Rattle.std.proofs.Common.{refl, sym, ap, subst, ◌∙◌, arith, position}
+use Rattle.std.proofs.lemmas.Bool.{and_parts, and_from, cases_lt, lt-ltb, le-ltb, ltb-true, ltb-false, leb-true, false≢true, eqb-true, eq-eqb}
 use Rattle.std.proofs.lemmas.Bool.Decides.{nat_tests}
 use Rattle.std.proofs.lemmas.List.Elements.{All-from_get_or}
 use Rattle.std.proofs.lemmas.List.Folds.{list_any_at, list_any_none}
 use Rattle.std.proofs.lemmas.List.Sums.{position_or_len_is}
 use Rattle.std.proofs.lemmas.Option.{slice_get_within, slice_get-get_or, slice_get_cases, get_or_from_slice_get}
 use Rattle.std.specs.List.{list_any, position_or_len}
-use Rattle.std.specs.Option.{option_map}
+use Rattle.std.specs.Option.{option_or}
 use Rattle.goblin_records.specs.declared.sym.Sym.{Sym}
-use Rattle.goblin.specs.Addresses.{IsSymbolAt, SymbolAtComesFirst, is_below, is_nearer, is_nearest, reaches, symbol_at}
-use Rattle.goblin.specs.Addresses.{taken}
+use Rattle.goblin.specs.Addresses.{ContainsFirst, HasNone, IsSymbolAt, LabelsFirst, NoneContains, SymbolAtComesFirst}
+use Rattle.goblin.specs.Addresses.{contains, found_at, has_place, is_below, is_highest, is_nearer, reaches, symbol_at, taken}
 
--- how near a symbol is, as one number: the higher one is nearer, and of two equally high ones the one that reaches past
--- the address
-abbrev pub rank : ℕ → Bool → ℕ
-rank value reach = 2 * value + cond reach 1 0
+-- how near a symbol of some value is to an address, which it isn't above: those that contain the address are nearer than
+-- all others; of those the higher one is nearer, and of others equally high the one of size 0
+abbrev pub rank : ℕ → Bool → Bool → ℕ → ℕ
+rank address true empty value = 2 * address + 2 + value
+rank address false true value = 2 * value + 1
+rank address false false value = 2 * value
 
 abbrev rank_of : ℕ → Sym → ℕ
-rank_of address s = rank s.st_value (reaches address s)
+rank_of address s = rank address (reaches address s) (s.st_size == 0) s.st_value
 
--- how ranks compare, by value and reach
-near_rank : (x y : Bool) (a b : ℕ) → (ltb b a || (eqb b a && not y && x)) ≡ ltb (rank b y) (rank a x)
-near_rank x y a b = grind (arith, nat_tests)
+-- how ranks compare
+near_rank : (address : ℕ) (x y p q : Bool) (a b : ℕ)
+    → a ≤ address → b ≤ address
+    → (if x then not y || ltb b a else not y && (ltb b a || (eqb b a && p && not q)))
+    ≡ ltb (rank address y q b) (rank address x p a)
+near_rank address true true p q a b ha hb = grind (arith, nat_tests)
+near_rank address true false p true a b ha hb = grind (arith, nat_tests)
+near_rank address true false p false a b ha hb = grind (arith, nat_tests)
+near_rank address false true true q a b ha hb = grind (arith, nat_tests)
+near_rank address false true false q a b ha hb = grind (arith, nat_tests)
+near_rank address false false true true a b ha hb = grind (arith, nat_tests)
+near_rank address false false true false a b ha hb = grind (arith, nat_tests)
+near_rank address false false false true a b ha hb = grind (arith, nat_tests)
+near_rank address false false false false a b ha hb = grind (arith, nat_tests)
 
-rank_parts : (x y : Bool) (a b : ℕ) → rank b y ≤ rank a x → (b ≤ a) × (b ≡ a → y ≡ true → x ≡ true)
-rank_parts x y a b h = (grind (arith, nat_tests), λ same reach. grind (arith, nat_tests))
+not_above : (address : ℕ) (s : Sym) → is_below address s ≡ true → s.st_value ≤ address
+not_above address s below =
+    let parts = and_parts (has_place s) (leb s.st_value address) below in
+    leb-true s.st_value address parts.1
 
-rank_le : (x y : Bool) (a b : ℕ) → b ≤ a → (b ≡ a → y ≡ true → x ≡ true) → rank b y ≤ rank a x
-rank_le x y a b h reach = grind (arith, nat_tests)
-
-rank_same : (x y : Bool) (a b : ℕ) → rank b y ≡ rank a x → (b ≡ a) × (y ≡ x)
-rank_same x y a b same = (grind (arith, nat_tests), grind (arith, nat_tests))
-
-by_rank : (address : ℕ) (s other : Sym) → is_nearer address s other ≡ ltb (rank_of address other) (rank_of address s)
-by_rank address s other = near_rank (reaches address s) (reaches address other) s.st_value other.st_value
+by_rank : (address : ℕ) (s other : Sym)
+    → is_below address s ≡ true → is_below address other ≡ true
+    → is_nearer address s other ≡ ltb (rank_of address other) (rank_of address s)
+by_rank address s other below other_below =
+    near_rank address (reaches address s) (reaches address other) (s.st_size == 0) (other.st_size == 0) s.st_value
+    other.st_value (not_above address s below) (not_above address other other_below)
 
 -- ---- a search through the symbols, one after another
 -- this one, with its index, is what is found among the first i
@@ -95,7 +108,7 @@ module _ (address i : ℕ) (symbols : List Sym) (s : Sym) (got : slice_get symbo
   next_one found true tested so =
       let parts = and_parts (is_below address s) (is_nearer address s found.1) tested in
       let higher : rank_of address found.1 < rank_of address s =
-      ltb-true _ _ (sym (by_rank address s found.1) ∙ parts.1) in
+      ltb-true _ _ (sym (by_rank address s found.1 parts.0 so.below) ∙ parts.1) in
       record {
         within = omega arith;
         there = got;
@@ -111,7 +124,7 @@ module _ (address i : ℕ) (symbols : List Sym) (s : Sym) (got : slice_get symbo
     below = so.below;
     highest = λ k other l g b.
         one_of k other (λ x. is_below address x ≡ true → rank_of address x ≤ rank_of address found.1) l g
-        (λ below. ltb-false _ _ (sym (by_rank address s found.1) ∙ rw below at tested))
+        (λ below. ltb-false _ _ (sym (by_rank address s found.1 below so.below) ∙ rw below at tested))
         (λ m below. so.highest k other m g below) b;
     first = so.first;
   }
@@ -136,135 +149,302 @@ found_up_to address symbols (suc i) all =
       | inr past ↦ absurd (omega (arith, past.0))
     ]
 
--- ---- and that is the first of the nearest
-none_passes : (p : Sym → Bool) (symbols : List Sym)
-    → ((k : ℕ) (s : Sym) → slice_get symbols k ≡ Some s → p s ≡ false) → position_or_len p symbols ≡ length symbols
-none_passes p [] none = refl
-none_passes p (s ∷ symbols) none =
-    let rest = none_passes p symbols (λ k x g. none (suc k) x g) in
-    rw (none 0 s refl) (omega (arith, rest))
+-- ---- which is what the law says
+-- a symbol that contains the address has a higher rank than those that don't
+inside_high : (address : ℕ) (y : Bool) (p q : Bool) (a b : ℕ)
+    → a ≤ address → rank address y q b ≤ rank address false p a → y ≡ false
+inside_high address true true q a b ha low = absurd (omega arith)
+inside_high address true false q a b ha low = absurd (omega arith)
+inside_high address false p q a b ha low = refl
 
-not_nearer : (address : ℕ) (s other : Sym) (x : Bool)
-    → (x ≡ true → rank_of address other ≤ rank_of address s) → (x && is_nearer address other s) ≡ false
-not_nearer address s other true low = by_rank address other s ∙ le-ltb _ _ (low refl)
-not_nearer address s other false low = refl
+-- of two that contain it the one of the higher rank is higher
+inside_le : (address : ℕ) (x y p q : Bool) (a b : ℕ)
+    → x ≡ true → y ≡ true → rank address y q b ≤ rank address x p a → b ≤ a
+inside_le address true true p q a b is other_is low = omega arith
+inside_le address false y p q a b is other_is low = absurd (cc)
+inside_le address true false p q a b is other_is low = absurd (cc)
 
-passed_over : (x any : Bool) → (x ≡ true → any ≡ true) → (x && not any) ≡ false
-passed_over true any h = ap not (h refl)
-passed_over false any h = refl
+inside_lt : (address : ℕ) (x y p q : Bool) (a b : ℕ)
+    → x ≡ true → y ≡ true → rank address y q b < rank address x p a → b < a
+inside_lt address true true p q a b is other_is low = omega arith
+inside_lt address false y p q a b is other_is low = absurd (cc)
+inside_lt address true false p q a b is other_is low = absurd (cc)
+
+-- and so for labels
+outside_le : (address : ℕ) (x y p q : Bool) (a b : ℕ)
+    → x ≡ false → y ≡ false → rank address y q b ≤ rank address x p a → b ≤ a
+outside_le address false false true true a b is other_is low = omega arith
+outside_le address false false true false a b is other_is low = omega arith
+outside_le address false false false true a b is other_is low = omega arith
+outside_le address false false false false a b is other_is low = omega arith
+outside_le address true y p q a b is other_is low = absurd (cc)
+outside_le address false true p q a b is other_is low = absurd (cc)
+
+outside_lt : (address : ℕ) (x y p q : Bool) (a b : ℕ)
+    → x ≡ false → y ≡ false → q ≡ true → rank address y q b < rank address x p a → b < a
+outside_lt address false false true true a b is other_is empty low = omega arith
+outside_lt address false false false true a b is other_is empty low = omega arith
+outside_lt address false false p false a b is other_is empty low = absurd (cc)
+outside_lt address true y p q a b is other_is empty low = absurd (cc)
+outside_lt address false true p q a b is other_is empty low = absurd (cc)
+
+-- one of size 0 that isn't above one of another size is lower
+outside_below : (address : ℕ) (x y p q : Bool) (a b : ℕ)
+    → x ≡ false → y ≡ false → p ≡ false → q ≡ true → rank address y q b ≤ rank address x p a → b < a
+outside_below address false false false true a b is other_is some empty low = omega arith
+outside_below address false false true q a b is other_is some empty low = absurd (cc)
+outside_below address false false false false a b is other_is some empty low = absurd (cc)
+outside_below address true y p q a b is other_is some empty low = absurd (cc)
+outside_below address false true p q a b is other_is some empty low = absurd (cc)
+
+and_false : (x y : Bool) → (x ≡ true → y ≡ false) → (x && y) ≡ false
+and_false true y h = h refl
+and_false false y h = refl
 
 module _ (address : ℕ) (symbols : List Sym) where
-  abbrev nearer_than : Sym → Sym → Bool
-  nearer_than s other = is_below address other && is_nearer address other s
-
   module _ (found : ℕ × Sym) (so : IsSoFar address symbols (length symbols) found) where
-    none_nearer : list_any (nearer_than found.1) symbols ≡ false
-    none_nearer = list_any_none (nearer_than found.1) symbols
-        (All-from_get_or (λ x. nearer_than found.1 x ≡ false) symbols found.1
-        (λ k l. let other = get_or symbols k found.1 in
-        not_nearer address found.1 other (is_below address other)
-        (λ b. so.highest k other l (slice_get-get_or symbols k found.1 l) b)))
+    abbrev s : Sym
+    s = found.1
 
-    is_first : (k : ℕ) → k < found.0 → is_nearest address symbols (get_or symbols k found.1) ≡ false
-    is_first k l =
-        let other = get_or symbols k found.1 in
-        let within = so.within in
-        let there : get_or symbols found.0 found.1 ≡ found.1 =
-        get_or_from_slice_get symbols found.0 found.1 found.1 so.there in
-        passed_over (is_below address other) (list_any (nearer_than other) symbols)
-        (λ b. list_any_at (nearer_than other) symbols found.0 found.1 within
-        (ap (nearer_than other) there
-        ∙ and_from _ _ so.below
-        (by_rank address found.1 other
-        ∙ lt-ltb _ _ (so.first k other l (slice_get-get_or symbols k found.1 (omega (arith, l, within))) b))))
+    abbrev inside : Sym → Bool
+    inside other = reaches address other
 
-    is_at : position_or_len (is_nearest address symbols) symbols ≡ found.0
-    is_at =
-        let within = so.within in
-        let there : get_or symbols found.0 found.1 ≡ found.1 =
-        get_or_from_slice_get symbols found.0 found.1 found.1 so.there in
-        position_or_len_is (is_nearest address symbols) symbols found.0 found.1 (omega (arith, within)) is_first
-        (λ l. ap (is_nearest address symbols) there ∙ and_from _ _ so.below (ap not none_nearer))
+    abbrev empty : Sym → Bool
+    empty other = other.st_size == 0
 
-  found_is : (found : Option (ℕ × Sym))
-      → IsFound address symbols (length symbols) found
-      → option_map (λ (x : ℕ × Sym). x.0) found ≡ symbol_at address symbols
-  unfolding symbol_at
-  found_is (Some found) so = rw (is_at found so, lt-ltb found.0 (length symbols) so.within) refl
-  found_is None none =
-      let at : position_or_len (is_nearest address symbols) symbols ≡ length symbols =
-      none_passes (is_nearest address symbols) symbols
-      (λ k s g. ap (λ b. b && not (list_any (nearer_than s) symbols)) (none k s (slice_get_within symbols k s g) g)) in
-      rw (at, le-ltb (length symbols) (length symbols) (omega arith)) refl
+    low : (k : ℕ) (other : Sym)
+        → slice_get symbols k ≡ Some other → is_below address other ≡ true
+        → rank_of address other ≤ rank_of address s
+    low k other g b = so.highest k other (slice_get_within symbols k other g) g b
 
-  -- which says what the law says
+    -- none contains the address if the one that was found doesn't
+    none_contains : inside s ≡ false → NoneContains address symbols
+    none_contains outside k other g =
+        and_false (is_below address other) (inside other)
+        (λ b. inside_high address (inside other) (empty s) (empty other) s.st_value other.st_value
+        (not_above address s so.below)
+        (subst (λ (x : Bool). rank_of address other ≤ rank address x (empty s) s.st_value) outside (low k other g b)))
+
+    outside_of : inside s ≡ false → (k : ℕ) (other : Sym)
+        → slice_get symbols k ≡ Some other → is_below address other ≡ true → inside other ≡ false
+    outside_of outside k other g b = sym (ap (λ (x : Bool). x && inside other) b) ∙ none_contains outside k other g
+
+    final : (x e : Bool)
+        → inside s ≡ x → empty s ≡ e → IsSymbolAt address symbols (if x || e then Some found.0 else None)
+    final true e is size = (
+      s,
+      so.there,
+      inl (record {
+        inside = and_from _ _ so.below is;
+        high = λ k other g c.
+            let parts = and_parts (is_below address other) (inside other) c in
+            inside_le address (inside s) (inside other) (empty s) (empty other) s.st_value other.st_value is parts.1
+            (low k other g parts.0);
+        early = λ k other g c same.
+            elim (cases_lt k found.0) [
+              | inl l ↦
+                  let parts = and_parts (is_below address other) (inside other) c in
+                  let lower = inside_lt address (inside s) (inside other) (empty s) (empty other) s.st_value
+                  other.st_value is parts.1 (so.first k other l g parts.0) in
+                  absurd (omega (arith, lower, same))
+              | inr l ↦ l
+            ];
+      }),
+    )
+    final false true is size = (
+      s,
+      so.there,
+      inr (record {
+        none = none_contains is;
+        below = so.below;
+        empty = eqb-true s.st_size 0 size;
+        high = λ k other g b.
+            outside_le address (inside s) (inside other) (empty s) (empty other) s.st_value other.st_value is
+            (outside_of is k other g b) (low k other g b);
+        early = λ k other g b same none.
+            elim (cases_lt k found.0) [
+              | inl l ↦
+                  let lower = outside_lt address (inside s) (inside other) (empty s) (empty other) s.st_value
+                  other.st_value is (outside_of is k other g b) (eq-eqb other.st_size 0 none)
+                  (so.first k other l g b) in
+                  absurd (omega (arith, lower, same))
+              | inr l ↦ l
+            ];
+      }),
+    )
+    final false false is size = record {
+      none = none_contains is;
+      higher = λ k other g b none. (
+        found.0,
+        s,
+        so.there,
+        so.below,
+        outside_below address (inside s) (inside other) (empty s) (empty other) s.st_value other.st_value is
+            (outside_of is k other g b) size (eq-eqb other.st_size 0 none) (low k other g b),
+      );
+    }
+
   found_comes_first : (found : Option (ℕ × Sym))
-      → IsFound address symbols (length symbols) found
-      → IsSymbolAt address symbols (option_map (λ (x : ℕ × Sym). x.0) found)
-  found_comes_first None none = λ k other g. none k other (slice_get_within symbols k other g) g
-  found_comes_first (Some found) so = (
-    found.1,
-    so.there,
-    so.below,
-    λ k other g b.
-        let s = found.1 in
-        let low = rank_parts (reaches address s) (reaches address other) s.st_value other.st_value
-        (so.highest k other (slice_get_within symbols k other g) g b) in
-        record {
-          high = low.0;
-          reaching = low.1;
-          early = λ same reach.
-              elim (cases_lt k found.0) [
-                | inl l ↦ let lower = so.first k other l g b in
-                    let as_high = ap (λ r. rank other.st_value r) reach ∙ ap (λ v. rank v (reaches address s)) same in
-                    absurd (omega (arith, lower, as_high))
-                | inr l ↦ l
-              ];
-        },
-  )
+      → IsFound address symbols (length symbols) found → IsSymbolAt address symbols (found_at address found)
+  found_comes_first None none = record {
+    none = λ k other g. and_false (is_below address other) (reaches address other)
+        (λ b. absurd (false≢true (sym (none k other (slice_get_within symbols k other g) g) ∙ b)));
+    higher = λ k other g b empty.
+        absurd (false≢true (sym (none k other (slice_get_within symbols k other g) g) ∙ b));
+  }
+  found_comes_first (Some found) so = final found so (reaches address found.1) (found.1.st_size == 0) refl refl
 
-  first_is_found : (answer : Option ℕ)
-      → IsSymbolAt address symbols answer
-      → (found : Option (ℕ × Sym)) × (option_map (λ (x : ℕ × Sym). x.0) found ≡ answer)
-      × IsFound address symbols (length symbols) found
-  first_is_found None none = (None, refl, λ k other l g. none k other g)
-  first_is_found (Some i) at =
-      let s = at.0 in
-      let low : (k : ℕ) (other : Sym)
-      → slice_get symbols k ≡ Some other → is_below address other ≡ true → rank_of address other ≤ rank_of address s =
-      (λ k other g b. let comes = at.3 k other g b in
-      rank_le (reaches address s) (reaches address other) s.st_value other.st_value comes.high comes.reaching) in (
-        Some (i, s),
-        refl,
-        record {
-          within = slice_get_within symbols i s at.1;
-          there = at.1;
-          below = at.2;
-          highest = λ k other l g b. low k other g b;
-          first = λ k other l g b.
-              elim (cases_lt (rank_of address other) (rank_of address s)) [
-                | inl lower ↦ lower
-                | inr as_high ↦
-                    let as_low = low k other g b in
-                    let parts = rank_same (reaches address s) (reaches address other) s.st_value other.st_value
-                    (omega (arith, as_high, as_low)) in
-                    let late = (at.3 k other g b).early parts.0 parts.1 in
-                    absurd (omega (arith, late, l))
-              ];
-        },
-      )
+-- ---- and so does the definition
+-- the first symbol that passes a test
+first_passes : (test : Sym → Bool) (symbols : List Sym) (i : ℕ) (s : Sym)
+    → slice_get symbols i ≡ Some s → test s ≡ true
+    → ((k : ℕ) (other : Sym) → k < i → slice_get symbols k ≡ Some other → test other ≡ false)
+    → position test symbols ≡ Some i
+first_passes test symbols i s got passes before =
+    let within = slice_get_within symbols i s got in
+    let there = get_or_from_slice_get symbols i s s got in
+    let at = position_or_len_is test symbols i s (omega (arith, within))
+    (λ k l. before k (get_or symbols k s) l (slice_get-get_or symbols k s (omega (arith, l, within))))
+    (λ l. ap test there ∙ passes) in
+    rw (at, lt-ltb i (length symbols) within) refl
+
+none_passes : (test : Sym → Bool) (symbols : List Sym)
+    → ((k : ℕ) (s : Sym) → slice_get symbols k ≡ Some s → test s ≡ false)
+    → position_or_len test symbols ≡ length symbols
+none_passes test [] none = refl
+none_passes test (s ∷ symbols) none =
+    let rest = none_passes test symbols (λ k x g. none (suc k) x g) in
+    rw (none 0 s refl) (omega (arith, rest))
+
+no_position : (test : Sym → Bool) (symbols : List Sym)
+    → ((k : ℕ) (s : Sym) → slice_get symbols k ≡ Some s → test s ≡ false) → position test symbols ≡ None
+no_position test symbols none =
+    rw (none_passes test symbols none, le-ltb (length symbols) (length symbols) (omega arith)) refl
+
+not_higher : (x : Bool) (a b : ℕ) → (x ≡ true → b ≤ a) → (x && ltb a b) ≡ false
+not_higher true a b low = le-ltb _ _ (low refl)
+not_higher false a b low = refl
+
+passed_over : (x any : Bool) → any ≡ true → (x && not any) ≡ false
+passed_over true any h = ap not h
+passed_over false any h = refl
+
+module _ (test : Sym → Bool) (symbols : List Sym) (s : Sym) where
+  highest_is : test s ≡ true
+      → ((k : ℕ) (other : Sym)
+      → slice_get symbols k ≡ Some other → test other ≡ true → other.st_value ≤ s.st_value)
+      → is_highest test symbols s ≡ true
+  highest_is passes high =
+      let higher = λ (other : Sym). test other && ltb s.st_value other.st_value in
+      and_from _ _ passes (ap not (list_any_none higher symbols
+      (All-from_get_or (λ x. higher x ≡ false) symbols s
+      (λ k l. let other = get_or symbols k s in
+      not_higher (test other) s.st_value other.st_value
+      (λ t. high k other (slice_get-get_or symbols k s l) t)))))
+
+  highest_is_not : (i : ℕ) (other : Sym)
+      → slice_get symbols i ≡ Some other → test other ≡ true → s.st_value < other.st_value
+      → is_highest test symbols s ≡ false
+  highest_is_not i other got passes lower =
+      let higher = λ (x : Sym). test x && ltb s.st_value x.st_value in
+      let within = slice_get_within symbols i other got in
+      let there = get_or_from_slice_get symbols i other s got in
+      passed_over (test s) (list_any higher symbols)
+      (list_any_at higher symbols i s within (ap higher there ∙ and_from _ _ passes (lt-ltb _ _ lower)))
+
+label_by : (below empty highest : Bool)
+    → (below ≡ true → empty ≡ true → (below && highest) ≡ false) → ((below && highest) && empty) ≡ false
+label_by true true highest lower = ap (λ b. b && true) (lower refl refl)
+label_by true false true lower = refl
+label_by true false false lower = refl
+label_by false empty highest lower = refl
+
+module _ (address : ℕ) (symbols : List Sym) where
+  abbrev is_label : Sym → Bool
+  is_label s = is_highest (is_below address) symbols s && s.st_size == 0
+
+  no_holder : NoneContains address symbols → position (is_highest (contains address) symbols) symbols ≡ None
+  no_holder none =
+      no_position (is_highest (contains address) symbols) symbols
+      (λ k s g. ap (λ b. b && not (list_any (λ other. contains address other && ltb s.st_value other.st_value) symbols))
+      (none k s g))
+
+  not_label : (s : Sym)
+      → (is_below address s ≡ true → s.st_size ≡ 0 → is_highest (is_below address) symbols s ≡ false)
+      → is_label s ≡ false
+  not_label s lower =
+      label_by (has_place s && leb s.st_value address) (s.st_size == 0)
+      (not (list_any (λ other. is_below address other && ltb s.st_value other.st_value) symbols))
+      (λ b e. lower b (eqb-true s.st_size 0 e))
+
+  contains_first : (i : ℕ) (s : Sym)
+      → slice_get symbols i ≡ Some s → ContainsFirst address symbols i s → symbol_at address symbols ≡ Some i
+  unfolding symbol_at
+  contains_first i s got first =
+      let before : (k : ℕ) (other : Sym)
+      → k < i → slice_get symbols k ≡ Some other → is_highest (contains address) symbols other ≡ false =
+      (λ k other l g.
+      and_false (contains address other)
+      (not (list_any (λ x. contains address x && ltb other.st_value x.st_value) symbols))
+      (λ c.
+      let high = first.high k other g c in
+      let lower : other.st_value < s.st_value =
+      elim (cases_lt other.st_value s.st_value) [
+        | inl l ↦ l
+        | inr same ↦ let late = first.early k other g c (omega (arith, high, same)) in absurd (omega (arith, late, l))
+      ] in
+      sym (ap (λ (b : Bool). b && not (list_any (λ x. contains address x && ltb other.st_value x.st_value) symbols)) c)
+      ∙ highest_is_not (contains address) symbols other i s got first.inside lower)) in
+      let at = first_passes (is_highest (contains address) symbols) symbols i s got
+      (highest_is (contains address) symbols s first.inside first.high) before in
+      ap (λ (found : Option ℕ). option_or found (position is_label symbols)) at
+
+  labels_first : (i : ℕ) (s : Sym)
+      → slice_get symbols i ≡ Some s → LabelsFirst address symbols i s → symbol_at address symbols ≡ Some i
+  unfolding symbol_at
+  labels_first i s got first =
+      let before : (k : ℕ) (other : Sym) → k < i → slice_get symbols k ≡ Some other → is_label other ≡ false =
+      (λ k other l g.
+      not_label other (λ b empty.
+      let high = first.high k other g b in
+      let lower : other.st_value < s.st_value =
+      elim (cases_lt other.st_value s.st_value) [
+        | inl l ↦ l
+        | inr same ↦
+            let late = first.early k other g b (omega (arith, high, same)) empty in absurd (omega (arith, late, l))
+      ] in
+      highest_is_not (is_below address) symbols other i s got first.below lower)) in
+      let at = first_passes is_label symbols i s got
+      (and_from _ _ (highest_is (is_below address) symbols s first.below first.high) (eq-eqb s.st_size 0 first.empty))
+      before in
+      ap (λ (found : Option ℕ). option_or found (position is_label symbols)) (no_holder first.none) ∙ at
+
+  has_none : HasNone address symbols → symbol_at address symbols ≡ None
+  unfolding symbol_at
+  has_none has =
+      let no = no_position is_label symbols (λ k s g.
+      not_label s (λ b empty.
+      let higher = has.higher k s g b empty in
+      highest_is_not (is_below address) symbols s higher.0 higher.1 higher.2 higher.3 higher.4)) in
+      ap (λ (found : Option ℕ). option_or found (position is_label symbols)) (no_holder has.none) ∙ no
+
+  at_is : (answer : Option ℕ) → IsSymbolAt address symbols answer → symbol_at address symbols ≡ answer
+  at_is (Some i) (s, got, inl first) = contains_first i s got first
+  at_is (Some i) (s, got, inr first) = labels_first i s got first
+  at_is None none = has_none none
 
 pub symbol_at_comes_first : SymbolAtComesFirst
 symbol_at_comes_first address symbols answer = (
-  (λ is.
+  λ is.
       let end = found_up_to address symbols (length symbols) (omega arith) in
-      subst (IsSymbolAt address symbols) (found_is address symbols end.0 end.1 ∙ is)
-      (found_comes_first address symbols end.0 end.1)),
-  (λ at. let end = first_is_found address symbols answer at in sym (found_is address symbols end.0 end.2) ∙ end.1),
+      let law = found_comes_first address symbols end.0 end.1 in
+      subst (IsSymbolAt address symbols) (sym (at_is address symbols (found_at address end.0) law) ∙ is) law,
+  at_is address symbols answer,
 )
 
 pub found_all : (address : ℕ) (symbols : List Sym) (i : ℕ) (found : Option (ℕ × Sym))
     → i ≡ length symbols → IsFound address symbols i found
-    → option_map (λ (x : ℕ × Sym). x.0) found ≡ symbol_at address symbols
+    → found_at address found ≡ symbol_at address symbols
 found_all address symbols i found all so =
-    found_is address symbols found (subst (λ (n : ℕ). IsFound address symbols n found) all so)
+    sym (at_is address symbols (found_at address found)
+    (found_comes_first address symbols found (subst (λ (n : ℕ). IsFound address symbols n found) all so)))

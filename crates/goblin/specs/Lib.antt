@@ -29,6 +29,7 @@ pub use Rattle.goblin_headers.specs.SectionHeader
 pub use Rattle.goblin_headers.specs.SectionHeaders
 pub use Rattle.goblin_headers.specs.SectionNames
 pub use Rattle.goblin_headers.specs.SegmentNames
+pub use Rattle.goblin_headers.specs.WholePart
 pub use Rattle.goblin_headers.specs.WriteHeader
 pub use Rattle.goblin_records.specs.Nhdr
 pub use Rattle.goblin_records.specs.Reloc
@@ -37,7 +38,6 @@ pub use Rattle.goblin_records.specs.RelocLaws
 pub use Rattle.goblin_records.specs.Sym
 pub use Rattle.goblin_records.specs.SymLaws
 pub use Rattle.goblin_records.specs.SymParts
-pub mod AddressIndex
 pub mod Addresses
 pub mod Note
 pub mod NoteLaws

@@ -1,5 +1,5 @@
 -- Lists of records that are read at once, one after another from an offset on.
-use Rattle.std.specs.Prelude.{◌+◌, ◌/◌, ℕ, zero, suc, nat_lt, List, length, drop, Result, Ok}
+use Rattle.std.specs.Prelude.{◌+◌, ◌-◌, ◌/◌, ℕ, zero, suc, nat_lt, min, List, length, drop, Result, Ok}
 use Rattle.goblin_base.specs.declared.scroll.Error.{Error as Misplaced}
 use Rattle.goblin_base.specs.Refusal.{Refusal, buffer_too_short, misplaced}
 use Rattle.goblin_base.specs.Room.{room_of}
@@ -25,3 +25,7 @@ unfoldable pub records_in : {R : Type 0} → ℕ → (List ℕ → R) → List �
 records_in size read bytes offset count = do
   _ ← refuse_as misplaced (room_of_each (length bytes) offset size count)
   Ok (records size read count (drop offset bytes))
+
+-- how many of `count` such records lie whole in `len` bytes
+abbrev pub whole_of : ℕ → ℕ → ℕ → ℕ → ℕ
+whole_of len start size count = min count ((len - start) / size)

@@ -1,4 +1,3 @@
-pub mod Alone
 pub mod Ascii
 pub mod Container
 pub mod Digited

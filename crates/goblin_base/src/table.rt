@@ -3,8 +3,7 @@ ghost use Rattle.std.specs.Prelude.{◌≡◌, ◌≤◌, ◌*◌, ◌↔◌, Is
 ghost use Rattle.std.specs.Prelude.{take, drop, [], List, length, slice_get, ◌^◌, ℕ, All, flat_map, IsOk};
 ghost use Rattle.std.specs.Iterator.{UpTo, YieldsFirst, item_count};
 ghost use Rattle.std.specs.Iterator.SizeHint.{IsWithinCount};
-ghost use Rattle.goblin_base.specs.Alone.{record_alone, whole_of};
-ghost use Rattle.goblin_base.specs.Eager.{records_from, records_in, room_of_each};
+ghost use Rattle.goblin_base.specs.Eager.{records_from, records_in, room_of_each, whole_of};
 ghost use Rattle.goblin_base.specs.Record.{unless_fault};
 ghost use Rattle.goblin_base.specs.Refusal.{buffer_too_short, Answers, Gives, Refuses};
 ghost use Rattle.goblin_base.specs.Room.{room_of};
@@ -236,31 +235,6 @@ pub fn read_at<R: Record<C>, C: Copy>(bytes: &[u8], place: usize, ctx: C) -> Res
     let size = R::size_with(&ctx);
     room(bytes.len(), place, size)?;
     R::read_record(&bytes[place..place + size], ctx)
-}
-
-/// Reads the record with an index of `count` records that lie one after another from an offset on, whatever the
-/// others are, or returns `None` from `count` on.
-///
-/// # Errors
-///
-/// Fails as [`room`] does if this record doesn't lie in the bytes. An offset past `usize::MAX` is reported as
-/// `usize::MAX`.
-pub fn read_alone<R: Record<C>, C: Copy>(
-    bytes: &[u8],
-    start: usize,
-    count: usize,
-    index: usize,
-    ctx: C,
-) -> Result<Option<R>>
-    ensures { result
-        ≡ record_alone (R.size_of ctx) (R.read ctx) bytes.now start count index }
-{
-    if index >= count {
-        return Ok(None);
-    }
-    let size = R::size_with(&ctx);
-    let offset = start.saturating_add(index.saturating_mul(size));
-    Ok(Some(read_at(bytes, offset, ctx)?))
 }
 
 /// Returns how many of `count` records that lie one after another from an offset on lie whole in `len` bytes.

@@ -1,5 +1,3 @@
-pub mod AddressIndexLemmas
-pub mod AloneLemmas
 pub mod FilledBufferLemmas
 pub mod ListedLemmas
 pub mod OffsetLemmas
@@ -8,6 +6,7 @@ pub mod IndexLemmas
 pub mod NoteLemmas
 pub mod PlaceLemmas
 pub mod SearchLemmas
+pub mod ReadLemmas
 pub mod StepLemmas
 pub mod StringLemmas
 pub mod TextLemmas

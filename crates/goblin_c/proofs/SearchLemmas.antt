@@ -15,9 +15,10 @@ use Rattle.std.specs.Option.{option_map}
 use Rattle.goblin_base.specs.Steps.{◌>>=◌}
 use Rattle.goblin_c.specs.Refused.{RefusalAt}
 use Rattle.goblin_c.specs.declared.types.GoblinSection.{GoblinSection}
-use Rattle.goblin_c.specs.Expected.{each_converted, item_of, sections_expected}
+use Rattle.goblin_c.specs.Expected.{each_converted, first_section, item_of, section_at, sections_expected}
 use Rattle.goblin_c.specs.Types.{section_converted}
-use Rattle.goblin_c.specs.Laws.{FindsFrom, RefusesAll, SectionsByType}
+use Rattle.goblin_c.specs.Laws.{FindsFrom, FindsItemFrom, RefusesAll, SectionsByType}
+use Rattle.goblin.specs.declared.elf.section_header.SectionHeader.{SectionHeader}
 use Rattle.goblin_c.proofs.IndexLemmas.{get_drop}
 
 -- the first item that passes a test, and that none does
@@ -94,13 +95,34 @@ module _ {X Y : Type 0} (convert : X → Y) (IsSo : Y → Type 0) (test : X → 
       λ k y after stored.
       not_so items first k y after stored (λ x found. all_fail test (drop first items) (k - first) x is found)
 
-  from_list : (all : Result (List X) RefusalAt) (first : ℕ) → let call = item_of (each_converted convert all) in
-      FindsFrom first call IsSo (RefusesAll call)
-      (all >>= λ items. Ok (option_map (λ place. first + place) (position test (drop first items))))
-  from_list (Ok items) first =
-      finds (RefusesAll (item_of (each_converted convert (Ok items)))) items first
-      (position test (drop first items)) refl
-  from_list (Err e) first = λ index. refl
+-- the section that is found is the one that a call stores at its index
+pub with_item : (IsSo : GoblinSection → Type 0) (Refuses : RefusalAt → Type 0) (items : List SectionHeader) (first : ℕ)
+    (found : Option ℕ)
+    → FindsFrom first (λ index. Ok (slice_get (map section_converted items) index)) IsSo Refuses (Ok found)
+    → FindsItemFrom first (λ index. Ok (slice_get (map section_converted items) index)) IsSo Refuses
+    (Ok (section_at items found))
+with_item IsSo Refuses items first None is = is
+with_item IsSo Refuses items first (Some i) is =
+    let one = converted_one section_converted items i is.1.0 is.1.1 in
+    rw one.1
+    (is, ap Ok (slice_get-map section_converted items i ∙ ap (option_map section_converted) one.1))
+
+-- the first of all sections that passes a test
+module _ (IsSo : GoblinSection → Type 0) (test : SectionHeader → Bool)
+    (decides : (s : SectionHeader) → Decides (test s) (IsSo (section_converted s))) where
+  pub first_found : (Refuses : RefusalAt → Type 0) (items : List SectionHeader) (first : ℕ)
+      → FindsItemFrom first
+      (λ index. Ok (slice_get (map section_converted items) index)) IsSo Refuses (Ok (first_section test first items))
+  first_found Refuses items first =
+      with_item IsSo Refuses items first (option_map (λ place. first + place) (position test (drop first items)))
+      (finds section_converted IsSo test decides Refuses items first (position test (drop first items)) refl)
+
+  first_of_list : (all : Result (List SectionHeader) RefusalAt) (first : ℕ)
+      → let call = item_of (each_converted section_converted all) in
+      FindsItemFrom first call IsSo (RefusesAll call) (all >>= λ items. Ok (first_section test first items))
+  first_of_list (Ok items) first =
+      first_found (RefusesAll (item_of (each_converted section_converted (Ok items)))) items first
+  first_of_list (Err e) first = λ index. refl
 
 -- a number equals another, or not, by its test
 equal-Decides : (a b : ℕ) → Decides (a == b) (a ≡ b)
@@ -108,6 +130,6 @@ equal-Decides a b = (λ is. grind (arith, nat_tests), λ is. grind (arith, nat_t
 
 pub sections_by_type : SectionsByType
 sections_by_type bytes h sh_type first =
-    from_list section_converted (λ (section : GoblinSection). section.sh_type ≡ sh_type)
+    first_of_list (λ (section : GoblinSection). section.sh_type ≡ sh_type)
     (λ section. section.sh_type == sh_type)
     (λ section. equal-Decides section.sh_type sh_type) (sections_expected bytes h) first

@@ -13,20 +13,21 @@ use Rattle.std.proofs.lemmas.List.{drop-take, length-take, take_min}
 use Rattle.std.proofs.lemmas.Slice.Eq.{bytes_eq-Decides}
 use Rattle.std.proofs.Math.Seq.{drop-drop, take-take}
 use Rattle.std.specs.Bool.{Decides}
-use Rattle.std.specs.Option.{option_map}
 use Rattle.std.specs.List.{before_first, position_or_len}
 use Rattle.goblin_base.specs.Pieces.{piece}
 use Rattle.goblin_base.specs.Steps.{◌>>=◌}
 use Rattle.goblin_base.specs.Strtab.{has_name, is_text_of, plain, range_in}
 use Rattle.goblin_c.specs.Refused.{RefusalAt, refused_at}
 use Rattle.goblin_c.specs.declared.types.GoblinRange.{GoblinRange}
-use Rattle.goblin_c.specs.Expected.{each_converted, is_named, item_of, sections_expected}
+use Rattle.goblin_c.specs.Expected.{each_converted, first_section, is_named, item_of, sections_expected}
 use Rattle.goblin_c.specs.Expected.{string_expected, strings_expected, symbols_expected}
 use Rattle.goblin_c.specs.Types.{section_converted, symbol_converted}
-use Rattle.goblin_c.specs.Laws.{FindsFirst, FindsFrom, IsNameAt, RefusesAll, RefusesEither, SectionsByName}
-use Rattle.goblin_c.specs.Laws.{StringsAreThere}
+use Rattle.goblin_c.specs.Laws.{FindsFirst, IsNameAt, RefusesAll, RefusesEither, SectionsByName}
+use Rattle.goblin_c.specs.Laws.{FindsItemFrom, StringsAreThere}
+use Rattle.goblin_c.specs.declared.types.GoblinSection.{GoblinSection}
+use Rattle.goblin.specs.declared.elf.section_header.SectionHeader.{SectionHeader}
 use Rattle.goblin_c.specs.Laws.{SymbolsByName, bytes_in}
-use Rattle.goblin_c.proofs.SearchLemmas.{finds, from_none}
+use Rattle.goblin_c.proofs.SearchLemmas.{finds, first_found, from_none}
 use Rattle.goblin_c.proofs.StepLemmas.{one_converted}
 
 -- the strings of a range are its bytes, and lie in the file
@@ -165,25 +166,26 @@ module _ {X Y : Type 0} (convert : X → Y) (bytes : List ℕ) (names : GoblinRa
   by_name (Ok items) (Err e) found decides = inr (no_strings bytes names e found)
   by_name (Err e) strings found decides = inl (λ index. refl)
 
-  -- the same from an index on
-  by_name_from : (first : ℕ) (all : Result (List X) RefusalAt) (strings : Result (List ℕ) RefusalAt)
+-- the first section with a name, from an index on
+module _ (bytes : List ℕ) (names : GoblinRange) (HasTheName : GoblinSection → Type 0)
+    (test : List ℕ → SectionHeader → Bool) where
+  sections_named : (first : ℕ) (all : Result (List SectionHeader) RefusalAt) (strings : Result (List ℕ) RefusalAt)
       → strings_expected bytes names ≡ strings
-      → ((read : List ℕ) → strings_expected bytes names ≡ Ok read → (x : X)
-      → Decides (test read x) (HasTheName (convert x)))
-      → FindsFrom first (item_of (each_converted convert all)) HasTheName
-      (RefusesEither (item_of (each_converted convert all)) (string_expected bytes names))
-      (all >>= λ items. strings >>= λ read.
-      Ok (option_map (λ place. first + place) (position (test read) (drop first items))))
-  by_name_from first (Ok items) (Ok read) found decides =
-      finds convert HasTheName (test read) (decides read found)
-      (RefusesEither (item_of (each_converted convert (Ok items))) (string_expected bytes names)) items first
-      (position (test read) (drop first items)) refl
-  by_name_from first (Ok items) (Err e) found decides = inr (no_strings bytes names e found)
-  by_name_from first (Err e) strings found decides = inl (λ index. refl)
+      → ((read : List ℕ) → strings_expected bytes names ≡ Ok read → (s : SectionHeader)
+      → Decides (test read s) (HasTheName (section_converted s)))
+      → let call = item_of (each_converted section_converted all) in
+      FindsItemFrom first call HasTheName (RefusesEither call (string_expected bytes names))
+      (all >>= λ items. strings >>= λ read. Ok (first_section (test read) first items))
+  sections_named first (Ok items) (Ok read) found decides =
+      first_found HasTheName (test read) (decides read found)
+      (RefusesEither (item_of (each_converted section_converted (Ok items))) (string_expected bytes names)) items
+      first
+  sections_named first (Ok items) (Err e) found decides = inr (no_strings bytes names e found)
+  sections_named first (Err e) strings found decides = inl (λ index. refl)
 
 pub sections_by_name : SectionsByName
 sections_by_name bytes h names name first =
-    by_name_from section_converted bytes names (λ section. IsNameAt bytes names section.sh_name name)
+    sections_named bytes names (λ section. IsNameAt bytes names section.sh_name name)
     (λ strings section. is_named strings name section.sh_name) first (sections_expected bytes h)
     (strings_expected bytes names) refl
     (λ strings found section. named-Decides bytes names name strings section.sh_name found)

@@ -6,7 +6,6 @@ use Rattle.goblin_base.specs.Pieces.{piece}
 use Rattle.goblin_base.specs.Refusal.{misplaced}
 use Rattle.goblin_base.specs.Room.{room_of}
 use Rattle.goblin_base.specs.Steps.{◌>>=◌, refuse_as}
-use Rattle.goblin_base.specs.Wanted.{is_piece, starts_piece}
 use Rattle.goblin.specs.SectionHeaders.{is_nobits}
 use Rattle.goblin_c.specs.Refused.{RefusalAt, refused_at}
 use Rattle.goblin_c.specs.Expected.{ctx_of, strings_expected}
@@ -44,17 +43,6 @@ string_bytes_expected bytes range offset = do
   strings ← strings_expected bytes range
   if nat_le (length strings) offset then Ok None
       else Ok (Some (record { offset = range.offset + offset; size = length (piece strings 0 offset) }))
-
--- whether the string at an offset of the strings of a range is a text, or begins with it: an item if so, and else none
-abbrev pub string_is_expected : List ℕ → GoblinRange → ℕ → List ℕ → Result (Option (Unit {0})) RefusalAt
-string_is_expected bytes range offset text = do
-  strings ← strings_expected bytes range
-  Ok (if is_piece strings 0 offset text then Some tt else None)
-
-abbrev pub string_starts_expected : List ℕ → GoblinRange → ℕ → List ℕ → Result (Option (Unit {0})) RefusalAt
-string_starts_expected bytes range offset text = do
-  strings ← strings_expected bytes range
-  Ok (if starts_piece strings 0 offset text then Some tt else None)
 
 -- the widths that numbers of the format have, in bytes
 abbrev pub is_width : ℕ → Bool

@@ -20,6 +20,7 @@ use Rattle.goblin.specs.ProgramHeaders.{program_headers_from}
 use Rattle.goblin.specs.declared.elf.reloc.Reloc.{Reloc}
 use Rattle.goblin.specs.RelocSection.{is_mips64el_in, relocs_of}
 use Rattle.goblin.specs.Symtab.{symtab_of}
+use Rattle.goblin.specs.WholePart.{sections_part, segment_count, segments_part}
 use Rattle.goblin_c.specs.Refused.{RefusalAt, refused_at}
 use Rattle.goblin_c.specs.declared.types.GoblinHeader.{GoblinHeader}
 use Rattle.goblin_c.specs.declared.types.GoblinRange.{GoblinRange}
@@ -84,9 +85,20 @@ sections_from_expected bytes h first = items_from (sections_converted bytes h) f
 abbrev pub section_count_expected : List ℕ → GoblinHeader → Result (Option ℕ) RefusalAt
 section_count_expected bytes h = count_of (sections_converted bytes h)
 
--- the program headers of a file, as the library reads them at once
+-- the program headers of a file, as the library reads them at once, as many as are stated; the number may be refused
+-- at section 0, which then states it
 abbrev pub segments_expected : List ℕ → GoblinHeader → Result (List ProgramHeader) RefusalAt
-segments_expected bytes h = refused_at h.e_phoff (program_headers_from bytes h.e_phoff h.e_phnum (ctx_of h))
+segments_expected bytes h = do
+  count ← refused_at h.e_shoff (refuse_as refusal_of (segment_count bytes h.e_phnum h.e_shoff (ctx_of h)))
+  refused_at h.e_phoff (program_headers_from bytes h.e_phoff count (ctx_of h))
+
+-- the header that counts only what lies whole in the file
+abbrev pub whole_header : List ℕ → GoblinHeader → GoblinHeader
+whole_header bytes h = let part = sections_part bytes h.e_shoff h.e_shnum (ctx_of h) in record h {
+  e_shoff = part.offset;
+  e_shnum = part.count;
+  e_phnum = segments_part bytes h.e_phnum h.e_phoff h.e_shoff (ctx_of h);
+}
 
 -- they for C, one by its index, and how many there are
 abbrev pub segments_converted : List ℕ → GoblinHeader → Result (List GoblinSegment) RefusalAt
@@ -98,11 +110,20 @@ segment_expected bytes h index = item_of (segments_converted bytes h) index
 abbrev pub segment_count_expected : List ℕ → GoblinHeader → Result (Option ℕ) RefusalAt
 segment_count_expected bytes h = count_of (segments_converted bytes h)
 
--- the index of the first section of a type, from an index on
-abbrev pub section_by_type_expected : List ℕ → GoblinHeader → ℕ → ℕ → Result (Option ℕ) RefusalAt
+-- the index and the item for C of the first section that passes a test, from an index on
+abbrev pub section_at : List SectionHeader → Option ℕ → Option (ℕ × GoblinSection)
+section_at sections None = None
+section_at sections (Some index) = option_map (λ s. (index, section_converted s)) (slice_get sections index)
+
+abbrev pub first_section : (SectionHeader → Bool) → ℕ → List SectionHeader → Option (ℕ × GoblinSection)
+first_section test first sections =
+    section_at sections (option_map (λ place. first + place) (position test (drop first sections)))
+
+-- the first section of a type, from an index on, and its index
+abbrev pub section_by_type_expected : List ℕ → GoblinHeader → ℕ → ℕ → Result (Option (ℕ × GoblinSection)) RefusalAt
 section_by_type_expected bytes h sh_type first = do
   sections ← sections_expected bytes h
-  Ok (option_map (λ place. first + place) (position (λ section. section.sh_type == sh_type) (drop first sections)))
+  Ok (first_section (λ section. section.sh_type == sh_type) first sections)
 
 -- the symbols of a range, as many as lie in it whole
 abbrev pub symbols_expected : List ℕ → GoblinHeader → GoblinRange → Result (List Sym) RefusalAt
@@ -167,14 +188,15 @@ string_expected bytes range offset = do
 abbrev pub is_named : List ℕ → List ℕ → ℕ → Bool
 is_named strings name offset = has_name strings 0 offset name
 
--- the index of the first section with a name, from an index on, and of the first symbol with a name
-abbrev pub section_by_name_expected : List ℕ → GoblinHeader → GoblinRange → List ℕ → ℕ → Result (Option ℕ) RefusalAt
+-- the first section with a name, from an index on, and its index
+abbrev pub section_by_name_expected :
+    List ℕ → GoblinHeader → GoblinRange → List ℕ → ℕ → Result (Option (ℕ × GoblinSection)) RefusalAt
 section_by_name_expected bytes h names name first = do
   sections ← sections_expected bytes h
   strings ← strings_expected bytes names
-  let is_so = λ (section : SectionHeader). is_named strings name section.sh_name in
-      Ok (option_map (λ place. first + place) (position is_so (drop first sections)))
+  Ok (first_section (λ section. is_named strings name section.sh_name) first sections)
 
+-- the index of the first symbol with a name
 abbrev pub symbol_by_name_expected : List ℕ
     → GoblinHeader → GoblinRange → GoblinRange → List ℕ → Result (Option ℕ) RefusalAt
 symbol_by_name_expected bytes h range names name = do

@@ -1,6 +1,6 @@
 -- Laws of the calls: the items that they store one by one are those that the library reads at once.
-use Rattle.std.specs.Prelude.{◌≡◌, ◌≢◌, ◌↔◌, ◌⊎◌, ◌+◌, ◌-◌, ◌/◌, ◌<◌, ◌≤◌, ℕ, zero, suc, min, Bool, List, [], ◌∷◌}
-use Rattle.std.specs.Prelude.{if◌then◌else◌, length, take, drop, slice_get, Option, Some, None, Result, Ok, Err}
+use Rattle.std.specs.Prelude.{◌≡◌, ◌≢◌, ◌⊎◌, ◌+◌, ◌-◌, ◌/◌, ◌<◌, ◌≤◌, ℕ, zero, suc, min, Bool, List, [], ◌∷◌}
+use Rattle.std.specs.Prelude.{if◌then◌else◌, length, take, drop, slice_get, Option, Some, None, Result, Ok, Err, IsOk}
 use Rattle.std.specs.Option.{option_map}
 use Rattle.goblin_base.specs.declared.container.Ctx.{Ctx}
 use Rattle.goblin_base.specs.declared.error.Fault.TheVariants.{InvalidClass, InvalidEndianness}
@@ -20,15 +20,16 @@ use Rattle.goblin.specs.SectionHeaders.{is_table, section_headers_of}
 use Rattle.goblin.specs.declared.elf.sym.Sym.{Sym}
 use Rattle.goblin.specs.Sym.{sym_size}
 use Rattle.goblin.specs.Symtab.{symtab_of}
+use Rattle.goblin.specs.WholePart.{segment_count}
+use Rattle.goblin.specs.declared.elf.program_header.ProgramHeader.{ProgramHeader}
 use Rattle.goblin_c.specs.Refused.{RefusalAt, refused_at}
 use Rattle.goblin_c.specs.Expected.{ctx_of, is_mips64el, section_by_type_expected}
 use Rattle.goblin_c.specs.Expected.{section_count_expected, section_expected, segment_count_expected, segment_expected}
 use Rattle.goblin_c.specs.Expected.{symbol_expected, reloc_expected, string_expected, symbol_count_expected}
 use Rattle.goblin_c.specs.Expected.{reloc_count_expected, sections_from_expected, symbols_from_expected}
 use Rattle.goblin_c.specs.Expected.{relocs_from_expected, section_names_expected, section_by_name_expected}
-use Rattle.goblin_c.specs.Expected.{symbol_by_name_expected, strings_expected, table_expected}
+use Rattle.goblin_c.specs.Expected.{symbol_by_name_expected, strings_expected, table_expected, whole_header}
 use Rattle.goblin_c.specs.Bytes.{section_bytes_expected, segment_bytes_expected, string_bytes_expected}
-use Rattle.goblin_c.specs.Bytes.{string_is_expected, string_starts_expected}
 use Rattle.goblin_c.specs.FilledBuffer.{closed, laid}
 use Rattle.goblin_c.specs.Notes.{note_bytes_expected, note_expected}
 use Rattle.goblin_c.specs.Types.{header_converted, refusal_converted, reloc_converted, section_converted}
@@ -139,13 +140,38 @@ SectionsByIndex =
     ReturnsEach section_converted sections (section_expected bytes (header_converted h))
     × ReturnsCount sections (section_count_expected bytes (header_converted h))
 
--- its program headers by index are the library's list, and the count is its length
+-- the program headers of the library's list, of as many as the file states
+abbrev pub segments_in : List ℕ → Header → Ctx → Result (List ProgramHeader) RefusalAt
+segments_in bytes h ctx = do
+  count ← refused_at h.e_shoff (refuse_as refusal_of (segment_count bytes h.e_phnum h.e_shoff ctx))
+  refused_at h.e_phoff (program_headers_from bytes h.e_phoff count ctx)
+
+-- the program headers of a file by index are the library's list, and the count is its length
 abbrev pub SegmentsByIndex : Type 0
 SegmentsByIndex =
     (bytes : List ℕ) (h : Header) (ctx : Ctx) → HasHeader bytes h → NamesContext h ctx
-    → let segments = refused_at h.e_phoff (program_headers_from bytes h.e_phoff h.e_phnum ctx) in
-    ReturnsEach segment_converted segments (segment_expected bytes (header_converted h))
-    × ReturnsCount segments (segment_count_expected bytes (header_converted h))
+    → ReturnsEach segment_converted (segments_in bytes h ctx) (segment_expected bytes (header_converted h))
+    × ReturnsCount (segments_in bytes h ctx) (segment_count_expected bytes (header_converted h))
+
+-- with another header a call isn't refused, and stores what it stores with the plain one if that isn't refused
+abbrev pub KeepsWhatIsRead : {Y : Type 0} → Result (Option Y) RefusalAt → Result (Option Y) RefusalAt → Type 0
+KeepsWhatIsRead plain other = IsOk other × (IsOk plain → other ≡ plain)
+
+-- so it is with the header that counts only what lies whole in the file, for each call that reads headers
+pub record WholeKeeps (bytes : List ℕ) (h : GoblinHeader) : Type 0 where
+  pub section_count :
+      KeepsWhatIsRead (section_count_expected bytes h) (section_count_expected bytes (whole_header bytes h))
+  pub section :
+      (index : ℕ)
+      → KeepsWhatIsRead (section_expected bytes h index) (section_expected bytes (whole_header bytes h) index)
+  pub segment_count :
+      KeepsWhatIsRead (segment_count_expected bytes h) (segment_count_expected bytes (whole_header bytes h))
+  pub segment :
+      (index : ℕ)
+      → KeepsWhatIsRead (segment_expected bytes h index) (segment_expected bytes (whole_header bytes h) index)
+
+abbrev pub WholeHeaderKeeps : Type 0
+WholeHeaderKeeps = (bytes : List ℕ) (h : GoblinHeader) → WholeKeeps bytes h
 
 -- the symbols of the library's table in a range, of as many as lie in it whole
 abbrev pub symbols_in : List ℕ → GoblinRange → Ctx → Result (List Sym) RefusalAt
@@ -261,6 +287,15 @@ FindsFrom {Y} first call IsSo Refuses (Ok None) =
     (k : ℕ) (item : Y) → first ≤ k → call k ≡ Ok (Some item) → ¬ IsSo item
 FindsFrom first call IsSo Refuses (Err refusal) = Refuses refusal
 
+-- a result is such an index with the item there
+abbrev pub FindsItemFrom :
+    {Y : Type 0} → ℕ → (ℕ → Result (Option Y) RefusalAt) → (Y → Type 0) → (RefusalAt → Type 0)
+    → Result (Option (ℕ × Y)) RefusalAt → Type 0
+FindsItemFrom first call IsSo Refuses (Ok (Some found)) =
+    FindsFrom first call IsSo Refuses (Ok (Some found.0)) × (call found.0 ≡ Ok (Some found.1))
+FindsItemFrom first call IsSo Refuses (Ok None) = FindsFrom first call IsSo Refuses (Ok None)
+FindsItemFrom first call IsSo Refuses (Err refusal) = Refuses refusal
+
 -- a refusal is that of all items, or of all strings
 abbrev pub RefusesEither :
     {Y Z : Type 0} → (ℕ → Result (Option Y) RefusalAt) → (ℕ → Result (Option Z) RefusalAt) → RefusalAt → Type 0
@@ -278,7 +313,8 @@ SectionsByName =
     (bytes : List ℕ) (h : GoblinHeader) (names : GoblinRange) (name : List ℕ) (first : ℕ)
     → let HasTheName = λ (section : GoblinSection). IsNameAt bytes names section.sh_name name in
     let Refuses = RefusesEither (section_expected bytes h) (string_expected bytes names) in
-    FindsFrom first (section_expected bytes h) HasTheName Refuses (section_by_name_expected bytes h names name first)
+    FindsItemFrom first (section_expected bytes h) HasTheName Refuses
+    (section_by_name_expected bytes h names name first)
 
 abbrev pub SymbolsByName : Type 0
 SymbolsByName =
@@ -293,7 +329,7 @@ SectionsByType =
     (bytes : List ℕ) (h : GoblinHeader) (sh_type first : ℕ)
     → let IsOfType = λ (section : GoblinSection). section.sh_type ≡ sh_type in
     let found = section_by_type_expected bytes h sh_type first in
-    FindsFrom first (section_expected bytes h) IsOfType (RefusesAll (section_expected bytes h)) found
+    FindsItemFrom first (section_expected bytes h) IsOfType (RefusesAll (section_expected bytes h)) found
 
 -- the ranges that are stored for bytes lie in the file
 pub record BytesLieInFile : Type 0 where
@@ -319,16 +355,6 @@ TextIsClosed =
     (text old : List ℕ) → length text < length old
     → (take (length text) (laid (closed text) old) ≡ text)
     × (slice_get (laid (closed text) old) (length text) ≡ Some 0)
-
--- a call reports that a string is a text, or begins with one, where the bytes of the range that is stored for it are
--- this text, or begin with it
-abbrev pub StringsAreCompared : Type 0
-StringsAreCompared =
-    (bytes : List ℕ) (range : GoblinRange) (offset : ℕ) (text : List ℕ) (found : GoblinRange)
-    → string_bytes_expected bytes range offset ≡ Ok (Some found)
-    → (string_is_expected bytes range offset text ≡ Ok (Some tt) ↔ (bytes_in bytes found ≡ text))
-    × (string_starts_expected bytes range offset text ≡ Ok (Some tt)
-    ↔ (take (length text) (bytes_in bytes found) ≡ text))
 
 -- a note that a call stores, and whose descriptor lies in the range, is the one that is stored as a whole note; only
 -- its name is longer, by the byte that closes it

@@ -1,8 +1,6 @@
-pub mod Alone
 pub mod Bytes
 pub mod Expected
 pub mod FilledBuffer
-pub mod Index
 pub mod Laws
 pub mod Layout
 pub mod Notes
@@ -13,3 +11,4 @@ pub mod Status
 pub mod TextLaws
 pub mod Texts
 pub mod Types
+pub mod Write

@@ -20,6 +20,12 @@ Stores (Ok None) old was status new why = (status ≡ END) × (new ≡ old) × (
 Stores (Err refusal) old was status new why =
     (status ≡ (refusal_converted refusal).kind) × (new ≡ old) × (why ≡ refusal_converted refusal)
 
+-- The same of an index and the item there: both are stored, or neither.
+abbrev pub StoresBoth : {X Y : Type 0}
+    → Result (Option (X × Y)) RefusalAt → X → Y → GoblinRefusal → ℕ → X → Y → GoblinRefusal → Type 0
+StoresBoth expected first second was status new_first new_second why =
+    Stores expected (first, second) was status (new_first, new_second) why
+
 -- What a call returns and stores that fills a buffer with the items from an index on: 0, as many items as the buffer
 -- holds, and how many those are; 1 past the last item; or the number of the kind, and the refusal. All else is
 -- unchanged.

@@ -12,7 +12,7 @@ use Rattle.goblin_base.specs.Texts.{refusal_text}
 use Rattle.goblin.specs.Note.{places_at, read_places}
 use Rattle.goblin.specs.ReadHeader.{read_header}
 use Rattle.goblin.specs.SectionHeaders.{section_headers_from, section_headers_from_tested}
-use Rattle.goblin_c.specs.Refused.{RefusalAt, refused_at}
+use Rattle.goblin_c.specs.Refused.{RefusalAt}
 use Rattle.goblin_c.specs.declared.types.GoblinHeader.{GoblinHeader}
 use Rattle.goblin_c.specs.declared.types.GoblinRange.{GoblinRange}
 use Rattle.goblin_c.specs.declared.types.GoblinSection.{GoblinSection}
@@ -28,11 +28,8 @@ use Rattle.goblin_c.specs.Expected.{symbol_by_name_expected, symbol_count_expect
 use Rattle.goblin_c.specs.Expected.{symbols_from_expected, symbols_expected}
 use Rattle.goblin_c.specs.Expected.{count_of, each_converted, item_of, items_from, table_expected}
 use Rattle.goblin_c.specs.Bytes.{number_expected, section_bytes_expected, segment_bytes_expected, string_bytes_expected}
-use Rattle.goblin_c.specs.Bytes.{string_is_expected, string_starts_expected}
-use Rattle.goblin_c.specs.Alone.{section_alone_expected, segment_alone_expected, whole_sections_expected}
 use Rattle.goblin_c.specs.Notes.{note_expected}
-use Rattle.goblin_c.specs.Places.{address_to_offset_expected, bytes_by_name_expected, number_in_expected}
-use Rattle.goblin_c.specs.Places.{section_place_expected, segment_place_expected, symbol_place_expected}
+use Rattle.goblin_c.specs.Places.{address_to_offset_expected, number_in_expected}
 use Rattle.goblin_c.specs.Types.{refusal_converted, reloc_converted, section_converted, segment_converted}
 use Rattle.goblin_c.specs.Types.{symbol_converted}
 use Rattle.goblin_c.specs.Texts.{NamesKnown, TextIsSame, converted_text}
@@ -154,18 +151,9 @@ pub record HaveSameText
   pub section_bytes : HasSameText (section_bytes_expected bytes s)
   pub segment_bytes : HasSameText (segment_bytes_expected bytes p)
   pub string_bytes : HasSameText (string_bytes_expected bytes range offset)
-  pub string_is : HasSameText (string_is_expected bytes range offset name)
-  pub string_starts : HasSameText (string_starts_expected bytes range offset name)
   pub number : HasSameText (number_expected bytes h offset width)
-  pub section_alone : HasSameText (section_alone_expected bytes h index)
-  pub segment_alone : HasSameText (segment_alone_expected bytes h index)
-  pub whole_sections : HasSameText (whole_sections_expected bytes h)
-  pub section_place : HasSameText (section_place_expected bytes h index)
-  pub segment_place : HasSameText (segment_place_expected bytes h index)
-  pub symbol_place : HasSameText (symbol_place_expected bytes h range index)
   pub number_in : HasSameText (number_in_expected bytes h range offset width)
   pub address_to_offset : HasSameText (address_to_offset_expected bytes h address)
-  pub bytes_by_name : HasSameText (bytes_by_name_expected bytes h names name)
 
 -- so does each refusal of each call
 abbrev pub RefusalsHaveSameText : Type 0
@@ -209,19 +197,8 @@ refusals_have_same_text bytes h range names name is_rela index offset address al
       section_bytes = same_text (section_bytes_expected bytes s) (grind (arith, known_room));
       segment_bytes = same_text (segment_bytes_expected bytes p) (grind (arith, known_room));
       string_bytes = same_text (string_bytes_expected bytes range offset) (known_string_bytes bytes range offset);
-      string_is = same_text (string_is_expected bytes range offset name) (grind (arith, known_strings bytes range));
-      string_starts =
-          same_text (string_starts_expected bytes range offset name) (grind (arith, known_strings bytes range));
       number = same_text (number_expected bytes h offset width) (grind (arith, known_room));
-      section_alone = same_text (section_alone_expected bytes h index) (grind (arith, known_room));
-      segment_alone = same_text (segment_alone_expected bytes h index) (grind (arith, known_room));
-      whole_sections = same_text (whole_sections_expected bytes h) (grind (arith, known_room));
-      section_place = same_text (section_place_expected bytes h index) (grind (arith, sections));
-      segment_place = same_text (segment_place_expected bytes h index) (grind (arith, known_segments bytes h));
-      symbol_place = same_text (symbol_place_expected bytes h range index) (grind (arith, symbols));
       number_in = same_text (number_in_expected bytes h range offset width) (grind (arith, known_room));
       address_to_offset = same_text (address_to_offset_expected bytes h address)
           (grind (arith, known_segments bytes h, known_room));
-      bytes_by_name = same_text (bytes_by_name_expected bytes h names name)
-          (grind (arith, sections, strings, known_room));
     }

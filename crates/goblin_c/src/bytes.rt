@@ -4,7 +4,7 @@ ghost use Rattle.goblin.specs.Refusal.{misplaced};
 ghost use Rattle.goblin.specs.Room.{room_of};
 ghost use Rattle.goblin.specs.Steps.{refuse_as};
 ghost use Rattle.goblin_c.specs.Refused.{Answers, refused_at};
-ghost use Rattle.goblin_c.specs.Bytes.{is_width, number_expected, range_expected, section_bytes_expected, segment_bytes_expected, string_bytes_expected, string_is_expected, string_starts_expected};
+ghost use Rattle.goblin_c.specs.Bytes.{is_width, number_expected, range_expected, section_bytes_expected, segment_bytes_expected, string_bytes_expected};
 
 use crate::headers::ctx_of;
 use crate::refused::{Refused, Result};
@@ -14,7 +14,7 @@ use goblin::elf::program_header::PT_NULL;
 use goblin::elf::section_header::{SHT_NOBITS, SHT_NULL};
 use goblin_base::number::{get_u8, get_u16, get_u32, get_u64};
 use goblin_base::room::room;
-use goblin_base::strtab::{is_piece, piece_len, starts_piece};
+use goblin_base::strtab::piece_len;
 
 /// Tests that some bytes lie in the file.
 pub fn fits(bytes: &[u8], offset: u64, size: u64) -> Result<()>
@@ -74,37 +74,6 @@ pub fn string_bytes(bytes: &[u8], range: &GoblinRange, offset: u64) -> Result<Op
         offset: range.offset + offset,
         size: piece_len(strings, start, 0) as u64,
     }))
-}
-
-/// Returns whether the string at an offset of a string table is a text, UTF-8 or not.
-pub fn string_is(bytes: &[u8], range: &GoblinRange, offset: u64, text: &[u8]) -> Result<Option<()>>
-    ensures { Answers (λ found. found) result
-        (string_is_expected bytes.now range.now offset text.now) }
-{
-    let strings = string_table_bytes(bytes, range)?;
-    Ok(if is_piece(strings, 0, offset as usize, text) {
-        Some(())
-    } else {
-        None
-    })
-}
-
-/// Returns whether the string at an offset of a string table begins with a text, UTF-8 or not.
-pub fn string_starts(
-    bytes: &[u8],
-    range: &GoblinRange,
-    offset: u64,
-    text: &[u8],
-) -> Result<Option<()>>
-    ensures { Answers (λ found. found) result
-        (string_starts_expected bytes.now range.now offset text.now) }
-{
-    let strings = string_table_bytes(bytes, range)?;
-    Ok(if starts_piece(strings, 0, offset as usize, text) {
-        Some(())
-    } else {
-        None
-    })
 }
 
 /// Reports whether numbers of the format have this width in bytes.

@@ -26,23 +26,23 @@ const STRINGS: GoblinRange = GoblinRange {
 
 // The file's header.
 fn header() -> GoblinHeader {
-    called!(goblin_c_header(FILE), marked_layout().header).1
+    called!(goblin_header(FILE), marked_layout().header).1
 }
 
 fn segment_count() -> (u32, u64) {
-    let (status, count, _) = called!(goblin_c_segment_count(FILE, &header()), 9);
+    let (status, count, _) = called!(goblin_segment_count(FILE, &header()), 9);
     (status, count)
 }
 
 // The answer for the symbols of a range, with how many they are and the refusal's first number.
 fn symbol_count(symbols: &GoblinRange) -> (u32, u64, u64) {
-    let (status, count, why) = called!(goblin_c_symbol_count(FILE, &header(), symbols), 9);
+    let (status, count, why) = called!(goblin_symbol_count(FILE, &header(), symbols), 9);
     (status, count, why.first)
 }
 
 fn reloc_count(is_rela: bool) -> (u32, u64) {
     let (status, count, _) = called!(
-        goblin_c_reloc_count(FILE, &header(), &range(124, 23), is_rela),
+        goblin_reloc_count(FILE, &header(), &range(124, 23), is_rela),
         9
     );
     (status, count)
@@ -61,21 +61,29 @@ fn refuses_symbols_at_the_end(rt: HostRuntime) {
     assert!(rt; symbol_count(&range(308, 0)) == (17, 9, 308));
 }
 
-// The answer and the index of the first section of a type, from an index on.
-fn of_type(sh_type: u32, first: u64) -> (u32, u64) {
-    let (status, index, _) = called!(goblin_c_section_by_type(FILE, &header(), sh_type, first), 9);
-    (status, index)
+// The answer and the index of the first section of a type, from an index on, and where its bytes begin.
+fn of_type(sh_type: u32, first: u64) -> (u32, u64, u64) {
+    let (mut index, mut section, mut why) = (9, marked_layout().section, marked_layout().refusal);
+    section.file.offset = 9;
+    let status = goblin_section_by_type(
+        FILE,
+        &header(),
+        sh_type,
+        first,
+        &mut index,
+        &mut section,
+        &mut why,
+    );
+    (status, index, section.file.offset)
 }
 
 #[test]
 fn finds_sections_by_type(rt: HostRuntime) {
-    assert!(rt; of_type(3, 0) == (0, 1) && of_type(3, 1) == (0, 1) && of_type(3, 2) == (0, 3));
-    assert!(rt; of_type(0, 0) == (0, 0) && of_type(8, 2) == (0, 2));
-    assert!(rt;
-        of_type(3, 4) == (1, 9)
-            && of_type(9, 0) == (1, 9)
-            && of_type(3, 18446744073709551615) == (1, 9)
-    );
+    assert!(rt; of_type(3, 0) == (0, 1, 116) && of_type(3, 1) == (0, 1, 116));
+    assert!(rt; of_type(3, 2) == (0, 3, 300));
+    assert!(rt; of_type(0, 0) == (0, 0, 0) && of_type(8, 2) == (0, 2, 116));
+    assert!(rt; of_type(3, 4) == (1, 9, 9) && of_type(9, 0) == (1, 9, 9));
+    assert!(rt; of_type(3, 18446744073709551615) == (1, 9, 9));
 }
 
 // The answer for some bytes: their range, or the first two numbers of the refusal.
@@ -89,8 +97,8 @@ fn shown((status, found, why): (u32, GoblinRange, GoblinRefusal)) -> (u32, u64, 
 // That for the bytes of a section.
 fn bytes_of_section(index: u64) -> (u32, u64, u64) {
     let mark = marked_layout().section;
-    let (_, section, _) = called!(goblin_c_section(FILE, &header(), index), mark);
-    shown(called!(goblin_c_section_bytes(FILE, &section), range(0, 0)))
+    let (_, section, _) = called!(goblin_section(FILE, &header(), index), mark);
+    shown(called!(goblin_section_bytes(FILE, &section), range(0, 0)))
 }
 
 #[test]
@@ -102,9 +110,9 @@ fn finds_the_bytes_of_sections(rt: HostRuntime) {
 // The same for those of a segment.
 fn bytes_of_segment(index: u64, size: u64) -> (u32, u64, u64) {
     let mark = marked_layout().segment;
-    let (_, mut segment, _) = called!(goblin_c_segment(FILE, &header(), index), mark);
+    let (_, mut segment, _) = called!(goblin_segment(FILE, &header(), index), mark);
     segment.file.size = size;
-    shown(called!(goblin_c_segment_bytes(FILE, &segment), range(0, 0)))
+    shown(called!(goblin_segment_bytes(FILE, &segment), range(0, 0)))
 }
 
 #[test]
@@ -116,7 +124,7 @@ fn finds_the_bytes_of_segments(rt: HostRuntime) {
 
 // The answer for the bytes of a string.
 fn string_in(strings: &GoblinRange, offset: u64) -> (u32, u64, u64) {
-    shown(called!(goblin_c_string_bytes(FILE, strings, offset), range(0, 0)))
+    shown(called!(goblin_string_bytes(FILE, strings, offset), range(0, 0)))
 }
 
 #[test]
@@ -128,24 +136,6 @@ fn finds_strings_that_are_not_utf8(rt: HostRuntime) {
     );
 }
 
-// Whether the string at an offset is a text, and whether it begins with it: the statuses.
-fn compared(offset: u64, text: &[u8]) -> (u32, u32) {
-    let mut why = marked_layout().refusal;
-    let is = goblin_c_string_is(FILE, &STRINGS, offset, text, &mut why);
-    (
-        is,
-        goblin_c_string_starts(FILE, &STRINGS, offset, text, &mut why),
-    )
-}
-
-#[test]
-fn compares_strings(rt: HostRuntime) {
-    assert!(rt; compared(1, b"ab") == (0, 0) && compared(1, b"a") == (1, 0));
-    assert!(rt; compared(4, b"\xff\xfe") == (0, 0) && compared(4, b"\xff\xfe\0") == (1, 1));
-    assert!(rt; compared(7, b"c") == (0, 0) && compared(7, b"cc") == (1, 1));
-    assert!(rt; compared(0, b"") == (0, 0) && compared(8, b"") == (1, 1));
-}
-
 // Where what is refused begins, by the refusal of a call that is refused.
 fn begins<T: Drop>((status, _, why): (u32, T, GoblinRefusal)) -> u64 {
     if status > 1 { why.offset } else { u64::MAX }
@@ -155,14 +145,14 @@ fn begins<T: Drop>((status, _, why): (u32, T, GoblinRefusal)) -> u64 {
 // end, or among symbols past the end.
 fn strings_begin() -> bool {
     let past = &range(300, 9);
-    let in_past = begins(called!(goblin_c_string(FILE, past, 0), range(0, 0)));
-    let no_text = begins(called!(goblin_c_string(FILE, &STRINGS, 4), range(0, 0)));
+    let in_past = begins(called!(goblin_string(FILE, past, 0), range(0, 0)));
+    let no_text = begins(called!(goblin_string(FILE, &STRINGS, 4), range(0, 0)));
     in_past == 300 && no_text == 120
 }
 
 fn searches_begin(symbols: &GoblinRange, names: &GoblinRange) -> u64 {
     begins(called!(
-        goblin_c_symbol_by_name(FILE, &header(), symbols, names, b"ab"),
+        goblin_symbol_by_name(FILE, &header(), symbols, names, b"ab"),
         9
     ))
 }
@@ -171,21 +161,21 @@ fn headers_begin() -> bool {
     let mut header = header();
     header.e_shoff = 300;
     header.e_phoff = 301;
-    let sections = begins(called!(goblin_c_section_count(FILE, &header), 9));
-    let segments = begins(called!(goblin_c_segment_count(FILE, &header), 9));
-    let own = begins(called!(goblin_c_header(&FILE[..51]), header));
+    let sections = begins(called!(goblin_section_count(FILE, &header), 9));
+    let segments = begins(called!(goblin_segment_count(FILE, &header), 9));
+    let own = begins(called!(goblin_header(&FILE[..51]), header));
     own == 0 && sections == 300 && segments == 301
 }
 
 fn parts_begin() -> bool {
     let notes = &range(300, 8);
     let note = begins(called!(
-        goblin_c_note(FILE, &header(), notes, 4, 304),
+        goblin_note(FILE, &header(), notes, 4, 304),
         marked_layout().note
     ));
-    let number = begins(called!(goblin_c_number(FILE, &header(), 305, 4), 9));
+    let number = begins(called!(goblin_number(FILE, &header(), 305, 4), 9));
     let relocs = begins(called!(
-        goblin_c_reloc_count(FILE, &header(), &range(299, 16), false),
+        goblin_reloc_count(FILE, &header(), &range(299, 16), false),
         9
     ));
     note == 304 && number == 305 && relocs == 299
@@ -205,7 +195,7 @@ fn says_where_what_is_refused_begins(rt: HostRuntime) {
 fn number_at(offset: u64, width: u64, order: u8) -> (u32, u64) {
     let mut header = header();
     header.ei_data = order;
-    let (status, value, why) = called!(goblin_c_number(FILE, &header, offset, width), 9);
+    let (status, value, why) = called!(goblin_number(FILE, &header, offset, width), 9);
     if status > 1 {
         return (status, why.first);
     }

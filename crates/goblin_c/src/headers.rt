@@ -1,7 +1,7 @@
 //! The header, the section headers and the program headers, as the library reads them.
 ghost use Rattle.std.specs.Prelude.{◌≡◌, ◌+◌, ◌<◌, ◌==◌, ◌^◌, IfSome, drop, map, position};
 ghost use Rattle.goblin_c.specs.Refused.{Answers};
-ghost use Rattle.goblin_c.specs.Expected.{ctx_of, header_expected, section_by_type_expected, section_names_expected, sections_expected, segments_expected, table_at, table_expected};
+ghost use Rattle.goblin_c.specs.Expected.{ctx_of, header_expected, section_at, section_by_type_expected, section_names_expected, sections_expected, segments_expected, table_at, table_expected, whole_header};
 ghost use Rattle.goblin_c.specs.Types.{section_converted, segment_converted};
 
 use crate::lists::Listed;
@@ -81,22 +81,32 @@ fn find_type(sections: &Table<'_, SectionHeader, Ctx>, sh_type: u32, first: usiz
         .position(|section| section.sh_type == sh_type)
 }
 
-/// Returns the index of the first section of a type, from an index on.
+/// Returns a section that was found, and its index.
+pub fn section_at(
+    sections: &Table<'_, SectionHeader, Ctx>,
+    found: Option<usize>,
+) -> Option<(u64, GoblinSection)>
+    ensures { result ≡ section_at sections.now found }
+{
+    let index = found?;
+    let section = sections.get(index)?;
+    Some((index as u64, convert_section(&section)))
+}
+
+/// Returns the first section of a type, from an index on, and its index.
 pub fn section_by_type(
     bytes: &[u8],
     header: &GoblinHeader,
     sh_type: u32,
     first: u64,
-) -> Result<Option<u64>>
+) -> Result<Option<(u64, GoblinSection)>>
     ensures { Answers (λ found. found) result
         (section_by_type_expected bytes.now header.now sh_type first) }
 {
     let sections = sections_of(bytes, header)?;
     let first = first as usize;
-    match find_type(&sections, sh_type, first) {
-        Some(place) => Ok(Some((first + place) as u64)),
-        None => Ok(None),
-    }
+    let found = find_type(&sections, sh_type, first).map(|place| first + place);
+    Ok(section_at(&sections, found))
 }
 
 // Returns the section at an index for C, if it is a table by that index.
@@ -127,6 +137,21 @@ pub fn section_names(bytes: &[u8], header: &GoblinHeader) -> Result<Option<Gobli
     Ok(converted_table(&sections, index))
 }
 
+/// Returns a copy of a header that counts only the headers that lie whole in the file.
+pub fn whole_header(bytes: &[u8], header: &GoblinHeader) -> GoblinHeader
+    ensures { result ≡ whole_header bytes.now header.now }
+{
+    let ctx = ctx_of(header);
+    let (start, offset) = (header.e_shoff as usize, header.e_phoff as usize);
+    let sections = SectionHeader::whole_part(bytes, start, header.e_shnum, ctx);
+    GoblinHeader {
+        e_shoff: sections.offset as u64,
+        e_shnum: sections.count,
+        e_phnum: ProgramHeader::whole_part(bytes, header.e_phnum, offset, start, ctx),
+        ..*header
+    }
+}
+
 /// Returns the program headers.
 #[inline(always)]
 pub fn segments_of<'a>(
@@ -135,8 +160,11 @@ pub fn segments_of<'a>(
 ) -> Result<Table<'a, ProgramHeader, Ctx>>
     ensures { Answers (λ table. table) result (segments_expected bytes.now header.now) }
 {
-    let count = usize::from(header.e_phnum);
-    let table = ProgramHeader::table(bytes, header.e_phoff as usize, count, ctx_of(header));
+    let ctx = ctx_of(header);
+    let sections = header.e_shoff;
+    let count = ProgramHeader::count_in(bytes, header.e_phnum, sections as usize, ctx);
+    let count = refused_at(sections, count)?;
+    let table = ProgramHeader::table(bytes, header.e_phoff as usize, count, ctx);
     refused_at(header.e_phoff, table)
 }
 

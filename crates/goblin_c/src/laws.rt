@@ -1,7 +1,6 @@
 //! Laws of the calls: the items that they store one by one are those that the library reads at once.
-ghost use Rattle.goblin_c.specs.Index.{IndexFindsSymbols};
 ghost use Rattle.goblin_c.specs.TextLaws.{RefusalsHaveSameText};
-ghost use Rattle.goblin_c.specs.Laws.{StringsAreCompared, WholeNotesAreNotes, TextIsClosed, NotesAreItems, NotesInARow, NotesLieInFile, ContextIsTheHeaders, SectionsByIndex, SegmentsByIndex, SymbolsByIndex, RelocsByIndex, FilledByIndex, BufferIsFilled, NamesByIndex, StringsAreThere, StringsLieInFile, SectionsByName, SymbolsByName, SectionsByType, BytesLieInFile, StringsAreBytes, TablesByIndex, KindsAreAnswers};
+ghost use Rattle.goblin_c.specs.Laws.{WholeHeaderKeeps, WholeNotesAreNotes, TextIsClosed, NotesAreItems, NotesInARow, NotesLieInFile, ContextIsTheHeaders, SectionsByIndex, SegmentsByIndex, SymbolsByIndex, RelocsByIndex, FilledByIndex, BufferIsFilled, NamesByIndex, StringsAreThere, StringsLieInFile, SectionsByName, SymbolsByName, SectionsByType, BytesLieInFile, StringsAreBytes, TablesByIndex, KindsAreAnswers};
 
 /// Laws: calls of `goblin_note` at a range's start and then at each `next` store exactly the notes of the
 /// library's iterator over the range, in its order, up to the end or the first refusal. The ranges that
@@ -43,6 +42,12 @@ pub fn indices()
     ensures relocs { RelocsByIndex }
 {}
 
+/// Law: with the header that `goblin_whole_header` stores, `goblin_section`, `goblin_segment` and the calls that count
+/// them are not refused. What they store with the plain header where it is not refused, they store with this one.
+pub fn whole()
+    ensures { WholeHeaderKeeps }
+{}
+
 /// Laws: `goblin_linked_section` stores what `goblin_section` stores at an index, but nothing at index 0 or of a
 /// section without bytes in the file. `goblin_section_names` stores the table at the index in the header,
 /// or if that is 0xffff at the index that the first section links to.
@@ -70,29 +75,21 @@ pub fn strings()
 
 /// Laws: `goblin_section_by_name` and `goblin_symbol_by_name` store the index of the first item whose
 /// string, at the range that `goblin_string` stores, has the bytes of the name, and return the end if
-/// there is none. They refuse only what the calls for one item or for one string refuse at each index.
+/// there is none. The section that is stored with the index is the one that `goblin_section` stores there. They refuse only what the calls for one item or for one string refuse at each index.
 pub fn searches()
     ensures sections { SectionsByName }
     ensures symbols { SymbolsByName }
 {}
 
-/// Law: `goblin_section_by_type` stores the index of the first section from an index on that has the
-/// type, as `goblin_section` stores it, and returns the end if there is none.
+/// Law: `goblin_section_by_type` stores the first section from an index on that has the type, as
+/// `goblin_section` stores it, with its index, and returns the end if there is none.
 pub fn types()
     ensures { SectionsByType }
 {}
 
 /// Laws: the ranges that `goblin_section_bytes`, `goblin_segment_bytes` and `goblin_string_bytes` store lie
-/// in the file. If `goblin_string` stores a range, `goblin_string_bytes` stores the same one. `goblin_string_is` returns
-/// 0 for a text that the bytes of this range are, and `goblin_string_starts` for one that they begin with.
+/// in the file. If `goblin_string` stores a range, `goblin_string_bytes` stores the same one.
 pub fn places()
     ensures within { BytesLieInFile }
     ensures same { StringsAreBytes }
-    ensures compared { StringsAreCompared }
-{}
-
-/// Law: in the entries that `goblin_address_index` stored, `goblin_symbol_by_address_in` finds for each
-/// address what `goblin_symbol_by_address` finds.
-pub fn address_indices()
-    ensures { IndexFindsSymbols }
 {}

@@ -2,18 +2,16 @@
 //! an earlier one. `faces/c/goblin.h` declares each call, and says what it returns and stores.
 #![tactic(auto)]
 
-ghost use Rattle.std.specs.Prelude.{◌≡◌, ℕ, length, Option, Result};
-ghost use Rattle.goblin_c.specs.Alone.{section_alone_expected, segment_alone_expected, whole_sections_expected, whole_segments_expected};
-ghost use Rattle.goblin_c.specs.Expected.{header_expected, reloc_count_expected, reloc_expected, section_by_type_expected, section_count_expected, section_expected, segment_count_expected, segment_expected, string_expected, symbol_count_expected, symbol_expected, relocs_from_expected, sections_from_expected, symbols_from_expected, section_by_name_expected, section_names_expected, symbol_by_address_expected, symbol_by_name_expected, symbols_expected, table_expected};
-ghost use Rattle.goblin_c.specs.Bytes.{number_expected, section_bytes_expected, segment_bytes_expected, string_bytes_expected, string_is_expected, string_starts_expected};
-ghost use Rattle.goblin_c.specs.Index.{FindsIn, StoresIndex};
+ghost use Rattle.std.specs.Prelude.{◌≡◌, length};
+ghost use Rattle.goblin_c.specs.Expected.{header_expected, reloc_count_expected, reloc_expected, section_by_type_expected, section_count_expected, section_expected, segment_count_expected, segment_expected, string_expected, symbol_count_expected, symbol_expected, relocs_from_expected, sections_from_expected, symbols_from_expected, section_by_name_expected, section_names_expected, symbol_by_address_expected, symbol_by_name_expected, symbols_expected, table_expected, whole_header};
+ghost use Rattle.goblin_c.specs.Bytes.{number_expected, section_bytes_expected, segment_bytes_expected, string_bytes_expected};
 ghost use Rattle.goblin_c.specs.FilledBuffer.{closed, laid};
 ghost use Rattle.goblin_c.specs.Layout.{layout};
 ghost use Rattle.goblin_c.specs.Notes.{StoresNote, note_bytes_expected, note_expected};
-ghost use Rattle.goblin_c.specs.Places.{address_to_offset_expected, bytes_by_name_expected, cut_range, number_in_expected, section_place_expected, segment_place_expected, symbol_place_expected};
-ghost use Rattle.goblin_c.specs.Refused.{RefusalAt};
-ghost use Rattle.goblin_c.specs.Status.{Fills, Stores};
+ghost use Rattle.goblin_c.specs.Places.{address_to_offset_expected, cut_range, number_in_expected};
+ghost use Rattle.goblin_c.specs.Status.{Fills, Stores, StoresBoth};
 ghost use Rattle.goblin_c.specs.Texts.{converted_text};
+ghost use Rattle.goblin_c.specs.Write.{FitsClass, NumberFits, Puts, RelocFits, SectionFits, SegmentFits, SymbolFits, header_put_expected, number_put_expected, reloc_put_expected, section_put_expected, segment_put_expected, symbol_put_expected};
 ghost use Rattle.goblin.specs.HeaderNames.{class_name, type_name as file_type_name};
 ghost use Rattle.goblin.specs.Machines.{machine_name};
 ghost use Rattle.goblin.specs.NoteType.{note_type_name};
@@ -25,9 +23,6 @@ mod bytes;
 #[cfg(test)]
 mod bytes_tests;
 mod headers;
-mod index;
-#[cfg(test)]
-mod index_tests;
 mod kinds;
 mod laws;
 mod layout;
@@ -45,23 +40,25 @@ mod tables;
 mod tests;
 mod texts;
 pub mod types;
+mod write;
+#[cfg(test)]
+mod write_tests;
 mod writer;
 
-use bytes::{number, section_bytes, segment_bytes, string_bytes, string_is, string_starts};
+use bytes::{number, section_bytes, segment_bytes, string_bytes};
 use goblin::elf::header::{class_to_str, et_to_str, machine_to_str};
 use goblin::elf::program_header::pt_to_str;
 use goblin::elf::section_header::{shf_to_str, sht_to_str};
 use goblin::elf::sym::{bind_to_str, type_to_str, visibility_to_str};
-use headers::{header_at, section_by_type, section_names, sections_of, segments_of, table_section};
-use index::{store_index, symbol_by_address_in};
+use headers::{
+    header_at, section_by_type, section_names, sections_of, segments_of, table_section,
+    whole_header,
+};
 use layout::{GoblinLayout, marked_layout};
 use lists::{count_of, item_of, store_from};
 use notes::{note_from, note_type, store_note};
-use places::{
-    address_to_offset, bytes_by_name, cut_range, number_in, section_alone, section_place,
-    segment_alone, segment_place, symbol_place, whole_sections, whole_segments,
-};
-use status::store;
+use places::{address_to_offset, cut_range, number_in};
+use status::{store, store_both};
 use strings::string_at;
 use tables::{
     relocs_of, section_by_name, symbol_by_address, symbol_by_name, symbol_in, symbols_of,
@@ -71,15 +68,16 @@ use types::{
     GoblinHeader, GoblinNote, GoblinRange, GoblinRefusal, GoblinReloc, GoblinSection,
     GoblinSegment, GoblinSymbol,
 };
+use write::{put_header, put_number, put_reloc, put_section, put_segment, put_symbol};
 use writer::write_text;
 
 /// The version of these calls and of their structs.
-pub const VERSION: u32 = 5;
+pub const VERSION: u32 = 6;
 
 /// Returns the version of the library.
 #[unsafe(no_mangle)]
 pub extern "C" fn goblin_version() -> u32
-    ensures { result ≡ 5 }
+    ensures { result ≡ 6 }
 {
     VERSION
 }
@@ -94,7 +92,7 @@ pub extern "C" fn goblin_layout(marks: &mut GoblinLayout)
 
 /// Stores the header at the file's start.
 #[unsafe(no_mangle)]
-pub extern "C" fn goblin_c_header(
+pub extern "C" fn goblin_header(
     bytes: &[u8],
     header: &mut GoblinHeader,
     why: &mut GoblinRefusal,
@@ -104,9 +102,21 @@ pub extern "C" fn goblin_c_header(
     store(header_at(bytes), header, why)
 }
 
+/// Stores a copy of a header that counts only the section headers and program headers that lie whole in the file.
+#[unsafe(no_mangle)]
+pub extern "C" fn goblin_whole_header(
+    bytes: &[u8],
+    header: &GoblinHeader,
+    whole: &mut GoblinHeader,
+)
+    ensures { whole.new ≡ whole_header bytes.now header.now }
+{
+    *whole = whole_header(bytes, header);
+}
+
 /// Stores the number of section headers.
 #[unsafe(no_mangle)]
-pub extern "C" fn goblin_c_section_count(
+pub extern "C" fn goblin_section_count(
     bytes: &[u8],
     header: &GoblinHeader,
     count: &mut u64,
@@ -120,7 +130,7 @@ pub extern "C" fn goblin_c_section_count(
 
 /// Stores the section header at an index.
 #[unsafe(no_mangle)]
-pub extern "C" fn goblin_c_section(
+pub extern "C" fn goblin_section(
     bytes: &[u8],
     header: &GoblinHeader,
     index: u64,
@@ -133,53 +143,9 @@ pub extern "C" fn goblin_c_section(
     store(item_of(sections_of(bytes, header), index), section, why)
 }
 
-/// Stores the section header at an index, whatever the others are.
-#[unsafe(no_mangle)]
-pub extern "C" fn goblin_c_section_alone(
-    bytes: &[u8],
-    header: &GoblinHeader,
-    index: u64,
-    section: &mut GoblinSection,
-    why: &mut GoblinRefusal,
-) -> u32
-    ensures { Stores (section_alone_expected bytes.now header.now index)
-        section.old why.old result section.new why.new }
-{
-    store(section_alone(bytes, header, index), section, why)
-}
-
-/// Stores the number of section headers that lie in the file whole.
-#[unsafe(no_mangle)]
-pub extern "C" fn goblin_c_whole_sections(
-    bytes: &[u8],
-    header: &GoblinHeader,
-    count: &mut u64,
-    why: &mut GoblinRefusal,
-) -> u32
-    ensures { Stores (whole_sections_expected bytes.now header.now)
-        count.old why.old result count.new why.new }
-{
-    store(whole_sections(bytes, header), count, why)
-}
-
-/// Stores the range of the section header at an index.
-#[unsafe(no_mangle)]
-pub extern "C" fn goblin_c_section_place(
-    bytes: &[u8],
-    header: &GoblinHeader,
-    index: u64,
-    place: &mut GoblinRange,
-    why: &mut GoblinRefusal,
-) -> u32
-    ensures { Stores (section_place_expected bytes.now header.now index)
-        place.old why.old result place.new why.new }
-{
-    store(section_place(bytes, header, index), place, why)
-}
-
 /// Stores the program header at an index.
 #[unsafe(no_mangle)]
-pub extern "C" fn goblin_c_segment(
+pub extern "C" fn goblin_segment(
     bytes: &[u8],
     header: &GoblinHeader,
     index: u64,
@@ -192,53 +158,9 @@ pub extern "C" fn goblin_c_segment(
     store(item_of(segments_of(bytes, header), index), segment, why)
 }
 
-/// Stores the program header at an index, whatever the others are.
-#[unsafe(no_mangle)]
-pub extern "C" fn goblin_c_segment_alone(
-    bytes: &[u8],
-    header: &GoblinHeader,
-    index: u64,
-    segment: &mut GoblinSegment,
-    why: &mut GoblinRefusal,
-) -> u32
-    ensures { Stores (segment_alone_expected bytes.now header.now index)
-        segment.old why.old result segment.new why.new }
-{
-    store(segment_alone(bytes, header, index), segment, why)
-}
-
-/// Stores the number of program headers that lie in the file whole.
-#[unsafe(no_mangle)]
-pub extern "C" fn goblin_c_whole_segments(
-    bytes: &[u8],
-    header: &GoblinHeader,
-    count: &mut u64,
-    why: &mut GoblinRefusal,
-) -> u32
-    ensures { Stores (whole_segments_expected bytes.now header.now)
-        count.old why.old result count.new why.new }
-{
-    store(Ok(Some(whole_segments(bytes, header))), count, why)
-}
-
-/// Stores the range of the program header at an index.
-#[unsafe(no_mangle)]
-pub extern "C" fn goblin_c_segment_place(
-    bytes: &[u8],
-    header: &GoblinHeader,
-    index: u64,
-    place: &mut GoblinRange,
-    why: &mut GoblinRefusal,
-) -> u32
-    ensures { Stores (segment_place_expected bytes.now header.now index)
-        place.old why.old result place.new why.new }
-{
-    store(segment_place(bytes, header, index), place, why)
-}
-
 /// Stores the symbol at an index of the table that lies in a range.
 #[unsafe(no_mangle)]
-pub extern "C" fn goblin_c_symbol(
+pub extern "C" fn goblin_symbol(
     bytes: &[u8],
     header: &GoblinHeader,
     table: &GoblinRange,
@@ -253,25 +175,9 @@ pub extern "C" fn goblin_c_symbol(
     store(found, symbol, why)
 }
 
-/// Stores the range of the symbol at an index of the table that lies in a range.
-#[unsafe(no_mangle)]
-pub extern "C" fn goblin_c_symbol_place(
-    bytes: &[u8],
-    header: &GoblinHeader,
-    table: &GoblinRange,
-    index: u64,
-    place: &mut GoblinRange,
-    why: &mut GoblinRefusal,
-) -> u32
-    ensures { Stores (symbol_place_expected bytes.now header.now table.now index)
-        place.old why.old result place.new why.new }
-{
-    store(symbol_place(bytes, header, table, index), place, why)
-}
-
 /// Stores the relocation at an index of those that lie in a range, with addends or without.
 #[unsafe(no_mangle)]
-pub extern "C" fn goblin_c_reloc(
+pub extern "C" fn goblin_reloc(
     bytes: &[u8],
     header: &GoblinHeader,
     relocs: &GoblinRange,
@@ -289,7 +195,7 @@ pub extern "C" fn goblin_c_reloc(
 
 /// Stores the range in the file of the string at an offset of a string table.
 #[unsafe(no_mangle)]
-pub extern "C" fn goblin_c_string(
+pub extern "C" fn goblin_string(
     bytes: &[u8],
     strings: &GoblinRange,
     offset: u64,
@@ -305,7 +211,7 @@ pub extern "C" fn goblin_c_string(
 /// Stores the note at an offset of the file, among those of a range. The first one is at the range's
 /// start, and each has the offset of the next one.
 #[unsafe(no_mangle)]
-pub extern "C" fn goblin_c_note(
+pub extern "C" fn goblin_note(
     bytes: &[u8],
     header: &GoblinHeader,
     notes: &GoblinRange,
@@ -321,10 +227,10 @@ pub extern "C" fn goblin_c_note(
     store(found, note, why)
 }
 
-/// Stores the note at an offset of the file as `goblin_c_note` does, but with all of its name, UTF-8 or not, if the note
+/// Stores the note at an offset of the file as `goblin_note` does, but with all of its name, UTF-8 or not, if the note
 /// lies in the range whole.
 #[unsafe(no_mangle)]
-pub extern "C" fn goblin_c_note_bytes(
+pub extern "C" fn goblin_note_bytes(
     bytes: &[u8],
     header: &GoblinHeader,
     notes: &GoblinRange,
@@ -441,7 +347,7 @@ pub extern "C" fn goblin_refusal_text(why: &GoblinRefusal, text: &mut [u8]) -> u
 
 /// Stores the section headers from an index on, as many as the buffer holds.
 #[unsafe(no_mangle)]
-pub extern "C" fn goblin_c_sections(
+pub extern "C" fn goblin_sections(
     bytes: &[u8],
     header: &GoblinHeader,
     first: u64,
@@ -457,7 +363,7 @@ pub extern "C" fn goblin_c_sections(
 
 /// Stores the symbols from an index on, as many as the buffer holds.
 #[unsafe(no_mangle)]
-pub extern "C" fn goblin_c_symbols(
+pub extern "C" fn goblin_symbols(
     bytes: &[u8],
     header: &GoblinHeader,
     table: &GoblinRange,
@@ -475,7 +381,7 @@ pub extern "C" fn goblin_c_symbols(
 
 /// Stores the relocations from an index on, as many as the buffer holds.
 #[unsafe(no_mangle)]
-pub extern "C" fn goblin_c_relocs(
+pub extern "C" fn goblin_relocs(
     bytes: &[u8],
     header: &GoblinHeader,
     relocs: &GoblinRange,
@@ -495,7 +401,7 @@ pub extern "C" fn goblin_c_relocs(
 /// Stores the section at an index if it can be a table that something names by this index: not index 0,
 /// and not a section of the type without bytes in the file.
 #[unsafe(no_mangle)]
-pub extern "C" fn goblin_c_linked_section(
+pub extern "C" fn goblin_linked_section(
     bytes: &[u8],
     header: &GoblinHeader,
     index: u64,
@@ -510,7 +416,7 @@ pub extern "C" fn goblin_c_linked_section(
 
 /// Stores the section that holds the sections' names, if it is such a table.
 #[unsafe(no_mangle)]
-pub extern "C" fn goblin_c_section_names(
+pub extern "C" fn goblin_section_names(
     bytes: &[u8],
     header: &GoblinHeader,
     section: &mut GoblinSection,
@@ -522,43 +428,28 @@ pub extern "C" fn goblin_c_section_names(
     store(section_names(bytes, header), section, why)
 }
 
-/// Stores the index of the first section with a name, from an index on.
+/// Stores the first section with a name, from an index on, and its index.
 #[unsafe(no_mangle)]
-pub extern "C" fn goblin_c_section_by_name(
+pub extern "C" fn goblin_section_by_name(
     bytes: &[u8],
     header: &GoblinHeader,
     names: &GoblinRange,
     name: &[u8],
     first: u64,
     index: &mut u64,
+    section: &mut GoblinSection,
     why: &mut GoblinRefusal,
 ) -> u32
-    ensures { Stores (section_by_name_expected bytes.now header.now names.now name.now first)
-        index.old why.old result index.new why.new }
+    ensures { StoresBoth (section_by_name_expected bytes.now header.now names.now name.now first)
+        index.old section.old why.old result index.new section.new why.new }
 {
     let found = section_by_name(bytes, header, names, name, first);
-    store(found, index, why)
-}
-
-/// Stores the range of the bytes of the first section with a name.
-#[unsafe(no_mangle)]
-pub extern "C" fn goblin_c_bytes_by_name(
-    bytes: &[u8],
-    header: &GoblinHeader,
-    names: &GoblinRange,
-    name: &[u8],
-    range: &mut GoblinRange,
-    why: &mut GoblinRefusal,
-) -> u32
-    ensures { Stores (bytes_by_name_expected bytes.now header.now names.now name.now)
-        range.old why.old result range.new why.new }
-{
-    store(bytes_by_name(bytes, header, names, name), range, why)
+    store_both(found, index, section, why)
 }
 
 /// Stores the index of the first symbol with a name.
 #[unsafe(no_mangle)]
-pub extern "C" fn goblin_c_symbol_by_name(
+pub extern "C" fn goblin_symbol_by_name(
     bytes: &[u8],
     header: &GoblinHeader,
     table: &GoblinRange,
@@ -576,7 +467,7 @@ pub extern "C" fn goblin_c_symbol_by_name(
 
 /// Stores the number of program headers.
 #[unsafe(no_mangle)]
-pub extern "C" fn goblin_c_segment_count(
+pub extern "C" fn goblin_segment_count(
     bytes: &[u8],
     header: &GoblinHeader,
     count: &mut u64,
@@ -590,7 +481,7 @@ pub extern "C" fn goblin_c_segment_count(
 
 /// Stores the number of symbols in a range, without a last one that is cut.
 #[unsafe(no_mangle)]
-pub extern "C" fn goblin_c_symbol_count(
+pub extern "C" fn goblin_symbol_count(
     bytes: &[u8],
     header: &GoblinHeader,
     table: &GoblinRange,
@@ -605,7 +496,7 @@ pub extern "C" fn goblin_c_symbol_count(
 
 /// Stores the number of relocations in a range, with addends or without.
 #[unsafe(no_mangle)]
-pub extern "C" fn goblin_c_reloc_count(
+pub extern "C" fn goblin_reloc_count(
     bytes: &[u8],
     header: &GoblinHeader,
     relocs: &GoblinRange,
@@ -620,25 +511,27 @@ pub extern "C" fn goblin_c_reloc_count(
     store(found, count, why)
 }
 
-/// Stores the index of the first section of a type, from an index on.
+/// Stores the first section of a type, from an index on, and its index.
 #[unsafe(no_mangle)]
-pub extern "C" fn goblin_c_section_by_type(
+pub extern "C" fn goblin_section_by_type(
     bytes: &[u8],
     header: &GoblinHeader,
     sh_type: u32,
     first: u64,
     index: &mut u64,
+    section: &mut GoblinSection,
     why: &mut GoblinRefusal,
 ) -> u32
-    ensures { Stores (section_by_type_expected bytes.now header.now sh_type first)
-        index.old why.old result index.new why.new }
+    ensures { StoresBoth (section_by_type_expected bytes.now header.now sh_type first)
+        index.old section.old why.old result index.new section.new why.new }
 {
-    store(section_by_type(bytes, header, sh_type, first), index, why)
+    let found = section_by_type(bytes, header, sh_type, first);
+    store_both(found, index, section, why)
 }
 
 /// Stores the range of a section's bytes in the file.
 #[unsafe(no_mangle)]
-pub extern "C" fn goblin_c_section_bytes(
+pub extern "C" fn goblin_section_bytes(
     bytes: &[u8],
     section: &GoblinSection,
     range: &mut GoblinRange,
@@ -652,7 +545,7 @@ pub extern "C" fn goblin_c_section_bytes(
 
 /// Stores the range of a segment's bytes in the file.
 #[unsafe(no_mangle)]
-pub extern "C" fn goblin_c_segment_bytes(
+pub extern "C" fn goblin_segment_bytes(
     bytes: &[u8],
     segment: &GoblinSegment,
     range: &mut GoblinRange,
@@ -666,7 +559,7 @@ pub extern "C" fn goblin_c_segment_bytes(
 
 /// Stores the offset in the file of the byte that is loaded at an address.
 #[unsafe(no_mangle)]
-pub extern "C" fn goblin_c_address_to_offset(
+pub extern "C" fn goblin_address_to_offset(
     bytes: &[u8],
     header: &GoblinHeader,
     address: u64,
@@ -681,7 +574,7 @@ pub extern "C" fn goblin_c_address_to_offset(
 
 /// Stores the range in the file of the string at an offset of a string table, which need not be UTF-8.
 #[unsafe(no_mangle)]
-pub extern "C" fn goblin_c_string_bytes(
+pub extern "C" fn goblin_string_bytes(
     bytes: &[u8],
     strings: &GoblinRange,
     offset: u64,
@@ -694,39 +587,9 @@ pub extern "C" fn goblin_c_string_bytes(
     store(string_bytes(bytes, strings, offset), string, why)
 }
 
-/// Returns whether the string at an offset of a string table is a text.
-#[unsafe(no_mangle)]
-pub extern "C" fn goblin_c_string_is(
-    bytes: &[u8],
-    strings: &GoblinRange,
-    offset: u64,
-    text: &[u8],
-    why: &mut GoblinRefusal,
-) -> u32
-    ensures { Stores (string_is_expected bytes.now strings.now offset text.now)
-        tt why.old result tt why.new }
-{
-    store(string_is(bytes, strings, offset, text), &mut (), why)
-}
-
-/// Returns whether the string at an offset of a string table begins with a text.
-#[unsafe(no_mangle)]
-pub extern "C" fn goblin_c_string_starts(
-    bytes: &[u8],
-    strings: &GoblinRange,
-    offset: u64,
-    text: &[u8],
-    why: &mut GoblinRefusal,
-) -> u32
-    ensures { Stores (string_starts_expected bytes.now strings.now offset text.now)
-        tt why.old result tt why.new }
-{
-    store(string_starts(bytes, strings, offset, text), &mut (), why)
-}
-
 /// Stores the number of 1, 2, 4 or 8 bytes at an offset, in the file's byte order.
 #[unsafe(no_mangle)]
-pub extern "C" fn goblin_c_number(
+pub extern "C" fn goblin_number(
     bytes: &[u8],
     header: &GoblinHeader,
     offset: u64,
@@ -742,7 +605,7 @@ pub extern "C" fn goblin_c_number(
 
 /// Stores the number of 1, 2, 4 or 8 bytes at an offset in a range, in the file's byte order.
 #[unsafe(no_mangle)]
-pub extern "C" fn goblin_c_number_in(
+pub extern "C" fn goblin_number_in(
     bytes: &[u8],
     header: &GoblinHeader,
     range: &GoblinRange,
@@ -767,7 +630,7 @@ pub extern "C" fn goblin_range_in_file(bytes: &[u8], range: &GoblinRange, part: 
 
 /// Stores the index of the symbol for an address. The symbol may end before the address.
 #[unsafe(no_mangle)]
-pub extern "C" fn goblin_c_symbol_by_address(
+pub extern "C" fn goblin_symbol_by_address(
     bytes: &[u8],
     header: &GoblinHeader,
     table: &GoblinRange,
@@ -781,40 +644,99 @@ pub extern "C" fn goblin_c_symbol_by_address(
     store(symbol_by_address(bytes, header, table, address), index, why)
 }
 
-/// Stores an index of the addresses of a table's symbols, and the number of its entries.
+/// Puts the header at the start of the file, in the class and the byte order that it names.
 #[unsafe(no_mangle)]
-pub extern "C" fn goblin_c_address_index(
-    bytes: &[u8],
+pub extern "C" fn goblin_put_header(
+    bytes: &mut [u8],
     header: &GoblinHeader,
-    table: &GoblinRange,
-    indices: &mut [u64],
-    filled: &mut u64,
     why: &mut GoblinRefusal,
 ) -> u32
-    ensures { StoresIndex (symbols_expected bytes.now header.now table.now)
-        indices.old filled.old why.old result indices.new filled.new why.new }
+    ensures { Puts (FitsClass bytes.old header.now) (header_put_expected bytes.old header.now)
+        bytes.old why.old result bytes.new why.new }
 {
-    store_index(bytes, header, table, indices, filled, why)
+    put_header(bytes, header, why)
 }
 
-/// Stores the index of the symbol for an address, by an index of the table's addresses.
+/// Puts the section header at an index.
 #[unsafe(no_mangle)]
-pub extern "C" fn goblin_c_symbol_by_address_in(
-    bytes: &[u8],
+pub extern "C" fn goblin_put_section(
+    bytes: &mut [u8],
     header: &GoblinHeader,
-    table: &GoblinRange,
-    indices: &[u64],
-    address: u64,
-    index: &mut u64,
+    index: u64,
+    section: &GoblinSection,
     why: &mut GoblinRefusal,
 ) -> u32
-    ensures { (found : Result (Option ℕ) RefusalAt)
-        × FindsIn (symbols_expected bytes.now header.now table.now) indices.now address found
-        × Stores found index.old why.old result index.new why.new }
+    ensures { Puts (SectionFits header.now section.now)
+        (section_put_expected bytes.old header.now index section.now)
+        bytes.old why.old result bytes.new why.new }
 {
-    store(
-        symbol_by_address_in(bytes, header, table, indices, address),
-        index,
-        why,
-    )
+    put_section(bytes, header, index, section, why)
+}
+
+/// Puts the program header at an index.
+#[unsafe(no_mangle)]
+pub extern "C" fn goblin_put_segment(
+    bytes: &mut [u8],
+    header: &GoblinHeader,
+    index: u64,
+    segment: &GoblinSegment,
+    why: &mut GoblinRefusal,
+) -> u32
+    ensures { Puts (SegmentFits header.now segment.now)
+        (segment_put_expected bytes.old header.now index segment.now)
+        bytes.old why.old result bytes.new why.new }
+{
+    put_segment(bytes, header, index, segment, why)
+}
+
+/// Puts the symbol at an index of the table that lies in a range.
+#[unsafe(no_mangle)]
+pub extern "C" fn goblin_put_symbol(
+    bytes: &mut [u8],
+    header: &GoblinHeader,
+    table: &GoblinRange,
+    index: u64,
+    symbol: &GoblinSymbol,
+    why: &mut GoblinRefusal,
+) -> u32
+    ensures { Puts (SymbolFits header.now symbol.now)
+        (symbol_put_expected bytes.old header.now table.now index symbol.now)
+        bytes.old why.old result bytes.new why.new }
+{
+    put_symbol(bytes, header, table, index, symbol, why)
+}
+
+/// Puts the relocation at an index of those that lie in a range, with addends or without.
+#[unsafe(no_mangle)]
+pub extern "C" fn goblin_put_reloc(
+    bytes: &mut [u8],
+    header: &GoblinHeader,
+    relocs: &GoblinRange,
+    is_rela: bool,
+    index: u64,
+    reloc: &GoblinReloc,
+    why: &mut GoblinRefusal,
+) -> u32
+    ensures { Puts (RelocFits header.now is_rela reloc.now)
+        (reloc_put_expected bytes.old header.now relocs.now is_rela index reloc.now)
+        bytes.old why.old result bytes.new why.new }
+{
+    put_reloc(bytes, header, relocs, is_rela, index, reloc, why)
+}
+
+/// Puts a number of 1, 2, 4 or 8 bytes at an offset, in the file's byte order.
+#[unsafe(no_mangle)]
+pub extern "C" fn goblin_put_number(
+    bytes: &mut [u8],
+    header: &GoblinHeader,
+    offset: u64,
+    width: u64,
+    value: u64,
+    why: &mut GoblinRefusal,
+) -> u32
+    ensures { Puts (NumberFits width value)
+        (number_put_expected bytes.old header.now offset width value)
+        bytes.old why.old result bytes.new why.new }
+{
+    put_number(bytes, header, offset, width, value, why)
 }

@@ -2,7 +2,7 @@
 ghost use Rattle.std.specs.Prelude.{◌≡◌};
 ghost use Rattle.goblin.specs.Steps.{refuse_as};
 ghost use Rattle.goblin_c.specs.Refused.{refusal_at};
-ghost use Rattle.goblin_c.specs.Status.{Stores};
+ghost use Rattle.goblin_c.specs.Status.{Stores, StoresBoth};
 ghost use Rattle.goblin_c.specs.Types.{refusal_converted};
 
 use crate::kinds::{END, OK};
@@ -30,4 +30,20 @@ pub fn store<T: Copy>(answer: Result<Option<T>>, place: &mut T, why: &mut Goblin
         Ok(None) => END,
         Err(e) => refuse(&e, why),
     }
+}
+
+/// Stores the two items or the refusal of a result, as [`store`] does with one.
+pub fn store_both<T: Copy, U: Copy>(
+    answer: Result<Option<(T, U)>>,
+    first: &mut T,
+    second: &mut U,
+    why: &mut GoblinRefusal,
+) -> u32
+    ensures { StoresBoth (refuse_as refusal_at answer)
+        first.old second.old why.old result first.new second.new why.new }
+{
+    let mut both = (*first, *second);
+    let status = store(answer, &mut both, why);
+    (*first, *second) = both;
+    status
 }

@@ -4,12 +4,13 @@ ghost use Rattle.goblin_c.specs.Refused.{Answers};
 ghost use Rattle.goblin_c.specs.Expected.{ctx_of, relocs_expected, section_by_name_expected, symbol_by_address_expected, symbol_by_name_expected, is_named, symbol_expected, symbols_expected};
 ghost use Rattle.goblin_c.specs.Types.{reloc_converted, symbol_converted};
 
-use crate::headers::{ctx_of, sections_of};
+use crate::headers::{ctx_of, section_at, sections_of};
 use crate::lists::{Listed, item_of};
 use crate::refused::{Result, refused_at};
 use crate::strings::string_table_bytes;
 use crate::types::{
-    GoblinHeader, GoblinRange, GoblinReloc, GoblinSymbol, convert_reloc, convert_symbol,
+    GoblinHeader, GoblinRange, GoblinReloc, GoblinSection, GoblinSymbol, convert_reloc,
+    convert_symbol,
 };
 use goblin::container::{Container, Ctx};
 use goblin::elf::reloc::{RelocSection, is_mips64el_in};
@@ -121,21 +122,21 @@ impl Listed for RelocSection<'_> {
     }
 }
 
-/// Returns the index of the first section with a name, from an index on.
+/// Returns the first section with a name, from an index on, and its index.
 pub fn section_by_name(
     bytes: &[u8],
     header: &GoblinHeader,
     names: &GoblinRange,
     name: &[u8],
     first: u64,
-) -> Result<Option<u64>>
+) -> Result<Option<(u64, GoblinSection)>>
     ensures { Answers (λ found. found) result
         (section_by_name_expected bytes.now header.now names.now name.now first) }
 {
     let sections = sections_of(bytes, header)?;
     let strings = string_table_bytes(bytes, names)?;
     let found = SectionHeader::find_in_from(&sections, first as usize, strings, 0, name);
-    Ok(found.map(|index| index as u64))
+    Ok(section_at(&sections, found))
 }
 
 /// Returns the index of the first symbol with a name.

@@ -40,7 +40,7 @@ pub(crate) use called;
 
 // The file's header, or one of marks where it is refused.
 pub fn header() -> GoblinHeader {
-    called!(goblin_c_header(FILE), marked_layout().header).1
+    called!(goblin_header(FILE), marked_layout().header).1
 }
 
 #[test]
@@ -56,7 +56,7 @@ fn reads_the_header(rt: HostRuntime) {
 
 // Whether a header is refused, by this kind with these numbers.
 fn refuses(bytes: &[u8], kind: u32, first: u64, second: u64) -> bool {
-    let (status, _, why) = called!(goblin_c_header(bytes), marked_layout().header);
+    let (status, _, why) = called!(goblin_header(bytes), marked_layout().header);
     status == kind && why.kind == kind && why.first == first && why.second == second
 }
 
@@ -70,7 +70,7 @@ fn refuses_headers(rt: HostRuntime) {
 // What the section header at an index is: its answer, type, place and link.
 fn section(index: u64) -> (u32, u32, u64, u32) {
     let mark = marked_layout().section;
-    let (status, found, _) = called!(goblin_c_section(FILE, &header(), index), mark);
+    let (status, found, _) = called!(goblin_section(FILE, &header(), index), mark);
     (status, found.sh_type, found.file.offset, found.sh_link)
 }
 
@@ -82,13 +82,13 @@ fn reads_sections(rt: HostRuntime) {
 }
 
 fn count() -> (u32, u64) {
-    let (status, found, _) = called!(goblin_c_section_count(FILE, &header()), 9);
+    let (status, found, _) = called!(goblin_section_count(FILE, &header()), 9);
     (status, found)
 }
 
 fn fills_sections() -> bool {
     let mut found = [marked_layout().section; 4];
-    let (status, filled, _) = called!(goblin_c_sections(FILE, &header(), 1, &mut found), 9);
+    let (status, filled, _) = called!(goblin_sections(FILE, &header(), 1, &mut found), 9);
     status == 0 && filled == 2 && found[0].sh_type == 3 && found[1].sh_type == 2
 }
 
@@ -103,7 +103,7 @@ fn segment_type(index: u64) -> (u32, u32) {
     let mut header = header();
     (header.e_phoff, header.e_phnum) = (52, 1);
     let mark = marked_layout().segment;
-    let (status, found, _) = called!(goblin_c_segment(FILE, &header, index), mark);
+    let (status, found, _) = called!(goblin_segment(FILE, &header, index), mark);
     (status, found.p_type)
 }
 
@@ -116,16 +116,13 @@ fn reads_segments(rt: HostRuntime) {
 // What the symbol at an index is: the answer, its value and its binding and type.
 fn symbol(index: u64) -> (u32, u64, u8) {
     let mark = marked_layout().symbol;
-    let (status, found, _) = called!(goblin_c_symbol(FILE, &header(), &SYMBOLS, index), mark);
+    let (status, found, _) = called!(goblin_symbol(FILE, &header(), &SYMBOLS, index), mark);
     (status, found.st_value, found.st_info)
 }
 
 fn fills_symbols() -> bool {
     let mut found = [marked_layout().symbol; 3];
-    let (status, filled, _) = called!(
-        goblin_c_symbols(FILE, &header(), &SYMBOLS, 1, &mut found),
-        9
-    );
+    let (status, filled, _) = called!(goblin_symbols(FILE, &header(), &SYMBOLS, 1, &mut found), 9);
     status == 0 && filled == 1 && found[0].st_value == 0x1000
 }
 
@@ -139,18 +136,26 @@ fn reads_symbols(rt: HostRuntime) {
 // Where a name is found: the answer and the index.
 fn finds_symbol(name: &[u8]) -> (u32, u64) {
     let (status, index, _) = called!(
-        goblin_c_symbol_by_name(FILE, &header(), &SYMBOLS, &STRINGS, name),
+        goblin_symbol_by_name(FILE, &header(), &SYMBOLS, &STRINGS, name),
         9
     );
     (status, index)
 }
 
-fn finds_section(name: &[u8], first: u64) -> (u32, u64) {
-    let (status, index, _) = called!(
-        goblin_c_section_by_name(FILE, &header(), &STRINGS, name, first),
-        9
+// The same for a section, with its type.
+fn finds_section(name: &[u8], first: u64) -> (u32, u64, u32) {
+    let (mut index, mut section, mut why) = (9, marked_layout().section, marked_layout().refusal);
+    let status = goblin_section_by_name(
+        FILE,
+        &header(),
+        &STRINGS,
+        name,
+        first,
+        &mut index,
+        &mut section,
+        &mut why,
     );
-    (status, index)
+    (status, index, section.sh_type)
 }
 
 #[test]
@@ -159,8 +164,9 @@ fn finds_names(rt: HostRuntime) {
     assert!(rt; finds_symbol(b"g") == (1, 9));
     assert!(rt; finds_symbol(b"f\0") == (1, 9));
     assert!(rt; finds_symbol(b"") == (0, 0));
-    assert!(rt; finds_section(b"", 0) == (0, 0) && finds_section(b"", 1) == (0, 1));
-    assert!(rt; finds_section(b"", 3) == (1, 9) && finds_section(b"f", 0) == (1, 9));
+    assert!(rt; finds_section(b"", 0) == (0, 0, 0) && finds_section(b"", 1) == (0, 1, 3));
+    assert!(rt; finds_section(b"", 2) == (0, 2, 2) && finds_section(b"", 3) == (1, 9, 0x0808_0808));
+    assert!(rt; finds_section(b"f", 0) == (1, 9, 0x0808_0808));
 }
 
 // The file with another byte at a place.
@@ -175,7 +181,7 @@ pub fn changed(place: usize, byte: u8) -> [u8; 208] {
 // Returns the status of the call for the table at an index, and the table's type, or a mark if there is none.
 fn table(bytes: &[u8], index: u64) -> (u32, u32) {
     let mark = marked_layout().section;
-    let (status, found, _) = called!(goblin_c_linked_section(bytes, &header(), index), mark);
+    let (status, found, _) = called!(goblin_linked_section(bytes, &header(), index), mark);
     (status, found.sh_type)
 }
 
@@ -184,7 +190,7 @@ fn names_of(bytes: &[u8], count: u16, index: u16) -> (u32, u32) {
     let mut header = header();
     (header.e_shnum, header.e_shstrndx) = (count, index);
     let mark = marked_layout().section;
-    let (status, found, _) = called!(goblin_c_section_names(bytes, &header), mark);
+    let (status, found, _) = called!(goblin_section_names(bytes, &header), mark);
     (status, found.sh_type)
 }
 
@@ -229,7 +235,7 @@ fn takes_the_size_of_the_first_for_no_names(rt: HostRuntime) {
 
 // Where a string lies: the answer, its offset and its size.
 fn string(offset: u64) -> (u32, u64, u64) {
-    let (status, found, _) = called!(goblin_c_string(FILE, &STRINGS, offset), range(9, 9));
+    let (status, found, _) = called!(goblin_string(FILE, &STRINGS, offset), range(9, 9));
     (status, found.offset, found.size)
 }
 
@@ -248,7 +254,7 @@ static LONG: &[u8; 71] = b"abcdefghijklmnopq\0\
 
 // The answer for a string of these, with its size or the refusal's first number.
 fn long_string(offset: u64) -> (u32, u64) {
-    let (status, found, why) = called!(goblin_c_string(LONG, &range(0, 71), offset), STRINGS);
+    let (status, found, why) = called!(goblin_string(LONG, &range(0, 71), offset), STRINGS);
     if status > 1 {
         return (status, why.first);
     }
@@ -276,17 +282,14 @@ fn is_reloc(found: &GoblinReloc) -> bool {
 
 fn reads_reloc() -> bool {
     let mark = marked_layout().reloc;
-    let (status, found, _) = called!(
-        goblin_c_reloc(RELOC, &header(), &range(0, 12), true, 0),
-        mark
-    );
+    let (status, found, _) = called!(goblin_reloc(RELOC, &header(), &range(0, 12), true, 0), mark);
     status == 0 && is_reloc(&found) && found.has_addend == 1
 }
 
 fn fills_reloc() -> bool {
     let mut found = [marked_layout().reloc; 2];
     let (status, filled, _) = called!(
-        goblin_c_relocs(RELOC, &header(), &range(0, 12), true, 0, &mut found),
+        goblin_relocs(RELOC, &header(), &range(0, 12), true, 0, &mut found),
         9
     );
     status == 0 && filled == 1 && is_reloc(&found[0])
@@ -305,7 +308,7 @@ fn reads_pair(machine: u16, class: u8, order: u8) -> (u32, u64, u32) {
     let mut header = marked_layout().header;
     (header.e_machine, header.ei_class, header.ei_data) = (machine, class, order);
     let mark = marked_layout().reloc;
-    let (status, found, _) = called!(goblin_c_reloc(PAIR, &header, &range(0, 16), false, 0), mark);
+    let (status, found, _) = called!(goblin_reloc(PAIR, &header, &range(0, 16), false, 0), mark);
     (status, found.r_sym, found.r_type)
 }
 
@@ -327,7 +330,7 @@ static EACH: &[u8; 56] = b"\x7fELF\x01\x02\x03\x04\x05\0\0\0\0\0\0\0\
 
 // That header, by which a section and a segment lie after the first 16 bytes.
 fn each_header() -> GoblinHeader {
-    called!(goblin_c_header(EACH), marked_layout().header).1
+    called!(goblin_header(EACH), marked_layout().header).1
 }
 
 fn each_in_place() -> GoblinHeader {
@@ -349,7 +352,7 @@ fn has_each_of_header() -> bool {
 
 fn has_each_of_section() -> bool {
     let mark = marked_layout().section;
-    let (status, s, _) = called!(goblin_c_section(EACH, &each_in_place(), 0), mark);
+    let (status, s, _) = called!(goblin_section(EACH, &each_in_place(), 0), mark);
     let kind = s.sh_name == 0x0102_0304 && s.sh_type == 0x0506_0708 && s.sh_flags == 0x090a_0b0c;
     let place = s.sh_addr == 0x0d0e_0f10 && s.file.offset == 0x1112_1314;
     let links = s.file.size == 0x1516_1718 && s.sh_link == 0x191a_1b1c;
@@ -359,7 +362,7 @@ fn has_each_of_section() -> bool {
 
 fn has_each_of_segment() -> bool {
     let mark = marked_layout().segment;
-    let (status, s, _) = called!(goblin_c_segment(EACH, &each_in_place(), 0), mark);
+    let (status, s, _) = called!(goblin_segment(EACH, &each_in_place(), 0), mark);
     let place = s.p_type == 0x0102_0304 && s.file.offset == 0x0506_0708 && s.p_vaddr == 0x090a_0b0c;
     let size = s.p_paddr == 0x0d0e_0f10 && s.file.size == 0x1112_1314 && s.p_memsz == 0x1516_1718;
     status == 0 && place && size && s.p_flags == 0x191a_1b1c && s.p_align == 0x1d1e_1f20
@@ -368,7 +371,7 @@ fn has_each_of_segment() -> bool {
 fn has_each_of_symbol() -> bool {
     let mark = marked_layout().symbol;
     let (status, s, _) = called!(
-        goblin_c_symbol(EACH, &each_in_place(), &range(16, 16), 0),
+        goblin_symbol(EACH, &each_in_place(), &range(16, 16), 0),
         mark
     );
     let place = s.st_name == 0x0102_0304 && s.st_value == 0x0506_0708 && s.st_size == 0x090a_0b0c;
@@ -378,7 +381,7 @@ fn has_each_of_symbol() -> bool {
 fn has_each_of_reloc() -> bool {
     let mark = marked_layout().reloc;
     let (status, r, _) = called!(
-        goblin_c_reloc(EACH, &each_in_place(), &range(16, 12), true, 0),
+        goblin_reloc(EACH, &each_in_place(), &range(16, 12), true, 0),
         mark
     );
     let place = r.r_offset == 0x0102_0304 && r.r_sym == 0x0005_0607 && r.r_type == 8;
@@ -400,7 +403,7 @@ static NOTE: &[u8; 20] = b"\x04\0\0\0\x04\0\0\0\x03\0\0\0GNU\0\xaa\xbb\xcc\xdd";
 fn note_with(alignment: u64) -> (u32, GoblinNote) {
     let mark = marked_layout().note;
     let (status, found, _) = called!(
-        goblin_c_note(NOTE, &header(), &range(0, 20), alignment, 0),
+        goblin_note(NOTE, &header(), &range(0, 20), alignment, 0),
         mark
     );
     (status, found)
@@ -417,7 +420,7 @@ fn reads_note() -> bool {
 fn whole_note(size: u64) -> (u32, u64, u64) {
     let mark = marked_layout().note;
     let (status, found, why) = called!(
-        goblin_c_note_bytes(NOTE, &header(), &range(0, size), 4, 0),
+        goblin_note_bytes(NOTE, &header(), &range(0, size), 4, 0),
         mark
     );
     if status > 1 {
@@ -450,7 +453,7 @@ fn writes_names(rt: HostRuntime) {
     assert!(rt; machine(62) == (*b"X86_64", 6));
     assert!(rt; machine(258) == (*b"LOONGA", 9));
     assert!(rt; note_type_name(b"CORE", 3) == 11 && note_type_name(b"GNU", 3) == 15);
-    assert!(rt; goblin_version() == 5);
+    assert!(rt; goblin_version() == 6);
 }
 
 // Whether this is the text of a refusal of a kind with these numbers.
@@ -561,7 +564,7 @@ fn closes_texts(rt: HostRuntime) {
 // The text written into a buffer of four bytes, and the length that is returned.
 fn cut_text() -> ([u8; 4], u64) {
     let mut room = [9; 4];
-    let (_, _, why) = called!(goblin_c_header(&FILE[..51]), header());
+    let (_, _, why) = called!(goblin_header(&FILE[..51]), header());
     let len = goblin_refusal_text(&why, &mut room);
     (room, len)
 }

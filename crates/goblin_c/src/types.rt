@@ -1,7 +1,8 @@
 //! The structs that calls share with C, as `goblin.h` declares them. Each field is a number. Beside each struct stand
 //! its conversion from what the library reads, and one with marks, by which C can check the place of each field.
-ghost use Rattle.std.specs.Prelude.{◌≡◌, ◌+◌, ◌<◌, ◌^◌};
+ghost use Rattle.std.specs.Prelude.{◌≡◌, ◌+◌, ◌<◌, ◌≤◌, ◌^◌, length};
 ghost use Rattle.std.specs.Option.{option_map};
+ghost use Rattle.goblin_c.specs.Write.{header_of, reloc_of, section_of, segment_of, symbol_of};
 ghost use Rattle.goblin_c.specs.Refused.{refusal_at};
 ghost use Rattle.goblin_c.specs.Types.{each_byte, header_converted, header_marked, item_number, names_index_of, note_converted, note_marked, range_marked, refusal_converted, refusal_marked, reloc_converted, reloc_marked, section_converted, section_marked, segment_converted, segment_marked, symbol_converted, symbol_marked};
 
@@ -147,6 +148,46 @@ pub(crate) fn convert_header(h: &Header) -> GoblinHeader
     }
 }
 
+// Returns the header from C. The bytes that pad the identification are those of the file.
+pub(crate) fn header_of(bytes: &[u8], h: &GoblinHeader) -> Header
+    requires { 16 ≤ length bytes.now }
+    ensures { result ≡ header_of bytes.now h.now }
+{
+    Header {
+        e_ident: [
+            0x7f,
+            b'E',
+            b'L',
+            b'F',
+            h.ei_class,
+            h.ei_data,
+            h.ei_version,
+            h.ei_osabi,
+            h.ei_abiversion,
+            bytes[9],
+            bytes[10],
+            bytes[11],
+            bytes[12],
+            bytes[13],
+            bytes[14],
+            bytes[15],
+        ],
+        e_type: h.e_type,
+        e_machine: h.e_machine,
+        e_version: h.e_version,
+        e_entry: h.e_entry,
+        e_phoff: h.e_phoff,
+        e_shoff: h.e_shoff,
+        e_flags: h.e_flags,
+        e_ehsize: h.e_ehsize,
+        e_phentsize: h.e_phentsize,
+        e_phnum: h.e_phnum,
+        e_shentsize: h.e_shentsize,
+        e_shnum: h.e_shnum,
+        e_shstrndx: h.e_shstrndx,
+    }
+}
+
 impl GoblinHeader {
     /// Returns the index of the section that holds the section names, if this is the first section.
     pub(crate) fn names_index(&self, first: Option<&SectionHeader>) -> usize
@@ -219,6 +260,24 @@ pub(crate) fn convert_section(s: &SectionHeader) -> GoblinSection
     }
 }
 
+// Returns the section header from C.
+pub(crate) fn section_of(s: &GoblinSection) -> SectionHeader
+    ensures { result ≡ section_of s.now }
+{
+    SectionHeader {
+        sh_name: s.sh_name as usize,
+        sh_type: s.sh_type,
+        sh_flags: s.sh_flags,
+        sh_addr: s.sh_addr,
+        sh_offset: s.file.offset,
+        sh_size: s.file.size,
+        sh_link: s.sh_link,
+        sh_info: s.sh_info,
+        sh_addralign: s.sh_addralign,
+        sh_entsize: s.sh_entsize,
+    }
+}
+
 // Returns a section header whose fields have the marks from 1 on.
 pub(crate) fn marked_section() -> GoblinSection
     ensures { result ≡ section_marked }
@@ -268,6 +327,22 @@ pub(crate) fn convert_segment(s: &ProgramHeader) -> GoblinSegment
     }
 }
 
+// Returns the program header from C.
+pub(crate) fn segment_of(s: &GoblinSegment) -> ProgramHeader
+    ensures { result ≡ segment_of s.now }
+{
+    ProgramHeader {
+        p_type: s.p_type,
+        p_flags: s.p_flags,
+        p_offset: s.file.offset,
+        p_vaddr: s.p_vaddr,
+        p_paddr: s.p_paddr,
+        p_filesz: s.file.size,
+        p_memsz: s.p_memsz,
+        p_align: s.p_align,
+    }
+}
+
 // Returns a program header whose fields have the marks from 1 on.
 pub(crate) fn marked_segment() -> GoblinSegment
     ensures { result ≡ segment_marked }
@@ -309,6 +384,20 @@ pub(crate) fn convert_symbol(s: &Sym) -> GoblinSymbol
     }
 }
 
+// Returns the symbol from C.
+pub(crate) fn symbol_of(s: &GoblinSymbol) -> Sym
+    ensures { result ≡ symbol_of s.now }
+{
+    Sym {
+        st_name: s.st_name as usize,
+        st_info: s.st_info,
+        st_other: s.st_other,
+        st_shndx: s.st_shndx as usize,
+        st_value: s.st_value,
+        st_size: s.st_size,
+    }
+}
+
 // Returns a symbol whose fields have the marks from 1 on.
 pub(crate) fn marked_symbol() -> GoblinSymbol
     ensures { result ≡ symbol_marked }
@@ -346,6 +435,22 @@ pub(crate) fn convert_reloc(r: &Reloc) -> GoblinReloc
         r_addend: r.r_addend.unwrap_or(0),
         r_type: r.r_type,
         has_addend: if r.r_addend.is_some() { 1 } else { 0 },
+    }
+}
+
+// Returns the relocation from C.
+pub(crate) fn reloc_of(r: &GoblinReloc) -> Reloc
+    ensures { result ≡ reloc_of r.now }
+{
+    Reloc {
+        r_offset: r.r_offset,
+        r_addend: if r.has_addend == 0 {
+            None
+        } else {
+            Some(r.r_addend)
+        },
+        r_sym: r.r_sym as usize,
+        r_type: r.r_type,
     }
 }
 

@@ -36,7 +36,7 @@ abbrev pub items : List ℕ
 items = codes "section headers"
 
 -- the bytes hold the first header, and it is the one at the offset
-same_first : (bytes : List ℕ) (offset : ℕ) (ctx : Ctx) (first : SectionHeader)
+pub same_first : (bytes : List ℕ) (offset : ℕ) (ctx : Ctx) (first : SectionHeader)
     → Ok first ≡ read_first bytes offset ctx
     → (room_of (length bytes) offset (section_header_size ctx.container) ≡ Ok tt)
     × (first ≡ section_header_of ctx.container ctx.le (drop offset bytes))

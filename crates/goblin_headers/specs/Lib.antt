@@ -13,5 +13,6 @@ pub mod SectionHeaderLaws
 pub mod SectionHeaders
 pub mod SectionNames
 pub mod SegmentNames
+pub mod WholePart
 pub mod WriteHeader
 pub mod WriteHeaderLaws

@@ -3,8 +3,6 @@ use Rattle.std.specs.Prelude.{◌+◌, ◌-◌, ◌/◌, ◌^◌, ◌&&◌, ◌=
 use Rattle.std.specs.Prelude.{Option, Result}
 use Rattle.std.specs.Option.{option_map}
 use Rattle.goblin_base.specs.declared.container.Ctx.{Ctx}
-use Rattle.goblin_base.specs.declared.error.Error.{Error}
-use Rattle.goblin_base.specs.Alone.{record_alone, whole_of}
 use Rattle.goblin_base.specs.Eager.{records_from}
 use Rattle.goblin_base.specs.Refusal.{Refusal, buffer_too_short}
 use Rattle.goblin_base.specs.Steps.{refuse_if}
@@ -36,14 +34,6 @@ abbrev pub program_headers_from : List ℕ → ℕ → ℕ → Ctx → Result (L
 program_headers_from bytes offset count ctx =
     records_from (program_header_size ctx.container) (program_header_of ctx.container ctx.le) bytes offset count
     (codes "program headers")
-
--- the program header at an index of `count`, whatever the others are, and how many of them lie in the file whole
-abbrev pub program_header_alone : List ℕ → ℕ → ℕ → ℕ → Ctx → Result (Option ProgramHeader) Error
-program_header_alone bytes offset count index ctx =
-    record_alone (program_header_size ctx.container) (program_header_of ctx.container ctx.le) bytes offset count index
-
-abbrev pub program_headers_whole : List ℕ → ℕ → ℕ → Ctx → ℕ
-program_headers_whole bytes offset count ctx = whole_of (length bytes) offset (program_header_size ctx.container) count
 
 -- a segment loads the byte at an address from the file: it is of type 1, and the address is of one of its bytes in the
 -- file, by sums of whole numbers

@@ -5,7 +5,6 @@ use Rattle.goblin_base.specs.declared.container.Ctx.{Ctx}
 use Rattle.goblin_base.specs.declared.error.Error.{Error}
 use Rattle.goblin_base.specs.declared.error.Error.TheVariants.{Malformed}
 use Rattle.goblin_base.specs.declared.error.Fault.TheVariants.{SectionOffset, SectionAddr}
-use Rattle.goblin_base.specs.Alone.{record_alone, whole_of}
 use Rattle.goblin_base.specs.Eager.{records_in}
 use Rattle.goblin_base.specs.Record.{unless_fault}
 use Rattle.goblin_base.specs.Refusal.{Refusal, buffer_too_short, misplaced}
@@ -68,25 +67,6 @@ section_headers_of bytes offset count ctx =
 abbrev pub section_headers_of_tested : List ℕ → ℕ → ℕ → Ctx → Result (Unit {0}) Refusal
 section_headers_of_tested bytes offset count ctx =
     if offset == 0 then Ok tt else section_headers_from_tested bytes offset count ctx
-
--- the number of section headers that a file states: none at offset 0
-abbrev pub section_headers_stated : List ℕ → ℕ → ℕ → Ctx → Result ℕ Error
-section_headers_stated bytes offset count ctx =
-    if offset == 0 then Ok 0
-    else if count == 0 then count_from bytes offset 0 ctx
-    else Ok count
-
--- the section header at an index, whatever the others are: none from the stated number on
-abbrev pub section_header_alone : List ℕ → ℕ → ℕ → ℕ → Ctx → Result (Option SectionHeader) Error
-section_header_alone bytes offset count index ctx = do
-  stated ← section_headers_stated bytes offset count ctx
-  record_alone (section_header_size ctx.container) (section_header_of ctx.container ctx.le) bytes offset stated index
-
--- how many of the stated section headers lie in the file whole
-abbrev pub section_headers_whole : List ℕ → ℕ → ℕ → Ctx → Result ℕ Error
-section_headers_whole bytes offset count ctx = do
-  stated ← section_headers_stated bytes offset count ctx
-  Ok (whole_of (length bytes) offset (section_header_size ctx.container) stated)
 
 -- the `sh_link` of the first section, or 0 if there are no sections
 abbrev pub link_of : Option SectionHeader → ℕ

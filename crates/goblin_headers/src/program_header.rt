@@ -1,20 +1,20 @@
 //! Program headers, which describe how a file is loaded: System V gABI, "Program Header".
 ghost use Rattle.std.specs.Int.{IsBitSet};
 ghost use Rattle.std.specs.Int.Bits.{bit_or};
-ghost use Rattle.std.specs.Prelude.{◌≡◌, ◌≤◌, ◌↔◌, IsTrue, IfErr, IsOk, find, length, replicate, [], ◌∷◌};
+ghost use Rattle.std.specs.Prelude.{◌≡◌, ◌↔◌, IsTrue, IfErr, IsOk, find, replicate, [], ◌∷◌};
 ghost use Rattle.goblin_base.specs.Fields.{values_of};
 ghost use Rattle.goblin_base.specs.Layout.{IsSameInEachClass};
 ghost use Rattle.goblin_base.specs.Refusal.{Answers, Gives, Refuses};
 ghost use Rattle.goblin_headers.specs.Constants.{segment_flag_numbers, segment_type_numbers};
 ghost use Rattle.goblin_headers.specs.ProgramHeader.{as64, program_header64, program_header_layout, program_header_size};
-ghost use Rattle.goblin_headers.specs.ProgramHeaders.{loaded_from, loads, new_program_header, program_header_alone, program_headers_from, program_headers_tested, program_headers_whole};
+ghost use Rattle.goblin_headers.specs.ProgramHeaders.{loaded_from, loads, new_program_header, program_headers_from, program_headers_tested};
 ghost use Rattle.goblin_headers.specs.Ranges.{span};
 
 pub use crate::{program_header32, program_header64};
 use goblin_base::container::{Container, Ctx, Endian};
 use goblin_base::error::Result;
 use goblin_base::laid_out::LaidOut;
-use goblin_base::table::{Table, read_all, read_alone, whole_records};
+use goblin_base::table::{Table, read_all};
 use std::alloc::{AllocError, Global};
 use std::ops::Range;
 use std::result;
@@ -162,32 +162,6 @@ impl ProgramHeader {
             Answers (λ table. table) result expected }
     {
         Table::counted(bytes, offset, count, ctx, "program headers")
-    }
-
-    /// Reads the program header at an index of `count` from an offset on, whatever the others are, or
-    /// returns `None` from `count` on.
-    ///
-    /// # Errors
-    ///
-    /// The fault of the header at the index, if the bytes don't hold it. An offset past `usize::MAX` is
-    /// reported as `usize::MAX`.
-    pub fn alone(
-        bytes: &[u8],
-        offset: usize,
-        count: usize,
-        index: usize,
-        ctx: Ctx,
-    ) -> Result<Option<ProgramHeader>>
-        ensures { result ≡ program_header_alone bytes.now offset count index ctx }
-    {
-        read_alone(bytes, offset, count, index, ctx)
-    }
-
-    /// Returns how many of `count` program headers from an offset on the bytes hold whole.
-    pub fn whole(bytes: &[u8], offset: usize, count: usize, ctx: Ctx) -> usize
-        ensures { result ≡ program_headers_whole bytes.now offset count ctx }
-    {
-        whole_records::<ProgramHeader, Ctx>(bytes.len(), offset, count, ctx)
     }
 
     // Reports whether the segment loads the byte at an address from the file.

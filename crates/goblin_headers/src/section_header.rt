@@ -1,15 +1,13 @@
 //! Section headers, which describe what a file holds: System V gABI, "Section Header".
 ghost use Rattle.std.specs.Int.{IsBitSet};
-ghost use Rattle.std.specs.Prelude.{◌≡◌, ◌≤◌, ◌<◌, ◌↔◌, ◌+◌, ◌++◌, ◌^◌, IsTrue, IfErr, IsNone, IsOk, IfSome, length, drop, map, position, replicate, slice_get, [], ◌∷◌};
-ghost use Rattle.std.specs.Option.{option_map};
+ghost use Rattle.std.specs.Prelude.{◌≡◌, ◌≤◌, ◌↔◌, ◌++◌, IsTrue, IfErr, IsNone, IsOk, IfSome, length, drop, map, replicate, [], ◌∷◌};
 ghost use Rattle.goblin_base.specs.Fields.{values_of};
 ghost use Rattle.goblin_base.specs.Layout.{IsSameInEachClass};
 ghost use Rattle.goblin_base.specs.Refusal.{Answers, Gives, Refuses};
-ghost use Rattle.goblin_base.specs.Strtab.{has_name};
 ghost use Rattle.goblin_headers.specs.Constants.{section_flag_numbers, section_index_numbers, section_type_numbers};
 ghost use Rattle.goblin_headers.specs.Ranges.{span};
 ghost use Rattle.goblin_headers.specs.SectionHeader.{as64, section_header64, section_header_image, section_header_layout, section_header_size};
-ghost use Rattle.goblin_headers.specs.SectionHeaders.{new_section_header, count_from, header_count, is_table, linked, names_index, section_header_alone, section_headers_from, section_headers_from_tested, section_headers_of, section_headers_of_tested, section_headers_stated, section_headers_whole, size_checked, size_checked_in};
+ghost use Rattle.goblin_headers.specs.SectionHeaders.{new_section_header, count_from, header_count, section_headers_from, section_headers_from_tested, section_headers_of, section_headers_of_tested, size_checked, size_checked_in};
 ghost use Rattle.goblin_headers.specs.SectionNames.{section_flag_names};
 
 pub use crate::{section_header32, section_header64};
@@ -17,8 +15,7 @@ use goblin_base::container::{Container, Ctx, Endian};
 use goblin_base::error::{Error, Fault, Result};
 use goblin_base::laid_out::LaidOut;
 use goblin_base::scroll::IntoCtx;
-use goblin_base::strtab::{Strtab, WantedName};
-use goblin_base::table::{Table, read_all, read_alone, read_at, whole_records};
+use goblin_base::table::{Table, read_all, read_at};
 use std::alloc::{AllocError, Global};
 use std::ops::Range;
 use std::result;
@@ -192,172 +189,6 @@ impl SectionHeader {
         Table::counted(bytes, offset, most, ctx, "section headers")
     }
 
-    /// Reads the section header at an index, whatever the others are, or returns `None` past the last
-    /// one. There are none at offset 0. Otherwise there are `count`, or if that is 0, as many as the
-    /// first header's `sh_size` says, but at least one.
-    ///
-    /// # Errors
-    ///
-    /// The fault of the first header, if `count` is 0 and the bytes don't hold it. Otherwise the fault
-    /// of the header at the index, if the bytes don't hold that one. An offset past `usize::MAX` is
-    /// reported as `usize::MAX`.
-    pub fn alone(
-        bytes: &[u8],
-        offset: usize,
-        count: usize,
-        index: usize,
-        ctx: Ctx,
-    ) -> Result<Option<SectionHeader>>
-        ensures { result ≡ section_header_alone bytes.now offset count index ctx }
-    {
-        let stated = SectionHeader::stated(bytes, offset, count, ctx)?;
-        read_alone(bytes, offset, stated, index, ctx)
-    }
-
-    /// Returns how many section headers the bytes hold whole, of those that
-    /// [`SectionHeader::alone`] reads.
-    ///
-    /// # Errors
-    ///
-    /// The fault of the first header, if `count` is 0 and the bytes don't hold it.
-    pub fn whole(bytes: &[u8], offset: usize, count: usize, ctx: Ctx) -> Result<usize>
-        ensures { result ≡ section_headers_whole bytes.now offset count ctx }
-    {
-        let stated = SectionHeader::stated(bytes, offset, count, ctx)?;
-        Ok(whole_records::<SectionHeader, Ctx>(bytes.len(), offset, stated, ctx))
-    }
-
-    // Returns the number of headers that a file states.
-    fn stated(bytes: &[u8], offset: usize, count: usize, ctx: Ctx) -> Result<usize>
-        ensures { result ≡ section_headers_stated bytes.now offset count ctx }
-    {
-        if offset == 0 {
-            return Ok(0);
-        }
-        if count != 0 {
-            return Ok(count);
-        }
-        SectionHeader::count_from(bytes, offset, count, ctx)
-    }
-
-    /// Returns the index of the section that holds the section names, from the index in the file's
-    /// header and the first section. It is the header's index, unless that is 0xffff (`SHN_XINDEX`):
-    /// then it is the `sh_link` of the first section, or 0 if there are no sections.
-    /// `Header::names_index` asks with the index of a header.
-    pub fn names_index(index: u16, first: Option<&SectionHeader>) -> usize
-        ensures { let seen = option_map (λ section. section.now) first.entry in
-            result ≡ names_index index seen }
-    {
-        if u32::from(index) != SHN_XINDEX {
-            return usize::from(index);
-        }
-        match first {
-            Some(section) => section.sh_link as usize,
-            None => 0,
-        }
-    }
-
-    // Reports whether another section or the file's header may name this section by an index as a table.
-    fn is_table(&self, index: usize) -> bool
-        ensures { result ≡ is_table index self.now.sh_type }
-    {
-        index != 0 && self.sh_type != SHT_NOBITS
-    }
-
-    /// Returns the section at an index that another section or the file's header names as a table, or
-    /// `None` for index 0, past the end, and for a section without bytes in the file (`SHT_NOBITS`).
-    pub fn linked(sections: &[SectionHeader], index: usize) -> Option<&SectionHeader>
-        ensures value { option_map (λ section. section.now) result
-            ≡ linked index (slice_get sections.now index) }
-    {
-        sections
-            .get(index)
-            .filter(|section| section.is_table(index))
-    }
-
-    /// Returns the section at an index of a lazy table, as [`SectionHeader::linked`] does.
-    pub fn linked_in(
-        sections: &Table<'_, SectionHeader, Ctx>,
-        index: usize,
-    ) -> Option<SectionHeader>
-        ensures value { result ≡ linked index (slice_get sections.now index) }
-    {
-        match sections.get(index) {
-            Some(section) if section.is_table(index) => Some(section),
-            _ => None,
-        }
-    }
-
-    /// Returns the index of the first section with this name, or `None` if there is none.
-    ///
-    /// Names are read from the section name string table as [`Strtab::get`] reads them: a section
-    /// whose name is past the table's end or isn't UTF-8 has no name. At most `name.len() + 1`
-    /// bytes are read for each section.
-    pub fn find(sections: &[SectionHeader], names: &Strtab<'_>, name: &[u8]) -> Option<usize>
-        ensures { let is_named = has_name names.now.bytes names.now.delim in
-            result ≡ position (λ section. is_named section.sh_name name.now) sections.now }
-    {
-        let wanted = names.wanted(name);
-        sections
-            .iter()
-            .position(|section| wanted.is_at(section.sh_name))
-    }
-
-    /// Returns the index of the first section with this name in a lazy table, as
-    /// [`SectionHeader::find`] does. The names are read from the bytes of the section name string
-    /// table, whose strings end with `delim`.
-    pub fn find_in(
-        sections: &Table<'_, SectionHeader, Ctx>,
-        strings: &[u8],
-        delim: u8,
-        name: &[u8],
-    ) -> Option<usize>
-        ensures { result ≡ position (λ section.
-            has_name strings.now delim section.sh_name name.now) sections.now }
-    {
-        let wanted = WantedName::new(name, delim);
-        sections
-            .iter()
-            .position(|section| wanted.is_at(strings, section.sh_name))
-    }
-
-    // Returns the position of the first section with this name among those from an index on.
-    fn position_from(
-        sections: &Table<'_, SectionHeader, Ctx>,
-        first: usize,
-        strings: &[u8],
-        delim: u8,
-        name: &[u8],
-    ) -> Option<usize>
-        ensures value { result ≡ position (λ section.
-            has_name strings.now delim section.sh_name name.now) (drop first sections.now) }
-        ensures bound { IfSome result (λ place. first + place < 2 ^ 64) }
-    {
-        let wanted = WantedName::new(name, delim);
-        sections
-            .iter()
-            .skip(first)
-            .position(|header| wanted.is_at(strings, header.sh_name))
-    }
-
-    /// Returns the index of the first section with this name from an index on, as
-    /// [`SectionHeader::find_in`] does from index 0 on.
-    pub fn find_in_from(
-        sections: &Table<'_, SectionHeader, Ctx>,
-        first: usize,
-        strings: &[u8],
-        delim: u8,
-        name: &[u8],
-    ) -> Option<usize>
-        ensures { result ≡ option_map (λ place. first + place) (position (λ section.
-            has_name strings.now delim section.sh_name name.now) (drop first sections.now)) }
-    {
-        match SectionHeader::position_from(sections, first, strings, delim, name) {
-            Some(place) => Some(first + place),
-            None => None,
-        }
-    }
-
     /// Checks the section's size as [`SectionHeader::check_size_with_opts`] does with `permissive`
     /// false.
     pub fn check_size(&self, size: usize) -> Result<()>
@@ -432,9 +263,9 @@ impl SectionHeader {
         self.sh_flags & u64::from(SHF_ALLOC) != 0
     }
 
-    // Returns the number of headers to read from an offset on: as many as are asked for, at least
-    // one.
-    fn count_from(bytes: &[u8], offset: usize, count: usize, ctx: Ctx) -> Result<usize>
+    /// Returns the number of headers to read from an offset on: as many as are asked for, at least
+    /// one.
+    pub(crate) fn count_from(bytes: &[u8], offset: usize, count: usize, ctx: Ctx) -> Result<usize>
         ensures { result ≡ count_from bytes.now offset count ctx }
     {
         let first: SectionHeader = read_at(bytes, offset, ctx)?;

@@ -3,6 +3,7 @@
 
 mod constants_note;
 mod constants_sym;
+mod fits;
 pub mod note;
 pub mod reloc;
 pub mod reloc32;

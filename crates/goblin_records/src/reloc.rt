@@ -102,7 +102,7 @@ impl Reloc {
     }
 
     // Returns the relocation to store: for little-endian MIPS64, with symbol and type encoded.
-    fn stored(self, is_mips64el: bool) -> Reloc
+    pub(crate) fn stored(self, is_mips64el: bool) -> Reloc
         ensures { result ≡ as_stored is_mips64el self }
     {
         if !is_mips64el {

@@ -48,3 +48,5 @@ mod table;
 mod traits;
 #[cfg(test)]
 mod walk;
+#[cfg(test)]
+mod whole_part;

@@ -19,7 +19,7 @@ use goblin_base::record::Record;
 use goblin_base::room::room;
 use goblin_base::scroll::{SizeWith, TryIntoCtx};
 #[cfg(test)]
-use goblin_base::table::{Table, read_alone};
+use goblin_base::table::{Table, read_at};
 
 #[derive(Clone, Copy, Debug, PartialEq)]
 struct Place {
@@ -108,8 +108,8 @@ fn tables_take_a_record_that_states_its_layout(rt: HostRuntime) {
 // Reports whether the second of two ports after one byte is this one.
 #[cfg(test)]
 fn has_second(rt: HostRuntime, order: Endian, number: u16) -> bool {
-    match read_alone::<Port, Endian>(b"\x99\x01\xbb\x00\x50", 1, 2, 1, order) {
-        Ok(found) => is(rt, found, Some(Port { number })),
+    match read_at::<Port, Endian>(b"\x99\x01\xbb\x00\x50", 3, order) {
+        Ok(found) => is(rt, found, Port { number }),
         Err(_) => false,
     }
 }

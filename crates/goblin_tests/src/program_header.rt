@@ -316,31 +316,6 @@ fn passes_on_the_names(rt: HostRuntime) {
     assert!(rt; is(rt, program_header::program_header64::SIZEOF_PHDR, 56));
 }
 
-// The type of the header at an index of so many, in a file with one of type 7 at offset 4 and a second without its last
-// byte.
-fn alone(count: usize, index: usize) -> Answer<Option<u32>> {
-    let mut bytes = [0; 67];
-    bytes[4] = 7;
-    let header = ProgramHeader::alone(&bytes, 4, count, index, LITTLE32)?;
-    Ok(header.map(|header| header.p_type))
-}
-
-#[test]
-fn reads_each_program_header_alone(rt: HostRuntime) {
-    assert!(rt; returns(rt, alone(2, 0), Some(7)) && returns(rt, alone(2, 2), None));
-    assert!(rt; returns(rt, alone(0, 0), None));
-    assert!(rt; reports(rt, alone(2, 1), "type is too big (32) for 31"));
-    assert!(rt; reports(rt, alone(9, 2), "bad offset 68"));
-}
-
-#[test]
-fn counts_whole_program_headers(rt: HostRuntime) {
-    assert!(rt; is(rt, ProgramHeader::whole(&[0; 67], 4, 2, LITTLE32), 1));
-    assert!(rt; is(rt, ProgramHeader::whole(&[0; 68], 4, 2, LITTLE32), 2));
-    assert!(rt; is(rt, ProgramHeader::whole(&[0; 68], 4, 1, LITTLE32), 1));
-    assert!(rt; is(rt, ProgramHeader::whole(&[0; 68], 70, 1, LITTLE32), 0));
-}
-
 // A segment whose bytes in the file are loaded at an address.
 fn loaded(p_type: u32, p_vaddr: u64, p_offset: u64, p_filesz: u64) -> ProgramHeader {
     ProgramHeader {

@@ -519,60 +519,6 @@ fn finds_the_next_section_of_a_name(rt: HostRuntime) {
     assert!(rt; is(rt, found_from(3), None) && is(rt, found_from(usize::MAX), None));
 }
 
-// The bytes of two whole section headers with the names 1 and 2 at offset 8, and of a third without its last byte. The
-// first one's size is 3.
-fn two_and_a_cut_one() -> [u8; 127] {
-    let mut bytes = [0; 127];
-    bytes[8] = 1;
-    bytes[28] = 3;
-    bytes[48] = 2;
-    bytes[88] = 3;
-    bytes
-}
-
-// The `sh_name` of the header at an index of so many.
-fn alone(offset: usize, count: usize, index: usize) -> Answer<Option<usize>> {
-    let header = SectionHeader::alone(&two_and_a_cut_one(), offset, count, index, LITTLE32)?;
-    Ok(header.map(|header| header.sh_name))
-}
-
-fn whole(offset: usize, count: usize) -> Answer<usize> {
-    SectionHeader::whole(&two_and_a_cut_one(), offset, count, LITTLE32)
-}
-
-#[test]
-fn reads_each_section_header_alone(rt: HostRuntime) {
-    assert!(rt; returns(rt, alone(8, 3, 0), Some(1)) && returns(rt, alone(8, 3, 1), Some(2)));
-    assert!(rt; reports(rt, alone(8, 3, 2), "type is too big (40) for 39"));
-    assert!(rt; returns(rt, alone(8, 3, 3), None) && returns(rt, alone(8, 1, 1), None));
-    assert!(rt; reports(rt, alone(8, 5, 3), "bad offset 128"));
-    let last = usize::MAX;
-    assert!(rt;
-        reports(
-            rt,
-            alone(8, last, last - 1),
-            "bad offset 18446744073709551615"
-        )
-    );
-}
-
-#[test]
-fn counts_section_headers_by_the_first(rt: HostRuntime) {
-    assert!(rt; returns(rt, alone(8, 0, 1), Some(2)) && returns(rt, alone(8, 0, 3), None));
-    assert!(rt; reports(rt, alone(8, 0, 2), "type is too big (40) for 39"));
-    assert!(rt; returns(rt, alone(48, 0, 0), Some(2)) && returns(rt, alone(48, 0, 1), None));
-    assert!(rt; reports(rt, alone(100, 0, 7), "type is too big (40) for 27"));
-    assert!(rt; returns(rt, alone(0, 3, 0), None));
-}
-
-#[test]
-fn counts_whole_section_headers(rt: HostRuntime) {
-    assert!(rt; returns(rt, whole(8, 3), 2) && returns(rt, whole(8, 1), 1));
-    assert!(rt; returns(rt, whole(8, 0), 2) && returns(rt, whole(0, 3), 0));
-    assert!(rt; returns(rt, whole(100, 3), 0) && returns(rt, whole(300, 3), 0));
-    assert!(rt; reports(rt, whole(100, 0), "type is too big (40) for 27"));
-}
-
 // The `sh_name` of the section that is a table at an index, in a list and in a lazy table: the sections have the types
 // 3, 3 and 8, and the names 1, 2 and 3.
 fn linked(index: usize) -> [Option<usize>; 2] {

@@ -282,7 +282,6 @@ fn calls_the_laws_of_symbols() {
     sym64::laws();
     elf::sym::laws();
     elf::sym::addresses();
-    elf::sym::address_indices();
 }
 
 #[test]
@@ -639,20 +638,19 @@ const ADDRESSED: &[u8; 128] = b"\0\0\0\0\0\0\0\0\0\0\0\0\0\0\0\0\
     \x01\0\0\0\x40\0\0\0\x04\0\0\0\x16\0\x01\0\
     \x01\0\0\0\x50\0\0\0\x04\0\0\0\x12\0\0\0";
 
-// Addresses, and the index of the symbol that each lies in: of the highest below, and of these the first that reaches
-// so far.
+// Addresses, and the index of the symbol of each: the first that contains it, or else a label.
 static ADDRESSES: [(u64, Option<usize>); 11] = [
     (0, None),
     (0xf, None),
     (0x10, Some(1)),
-    (0x2f, Some(1)),
-    (0x30, Some(5)),
-    (0x51, Some(5)),
-    (18446744073709551615, Some(5)),
     (0x13, Some(1)),
     (0x14, Some(2)),
     (0x17, Some(2)),
-    (0x18, Some(1)),
+    (0x18, None),
+    (0x2f, None),
+    (0x30, Some(5)),
+    (0x51, Some(5)),
+    (18446744073709551615, Some(5)),
 ];
 
 #[test]
@@ -663,51 +661,38 @@ fn finds_the_symbol_at_an_address(rt: HostRuntime) {
     }
 }
 
-// A symbol of nothing, and six functions: at 0x30; four at 0x10, of 8, 4, 8 and 16 bytes; and one of no size at 0x30.
-const INDEXED: &[u8; 112] = b"\0\0\0\0\0\0\0\0\0\0\0\0\0\0\0\0\
-    \x01\0\0\0\x30\0\0\0\x04\0\0\0\x12\0\x01\0\
-    \x01\0\0\0\x10\0\0\0\x08\0\0\0\x12\0\x01\0\
-    \x01\0\0\0\x10\0\0\0\x04\0\0\0\x12\0\x01\0\
-    \x01\0\0\0\x10\0\0\0\x08\0\0\0\x12\0\x01\0\
-    \x01\0\0\0\x10\0\0\0\x10\0\0\0\x12\0\x01\0\
-    \x01\0\0\0\x30\0\0\0\0\0\0\0\x12\0\x01\0";
+// A symbol of nothing; a function of 0x30 bytes at 0x10; in it one of 4 bytes at 0x20, and two labels at 0x28; a label and
+// an object of 4 bytes at 0x50; and a function of 4 bytes at 0x60.
+const NESTED: &[u8; 128] = b"\0\0\0\0\0\0\0\0\0\0\0\0\0\0\0\0\
+    \x01\0\0\0\x10\0\0\0\x30\0\0\0\x12\0\x01\0\
+    \x01\0\0\0\x20\0\0\0\x04\0\0\0\x12\0\x01\0\
+    \x01\0\0\0\x28\0\0\0\0\0\0\0\x12\0\x01\0\
+    \x01\0\0\0\x28\0\0\0\0\0\0\0\0\0\x01\0\
+    \x01\0\0\0\x50\0\0\0\0\0\0\0\0\0\x01\0\
+    \x01\0\0\0\x50\0\0\0\x04\0\0\0\x11\0\x01\0\
+    \x01\0\0\0\x60\0\0\0\x04\0\0\0\x12\0\x01\0";
 
-// Addresses, and the index of the symbol for each of them.
-static INDEXED_ADDRESSES: [(u64, Option<usize>); 7] = [
+// Addresses, and the index of the symbol of each.
+static NESTED_ADDRESSES: [(u64, Option<usize>); 13] = [
     (0xf, None),
-    (0x10, Some(2)),
-    (0x17, Some(2)),
-    (0x18, Some(5)),
+    (0x1f, Some(1)),
     (0x20, Some(2)),
-    (0x33, Some(1)),
-    (18446744073709551615, Some(1)),
+    (0x23, Some(2)),
+    (0x24, Some(1)),
+    (0x28, Some(1)),
+    (0x3f, Some(1)),
+    (0x40, Some(3)),
+    (0x4f, Some(3)),
+    (0x50, Some(6)),
+    (0x54, Some(5)),
+    (0x63, Some(7)),
+    (0x64, None),
 ];
 
-// Whether a buffer that is too short stays as it is, and the number that is needed is returned.
-fn needs_six(table: &Symtab<'_>) -> bool {
-    let mut short = [9; 5];
-    table.address_index(&mut short) == Err(6) && short == [9; 5]
-}
-
-// Whether an index has an entry for each symbol that can be found, in the order of the addresses.
-fn is_in_order(table: &Symtab<'_>, index: &mut [u64; 7]) -> bool {
-    table.address_index(index) == Ok(3) && index[..3] == [2, 5, 1] && index[6] == 9
-}
-
 #[test]
-fn finds_the_symbol_in_an_index(rt: HostRuntime) {
-    let table = table_of(INDEXED, 0, 7, LITTLE32);
-    let mut index = [9; 7];
-    assert!(rt; needs_six(&table));
-    assert!(rt; is_in_order(&table, &mut index));
-    for row in &INDEXED_ADDRESSES {
-        assert!(rt; holds(rt, row, is(rt, table.at_in(&index[..3], row.0), row.1)));
+fn finds_the_symbol_that_contains_an_address(rt: HostRuntime) {
+    let table = table_of(NESTED, 0, 8, LITTLE32);
+    for row in &NESTED_ADDRESSES {
+        assert!(rt; holds(rt, row, is(rt, table.at(row.0), row.1)));
     }
-}
-
-#[test]
-fn finds_nothing_in_what_is_no_index(rt: HostRuntime) {
-    let table = table_of(INDEXED, 0, 7, LITTLE32);
-    assert!(rt; table.at_in(&[], 0x10).is_none());
-    assert!(rt; table.at_in(&[7, 18446744073709551615, 0], 0x10).is_none());
 }

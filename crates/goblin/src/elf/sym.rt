@@ -1,8 +1,6 @@
 //! Symbols and symbol tables: System V gABI, "Symbol Table".
 ghost use Rattle.std.specs.Prelude.{◌≡◌, ◌≤◌, ◌<◌, ◌-◌, ◌*◌, ◌^◌, ◌↔◌, [], ◌∷◌, length, slice_get, IsTrue, IfOk, IfErr, IsOk, alloc_error, position};
-ghost use Rattle.std.specs.Option.{option_map};
-ghost use Rattle.goblin.specs.AddressIndex.{IndexIsUnique};
-ghost use Rattle.goblin.specs.Addresses.{has_place, is_below, reaches, symbol_at, taken, SymbolAtComesFirst};
+ghost use Rattle.goblin.specs.Addresses.{found_at, has_place, is_below, is_nearer, reaches, symbol_at, taken, SymbolAtComesFirst};
 ghost use Rattle.goblin.specs.Symtab.{symbols_at, symtab_by, symtab_in, symtab_of, DependsOnItsRange, PermissiveKeepsStrict};
 ghost use Rattle.goblin_base.specs.Strtab.{has_name};
 ghost use Rattle.goblin_records.specs.Constants.{bind_numbers, type_numbers, visibility_numbers};
@@ -23,8 +21,6 @@ pub use goblin_records::sym::{
 };
 use std::alloc::Global;
 use std::marker::Model;
-
-mod address_index;
 
 /// A symbol table. Each symbol is read from the file's bytes when it is asked for.
 ///
@@ -226,14 +222,13 @@ impl<'a> Symtab<'a> {
             .position(|symbol| wanted.is_at(strings, symbol.st_name))
     }
 
-    /// Returns the index of the symbol for an address, or `None` if no symbol is at the address or
-    /// below it.
+    /// Returns the index of the symbol of an address, or `None` if there is none.
     ///
-    /// It is the symbol with the highest value that isn't above the address. Of several with that
-    /// value it is the first whose size reaches past the address, or else the first. Only symbols
-    /// of a section of the file are considered, and of these only those without a type, objects,
-    /// functions and indirect functions. The caller tests whether the symbol's size reaches past
-    /// the address.
+    /// It is the symbol with the highest value among those whose bytes contain the address, the first
+    /// of several. If no symbol contains the address, it is a label: of the symbols with the highest
+    /// value that isn't above the address, the first of size 0. Only symbols of a section of the file
+    /// are considered, and of these only those without a type, objects, functions and indirect
+    /// functions. The call reads all symbols once.
     pub fn at(&self, address: u64) -> Option<usize>
         ensures { result ≡ symbol_at address self.now.symbols }
     {
@@ -243,7 +238,7 @@ impl<'a> Symtab<'a> {
                 found = nearer(address, i, symbol, found);
             }
         }
-        index_of(found)
+        found_at(address, found)
     }
 
     /// Returns the symbols as a vector. The only error is out of memory. An empty table allocates
@@ -286,6 +281,20 @@ fn reaches(address: u64, symbol: &Sym) -> bool
     }
 }
 
+// Reports whether of two symbols that are at an address or below it the first is nearer.
+fn is_nearer(address: u64, symbol: &Sym, other: &Sym) -> bool
+    ensures { result ≡ is_nearer address symbol.now other.now }
+{
+    let contains = reaches(address, symbol);
+    if contains != reaches(address, other) {
+        return contains;
+    }
+    if symbol.st_value != other.st_value {
+        return symbol.st_value > other.st_value;
+    }
+    !contains && symbol.st_size == 0 && other.st_size != 0
+}
+
 // Returns the nearer of the symbol at an index and the one found before it.
 fn nearer(address: u64, i: usize, symbol: Sym, found: Option<(usize, Sym)>) -> Option<(usize, Sym)>
     ensures { result ≡ taken address i symbol found }
@@ -294,24 +303,20 @@ fn nearer(address: u64, i: usize, symbol: Sym, found: Option<(usize, Sym)>) -> O
         return found;
     }
     if let Some((_, before)) = &found {
-        let is_higher = before.st_value < symbol.st_value;
-        let is_longer = before.st_value == symbol.st_value
-            && !reaches(address, before)
-            && reaches(address, &symbol);
-        if !is_higher && !is_longer {
+        if !is_nearer(address, &symbol, before) {
             return found;
         }
     }
     Some((i, symbol))
 }
 
-// Returns the index of the symbol that was found.
-fn index_of(found: Option<(usize, Sym)>) -> Option<usize>
-    ensures { result ≡ option_map (λ found. found.0) found }
+// Returns the index of the symbol that was found, if it contains the address or has size 0.
+fn found_at(address: u64, found: Option<(usize, Sym)>) -> Option<usize>
+    ensures { result ≡ found_at address found }
 {
     match found {
-        Some((i, _)) => Some(i),
-        None => None,
+        Some((i, symbol)) if reaches(address, &symbol) || symbol.st_size == 0 => Some(i),
+        _ => None,
     }
 }
 
@@ -374,16 +379,11 @@ pub fn laws()
     ensures range { DependsOnItsRange }
 {}
 
-/// A law: the symbol for an address is at the address or below it, and comes first of all that are.
-/// None of them is higher. Of those equally high, one that reaches past the address comes before
-/// one that doesn't, and a lower index before a higher one. `None` is returned exactly if no symbol
-/// is at the address or below it.
+/// A law: of the symbols that contain an address, the one that [`Symtab::at`] finds is as high as any
+/// and the first of those as high. If none contains it, the one found has size 0, and of the symbols at
+/// the address or below it it is as high as any, and the first of size 0 of those as high. `None` is
+/// returned exactly if no symbol contains the address, and each one of size 0 at the address or below
+/// it has a higher one.
 pub fn addresses()
     ensures { SymbolAtComesFirst }
-{}
-
-/// A law: a table has one index of its addresses. So [`Symtab::address_index`] stores the same entries
-/// in each buffer that has room for them.
-pub fn address_indices()
-    ensures { IndexIsUnique }
 {}

@@ -1,5 +1,5 @@
-use Rattle.goblin_c.proofs.PlaceLemmas.{bytes_lie_in_file, strings_are_bytes, strings_are_compared}
+use Rattle.goblin_c.proofs.PlaceLemmas.{bytes_lie_in_file, strings_are_bytes}
 use Rattle.goblin_c.proofs.laws.places.Goals as goal
 
 pub returns : goal.returns
-returns c = record { within = bytes_lie_in_file; same = strings_are_bytes; compared = strings_are_compared }
+returns c = record { within = bytes_lie_in_file; same = strings_are_bytes }

@@ -9,7 +9,7 @@ use Rattle.goblin.proofs.elf.sym.Symtab.at.Goals.{in-Some, in_default}
 
 pub returns : goal.returns
 returns c =
-    c.index_of.ensures
+    c.found_at.ensures
     ∙ found_all c.args.address c.args.self.now.symbols c.loop-i.i c.loop-i.found (omega arith) c.loop-i.invariant
 
 pub loop-i-preserved : goal.loop-i-preserved

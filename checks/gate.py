@@ -1,0 +1,228 @@
+#!/usr/bin/env python3
+"""Runs the parts of a test side by side, and says what comes of each and what it takes. Run from the repository's root.
+
+    python3 checks/gate.py test            every proof but those of the tests' own bodies, every test and program, must-fail/ and controls/
+    python3 checks/gate.py gate            `rt ci`, which proves the tests too, and every edit
+    python3 checks/gate.py edits [CRATE ..] [--edit NAME] [--from FOLDER]     the edits alone, of these crates or of all
+
+The crates are proved in a copy of the repository, which holds nothing that an earlier run left there; `edits` takes over what checks in
+the crates' folders have cached. As many parts run side by side as there are processors. A proof begins as soon as it can and goes
+before the other parts, which wait for it. A part that fails is printed whole, and what waits for it is left out. What each part prints
+stands in out/log.
+"""
+import argparse
+import os
+import shutil
+import subprocess
+import sys
+import tempfile
+import time
+from dataclasses import dataclass
+
+sys.dont_write_bytecode = True
+from crates import crates_listed
+
+LOGS = 'out/log'
+PYTHON = sys.executable or 'python3'
+
+
+@dataclass
+class Part:
+    """A command, the parts that must pass before it, and whether it goes before others."""
+    name: str
+    command: list
+    after: tuple = ()
+    where: str = '.'
+    is_first: bool = False
+    begun: float = 0
+    ended: float = 0
+    seconds: float = 0
+    status: int = None
+
+
+def link(path, to):
+    """Gives a file another name, or where that can't be, as on another disk, copies it."""
+    try:
+        os.link(path, to)
+    except OSError:
+        shutil.copy2(path, to)
+
+
+def copied(folder, with_cached=False):
+    """Copies the repository's files, and what checks of its crates have cached if that is asked for."""
+    listed = subprocess.run(['git', 'ls-files', '-co', '-z', '--exclude-standard'], stdout=subprocess.PIPE, text=True, check=True).stdout
+    for path in filter(os.path.isfile, listed.split('\0')):
+        os.makedirs(os.path.dirname(f'{folder}/{path}'), exist_ok=True)
+        shutil.copy(path, f'{folder}/{path}')
+    for crate in crates_listed() if with_cached else []:
+        for part in ('incremental', 'rlib'):
+            if os.path.isdir(f'crates/{crate}/out/{part}'):
+                # (no check writes into a file that is there)
+                shutil.copytree(f'crates/{crate}/out/{part}', f'{folder}/crates/{crate}/out/{part}', copy_function=link)
+    return folder
+
+
+def has_tests(crate):
+    return subprocess.run(['git', 'grep', '-qF', '#[test]', '--', f'crates/{crate}/src']).returncode == 0
+
+
+# What takes seconds. All else waits for it.
+QUICK = {'quotations': 'sh checks/quotes.sh', 'lint': 'sh checks/lint.sh', 'whether edits fit': f'{PYTHON} checks/edits --fits', 'views': 'sh checks/views.sh'}
+
+
+def proofs(crates, copy, after=()):
+    """The proofs of these crates and of those below them."""
+    listed = crates_listed()
+    wanted = [crate for crate in listed if any(crate in {one, *listed[one]} for one in crates)]
+    return [Part(f'proof of {crate}', ['sh', 'checks/prove.sh', crate], (*after, *(f'proof of {name}' for name in listed if name in listed[crate])),
+                 copy, True) for crate in wanted]
+
+
+def edits(crates, copy, *words, what='edits'):
+    """The edits of these crates, each once the crate is proved."""
+    return [Part(f'{what} of {crate}', [PYTHON, 'checks/edits', '--over', copy, *words, crate], (f'proof of {crate}',), copy) for crate in crates]
+
+
+def crates_with(kinds, name=None):
+    """The crates that have edits of these folders, or one of this name."""
+    return [crate for crate in crates_listed() for kind in kinds if os.path.isdir(kind.format(crate))
+            and any(name in (None, file[:-len('.edit')]) for file in os.listdir(kind.format(crate)))]
+
+
+def test(room, whole):
+    """The parts of `make test`, or where it is to be whole, of `make gate`."""
+    copy = copied(f'{room}/proved')
+    waits = tuple(QUICK)
+    kinds = ['must-fail', 'controls', *['edits'] * whole]
+    here = lambda name, command, *after: Part(name, command.split(), after or waits, copy)
+    parts = [Part(name, command.split(), is_first=True) for name, command in QUICK.items()]
+    parts += [Part('rt ci', ['rt', 'ci'], waits, copied(f'{room}/whole'), True)] if whole else []
+    # (a crate whose name ends so holds tests alone)
+    parts += proofs([crate for crate in crates_listed() if not crate.endswith('_tests')], copy, waits)
+    if not whole:
+        parts += [here(f'tests of {crate}', f'sh checks/tests.sh {crate}') for crate in crates_listed() if has_tests(crate)]
+    parts += [here('calls from other languages', 'sh checks/faces.sh', 'proof of goblin_c')]
+    crates = dict.fromkeys(crates_with([f'crates/{{}}/{kind}' for kind in kinds]))
+    parts += edits(crates, copy, '--kinds', ','.join(kinds), what='edits' if whole else 'must-fail')
+    parts += [here('refused allocations', 'sh checks/refused.sh'), here('the program', f'{PYTHON} checks/program.py', 'proof of goblin_show'),
+              here('hostile files', f'{PYTHON} checks/limits.py', 'proof of goblin_show', 'proof of goblin_refused')]
+    return parts + [here("the edits' own test", f'{PYTHON} checks/edits/self_test.py')] * whole
+
+
+def leave(copy):
+    """Leaves the programs and libraries in the repository, with the sums of the sources that they were built of, for later commands, and
+    what the checks have cached where none have before."""
+    for crate in crates_listed():
+        made = f'{copy}/crates/{crate}/out'
+        for file in os.scandir(made) if os.path.isdir(made) else []:
+            if file.is_file():
+                os.makedirs(f'crates/{crate}/out', exist_ok=True)
+                shutil.copy2(file.path, f'crates/{crate}/out/{file.name}')
+        for part in ('incremental', 'rlib'):
+            if os.path.isdir(f'{made}/{part}') and not os.path.exists(f'crates/{crate}/out/{part}'):
+                shutil.move(f'{made}/{part}', f'crates/{crate}/out/{part}')
+    if os.path.isdir(f'{copy}/out/library'):
+        shutil.rmtree('out/library', ignore_errors=True)
+        shutil.copytree(f'{copy}/out/library', 'out/library')
+
+
+class Run:
+    """A run of parts."""
+
+    def __init__(self, parts):
+        self.parts, self.running, self.start, self.said = parts, {}, time.time(), time.time()
+        self.status = {part.name: part for part in parts}
+
+    def say(self, line):
+        self.said = time.time()
+        minutes, seconds = divmod(int(self.said - self.start), 60)
+        print(f'[{minutes:3}:{seconds:02}] {line}', flush=True)
+
+    def left(self):
+        return [part for part in self.parts if part.status is None]
+
+    def begin(self, part):
+        part.begun = time.time()
+        log = open(f'{LOGS}/{part.name.replace(" ", "-")}', 'w', encoding='utf-8')
+        command = part.command if part.is_first else ['nice', '-n', '5', *part.command]
+        with log:
+            ran = subprocess.Popen(command, cwd=part.where, stdin=subprocess.DEVNULL, stdout=log, stderr=subprocess.STDOUT)
+        self.running[ran.pid] = (part, ran)
+
+    def end(self, pid, status, used):
+        part, ran = self.running.pop(pid)
+        ran.returncode = status
+        part.ended, part.seconds, part.status = time.time(), used.ru_utime + used.ru_stime, status
+        with open(f'{LOGS}/{part.name.replace(" ", "-")}', encoding='utf-8', errors='replace') as log:
+            text = log.read().rstrip('\n')
+        if status:
+            self.say(f'{part.name} FAILED. It printed:\n{text}')
+        else:
+            self.say(f'{part.name}: {text.rpartition(chr(10))[2]}')
+        for other in self.parts:
+            if other.status is None and any(self.status[name].status for name in other.after):
+                other.status = 1
+                self.say(f'{other.name} IS LEFT OUT')
+
+    def all(self, places):
+        """Runs all parts, as many side by side as there are places, and returns the exit status."""
+        os.makedirs(LOGS, exist_ok=True)
+        self.say(f'{len(self.parts)} parts, about {places} side by side; what each prints is left in {LOGS}')
+        while self.left():
+            now = [part for part, _ in self.running.values()]
+            waiting = [part for part in self.left() if part not in now]
+            ready = [part for part in waiting if all(self.status[name].status == 0 for name in part.after)]
+            for part in sorted(ready, key=lambda part: not part.is_first):
+                if len(self.running) < places or part.is_first and sum(other.is_first for other in now) < places:
+                    self.begin(part)
+                    now.append(part)
+            pid, status, used = os.wait4(-1, os.WNOHANG) if self.running else (0, 0, None)
+            if pid in self.running:
+                self.end(pid, status, used)
+            elif time.time() - self.said > 60:
+                self.say(f'running: {", ".join(part.name for part in now)}; {len(waiting)} other parts are left')
+            else:
+                time.sleep(0.2)
+        self.table()
+        return 1 if any(part.status for part in self.parts) else 0
+
+    def table(self):
+        print(f'{"part":<32} {"from":>6} {"to":>6} {"processor minutes":>18}')
+        for part in sorted((part for part in self.parts if part.ended), key=lambda part: part.begun):
+            print(f'{part.name:<32} {(part.begun - self.start) / 60:6.1f} {(part.ended - self.start) / 60:6.1f} {part.seconds / 60:18.1f}')
+        print(f'{"all":<32} {0:6.1f} {(time.time() - self.start) / 60:6.1f} {sum(part.seconds for part in self.parts) / 60:18.1f}')
+
+
+def parts_of(options, room):
+    """The parts of a run that is asked for."""
+    if options.goal != 'edits':
+        return test(room, options.goal == 'gate')
+    folder = os.path.abspath(options.folder) if options.folder else ''
+    kinds = [f'{folder}/{{}}'] if folder else [f'crates/{{}}/{kind}' for kind in ('edits', 'must-fail', 'controls')]
+    crates = [crate for crate in dict.fromkeys(crates_with(kinds, options.edit)) if crate in (options.crates or [crate])]
+    words = [*(['--edit', options.edit] if options.edit else []), *(['--from', folder] if folder else [])]
+    copy = copied(f'{room}/proved', with_cached=True)
+    return [*proofs(crates, copy), *edits(crates, copy, *words)]
+
+
+def main():
+    parser = argparse.ArgumentParser(prog='python3 checks/gate.py', description=__doc__.split('\n')[0])
+    parser.add_argument('goal', choices=('test', 'gate', 'edits'))
+    parser.add_argument('crates', nargs='*')
+    parser.add_argument('--edit')
+    parser.add_argument('--from', dest='folder')
+    options = parser.parse_args()
+    with tempfile.TemporaryDirectory(prefix='gate-') as room:
+        parts = parts_of(options, room)
+        if not parts:
+            sys.exit('gate: no edit was found')
+        status = Run(parts).all(len(os.sched_getaffinity(0)))
+        if not status and options.goal != 'edits':
+            subprocess.run(['sh', 'checks/show.sh', 'built'], cwd=f'{room}/proved', check=True)
+            leave(f'{room}/proved')
+    print('FAILED: the messages are above the table' if status else 'PASSED', flush=True)
+    return status
+
+
+if __name__ == '__main__':
+    sys.exit(main())

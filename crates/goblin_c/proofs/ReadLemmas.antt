@@ -1,0 +1,146 @@
+-- Where the records that calls read lie, by their index.
+--
+-- The records of a list that isn't refused stand one after another in the file (`IsListed`). So an item that a call
+-- stores was read from its own bytes, which lie in the file (`found_at`).
+use Rattle.std.proofs.Common.{◌≡◌, ◌≤◌, ◌<◌, ◌+◌, ◌-◌, ◌*◌, ◌/◌, ◌==◌, ℕ, Bool, true, false, nat_le, List, [], length}
+use Rattle.std.proofs.Common.{take, drop, map, slice_get, Option, Some, None, Result, Ok, Err, if◌then◌else◌}
+use Rattle.std.proofs.Common.{refl, sym, ap, subst, ◌∙◌, arith}
+use Rattle.std.proofs.lemmas.Bool.{leb-false, leb-true}
+use Rattle.std.proofs.lemmas.Option.{slice_get-map}
+use Rattle.std.specs.Option.{option_map}
+use Rattle.goblin_base.specs.Refusal.{refusal_of}
+use Rattle.goblin_base.specs.Steps.{◌>>=◌, refuse_as}
+use Rattle.goblin.specs.ProgramHeader.{program_header_of, program_header_size}
+use Rattle.goblin.specs.ProgramHeaders.{program_headers_from}
+use Rattle.goblin.specs.SectionHeader.{section_header_of, section_header_size}
+use Rattle.goblin.specs.SectionHeaders.{section_headers_of}
+use Rattle.goblin.specs.Sym.{sym_of, sym_size}
+use Rattle.goblin.specs.WholePart.{segment_count}
+use Rattle.goblin.specs.Reloc.{reloc_in, reloc_size}
+use Rattle.goblin.specs.RelocSection.{relocs_of}
+use Rattle.goblin_base.specs.Record.{unless_fault}
+use Rattle.goblin_base.specs.RecordLaws.{fits-room_of, unless_fault-is}
+use Rattle.goblin_base.specs.Room.{room_of}
+use Rattle.goblin_base.specs.Table.{records}
+use Rattle.goblin_base.specs.TableLaws.{no_records, records-agree}
+use Rattle.std.proofs.Math.Nat.{div-mul-le_self}
+use Rattle.std.proofs.lemmas.List.{take-take}
+use Rattle.goblin_c.specs.Expected.{is_mips64el, relocs_expected}
+use Rattle.goblin_c.specs.Write.{reloc_ctx}
+use Rattle.goblin_c.specs.declared.refused.Refused.{Refused}
+use Rattle.goblin_c.specs.declared.types.GoblinHeader.{GoblinHeader}
+use Rattle.goblin_c.specs.declared.types.GoblinRange.{GoblinRange}
+use Rattle.goblin_c.specs.Expected.{ctx_of, each_converted, item_of, sections_expected, segments_expected}
+use Rattle.goblin_c.specs.Expected.{symbols_expected}
+use Rattle.goblin_c.specs.Refused.{Answers, RefusalAt, refusal_at, refused_at}
+use Rattle.goblin_c.specs.Status.{converted_list}
+use Rattle.goblin_c.proofs.ListedLemmas.{IsListed, bind_ok, item_at, listed_from, none_at, refuse_as_ok, refused_at_ok}
+use Rattle.goblin_c.proofs.ListedLemmas.{sections_listed, symbols_listed}
+
+-- a list that is not refused has so many records
+abbrev pub Lists : {R : Type 0} → ℕ → (List ℕ → R) → List ℕ → ℕ → Result (List R) RefusalAt → Type 0
+Lists {R} size read bytes start all =
+    (items : List R) → all ≡ Ok items → (count : ℕ) × IsListed size read bytes start count items
+
+module _ {R Y : Type 0} (convert : R → Y) (size : ℕ) (read : List ℕ → R) (bytes : List ℕ) (start index : ℕ) where
+  -- an item for C was read from its own bytes, which lie in the file
+  abbrev pub ReadAt : Y → Type 0
+  ReadAt y =
+      (start + index * size + size ≤ length bytes)
+      × (y ≡ convert (read (take size (drop (start + index * size) bytes))))
+
+  found_in : (items : List R) (count : ℕ) (past : Bool) (y : Y)
+      → nat_le count index ≡ past → IsListed size read bytes start count items
+      → slice_get (map convert items) index ≡ Some y → ReadAt y
+  found_in items count true y is listed found =
+      let none = slice_get-map convert items index
+      ∙ ap (option_map convert) (none_at index listed (leb-true count index is)) in absurd (cc)
+  found_in items count false y is listed found =
+      let item = item_at index listed (leb-false count index is) in
+      let there = slice_get-map convert items index ∙ ap (option_map convert) item.0 in
+      let same : y ≡ convert (read (take size (drop (start + index * size) bytes))) = cc in (item.1, same)
+
+  pub found_at : (all : Result (List R) RefusalAt) (y : Y)
+      → Lists size read bytes start all → item_of (each_converted convert all) index ≡ Ok (Some y) → ReadAt y
+  found_at (Ok items) y lists is =
+      let listed = lists items refl in
+      let found : slice_get (map convert items) index ≡ Some y = cc in
+      found_in items listed.0 (nat_le listed.0 index) y refl listed.1 found
+  found_at (Err e) y lists is = absurd (cc)
+
+-- a list for C that was made of what a call of the library returned
+pub converted_is : {L R Y : Type 0} (convert : R → Y) (view : L → List R) (answer : Result L Refused)
+    (expected : Result (List R) RefusalAt)
+    → Answers view answer expected
+    → converted_list (λ list. map convert (view list)) answer ≡ each_converted convert expected
+converted_is convert view (Ok list) expected is = rw is refl
+converted_is convert view (Err e) expected is = rw is refl
+
+-- the result that is expected of a call is its own, with refusals for errors
+pub expected_is : {X : Type 0} (answer : Result X Refused) (expected : Result X RefusalAt)
+    → Answers (λ found. found) answer expected → refuse_as refusal_at answer ≡ expected
+expected_is (Ok x) expected is = sym is
+expected_is (Err e) expected is = sym is
+
+pub refuse_as_some : {X : Type 0} (answer : Result X Refused) (x : X)
+    → answer ≡ Ok x → refuse_as refusal_at answer ≡ Ok x
+refuse_as_some answer x is = rw is refl
+
+-- the lists of the calls
+pub lists_sections : (bytes : List ℕ) (h : GoblinHeader)
+    → Lists (section_header_size (ctx_of h).container) (section_header_of (ctx_of h).container (ctx_of h).le) bytes
+    h.e_shoff (sections_expected bytes h)
+lists_sections bytes h items is =
+    let read = section_headers_of bytes h.e_shoff h.e_shnum (ctx_of h) in
+    let listed = sections_listed bytes h.e_shoff h.e_shnum (ctx_of h) items (refused_at_ok h.e_shoff read items is) in
+    (listed.0, listed.2)
+
+pub lists_segments : (bytes : List ℕ) (h : GoblinHeader)
+    → Lists (program_header_size (ctx_of h).container) (program_header_of (ctx_of h).container (ctx_of h).le) bytes
+    h.e_phoff (segments_expected bytes h)
+lists_segments bytes h items is =
+    let count = refused_at h.e_shoff (refuse_as refusal_of (segment_count bytes h.e_phnum h.e_shoff (ctx_of h))) in
+    let read = λ (n : ℕ). program_headers_from bytes h.e_phoff n (ctx_of h) in
+    let parts = bind_ok count (λ n. refused_at h.e_phoff (read n)) items is in
+    (
+      parts.0,
+      listed_from _ _ bytes h.e_phoff parts.0 _ items (refused_at_ok h.e_phoff (read parts.0) items parts.2),
+    )
+
+pub lists_symbols : (bytes : List ℕ) (h : GoblinHeader) (table : GoblinRange)
+    → Lists (sym_size (ctx_of h).container) (sym_of (ctx_of h).container (ctx_of h).le) bytes table.offset
+    (symbols_expected bytes h table)
+lists_symbols bytes h table items is =
+    let count = table.size / sym_size (ctx_of h).container in
+    (count, symbols_listed bytes table.offset count (ctx_of h) items is)
+
+-- the relocations of a range, of which there are as many as lie in it whole
+in_range : {R : Type 0} (size : ℕ) (read : List ℕ → R) (bytes : List ℕ) (start filesz : ℕ) (items : List R) (none : Bool)
+    → (if none then Ok [] else unless_fault (room_of (length bytes) start filesz)
+    (records size read (filesz / size) (take filesz (drop start bytes)))) ≡ Ok items
+    → (count : ℕ) × IsListed size read bytes start count items
+in_range size read bytes start filesz items true is =
+    let same : items ≡ [] = cc in
+    (0, record { are = same ∙ sym (no_records size read 0 (drop start bytes) refl); fit = λ some. absurd (omega arith) })
+in_range size read bytes start filesz items false is =
+    let count = filesz / size in
+    let all = records size read count (take filesz (drop start bytes)) in
+    let parts = unless_fault-is (room_of (length bytes) start filesz) items all (sym is) in
+    let inside : count * size ≤ filesz = div-mul-le_self filesz size in
+    let own = records-agree size read count (take filesz (drop start bytes)) (drop start bytes)
+    (take-take (count * size) filesz (drop start bytes) inside) in (
+      count,
+      record {
+        are = parts.1 ∙ own;
+        fit = λ some. omega (arith, inside, fits-room_of (length bytes) start filesz tt parts.0);
+      },
+    )
+
+pub lists_relocs : (bytes : List ℕ) (h : GoblinHeader) (table : GoblinRange) (is_rela : Bool)
+    → Lists (reloc_size is_rela (ctx_of h).container) (reloc_in (reloc_ctx h is_rela)) bytes table.offset
+    (relocs_expected bytes h table is_rela)
+lists_relocs bytes h table is_rela items is =
+    let found = relocs_of bytes table.offset table.size is_rela (ctx_of h) (is_mips64el h) in
+    let read = refuse_as_ok refusal_of found items (refused_at_ok table.offset (refuse_as refusal_of found) items is) in
+    in_range (reloc_size is_rela (ctx_of h).container) (reloc_in (reloc_ctx h is_rela)) bytes table.offset table.size
+    items (table.size == 0) read

@@ -1,0 +1,282 @@
+//! Records and numbers that are put into the bytes of a file. A record is put where the call that reads it finds one, if
+//! it fits. Then its bytes change, and no other.
+ghost use Rattle.std.specs.Prelude.{◌≡◌, ◌↔◌, ◌≤◌, ◌<◌, ◌+◌, ◌*◌, ◌^◌, IsTrue, Ok, Some, length};
+ghost use Rattle.goblin.specs.Steps.{refuse_as};
+ghost use Rattle.goblin_base.specs.Place.{with_number};
+ghost use Rattle.goblin_c.specs.Bytes.{is_width};
+ghost use Rattle.goblin_c.specs.Refused.{refusal_at};
+ghost use Rattle.goblin_c.specs.Status.{Stores};
+ghost use Rattle.goblin_c.specs.Types.{reloc_converted};
+ghost use Rattle.goblin_c.specs.Write.{FitsClass, NumberFits, Puts, RelocFits, SectionFits, SegmentFits, SymbolFits, header_put_expected, named_ctx, number_put_expected, put_at, put_if_there, reloc_ctx, reloc_of, reloc_put_expected, section_put_expected, segment_put_expected, symbol_put_expected, with_bytes};
+
+use crate::bytes::number;
+use crate::headers::{ctx_of, sections_of, segments_of};
+use crate::kinds::{END, OK};
+use crate::lists::item_of;
+use crate::refused::{Refused, Result, unfit};
+use crate::status::refuse;
+use crate::tables::{relocs_of, symbol_in};
+use crate::types::{
+    GoblinHeader, GoblinRange, GoblinRefusal, GoblinReloc, GoblinSection, GoblinSegment,
+    GoblinSymbol, header_of, reloc_of, section_of, segment_of, symbol_of,
+};
+use goblin::container::{Container, Ctx, Endian};
+use goblin::elf::header::{ELFCLASS32, ELFCLASS64, ELFDATA2LSB, ELFDATA2MSB, Header};
+use goblin::elf::reloc::{RelocCtx, is_mips64el_in};
+use goblin::error::{Error, Fault};
+use goblin::scroll::IntoCtx;
+use goblin_base::laid_out::LaidOut;
+use goblin_base::number::{put_u8, put_u16, put_u32, put_u64};
+use goblin_base::room::room;
+
+// Writes a record at an offset.
+fn put_record<R: LaidOut<C>, C: Copy>(bytes: &mut [u8], place: usize, record: R, ctx: C)
+    requires { place + (R.layout ctx).size ≤ length bytes.old }
+    ensures { bytes.new ≡ with_bytes bytes.old place ((R.layout ctx).image record) }
+{
+    record.put(&mut bytes[place..], ctx);
+}
+
+// The place of a record: the offset of the first of its list, and its index.
+#[derive(Clone, Copy)]
+struct Place {
+    start: u64,
+    index: u64,
+}
+
+// Puts a record at its place, if a call that reads found one there and the record fits. Returns the status.
+fn put_found<T: Drop, R: LaidOut<C>, C: Copy>(
+    bytes: &mut [u8],
+    found: Result<Option<T>>,
+    place: Place,
+    record: R,
+    ctx: C,
+    fits: bool,
+    why: &mut GoblinRefusal,
+) -> u32
+    requires { (x : T) → found ≡ Ok (Some x)
+        → place.start + place.index * (R.layout ctx).size + (R.layout ctx).size ≤ length bytes.old }
+    ensures { let put = put_at (R.layout ctx) bytes.old place.start place.index record fits in
+        Stores (put_if_there (refuse_as refusal_at found) put)
+        bytes.old why.old result bytes.new why.new }
+{
+    match found {
+        Ok(Some(_)) => {
+            let start = place.start as usize + place.index as usize * R::size_in(ctx);
+            if !fits {
+                return refuse(&unfit(start as u64), why);
+            }
+            put_record(bytes, start, record, ctx);
+            OK
+        }
+        Ok(None) => END,
+        Err(e) => refuse(&e, why),
+    }
+}
+
+/// Puts the section header at an index. Returns the status.
+pub fn put_section(
+    bytes: &mut [u8],
+    header: &GoblinHeader,
+    index: u64,
+    section: &GoblinSection,
+    why: &mut GoblinRefusal,
+) -> u32
+    ensures { Puts (SectionFits header.now section.now)
+        (section_put_expected bytes.old header.now index section.now)
+        bytes.old why.old result bytes.new why.new }
+{
+    let found = item_of(sections_of(bytes, header), index);
+    let (ctx, record) = (ctx_of(header), section_of(section));
+    let fits = record.fits(ctx);
+    let place = Place {
+        start: header.e_shoff,
+        index,
+    };
+    put_found(bytes, found, place, record, ctx, fits, why)
+}
+
+/// Puts the program header at an index. Returns the status.
+pub fn put_segment(
+    bytes: &mut [u8],
+    header: &GoblinHeader,
+    index: u64,
+    segment: &GoblinSegment,
+    why: &mut GoblinRefusal,
+) -> u32
+    ensures { Puts (SegmentFits header.now segment.now)
+        (segment_put_expected bytes.old header.now index segment.now)
+        bytes.old why.old result bytes.new why.new }
+{
+    let found = item_of(segments_of(bytes, header), index);
+    let (ctx, record) = (ctx_of(header), segment_of(segment));
+    let fits = record.fits(ctx);
+    let place = Place {
+        start: header.e_phoff,
+        index,
+    };
+    put_found(bytes, found, place, record, ctx, fits, why)
+}
+
+/// Puts the symbol at an index of a table. Returns the status.
+pub fn put_symbol(
+    bytes: &mut [u8],
+    header: &GoblinHeader,
+    table: &GoblinRange,
+    index: u64,
+    symbol: &GoblinSymbol,
+    why: &mut GoblinRefusal,
+) -> u32
+    ensures { Puts (SymbolFits header.now symbol.now)
+        (symbol_put_expected bytes.old header.now table.now index symbol.now)
+        bytes.old why.old result bytes.new why.new }
+{
+    let found = symbol_in(bytes, header, table, index);
+    let (ctx, record) = (ctx_of(header), symbol_of(symbol));
+    let fits = record.fits(ctx);
+    let place = Place {
+        start: table.offset,
+        index,
+    };
+    put_found(bytes, found, place, record, ctx, fits, why)
+}
+
+// Returns the layout of the relocations of a file.
+fn reloc_ctx(header: &GoblinHeader, is_rela: bool) -> RelocCtx
+    ensures { result ≡ reloc_ctx header.now is_rela }
+{
+    let ctx = ctx_of(header);
+    let is_mips64el = is_mips64el_in(header.e_machine, ctx);
+    RelocCtx {
+        is_rela,
+        ctx,
+        is_mips64el,
+    }
+}
+
+// Reports whether a relocation from C is the one that is converted for C: it has an addend or none, and then 0.
+fn is_exact(reloc: &GoblinReloc) -> bool
+    ensures { IsTrue result ↔ (reloc_converted (reloc_of reloc.now) ≡ reloc.now) }
+{
+    reloc.has_addend == 1 || reloc.has_addend == 0 && reloc.r_addend == 0
+}
+
+/// Puts the relocation at an index of those of a range, with addends or without. Returns the status.
+pub fn put_reloc(
+    bytes: &mut [u8],
+    header: &GoblinHeader,
+    table: &GoblinRange,
+    is_rela: bool,
+    index: u64,
+    reloc: &GoblinReloc,
+    why: &mut GoblinRefusal,
+) -> u32
+    ensures { Puts (RelocFits header.now is_rela reloc.now)
+        (reloc_put_expected bytes.old header.now table.now is_rela index reloc.now)
+        bytes.old why.old result bytes.new why.new }
+{
+    let found = item_of(relocs_of(bytes, header, table, is_rela), index);
+    let (ctx, record) = (reloc_ctx(header, is_rela), reloc_of(reloc));
+    let fits = record.fits(ctx) && is_exact(reloc);
+    let place = Place {
+        start: table.offset,
+        index,
+    };
+    put_found(bytes, found, place, record, ctx, fits, why)
+}
+
+// Reports whether a number fits into so many bytes.
+fn number_fits(width: u64, value: u64) -> bool
+    requires { IsTrue (is_width width) }
+    ensures { IsTrue result ↔ NumberFits width value }
+{
+    if width == 1 {
+        value < 1 << 8
+    } else if width == 2 {
+        value < 1 << 16
+    } else if width == 4 {
+        value < 1 << 32
+    } else {
+        true
+    }
+}
+
+// Writes a number of a width at an offset.
+fn put_width(bytes: &mut [u8], place: usize, width: u64, value: u64, order: Endian)
+    requires width { IsTrue (is_width width) }
+    requires room { place + width ≤ length bytes.old }
+    requires fits { NumberFits width value }
+    ensures { bytes.new ≡ with_number order bytes.old place width value }
+{
+    if width == 1 {
+        put_u8(bytes, place, value as u8);
+    } else if width == 2 {
+        put_u16(bytes, place, value as u16, order);
+    } else if width == 4 {
+        put_u32(bytes, place, value as u32, order);
+    } else {
+        put_u64(bytes, place, value, order);
+    }
+}
+
+/// Puts a number of a width at an offset, in the file's byte order. Returns the status.
+pub fn put_number(
+    bytes: &mut [u8],
+    header: &GoblinHeader,
+    offset: u64,
+    width: u64,
+    value: u64,
+    why: &mut GoblinRefusal,
+) -> u32
+    ensures { Puts (NumberFits width value)
+        (number_put_expected bytes.old header.now offset width value)
+        bytes.old why.old result bytes.new why.new }
+{
+    match number(bytes, header, offset, width) {
+        Ok(Some(_)) => {
+            if !number_fits(width, value) {
+                return refuse(&unfit(offset), why);
+            }
+            put_width(bytes, offset as usize, width, value, ctx_of(header).le);
+            OK
+        }
+        Ok(None) => END,
+        Err(e) => refuse(&e, why),
+    }
+}
+
+// Returns the class and the byte order that a header names, if the bytes hold a header of the class.
+fn named_ctx(bytes: &[u8], header: &GoblinHeader) -> goblin::error::Result<Ctx>
+    ensures { result ≡ named_ctx bytes.now header.now }
+{
+    let container = match header.ei_class {
+        ELFCLASS32 => Container::Little,
+        ELFCLASS64 => Container::Big,
+        class => return Err(Error::Malformed(Fault::InvalidClass(class))),
+    };
+    let order = match header.ei_data {
+        ELFDATA2LSB => Endian::Little,
+        ELFDATA2MSB => Endian::Big,
+        data => return Err(Error::Malformed(Fault::Data(data))),
+    };
+    let ctx = Ctx::new(container, order);
+    room(bytes.len(), 0, Header::size(ctx))?;
+    Ok(ctx)
+}
+
+/// Puts the header at the start of the file, in the class and the byte order that it names. Returns the status.
+pub fn put_header(bytes: &mut [u8], header: &GoblinHeader, why: &mut GoblinRefusal) -> u32
+    ensures { Puts (FitsClass bytes.old header.now) (header_put_expected bytes.old header.now)
+        bytes.old why.old result bytes.new why.new }
+{
+    let ctx = match named_ctx(bytes, header) {
+        Ok(ctx) => ctx,
+        Err(error) => return refuse(&Refused { error, offset: 0 }, why),
+    };
+    let record = header_of(bytes, header);
+    if !record.fits(ctx.container) {
+        return refuse(&unfit(0), why);
+    }
+    record.into_ctx(bytes, ctx);
+    OK
+}

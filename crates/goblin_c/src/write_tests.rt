@@ -1,0 +1,1 @@
+//! Records that are put and read again, on the file of `tests`.

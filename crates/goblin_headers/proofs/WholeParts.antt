@@ -1,0 +1,290 @@
+-- Lemmas for the lists of headers of a whole part.
+--
+-- A list is not refused exactly if all its records lie whole in the bytes (`whole_is_listed`, `listed_is_whole`). So a
+-- list that isn't refused is its own whole part, and the whole part of one that is refused has as many records as lie
+-- whole in the bytes, or fewer.
+use Rattle.std.proofs.Common.{◌≡◌, ◌<◌, ◌≤◌, ◌+◌, ◌-◌, ◌*◌, ◌/◌, ◌==◌, ℕ, zero, suc, List, [], length, drop, codes}
+use Rattle.std.proofs.Common.{Bool, true, false, nat_lt, min, max, Result, Ok, Err, IsOk, refl, sym, ap, ◌∙◌, arith}
+use Rattle.std.proofs.Common.{if◌then◌else◌, lit<}
+use Rattle.std.proofs.Math.Nat.{le-div_iff_mul-le}
+use Rattle.std.proofs.lemmas.Bool.Decides.{nat_tests}
+use Rattle.goblin_base.specs.declared.container.Container.{Container}
+use Rattle.goblin_base.specs.declared.container.Container.TheVariants as class
+use Rattle.goblin_base.specs.declared.container.Ctx.{Ctx}
+use Rattle.goblin_base.specs.declared.error.Error.{Error}
+use Rattle.goblin_base.specs.declared.scroll.Error.{Error as Misplaced}
+use Rattle.goblin_base.specs.Eager.{records_from, room_of_each}
+use Rattle.goblin_base.specs.Record.{unless_fault}
+use Rattle.goblin_base.specs.RecordLaws.{fits-room_of, unless_fault-is}
+use Rattle.goblin_base.specs.Refusal.{buffer_too_short, misplaced, refusal_of}
+use Rattle.goblin_base.specs.Room.{room_of}
+use Rattle.goblin_base.specs.Steps.{◌>>=◌, refuse_as, refuse_if}
+use Rattle.goblin_base.specs.Table.{records}
+use Rattle.goblin_base.proofs.Eager.{all_fit}
+use Rattle.goblin_headers.specs.declared.program_header.ProgramHeader.{ProgramHeader}
+use Rattle.goblin_headers.specs.declared.section_header.SectionHeader.{SectionHeader}
+use Rattle.goblin_headers.specs.declared.whole_part.WholePart.{WholePart}
+use Rattle.goblin_headers.specs.ProgramHeader.{program_header_of, program_header_size}
+use Rattle.goblin_headers.specs.SectionHeader.{section_header_of, section_header_size}
+use Rattle.goblin_headers.specs.SectionHeaders.{count_asked, count_from, section_headers_from, section_headers_of}
+use Rattle.goblin_headers.specs.WholePart.{IsListOfWhole, SectionsOfWhole, SegmentsOfWhole, WholeIsListed, cut_sections}
+use Rattle.goblin_headers.specs.WholePart.{cut_segments, program_headers_of, sections_part, segment_count}
+use Rattle.goblin_headers.specs.WholePart.{whole_sections, whole_segments}
+use Rattle.goblin_headers.proofs.ReadSections.{first_refused, from_is}
+
+-- the tests before a value were passed if the value came
+last_passed : {E A : Type 0} (first second : Result (Unit {0}) E) (x y : A)
+    → (first >>= λ _. second >>= λ _. Ok x) ≡ Ok y → second ≡ Ok tt
+last_passed (Ok a) (Ok b) x y e = refl
+last_passed (Ok a) (Err b) x y e = absurd (cc)
+last_passed (Err a) second x y e = absurd (cc)
+
+both_passed : {E : Type 0} (first second : Result (Unit {0}) E)
+    → (first >>= λ _. second) ≡ Ok tt → (first ≡ Ok tt) × (second ≡ Ok tt)
+both_passed (Ok a) second e = (refl, e)
+both_passed (Err a) second e = absurd (cc)
+
+passed_within : {E F : Type 0} (within : E → F) (test : Result (Unit {0}) E) → refuse_as within test ≡ Ok tt → test ≡ Ok tt
+passed_within within (Ok x) is = refl
+passed_within within (Err e) is = absurd (cc)
+
+-- records that pass the test of room one by one lie in the bytes
+each_fits : (len start size count : ℕ)
+    → room_of_each len start size (suc count) ≡ Ok tt → start + suc count * size ≤ len
+each_fits len start size zero is =
+    let first = both_passed (room_of len start size) (Ok tt) is in
+    omega (arith, fits-room_of len start size tt first.0)
+each_fits len start size (suc count) is =
+    let first = both_passed (room_of len start size) (room_of_each len (start + size) size (suc count)) is in
+    let rest = each_fits len (start + size) size count first.1 in
+    let sizes : suc (suc count) * size ≡ size + suc count * size = omega arith in
+    omega (arith, rest, sizes)
+
+-- the records of a list that is not refused all lie whole in the bytes
+pub listed_is_whole : {R : Type 0} (size : ℕ) (read : List ℕ → R) (bytes : List ℕ) (start count : ℕ) (name : List ℕ)
+    (all : List R)
+    → 0 < size → records_from size read bytes start count name ≡ Ok all → count ≤ (length bytes - start) / size
+unfolding records_from
+listed_is_whole size read bytes start zero name all some is = omega arith
+listed_is_whole size read bytes start (suc count) name all some is =
+    let tests = last_passed (refuse_if (nat_lt (length bytes / size) (suc count)) (buffer_too_short (suc count) name))
+    (refuse_as misplaced (room_of_each (length bytes) start size (suc count)))
+    (records size read (suc count) (drop start bytes)) all is in
+    let each = passed_within misplaced (room_of_each (length bytes) start size (suc count)) tests in
+    let fits = each_fits (length bytes) start size count each in
+    (le-div_iff_mul-le {k = size} {x = suc count} {y = length bytes - start} some).1 (omega (arith, fits))
+
+-- a list of records that all lie whole in the bytes is not refused
+pub whole_is_listed : {R : Type 0} (size : ℕ) (read : List ℕ → R) (bytes : List ℕ) (start count : ℕ) (name : List ℕ)
+    → 0 < size → count ≤ (length bytes - start) / size
+    → records_from size read bytes start count name ≡ Ok (records size read count (drop start bytes))
+unfolding records_from
+whole_is_listed size read bytes start zero name some whole =
+    let few : nat_lt (length bytes / size) 0 ≡ false = grind (arith, nat_tests) in
+    rw few refl
+whole_is_listed size read bytes start (suc count) name some whole =
+    let there = (le-div_iff_mul-le {k = size} {x = suc count} {y = length bytes - start} some).0 whole in
+    let more : suc count * size ≡ size + count * size = omega arith in
+    let few = (le-div_iff_mul-le {k = size} {x = suc count} {y = length bytes} some).1 (omega (arith, there)) in
+    let test : nat_lt (length bytes / size) (suc count) ≡ false = grind (arith, nat_tests) in
+    let each = all_fit (length bytes) start size (suc count) some (omega (arith, there, more)) whole in
+    rw (test, each) refl
+
+-- a result that is no refusal has a value
+value_of : {A E : Type 0} (answer : Result A E) → IsOk answer → (x : A) × (answer ≡ Ok x)
+value_of (Ok x) fine = (x, refl)
+value_of (Err e) fine = absurd (cc)
+
+is_ok : {A E : Type 0} (answer : Result A E) (x : A) → answer ≡ Ok x → IsOk answer
+is_ok answer x is = rw is refl
+
+not_ok : {A E : Type 0} (answer : Result A E) (e : E) → answer ≡ Err e → IsOk answer → ⊥
+not_ok answer e is fine = let none = rw is at fine in cc
+
+section_some : (of : Container) → 0 < section_header_size of
+section_some class.Little = lit< tt
+section_some class.Big = lit< tt
+
+segment_some : (of : Container) → 0 < program_header_size of
+segment_some class.Little = lit< tt
+segment_some class.Big = lit< tt
+
+module _ (bytes : List ℕ) (offset count : ℕ) (ctx : Ctx) where
+  abbrev size : ℕ
+  size = section_header_size ctx.container
+
+  abbrev read : List ℕ → SectionHeader
+  read = section_header_of ctx.container ctx.le
+
+  -- if all headers that are counted lie in the file, their list isn't refused
+  all_sections : (c most : ℕ)
+      → Ok most ≡ count_from bytes offset c ctx → most ≤ (length bytes - offset) / size
+      → section_headers_from bytes offset c ctx ≡ Ok (records size read most (drop offset bytes))
+  all_sections c most is whole =
+      from_is bytes offset c ctx most is
+      ∙ whole_is_listed size read bytes offset most (codes "section headers") (section_some ctx.container) whole
+
+  -- a count above 0 is the number of headers if the first lies in the file
+  counted : (c most : ℕ) → 0 < c → Ok most ≡ count_from bytes offset count ctx → Ok c ≡ count_from bytes offset c ctx
+  counted c most some is =
+      let room = (unless_fault-is (room_of (length bytes) offset size) most (max 1 (count_asked bytes offset count ctx))
+      is).0 in
+      let test : (c == 0) ≡ false = grind (arith, nat_tests) in
+      let all : c ≡ max 1 c = omega (arith, some) in
+      rw (room, test) (ap Ok all)
+
+  -- the list of the part, from the test whether all lie in the file
+  sections_by : (most : ℕ) (all : Bool)
+      → Ok most ≡ count_from bytes offset count ctx → (whole_sections bytes offset ctx most == most) ≡ all
+      → IsListOfWhole (section_headers_from bytes offset count ctx)
+      (section_headers_from bytes offset (if all then count else min (whole_sections bytes offset ctx most) 0xffff) ctx)
+  sections_by most true is all =
+      let whole : most ≤ (length bytes - offset) / size = grind (arith, nat_tests) in
+      (is_ok _ _ (all_sections count most is whole), λ fine. refl)
+  sections_by most false is all =
+      let some = section_some ctx.container in
+      let room = (unless_fault-is (room_of (length bytes) offset size) most (max 1 (count_asked bytes offset count ctx))
+      is).0 in
+      let first = fits-room_of (length bytes) offset size tt room in
+      let one = (le-div_iff_mul-le {k = size} {x = 1} {y = length bytes - offset} some).1 (omega (arith, first)) in
+      let most_some : 1 ≤ most = (let m = (unless_fault-is (room_of (length bytes) offset size) most (max 1 (count_asked bytes offset count ctx)) is).1 in omega (arith, m)) in
+      let c = min (whole_sections bytes offset ctx most) 0xffff in
+      let c_some : 0 < c = omega (arith, one, most_some) in
+      let c_whole : c ≤ (length bytes - offset) / size = omega arith in (
+        is_ok _ _ (all_sections c c (counted c most c_some is) c_whole),
+        λ fine.
+            let found = value_of (section_headers_from bytes offset count ctx) fine in
+            let whole = listed_is_whole size read bytes offset most (codes "section headers") found.0 some
+            (sym (from_is bytes offset count ctx most is) ∙ found.1) in
+            absurd (grind (arith, nat_tests)),
+      )
+
+  sections_cut : (answer : Result ℕ Error)
+      → count_from bytes offset count ctx ≡ answer → (offset == 0) ≡ false
+      → let part = cut_sections offset count (whole_sections bytes offset ctx) answer in
+      IsListOfWhole (section_headers_from bytes offset count ctx)
+      (section_headers_of bytes part.offset part.count ctx)
+  sections_cut (Ok most) is later =
+      rw later (sections_by most (whole_sections bytes offset ctx most == most) (sym is) refl)
+  sections_cut (Err e) is later =
+      (refl, λ fine. absurd (not_ok _ _ (first_refused bytes offset count ctx e (sym is)) fine))
+
+  sections_from : (none : Bool)
+      → (offset == 0) ≡ none
+      → let part : WholePart = if none then record { offset = 0; count = count }
+      else cut_sections offset count (whole_sections bytes offset ctx) (count_from bytes offset count ctx) in
+      IsListOfWhole (if none then Ok [] else section_headers_from bytes offset count ctx)
+      (section_headers_of bytes part.offset part.count ctx)
+  sections_from true is = (refl, λ fine. refl)
+  sections_from false is = sections_cut (count_from bytes offset count ctx) refl is
+
+pub sections_of_whole : SectionsOfWhole
+sections_of_whole bytes offset count ctx = sections_from bytes offset count ctx (offset == 0) refl
+
+module _ (bytes : List ℕ) (offset : ℕ) (ctx : Ctx) where
+  abbrev phsize : ℕ
+  phsize = program_header_size ctx.container
+
+  abbrev phread : List ℕ → ProgramHeader
+  phread = program_header_of ctx.container ctx.le
+
+  -- a number other than the escape is the number of segments
+  stays : (number sections : ℕ) → number < 0xffff → segment_count bytes number sections ctx ≡ Ok number
+  stays number sections small =
+      let test : (number == 0xffff) ≡ false = grind (arith, nat_tests) in
+      rw test refl
+
+  -- if all headers that are counted lie in the file, their list isn't refused
+  all_segments : (number sections count : ℕ)
+      → segment_count bytes number sections ctx ≡ Ok count → count ≤ (length bytes - offset) / phsize
+      → program_headers_of bytes number offset sections ctx ≡ Ok (records phsize phread count (drop offset bytes))
+  all_segments number sections count is whole =
+      rw is (whole_is_listed phsize phread bytes offset count (codes "program headers") (segment_some ctx.container) whole)
+
+  listed_segments : (number sections n : ℕ) (all : List ProgramHeader)
+      → segment_count bytes number sections ctx ≡ Ok n → program_headers_of bytes number offset sections ctx ≡ Ok all
+      → n ≤ (length bytes - offset) / phsize
+  listed_segments number sections n all is listed =
+      let those = rw is at listed in
+      listed_is_whole phsize phread bytes offset n (codes "program headers") all (segment_some ctx.container) those
+
+  module _ (number sections count : ℕ) where
+    abbrev start : ℕ
+    start = (sections_part bytes sections count ctx).offset
+
+    -- the part from the test whether there are sections, and from the number of them
+    abbrev part_by : Bool → Result ℕ Error → WholePart
+    part_by none answer =
+        if none then record { offset = 0; count = count }
+        else cut_sections sections count (whole_sections bytes sections ctx) answer
+
+    -- section 0 stays where the number of segments was read in it
+    start_by : (none : Bool) (room : Result (Unit {0}) Misplaced) (n : ℕ)
+        → (number == 0xffff) ≡ true → (sections == 0) ≡ none
+        → room_of (length bytes) sections (section_header_size ctx.container) ≡ room
+        → segment_count bytes number sections ctx ≡ Ok n
+        → start ≡ sections
+    start_by true room n escape none there is =
+        let zero : 0 ≡ sections = grind (arith, nat_tests) in
+        ap (λ (no : Bool). (part_by no (count_from bytes sections count ctx)).offset) none ∙ zero
+    start_by false (Ok u) n escape none there is =
+        let asked = max 1 (count_asked bytes sections count ctx) in
+        ap (λ (no : Bool). (part_by no (count_from bytes sections count ctx)).offset) none
+        ∙ ap (λ (room : Result (Unit {0}) Misplaced). (part_by false (unless_fault room asked)).offset) there
+    start_by false (Err e) n escape none there is = let fault = rw (escape, none, there) at is in absurd (cc)
+
+    kept_by : (escape : Bool) (n : ℕ)
+        → (number == 0xffff) ≡ escape
+        → segment_count bytes number sections ctx ≡ Ok n
+        → segment_count bytes number start ctx ≡ Ok n
+    kept_by true n escape is =
+        let same = start_by (sections == 0) (room_of (length bytes) sections (section_header_size ctx.container)) n
+        escape refl refl is in
+        rw same is
+    kept_by false n escape is = let same = rw escape at is in rw escape same
+
+    -- the list of the part, from the test whether all lie in the file
+    segments_by : (n : ℕ) (all : Bool)
+        → segment_count bytes number sections ctx ≡ Ok n → (whole_segments bytes offset ctx n == n) ≡ all
+        → IsListOfWhole (program_headers_of bytes number offset sections ctx)
+        (program_headers_of bytes (if all then number else min (whole_segments bytes offset ctx n) 0xfffe) offset start
+        ctx)
+    segments_by n true is all =
+        let whole : n ≤ (length bytes - offset) / phsize = grind (arith, nat_tests) in
+        let part = all_segments number start n (kept_by (number == 0xffff) n refl is) whole in
+        (is_ok _ _ part, λ fine. part ∙ sym (all_segments number sections n is whole))
+    segments_by n false is all =
+        let m = min (whole_segments bytes offset ctx n) 0xfffe in
+        let small : m < 0xffff = omega arith in
+        let m_whole : m ≤ (length bytes - offset) / phsize = omega arith in (
+          is_ok _ _ (all_segments m start m (stays m start small) m_whole),
+          λ fine.
+              let found = value_of (program_headers_of bytes number offset sections ctx) fine in
+              let whole = listed_segments number sections n found.0 is found.1 in
+              absurd (grind (arith, nat_tests)),
+        )
+
+    segments_cut : (answer : Result ℕ Error)
+        → segment_count bytes number sections ctx ≡ answer
+        → IsListOfWhole (program_headers_of bytes number offset sections ctx)
+        (program_headers_of bytes (cut_segments number (whole_segments bytes offset ctx) answer) offset start ctx)
+    segments_cut (Ok n) is = segments_by n (whole_segments bytes offset ctx n == n) is refl
+    segments_cut (Err e) is =
+        let m = min (whole_segments bytes offset ctx 0xffff) 0xfffe in
+        let small : m < 0xffff = omega arith in
+        let m_whole : m ≤ (length bytes - offset) / phsize = omega arith in
+        let refused : program_headers_of bytes number offset sections ctx ≡ Err (refusal_of e) = rw is refl in (
+          is_ok _ _ (all_segments m start m (stays m start small) m_whole),
+          λ fine. absurd (not_ok _ _ refused fine),
+        )
+
+pub segments_of_whole : SegmentsOfWhole
+segments_of_whole bytes number offset sections count ctx =
+    segments_cut bytes offset ctx number sections count (segment_count bytes number sections ctx) refl
+
+pub headers_of_whole : WholeIsListed
+headers_of_whole bytes h ctx = record {
+  named = refl;
+  sections = sections_of_whole bytes h.e_shoff h.e_shnum ctx;
+  segments = segments_of_whole bytes h.e_phnum h.e_phoff h.e_shoff h.e_shnum ctx;
+}
