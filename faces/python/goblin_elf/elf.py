@@ -112,10 +112,10 @@ class Elf:
         for segment in segments:
             if segment.p_type == PT_NOTE:
                 is_found = True
-                yield from (note for _, note in read_notes(self, segment.p_offset, RANGE.pack(segment[:2]), segment.p_align))
+                yield from (note for _, note in read_notes(self, RANGE.pack(segment[:2]), segment.p_align, 'strict', segment.p_offset))
         section = None if is_found else self.section_by_type(SHT_NOTE)
         while section:
-            yield from (note for _, note in read_notes(self, section.sh_offset, RANGE.pack(section[:2]), section.sh_addralign))
+            yield from (note for _, note in read_notes(self, RANGE.pack(section[:2]), section.sh_addralign, 'strict', section.sh_offset))
             section = self.section_by_type(SHT_NOTE, section.index + 1)
 
     @property

@@ -332,15 +332,16 @@ class Notes(Table[Note]):
     record, item, one = RECORDS['note'], Note, 'note'
 
     def __init__(self, elf: 'Elf', offset: int, size: int, alignment: int, errors: str = 'strict') -> None:
-        self.elf, self._arguments, self._errors = elf, (RANGE.pack((offset, size)), alignment), errors
-        self._places = array('Q', (place for place, _ in read_notes(elf, offset, RANGE.pack((offset, size)), alignment, errors)))
+        self.elf, self._arguments = elf, (RANGE.pack((offset, size)), alignment)
+        self._read_from = functools.partial(read_notes, elf, RANGE.pack((offset, size)), alignment, errors)
+        self._places = array('Q', (place for place, _ in self._read_from(offset)))
 
     def _items(self, first: int, end: int) -> Iterator[Note]:
         for place in self._places[first:end]:
-            yield from (note for _, note in itertools.islice(read_notes(self.elf, place, *self._arguments, self._errors), 1))
+            yield from (note for _, note in itertools.islice(self._read_from(place), 1))
 
 
-def read_notes(elf: 'Elf', offset: int, place: bytes, alignment: int, errors: str = 'strict') -> Iterator[Tuple[int, Note]]:
+def read_notes(elf: 'Elf', place: bytes, alignment: int, errors: str, offset: int) -> Iterator[Tuple[int, Note]]:
     """Yields the notes in a range from an offset of the file on, as they are read, each after its offset."""
     name, file = 'note' if errors == 'strict' else 'note_bytes', elf._file
     while True:
