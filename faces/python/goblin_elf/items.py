@@ -3,6 +3,7 @@ import contextlib
 import ctypes
 import functools
 import itertools
+import operator
 from array import array
 from typing import TYPE_CHECKING, Any, Iterable, Iterator, List, NamedTuple, Optional, Sequence, Tuple, TypeVar, Union, overload
 
@@ -225,11 +226,9 @@ class Table(Sequence[T]):
         return items if filled == len(self) else items[:filled].copy()
 
     def _items(self, first: int, end: int) -> Iterator[T]:
-        """Yields the items from an index to another one."""
-        new, kind = tuple.__new__, self.item
-        for start, chunk in self._chunks(first, end):
-            for index, fields in enumerate(chunk, start):
-                yield new(kind, fields + (index, self))
+        """Yields the items from an index to another one. It is written without a loop of Python, which takes longer."""
+        ends = (map(operator.add, chunk, zip(itertools.count(start), itertools.repeat(self))) for start, chunk in self._chunks(first, end))
+        return map(tuple.__new__, itertools.repeat(self.item), itertools.chain.from_iterable(ends))
 
     def _raw(self, item: T) -> Fields:
         """Returns the fields of the struct of an item."""
