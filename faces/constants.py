@@ -2,14 +2,14 @@
 """Writes the constants of the library's records for C, Rust, JavaScript and Python.
 
     python3 faces/constants.py            writes the end of faces/c/goblin.h, faces/rust/src/constants/*.rs, faces/web/constants.js, and
-                                          constants.py and interface.py of faces/python/goblin_elf
+                                          constants.py, interface.py and names.py of faces/python/goblin_elf
     python3 faces/constants.py --made     writes only the files for JavaScript and Python
     python3 faces/constants.py --check    writes nothing, and fails if goblin.h or a file for Rust is not what it would write
 
 The names, values, types and comments are those of crates/goblin_headers and crates/goblin_records. So a constant is written by
 hand only there. Git has goblin.h, because it is read as documentation, and the files for Rust, so that cargo can take the crate from
-a repository. It ignores the files for JavaScript and Python, which faces/install.sh and checks/faces.sh make; by hand they must be
-made before node or Python reads them.
+a repository. It ignores the files for JavaScript and Python, which faces/install.sh and checks/faces.sh make; by hand they must be made
+before node or Python reads them.
 
 Flags of sections and indices of sections get the type of the field that holds them: `sh_flags` and `st_shndx`. JavaScript and Python also
 get the number of the interface, from goblin.h, and Python all that it declares.
@@ -346,6 +346,26 @@ if TYPE_CHECKING:
     return text + 'CALLS = {\n' + ''.join(f"    '{name}': '{codes}',\n" for name, codes in calls) + '}\n'
 
 
+def py_names():
+    text = f'''"""The names of numbers, as the library has them.
+
+{MADE.replace("the library's constants", HEADER)}
+"""
+from ._library import text, unsigned
+'''
+    pattern = r'/\* Writes the name of ((?:(?!\*/).)*)\n +Example: (?:(?!\*/).)* \*/\nuint64_t goblin_(\w+_to_str)\(([^)]*)\);'
+    for comment, name, arguments in re.findall(pattern, read(HEADER), re.S):
+        kind, number = arguments.split(', ')[-3].split()
+        lines = textwrap.fill(f'"""Returns the name of {words_of(comment)}"""', WIDTH - 4)
+        value = f'unsigned({number}, {kind[4:-2]})'
+        if 'name_len' not in arguments:
+            text += f'\n\ndef {name}({number}: int) -> str:\n{textwrap.indent(lines, "    ")}\n    return text({name!r}, {value})\n'
+            continue
+        text += f'\n\ndef {name}(name: str, {number}: int) -> str:\n{textwrap.indent(lines, "    ")}\n'
+        text += f"    encoded = name.encode('utf-8', 'surrogateescape')\n    return text({name!r}, encoded, len(encoded), {value})\n"
+    return text
+
+
 # ---- C ----
 
 START = '/* ---- constants ----\n'
@@ -435,8 +455,8 @@ def main(arguments):
             print(f'{name} does not have the constants of the library: run python3 faces/constants.py')
         return 1 if stale else 0
     write('faces/web/constants.js', js_file())
-    write('faces/python/goblin_elf/constants.py', py_file())
-    write('faces/python/goblin_elf/interface.py', py_interface())
+    for name, text in [('constants', py_file()), ('interface', py_interface()), ('names', py_names())]:
+        write(f'faces/python/goblin_elf/{name}.py', text)
     for name, text in [] if arguments else of_git:
         if write(name, text):
             print(f'{name} is written anew')

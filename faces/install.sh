@@ -174,6 +174,7 @@ share/man/man1/goblin_show.1 its manual page
 share/goblin_c/README.md how to use the library
 share/goblin_c/examples/ the examples in C
 share/goblin_c/rust/ the Rust crate
+share/goblin_c/python/ the Python package, which needs the shared library
 share/goblin_c/web/ the npm package: the library for WebAssembly, its JavaScript, and its types
 share/goblin_c/web/index.html the page that shows files in a browser
 END
@@ -221,7 +222,7 @@ remove_from() {
         sed '/\/$/d' "$list" | while read -r file; do rm -f "$below/$file"; done
         rm "$list"
     done
-    # (Python leaves what it compiled beside the package)
+    # (Python makes it when the package is first imported)
     rm -rf "$below/share/goblin_c/python/goblin_elf/__pycache__"
     # (lists of earlier versions name no folders)
     if [ -d "$below/share/goblin_c" ]; then find "$below/share/goblin_c" -depth -type d -empty -delete; fi

@@ -5,14 +5,15 @@ The report is a .csv, a .json, or where pyarrow is installed a .parquet. It runs
 own with a worker for each processor, or on one that runs already (--scheduler HOST:PORT), whose workers need this package and the same
 files at the same paths. Without Dask, or with --workers 0, it is one process. The report is the same in each case.
 
-Files are mapped, not read, and symbolic links are not followed. Members of `.a` and `.deb` archives are examined, too: those of a `.deb` if
-they have at most 64 MiB and Python can unpack its data. A batch of files whose worker dies is tried again on another one; a file that ends
-one worker after another is a row with the refusal WORKER_LOST. With --resume, files of the report are left out.
+Files are mapped, and symbolic links are not followed. Members of `.a` and `.deb` archives are examined, too: those of a `.deb` if they have
+at most 64 MiB and Python can unpack its data. A batch whose worker dies is tried again on another one; a file that ends one worker after
+another is a row with the refusal WORKER_LOST. With --resume, files of the report are left out.
 """
 import argparse
 import collections
 import contextlib
 import csv
+import functools
 import itertools
 import json
 import mmap
@@ -43,7 +44,7 @@ def row_of(path: str, member: Optional[str], elf_of: Callable[[], Elf]) -> Row:
         found.update(found['sizes'], needed=' '.join(found['needed']))
     except Refused as error:
         found = refusal(error)
-        found.update(refused=found.pop('kind'), numbers=' '.join(map(str, found['numbers'])))
+        found['numbers'] = ' '.join(map(str, found['numbers']))
     return row_with(path, member, **{column: value for column, value in found.items() if column in COLUMNS})
 
 
@@ -138,24 +139,21 @@ def found_below(folder: str) -> Iterator[str]:
 
 def results_of(client: Any, batches: Iterator[List[str]]) -> Iterator[Result]:
     """Yields the result of each batch, in order. Dask examines a few at once, and tries a batch again, three times, if its worker dies."""
-    waiting = collections.deque((batch, submitted(client, batch)) for batch in itertools.islice(batches, 4 * max(1, len(client.ncores()))))
+    submit = functools.partial(client.submit, examine, pure=False)
+    waiting = collections.deque((batch, submit(batch)) for batch in itertools.islice(batches, 4 * max(1, len(client.ncores()))))
     while waiting:
-        yield result_of(client, *waiting.popleft())
-        waiting.extend((batch, submitted(client, batch)) for batch in itertools.islice(batches, 1))
+        yield result_of(submit, *waiting.popleft())
+        waiting.extend((batch, submit(batch)) for batch in itertools.islice(batches, 1))
 
 
-def submitted(client: Any, batch: List[str]) -> Any:
-    return client.submit(examine, batch, pure=False)
-
-
-def result_of(client: Any, batch: List[str], future: Any) -> Result:
+def result_of(submit: Callable[[List[str]], Any], batch: List[str], future: Any) -> Result:
     """Waits for a batch. If it ends its workers, each file is a batch of its own."""
     from distributed import KilledWorker
     try:
         result: Result = future.result()
     except KilledWorker:
         if len(batch) > 1:
-            return [result for path in batch for result in result_of(client, [path], submitted(client, [path]))]
+            return [result for path in batch for result in result_of(submit, [path], submit([path]))]
         return [(batch[0], [row_with(batch[0], None, refused='WORKER_LOST', text='each worker that examined it ended')], 0.0)]
     return result
 
@@ -246,8 +244,9 @@ def connected(options: argparse.Namespace) -> Any:
         print('scan: distributed is not installed, so this is one process', file=sys.stderr)
         return None
     client: Any = distributed.Client
-    return client(options.scheduler) if options.scheduler else client(n_workers=options.workers or os.cpu_count(), threads_per_worker=1,
-                                                                      dashboard_address=None, memory_limit=options.memory)
+    if options.scheduler:
+        return client(options.scheduler)
+    return client(n_workers=options.workers or os.cpu_count(), threads_per_worker=1, dashboard_address=None, memory_limit=options.memory)
 
 
 def main(arguments: Optional[List[str]] = None) -> int:

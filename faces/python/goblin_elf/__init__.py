@@ -9,13 +9,13 @@ Each call of the library is proved; this package passes its results on and is te
 raises `Refused`; nothing that a file holds raises anything else. Names are the standard's, a 64-bit number is an `int`, and offsets and
 sizes are in bytes. Arrays need numpy, which nothing else does.
 """
-from ._library import (bind_to_str, class_to_str, et_to_str, machine_to_str, note_type_to_str, pt_to_str, shf_to_str, sht_to_str,
-                       type_to_str, visibility_to_str)
 from .constants import *  # noqa: F401, F403
 from .constants import VERSION
 from .elf import Elf
 from .items import Header, Note, Notes, Relocation, Relocations, Section, Sections, Segment, Segments, Strings, Symbol, Symbols, Table
 from .interface import Item, Kind
+from .names import (bind_to_str, class_to_str, et_to_str, machine_to_str, note_type_to_str, pt_to_str, shf_to_str, sht_to_str, type_to_str,
+                    visibility_to_str)
 from .refused import Refused
 
 __all__ = ['Elf', 'Header', 'Item', 'Kind', 'Note', 'Notes', 'Refused', 'Relocation', 'Relocations', 'Section', 'Sections', 'Segment',

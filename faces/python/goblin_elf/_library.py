@@ -3,7 +3,7 @@ import ctypes
 import mmap
 import os
 import struct
-from typing import Any, Callable, Iterable, List, Optional, Tuple
+from typing import Any, Iterable, List, Optional, Tuple
 
 from .constants import VERSION
 from .interface import CALLS, STRUCTS
@@ -58,12 +58,10 @@ def load() -> ctypes.CDLL:
         library = ctypes.CDLL(path)
         version = library.goblin_version()
     except (OSError, AttributeError) as error:
-        raise ImportError(f'goblin_elf needs the shared library {NAME}, and can not load it ({error}): install it, or set '
-                          'GOBLIN_ELF_LIBRARY to its path') from None
-    if version != VERSION:
-        raise ImportError(f'{path} has interface {version}, and this goblin_elf needs interface {VERSION}')
-    if not is_laid_out(library):
-        raise ImportError(f'{path} lays out its structs in another way than this goblin_elf: it is of another version or machine')
+        raise ImportError(f'goblin_elf needs {NAME}, and can not load it ({error}): install it, or set GOBLIN_ELF_LIBRARY') from None
+    if version != VERSION or not is_laid_out(library):
+        what = 'lays out its structs in another way' if version == VERSION else f'has interface {version}, not {VERSION}'
+        raise ImportError(f'{path} {what}: this goblin_elf needs another version of it')
     return library
 
 
@@ -98,9 +96,6 @@ FUNCTIONS = {name: declared(name, codes) for name, codes in CALLS.items()}
 
 class File:
     """The bytes of a file: any object with a buffer, which is kept and whose memory can't move while this or a part of it lives."""
-
-    __slots__ = ('view', 'source', 'address', 'length')
-
     def __init__(self, buffer: Any) -> None:
         self.view = memoryview(buffer).cast('B')
         # (slices of these are faster than those of a memoryview)
@@ -144,22 +139,6 @@ def text(name: str, *arguments: Any) -> str:
     return result.value.decode('utf-8', 'replace')
 
 
-def naming(name: str, bits: int) -> Callable[[int], str]:
-    """Returns the call that returns the name of a number."""
-    return lambda number: text(name, unsigned(number, bits))
-
-
-class_to_str, bind_to_str, type_to_str, visibility_to_str = (naming(f'{name}_to_str', 8) for name in ('class', 'bind', 'type', 'visibility'))
-et_to_str, machine_to_str = (naming(f'{name}_to_str', 16) for name in ('et', 'machine'))
-pt_to_str, sht_to_str, shf_to_str = (naming(f'{name}_to_str', 32) for name in ('pt', 'sht', 'shf'))
-
-
-def note_type_to_str(name: str, n_type: int) -> str:
-    """Returns the name of a note's type, which depends on the note's name, such as NT_GNU_BUILD_ID, or NT_UNKNOWN."""
-    encoded = name.encode('utf-8', 'surrogateescape')
-    return text('note_type_to_str', encoded, len(encoded), unsigned(n_type, 32))
-
-
 def unsigned(number: int, bits: int = 64) -> int:
     """Returns a number that the library takes. Raises a ValueError if it does not fit, since ctypes would cut it."""
     if not 0 <= number < 1 << bits:
@@ -168,13 +147,8 @@ def unsigned(number: int, bits: int = 64) -> int:
 
 
 class Finder:
-    """A call that finds the range of a string at an offset, with prepared arguments, for many calls.
-
-    ctypes passes prepared arguments on without a look, which takes half the time. Threads take them from `free`, so that no two use the
-    same at once.
-    """
-
-    __slots__ = ('function', 'fixed', 'source', 'free')
+    """A call that finds the range of a string at an offset. Its arguments are prepared, so that ctypes converts none, which takes half
+    the time. Threads take them from `free`, so that no two use the same at once."""
 
     def __init__(self, name: str, file: File, strings: bytes) -> None:
         self.function = LIBRARY[f'goblin_{name}']

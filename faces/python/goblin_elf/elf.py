@@ -6,9 +6,10 @@ import os
 import stat
 from typing import Any, Iterable, Iterator, Optional, Union
 
-from ._library import FUNCTIONS, HEADER, RECORDS, File, call, class_to_str, et_to_str, found, machine_to_str, unsigned
+from ._library import FUNCTIONS, HEADER, RANGE, RECORDS, File, call, found, unsigned
 from .constants import ELFCLASS64, ELFDATA2MSB, NT_GNU_BUILD_ID, PT_NOTE, SHT_DYNSYM, SHT_NOTE, SHT_SYMTAB
-from .items import Header, Name, Note, Section, Sections, Segment, Segments, Strings, Symbol, Symbols, named, note_of, read_notes
+from .items import Header, Name, Note, Section, Sections, Segment, Segments, Symbol, Symbols, named, read_notes
+from .names import class_to_str, et_to_str, machine_to_str
 
 
 class Elf:
@@ -16,14 +17,11 @@ class Elf:
 
     `buffer` is any object with a buffer of contiguous bytes, such as bytes, a memoryview or an mmap. It is kept, and neither copied nor
     changed but by what writes. Its length can't change while this object, or a memoryview that it returned, lives. `header` is the
-    header to read by, in place of that of the file: see `whole`.
+    header to read by, in place of that of the file: see `whole`. Threads may read a file at once, since each call lets go of Python's
+    lock. Nothing may write the bytes during a call.
 
     Refused if the file is too short, does not start with the magic number, or has an invalid class or byte order.
-
-    Threads may read a file at once: each call lets go of Python's lock. Nothing may write the bytes during a call.
     """
-
-    __slots__ = ('_file', 'header', '_image', '__weakref__')
 
     def __init__(self, buffer: Any, header: Optional[Header] = None) -> None:
         self._file = File(buffer)
@@ -35,10 +33,10 @@ class Elf:
 
     @classmethod
     def open(cls, path: 'Union[Name, os.PathLike[str]]', *, copy: bool = False) -> 'Elf':
-        """Maps a file into memory, or reads it if `copy` is true. The mapping lives as long as what needs it, without a call to close it.
+        """Maps a file into memory, or reads it if `copy` is true or it is no regular file. Raises OSError if it can not be read.
 
-        If another program makes a mapped file shorter, the operating system ends this one when it reads past the new end (SIGBUS).
-        Use `copy` if that may be. What is no regular file is always read. Raises OSError if the file can not be read.
+        The mapping lives as long as what needs it, without a call to close it. If another program makes a mapped file shorter, the
+        operating system ends this one when it reads past the new end (SIGBUS). Use `copy` if that may be.
         """
         with open(path, 'rb') as file:
             status = os.fstat(file.fileno())
@@ -101,14 +99,12 @@ class Elf:
     def _section(self, table: Sections, name: str, *arguments: Any) -> Optional[Section]:
         index = ctypes.c_uint64()
         fields = found(name, RECORDS['section'], self._file, self._image, *arguments, ctypes.byref(index))
-        return table._made(fields, index.value) if fields else None
+        return Section._make((*fields, index.value, table)) if fields else None
 
     @property
     def notes(self) -> Iterator[Note]:
-        """The notes of all segments of type PT_NOTE, or if there are none, of all sections of type SHT_NOTE, as they are read.
-
-        Refused as the headers are, and then at the first damaged note.
-        """
+        """The notes of all segments of type PT_NOTE, or if there are none, of all sections of type SHT_NOTE, as they are read. Refused as
+        the headers are, and then at the first damaged note."""
         return self._notes(self.segments)
 
     def _notes(self, segments: Iterable[Segment]) -> Iterator[Note]:
@@ -116,22 +112,17 @@ class Elf:
         for segment in segments:
             if segment.p_type == PT_NOTE:
                 is_found = True
-                yield from (note_of(self._file, note) for _, note in read_notes(self, *segment[:2], segment.p_align))
+                yield from (note for _, note in read_notes(self, RANGE.pack(segment[:2]), segment.p_align, 'strict', segment.p_offset))
         section = None if is_found else self.section_by_type(SHT_NOTE)
         while section:
-            yield from (note_of(self._file, note) for _, note in read_notes(self, *section[:2], section.sh_addralign))
+            yield from (note for _, note in read_notes(self, RANGE.pack(section[:2]), section.sh_addralign, 'strict', section.sh_offset))
             section = self.section_by_type(SHT_NOTE, section.index + 1)
 
     @property
     def build_id(self) -> Optional[memoryview]:
-        """The descriptor of the first note GNU of type NT_GNU_BUILD_ID, or `None`: `elf.build_id.hex()`. Refused as `notes` are.
-
-        It is looked for in the first 65,536 notes.
-        """
-        return self._build_id(self.segments)
-
-    def _build_id(self, segments: Iterable[Segment]) -> Optional[memoryview]:
-        notes = itertools.islice(self._notes(segments), 65536)
+        """The descriptor of the first note GNU of type NT_GNU_BUILD_ID, or `None`. Refused as `notes` are. It is looked for in the first
+        65,536 notes of the first 131,072 segments."""
+        notes = itertools.islice(self._notes(self.segments[:1 << 17]), 1 << 16)
         return next((note.desc for note in notes if note.n_type == NT_GNU_BUILD_ID and note.name == 'GNU'), None)
 
     def symbol_at(self, address: int) -> Optional[Symbol]:
@@ -142,25 +133,19 @@ class Elf:
         """Returns the offset in the file of the byte that is loaded at an address, or `None` if there is none."""
         return self._find_number('address_to_offset', unsigned(address))
 
-    def strings(self, offset: int, size: int) -> Strings:
-        """Returns a range of the file as a string table. Never refused: a string of it may be."""
-        return Strings(self, unsigned(offset), unsigned(size))
-
     def number(self, offset: int, width: int) -> int:
         """Returns the number in `width` bytes (1, 2, 4 or 8) at an offset, in the file's order. Refused if it is not inside the file."""
         return self._number('number', unsigned(offset), unsigned(width))
 
     def put_header(self, header: Header) -> None:
-        """Writes a header at the start of the file, in the class and byte order that it names, and reads by it from now on.
-
-        Refused if its class or byte order is invalid, if the file has no room for it, or if a number does not fit its class.
-        """
-        call('put_header', self._writable(), HEADER.pack(header))
+        """Writes a header at the start of the file, in the class and byte order that it names, and reads by it from now on. Refused if its
+        class or byte order is invalid, if the file is too short for it, or if a number does not fit its class."""
+        self._write('put_header', HEADER.pack(header))
         self._use(None)
 
     def put_number(self, offset: int, width: int, value: int) -> None:
         """Writes a number into `width` bytes (1, 2, 4 or 8) at an offset. Refused if it does not fit, or is not inside the file."""
-        if not self._write('put_number', unsigned(offset), unsigned(width), unsigned(value)):
+        if not self._write('put_number', self._image, unsigned(offset), unsigned(width), unsigned(value)):
             raise ValueError('the width of a number is 1, 2, 4 or 8')
 
     def _number(self, name: str, *arguments: Any) -> int:
@@ -176,12 +161,9 @@ class Elf:
 
     def _write(self, name: str, *arguments: Any) -> bool:
         """Makes a call that writes into the file, and returns whether there is such an item."""
-        return call(name, self._writable(), self._image, *arguments)
-
-    def _writable(self) -> File:
         if self._file.view.readonly:
             raise TypeError('the bytes of this file are read-only: make it of a bytearray, or of a mapping that can be written')
-        return self._file
+        return call(name, self._file, *arguments)
 
     def __repr__(self) -> str:
         names = class_to_str(self.header.ei_class), et_to_str(self.header.e_type), machine_to_str(self.header.e_machine)

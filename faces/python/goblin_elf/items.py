@@ -1,12 +1,16 @@
 """What a file holds: items, which are tuples with names, and the tables that they are in, which are sequences."""
 import contextlib
 import ctypes
+import functools
+import itertools
+import operator
 from array import array
 from typing import TYPE_CHECKING, Any, Iterable, Iterator, List, NamedTuple, Optional, Sequence, Tuple, TypeVar, Union, overload
 
-from ._library import FUNCTIONS, RANGE, RECORDS, File, Finder, Record, call, found, sht_to_str, unsigned
+from ._library import FUNCTIONS, RANGE, RECORDS, Finder, Record, call, found, unsigned
 from .constants import SHT_DYNSYM, SHT_REL, SHT_RELA, SHT_SYMTAB
 from .interface import HeaderFields, Kind, RelocFields, SectionFields, SegmentFields, SymbolFields
+from .names import sht_to_str
 from .refused import Refused
 
 if TYPE_CHECKING:
@@ -17,18 +21,16 @@ Fields = Tuple[int, ...]
 Name = Union[str, bytes]
 # How many items are read by one call.
 CHUNK = 4096
-# The fields that are printed as decimal numbers. The others are printed as hexadecimal ones.
-DECIMAL = {'e_type', 'e_machine', 'e_phnum', 'e_shnum', 'e_shstrndx', 'sh_type', 'sh_link', 'sh_info', 'st_shndx', 'r_sym', 'r_type',
-           'r_addend', 'index'}
 
 
 class Entry:
     """What items have: a `repr`, and equality by the standard's fields, which are all but the index and the table."""
-
     __slots__ = ()
+    __ne__ = object.__ne__
 
     def __repr__(self: Any) -> str:
-        parts = [f'{field}={value if field in DECIMAL else hex(value)}' for field, value in zip(self._fields, self) if field != 'table']
+        fields = [(field, value) for field, value in zip(self._fields, self) if field != 'table']
+        parts = [f'{field}={value if value is None or value < 10 else hex(value)}' for field, value in fields]
         with contextlib.suppress(AttributeError, Refused):
             parts.insert(0, f'name={self.name!r}')
         return f'{type(self).__name__}({", ".join(parts)})'
@@ -36,16 +38,12 @@ class Entry:
     def __eq__(self: Any, other: Any) -> bool:
         return type(other) is type(self) and bool(self[:-2] == other[:-2])
 
-    def __ne__(self, other: Any) -> bool:
-        return not self == other
-
     def __hash__(self: Any) -> int:
         return hash(self[:-2])
 
 
 class Held(Entry):
     """What sections and segments have. Their first two fields are a range of the file, and their sixth is its alignment."""
-
     __slots__ = ()
 
     @property
@@ -79,14 +77,12 @@ class Held(Entry):
 
 class Header(HeaderFields):
     """A file's header. goblin.h has more on each field. To write a changed one: `elf.put_header(elf.header._replace(e_entry=0))`."""
-
     __slots__ = ()
     __repr__ = Entry.__repr__
 
 
 class Section(Held, SectionFields):
     """A section header, with its index in its table. Offsets and sizes are in bytes."""
-
     __slots__ = ()
 
     @property
@@ -98,7 +94,7 @@ class Section(Held, SectionFields):
     def linked(self) -> Optional['Section']:
         """The section that `sh_link` names, or `None` if there is none that has bytes. Refused if the section headers are."""
         fields = found('linked_section', RECORDS['section'], self.table.elf._file, self.table.elf._image, self.sh_link)
-        return self.table._made(fields, self.sh_link) if fields else None
+        return Section._make((*fields, self.sh_link, self.table)) if fields else None
 
     @property
     def strings(self) -> 'Strings':
@@ -126,13 +122,11 @@ class Section(Held, SectionFields):
 
 class Segment(Held, SegmentFields):
     """A program header, with its index in its table. Offsets and sizes are in bytes."""
-
     __slots__ = ()
 
 
 class Symbol(Entry, SymbolFields):
     """A symbol, with its index in its table."""
-
     __slots__ = ()
 
     @property
@@ -158,7 +152,6 @@ class Symbol(Entry, SymbolFields):
 
 class Relocation(Entry, RelocFields):
     """A relocation, with its index in its table."""
-
     __slots__ = ()
 
     @property
@@ -186,18 +179,18 @@ class Table(Sequence[T]):
     made, an item may be refused, or raise an IndexError if it is gone. `table[index] = item` writes an item into a buffer that can be
     written: it raises Refused with `Kind.INTEGER_FIT` if a number does not fit the file's class, and then changes nothing.
     """
-
-    __slots__ = ('elf', '_arguments', '_length')
     record: Record
     item: Any
-    one, many, put = '', '', ''
+    # The call for one item, and that for many if there is one.
+    one, many = '', ''
 
-    def __init__(self, elf: 'Elf', count: str, *arguments: Any) -> None:
+    def __init__(self, elf: 'Elf', *arguments: Any) -> None:
         self.elf, self._arguments = elf, arguments
-        self._length = elf._find_number(count, *arguments) or 0
+        # What the call for one item takes for each.
+        self._places: Sequence[int] = range(elf._find_number(f'{self.one}_count', *arguments) or 0)
 
     def __len__(self) -> int:
-        return self._length
+        return len(self._places)
 
     @overload
     def __getitem__(self, index: int) -> T: ...
@@ -205,49 +198,37 @@ class Table(Sequence[T]):
     def __getitem__(self, index: slice) -> List[T]: ...
 
     def __getitem__(self, index: Union[int, slice]) -> Union[T, List[T]]:
-        if isinstance(index, slice):
-            places = range(self._length)[index]
+        places = range(len(self))[index]
+        if isinstance(places, range):
             return list(self._items(places.start, places.stop)) if places.step == 1 else [self[place] for place in places]
-        place, result = range(self._length)[index], self.record.buffer()
-        if not self._read(place, result):
-            raise IndexError(f'there is no item {place} any more')
-        return self._made(self.record.struct.unpack(result), place)
+        for item in self._items(places, places + 1):
+            return item
+        raise IndexError(f'there is no item {places} any more')
 
     def __setitem__(self, index: int, item: T) -> None:
-        if not isinstance(item, self.item) or not self.put:
+        if not isinstance(item, self.item) or isinstance(item, Note):
             raise TypeError(f'an item of a {type(self).__name__} can not be a {type(item).__name__}, or can not be written')
-        place = range(self._length)[index]
-        if not self.elf._write(self.put, *self._arguments, place, self.record.pack(self._raw(item))):
+        place, struct = range(len(self))[index], self.record.pack(self._raw(item))
+        if not self.elf._write(f'put_{self.one}', self.elf._image, *self._arguments, place, struct):
             raise IndexError(f'there is no item {place} any more')
 
     def __iter__(self) -> Iterator[T]:
-        return self._items(0, self._length)
-
-    def __reversed__(self) -> Iterator[T]:
-        for end in range(self._length, 0, -CHUNK):
-            yield from reversed(list(self._items(max(end - CHUNK, 0), end)))
+        return self._items(0, len(self))
 
     def __repr__(self) -> str:
-        return f'<{type(self).__name__}: {self._length} items>'
+        return f'<{type(self).__name__}: {len(self)} items>'
 
     def array(self) -> Any:
         """Returns all items as a structured array of numpy, which owns its memory. Its fields have the names of goblin.h."""
         import numpy
-        items = numpy.empty(self._length, self.record.dtype())
-        filled = self._fill(0, items.ctypes.data, self._length)
-        return items if filled == self._length else items[:filled].copy()
+        items = numpy.empty(len(self), self.record.dtype())
+        filled = self._fill(0, items.ctypes.data, len(self))
+        return items if filled == len(self) else items[:filled].copy()
 
     def _items(self, first: int, end: int) -> Iterator[T]:
-        """Yields the items from an index to another one."""
-        new, kind = tuple.__new__, self.item
-        for start, chunk in self._chunks(first, end):
-            for index, fields in enumerate(chunk, start):
-                yield new(kind, fields + (index, self))
-
-    def _made(self, fields: Fields, index: int) -> T:
-        """Returns the item of a struct."""
-        item: T = self.item(*fields, index, self)
-        return item
+        """Yields the items from an index to another one. It is written without a loop of Python, which takes longer."""
+        ends = (map(operator.add, chunk, zip(itertools.count(start), itertools.repeat(self))) for start, chunk in self._chunks(first, end))
+        return map(tuple.__new__, itertools.repeat(self.item), itertools.chain.from_iterable(ends))
 
     def _raw(self, item: T) -> Fields:
         """Returns the fields of the struct of an item."""
@@ -264,38 +245,26 @@ class Table(Sequence[T]):
 
     def _column(self, place: int) -> List[int]:
         """Returns a field of all items."""
-        return [fields[place] for _, chunk in self._chunks(0, self._length) for fields in chunk]
-
-    def _read(self, place: int, target: Any) -> bool:
-        """Reads the struct at an index, and returns whether there is one."""
-        return call(self.one, self.elf._file, self.elf._image, *self._arguments, place, target)
+        return [fields[place] for _, chunk in self._chunks(0, len(self)) for fields in chunk]
 
     def _fill(self, first: int, address: int, capacity: int) -> int:
         """Reads structs from an index on into memory, and returns their number."""
+        call_with = functools.partial(call, self.many or self.one, self.elf._file, self.elf._image, *self._arguments)
         if not self.many:
-            return next((i for i in range(capacity) if not self._read(first + i, address + i * self.record.size)), capacity)
+            return next((i for i in range(capacity) if not call_with(self._places[first + i], address + i * self.record.size)), capacity)
         filled = ctypes.c_uint64()
-        call(self.many, self.elf._file, self.elf._image, *self._arguments, first, address, capacity, ctypes.byref(filled))
+        call_with(first, address, capacity, ctypes.byref(filled))
         return filled.value
 
 
 class Sections(Table[Section]):
     """The section headers. Refused if they are not all inside the file: see `Elf.whole`."""
+    record, item, one, many = RECORDS['section'], Section, 'section', 'sections'
 
-    __slots__ = ('_strings',)
-    record, item, one, many, put = RECORDS['section'], Section, 'section', 'sections', 'put_section'
-
-    def __init__(self, elf: 'Elf') -> None:
-        super().__init__(elf, 'section_count')
-        self._strings: Optional[Strings] = None
-
-    @property
+    @functools.cached_property
     def strings(self) -> 'Strings':
         """The section names: an empty table if the file has none. Refused if the section headers are."""
-        if self._strings is None:
-            fields = found('section_names', self.record, self.elf._file, self.elf._image)
-            self._strings = Strings(self.elf, *(fields or (0, 0))[:2])
-        return self._strings
+        return Strings(self.elf, *(found('section_names', self.record, self.elf._file, self.elf._image) or (0, 0))[:2])
 
     def names(self, errors: str = 'strict') -> List[Optional[str]]:
         """Returns the names of all sections in one pass: see `Strings.get`."""
@@ -304,22 +273,15 @@ class Sections(Table[Section]):
 
 class Segments(Table[Segment]):
     """The program headers. Refused if they are not all inside the file: see `Elf.whole`."""
-
-    __slots__ = ()
-    record, item, one, put = RECORDS['segment'], Segment, 'segment', 'put_segment'
-
-    def __init__(self, elf: 'Elf') -> None:
-        super().__init__(elf, 'segment_count')
+    record, item, one = RECORDS['segment'], Segment, 'segment'
 
 
 class Symbols(Table[Symbol]):
     """The symbols in a range of the file, with the string table of their names: none by default."""
-
-    __slots__ = ('strings',)
-    record, item, one, many, put = RECORDS['symbol'], Symbol, 'symbol', 'symbols', 'put_symbol'
+    record, item, one, many = RECORDS['symbol'], Symbol, 'symbol', 'symbols'
 
     def __init__(self, elf: 'Elf', offset: int, size: int, strings: Optional['Strings'] = None) -> None:
-        super().__init__(elf, 'symbol_count', RANGE.pack((offset, size)))
+        super().__init__(elf, RANGE.pack((offset, size)))
         self.strings = strings or Strings(elf, 0, 0)
 
     def names(self, errors: str = 'strict') -> List[Optional[str]]:
@@ -341,22 +303,17 @@ class Symbols(Table[Symbol]):
 
 class Relocations(Table[Relocation]):
     """The relocations in a range of the file, with addends or without, and the section that they are."""
-
-    __slots__ = ('section', '_symbols')
-    record, item, one, many, put = RECORDS['reloc'], Relocation, 'reloc', 'relocs', 'put_reloc'
+    record, item, one, many = RECORDS['reloc'], Relocation, 'reloc', 'relocs'
 
     def __init__(self, elf: 'Elf', offset: int, size: int, is_rela: bool, section: Optional[Section] = None) -> None:
-        super().__init__(elf, 'reloc_count', RANGE.pack((offset, size)), is_rela)
+        super().__init__(elf, RANGE.pack((offset, size)), is_rela)
         self.section = section
-        self._symbols: Optional[Symbols] = None
 
-    @property
+    @functools.cached_property
     def symbols(self) -> Symbols:
         """The symbols that they refer to: none if their section links to none. Refused as `Section.symbols` is."""
-        if self._symbols is None:
-            linked = self.section.linked if self.section else None
-            self._symbols = linked.symbols if linked else Symbols(self.elf, 0, 0)
-        return self._symbols
+        linked = self.section.linked if self.section else None
+        return linked.symbols if linked else Symbols(self.elf, 0, 0)
 
     def _items(self, first: int, end: int) -> Iterator[Relocation]:
         new = tuple.__new__
@@ -364,66 +321,47 @@ class Relocations(Table[Relocation]):
             for index, (offset, symbol, addend, kind, has) in enumerate(chunk, start):
                 yield new(Relocation, (offset, symbol, addend if has else None, kind, index, self))
 
-    def _made(self, fields: Fields, index: int) -> Relocation:
-        offset, symbol, addend, kind, has = fields
-        return Relocation(offset, symbol, addend if has else None, kind, index, self)
-
     def _raw(self, item: Relocation) -> Fields:
         return item.r_offset, item.r_sym, item.r_addend or 0, item.r_type, int(item.r_addend is not None)
 
 
 class Notes(Table[Note]):
-    """The notes in a range of the file, as a segment or a section of notes has them. Refused at the first damaged note."""
+    """The notes in a range of the file, as a segment or a section of notes has them. Refused at the first damaged note, and if a name is not
+    UTF-8. With other `errors` than 'strict' a name is decoded as they mean instead, and a note must lie in the range whole."""
+    record, item, one = RECORDS['note'], Note, 'note'
 
-    __slots__ = ('_offsets',)
-    record, item = RECORDS['note'], Note
-
-    def __init__(self, elf: 'Elf', offset: int, size: int, alignment: int) -> None:
+    def __init__(self, elf: 'Elf', offset: int, size: int, alignment: int, errors: str = 'strict') -> None:
         self.elf, self._arguments = elf, (RANGE.pack((offset, size)), alignment)
-        self._offsets = array('Q', (place for place, _ in read_notes(elf, offset, size, alignment)))
-        self._length = len(self._offsets)
-
-    def _read(self, place: int, target: Any) -> bool:
-        return call('note', self.elf._file, self.elf._image, *self._arguments, self._offsets[place], target)
+        self._read_from = functools.partial(read_notes, elf, RANGE.pack((offset, size)), alignment, errors)
+        self._places = array('Q', (place for place, _ in self._read_from(offset)))
 
     def _items(self, first: int, end: int) -> Iterator[Note]:
-        return (self[place] for place in range(first, end))
-
-    def _made(self, fields: Fields, index: int) -> Note:
-        return note_of(self.elf._file, fields)
+        for place in self._places[first:end]:
+            yield from (note for _, note in itertools.islice(self._read_from(place), 1))
 
 
-def read_notes(elf: 'Elf', offset: int, size: int, alignment: int) -> Iterator[Tuple[int, Fields]]:
-    """Yields the structs of the notes in a range of the file as they are read, each after its offset."""
-    place = RANGE.pack((offset, size))
+def read_notes(elf: 'Elf', place: bytes, alignment: int, errors: str, offset: int) -> Iterator[Tuple[int, Note]]:
+    """Yields the notes in a range from an offset of the file on, as they are read, each after its offset."""
+    name, file = 'note' if errors == 'strict' else 'note_bytes', elf._file
     while True:
-        fields = found('note', RECORDS['note'], elf._file, elf._image, place, alignment, offset)
+        fields = found(name, RECORDS['note'], file, elf._image, place, alignment, offset)
         if fields is None:
             return
-        yield offset, fields
+        text = bytes(file.part(*fields[:2]))
+        yield offset, Note(fields[5], str(text if errors == 'strict' else text.rstrip(b'\0'), 'utf-8', errors), file.part(*fields[2:4]))
         offset = fields[4]
-
-
-def note_of(file: File, fields: Fields) -> Note:
-    """Returns the note of a struct."""
-    return Note(fields[5], str(file.part(*fields[:2]), 'utf-8'), file.part(*fields[2:4]))
 
 
 class Strings:
     """A string table: a range of the file. The offsets of its strings count from its start, in bytes."""
-
-    __slots__ = ('_range', '_texts', '_any')
 
     def __init__(self, elf: 'Elf', offset: int, size: int) -> None:
         self._range: bytes = RANGE.pack((offset, size))
         self._texts, self._any = (Finder(name, elf._file, self._range) for name in ('string', 'string_bytes'))
 
     def get(self, offset: int, errors: str = 'strict') -> Optional[str]:
-        """Returns the string at an offset, or `None` if that is past the end of the table.
-
-        Refused if the table is not inside the file, or if the string is not UTF-8. With other `errors` than 'strict', such as 'replace'
-        or 'surrogateescape', a string that is not UTF-8 is decoded as they mean.
-        """
+        """Returns the string at an offset, or `None` past the end. Refused if the table is not inside the file, or if the string is not
+        UTF-8. With other `errors` than 'strict', such as 'replace' or 'surrogateescape', it is decoded as they mean instead."""
         found = (self._texts if errors == 'strict' else self._any).get(offset)
         return None if found is None else str(found, 'utf-8', errors)
 
@@ -438,6 +376,6 @@ class Strings:
 
 
 def named(name: Name) -> Tuple[bytes, int]:
-    """Returns a name as the library takes it. A str is UTF-8 there."""
-    encoded = name.encode('utf-8', 'surrogateescape') if isinstance(name, str) else bytes(name)
+    """Returns a name as the library takes it: its bytes, which are UTF-8 of a str, and their number."""
+    encoded = name.encode('utf-8', 'surrogateescape') if isinstance(name, str) else name
     return encoded, len(encoded)

@@ -13,8 +13,8 @@ import threading
 import unittest
 
 import goblin_elf
-from goblin_elf import (EM_X86_64, PF_X, SHF_ALLOC, SHF_EXECINSTR, SHT_PROGBITS, SHT_RELA, SHT_SYMTAB, STT_FUNC, Elf, Item, Kind, Refused,
-                        Symbols)
+from goblin_elf import (EM_X86_64, PF_X, SHF_ALLOC, SHF_EXECINSTR, SHT_PROGBITS, SHT_RELA, SHT_SYMTAB, STT_FUNC, Elf, Item, Kind, Notes, Refused,
+                        Strings, Symbols)
 from goblin_elf import __main__ as program
 from goblin_elf import _library, constants
 
@@ -157,9 +157,9 @@ class Sequences(unittest.TestCase):
         self.assertNotEqual(elf.symbols[1], elf.symbols[2])
         self.assertNotEqual(elf.symbols[1], elf.symbols[1]._replace(st_other=1))
         self.assertFalse(elf.segments[0] == elf.sections[1])
-        self.assertIn("name='main', st_name=0x1, st_value=0x1004", repr(elf.symbols[1]))
+        self.assertIn("name='main', st_name=1, st_value=0x1004, st_size=8, st_shndx=1, st_info=0x12", repr(elf.symbols[1]))
         self.assertIn("r_offset=0x10, r_sym=1, r_addend=-4, r_type=2, index=0", repr(elf.section('.rela.text').relocations[0]))
-        self.assertIn('e_machine=62', repr(elf.header))
+        self.assertIn('e_machine=0x3e', repr(elf.header))
 
     def test_many_items(self):
         # more symbols than one call reads: each has its index as its value
@@ -202,9 +202,9 @@ class Refusals(unittest.TestCase):
             error = refusal(getattr, elf.section('.text'), expected)
             self.assertEqual((error.kind, error.numbers, str(error)),
                              (Kind.SECTION_TYPE, (1,), f'A section of type 0x1 (SHT_PROGBITS) holds no {expected}'))
-        self.assertEqual(refusal(elf.strings(1 << 40, 1).get, 0).kind, Kind.STRTAB_OFFSET)
-        self.assertEqual(refusal(elf.strings(64, 1 << 40).get, 0).kind, Kind.STRTAB_RANGE)
-        odd = Elf(MADE.bytes + b'caf\xe9\0').strings(len(MADE.bytes), 5)
+        self.assertEqual(refusal(Strings(elf, 1 << 40, 1).get, 0).kind, Kind.STRTAB_OFFSET)
+        self.assertEqual(refusal(Strings(elf, 64, 1 << 40).get, 0).kind, Kind.STRTAB_RANGE)
+        odd = Strings(Elf(MADE.bytes + b'caf\xe9\0'), len(MADE.bytes), 5)
         error = refusal(odd.get, 0)
         self.assertEqual((error.kind, error.item, error.offset), (Kind.BAD_INPUT, Item.INVALID_UTF8, len(MADE.bytes)))
         self.assertEqual((odd.get_bytes(0), odd.get(0, 'replace'), odd.get(0, 'surrogateescape')), (b'caf\xe9', 'caf\ufffd', 'caf\udce9'))
@@ -218,6 +218,17 @@ class Refusals(unittest.TestCase):
         error = refusal(lambda: Elf(changed).section('.note.gnu.build-id').notes)
         self.assertEqual((error.kind, error.offset), (Kind.TOO_BIG, offset))
         self.assertEqual(refusal(lambda: Elf(changed).build_id).kind, Kind.TOO_BIG)
+
+    def test_of_names_of_notes(self):
+        offset, size = MADE.offsets['.note.gnu.build-id']
+        changed = bytearray(MADE.bytes)
+        changed[offset + 12:offset + 15] = b'\xe9N\0'
+        elf = Elf(changed)
+        error = refusal(Notes, elf, offset, size, 4)
+        self.assertEqual((error.kind, error.item), (Kind.BAD_INPUT, Item.INVALID_UTF8))
+        self.assertEqual([note.name for note in Notes(elf, offset, size, 4, 'surrogateescape')], ['\udce9N'])
+        error = refusal(Notes, elf, offset, size - 1, 4, 'replace')
+        self.assertEqual((error.kind, error.item, error.offset), (Kind.TOO_BIG, Item.NOTE_DESC, offset))
 
     def test_it_can_be_pickled(self):
         error = refusal(Elf, bytes(16))
@@ -421,6 +432,7 @@ class Arrays(unittest.TestCase):
             self.assertEqual(array['has_addend'].tolist(), [1, 1])
             self.assertTrue(elf.symbols.array().flags.owndata)
             self.assertEqual(elf.dynamic_symbols.array().shape, (0,))
+            self.assertEqual(elf.segments[1].notes.array()[['n_type', 'desc_size']].tolist(), [(3, 20)])
 
 
 class Library(unittest.TestCase):
@@ -433,9 +445,9 @@ class Library(unittest.TestCase):
 
     def test_a_wrong_library(self):
         status, said = self.load('/nonexistent')
-        self.assertTrue(status == 1 and 'ImportError: goblin_elf needs the shared library' in said, said)
+        self.assertTrue(status == 1 and 'ImportError: goblin_elf needs libgoblin_c.so.' in said, said)
         with tempfile.TemporaryDirectory() as folder:
-            for version, layout, expected in [(4, '', 'has interface 4, and this goblin_elf needs interface'),
+            for version, layout, expected in [(4, '', 'has interface 4, not '),
                                               (constants.VERSION, '((char *)layout)[0] = 1;', 'lays out its structs in another way')]:
                 source, path = os.path.join(folder, 'wrong.c'), os.path.join(folder, 'wrong.so')
                 with open(source, 'w') as file:
@@ -479,10 +491,10 @@ class Program(unittest.TestCase):
                 with open(path, 'wb') as file:
                     file.write(content)
             status, said = self.run_it(*paths)
-            for line in ('  kind         object (REL)', '  class        ELF64, little endian, X86_64', f'  build id     {made.BUILD_ID.hex()}',
-                         '  counts       9 sections, 2 segments, 7 symbols, 0 dynamic symbols',
-                         '  refused      Invalid magic number: 0x0 (BAD_MAGIC, at offset 0x0)', '  error        No such file or directory',
-                         f'{folder}/odd\ufffd'):
+            for line in ('  kind             object', '  class            ELF64', f'  build id         {made.BUILD_ID.hex()}',
+                         '  entry            0x1004', '  symbols          7', '  stripped         no', '  code             128',
+                         '  text             Invalid magic number: 0x0', '  refused          BAD_MAGIC',
+                         '  error            No such file or directory', f'{folder}/odd\ufffd'):
                 self.assertIn(line, said.split('\n'))
             self.assertEqual(status, 1)
             status, said = self.run_it('--json', *paths[:1])
