@@ -6,8 +6,11 @@ pub mod IndexLemmas
 pub mod NoteLemmas
 pub mod PlaceLemmas
 pub mod SearchLemmas
+pub mod PutLemmas
 pub mod ReadLemmas
 pub mod StepLemmas
 pub mod StringLemmas
 pub mod TextLemmas
+pub mod WholeLemmas
 pub mod WindowLemmas
+pub mod WriteLemmas
