@@ -112,10 +112,11 @@ def edits(crates, copy, *words, what='edits'):
     return [Part(f'{what} of {crate}', [PYTHON, 'checks/edits', '--over', copy, *words, crate], (f'proof of {crate}',), copy) for crate in crates]
 
 
-def crates_with(kinds, name=None):
-    """The crates that have edits of these folders, or one of this name."""
-    return [crate for crate in crates_listed() for kind in kinds if os.path.isdir(kind.format(crate))
-            and any(name in (None, file[:-len('.edit')]) for file in os.listdir(kind.format(crate)))]
+def crates_with(kinds, name=None, folder=''):
+    """The crates that have edits of these kinds, or of a folder that has a folder for each crate; or one of this name."""
+    folders = lambda crate: [f'{folder}/{crate}'] if folder else [f'crates/{crate}/{kind}' for kind in kinds]
+    return [crate for crate in crates_listed() if any(name in (None, file[:-len('.edit')]) for path in folders(crate) if os.path.isdir(path)
+                                                      for file in os.listdir(path))]
 
 
 def test(room, whole):
@@ -131,8 +132,9 @@ def test(room, whole):
     if not whole:
         parts += [here(f'tests of {crate}', f'sh checks/tests.sh {crate}') for crate in crates_listed() if has_tests(crate)]
     parts += [here('calls from other languages', 'sh checks/faces.sh', 'proof of goblin_c')]
-    crates = dict.fromkeys(crates_with([f'crates/{{}}/{kind}' for kind in kinds]))
-    parts += edits(crates, copy, '--kinds', ','.join(kinds), what='edits' if whole else 'must-fail')
+    # (all kinds together take fewer checks, and each by itself ends sooner)
+    for some in [','.join(kinds)] if whole else kinds:
+        parts += edits(crates_with(some.split(',')), copy, '--kinds', some, what='edits' if whole else some)
     parts += [here('refused allocations', 'sh checks/refused.sh'), here('the program', f'{PYTHON} checks/program.py', 'proof of goblin_show'),
               here('hostile files', f'{PYTHON} checks/limits.py', 'proof of goblin_show', 'proof of goblin_refused')]
     return parts + [here("the edits' own test", f'{PYTHON} checks/edits/self_test.py')] * whole
@@ -227,8 +229,7 @@ def parts_of(options, room):
     if options.goal != 'edits':
         return test(room, options.goal == 'gate')
     folder = os.path.abspath(options.folder) if options.folder else ''
-    kinds = [f'{folder}/{{}}'] if folder else [f'crates/{{}}/{kind}' for kind in ('edits', 'must-fail', 'controls')]
-    crates = [crate for crate in dict.fromkeys(crates_with(kinds, options.edit)) if crate in (options.crates or [crate])]
+    crates = [crate for crate in crates_with(('edits', 'must-fail', 'controls'), options.edit, folder) if crate in (options.crates or [crate])]
     words = [*(['--edit', options.edit] if options.edit else []), *(['--from', folder] if folder else [])]
     copy = copied(f'{room}/proved', with_cached=True)
     return [*proofs(crates, copy), *edits(crates, copy, *words)]
