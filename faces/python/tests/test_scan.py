@@ -119,8 +119,8 @@ class Scan(unittest.TestCase):
         self.assertEqual([row['file'] for row in json.loads(whole)], [row['file'] for row in self.rows('r.csv')])
 
     def test_hostile_files(self):
-        # sparse files of 1 GB: with 16 million section headers, with notes without an end, and with a path as long
-        size = 1 << 30
+        # sparse files of 256 MiB: with 4 million section headers, with notes without an end, and with a path as long
+        size = 1 << 28
         file = made.ALL[2]
         for name, header, more in [
                 ('sections', {'e_shoff': 4096, 'e_shnum': 0}, [(4096 + 32, (size - 4096) // 64)]),
@@ -134,7 +134,7 @@ class Scan(unittest.TestCase):
                 content[offset:offset + 8] = number.to_bytes(8, 'little')
             self.put(name, content)
             os.truncate(os.path.join(self.files, name), size)
-        script = 'import resource, runpy, sys; resource.setrlimit(resource.RLIMIT_DATA, (200 << 20, 200 << 20)); ' \
+        script = 'import resource, runpy, sys; resource.setrlimit(resource.RLIMIT_DATA, (120 << 20, 120 << 20)); ' \
                  'sys.argv = sys.argv[1:]; runpy.run_path(sys.argv[0], run_name="__main__")'
         subprocess.run([sys.executable, '-c', script, SCAN, self.files, '-o', self.out('r.csv'), '--workers', '0'], check=True,
                        stderr=subprocess.PIPE, timeout=120)
